@@ -2,8 +2,9 @@
 use Rattle.std.proofs.Common.{◌≡◌, ℕ, suc, ◌+◌, ◌-◌, ◌*◌, ◌^◌, ◌<◌, ◌≤◌, lit<, List, [], ◌∷◌, ◌++◌, length, take, slice_index, refl, sym, ap, ◌∙◌, arith, append_assoc, Option, Some, None}
 use Rattle.std.proofs.Math.Nat.{pow-le-pow_right}
 use Rattle.std.proofs.Math.Seq.{take-append-add}
+use Rattle.al_scalar.specs.Private.Double.{hex_value}
 use Rattle.al_scalar.specs.Line.{Cell}
-use Rattle.al_scalar.specs.Quoted.{hex_digit, hex_value}
+use Rattle.al_scalar.specs.Quoted.{hex_digit}
 use Rattle.al_scalar.specs.Places.{text_at}
 use Rattle.al_scalar.specs.LineEnds.{cells_between}
 use Rattle.al_scalar.specs.Private.Double.{Between}

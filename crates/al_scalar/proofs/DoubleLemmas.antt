@@ -1,13 +1,13 @@
 -- The parts of a double-quoted scalar's lines.
-use Rattle.std.proofs.Common.{◌≡◌, ◌≢◌, ℕ, ◌+◌, ◌≤◌, List, [], ◌∷◌, ◌++◌, length, map, take, refl, sym, ap, ◌∙◌, arith, append_assoc, Bool}
-use Rattle.std.proofs.Common.{true, false, ◌==◌, nat_lt, cond, inl, inr, Option, Some, None, Result, Ok, Err, encode_utf8}
+use Rattle.std.proofs.Common.{◌≡◌, ◌≢◌, ℕ, zero, suc, ◌*◌, ◌-◌, ◌+◌, ◌≤◌, List, [], ◌∷◌, ◌++◌, length, map, refl, sym, ap, ◌∙◌, arith, append_assoc, Bool}
+use Rattle.std.proofs.Common.{true, false, ◌==◌, cond, inl, inr, Option, Some, None, Result, Ok, Err, encode_utf8}
 use Rattle.std.proofs.lemmas.Grind.{common_steps}
 use Rattle.std.proofs.lemmas.Str.{length-encode, len_utf8_bounds}
 use Rattle.al_base.specs.declared.codes.YamlCode.TheVariants as yaml
 use Rattle.al_scalar.specs.Line.{Cell, is_empty}
 use Rattle.al_scalar.specs.Taken.{Fault, fault}
-use Rattle.al_scalar.specs.Quoted.{QuotedLine, closed, broken, cut_short, part_before, own_before, written, lookup, escape_table}
-use Rattle.al_scalar.specs.Quoted.{digits_table, hex_value, hex_escape, is_scalar_value, escape, double_part}
+use Rattle.al_scalar.specs.Quoted.{QuotedLine, closed, broken, part_before, own_before, written, lookup, escape_table}
+use Rattle.al_scalar.specs.Quoted.{digits_table, escape_character, escape_digits, hex_digit, is_scalar_value, escape, double_part}
 use Rattle.al_scalar.specs.LineEnds.{AreBlank, IsBlankByte}
 use Rattle.al_scalar.specs.Private.Double.{IsMarkByte}
 use Rattle.al_scalar.proofs.SingleLemmas.{with_own-solid, with_own-other, with_own-blank}
@@ -34,18 +34,18 @@ own-byte : (c : Cell) (r : Result QuotedLine Fault) → (IsBlankByte c.0 → ⊥
 own-byte c (Ok p) h = ap Ok (with_own-other c p h)
 own-byte c (Err e) h = refl
 
-double-other : (c : Cell) (cs : List Cell) → c.0 ≢ 34 → c.0 ≢ 92 → double_part 0 (c ∷ cs) ≡ own_before c (double_part 0 cs)
+double-other : (c : Cell) (cs : List Cell) → c.0 ≢ 34 → c.0 ≢ 92 → double_part (c ∷ cs) ≡ own_before c (double_part cs)
 double-other c cs n m = grind (arith, common_steps, n, m)
 
 not_mark : (b : ℕ) → IsBlankByte b → (b ≢ 34) × (b ≢ 92)
 not_mark b (inl e) = (omega arith, omega arith)
 not_mark b (inr e) = (omega arith, omega arith)
 
-double-blank : (c : Cell) (cs : List Cell) → IsBlankByte c.0 → double_part 0 (c ∷ cs) ≡ own_before c (double_part 0 cs)
+double-blank : (c : Cell) (cs : List Cell) → IsBlankByte c.0 → double_part (c ∷ cs) ≡ own_before c (double_part cs)
 double-blank c cs h = double-other c cs (not_mark c.0 h).0 (not_mark c.0 h).1
 
 -- blanks at the end of a line give nothing
-pub double-blanks : (cs : List Cell) → AreBlank cs → double_part 0 cs ≡ Ok nothing
+pub double-blanks : (cs : List Cell) → AreBlank cs → double_part cs ≡ Ok nothing
 double-blanks [] h = refl
 double-blanks (c ∷ cs) h = double-blank c cs h.0 ∙ ap (own_before c) (double-blanks cs h.1) ∙ ap Ok (with_own-blank c nothing h.0 refl)
 
@@ -55,24 +55,24 @@ some-before (c ∷ cs) (Ok p) h = refl
 some-before cs (Err e) h = refl
 
 -- blanks before something stay
-pub double-run : (run rest : List Cell) → AreBlank run → gives_nothing (double_part 0 rest) ≡ false → double_part 0 (run ++ rest) ≡ part_before run (double_part 0 rest)
-double-run [] rest h s = sym (part-none (double_part 0 rest))
+pub double-run : (run rest : List Cell) → AreBlank run → gives_nothing (double_part rest) ≡ false → double_part (run ++ rest) ≡ part_before run (double_part rest)
+double-run [] rest h s = sym (part-none (double_part rest))
 double-run (c ∷ cs) rest h s =
     double-blank c (cs ++ rest) h.0
     ∙ ap (own_before c) (double-run cs rest h.1 s)
-    ∙ own-some c (part_before cs (double_part 0 rest)) (some-before cs (double_part 0 rest) s)
-    ∙ part-two (c ∷ []) cs (double_part 0 rest)
+    ∙ own-some c (part_before cs (double_part rest)) (some-before cs (double_part rest) s)
+    ∙ part-two (c ∷ []) cs (double_part rest)
 
-pub double-byte : (c : Cell) (cs : List Cell) → (IsBlankByte c.0 → ⊥) → (IsMarkByte c.0 → ⊥) → double_part 0 (c ∷ cs) ≡ part_before (c ∷ []) (double_part 0 cs)
+pub double-byte : (c : Cell) (cs : List Cell) → (IsBlankByte c.0 → ⊥) → (IsMarkByte c.0 → ⊥) → double_part (c ∷ cs) ≡ part_before (c ∷ []) (double_part cs)
 double-byte c cs h k =
     let n : c.0 ≢ 34 = λ e. k (inl e) in
     let m : c.0 ≢ 92 = λ e. k (inr e) in
-    double-other c cs n m ∙ own-byte c (double_part 0 cs) h
+    double-other c cs n m ∙ own-byte c (double_part cs) h
 
-pub double-quote : (c : Cell) (cs : List Cell) → c.0 ≡ 34 → double_part 0 (c ∷ cs) ≡ Ok (record { text = []; stop = closed (c.1 + 1) cs })
+pub double-quote : (c : Cell) (cs : List Cell) → c.0 ≡ 34 → double_part (c ∷ cs) ≡ Ok (record { text = []; stop = closed (c.1 + 1) cs })
 double-quote c cs e = rw e refl
 
-pub double-escape : (c : Cell) (cs : List Cell) → c.0 ≡ 92 → double_part 0 (c ∷ cs) ≡ escape c.1 cs (λ n. double_part n cs)
+pub double-escape : (c : Cell) (cs : List Cell) → c.0 ≡ 92 → double_part (c ∷ cs) ≡ escape c.1 cs
 double-escape c cs e = rw e refl
 
 -- ---- what is no blank gives something
@@ -89,34 +89,36 @@ some-after [] r h = cc
 some-after (c ∷ cs) (Ok p) h = refl
 some-after (c ∷ cs) (Err e) h = refl
 
-hex-some : (at width : ℕ) (digits : List Cell) (code : Option ℕ) (more : Result QuotedLine Fault) → gives_nothing (hex_escape at width digits code more) ≡ false
-hex-some at width digits None more = refl
-hex-some at width digits (Some code) more = short (nat_lt (length digits) width) (is_scalar_value code)
-  where
-    short : (x y : Bool) → gives_nothing (cond x (Ok (record { text = []; stop = cut_short at })) (cond y (part_before (written at code) more) (fault yaml.WrongEscape at))) ≡ false
-    short true y = refl
-    short false true = some-after (written at code) more (written-some at code)
-    short false false = refl
+by-option : {A : Type 0} (P : A → Type 0) (o : Option ℕ) {x : A} {f : ℕ → A} → P x → ((n : ℕ) → P (f n)) → P (elim o [ None ↦ x | Some n ↦ f n ])
+by-option P None h k = h
+by-option P (Some n) h k = k n
 
-escape-some : (at : ℕ) (cs : List Cell) (more : ℕ → Result QuotedLine Fault) → gives_nothing (escape at cs more) ≡ false
-escape-some at [] more = refl
-escape-some at (c ∷ cs) more = kind (lookup c.0 escape_table) (lookup c.0 digits_table)
-  where
-    kind : (x y : Option ℕ) → gives_nothing (elim x [
-      | Some code ↦ part_before (written at code) (more 1)
-      | None ↦ elim y [
-        | None ↦ fault yaml.WrongEscape at
-        | Some width ↦ hex_escape at width (take width cs) (hex_value 0 (take width cs)) (more (1 + width))
-      ]
-    ]) ≡ false
-    kind (Some code) y = some-after (written at code) (more 1) (written-some at code)
-    kind None None = refl
-    kind None (Some width) = hex-some at width (take width cs) (hex_value 0 (take width cs)) (more (1 + width))
+abbrev GivesSome : Result QuotedLine Fault → Type 0
+GivesSome r = gives_nothing r ≡ false
 
-pub double-some : (c : Cell) (cs : List Cell) → (IsBlankByte c.0 → ⊥) → gives_nothing (double_part 0 (c ∷ cs)) ≡ false
+character-some : (at code : ℕ) (rest : Result QuotedLine Fault) → GivesSome (escape_character at code rest)
+character-some at code rest = kind (is_scalar_value code)
+  where
+    kind : (x : Bool) → GivesSome (cond x (part_before (written at code) rest) (fault yaml.WrongEscape at))
+    kind true = some-after (written at code) rest (written-some at code)
+    kind false = refl
+
+digits-some : (at n v : ℕ) (cs : List Cell) → GivesSome (escape_digits at n v cs)
+digits-some at n v [] = refl
+digits-some at zero v (c ∷ cs) = by-option GivesSome (hex_digit c.0) refl (λ d. character-some at (16 * v + d) (double_part cs))
+digits-some at (suc n) v (c ∷ cs) = by-option GivesSome (hex_digit c.0) refl (λ d. digits-some at n (16 * v + d) cs)
+
+escape-some : (at : ℕ) (cs : List Cell) → GivesSome (escape at cs)
+escape-some at [] = refl
+escape-some at (c ∷ cs) =
+    by-option GivesSome (lookup c.0 escape_table)
+    (by-option GivesSome (lookup c.0 digits_table) refl (λ width. digits-some at (width - 1) 0 cs))
+    (λ code. some-after (written at code) (double_part cs) (written-some at code))
+
+pub double-some : (c : Cell) (cs : List Cell) → (IsBlankByte c.0 → ⊥) → gives_nothing (double_part (c ∷ cs)) ≡ false
 double-some c cs h = kind (c.0 == 34) (c.0 == 92) refl refl
   where
-    kind : (x y : Bool) → (c.0 == 34) ≡ x → (c.0 == 92) ≡ y → gives_nothing (double_part 0 (c ∷ cs)) ≡ false
+    kind : (x y : Bool) → (c.0 == 34) ≡ x → (c.0 == 92) ≡ y → gives_nothing (double_part (c ∷ cs)) ≡ false
     kind true y e f = rw e refl
-    kind false true e f = rw (e, f) (escape-some c.1 cs (λ n. double_part n cs))
-    kind false false e f = rw (e, f) (ap gives_nothing (own-byte c (double_part 0 cs) h) ∙ some-after (c ∷ []) (double_part 0 cs) refl)
+    kind false true e f = rw (e, f) (escape-some c.1 cs)
+    kind false false e f = rw (e, f) (ap gives_nothing (own-byte c (double_part cs) h) ∙ some-after (c ∷ []) (double_part cs) refl)

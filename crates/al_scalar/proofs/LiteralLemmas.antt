@@ -28,8 +28,8 @@ cells_between-two bytes i j k h l =
 -- ---- reading on
 
 pub reads_on : (bytes : List ℕ) (i j : ℕ) (run : List Cell) → SameLine (lines_at bytes i) (lines_at bytes j)
-    → double_part 0 (text_at bytes i) ≡ part_before run (double_part 0 (text_at bytes j)) → ReadsOn bytes i run j
-reads_on bytes i j run s e = λ q. quoted-run (double_part 0) q run (lines_at bytes i) (lines_at bytes j) (lines_at-some bytes i) (lines_at-some bytes j) s e
+    → double_part (text_at bytes i) ≡ part_before run (double_part (text_at bytes j)) → ReadsOn bytes i run j
+reads_on bytes i j run s e = λ q. quoted-run (double_part) q run (lines_at bytes i) (lines_at bytes j) (lines_at-some bytes i) (lines_at-some bytes j) s e
 
 pub reads-then : (bytes : List ℕ) (i j k : ℕ) (xs ys : List Cell) → ReadsOn bytes i xs j → ReadsOn bytes j ys k → ReadsOn bytes i (xs ++ ys) k
 reads-then bytes i j k xs ys r s = λ q. r q ∙ ap (before xs) (s q) ∙ before-two xs ys (double_quoted q (lines_at bytes k))
@@ -44,23 +44,23 @@ module _ (bytes : List ℕ) (i j : ℕ) (blanks : AreBlank (cells_between bytes 
   reads-blanks h k =
       let none : text_at bytes j ≡ [] = text-line_end bytes j h k in
       reads_on bytes i j [] reached.same
-      (ap (double_part 0) (reached.text ∙ ap (λ t. cells_between bytes i j ++ t) none ∙ append-nil (cells_between bytes i j))
+      (ap (double_part) (reached.text ∙ ap (λ t. cells_between bytes i j ++ t) none ∙ append-nil (cells_between bytes i j))
       ∙ double-blanks (cells_between bytes i j) blanks
-      ∙ ap (λ t. part_before [] (double_part 0 t)) (sym none))
+      ∙ ap (λ t. part_before [] (double_part t)) (sym none))
 
   -- they stay before what is no blank
   pub reads-run : IsInside bytes j → (IsBlankByte (slice_index bytes j) → ⊥) → ReadsOn bytes i (cells_between bytes i j) j
   reads-run h n =
       let cell = cell_at bytes j h.inside h.not_feed h.not_return in
       reads_on bytes i j (cells_between bytes i j) reached.same
-      (ap (double_part 0) reached.text
-      ∙ double-run (cells_between bytes i j) (text_at bytes j) blanks (ap (λ t. gives_nothing (double_part 0 t)) cell.text ∙ double-some (slice_index bytes j, j) (text_at bytes (j + 1)) n))
+      (ap (double_part) reached.text
+      ∙ double-run (cells_between bytes i j) (text_at bytes j) blanks (ap (λ t. gives_nothing (double_part t)) cell.text ∙ double-some (slice_index bytes j, j) (text_at bytes (j + 1)) n))
 
   pub reads-byte : i ≤ j → IsInside bytes j → (IsBlankByte (slice_index bytes j) → ⊥) → (IsMarkByte (slice_index bytes j) → ⊥) → ReadsOn bytes i (cells_between bytes i (j + 1)) (j + 1)
   reads-byte o h n m =
       let cell = cell_at bytes j h.inside h.not_feed h.not_return in
       let own : ReadsOn bytes j ((slice_index bytes j, j) ∷ []) (j + 1) = reads_on bytes j (j + 1) ((slice_index bytes j, j) ∷ []) cell.same
-      (ap (double_part 0) cell.text ∙ double-byte (slice_index bytes j, j) (text_at bytes (j + 1)) n m) in
+      (ap (double_part) cell.text ∙ double-byte (slice_index bytes j, j) (text_at bytes (j + 1)) n m) in
       let both : ReadsOn bytes i (cells_between bytes i j ++ (slice_index bytes j, j) ∷ []) (j + 1) = reads-then bytes i j (j + 1)
       (cells_between bytes i j) ((slice_index bytes j, j) ∷ []) (reads-run h n) own in
       subst (λ cs. ReadsOn bytes i cs (j + 1)) (sym (cells_between-more bytes i j o)) both

@@ -1,16 +1,17 @@
 -- What ends a run of characters that stand for themselves, against offsets.
-use Rattle.std.proofs.Common.{◌≡◌, ◌≢◌, ℕ, suc, ◌+◌, ◌<◌, List, [], ◌∷◌, ◌++◌, length, take, slice_index, refl, sym, ap, subst, ◌∙◌, arith}
+use Rattle.std.proofs.Common.{◌≡◌, ◌≢◌, ℕ, zero, suc, ◌-◌, ◌*◌, ◌≤◌, ◌==◌, drop, ◌+◌, ◌<◌, List, [], ◌∷◌, ◌++◌, length, take, slice_index, refl, sym, ap, subst, ◌∙◌, arith}
 use Rattle.std.proofs.Common.{append-nil, Bool, true, false, ◌&&◌, ◌||◌, nat_le, nat_lt, cond, inl, inr, ◌⊎◌, Option, Some, None, Result}
 use Rattle.std.proofs.Common.{Ok, Err}
 use Rattle.std.proofs.lemmas.Grind.{common_steps}
 use Rattle.std.specs.Char.{IsScalar}
 use Rattle.std.proofs.lemmas.List.{take_all}
-use Rattle.std.proofs.Math.Seq.{take-append_seam}
+use Rattle.std.proofs.Math.Seq.{take-append_seam, drop-append_seam}
+use Rattle.al_scalar.specs.Private.Double.{hex_value}
 use Rattle.al_base.specs.declared.codes.YamlCode.TheVariants as yaml
 use Rattle.al_scalar.specs.Line.{Cell}
 use Rattle.al_scalar.specs.Taken.{Fault, fault}
 use Rattle.al_scalar.specs.Quoted.{QuotedLine, closed, escaped, cut_short, part_before, written, lookup, escape_table, digits_table}
-use Rattle.al_scalar.specs.Quoted.{hex_value, hex_escape, is_scalar_value, escape, double_part, quoted_lines, double_quoted}
+use Rattle.al_scalar.specs.Quoted.{escape_character, escape_digits, hex_digit, is_scalar_value, escape, double_part, quoted_lines, double_quoted}
 use Rattle.al_scalar.specs.Places.{lines_at, text_at}
 use Rattle.al_scalar.specs.LineEnds.{first_last, later, cells_between, IsLineEnd}
 use Rattle.al_scalar.specs.Private.Double.{ReadsOn, EndsRun, Between, read_behind}
@@ -21,15 +22,64 @@ use Rattle.al_scalar.proofs.DoubleLemmas.{nothing, double-quote, double-escape}
 use Rattle.al_scalar.proofs.LiteralLemmas.{reads_on}
 use Rattle.al_scalar.proofs.BlockLemmas.{length-cells_between}
 
+-- an escape with digits, of which these stand on the line, with their value
+abbrev hex_escape : ℕ → ℕ → List Cell → Option ℕ → Result QuotedLine Fault → Result QuotedLine Fault
+hex_escape at width digits None behind = fault yaml.WrongEscape at
+hex_escape at width digits (Some code) behind =
+    cond (nat_lt (length digits) width) (Ok (record { text = []; stop = cut_short at })) (escape_character at code behind)
+
+none_less : (n : ℕ) → nat_lt 0 (suc n) ≡ true
+none_less n = grind (arith, common_steps)
+
+less_more : (a b : ℕ) (x : Bool) → nat_lt a b ≡ x → nat_lt (suc a) (suc b) ≡ x
+less_more a b true h = grind (arith, common_steps, h)
+less_more a b false h = grind (arith, common_steps, h)
+
+one_further : (at n : ℕ) (c : Cell) (ds : List Cell) (o : Option ℕ) (behind : Result QuotedLine Fault)
+    → hex_escape at n ds o behind ≡ hex_escape at (suc n) (c ∷ ds) o behind
+one_further at n c ds None behind = refl
+one_further at n c ds (Some code) behind =
+    sym (ap (λ x. cond x (Ok (record { text = []; stop = cut_short at })) (escape_character at code behind)) (less_more (length ds) n (nat_lt (length ds) n) refl))
+
+-- digits that are read one after another
+digits-are : (at n v : ℕ) (cs : List Cell)
+    → escape_digits at n v cs ≡ hex_escape at (suc n) (take (suc n) cs) (hex_value v (take (suc n) cs)) (double_part (drop (suc n) cs))
+digits-are at n v [] =
+    sym (ap (λ x. cond x (Ok (record { text = []; stop = cut_short at })) (escape_character at v (double_part []))) (none_less n))
+digits-are at zero v (c ∷ cs) = last_digit (hex_digit c.0)
+  where
+    last_digit : (o : Option ℕ) → elim o [ None ↦ fault yaml.WrongEscape at | Some d ↦ escape_character at (16 * v + d) (double_part cs) ]
+        ≡ hex_escape at 1 (c ∷ []) (elim o [ None ↦ None | Some d ↦ hex_value (16 * v + d) [] ]) (double_part cs)
+    last_digit None = refl
+    last_digit (Some d) = refl
+digits-are at (suc n) v (c ∷ cs) = next_digit (hex_digit c.0) (λ d. digits-are at n (16 * v + d) cs)
+  where
+    next_digit : (o : Option ℕ)
+        → ((d : ℕ) → escape_digits at n (16 * v + d) cs
+        ≡ hex_escape at (suc n) (take (suc n) cs) (hex_value (16 * v + d) (take (suc n) cs)) (double_part (drop (suc n) cs)))
+        → elim o [ None ↦ fault yaml.WrongEscape at | Some d ↦ escape_digits at n (16 * v + d) cs ]
+        ≡ hex_escape at (suc (suc n)) (c ∷ take (suc n) cs) (elim o [ None ↦ None | Some d ↦ hex_value (16 * v + d) (take (suc n) cs) ])
+        (double_part (drop (suc n) cs))
+    next_digit None below = refl
+    next_digit (Some d) below =
+        below d ∙ one_further at (suc n) c (take (suc n) cs) (hex_value (16 * v + d) (take (suc n) cs)) (double_part (drop (suc n) cs))
+
 -- what a letter gives behind a backslash, by the two tables
-abbrev pub letter_given : ℕ → List Cell → (ℕ → Result QuotedLine Fault) → Option ℕ → Option ℕ → Result QuotedLine Fault
-letter_given at cs more x y = elim x [
-  | Some code ↦ part_before (written at code) (more 1)
-  | None ↦ elim y [
-    | None ↦ fault yaml.WrongEscape at
-    | Some width ↦ hex_escape at width (take width cs) (hex_value 0 (take width cs)) (more (1 + width))
-  ]
+abbrev letter_given : ℕ → List Cell → Option ℕ → Option ℕ → Result QuotedLine Fault
+letter_given at cs x y = elim x [
+  | Some code ↦ part_before (written at code) (double_part cs)
+  | None ↦ elim y [ None ↦ fault yaml.WrongEscape at | Some width ↦ escape_digits at (width - 1) 0 cs ]
 ]
+
+-- at least one digit follows
+has_digit : (x y z : Bool) (count : ℕ) → cond x (Some 2) (cond y (Some 4) (cond z (Some 8) None)) ≡ Some count → 1 ≤ count
+has_digit true y z count e = let same : 2 ≡ count = cc in omega (arith, same)
+has_digit false true z count e = let same : 4 ≡ count = cc in omega (arith, same)
+has_digit false false true count e = let same : 8 ≡ count = cc in omega (arith, same)
+has_digit false false false count e = absurd cc
+
+has_digits : (b count : ℕ) → lookup b digits_table ≡ Some count → suc (count - 1) ≡ count
+has_digits b count e = let some = has_digit (120 == b) (117 == b) (85 == b) count e in omega (arith, some)
 
 -- a letter that digits follow is no break
 pub letter_kind : (b count : ℕ) → lookup b digits_table ≡ Some count → (b ≢ 10) × (b ≢ 13)
@@ -40,10 +90,10 @@ letter_kind b count e = (
 )
 
 -- what the part of a line gives
-given_at : (bytes : List ℕ) (at q : ℕ) (r : Result QuotedLine Fault) → double_part 0 (text_at bytes at) ≡ r
-    → double_quoted q (lines_at bytes at) ≡ elim r [ Ok p ↦ given (double_part 0) q p (lines_at bytes at) | Err e ↦ Err e ]
-given_at bytes at q (Ok p) e = quoted-part (double_part 0) q (lines_at bytes at) (Ok p) (lines_at-some bytes at) e
-given_at bytes at q (Err f) e = quoted-part (double_part 0) q (lines_at bytes at) (Err f) (lines_at-some bytes at) e
+given_at : (bytes : List ℕ) (at q : ℕ) (r : Result QuotedLine Fault) → double_part (text_at bytes at) ≡ r
+    → double_quoted q (lines_at bytes at) ≡ elim r [ Ok p ↦ given (double_part) q p (lines_at bytes at) | Err e ↦ Err e ]
+given_at bytes at q (Ok p) e = quoted-part (double_part) q (lines_at bytes at) (Ok p) (lines_at-some bytes at) e
+given_at bytes at q (Err f) e = quoted-part (double_part) q (lines_at bytes at) (Err f) (lines_at-some bytes at) e
 
 pub file_end : (bytes : List ℕ) (at q : ℕ) → at ≡ length bytes → double_quoted q (lines_at bytes at) ≡ Err (record { code = yaml.UnclosedQuote; at = q })
 file_end bytes at q e = ap (double_quoted q) (lines-at_end bytes at e)
@@ -52,8 +102,8 @@ pub closing : (bytes : List ℕ) (at q : ℕ) → at < length bytes → slice_in
     ≡ Ok (record { text = []; end = at + 1; left = lines_at bytes (at + 1) })
 closing bytes at q h e =
     let cell = cell_at bytes at h (omega arith) (omega arith) in
-    given_at bytes at q (Ok (record { text = []; stop = closed (at + 1) (text_at bytes (at + 1)) })) (ap (double_part 0) cell.text ∙ double-quote (slice_index bytes at, at) (text_at bytes (at + 1)) e)
-    ∙ given-closed (double_part 0) q (at + 1) (lines_at bytes at) (lines_at bytes (at + 1)) (lines_at-some bytes at) (lines_at-some bytes (at + 1)) cell.same
+    given_at bytes at q (Ok (record { text = []; stop = closed (at + 1) (text_at bytes (at + 1)) })) (ap (double_part) cell.text ∙ double-quote (slice_index bytes at, at) (text_at bytes (at + 1)) e)
+    ∙ given-closed (double_part) q (at + 1) (lines_at bytes at) (lines_at bytes (at + 1)) (lines_at-some bytes at) (lines_at-some bytes (at + 1)) cell.same
 
 pub run_end : (bytes : List ℕ) (at : ℕ) → EndsRun bytes at → slice_index bytes at ≢ 34 → slice_index bytes at ≢ 92 → IsLineEnd bytes at
 run_end bytes at e n m h = ends (e h)
@@ -66,9 +116,9 @@ run_end bytes at e n m h = ends (e h)
 pub line_break : (bytes : List ℕ) (at q : ℕ) → at < length bytes → IsLineEnd bytes at → double_quoted q (lines_at bytes at) ≡ read_behind bytes at false q
 line_break bytes at q h k =
     let broke = break-at bytes at h k in
-    given_at bytes at q (Ok nothing) (ap (double_part 0) (text-line_end bytes at (omega arith) k))
-    ∙ given-break (double_part 0) q false (lines_at bytes at) (lines_at-some bytes at) broke.1
-    ∙ ap (λ end. quoted_lines (double_part 0) q (Some end) (later (lines_at bytes at))) broke.0
+    given_at bytes at q (Ok nothing) (ap (double_part) (text-line_end bytes at (omega arith) k))
+    ∙ given-break (double_part) q false (lines_at bytes at) (lines_at-some bytes at) broke.1
+    ∙ ap (λ end. quoted_lines (double_part) q (Some end) (later (lines_at bytes at))) broke.0
 
 -- ---- behind a backslash
 
@@ -76,21 +126,21 @@ module _ (bytes : List ℕ) (at : ℕ) (h : at < length bytes) (e : slice_index 
   slash : RunBefore ((slice_index bytes at, at) ∷ []) (lines_at bytes at) (lines_at bytes (at + 1))
   slash = cell_at bytes at h (omega arith) (omega arith)
 
-  escape-part : (cs : List Cell) → text_at bytes (at + 1) ≡ cs → double_part 0 (text_at bytes at) ≡ escape at cs (λ n. double_part n cs)
-  escape-part cs f = ap (double_part 0) (slash.text ∙ ap (λ t. (slice_index bytes at, at) ∷ t) f) ∙ double-escape (slice_index bytes at, at) cs e
+  escape-part : (cs : List Cell) → text_at bytes (at + 1) ≡ cs → double_part (text_at bytes at) ≡ escape at cs
+  escape-part cs f = ap (double_part) (slash.text ∙ ap (λ t. (slice_index bytes at, at) ∷ t) f) ∙ double-escape (slice_index bytes at, at) cs e
 
   pub escape_cut : (q : ℕ) → at + 1 ≡ length bytes → double_quoted q (lines_at bytes at) ≡ Err (record { code = yaml.UnclosedQuote; at = q })
   escape_cut q f =
       let last : first_last (lines_at bytes at) ≡ true = slash.same.last ∙ ap first_last (lines-at_end bytes (at + 1) f) in
       given_at bytes at q (Ok (record { text = []; stop = escaped })) (escape-part [] (text-line_end bytes (at + 1) (omega arith) (λ l. absurd (omega arith))))
-      ∙ given-end (double_part 0) q true (lines_at bytes at) (lines_at-some bytes at) last
+      ∙ given-end (double_part) q true (lines_at bytes at) (lines_at-some bytes at) last
 
   pub escaped_break : (q : ℕ) → at + 1 < length bytes → IsLineEnd bytes (at + 1) → double_quoted q (lines_at bytes at) ≡ read_behind bytes (at + 1) true q
   escaped_break q l k =
       let broke = break-at bytes (at + 1) l k in
       given_at bytes at q (Ok (record { text = []; stop = escaped })) (escape-part [] (text-line_end bytes (at + 1) (omega arith) k))
-      ∙ given-break (double_part 0) q true (lines_at bytes at) (lines_at-some bytes at) (slash.same.last ∙ broke.1)
-      ∙ ap (λ ls. quoted_lines (double_part 0) q None ls) slash.same.later
+      ∙ given-break (double_part) q true (lines_at bytes at) (lines_at-some bytes at) (slash.same.last ∙ broke.1)
+      ∙ ap (λ ls. quoted_lines (double_part) q None ls) slash.same.later
 
   -- a letter behind it
   module _ (l : at + 1 < length bytes) (n : slice_index bytes (at + 1) ≢ 10) (m : slice_index bytes (at + 1) ≢ 13) where
@@ -101,12 +151,11 @@ module _ (bytes : List ℕ) (at : ℕ) (h : at < length bytes) (e : slice_index 
     both = run_then ((slice_index bytes at, at) ∷ []) ((slice_index bytes (at + 1), at + 1) ∷ []) slash letter_at
 
     letter-part : (x y : Option ℕ) → lookup (slice_index bytes (at + 1)) escape_table ≡ x → lookup (slice_index bytes (at + 1)) digits_table ≡ y
-        → double_part 0 (text_at bytes at) ≡ letter_given at (text_at bytes (at + 1 + 1)) (λ n. double_part n ((slice_index bytes (at + 1), at + 1) ∷ text_at bytes (at + 1 + 1))) x y
+        → double_part (text_at bytes at) ≡ letter_given at (text_at bytes (at + 1 + 1)) x y
     letter-part x y f g =
-        let more = (λ (n : ℕ). double_part n ((slice_index bytes (at + 1), at + 1) ∷ text_at bytes (at + 1 + 1))) in
         escape-part ((slice_index bytes (at + 1), at + 1) ∷ text_at bytes (at + 1 + 1)) letter_at.text
-        ∙ ap (λ x. letter_given at (text_at bytes (at + 1 + 1)) more x (lookup (slice_index bytes (at + 1)) digits_table)) f
-        ∙ ap (letter_given at (text_at bytes (at + 1 + 1)) more x) g
+        ∙ ap (λ x. letter_given at (text_at bytes (at + 1 + 1)) x (lookup (slice_index bytes (at + 1)) digits_table)) f
+        ∙ ap (letter_given at (text_at bytes (at + 1 + 1)) x) g
 
     pub one_letter : (code : ℕ) → lookup (slice_index bytes (at + 1)) escape_table ≡ Some code → ReadsOn bytes at (written at code) (at + 1 + 1)
     one_letter code f = reads_on bytes at (at + 1 + 1) (written at code) both.same (letter-part (Some code) (lookup (slice_index bytes (at + 1)) digits_table) f refl)
@@ -116,20 +165,19 @@ module _ (bytes : List ℕ) (at : ℕ) (h : at < length bytes) (e : slice_index 
     no_letter q f g = given_at bytes at q (Err (record { code = yaml.WrongEscape; at = at })) (letter-part None None f g)
 
     -- digits behind the letter
-    double-skip : (ds rest : List Cell) → double_part (length ds) (ds ++ rest) ≡ double_part 0 rest
-    double-skip [] rest = refl
-    double-skip (d ∷ ds) rest = double-skip ds rest
-
     module _ (count : ℕ) (f : lookup (slice_index bytes (at + 1)) escape_table ≡ None) (g : lookup (slice_index bytes (at + 1)) digits_table ≡ Some count) where
-      number-part : double_part 0 (text_at bytes at) ≡ hex_escape at count (take count (text_at bytes (at + 1 + 1)))
+      number-part : double_part (text_at bytes at) ≡ hex_escape at count (take count (text_at bytes (at + 1 + 1)))
           (hex_value 0 (take count (text_at bytes (at + 1 + 1))))
-          (double_part (1 + count) ((slice_index bytes (at + 1), at + 1) ∷ text_at bytes (at + 1 + 1)))
-      number-part = letter-part None (Some count) f g
+          (double_part (drop count (text_at bytes (at + 1 + 1))))
+      number-part =
+          letter-part None (Some count) f g ∙ digits-are at (count - 1) 0 (text_at bytes (at + 1 + 1))
+          ∙ ap (λ n. hex_escape at n (take n (text_at bytes (at + 1 + 1))) (hex_value 0 (take n (text_at bytes (at + 1 + 1))))
+          (double_part (drop n (text_at bytes (at + 1 + 1))))) (has_digits (slice_index bytes (at + 1)) count g)
 
       pub wrong_digit : (q : ℕ) → hex_value 0 (take count (text_at bytes (at + 1 + 1))) ≡ None → double_quoted q (lines_at bytes at) ≡ Err (record { code = yaml.WrongEscape; at = at })
       wrong_digit q e = given_at bytes at q (Err (record { code = yaml.WrongEscape; at = at }))
           (number-part ∙ ap (λ o. hex_escape at count (take count (text_at bytes (at + 1 + 1))) o
-          (double_part (1 + count) ((slice_index bytes (at + 1), at + 1) ∷ text_at bytes (at + 1 + 1)))) e)
+          (double_part (drop count (text_at bytes (at + 1 + 1))))) e)
 
       -- all the digits
       module _ (b : Between bytes (at + 1 + 1) (at + 1 + 1 + count)) (code : ℕ) (v : hex_value 0 (cells_between bytes (at + 1 + 1) (at + 1 + 1 + count)) ≡ Some code) where
@@ -139,39 +187,37 @@ module _ (bytes : List ℕ) (at : ℕ) (h : at < length bytes) (e : slice_index 
             let size : count ≡ length ds = omega (arith, length-cells_between bytes (at + 1 + 1) (at + 1 + 1 + count)) in
             ap (take count) b.1 ∙ ap (λ n. take n (ds ++ text_at bytes (at + 1 + 1 + count))) size ∙ take-append_seam ds (text_at bytes (at + 1 + 1 + count))
 
-        code-part : double_part 0 (text_at bytes at) ≡ cond (is_scalar_value code) (part_before (written at code) (double_part 0 (text_at bytes (at + 1 + 1 + count)))) (fault yaml.WrongEscape at)
+        code-part : double_part (text_at bytes at) ≡ cond (is_scalar_value code) (part_before (written at code) (double_part (text_at bytes (at + 1 + 1 + count)))) (fault yaml.WrongEscape at)
         code-part =
             let ds = cells_between bytes (at + 1 + 1) (at + 1 + 1 + count) in
             let rest = text_at bytes (at + 1 + 1 + count) in
             let size : length ds ≡ count = omega (arith, length-cells_between bytes (at + 1 + 1) (at + 1 + 1 + count)) in
             let long : nat_lt (length ds) count ≡ false = grind (arith, common_steps, size) in
-            let one : 1 + count ≡ suc count = omega arith in
-            let behind : double_part (1 + count) ((slice_index bytes (at + 1), at + 1) ∷ text_at bytes (at + 1 + 1)) ≡ double_part 0 rest =
-            ap (λ n. double_part n ((slice_index bytes (at + 1), at + 1) ∷ text_at bytes (at + 1 + 1))) one ∙ ap (double_part count) b.1
-            ∙ ap (λ n. double_part n (ds ++ rest)) (sym size) ∙ double-skip ds rest in
+            let behind : double_part (drop count (text_at bytes (at + 1 + 1))) ≡ double_part rest =
+            ap (λ t. double_part (drop count t)) b.1 ∙ ap (λ n. double_part (drop n (ds ++ rest))) (sym size) ∙ ap double_part (drop-append_seam ds rest) in
             number-part
-            ∙ ap (λ t. hex_escape at count t (hex_value 0 t) (double_part (1 + count) ((slice_index bytes (at + 1), at + 1) ∷ text_at bytes (at + 1 + 1)))) digits-taken
-            ∙ ap (λ o. hex_escape at count ds o (double_part (1 + count) ((slice_index bytes (at + 1), at + 1) ∷ text_at bytes (at + 1 + 1)))) v
+            ∙ ap (λ t. hex_escape at count t (hex_value 0 t) (double_part (drop count (text_at bytes (at + 1 + 1))))) digits-taken
+            ∙ ap (λ o. hex_escape at count ds o (double_part (drop count (text_at bytes (at + 1 + 1))))) v
             ∙ ap (λ x. cond x (Ok (record { text = []; stop = cut_short at }))
             (cond (is_scalar_value code) (part_before (written at code)
-            (double_part (1 + count) ((slice_index bytes (at + 1), at + 1) ∷ text_at bytes (at + 1 + 1)))) (fault yaml.WrongEscape at)))
+            (double_part (drop count (text_at bytes (at + 1 + 1))))) (fault yaml.WrongEscape at)))
             long
             ∙ ap (λ r. cond (is_scalar_value code) (part_before (written at code) r) (fault yaml.WrongEscape at)) behind
 
         pub number : is_scalar_value code ≡ true → ReadsOn bytes at (written at code) (at + 1 + 1 + count)
         number e = reads_on bytes at (at + 1 + 1 + count) (written at code) (same_then both.same b.0.same)
-            (code-part ∙ ap (λ z. cond z (part_before (written at code) (double_part 0 (text_at bytes (at + 1 + 1 + count))))
+            (code-part ∙ ap (λ z. cond z (part_before (written at code) (double_part (text_at bytes (at + 1 + 1 + count))))
             (fault yaml.WrongEscape at)) e)
 
         pub no_character : (q : ℕ) → is_scalar_value code ≡ false → double_quoted q (lines_at bytes at) ≡ Err (record { code = yaml.WrongEscape; at = at })
         no_character q e = given_at bytes at q (Err (record { code = yaml.WrongEscape; at = at }))
-            (code-part ∙ ap (λ z. cond z (part_before (written at code) (double_part 0 (text_at bytes (at + 1 + 1 + count))))
+            (code-part ∙ ap (λ z. cond z (part_before (written at code) (double_part (text_at bytes (at + 1 + 1 + count))))
             (fault yaml.WrongEscape at)) e)
 
       -- too few digits
       module _ (end : ℕ) (b : Between bytes (at + 1 + 1) end) (k : IsLineEnd bytes end) (few : end < at + 1 + 1 + count) (value : ℕ)
           (v : hex_value 0 (cells_between bytes (at + 1 + 1) end) ≡ Some value) where
-        short-part : double_part 0 (text_at bytes at) ≡ Ok (record { text = []; stop = cut_short at })
+        short-part : double_part (text_at bytes at) ≡ Ok (record { text = []; stop = cut_short at })
         short-part =
             let ds = cells_between bytes (at + 1 + 1) end in
             let o = b.0.from in
@@ -179,7 +225,7 @@ module _ (bytes : List ℕ) (at : ℕ) (h : at < length bytes) (e : slice_index 
             let short : nat_lt (length ds) count ≡ true = grind (arith, common_steps, size) in
             let text : text_at bytes (at + 1 + 1) ≡ ds = b.1 ∙ ap (λ t. ds ++ t) (text-line_end bytes end b.0.inside k) ∙ append-nil ds in
             let taken : take count (text_at bytes (at + 1 + 1)) ≡ ds = ap (take count) text ∙ take_all count ds (omega (arith, size)) in
-            let more = double_part (1 + count) ((slice_index bytes (at + 1), at + 1) ∷ text_at bytes (at + 1 + 1)) in
+            let more = double_part (drop count (text_at bytes (at + 1 + 1))) in
             number-part
             ∙ ap (λ t. hex_escape at count t (hex_value 0 t) more) taken
             ∙ ap (λ o. hex_escape at count ds o more) v
@@ -188,7 +234,7 @@ module _ (bytes : List ℕ) (at : ℕ) (h : at < length bytes) (e : slice_index 
         short-given : (q : ℕ) (last : Bool) → first_last (lines_at bytes end) ≡ last → double_quoted q (lines_at bytes at) ≡ cond last (fault yaml.UnclosedQuote q) (fault yaml.WrongEscape at)
         short-given q last e =
             given_at bytes at q (Ok (record { text = []; stop = cut_short at })) short-part
-            ∙ given-cut (double_part 0) q at (lines_at bytes at) (lines_at-some bytes at)
+            ∙ given-cut (double_part) q at (lines_at bytes at) (lines_at-some bytes at)
             ∙ ap (λ z. cond z (fault yaml.UnclosedQuote q) (fault yaml.WrongEscape at)) (both.same.last ∙ b.0.same.last ∙ e)
 
         pub short_file : (q : ℕ) → end ≡ length bytes → double_quoted q (lines_at bytes at) ≡ Err (record { code = yaml.UnclosedQuote; at = q })

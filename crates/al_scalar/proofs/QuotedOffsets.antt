@@ -1,13 +1,13 @@
 -- Offsets of a quoted scalar's text.
-use Rattle.std.proofs.Common.{◌≡◌, ℕ, zero, suc, ◌+◌, ◌<◌, ◌≤◌, List, [], ◌∷◌, ◌++◌, length, map, take, refl, ap, arith, Bool, true, false}
-use Rattle.std.proofs.Common.{not, if◌then◌else◌, ◌&&◌, ◌==◌, nat_lt, Option, Some, None, Result, Ok, Err, encode_utf8}
+use Rattle.std.proofs.Common.{◌≡◌, ℕ, zero, suc, ◌*◌, ◌-◌, ◌+◌, ◌<◌, ◌≤◌, List, [], ◌∷◌, ◌++◌, length, map, refl, ap, arith, Bool, true, false}
+use Rattle.std.proofs.Common.{not, if◌then◌else◌, ◌&&◌, ◌==◌, Option, Some, None, Result, Ok, Err, encode_utf8}
 use Rattle.std.proofs.lemmas.Str.{length-encode, len_utf8_bounds}
 use Rattle.al_base.specs.Ascii as ascii
 use Rattle.al_scalar.specs.Line.{Cell, Line, place, is_blank, after_blanks, is_empty}
 use Rattle.al_scalar.specs.Offsets.{AreRising, AreClimbing, AreLines}
 use Rattle.al_scalar.specs.Quoted.{QuotedLine, QuotedEnd, closed, broken, escaped, cut_short, is_broken, with_own, single_part}
-use Rattle.al_scalar.specs.Quoted.{escape_table, digits_table, lookup, hex_value, is_scalar_value, written, part_before, own_before}
-use Rattle.al_scalar.specs.Quoted.{hex_escape, escape, double_part, line_given, is_empty_line, quoted_lines, quoted, single_quoted}
+use Rattle.al_scalar.specs.Quoted.{escape_table, digits_table, lookup, is_scalar_value, written, part_before, own_before}
+use Rattle.al_scalar.specs.Quoted.{escape_character, escape_digits, hex_digit, escape, double_part, line_given, is_empty_line, quoted_lines, quoted, single_quoted}
 use Rattle.al_scalar.specs.Quoted.{double_quoted}
 use Rattle.al_scalar.specs.Taken.{Fault, Taken, ◌>>=◌, before, folded}
 use Rattle.al_scalar.proofs.OffsetLemmas.{IsFrom, AreTaken, choose, from-none, from-one, from-join, from-wider, from-order, climbing-order, climbing-place, climbing-blanks, tail-lines, taken-behind}
@@ -79,40 +79,49 @@ own-behind : (low end : ℕ) (c : Cell) (r : Result QuotedLine Fault) → low �
 own-behind low end c (Ok p) a k = own-from low end c p a k
 own-behind low end c (Err e) a k = tt
 
-hex-from : (low end at width : ℕ) (digits : List Cell) (o : Option ℕ) (more : Result QuotedLine Fault) → low ≤ at → at < end
-    → GivesPart (at + 1) end more → GivesPart low end (hex_escape at width digits o more)
-hex-from low end at width digits None more a b h = tt
-hex-from low end at width digits (Some code) more a b h =
-    choose (GivesPart low end) (nat_lt (length digits) width) (λ _. from-none low end (omega (arith, a, b)))
-    (λ _. choose (GivesPart low end) (is_scalar_value code) (λ _. part-behind low (at + 1) end (written at code) more (written-from low at code a) h) (λ _. tt))
+character-from : (low end at code : ℕ) (behind : Result QuotedLine Fault) → low ≤ at → GivesPart (at + 1) end behind
+    → GivesPart low end (escape_character at code behind)
+character-from low end at code behind a h =
+    choose (GivesPart low end) (is_scalar_value code) (λ _. part-behind low (at + 1) end (written at code) behind (written-from low at code a) h) (λ _. tt)
 
 choose-option : {A : Type 0} (P : A → Type 0) (o : Option ℕ) {x : A} {f : ℕ → A} → P x → ((n : ℕ) → P (f n)) → P (elim o [ None ↦ x | Some n ↦ f n ])
 choose-option P None h k = h
 choose-option P (Some n) h k = k n
 
-escape-from : (low end at : ℕ) (cs : List Cell) (more : ℕ → Result QuotedLine Fault) → low ≤ at → AreClimbing (at + 1) end cs
-    → ((n : ℕ) → GivesPart (at + 1) end (more n)) → GivesPart low end (escape at cs more)
-escape-from low end at [] more a h k = from-none low end (omega (arith, a, h))
-escape-from low end at (c ∷ cs) more a h k =
-    let below = climbing-order (at + 1) end (c ∷ cs) h in
-    choose-option (GivesPart low end) (lookup c.0 escape_table)
-    (choose-option (GivesPart low end) (lookup c.0 digits_table) tt
-    (λ width. hex-from low end at width (take width cs) (hex_value 0 (take width cs)) (more (1 + width)) a (omega (arith, below)) (k (1 + width))))
-    (λ code. part-behind low (at + 1) end (written at code) (more 1) (written-from low at code a) (k 1))
-
 gives-lower : (low low' end : ℕ) (r : Result QuotedLine Fault) → low' ≤ low → GivesPart low end r → GivesPart low' end r
 gives-lower low low' end (Ok p) a h = stop-lower low low' end p.text p.stop a h
 gives-lower low low' end (Err e) a h = tt
 
-double-from : (n low end : ℕ) (cs : List Cell) → AreClimbing low end cs → GivesPart low end (double_part n cs)
-double-from zero low end [] h = from-none low end h
-double-from (suc n) low end [] h = from-none low end h
-double-from (suc n) low end (c ∷ cs) h = let a = h.0 in gives-lower (c.1 + 1) low end (double_part n cs) (omega (arith, a)) (double-from n (c.1 + 1) end cs h.1)
-double-from zero low end (c ∷ cs) h =
-    let a = h.0 in
-    choose (GivesPart low end) (c.0 == ascii.double_quote) (λ _. (from-none low (c.1 + 1) (omega (arith, a)), (climbing-place (c.1 + 1) end cs h.1).0))
-    (λ _. choose (GivesPart low end) (c.0 == ascii.backslash) (λ _. escape-from low end c.1 cs (λ n. double_part n cs) a h.1 (λ n. double-from n (c.1 + 1) end cs h.1))
-    (λ _. own-behind low end c (double_part 0 cs) a (double-from 0 (c.1 + 1) end cs h.1)))
+mutual
+  double-from : (low end : ℕ) (cs : List Cell) → AreClimbing low end cs → GivesPart low end (double_part cs)
+  double-from low end [] h = from-none low end h
+  double-from low end (c ∷ cs) h =
+      let a = h.0 in
+      choose (GivesPart low end) (c.0 == ascii.double_quote) (λ _. (from-none low (c.1 + 1) (omega (arith, a)), (climbing-place (c.1 + 1) end cs h.1).0))
+      (λ _. choose (GivesPart low end) (c.0 == ascii.backslash) (λ _. escape-from low end c.1 cs a h.1)
+      (λ _. own-behind low end c (double_part cs) a (double-from (c.1 + 1) end cs h.1)))
+
+  escape-from : (low end at : ℕ) (cs : List Cell) → low ≤ at → AreClimbing (at + 1) end cs → GivesPart low end (escape at cs)
+  escape-from low end at [] a h = from-none low end (omega (arith, a, h))
+  escape-from low end at (c ∷ cs) a h =
+      let b = h.0 in
+      choose-option (GivesPart low end) (lookup c.0 escape_table)
+      (choose-option (GivesPart low end) (lookup c.0 digits_table) tt
+      (λ width. digits-from low end at (c.1 + 1) (width - 1) 0 cs a (omega (arith, b)) h.1))
+      (λ code. part-behind low (at + 1) end (written at code) (double_part cs) (written-from low at code a)
+      (gives-lower (c.1 + 1) (at + 1) end (double_part cs) (omega (arith, b)) (double-from (c.1 + 1) end cs h.1)))
+
+  digits-from : (low end at from n v : ℕ) (cs : List Cell) → low ≤ at → at < from → AreClimbing from end cs → GivesPart low end (escape_digits at n v cs)
+  digits-from low end at from n v [] a b h = from-none low end (omega (arith, a, b, h))
+  digits-from low end at from zero v (c ∷ cs) a b h =
+      let o = h.0 in
+      choose-option (GivesPart low end) (hex_digit c.0) tt
+      (λ d. character-from low end at (16 * v + d) (double_part cs) a
+      (gives-lower (c.1 + 1) (at + 1) end (double_part cs) (omega (arith, b, o)) (double-from (c.1 + 1) end cs h.1)))
+  digits-from low end at from (suc n) v (c ∷ cs) a b h =
+      let o = h.0 in
+      choose-option (GivesPart low end) (hex_digit c.0) tt
+      (λ d. digits-from low end at (c.1 + 1) n (16 * v + d) cs a (omega (arith, b, o)) h.1)
 
 -- ---- lines
 
@@ -175,4 +184,4 @@ pub single_quoted-from : (quote low : ℕ) (ls : List Line) → AreLines low ls 
 single_quoted-from quote low ls h = quoted-from (λ text. Ok (single_part text)) (λ low end cs k. single-from low end cs k) quote low ls h
 
 pub double_quoted-from : (quote low : ℕ) (ls : List Line) → AreLines low ls → AreTaken low (double_quoted quote ls)
-double_quoted-from quote low ls h = quoted-from (double_part 0) (λ low end cs k. double-from 0 low end cs k) quote low ls h
+double_quoted-from quote low ls h = quoted-from (double_part) (λ low end cs k. double-from low end cs k) quote low ls h

@@ -12,7 +12,7 @@ use Rattle.al_scalar.proofs.FoldLemmas.{before-two}
 use Rattle.al_scalar.proofs.QuotedLemmas.{IsReader, break-fold}
 use Rattle.al_scalar.proofs.DoubleLemmas.{double-some}
 
-is_reader : IsReader (double_part 0)
+is_reader : IsReader (double_part)
 is_reader = record { none = refl; some = double-some }
 
 pub read_more : {x : Result Taken Fault} {new : List Cell} (bytes : List ℕ) (i j q : ℕ) (text run : List Cell) → x
@@ -26,5 +26,5 @@ pub read_break : {x : Result Taken Fault} {new : List Cell} (bytes : List ℕ) (
     → new ≡ text ++ break_left escaped end (empty_ends (later (lines_at bytes end))) → x ≡ before new (double_quoted q (lines_at bytes next))
 read_break bytes i end next q escaped text e r s f =
     let run = break_left escaped end (empty_ends (later (lines_at bytes end))) in
-    e ∙ ap (before text) (r ∙ break-fold (double_part 0) q is_reader escaped end (later (lines_at bytes end)) ∙ ap (λ ls. before run (quoted (double_part 0) q ls)) s)
+    e ∙ ap (before text) (r ∙ break-fold (double_part) q is_reader escaped end (later (lines_at bytes end)) ∙ ap (λ ls. before run (quoted (double_part) q ls)) s)
     ∙ before-two text run (double_quoted q (lines_at bytes next)) ∙ ap (λ t. before t (double_quoted q (lines_at bytes next))) (sym f)

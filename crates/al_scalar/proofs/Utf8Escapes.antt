@@ -1,5 +1,5 @@
 -- Texts of double-quoted scalars are UTF-8 where the lines are.
-use Rattle.std.proofs.Common.{◌≡◌, ℕ, zero, suc, ◌+◌, ◌*◌, ◌-◌, ◌<◌, List, [], ◌∷◌, ◌++◌, length, map, take, refl, sym, ap, subst, arith}
+use Rattle.std.proofs.Common.{◌≡◌, ℕ, zero, suc, ◌+◌, ◌*◌, ◌-◌, ◌<◌, List, [], ◌∷◌, ◌++◌, map, refl, sym, ap, subst, arith}
 use Rattle.std.proofs.Common.{Bool, true, false, if◌then◌else◌, ◌&&◌, ◌||◌, ◌==◌, nat_le, nat_lt, cond, Option, Some, None, Result, Ok, Err}
 use Rattle.std.proofs.Common.{encode_utf8}
 use Rattle.std.proofs.lemmas.Grind.{common_steps}
@@ -9,11 +9,11 @@ use Rattle.std.specs.Char.{IsScalar}
 use Rattle.std.proofs.lemmas.Str.{IsUtf8-append, IsUtf8-encode}
 use Rattle.al_base.specs.Ascii as ascii
 use Rattle.al_scalar.specs.Line.{Cell, Line}
-use Rattle.al_scalar.specs.Quoted.{QuotedLine, own_before, part_before, escape_table, digits_table, lookup, hex_digit, hex_value}
-use Rattle.al_scalar.specs.Quoted.{is_scalar_value, written, hex_escape, escape, double_part, double_quoted}
+use Rattle.al_scalar.specs.Quoted.{QuotedLine, own_before, part_before, escape_table, digits_table, lookup}
+use Rattle.al_scalar.specs.Quoted.{is_scalar_value, written, escape_character, escape_digits, hex_digit, escape, double_part, double_quoted}
 use Rattle.al_scalar.specs.Taken.{Fault}
 use Rattle.al_scalar.proofs.OffsetLemmas.{choose}
-use Rattle.al_scalar.proofs.Utf8Lemmas.{Keeps, AreUtf8, AreSkipped, bytes_of, split-before, split-behind, keeps-all, keeps-none, keeps-drop, equal-ascii, own-keeps}
+use Rattle.al_scalar.proofs.Utf8Lemmas.{Keeps, AreUtf8, bytes_of, split-before, split-behind, keeps-all, keeps-none, keeps-drop, equal-ascii, own-keeps}
 use Rattle.al_scalar.proofs.Utf8Texts.{IsText, TakesText, GivesText, text-join, quoted-text}
 
 -- ---- what a lookup finds
@@ -104,16 +104,6 @@ digit-ascii b d e =
     digit-by b (nat_le 48 b && nat_le b 57) (nat_le 65 b && nat_le b 70) (nat_le 97 b && nat_le b 102) (b - 48) (b - 55) (b - 87) d
     (λ h. below-128 48 57 b (omega arith) h) (λ h. below-128 65 70 b (omega arith) h) (λ h. below-128 97 102 b (omega arith) h) e
 
-hex-by : (n : ℕ) (c : Cell) (cs : List Cell) (v code : ℕ) (o : Option ℕ) → ((d : ℕ) → o ≡ Some d → c.0 < 128) → ((v : ℕ) → hex_value v (take n cs) ≡ Some code → AreSkipped n cs)
-    → elim o [ None ↦ None | Some d ↦ hex_value (16 * v + d) (take n cs) ] ≡ Some code → AreSkipped (suc n) (c ∷ cs)
-hex-by n c cs v code None f h e = absurd cc
-hex-by n c cs v code (Some d) f h e = (f d refl, h (16 * v + d) e)
-
-hex-skipped : (n : ℕ) (cs : List Cell) (v code : ℕ) → hex_value v (take n cs) ≡ Some code → AreSkipped n cs
-hex-skipped zero cs v code e = tt
-hex-skipped (suc n) [] v code e = tt
-hex-skipped (suc n) (c ∷ cs) v code e = hex-by n c cs v code (hex_digit c.0) (λ d k. digit-ascii c.0 d k) (λ v k. hex-skipped n cs v code k) e
-
 -- ---- escapes
 
 abbrev PartKeeps : List Cell → Result QuotedLine Fault → Type 0
@@ -145,44 +135,47 @@ scalar-of : (a b : Bool) → (a || b) ≡ true → cond a true b ≡ true
 scalar-of true b h = refl
 scalar-of false b h = h
 
-hex-keeps : (c : Cell) (cs : List Cell) (at width : ℕ) (digits : List Cell) (o : Option ℕ) (more : Result QuotedLine Fault) → c.0 < 128
-    → ((code : ℕ) → o ≡ Some code → PartKeeps cs more) → PartKeeps (c ∷ cs) (hex_escape at width digits o more)
-hex-keeps c cs at width digits None more l k = tt
-hex-keeps c cs at width digits (Some code) more l k =
-    choose (PartKeeps (c ∷ cs)) (nat_lt (length digits) width) (λ _. keeps-none c cs l)
-    (λ _. choose (PartKeeps (c ∷ cs)) (is_scalar_value code)
-    (λ e. part-keeps c cs (written at code) more l
-    (written-text at code (scalar-of (nat_lt code 0xd800) (nat_le 0xe000 code && nat_lt code 0x110000) e)) (k code refl)) (λ _. tt))
+character-keeps : (c : Cell) (cs : List Cell) (at code : ℕ) (behind : Result QuotedLine Fault) → c.0 < 128 → PartKeeps cs behind
+    → PartKeeps (c ∷ cs) (escape_character at code behind)
+character-keeps c cs at code behind l k =
+    choose (PartKeeps (c ∷ cs)) (is_scalar_value code)
+    (λ e. part-keeps c cs (written at code) behind l
+    (written-text at code (scalar-of (nat_lt code 0xd800) (nat_le 0xe000 code && nat_lt code 0x110000) e)) k) (λ _. tt)
 
-escape-keeps : (c : Cell) (cs : List Cell) (at : ℕ) (more : ℕ → Result QuotedLine Fault) → c.0 < 128 → ((n : ℕ) → AreSkipped n cs → PartKeeps cs (more n)) → PartKeeps (c ∷ cs) (escape at cs more)
-escape-keeps c [] at more l k = keeps-none c [] l
-escape-keeps c (d ∷ ds) at more l k =
-    choose-option (PartKeeps (c ∷ d ∷ ds)) (lookup d.0 escape_table)
-    (choose-option (PartKeeps (c ∷ d ∷ ds)) (lookup d.0 digits_table) tt
-    (λ width e. hex-keeps c (d ∷ ds) at width (take width ds) (hex_value 0 (take width ds)) (more (1 + width)) l
-    (λ code h. k (1 + width) (let same : 1 + width ≡ suc width = omega arith in
-    subst (λ (n : ℕ). AreSkipped n (d ∷ ds)) (sym same)
-    (found-ascii d.0 digits_table digits-ascii width e, hex-skipped width ds 0 code h)))))
-    (λ code e. part-keeps c (d ∷ ds) (written at code) (more 1) l
-    (written-text at code (found-scalar d.0 escape_table escapes-scalar code e))
-    (k 1 (found-ascii d.0 escape_table escapes-ascii code e, tt)))
+skipped : (c : Cell) (cs : List Cell) (r : Result QuotedLine Fault) → c.0 < 128 → PartKeeps cs r → PartKeeps (c ∷ cs) r
+skipped c cs (Ok p) l k = keeps-drop c cs p.text l k
+skipped c cs (Err e) l k = tt
 
-double-keeps : (n : ℕ) (cs : List Cell) → AreSkipped n cs → PartKeeps cs (double_part n cs)
-double-keeps zero [] s = keeps-all []
-double-keeps (suc n) [] s = keeps-all []
-double-keeps (suc n) (c ∷ cs) s = skipped (double_part n cs) (double-keeps n cs s.1)
-  where
-    skipped : (r : Result QuotedLine Fault) → PartKeeps cs r → PartKeeps (c ∷ cs) r
-    skipped (Ok t) k = keeps-drop c cs t.text s.0 k
-    skipped (Err e) k = tt
-double-keeps zero (c ∷ cs) s =
-    choose (PartKeeps (c ∷ cs)) (c.0 == ascii.double_quote) (λ e. keeps-none c cs (equal-ascii c.0 34 (omega arith) e))
-    (λ _. choose (PartKeeps (c ∷ cs)) (c.0 == ascii.backslash) (λ e. escape-keeps c cs c.1 (λ n. double_part n cs) (equal-ascii c.0 92 (omega arith) e) (λ n k. double-keeps n cs k))
-    (λ _. own-both c cs (double_part 0 cs) (double-keeps 0 cs tt)))
+mutual
+  double-keeps : (cs : List Cell) → PartKeeps cs (double_part cs)
+  double-keeps [] = keeps-all []
+  double-keeps (c ∷ cs) =
+      choose (PartKeeps (c ∷ cs)) (c.0 == ascii.double_quote) (λ e. keeps-none c cs (equal-ascii c.0 34 (omega arith) e))
+      (λ _. choose (PartKeeps (c ∷ cs)) (c.0 == ascii.backslash)
+      (λ e. skipped c cs (escape c.1 cs) (equal-ascii c.0 92 (omega arith) e) (escape-keeps c.1 cs))
+      (λ _. own-both c cs (double_part cs) (double-keeps cs)))
+
+  escape-keeps : (at : ℕ) (cs : List Cell) → PartKeeps cs (escape at cs)
+  escape-keeps at [] = keeps-all []
+  escape-keeps at (c ∷ cs) =
+      choose-option (PartKeeps (c ∷ cs)) (lookup c.0 escape_table)
+      (choose-option (PartKeeps (c ∷ cs)) (lookup c.0 digits_table) tt
+      (λ width e. skipped c cs (escape_digits at (width - 1) 0 cs) (found-ascii c.0 digits_table digits-ascii width e) (digits-keep at (width - 1) 0 cs)))
+      (λ code e. part-keeps c cs (written at code) (double_part cs) (found-ascii c.0 escape_table escapes-ascii code e)
+      (written-text at code (found-scalar c.0 escape_table escapes-scalar code e)) (double-keeps cs))
+
+  digits-keep : (at n v : ℕ) (cs : List Cell) → PartKeeps cs (escape_digits at n v cs)
+  digits-keep at n v [] = keeps-all []
+  digits-keep at zero v (c ∷ cs) =
+      choose-option (PartKeeps (c ∷ cs)) (hex_digit c.0) tt
+      (λ d e. character-keeps c cs at (16 * v + d) (double_part cs) (digit-ascii c.0 d e) (double-keeps cs))
+  digits-keep at (suc n) v (c ∷ cs) =
+      choose-option (PartKeeps (c ∷ cs)) (hex_digit c.0) tt
+      (λ d e. skipped c cs (escape_digits at n (16 * v + d) cs) (digit-ascii c.0 d e) (digits-keep at n (16 * v + d) cs))
 
 part-text : (cs : List Cell) (r : Result QuotedLine Fault) → PartKeeps cs r → IsText cs → GivesText r
 part-text cs (Ok t) k u = k [] u
 part-text cs (Err e) k u = tt
 
 pub double-text : (quote : ℕ) (ls : List Line) → AreUtf8 ls → TakesText (double_quoted quote ls)
-double-text quote ls u = quoted-text (double_part 0) (λ cs k. part-text cs (double_part 0 cs) (double-keeps 0 cs tt) k) quote ls u
+double-text quote ls u = quoted-text (double_part) (λ cs k. part-text cs (double_part cs) (double-keeps cs) k) quote ls u

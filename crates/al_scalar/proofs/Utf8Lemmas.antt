@@ -1,5 +1,5 @@
 -- Texts made of UTF-8 by keeping and leaving out cells stay UTF-8, as what is left out is ASCII.
-use Rattle.std.proofs.Common.{◌≡◌, ◌⊎◌, inl, inr, ℕ, zero, suc, ◌+◌, ◌<◌, List, [], ◌∷◌, ◌++◌, length, length-append, slice_index, map}
+use Rattle.std.proofs.Common.{◌≡◌, ◌⊎◌, inl, inr, ℕ, ◌+◌, ◌<◌, List, [], ◌∷◌, ◌++◌, length, length-append, slice_index, map}
 use Rattle.std.proofs.Common.{drop, take, refl, sym, ap, subst, arith, append_assoc, append-nil, Bool, true, false, not, ◌&&◌, ◌||◌, ◌==◌}
 use Rattle.std.proofs.lemmas.Grind.{common_steps}
 use Rattle.std.specs.Prelude.{IsUtf8}
@@ -131,12 +131,6 @@ pub lines-utf8 : (at : ℕ) (bs : List ℕ) → IsUtf8 bs → AreUtf8 (lines at 
 lines-utf8 at bs u = all-lines (lines at bs) (lines-on [] at bs u)
 
 -- ---- single quotes
-
--- so many cells are ASCII
-abbrev pub AreSkipped : ℕ → List Cell → Type 0
-AreSkipped zero cs = Unit {0}
-AreSkipped (suc n) [] = Unit {0}
-AreSkipped (suc n) (c ∷ cs) = (c.0 < 128) × AreSkipped n cs
 
 abbrev pub PartKeeps : List Cell → QuotedLine → Type 0
 PartKeeps cs p = Keeps cs p.text

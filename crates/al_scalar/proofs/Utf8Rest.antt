@@ -1,6 +1,6 @@
 -- What is left behind a scalar is cut where characters begin: its lines are UTF-8 where those were that it was read from.
-use Rattle.std.proofs.Common.{ℕ, zero, suc, ◌+◌, ◌<◌, List, [], ◌∷◌, ◌++◌, drop, length, take, sym, subst, arith, append_assoc, Bool, true}
-use Rattle.std.proofs.Common.{false, not, if◌then◌else◌, ◌&&◌, ◌||◌, ◌==◌, nat_lt, Option, Some, None, Result, Ok, Err}
+use Rattle.std.proofs.Common.{ℕ, zero, suc, ◌*◌, ◌-◌, ◌+◌, ◌<◌, List, [], ◌∷◌, ◌++◌, drop, sym, subst, arith, append_assoc, Bool, true}
+use Rattle.std.proofs.Common.{false, not, if◌then◌else◌, ◌&&◌, ◌||◌, ◌==◌, Option, Some, None, Result, Ok, Err}
 use Rattle.std.proofs.lemmas.Str.{IsUtf8-nil}
 use Rattle.std.specs.Prelude.{IsUtf8}
 use Rattle.std.specs.Option.{is_some}
@@ -9,8 +9,8 @@ use Rattle.al_scalar.specs.Line.{Cell, Line, place, is_blank, after_blanks, is_e
 use Rattle.al_scalar.specs.Block.{Header, header, content_indent, Rows, row_of, at_end, with_row, rows_at, text_after, rows_end, block_scalar}
 use Rattle.al_scalar.specs.Plain.{Context, is_flow, is_value_colon, ends_plain, plain_part, continues, ended_before, plain_lines, plain}
 use Rattle.al_scalar.specs.Quoted.{QuotedLine, QuotedEnd, closed, broken, escaped, cut_short, is_broken, with_own, single_part}
-use Rattle.al_scalar.specs.Quoted.{escape_table, digits_table, lookup, hex_value, is_scalar_value, written, part_before, own_before}
-use Rattle.al_scalar.specs.Quoted.{hex_escape, escape, double_part, line_given, is_empty_line, quoted_lines, quoted, single_quoted}
+use Rattle.al_scalar.specs.Quoted.{escape_table, digits_table, lookup, is_scalar_value, written, part_before, own_before}
+use Rattle.al_scalar.specs.Quoted.{escape_character, escape_digits, hex_digit, escape, double_part, line_given, is_empty_line, quoted_lines, quoted, single_quoted}
 use Rattle.al_scalar.specs.Quoted.{double_quoted}
 use Rattle.al_scalar.specs.Taken.{Fault, Taken, ◌>>=◌, before, folded, folded_break}
 use Rattle.al_scalar.proofs.OffsetLemmas.{choose}
@@ -70,29 +70,33 @@ own-gives : (c : Cell) (cs : List Cell) (r : Result QuotedLine Fault) → GivesL
 own-gives c cs (Ok p) k = own-leaves c cs p k
 own-gives c cs (Err e) k = tt
 
-hex-leaves : (all : List Cell) (at width : ℕ) (digits : List Cell) (o : Option ℕ) (more : Result QuotedLine Fault) → GivesLeaves all more → GivesLeaves all (hex_escape at width digits o more)
-hex-leaves all at width digits None more k = tt
-hex-leaves all at width digits (Some code) more k =
-    choose (GivesLeaves all) (nat_lt (length digits) width) (λ _. λ p u. tt)
-    (λ _. choose (GivesLeaves all) (is_scalar_value code) (λ _. part-leaves all (written at code) more k) (λ _. tt))
+character-leaves : (all : List Cell) (at code : ℕ) (behind : Result QuotedLine Fault) → GivesLeaves all behind → GivesLeaves all (escape_character at code behind)
+character-leaves all at code behind k = choose (GivesLeaves all) (is_scalar_value code) (λ _. part-leaves all (written at code) behind k) (λ _. tt)
 
-escape-leaves : (all : List Cell) (at : ℕ) (cs : List Cell) (more : ℕ → Result QuotedLine Fault) → ((n : ℕ) → GivesLeaves all (more n)) → GivesLeaves all (escape at cs more)
-escape-leaves all at [] more k = λ p u. tt
-escape-leaves all at (c ∷ cs) more k =
-    choose-option (GivesLeaves all) (lookup c.0 escape_table)
-    (choose-option (GivesLeaves all) (lookup c.0 digits_table) tt
-    (λ width _. hex-leaves all at width (take width cs) (hex_value 0 (take width cs)) (more (1 + width)) (k (1 + width))))
-    (λ code _. part-leaves all (written at code) (more 1) (k 1))
+mutual
+  double-leaves : (cs : List Cell) → GivesLeaves cs (double_part cs)
+  double-leaves [] = λ p u. tt
+  double-leaves (c ∷ cs) =
+      choose (GivesLeaves (c ∷ cs)) (c.0 == ascii.double_quote) (λ e. leaves-closed (c.1 + 1) c cs (equal-ascii c.0 34 (omega arith) e))
+      (λ _. choose (GivesLeaves (c ∷ cs)) (c.0 == ascii.backslash) (λ _. gives-more c cs (escape c.1 cs) (escape-leaves c.1 cs))
+      (λ _. own-gives c cs (double_part cs) (double-leaves cs)))
 
-double-leaves : (n : ℕ) (cs : List Cell) → GivesLeaves cs (double_part n cs)
-double-leaves zero [] = λ p u. tt
-double-leaves (suc n) [] = λ p u. tt
-double-leaves (suc n) (c ∷ cs) = gives-more c cs (double_part n cs) (double-leaves n cs)
-double-leaves zero (c ∷ cs) =
-    choose (GivesLeaves (c ∷ cs)) (c.0 == ascii.double_quote) (λ e. leaves-closed (c.1 + 1) c cs (equal-ascii c.0 34 (omega arith) e))
-    (λ _. choose (GivesLeaves (c ∷ cs)) (c.0 == ascii.backslash)
-    (λ _. escape-leaves (c ∷ cs) c.1 cs (λ n. double_part n cs) (λ n. gives-more c cs (double_part n cs) (double-leaves n cs)))
-    (λ _. own-gives c cs (double_part 0 cs) (double-leaves 0 cs)))
+  escape-leaves : (at : ℕ) (cs : List Cell) → GivesLeaves cs (escape at cs)
+  escape-leaves at [] = λ p u. tt
+  escape-leaves at (c ∷ cs) =
+      choose-option (GivesLeaves (c ∷ cs)) (lookup c.0 escape_table)
+      (choose-option (GivesLeaves (c ∷ cs)) (lookup c.0 digits_table) tt
+      (λ width _. gives-more c cs (escape_digits at (width - 1) 0 cs) (digits-leave at (width - 1) 0 cs)))
+      (λ code _. part-leaves (c ∷ cs) (written at code) (double_part cs) (gives-more c cs (double_part cs) (double-leaves cs)))
+
+  digits-leave : (at n v : ℕ) (cs : List Cell) → GivesLeaves cs (escape_digits at n v cs)
+  digits-leave at n v [] = λ p u. tt
+  digits-leave at zero v (c ∷ cs) =
+      choose-option (GivesLeaves (c ∷ cs)) (hex_digit c.0) tt
+      (λ d _. character-leaves (c ∷ cs) at (16 * v + d) (double_part cs) (gives-more c cs (double_part cs) (double-leaves cs)))
+  digits-leave at (suc n) v (c ∷ cs) =
+      choose-option (GivesLeaves (c ∷ cs)) (hex_digit c.0) tt
+      (λ d _. gives-more c cs (escape_digits at n (16 * v + d) cs) (digits-leave at n (16 * v + d) cs))
 
 -- ---- quoted lines
 
@@ -152,7 +156,7 @@ double-stop cs (Ok p) k u = k [] u
 double-stop cs (Err e) k u = tt
 
 pub double-left : (quote : ℕ) (ls : List Line) → AreUtf8 ls → LeavesText (double_quoted quote ls)
-double-left quote ls u = quoted-left (double_part 0) (λ cs k. double-stop cs (double_part 0 cs) (double-leaves 0 cs) k) quote ls u
+double-left quote ls u = quoted-left (double_part) (λ cs k. double-stop cs (double_part cs) (double-leaves cs) k) quote ls u
 
 -- ---- plain
 

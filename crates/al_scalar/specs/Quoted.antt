@@ -1,5 +1,5 @@
 -- Quoted scalars (7.3.1 double-quoted, 7.3.2 single-quoted, 5.7 escaped characters, 6.5 line folding).
-use Rattle.std.specs.Prelude.{ℕ, zero, suc, ◌+◌, ◌*◌, ◌-◌, List, [], ◌∷◌, ◌++◌, length, map, take, Bool, true, false, not, ◌&&◌, ◌||◌}
+use Rattle.std.specs.Prelude.{ℕ, zero, suc, ◌+◌, ◌*◌, ◌-◌, List, [], ◌∷◌, ◌++◌, map, Bool, true, false, not, ◌&&◌, ◌||◌}
 use Rattle.std.specs.Prelude.{◌==◌, nat_le, nat_lt, if◌then◌else◌, Option, Some, None, Result, Ok, encode_utf8}
 use Rattle.al_base.specs.Ascii as ascii
 use Rattle.al_base.specs.declared.codes.YamlCode.TheVariants as yaml
@@ -64,11 +64,6 @@ hex_digit b =
     else (if nat_le 65 b && nat_le b 70 then Some (b - 55)
     else (if nat_le 97 b && nat_le b 102 then Some (b - 87) else None))
 
--- the value of hexadecimal digits, after those that make value
-abbrev pub hex_value : ℕ → List Cell → Option ℕ
-hex_value value [] = Some value
-hex_value value (c ∷ cs) = elim (hex_digit c.0) [ None ↦ None | Some d ↦ hex_value (16 * value + d) cs ]
-
 abbrev pub is_scalar_value : ℕ → Bool
 is_scalar_value c = nat_lt c 0xd800 || (nat_le 0xe000 c && nat_lt c 0x110000)
 
@@ -82,34 +77,39 @@ part_before cs part = part >>= (λ p. Ok (with_cells cs p))
 abbrev pub own_before : Cell → Result QuotedLine Fault → Result QuotedLine Fault
 own_before c part = part >>= (λ p. Ok (with_own c p))
 
--- An escape with digits, of which these stand on the line.
-abbrev pub hex_escape : ℕ → ℕ → List Cell → Option ℕ → Result QuotedLine Fault → Result QuotedLine Fault
-hex_escape at width digits None more = fault yaml.WrongEscape at
-hex_escape at width digits (Some code) more =
-    if nat_lt (length digits) width then Ok (record { text = []; stop = cut_short at })
-    else (if is_scalar_value code then part_before (written at code) more else fault yaml.WrongEscape at)
+-- the character that an escape gives by its number, and what stands behind it
+abbrev pub escape_character : ℕ → ℕ → Result QuotedLine Fault → Result QuotedLine Fault
+escape_character at code behind = if is_scalar_value code then part_before (written at code) behind else fault yaml.WrongEscape at
 
--- An escape: the backslash's offset, the cells behind it, and the line's part behind the escape by its length.
-abbrev pub escape : ℕ → List Cell → (ℕ → Result QuotedLine Fault) → Result QuotedLine Fault
-escape at [] more = Ok (record { text = []; stop = escaped })
-escape at (c ∷ cs) more =
-    elim (lookup c.0 escape_table) [
-      | Some code ↦ part_before (written at code) (more 1)
-      | None ↦ elim (lookup c.0 digits_table) [
-        | None ↦ fault yaml.WrongEscape at
-        | Some width ↦ hex_escape at width (take width cs) (hex_value 0 (take width cs)) (more (1 + width))
+abbrev mutual
+  -- Double quotes.
+  pub double_part : List Cell → Result QuotedLine Fault
+  double_part [] = Ok (record { text = []; stop = broken })
+  double_part (c ∷ cs) =
+      if c.0 == ascii.double_quote then Ok (closed_by c cs)
+      else if c.0 == ascii.backslash then escape c.1 cs
+      else own_before c (double_part cs)
+
+  -- behind the backslash of an escape, which stands at an offset
+  pub escape : ℕ → List Cell → Result QuotedLine Fault
+  escape at [] = Ok (record { text = []; stop = escaped })
+  escape at (c ∷ cs) =
+      elim (lookup c.0 escape_table) [
+        | Some code ↦ part_before (written at code) (double_part cs)
+        | None ↦ elim (lookup c.0 digits_table) [ None ↦ fault yaml.WrongEscape at | Some width ↦ escape_digits at (width - 1) 0 cs ]
       ]
-    ]
 
--- Double quotes. The number counts the cells that belong to the escape before.
-abbrev pub double_part : ℕ → List Cell → Result QuotedLine Fault
-double_part n [] = Ok (record { text = []; stop = broken })
-double_part (suc n) (c ∷ cs) = double_part n cs
-double_part zero (c ∷ cs) =
-    let more = (λ (n : ℕ). double_part n cs) in
-    let next = double_part 0 cs in
-    if c.0 == ascii.double_quote then Ok (closed_by c cs)
-    else (if c.0 == ascii.backslash then escape c.1 cs more else own_before c next)
+  -- a digit of an escape behind those that make a value, and so many more
+  pub escape_digits : ℕ → ℕ → ℕ → List Cell → Result QuotedLine Fault
+  escape_digits at more value [] = Ok (record { text = []; stop = cut_short at })
+  escape_digits at more value (c ∷ cs) =
+      elim (hex_digit c.0) [
+        | None ↦ fault yaml.WrongEscape at
+        | Some d ↦ elim more [
+          | zero ↦ escape_character at (16 * value + d) (double_part cs)
+          | suc n ↦ escape_digits at n (16 * value + d) cs
+        ]
+      ]
 
 -- The break after a line, which is folded unless it is escaped.
 abbrev pub break_after : QuotedEnd → Line → Option ℕ
@@ -147,4 +147,4 @@ abbrev pub single_quoted : ℕ → List Line → Result Taken Fault
 single_quoted quote ls = quoted (λ text. Ok (single_part text)) quote ls
 
 abbrev pub double_quoted : ℕ → List Line → Result Taken Fault
-double_quoted quote ls = quoted (double_part 0) quote ls
+double_quoted quote ls = quoted (double_part) quote ls

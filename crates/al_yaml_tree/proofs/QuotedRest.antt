@@ -1,12 +1,12 @@
 -- The lines left behind a quoted scalar stand behind an offset where those did that it was read from.
-use Rattle.std.proofs.Common.{ℕ, zero, suc, ◌+◌, ◌≤◌, List, [], ◌∷◌, ◌++◌, length, take, arith, Bool, not}
-use Rattle.std.proofs.Common.{if◌then◌else◌, ◌&&◌, ◌==◌, nat_lt, Option, Some, None, Result, Ok, Err}
+use Rattle.std.proofs.Common.{ℕ, zero, suc, ◌*◌, ◌-◌, ◌+◌, ◌≤◌, List, [], ◌∷◌, ◌++◌, arith, Bool, not}
+use Rattle.std.proofs.Common.{if◌then◌else◌, ◌&&◌, ◌==◌, Option, Some, None, Result, Ok, Err}
 use Rattle.al_base.specs.Ascii as ascii
 use Rattle.al_scalar.specs.Line.{Cell, Line, is_blank, after_blanks, is_empty}
 use Rattle.al_scalar.specs.Offsets.{AreClimbing}
 use Rattle.al_scalar.specs.Quoted.{QuotedLine, QuotedEnd, closed, broken, escaped, cut_short, is_broken, with_own}
-use Rattle.al_scalar.specs.Quoted.{single_part, escape_table, digits_table, lookup, hex_value, is_scalar_value}
-use Rattle.al_scalar.specs.Quoted.{written, part_before, own_before, hex_escape, escape, double_part, line_given}
+use Rattle.al_scalar.specs.Quoted.{single_part, escape_table, digits_table, lookup, is_scalar_value}
+use Rattle.al_scalar.specs.Quoted.{written, part_before, own_before, escape_character, escape_digits, hex_digit, escape, double_part, line_given}
 use Rattle.al_scalar.specs.Quoted.{is_empty_line, quoted_lines, quoted, single_quoted, double_quoted}
 use Rattle.al_scalar.specs.Taken.{Fault, Taken, ◌>>=◌, before, folded}
 use Rattle.al_scalar.proofs.OffsetLemmas.{choose, climbing-order, climbing-behind, climbing-blanks}
@@ -49,34 +49,39 @@ own-gives : (low end : ℕ) (c : Cell) (r : Result QuotedLine Fault) → GivesSt
 own-gives low end c (Ok p) h = own-stops low end c p h
 own-gives low end c (Err e) h = h
 
-hex-stops : (low end at width : ℕ) (digits : List Cell) (o : Option ℕ) (more : Result QuotedLine Fault) → at ≤ end → GivesStop low end more
-    → GivesStop low end (hex_escape at width digits o more)
-hex-stops low end at width digits None more a h = a
-hex-stops low end at width digits (Some code) more a h =
-    choose (GivesStop low end) (nat_lt (length digits) width) (λ _. a)
-    (λ _. choose (GivesStop low end) (is_scalar_value code) (λ _. part-stops low end (written at code) more h) (λ _. a))
+character-stops : (low end at code : ℕ) (behind : Result QuotedLine Fault) → at ≤ end → GivesStop low end behind
+    → GivesStop low end (escape_character at code behind)
+character-stops low end at code behind a h =
+    choose (GivesStop low end) (is_scalar_value code) (λ _. part-stops low end (written at code) behind h) (λ _. a)
 
-escape-stops : (low end at : ℕ) (cs : List Cell) (more : ℕ → Result QuotedLine Fault) → at ≤ end → ((n : ℕ) → GivesStop low end (more n))
-    → GivesStop low end (escape at cs more)
-escape-stops low end at [] more a h = tt
-escape-stops low end at (c ∷ cs) more a h =
-    choose-option (GivesStop low end) (lookup c.0 escape_table)
-    (choose-option (GivesStop low end) (lookup c.0 digits_table) a
-    (λ width _. hex-stops low end at width (take width cs) (hex_value 0 (take width cs)) (more (1 + width)) a (h (1 + width))))
-    (λ code _. part-stops low end (written at code) (more 1) (h 1))
+mutual
+  double-stops : (low end : ℕ) (cs : List Cell) → AreClimbing low end cs → GivesStop low end (double_part cs)
+  double-stops low end [] h = tt
+  double-stops low end (c ∷ cs) h =
+      let k = climbing-behind low end c cs h in
+      let a = climbing-order (c.1 + 1) end cs h.1 in
+      let at : c.1 ≤ end = omega (arith, a) in
+      choose (GivesStop low end) (c.0 == ascii.double_quote) (λ _. k)
+      (λ _. choose (GivesStop low end) (c.0 == ascii.backslash) (λ _. escape-stops low end c.1 cs at k)
+      (λ _. own-gives low end c (double_part cs) (double-stops low end cs k)))
 
-double-stops : (n low end : ℕ) (cs : List Cell) → AreClimbing low end cs → GivesStop low end (double_part n cs)
-double-stops zero low end [] h = tt
-double-stops (suc n) low end [] h = tt
-double-stops (suc n) low end (c ∷ cs) h = double-stops n low end cs (climbing-behind low end c cs h)
-double-stops zero low end (c ∷ cs) h =
-    let k = climbing-behind low end c cs h in
-    let a = climbing-order (c.1 + 1) end cs h.1 in
-    let at : c.1 ≤ end = omega (arith, a) in
-    choose (GivesStop low end) (c.0 == ascii.double_quote) (λ _. k)
-    (λ _. choose (GivesStop low end) (c.0 == ascii.backslash)
-    (λ _. escape-stops low end c.1 cs (λ n. double_part n cs) at (λ n. double-stops n low end cs k))
-    (λ _. own-gives low end c (double_part 0 cs) (double-stops 0 low end cs k)))
+  escape-stops : (low end at : ℕ) (cs : List Cell) → at ≤ end → AreClimbing low end cs → GivesStop low end (escape at cs)
+  escape-stops low end at [] a h = tt
+  escape-stops low end at (c ∷ cs) a h =
+      let k = climbing-behind low end c cs h in
+      choose-option (GivesStop low end) (lookup c.0 escape_table)
+      (choose-option (GivesStop low end) (lookup c.0 digits_table) a (λ width _. digits-stop low end at (width - 1) 0 cs a k))
+      (λ code _. part-stops low end (written at code) (double_part cs) (double-stops low end cs k))
+
+  digits-stop : (low end at n v : ℕ) (cs : List Cell) → at ≤ end → AreClimbing low end cs → GivesStop low end (escape_digits at n v cs)
+  digits-stop low end at n v [] a h = a
+  digits-stop low end at zero v (c ∷ cs) a h =
+      let k = climbing-behind low end c cs h in
+      choose-option (GivesStop low end) (hex_digit c.0) a
+      (λ d _. character-stops low end at (16 * v + d) (double_part cs) a (double-stops low end cs k))
+  digits-stop low end at (suc n) v (c ∷ cs) a h =
+      let k = climbing-behind low end c cs h in
+      choose-option (GivesStop low end) (hex_digit c.0) a (λ d _. digits-stop low end at n (16 * v + d) cs a k)
 
 abbrev PartReader : (List Cell → Result QuotedLine Fault) → Type 0
 PartReader part = (low end : ℕ) (cs : List Cell) → AreClimbing low end cs → GivesStop low end (part cs)
@@ -131,4 +136,4 @@ module _ (size quote : ℕ) (q : quote ≤ size) where
   single-left low ls h = quoted-left (λ text. Ok (single_part text)) (λ low end cs k. single-stops low end cs k) low ls h
 
   pub double-left : (low : ℕ) (ls : List Line) → Stand size low ls → Leaves size low (double_quoted quote ls)
-  double-left low ls h = quoted-left (double_part 0) (λ low end cs k. double-stops 0 low end cs k) low ls h
+  double-left low ls h = quoted-left (double_part) (λ low end cs k. double-stops low end cs k) low ls h

@@ -1,12 +1,13 @@
 -- What the reader of double-quoted scalars answers, in terms of offsets.
-use Rattle.std.specs.Prelude.{◌≡◌, ◌⊎◌, ℕ, ◌+◌, ◌<◌, ◌≤◌, List, [], ◌++◌, length, slice_index, Bool, Some, None, Result, Ok, Err, take}
+use Rattle.std.specs.Prelude.{◌≡◌, ◌⊎◌, ℕ, ◌+◌, ◌*◌, ◌∷◌, ◌<◌, ◌≤◌, List, [], ◌++◌}
+use Rattle.std.specs.Prelude.{length, slice_index, Bool, Option, Some, None, Result, Ok, Err, take}
 use Rattle.al_base.specs.Ascii as ascii
 use Rattle.al_base.specs.declared.codes.YamlCode.TheVariants as yaml
 use Rattle.al_scalar.specs.Line.{Cell}
 use Rattle.al_scalar.specs.Places.{lines_at, text_at}
 use Rattle.al_scalar.specs.LineEnds.{later, cells_between, OnLine, IsBreakByte, IsLineEnd}
 use Rattle.al_scalar.specs.Taken.{Fault, Taken, before}
-use Rattle.al_scalar.specs.Quoted.{double_part, quoted_lines, double_quoted, written, hex_value}
+use Rattle.al_scalar.specs.Quoted.{double_part, quoted_lines, double_quoted, written, hex_digit}
 use Rattle.al_scalar.specs.Private.Folding.{break_of}
 use Rattle.al_scalar.specs.declared.double.Mark.{Mark}
 use Rattle.al_scalar.specs.declared.double.Mark.TheVariants as mark
@@ -27,7 +28,7 @@ EndsRun bytes at = at < length bytes → IsBreakByte (slice_index bytes at) ⊎ 
 
 -- what is read behind the break at an offset
 abbrev pub read_behind : List ℕ → ℕ → Bool → ℕ → Result Taken Fault
-read_behind bytes end escaped quote = quoted_lines (double_part 0) quote (break_of escaped end) (later (lines_at bytes end))
+read_behind bytes end escaped quote = quoted_lines (double_part) quote (break_of escaped end) (later (lines_at bytes end))
 
 abbrev pub GivesMark : List ℕ → ℕ → Mark → Type 0
 GivesMark bytes at mark.Quote = (at < length bytes)
@@ -43,6 +44,11 @@ GivesMark bytes at mark.FileEnd = (quote : ℕ) → double_quoted quote (lines_a
 -- the cells from an offset up to another one on the same line
 abbrev pub Between : List ℕ → ℕ → ℕ → Type 0
 Between bytes from to = OnLine bytes from to × (text_at bytes from ≡ cells_between bytes from to ++ text_at bytes to)
+
+-- the value of hexadecimal digits, after those that make value
+abbrev pub hex_value : ℕ → List Cell → Option ℕ
+hex_value value [] = Some value
+hex_value value (c ∷ cs) = elim (hex_digit c.0) [ None ↦ None | Some d ↦ hex_value (16 * value + d) cs ]
 
 abbrev pub GivesDigits : List ℕ → ℕ → ℕ → Digits → Type 0
 GivesDigits bytes from count (digits.Code code) = Between bytes from (from + count)
