@@ -25,7 +25,7 @@ use al_yaml_parts::file::{File, Progress};
 use al_yaml_parts::flow_nodes::{complete, read_alias};
 use al_yaml_parts::frames::BlockStart;
 use al_yaml_parts::keys::{Key, has_colon, is_on_key, is_short_key, key_at};
-use al_yaml_parts::lines::same_line;
+use al_yaml_parts::lines::is_same_line;
 use al_yaml_parts::part::Part;
 use al_yaml_parts::scalars::read_line_scalar;
 use al_yaml_parts::slots::{Spot, is_behind_key, tab_before};
@@ -263,7 +263,7 @@ fn begin_mapping(
         code: YamlCode::WrongKey,
         at: node.start.at,
     });
-    if !same_line(file.bytes, node.start.at, key.read.next) {
+    if !is_same_line(file.bytes, node.start.at, key.read.next) {
         return Err(wrong);
     }
     if let Some(tab) = tab_before(node.slot.spot) {

@@ -25,7 +25,7 @@ ghost use Rattle.std.specs.Prelude.{IfErr, IfOk, List, None, [], false, length, 
 use al_base::YamlCode;
 use al_scalar::lines::begins;
 use al_scalar::{FaultAt, ScalarRead};
-use al_yaml_parts::content::gap;
+use al_yaml_parts::content::gap_end;
 use al_yaml_parts::faults::ReadError;
 use al_yaml_parts::file::{File, Progress};
 use al_yaml_parts::flow_nodes::{
@@ -86,7 +86,7 @@ fn after_item(bytes: &[u8], opening: usize, close: u8, at: usize) -> Result<Afte
         });
     }
     if begins(bytes, at, b',') {
-        return Ok(After::GoesOn(gap(bytes, at + 1)));
+        return Ok(After::GoesOn(gap_end(bytes, at + 1)));
     }
     if begins(bytes, at, close) {
         return Ok(After::Closes(at + 1));
@@ -115,7 +115,7 @@ fn put_item(
     ensures within { IfOk result (IsPut (size file.now) part.next) }
 {
     items.push(part.node)?;
-    Ok(after_item(file.bytes, opening, b']', gap(file.bytes, part.next))?)
+    Ok(after_item(file.bytes, opening, b']', gap_end(file.bytes, part.next))?)
 }
 
 /// Puts an entry whose value was read into its mapping, and reads what stands behind it.
@@ -139,7 +139,7 @@ fn put_entry(
 {
     let key = scalar_node(key.scalar, key.span);
     entries.push(entry_of(key, part.node))?;
-    Ok(after_item(file.bytes, opening, b'}', gap(file.bytes, part.next))?)
+    Ok(after_item(file.bytes, opening, b'}', gap_end(file.bytes, part.next))?)
 }
 
 /// Reads an item that begins with an anchor or is an alias, to what stands behind it or to a bracket.
@@ -343,7 +343,7 @@ fn open_at(file: &File, at: usize) -> OpenFlow
     ensures from { at < after_at result.next }
     ensures end { after_at result.next ≤ size file.now }
 {
-    let inside = gap(file.bytes, at + 1);
+    let inside = gap_end(file.bytes, at + 1);
     if begins(file.bytes, at, b'[') {
         return OpenFlow {
             opening: at,

@@ -157,7 +157,7 @@ fn is_solid(bytes: &[u8], at: usize) -> bool
 
 /// The offset behind the blanks, breaks and comments at an offset in a flow collection.
 #[inline(always)]
-pub fn gap(bytes: &[u8], at: usize) -> usize
+pub fn gap_end(bytes: &[u8], at: usize) -> usize
     requires { at ≤ length bytes.now }
     ensures from { at ≤ result }
     ensures inside { result ≤ length bytes.now }

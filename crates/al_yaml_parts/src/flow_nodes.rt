@@ -18,7 +18,7 @@ ghost use Rattle.al_yaml_tree.specs.View.{view};
 ghost use Rattle.std.specs.Prelude.{IfErr, IfOk, IfSome, false, if◌then◌else◌, length, true, ℕ, ◌<◌, ◌||◌, ◌≡◌, ◌≤◌};
 
 use crate::anchors::{has_no_name, property_end};
-use crate::content::gap;
+use crate::content::gap_end;
 use crate::faults::ReadError;
 use crate::file::File;
 use crate::keys::{behind_flow_colon, is_late_colon, is_simple_key};
@@ -234,7 +234,7 @@ pub fn read_flow_property(
         file,
         state,
         slot,
-        gap(file.bytes, property_end(file.bytes, at)),
+        gap_end(file.bytes, property_end(file.bytes, at)),
     )?;
     match found {
         FoundNode::Node(part) => Ok(FoundNode::Node(complete(file, state, Some(at), part)?)),
@@ -360,7 +360,7 @@ pub fn read_flow_value(
         let part = empty_part(file, state, key.read.span.end as usize, key.read.next)?;
         return Ok(FoundNode::Node(part));
     };
-    let at = gap(file.bytes, colon);
+    let at = gap_end(file.bytes, colon);
     if is_text_end(file.bytes, at) {
         return Err(ReadError::Fault(FaultAt {
             code: YamlCode::UnclosedFlow,

@@ -15,10 +15,10 @@ ghost use Rattle.std.specs.Prelude.{IfErr, IfOk, IsTrue, length, true, ◌&&◌,
 ghost use Rattle.al_base.specs.Limits.{largest_file};
 
 use crate::anchors::{has_no_name, property_end};
-use crate::content::{gap, is_dash, is_skipped};
+use crate::content::{gap_end, is_dash, is_skipped};
 use crate::faults::ReadError;
 use crate::file::File;
-use crate::lines::{characters, same_line};
+use crate::lines::{characters, is_same_line};
 use crate::scalars::scalar_at;
 use crate::starts::{
     begins_flow_indicator, block_fault, is_block_start, is_flow_start, is_property, is_quote,
@@ -34,7 +34,7 @@ pub fn is_simple_key(bytes: &[u8], at: usize, read: &ScalarRead) -> bool
     requires { IsReadInside bytes.now at read.now }
     ensures { result ≡ content.is_simple_key (lines_at bytes.now at) (read_of bytes.now read.now) }
 {
-    same_line(bytes, at, read.next) && is_short_key(bytes, at, read)
+    is_same_line(bytes, at, read.next) && is_short_key(bytes, at, read)
 }
 
 /// Whether a scalar on one line that was read from an offset on has at most 1,024 characters.
@@ -133,11 +133,11 @@ pub fn is_late_colon(bytes: &[u8], at: usize) -> bool
     requires { at ≤ length bytes.now }
     ensures { result ≡ flow.is_late_colon (lines_at bytes.now at) }
 {
-    let next = gap(bytes, at);
+    let next = gap_end(bytes, at);
     if !begins(bytes, next, b':') {
         return false;
     }
-    !same_line(bytes, at, next)
+    !is_same_line(bytes, at, next)
 }
 
 /// A key of a block mapping, and the offset behind its colon.
@@ -229,7 +229,7 @@ fn is_key(file: &File, at: usize) -> Result<bool, AllocError>
     ensures { IfOk result (λ b. b ≡ keys.is_key (left_at file.now at)) }
 {
     match key_at(file, at) {
-        Ok(Some(key)) => Ok(same_line(file.bytes, at, key.read.next)),
+        Ok(Some(key)) => Ok(is_same_line(file.bytes, at, key.read.next)),
         Ok(None) => Ok(false),
         Err(ReadError::Fault(_)) => Ok(false),
         Err(ReadError::Memory) => Err(AllocError),

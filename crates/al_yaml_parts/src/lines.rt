@@ -41,7 +41,7 @@ fn is_break(byte: u8) -> bool
 }
 
 /// Whether no break stands between two offsets.
-pub fn same_line(bytes: &[u8], from: usize, to: usize) -> bool
+pub fn is_same_line(bytes: &[u8], from: usize, to: usize) -> bool
     requires order { from ≤ to }
     requires inside { to ≤ length bytes.now }
     ensures { result ≡ content.same_line (lines_at bytes.now from) (lines_at bytes.now to) }

@@ -45,7 +45,7 @@ impl Sums {
     }
 
     /// Of what is counted, and a node behind it.
-    fn and(self, more: Sums) -> Sums
+    fn plus(self, more: Sums) -> Sums
         ensures nodes { result.nodes ≡ most_counted (self.nodes + more.nodes) }
         ensures text { result.text ≡ most_counted (self.text + more.text) }
         ensures levels { result.levels ≡ tree.greater_of self.levels more.levels }
@@ -90,7 +90,7 @@ pub fn sums_of(alloc: Global, node: &Node) -> Result<Sums, AllocError>
     let mut left = Vec::new(alloc);
     left.push(Uncounted { node, levels: 0 })?;
     'nodes: while let Some(next) = left.pop() {
-        sums = sums.and(count(next.node, next.levels, &mut left)?);
+        sums = sums.plus(count(next.node, next.levels, &mut left)?);
     }
     Ok(sums)
 }

@@ -37,12 +37,12 @@ returns-in_err-found-clause-is c =
     let p = err_from_is_err_and c.from_residual-in_err-found.result c.from_residual-in_err-found.ensures.1 in
     let bytes = c.args.file.now.bytes.now in
     let slot = flow_slot c.args.slot in
-    let value : CollectionReader → Reading (Part tree.Node) = λ col. flow_value (flow_content col) slot c.args.depth (lines_at bytes c.gap.result) in
+    let value : CollectionReader → Reading (Part tree.Node) = λ col. flow_value (flow_content col) slot c.args.depth (lines_at bytes c.gap_end.result) in
     rw (p.1, p.2) (λ col. stops-same (flow_property col slot c.args.depth (lines_at bytes c.args.at))
     (completing bytes (Some c.args.at) (value col)) (state_of c.args.state.now) c.in_err-found.field-0.0
     (property-anchor col (flow_slot c.args.slot) c.args.depth (state_of c.args.state.now) c.args.file.now.bytes.now
-    c.args.at c.requires.inside c.if-has_no_name.ensures c.if-begins.ensures.value c.property_end.result c.gap.result
-    c.property_end.ensures.lines c.gap.ensures.lines)
+    c.args.at c.requires.inside c.if-has_no_name.ensures c.if-begins.ensures.value c.property_end.result c.gap_end.result
+    c.property_end.ensures.lines c.gap_end.ensures.lines)
     (stops-bind (value col) (λ x. anchored (anchor_at bytes c.args.at x.value) x) (state_of c.args.state.now) c.in_err-found.field-0.0 (c.in_err-found.ensures.is c.args.depth col)))
 
 pub returns-in_ok-complete-in-Node-clause-is : goal.returns-in_ok-complete-in-Node-clause-is
@@ -52,9 +52,9 @@ returns-in_ok-complete-in-Node-clause-is c = λ col.
     let found = rw c.in-Node.is at c.in_ok-found.ensures.is in
     ap (run (state_of c.args.state.now))
     (property-anchor col (flow_slot c.args.slot) c.args.depth (state_of c.args.state.now) c.args.file.now.bytes.now
-    c.args.at c.requires.inside c.if-has_no_name.ensures c.if-begins.ensures.value c.property_end.result c.gap.result
-    c.property_end.ensures.lines c.gap.ensures.lines)
-    ∙ completing-noted bytes (Some c.args.at) (state_of c.args.state.now) (flow_value (flow_content col) slot c.args.depth (lines_at bytes c.gap.result))
+    c.args.at c.requires.inside c.if-has_no_name.ensures c.if-begins.ensures.value c.property_end.result c.gap_end.result
+    c.property_end.ensures.lines c.gap_end.ensures.lines)
+    ∙ completing-noted bytes (Some c.args.at) (state_of c.args.state.now) (flow_value (flow_content col) slot c.args.depth (lines_at bytes c.gap_end.result))
     ∙ ap (noting (mark_of bytes (Some c.args.at))) (found c.args.depth col)
     ∙ noted-part bytes (Some c.args.at) c.in-Node.part c.in_ok-complete-in-Node.field-0 (state_of c.read_behind_anchor.new.state) (state_of c.complete.new.state)
     c.in_ok-complete-in-Node.ensures.part c.in_ok-complete-in-Node.ensures.state
@@ -67,8 +67,8 @@ returns-in-Opens-clause-is c = λ col.
     let bare = rw c.in-Opens.is at c.in_ok-found.ensures.bare in
     ap (run (state_of c.args.state.now))
     (property-anchor col (flow_slot c.args.slot) c.args.depth (state_of c.args.state.now) c.args.file.now.bytes.now
-    c.args.at c.requires.inside c.if-has_no_name.ensures c.if-begins.ensures.value c.property_end.result c.gap.result
-    c.property_end.ensures.lines c.gap.ensures.lines)
-    ∙ completing-noted bytes (Some c.args.at) (state_of c.args.state.now) (flow_value (flow_content col) slot c.args.depth (lines_at bytes c.gap.result))
+    c.args.at c.requires.inside c.if-has_no_name.ensures c.if-begins.ensures.value c.property_end.result c.gap_end.result
+    c.property_end.ensures.lines c.gap_end.ensures.lines)
+    ∙ completing-noted bytes (Some c.args.at) (state_of c.args.state.now) (flow_value (flow_content col) slot c.args.depth (lines_at bytes c.gap_end.result))
     ∙ ap (noting (mark_of bytes (Some c.args.at)))
     (found c.args.depth col ∙ ap (λ a. noting (mark_of bytes a) (run (state_of c.read_behind_anchor.new.state) (col c.args.depth (lines_at bytes c.in-Opens.bracket.at)))) bare)

@@ -36,8 +36,8 @@ returns-then-is_text_end-clause-is c = λ col.
     let inside = rw c.in-Some.is at c.requires.inside.colon in
     value-open (flow_node_over col) c.args.opening depth (state_of c.args.state.now) c.args.file.now.bytes.now
     (read_of c.args.file.now.bytes.now c.args.key.now.read) (option_lines c.args.file.now.bytes.now c.args.key.now.colon)
-    c.in-Some.colon c.gap-at.result inside.1 c.gap-at.ensures.inside (ap (option_lines c.args.file.now.bytes.now) c.in-Some.is)
-    c.gap-at.ensures.lines c.if-is_text_end.ensures.text
+    c.in-Some.colon c.gap_end-at.result inside.1 c.gap_end-at.ensures.inside (ap (option_lines c.args.file.now.bytes.now) c.in-Some.is)
+    c.gap_end-at.ensures.lines c.if-is_text_end.ensures.text
 
 pub returns-in_err-part-2-clause-is : goal.returns-in_err-part-2-clause-is
 returns-in_err-part-2-clause-is c =
@@ -46,12 +46,12 @@ returns-in_err-part-2-clause-is c =
     let p = err_from_is_err_and c.from_residual-in_err-part-2.result c.from_residual-in_err-part-2.ensures.1 in
     rw (p.1, p.2) (λ col. stops-same
     (flow_entry_value (flow_node_over col) c.args.opening depth (flow_key_of c.args.file.now.bytes.now c.args.key.now))
-    (empty_node c.in-Some.colon (lines_at c.args.file.now.bytes.now c.gap-at.result)) (state_of c.args.state.now)
+    (empty_node c.in-Some.colon (lines_at c.args.file.now.bytes.now c.gap_end-at.result)) (state_of c.args.state.now)
     c.in_err-part-2.field-0.0
     (value-empty (flow_node_over col) c.args.opening depth (state_of c.args.state.now) c.args.file.now.bytes.now
     (read_of c.args.file.now.bytes.now c.args.key.now.read) (option_lines c.args.file.now.bytes.now c.args.key.now.colon)
-    c.in-Some.colon c.gap-at.result inside.1 c.gap-at.ensures.inside (ap (option_lines c.args.file.now.bytes.now) c.in-Some.is)
-    c.gap-at.ensures.lines c.if-is_text_end.ensures.text c.if-ends_value.ensures) c.in_err-part-2.ensures.is)
+    c.in-Some.colon c.gap_end-at.result inside.1 c.gap_end-at.ensures.inside (ap (option_lines c.args.file.now.bytes.now) c.in-Some.is)
+    c.gap_end-at.ensures.lines c.if-is_text_end.ensures.text c.if-ends_value.ensures) c.in_err-part-2.ensures.is)
 
 pub returns-then-ends_value-clause-is : goal.returns-then-ends_value-clause-is
 returns-then-ends_value-clause-is c = λ col.
@@ -60,8 +60,8 @@ returns-then-ends_value-clause-is c = λ col.
     ap (run (state_of c.args.state.now))
     (value-empty (flow_node_over col) c.args.opening depth (state_of c.args.state.now) c.args.file.now.bytes.now
     (read_of c.args.file.now.bytes.now c.args.key.now.read) (option_lines c.args.file.now.bytes.now c.args.key.now.colon)
-    c.in-Some.colon c.gap-at.result inside.1 c.gap-at.ensures.inside (ap (option_lines c.args.file.now.bytes.now) c.in-Some.is)
-    c.gap-at.ensures.lines c.if-is_text_end.ensures.text c.if-ends_value.ensures) ∙ c.in_ok-part-2.ensures.is
+    c.in-Some.colon c.gap_end-at.result inside.1 c.gap_end-at.ensures.inside (ap (option_lines c.args.file.now.bytes.now) c.in-Some.is)
+    c.gap_end-at.ensures.lines c.if-is_text_end.ensures.text c.if-ends_value.ensures) ∙ c.in_ok-part-2.ensures.is
 
 pub returns-clause-is : goal.returns-clause-is
 returns-clause-is c =
@@ -70,9 +70,9 @@ returns-clause-is c =
     let slot : FlowSlot = record { opening = c.args.opening; empty = Some c.in-Some.colon } in
     finds-same c.args.file.now.bytes.now
     (λ col. flow_entry_value (flow_node_over col) c.args.opening depth (flow_key_of c.args.file.now.bytes.now c.args.key.now))
-    (λ col. flow_node_over col slot depth (lines_at c.args.file.now.bytes.now c.gap-at.result)) depth (state_of c.args.state.now)
+    (λ col. flow_node_over col slot depth (lines_at c.args.file.now.bytes.now c.gap_end-at.result)) depth (state_of c.args.state.now)
     (state_of c.read_flow_node.new.state) c.read_flow_node.result
     (λ col. value-node (flow_node_over col) c.args.opening depth (state_of c.args.state.now) c.args.file.now.bytes.now
     (read_of c.args.file.now.bytes.now c.args.key.now.read) (option_lines c.args.file.now.bytes.now c.args.key.now.colon)
-    c.in-Some.colon c.gap-at.result inside.1 c.gap-at.ensures.inside (ap (option_lines c.args.file.now.bytes.now) c.in-Some.is)
-    c.gap-at.ensures.lines c.if-is_text_end.ensures.text c.if-ends_value.ensures) c.read_flow_node.ensures.is
+    c.in-Some.colon c.gap_end-at.result inside.1 c.gap_end-at.ensures.inside (ap (option_lines c.args.file.now.bytes.now) c.in-Some.is)
+    c.gap_end-at.ensures.lines c.if-is_text_end.ensures.text c.if-ends_value.ensures) c.read_flow_node.ensures.is

@@ -12,9 +12,9 @@ nodes-preserved c =
     let rest = map uncounted_view c.pop.new.self.items in
     let was : map uncounted_view c.nodes.left.items ≡ rest ++ x ∷ [] =
     ap (map uncounted_view) c.in-Some.ensures.items ∙ map-append uncounted_view c.pop.new.self.items (c.in-Some.next ∷ []) in
-    subst (IsCounting n c.and-sums.result) (sym c.in_ok-count.ensures.left)
-    (counting-next n x rest c.nodes.sums c.in_ok-count.field-0 c.and-sums.result (subst (IsCounting n c.nodes.sums) was c.nodes.invariant) c.in_ok-count.ensures.own
-    (record { nodes = c.and-sums.ensures.nodes; text = c.and-sums.ensures.text; levels = c.and-sums.ensures.levels }))
+    subst (IsCounting n c.plus-sums.result) (sym c.in_ok-count.ensures.left)
+    (counting-next n x rest c.nodes.sums c.in_ok-count.field-0 c.plus-sums.result (subst (IsCounting n c.nodes.sums) was c.nodes.invariant) c.in_ok-count.ensures.own
+    (record { nodes = c.plus-sums.ensures.nodes; text = c.plus-sums.ensures.text; levels = c.plus-sums.ensures.levels }))
 
 pub nodes-smaller : goal.nodes-smaller
 nodes-smaller c =

@@ -1,6 +1,6 @@
 use Rattle.std.proofs.Common.{refl}
 use Rattle.al_yaml_parts.proofs.ContentLemmas.{gap_solid}
-use Rattle.al_yaml_parts.proofs.content.gap.Goals as goal
+use Rattle.al_yaml_parts.proofs.content.gap_end.Goals as goal
 
 pub returns-then-is_solid-clause-lines : goal.returns-then-is_solid-clause-lines
 returns-then-is_solid-clause-lines c =

@@ -1,6 +1,6 @@
 use Rattle.std.proofs.Common.{◌-◌, ◌≡◌, ◌≤◌}
 use Rattle.al_scalar.specs.Places.{first_end, lines_at}
-use Rattle.al_yaml_parts.proofs.lines.same_line.Given as goal
+use Rattle.al_yaml_parts.proofs.lines.is_same_line.Given as goal
 
 abbrev pub invariant-text : goal.invariant-text
 invariant-text l = record {

@@ -1,7 +1,7 @@
 use Rattle.std.proofs.Common.{arith, refl, inl, inr}
 use Rattle.al_yaml_parts.proofs.KeyLemmas.{other_line, end-more}
 use Rattle.al_scalar.proofs.SingleLemmas.{never}
-use Rattle.al_yaml_parts.proofs.lines.same_line.Goals as goal
+use Rattle.al_yaml_parts.proofs.lines.is_same_line.Goals as goal
 
 pub returns-then-is_break : goal.returns-then-is_break
 returns-then-is_break c = other_line c.args.bytes.now c.args.from c.text.i c.args.to (omega arith) c.requires.inside (c.if-is_break.ensures.0 refl) c.text.invariant.line
