@@ -1,7 +1,13 @@
 -- Files that a run took, in the order in which it put them.
-use Rattle.std.specs.Prelude.{◌≡◌, ℕ, List, [], ◌∷◌, None, Vec}
+use Rattle.std.specs.Prelude.{◌≡◌, ℕ, Bool, true, nat_eq, bytes_eq, codes, drop, fold, if◌then◌else◌, map, List, [], ◌∷◌, ◌++◌, None, Vec}
+use Rattle.std.specs.Cmp.Lexicographic.{slice_cmp}
 use Rattle.std.specs.Global.{Global}
-use Rattle.al_session.specs.Folder.{Folder, bytes_at, with_file}
+use Rattle.std.specs.List.{flat_map, list_any, starts_with}
+use Rattle.std.specs.List.Sorted.{IsStrictlySortedBy}
+use Rattle.std.specs.Ordering.{nat_cmp}
+use Rattle.al_session.specs.Folder.{Folder, bytes_at, paths_of, with_file}
+use Rattle.al_session.specs.Meaning.{candidates}
+use Rattle.al_check.specs.Linting.{linting}
 use Rattle.al_cli.specs.Linted.{AreTaken, folder_with}
 
 -- no file that was put before has the path of one of these at its turn
@@ -14,10 +20,51 @@ pub record AreGathered (files : List (List ℕ × List ℕ)) : Type 0 where
   pub taken : AreTaken [] files
   pub new : AreNew [] files
 
--- the folder that such files make
-pub record IsGathered (folder : Folder) : Type 0 where
+-- Which files are taken, and in which order
+
+-- whether a path stands among these
+abbrev pub has_path : List (List ℕ) → List ℕ → Bool
+has_path paths p = list_any (bytes_eq p) paths
+
+-- a path behind these, unless it stands among them
+abbrev pub with_path : List (List ℕ) → List ℕ → List (List ℕ)
+with_path paths p = if has_path paths p then paths else paths ++ p ∷ []
+
+-- these in their order, each once
+abbrev pub each_once : List (List ℕ) → List (List ℕ)
+each_once paths = fold with_path [] paths
+
+-- the path that a FILE names: a leading `./` isn't of it
+abbrev pub path_named : List ℕ → List ℕ
+path_named file = if starts_with nat_eq file (codes "./") then drop 2 file else file
+
+-- the paths that FILEs ask for: their own, in their order, each once; where there are no FILEs, ascending ones
+abbrev pub AreAsked : List (List ℕ) → List (List ℕ) → Type 0
+AreAsked [] paths = IsStrictlySortedBy (slice_cmp nat_cmp) paths
+AreAsked (file ∷ files) paths = paths ≡ each_once (map path_named (file ∷ files))
+
+-- the candidates of the calls of these files
+abbrev pub called_by : List (List ℕ × List ℕ) → List (List ℕ)
+called_by files = flat_map (λ e. flat_map candidates (linting.calls e.0 e.1)) files
+
+-- each of these files is called by one that stands before it; the first files stand before all of them
+abbrev pub AreCalled : List (List ℕ × List ℕ) → List (List ℕ × List ℕ) → Type 0
+AreCalled first [] = Unit {0}
+AreCalled first (e ∷ es) = (has_path (called_by first) e.0 ≡ true) × AreCalled (first ++ e ∷ []) es
+
+-- Files in order: first those that these FILEs ask for, and then files that others call which stand before them.
+pub record AreInOrder (words : List (List ℕ)) (files : List (List ℕ × List ℕ)) : Type 0 where
+  pub first : List (List ℕ × List ℕ)
+  pub behind : List (List ℕ × List ℕ)
+  pub all : files ≡ first ++ behind
+  pub asked : AreAsked words (paths_of first)
+  pub called : AreCalled first behind
+
+-- the folder that the files make which these FILEs ask for, and those that they call
+pub record IsGathered (words : List (List ℕ)) (folder : Folder) : Type 0 where
   pub files : List (List ℕ × List ℕ)
   pub gathered : AreGathered files
+  pub ordered : AreInOrder words files
   pub made : folder ≡ folder_with [] files
 
 -- a file's path and bytes

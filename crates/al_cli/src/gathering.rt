@@ -1,9 +1,17 @@
 //! The files that a run without a script lints: those that are asked for, and those that they call.
 
-ghost use Rattle.std.specs.Prelude.{◌≡◌, [], IfOk, None, map};
-ghost use Rattle.al_session.specs.Folder.{bytes_at};
+ghost use Rattle.std.specs.Prelude.{◌≡◌, ◌≤◌, ◌∷◌, ◌++◌, [], IfOk, OnOk, None, length, map, string_bytes, true};
+ghost use Rattle.std.specs.List.{AllByRecursion};
+ghost use Rattle.std.specs.List.Sorted.{IsStrictlySortedBy};
+ghost use Rattle.std.specs.Ordering.{nat_cmp};
+ghost use Rattle.std.specs.Cmp.Lexicographic.{slice_cmp};
+ghost use Rattle.al_base.specs.Limits.{largest_file};
+ghost use Rattle.al_session.specs.Folder.{bytes_at, paths_of};
+ghost use Rattle.al_session.specs.Meaning.{candidates};
 ghost use Rattle.al_cli.specs.Linted.{folder_with};
-ghost use Rattle.al_cli.specs.Taken.{AreGathered, IsGathered, owned_entry};
+ghost use Rattle.al_cli.specs.Private.Turns.{AreAmong, IsCalling, IsTakenAs, IsTakenIfThere};
+ghost use Rattle.al_cli.specs.Taken.{AreGathered, AreInOrder, IsGathered, owned_entry};
+ghost use Rattle.al_cli.specs.Taken.{called_by, each_once, has_path, path_named, with_path};
 
 use crate::Words;
 use crate::disk::{Disk, DiskError, Entry, SystemFolder, WORKFLOWS};
@@ -65,19 +73,26 @@ impl<T: Drop> From<AllocFailed<T>> for Unread {
 /// # Errors
 ///
 /// [`Unread`], for the first file that can't be read or is refused, or where memory ran out. A path is refused before it is read, and of a
-/// file at most 1,048,577 bytes are read.
+/// file at most 1,048,577 bytes are asked for.
+#[tactic(auto, using(crate::proofs::Turns::all_small))]
 pub fn gather<R: Files + AllocGlobal + Clone + Drop>(
     rt: &R,
     alloc: Global,
     words: &Words,
 ) -> Result<Vec<(Path, Vec<u8>)>, Unread>
-    ensures { IfOk result (λ files. AreGathered (map owned_entry files.items)) }
+    ensures gathered { IfOk result (λ files. AreGathered (map owned_entry files.items)) }
+    ensures ordered { IfOk result (λ files.
+        AreInOrder (map (λ file. file.now) words.now.files.items)
+        (map owned_entry files.items)) }
+    ensures small { IfOk result (λ files.
+        AllByRecursion (λ e. length e.1 ≤ largest_file) (map owned_entry files.items)) }
 {
     let mut disk = SystemFolder {
         rt,
         root: words.root,
     };
-    gather_from(alloc, &mut disk, words)?.into_files()
+    let gathering = gather_from(alloc, &mut disk, words)?;
+    gathering.into_files()
 }
 
 /// The same files, read and not checked yet, and the paths that were passed over.
@@ -90,7 +105,8 @@ pub fn load<R: Files + AllocGlobal + Clone + Drop>(
     alloc: Global,
     words: &Words,
 ) -> Result<Gathered, Unread>
-    ensures gathered { IfOk result (λ loaded. IsGathered loaded.files.folder) }
+    ensures gathered { IfOk result (λ loaded.
+        IsGathered (map (λ file. file.now) words.now.files.items) loaded.files.folder) }
     ensures unchecked { IfOk result (λ loaded. loaded.files.checks ≡ 0) }
 {
     let mut disk = SystemFolder {
@@ -106,20 +122,27 @@ pub fn load<R: Files + AllocGlobal + Clone + Drop>(
 ///
 /// Those of [`gather`].
 pub fn load_from<D: Disk>(alloc: Global, disk: &mut D, words: &Words) -> Result<Gathered, Unread>
-    ensures gathered { IfOk result (λ loaded. IsGathered loaded.files.folder) }
+    ensures gathered { IfOk result (λ loaded.
+        IsGathered (map (λ file. file.now) words.now.files.items) loaded.files.folder) }
     ensures unchecked { IfOk result (λ loaded. loaded.files.checks ≡ 0) }
 {
-    Ok(gather_from(alloc, disk, words)?.into_gathered())
+    let gathering = gather_from(alloc, disk, words)?;
+    Ok(gathering.into_gathered())
 }
 
-fn gather_from<D: Disk>(alloc: Global, disk: &mut D, words: &Words) -> Result<Gathering, Unread> {
+fn gather_from<D: Disk>(alloc: Global, disk: &mut D, words: &Words) -> Result<Gathering, Unread>
+    ensures { IfOk result (λ gathering.
+        AreInOrder (map (λ file. file.now) words.now.files.items) gathering.files) }
+{
     let mut gathering = Gathering::new(alloc);
     gathering.take_asked(disk, words)?;
     Ok(gathering)
 }
 
 // A FILE without a leading `./`.
-fn without_dot(file: &str) -> &str {
+fn without_dot(file: &str) -> &str
+    ensures { result.now ≡ path_named file.now }
+{
     file.strip_prefix("./").unwrap_or(file)
 }
 
@@ -140,20 +163,63 @@ struct Candidates {
 }
 
 impl Candidates {
-    fn new(alloc: Global) -> Candidates {
+    fn new(alloc: Global) -> Candidates
+        ensures { result.waiting.keys ≡ [] }
+    {
         Candidates {
             waiting: BTreeSet::new(alloc),
             absent: BTreeSet::new(alloc),
         }
     }
 
+    // Whether a path waits, or no file was found there.
+    fn has(&self, path: &str) -> bool {
+        self.waiting.contains(path) || self.absent.contains(path)
+    }
+
     // Lets a path wait, unless a file was taken there or it was tried.
-    fn add(&mut self, alloc: Global, files: &TakenFiles, path: &Path) -> Result<(), Unread> {
+    fn add(&mut self, alloc: Global, files: &TakenFiles, path: &Path) -> Result<(), Unread>
+        requires waiting { AreAmong (called_by files.now) self.old.waiting.keys }
+        requires called { has_path (called_by files.now) path.now ≡ true }
+        ensures { OnOk result (AreAmong (called_by files.now) self.new.waiting.keys) }
+    {
         let text = path.as_str();
-        if !files.has(text) && !self.absent.contains(text) && !self.waiting.contains(text) {
-            self.waiting.insert(String::from_str(alloc, text)?)?;
+        if files.has(text) || self.has(text) {
+            return Ok(());
+        }
+        self.waiting.insert(String::from_str(alloc, text)?)?;
+        Ok(())
+    }
+
+    // Lets the candidates wait that the file of this number calls.
+    fn add_calls(&mut self, alloc: Global, files: &TakenFiles, number: usize) -> Result<(), Unread>
+        requires { AreAmong (called_by files.now) self.old.waiting.keys }
+        ensures { OnOk result (AreAmong (called_by files.now) self.new.waiting.keys) }
+    {
+        for call in files.calls(number) {
+            self.add_call(alloc, files, call)?;
         }
         Ok(())
+    }
+
+    // Lets the candidates of a call wait.
+    fn add_call(&mut self, alloc: Global, files: &TakenFiles, call: &Target) -> Result<(), Unread>
+        requires waiting { AreAmong (called_by files.now) self.old.waiting.keys }
+        requires called { AllByRecursion (λ path. has_path (called_by files.now) path ≡ true)
+            (candidates call.now) }
+        ensures { OnOk result (AreAmong (called_by files.now) self.new.waiting.keys) }
+    {
+        match call {
+            Target::Only(path) => {
+                self.add(alloc, files, path)?;
+                Ok(())
+            }
+            Target::FirstOf(first, second) => {
+                self.add(alloc, files, first)?;
+                self.add(alloc, files, second)?;
+                Ok(())
+            }
+        }
     }
 }
 
@@ -177,7 +243,10 @@ struct Gathering {
 }
 
 impl Gathering {
-    fn new(alloc: Global) -> Gathering {
+    fn new(alloc: Global) -> Gathering
+        ensures files { result.files ≡ [] }
+        ensures waiting { result.candidates.waiting.keys ≡ [] }
+    {
         Gathering {
             alloc,
             files: TakenFiles::new(alloc),
@@ -187,14 +256,17 @@ impl Gathering {
     }
 
     // Takes the files that the words ask for, and then those that they call.
-    fn take_asked<D: Disk>(&mut self, disk: &mut D, words: &Words) -> Result<(), Unread> {
+    fn take_asked<D: Disk>(&mut self, disk: &mut D, words: &Words) -> Result<(), Unread>
+        requires files { (self.old).files ≡ [] }
+        requires waiting { (self.old).candidates.waiting.keys ≡ [] }
+        ensures { OnOk result (AreInOrder (map (λ file. file.now) words.now.files.items)
+            (self.new).files) }
+    {
         if words.files.is_empty() {
             let listed = list_workflows(self.alloc, disk)?;
             self.take_listed(disk, &listed)?;
         } else {
-            for file in &words.files {
-                self.take_named(disk, without_dot(file))?;
-            }
+            self.take_named(disk, &words.files)?;
         }
         self.take_called(disk)
     }
@@ -204,7 +276,13 @@ impl Gathering {
         &mut self,
         disk: &mut D,
         listed: &BTreeSet<String>,
-    ) -> Result<(), Unread> {
+    ) -> Result<(), Unread>
+        requires files { (self.old).files ≡ [] }
+        ensures files { OnOk result
+            (IsStrictlySortedBy (slice_cmp nat_cmp) (paths_of (self.new).files)) }
+        ensures waiting { OnOk result
+            ((self.new).candidates.waiting.keys ≡ (self.old).candidates.waiting.keys) }
+    {
         for path in listed {
             let path = path.as_str();
             match self.take(disk, path)? {
@@ -216,8 +294,27 @@ impl Gathering {
         Ok(())
     }
 
+    // Takes the files that the words name.
+    fn take_named<D: Disk>(&mut self, disk: &mut D, files: &[&str]) -> Result<(), Unread>
+        requires files { (self.old).files ≡ [] }
+        ensures files { OnOk result (paths_of (self.new).files
+            ≡ each_once (map path_named (map (λ file. file.now) files.now))) }
+        ensures waiting { OnOk result
+            ((self.new).candidates.waiting.keys ≡ (self.old).candidates.waiting.keys) }
+    {
+        for file in files {
+            self.take_present(disk, without_dot(file))?;
+        }
+        Ok(())
+    }
+
     // Takes a file that has to be there.
-    fn take_named<D: Disk>(&mut self, disk: &mut D, path: &str) -> Result<(), Unread> {
+    fn take_present<D: Disk>(&mut self, disk: &mut D, path: &str) -> Result<(), Unread>
+        ensures files { OnOk result
+            (paths_of (self.new).files ≡ with_path (paths_of (self.old).files) path.now) }
+        ensures waiting { OnOk result
+            ((self.new).candidates.waiting.keys ≡ (self.old).candidates.waiting.keys) }
+    {
         match self.take(disk, path)? {
             Found::File => Ok(()),
             _ => Err(failed(self.alloc, path, DiskError::Unreadable)),
@@ -225,10 +322,12 @@ impl Gathering {
     }
 
     // Takes each called file that is there: at each turn the first that wasn't tried.
-    fn take_called<D: Disk>(&mut self, disk: &mut D) -> Result<(), Unread> {
-        for number in 0..self.files.len() {
-            self.await_calls(number)?;
-        }
+    fn take_called<D: Disk>(&mut self, disk: &mut D) -> Result<(), Unread>
+        requires { (self.old).candidates.waiting.keys ≡ [] }
+        ensures { OnOk result (IsCalling (self.old).files (self.new).files
+            (self.new).candidates.waiting.keys) }
+    {
+        self.await_all()?;
         for _ in 0..u64::MAX {
             match self.candidates.waiting.pop_first() {
                 Some(path) => self.take_candidate(disk, path)?,
@@ -239,11 +338,25 @@ impl Gathering {
     }
 
     // Takes a called file, if it is there.
-    fn take_candidate<D: Disk>(&mut self, disk: &mut D, path: String) -> Result<(), Unread> {
+    fn take_candidate<D: Disk>(&mut self, disk: &mut D, path: String) -> Result<(), Unread>
+        requires waiting { AreAmong (called_by (self.old).files)
+            (self.old).candidates.waiting.keys }
+        requires called { has_path (called_by (self.old).files) (string_bytes path) ≡ true }
+        ensures taken { OnOk result (IsTakenIfThere (string_bytes path)
+            (self.old).files (self.new).files) }
+        ensures waiting { OnOk result (AreAmong (called_by (self.new).files)
+            (self.new).candidates.waiting.keys) }
+    {
         let number = self.files.len();
         match self.take(disk, path.as_str())? {
-            Found::File => self.await_calls(number),
-            Found::Outside => self.pass_over(path.as_str()),
+            Found::File => {
+                self.await_calls(number)?;
+                Ok(())
+            }
+            Found::Outside => {
+                self.pass_over(path.as_str())?;
+                Ok(())
+            }
             Found::Absent => {
                 self.candidates.absent.insert(path)?;
                 Ok(())
@@ -252,7 +365,11 @@ impl Gathering {
     }
 
     // Passes over a path that leads out of the folder, and doesn't try it again.
-    fn pass_over(&mut self, path: &str) -> Result<(), Unread> {
+    fn pass_over(&mut self, path: &str) -> Result<(), Unread>
+        ensures files { (self.new).files ≡ (self.old).files }
+        ensures waiting { (self.new).candidates.waiting.keys
+            ≡ (self.old).candidates.waiting.keys }
+    {
         self.outside.push(shown(self.alloc, path)?)?;
         self.candidates
             .absent
@@ -261,7 +378,12 @@ impl Gathering {
     }
 
     // Takes a file, if it wasn't taken before; answers whether it is there.
-    fn take<D: Disk>(&mut self, disk: &mut D, path: &str) -> Result<Found, Unread> {
+    fn take<D: Disk>(&mut self, disk: &mut D, path: &str) -> Result<Found, Unread>
+        ensures taken { IfOk result (λ found.
+            IsTakenAs found path.now (self.old).files (self.new).files) }
+        ensures waiting { (self.new).candidates.waiting.keys
+            ≡ (self.old).candidates.waiting.keys }
+    {
         if path_fault(path).is_some() {
             return Err(refused(self.alloc, path, Refused::BadPath));
         }
@@ -272,7 +394,10 @@ impl Gathering {
             return Ok(Found::File);
         }
         match disk.read(self.alloc, path) {
-            Ok(Entry::File(bytes)) => self.put(path, &bytes),
+            Ok(Entry::File(bytes)) => {
+                self.put(path, &bytes)?;
+                Ok(Found::File)
+            }
             Ok(Entry::Absent) => Ok(Found::Absent),
             Ok(Entry::Outside) => Ok(Found::Outside),
             Err(error) => Err(failed(self.alloc, path, error)),
@@ -280,27 +405,40 @@ impl Gathering {
     }
 
     // Puts a file that was read.
-    fn put(&mut self, path: &str, bytes: &[u8]) -> Result<Found, Unread>
+    fn put(&mut self, path: &str, bytes: &[u8]) -> Result<(), Unread>
         requires { bytes_at (folder_with [] (self.old).files) path.now ≡ None }
+        ensures put { OnOk result
+            ((self.new).files ≡ (self.old).files ++ (path.now, bytes.now) ∷ []) }
+        ensures waiting { (self.new).candidates.waiting.keys
+            ≡ (self.old).candidates.waiting.keys }
     {
         match self.files.put(self.alloc, path, bytes) {
-            Ok(()) => Ok(Found::File),
+            Ok(()) => Ok(()),
             Err(reason) => Err(refused(self.alloc, path, reason)),
         }
     }
 
-    // Lets the candidates wait that the file of this number calls.
-    fn await_calls(&mut self, number: usize) -> Result<(), Unread> {
-        for call in self.files.calls(number) {
-            match call {
-                Target::Only(path) => self.candidates.add(self.alloc, &self.files, path)?,
-                Target::FirstOf(first, second) => {
-                    self.candidates.add(self.alloc, &self.files, first)?;
-                    self.candidates.add(self.alloc, &self.files, second)?;
-                }
-            }
+    // Lets the candidates wait that any file calls.
+    fn await_all(&mut self) -> Result<(), Unread>
+        requires { (self.old).candidates.waiting.keys ≡ [] }
+        ensures files { (self.new).files ≡ (self.old).files }
+        ensures waiting { OnOk result (AreAmong (called_by (self.new).files)
+            (self.new).candidates.waiting.keys) }
+    {
+        for number in 0..self.files.len() {
+            self.await_calls(number)?;
         }
         Ok(())
+    }
+
+    // Lets the candidates wait that the file of this number calls.
+    fn await_calls(&mut self, number: usize) -> Result<(), Unread>
+        requires { AreAmong (called_by (self.old).files) (self.old).candidates.waiting.keys }
+        ensures files { (self.new).files ≡ (self.old).files }
+        ensures waiting { OnOk result (AreAmong (called_by (self.new).files)
+            (self.new).candidates.waiting.keys) }
+    {
+        self.candidates.add_calls(self.alloc, &self.files, number)
     }
 
     // The files, and the paths that were passed over.

@@ -6,6 +6,7 @@ ghost use Rattle.al_session.specs.Folder.{bytes_at};
 ghost use Rattle.al_tree.specs.Kinds.{is_accepted};
 ghost use Rattle.al_cli.specs.Linted.{folder_with};
 ghost use Rattle.al_cli.specs.Private.Kept.{AreKept, entries_in, entry_in};
+ghost use Rattle.al_cli.specs.Private.Turns.{calls_at};
 ghost use Rattle.al_cli.specs.Taken.{AreGathered, owned_entry};
 
 use crate::gathering::Loaded;
@@ -65,7 +66,9 @@ impl TakenFiles {
     }
 
     /// The calls of the file of this number; none where there is no such file.
-    pub(crate) fn calls(&self, number: usize) -> &[Target] {
+    pub(crate) fn calls(&self, number: usize) -> &[Target]
+        ensures { result.now ≡ calls_at self.now number }
+    {
         match self.order.get(number) {
             Some(path) => self.files.calls(path.as_str()).unwrap_or(&[]),
             None => &[],

@@ -1,6 +1,10 @@
 //! Which files a run takes from a disk, and in which order.
 
+ghost use Rattle.std.specs.Prelude.{IfOk};
+ghost use Rattle.al_cli.specs.Disk.{IsBounded};
+
 use al_base::Path;
+use al_base::limits::LARGEST_FILE;
 use al_cli::{Disk, DiskError, Entry, Gathered, Unread, Words, gather, load_from};
 use al_session::Refused;
 use std::alloc::{AllocError, Global};
@@ -41,11 +45,14 @@ impl Disk for Held {
     }
 }
 
-fn entry_of(alloc: Global, bytes: &[u8]) -> Result<Entry, DiskError> {
+fn entry_of(alloc: Global, bytes: &[u8]) -> Result<Entry, DiskError>
+    ensures { IfOk result IsBounded }
+{
     if bytes == b"outside".as_slice() {
         return Ok(Entry::Outside);
     }
-    Ok(Entry::File(Vec::from_slice(alloc, bytes)?))
+    let most = bytes.len().min(LARGEST_FILE + 1);
+    Ok(Entry::File(Vec::from_slice(alloc, &bytes[..most])?))
 }
 
 // A workflow that calls two actions, the second of which calls the first's neighbour and itself. The first lies

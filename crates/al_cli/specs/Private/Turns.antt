@@ -1,0 +1,44 @@
+-- What each turn of a run takes.
+use Rattle.std.specs.Prelude.{◌≡◌, ◌⊎◌, ℕ, true, if◌then◌else◌, List, [], ◌∷◌, ◌++◌, Option, None, Some, slice_get, string_bytes, String}
+use Rattle.std.specs.Global.{Global}
+use Rattle.std.specs.List.{AllByRecursion}
+use Rattle.al_session.specs.Folder.{paths_of}
+use Rattle.al_session.specs.declared.lint.Target.{Target}
+use Rattle.al_check.specs.Linting.{linting}
+use Rattle.al_cli.specs.Taken.{AreCalled, called_by, has_path}
+use Rattle.al_cli.specs.declared.gathering.Found.{Found}
+use Rattle.al_cli.specs.declared.gathering.Found.TheVariants.{File, Absent, Outside}
+
+-- a file behind these, unless one of them has its path
+abbrev pub with_entry : List (List ℕ × List ℕ) → List ℕ × List ℕ → List (List ℕ × List ℕ)
+with_entry files e = if has_path (paths_of files) e.0 then files else files ++ e ∷ []
+
+-- what is found at a path is taken, where it is a file that wasn't
+abbrev pub IsTakenAs : Found → List ℕ → List (List ℕ × List ℕ) → List (List ℕ × List ℕ) → Type 0
+IsTakenAs File path old new = (bytes : List ℕ) × (new ≡ with_entry old (path, bytes))
+IsTakenAs Absent path old new = new ≡ old
+IsTakenAs Outside path old new = new ≡ old
+
+-- the file of a path is taken, if it is there and wasn't
+abbrev pub IsTakenIfThere : List ℕ → List (List ℕ × List ℕ) → List (List ℕ × List ℕ) → Type 0
+IsTakenIfThere path old new = (new ≡ old) ⊎ ((bytes : List ℕ) × (new ≡ with_entry old (path, bytes)))
+
+-- the calls of a file
+abbrev pub calls_of_entry : Option (List ℕ × List ℕ) → List Target
+calls_of_entry None = []
+calls_of_entry (Some e) = linting.calls e.0 e.1
+
+-- those of the file of this number; none where there is no such file
+abbrev pub calls_at : List (List ℕ × List ℕ) → ℕ → List Target
+calls_at files number = calls_of_entry (slice_get files number)
+
+-- each of these texts stands among the paths
+abbrev pub AreAmong : List (List ℕ) → List (String Global) → Type 0
+AreAmong paths texts = AllByRecursion (λ text. has_path paths (string_bytes text) ≡ true) texts
+
+-- files behind the first ones, each called by one before it, and the candidates that wait, each called by one of all these
+pub record IsCalling (first : List (List ℕ × List ℕ)) (files : List (List ℕ × List ℕ)) (texts : List (String Global)) : Type 0 where
+  pub behind : List (List ℕ × List ℕ)
+  pub all : files ≡ first ++ behind
+  pub called : AreCalled first behind
+  pub waiting : AreAmong (called_by files) texts
