@@ -1,5 +1,5 @@
 -- What jobs show to others, and the jobs that names find.
-use Rattle.std.proofs.Common.{◌≡◌, ◌<◌, ℕ, true, false, List, [], ◌∷◌, refl, sym, ap, ◌∙◌, Some, None, option_map, length, map, get_or, arith}
+use Rattle.std.proofs.Common.{◌≡◌, ◌<◌, ℕ, true, false, List, [], ◌∷◌, refl, sym, ap, ◌∙◌, Option, Some, None, option_map, length, map, get_or, arith}
 use Rattle.std.proofs.Math.ListN.{get_or-map}
 use Rattle.std.proofs.lemmas.Option.{get_or_from_slice_get, slice_get_read}
 use Rattle.std.specs.Option.{option_map_or}
@@ -17,9 +17,10 @@ use Rattle.al_tree_declarations.specs.Declarations.{has_value, names_of}
 use Rattle.al_check_contexts.specs.Contexts.{Known, call_outputs, job_field, needed}
 use Rattle.al_base.specs.Growth.{BeginsWith}
 use Rattle.al_expr_types.specs.Tables.{objects_of}
+use Rattle.al_expr_types.specs.declared.ty.Ty.{Ty}
 use Rattle.al_expr_types.specs.declared.types.Types.{Types}
 use Rattle.al_check_contexts.specs.Lookups.{called_at, known_by, shown_at, shown_with}
-use Rattle.al_check_contexts.specs.Made.{KeepsJobs}
+use Rattle.al_check_contexts.specs.Made.{KeepsBare, KeepsJobs}
 use Rattle.al_check_contexts.specs.declared.jobs.JobTypes.{JobTypes}
 use Rattle.al_check_contexts.specs.declared.known.Outputs.{Outputs}
 use Rattle.al_check_contexts.proofs.Numbers.{keeps_stays, means_stays}
@@ -57,10 +58,14 @@ shown_own k j e =
 
 -- ---- in longer tables
 
+pub keeps_bare_stays : (new old : Types) (made : Option Ty) → BeginsWith (objects_of new) (objects_of old) → KeepsBare old made → KeepsBare new made
+keeps_bare_stays new old made b h = record { each = λ t e. means_stays new old t _ b (h.each t e) }
+
 pub keeps_jobs_stay : (new old : Types) (known : Outputs) (js : List (Node × Node)) (m : JobTypes) → BeginsWith (objects_of new) (objects_of old) →
     KeepsJobs old known js m → KeepsJobs new known js m
 keeps_jobs_stay new old known js m b h = record {
   calls = keeps_stays new old (called_at known) m.calls b h.calls;
   shown = keeps_stays new old (shown_at known js) m.shown b h.shown;
+  bare = keeps_bare_stays new old m.bare b h.bare;
   all = λ t e. means_stays new old t _ b (h.all t e);
 }

@@ -119,6 +119,12 @@ lists_more types old new n t ts m e f h k =
           ∙ ap (λ u. put_new ts (n, u)) k.is;
     }
 
+-- ---- all fields at once
+
+pub zip_maps : {X Y Z U : Type 0} (f : X → Y) (g : X → Z) (h : Z → U) (xs : List X) → zip (map f xs) (map h (map g xs)) ≡ map (λ x. (f x, h (g x))) xs
+zip_maps f g h [] = refl
+zip_maps f g h (x ∷ xs) = ap (λ ys. (f x, h (g x)) ∷ ys) (zip_maps f g h xs)
+
 -- ---- how many fields there are
 
 zip_long : (ns : List (List ℕ)) (us : List Type') → length ns ≡ length us → length (zip ns us) ≡ length us

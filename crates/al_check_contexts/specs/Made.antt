@@ -1,20 +1,26 @@
 -- What is made once a file.
-use Rattle.std.specs.Prelude.{◌≡◌, List, Some, map}
+use Rattle.std.specs.Prelude.{◌≡◌, List, [], Option, Some, map}
 use Rattle.al_yaml_tree.specs.Node.{Node}
 use Rattle.al_tree.specs.Values.{member_of}
 use Rattle.al_check_contexts.specs.Contexts.{Known, jobs_type_of}
 use Rattle.al_expr_types.specs.declared.ty.Ty.{Ty}
 use Rattle.al_expr_types.specs.declared.types.Types.{Types}
-use Rattle.al_check_contexts.specs.Lookups.{called_at, known_by, shown_at}
+use Rattle.al_types.specs.Strings.{named_strings}
+use Rattle.al_check_contexts.specs.Lookups.{called_at, known_by, shown_at, shown_with}
 use Rattle.al_check_contexts.specs.Numbers.{Keeps, Means}
 use Rattle.al_check_contexts.specs.declared.basis.Basis.{Basis}
 use Rattle.al_check_contexts.specs.declared.jobs.JobTypes.{JobTypes}
 use Rattle.al_check_contexts.specs.declared.known.Outputs.{Outputs}
 
+-- the type that is kept of jobs without outputs is what these show
+pub record KeepsBare (types : Types) (made : Option Ty) : Type 0 where
+  pub each : (t : Ty) → made ≡ Some t → Means types t (shown_with (named_strings []))
+
 -- each type that is kept of jobs is that of its position
 pub record KeepsJobs (types : Types) (known : Outputs) (js : List (Node × Node)) (m : JobTypes) : Type 0 where
   pub calls : Keeps types (called_at known) m.calls
   pub shown : Keeps types (shown_at known js) m.shown
+  pub bare : KeepsBare types m.bare
   pub all : (t : Ty) → m.all ≡ Some t → Means types t (jobs_type_of (known_by known) js)
 
 -- the jobs of a basis, and what it knows

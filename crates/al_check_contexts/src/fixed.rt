@@ -1,59 +1,72 @@
 //! The types of contexts that are the same in every file.
-ghost use Rattle.std.specs.Prelude.{◌≡◌, IfOk, OnOk, map};
+ghost use Rattle.std.specs.List.{list_all};
+ghost use Rattle.std.specs.Prelude.{◌≡◌, ◌∷◌, IfOk, OnOk, codes, map, true, ℕ};
 ghost use Rattle.al_base.specs.Growth.{BeginsWith};
 ghost use Rattle.al_check_contexts.specs.Fixed as fixed;
 ghost use Rattle.al_check_contexts.specs.Fixed.{github_type, job_type, runner_type, strategy_type};
 ghost use Rattle.al_check_contexts.specs.Numbers.{Means};
-ghost use Rattle.al_expr_types.specs.Tables.{objects_of};
+ghost use Rattle.al_expr_types.specs.Once.{are_once};
+ghost use Rattle.al_expr_types.specs.Tables.{objects_of, type_at};
+ghost use Rattle.al_expr_types.specs.Types.{is_below};
+ghost use Rattle.al_expr_types.specs.declared.types.Types as declared;
+ghost use Rattle.al_types.specs.Strings.{strings};
+ghost use Rattle.al_types.specs.Types.{Any, Bool'};
 
 use crate::field_lists::FieldList;
 use crate::scalars::scalar;
-use al_expr_types::{Scalar, Ty, Types};
+use al_expr_types::{Base, Scalar, Ty, Types};
 use std::alloc::{AllocError, Global};
 
-const GITHUB: &[&[u8]] = &[
-    b"action",
-    b"action_path",
-    b"action_ref",
-    b"action_repository",
-    b"action_status",
-    b"actor",
-    b"actor_id",
-    b"api_url",
-    b"artifact_cache_size_limit",
-    b"base_ref",
-    b"env",
-    b"event_name",
-    b"event_path",
-    b"graphql_url",
-    b"head_ref",
-    b"job",
-    b"output",
-    b"path",
-    b"ref",
-    b"ref_name",
-    b"ref_type",
-    b"repository",
-    b"repository_id",
-    b"repository_owner",
-    b"repository_owner_id",
-    b"repositoryUrl",
-    b"repository_visibility",
-    b"retention_days",
-    b"run_attempt",
-    b"run_id",
-    b"run_number",
-    b"secret_source",
-    b"server_url",
-    b"sha",
-    b"state",
-    b"step_summary",
-    b"token",
-    b"triggering_actor",
-    b"workflow",
-    b"workflow_ref",
-    b"workflow_sha",
-    b"workspace",
+const BOOL: Ty = Ty {
+    arrays: 0,
+    of: Base::Scalar(Scalar::Bool),
+};
+
+const GITHUB: &[(&[u8], Ty)] = &[
+    (b"event", Ty::ANY),
+    (b"ref_protected", BOOL),
+    (b"action", Ty::STRING),
+    (b"action_path", Ty::STRING),
+    (b"action_ref", Ty::STRING),
+    (b"action_repository", Ty::STRING),
+    (b"action_status", Ty::STRING),
+    (b"actor", Ty::STRING),
+    (b"actor_id", Ty::STRING),
+    (b"api_url", Ty::STRING),
+    (b"artifact_cache_size_limit", Ty::STRING),
+    (b"base_ref", Ty::STRING),
+    (b"env", Ty::STRING),
+    (b"event_name", Ty::STRING),
+    (b"event_path", Ty::STRING),
+    (b"graphql_url", Ty::STRING),
+    (b"head_ref", Ty::STRING),
+    (b"job", Ty::STRING),
+    (b"output", Ty::STRING),
+    (b"path", Ty::STRING),
+    (b"ref", Ty::STRING),
+    (b"ref_name", Ty::STRING),
+    (b"ref_type", Ty::STRING),
+    (b"repository", Ty::STRING),
+    (b"repository_id", Ty::STRING),
+    (b"repository_owner", Ty::STRING),
+    (b"repository_owner_id", Ty::STRING),
+    (b"repositoryUrl", Ty::STRING),
+    (b"repository_visibility", Ty::STRING),
+    (b"retention_days", Ty::STRING),
+    (b"run_attempt", Ty::STRING),
+    (b"run_id", Ty::STRING),
+    (b"run_number", Ty::STRING),
+    (b"secret_source", Ty::STRING),
+    (b"server_url", Ty::STRING),
+    (b"sha", Ty::STRING),
+    (b"state", Ty::STRING),
+    (b"step_summary", Ty::STRING),
+    (b"token", Ty::STRING),
+    (b"triggering_actor", Ty::STRING),
+    (b"workflow", Ty::STRING),
+    (b"workflow_ref", Ty::STRING),
+    (b"workflow_sha", Ty::STRING),
+    (b"workspace", Ty::STRING),
 ];
 
 const RUNNER: &[&[u8]] = &[
@@ -66,8 +79,11 @@ const RUNNER: &[&[u8]] = &[
     b"environment",
 ];
 
-fn github_names() -> &'static [&'static [u8]]
-    ensures { map (λ n. n.now) result.now ≡ fixed.github_names }
+fn github_fields() -> &'static [(&'static [u8], Ty)]
+    ensures once { are_once (map (λ f. f.0.now) result.now) ≡ true }
+    ensures known { (n : ℕ) → list_all (is_below n) (map (λ f. f.1) result.now) ≡ true }
+    ensures fields { (types : declared.Types) → map (λ f. (f.0.now, type_at types f.1)) result.now
+        ≡ (codes "event", Any) ∷ (codes "ref_protected", Bool') ∷ strings fixed.github_names }
 {
     GITHUB
 }
@@ -83,9 +99,7 @@ pub(crate) fn github(alloc: Global, types: &mut Types<'_>) -> Result<Ty, AllocEr
     ensures ty { IfOk result (λ t. Means types.new t github_type) }
     ensures kept { OnOk result (BeginsWith (objects_of types.new) (objects_of types.old)) }
 {
-    let event = FieldList::new(alloc).and(alloc, b"event", Ty::ANY)?;
-    let both = event.and(alloc, b"ref_protected", scalar(Scalar::Bool))?;
-    let all = both.and_strings(alloc, github_names())?;
+    let all = FieldList::of(alloc, github_fields())?;
     let ty = all.into_type(alloc, types, None)?;
     Ok(ty)
 }

@@ -1,10 +1,10 @@
 //! What a job shows to others, made once a file, and the types of `jobs` and `needs`.
-ghost use Rattle.std.specs.Prelude.{◌≡◌, ◌<◌, IfOk, OnOk, List, codes, length, option_map, true};
+ghost use Rattle.std.specs.Prelude.{◌≡◌, ◌<◌, [], IfOk, OnOk, List, codes, length, option_map, true};
 ghost use Rattle.std.specs.Option.{option_to_list};
 ghost use Rattle.al_base.specs.Growth.{BeginsWith};
 ghost use Rattle.al_check_contexts.specs.Contexts.{call_outputs, job_field, jobs_type_of, needed, needs_type_of};
 ghost use Rattle.al_check_contexts.specs.Lookups.{called_at, shown_at, shown_with};
-ghost use Rattle.al_check_contexts.specs.Made.{KeepsJobs, KeepsJobsOf, jobs_from, known_from};
+ghost use Rattle.al_check_contexts.specs.Made.{KeepsBare, KeepsJobs, KeepsJobsOf, jobs_from, known_from};
 ghost use Rattle.al_check_contexts.specs.Numbers.{Keeps, Lists, Means};
 ghost use Rattle.al_expr_types.specs.Tables.{is_known, objects_of, type_at};
 ghost use Rattle.al_expr_types.specs.declared.types.Types as declared;
@@ -19,7 +19,7 @@ ghost use Rattle.al_yaml_tree.specs.View.{view};
 use crate::basis::Basis;
 use crate::caches::TypeCache;
 use crate::field_lists::FieldList;
-use crate::objects::{declared_strings, loose_any};
+use crate::objects::{declared_strings, loose_any, no_fields};
 use al_expr_types::{NameList, Ty, Types};
 use al_tree::{Member, key_text, members_under, texts_under};
 use al_tree_declarations::has_value;
@@ -33,6 +33,8 @@ pub(crate) struct JobTypes {
     pub(crate) calls: TypeCache,
     /// By the job's position.
     pub(crate) shown: TypeCache,
+    /// What a job shows that has no outputs.
+    pub(crate) bare: Option<Ty>,
     /// The type of `jobs`.
     pub(crate) all: Option<Ty>,
 }
@@ -89,14 +91,41 @@ fn called_type<'a>(
     Ok(ty)
 }
 
+/// What a job shows that has no outputs. It is made once.
+fn bare_type(alloc: Global, types: &mut Types<'_>, made: &mut Option<Ty>) -> Result<Ty, AllocError>
+    requires { KeepsBare types.old made.old }
+    ensures ty { IfOk result (λ t. Means types.new t (shown_with (named_strings []))) }
+    ensures keeps { OnOk result (KeepsBare types.new made.new) }
+    ensures kept { OnOk result (BeginsWith (objects_of types.new) (objects_of types.old)) }
+{
+    if let Some(ty) = *made {
+        return Ok(ty);
+    }
+    let outputs = no_fields(alloc, types)?;
+    let ty = shown_with(alloc, types, outputs)?;
+    *made = Some(ty);
+    Ok(ty)
+}
+
 /// What a job shows that calls no workflow.
-fn own_type<'a>(alloc: Global, types: &mut Types<'a>, job: Member<'a>) -> Result<Ty, AllocError>
+fn own_type<'a>(
+    alloc: Global,
+    types: &mut Types<'a>,
+    made: &mut Option<Ty>,
+    job: Member<'a>,
+) -> Result<Ty, AllocError>
+    requires { KeepsBare types.old made.old }
     ensures ty { IfOk result (λ t. Means types.new t
         (shown_with (named_strings
         (names_of (entries_at (codes "outputs") (view (job.entry).value.now)))))) }
+    ensures keeps { OnOk result (KeepsBare types.new made.new) }
     ensures kept { OnOk result (BeginsWith (objects_of types.new) (objects_of types.old)) }
 {
     let entries = members_under(alloc, job.value, "outputs")?;
+    if entries.len() == 0 {
+        let ty = bare_type(alloc, types, made)?;
+        return Ok(ty);
+    }
     let outputs = declared_strings(alloc, types, entries.as_slice())?;
     let ty = shown_with(alloc, types, outputs)?;
     Ok(ty)
@@ -115,6 +144,7 @@ impl JobTypes {
         Ok(JobTypes {
             calls,
             shown,
+            bare: None,
             all: None,
         })
     }
@@ -126,11 +156,13 @@ impl JobTypes {
         basis: &Basis<'_, 'a>,
         job: Member<'a>,
     ) -> Result<Ty, AllocError>
-        requires { Keeps types.old (called_at basis.now.outputs.now) (self.old).calls }
+        requires calls { Keeps types.old (called_at basis.now.outputs.now) (self.old).calls }
+        requires bare { KeepsBare types.old (self.old).bare }
         ensures ty { IfOk result
             (λ t. Means types.new t (job_field (known_from basis.now) (member_of job.entry)).1) }
         ensures keeps { OnOk result
             (Keeps types.new (called_at basis.now.outputs.now) (self.new).calls) }
+        ensures bare { OnOk result (KeepsBare types.new (self.new).bare) }
         ensures shown { (self.new).shown ≡ (self.old).shown }
         ensures all { (self.new).all ≡ (self.old).all }
         ensures kept { OnOk result (BeginsWith (objects_of types.new) (objects_of types.old)) }
@@ -140,7 +172,7 @@ impl JobTypes {
             let ty = called_type(types, basis, &mut self.calls, position)?;
             return Ok(ty);
         }
-        let ty = own_type(basis.alloc, types, job)?;
+        let ty = own_type(basis.alloc, types, &mut self.bare, job)?;
         Ok(ty)
     }
 

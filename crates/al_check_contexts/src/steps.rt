@@ -144,10 +144,10 @@ impl<'a> StepFields<'a> {
         ensures keeps { OnOk result (Keeps types.new (step_at basis.now.outputs.now) made.new) }
         ensures kept { OnOk result (BeginsWith (objects_of types.new) (objects_of types.old)) }
     {
-        let mut fields = FieldList::new(basis.alloc);
-        let mut counts = Vec::new(basis.alloc);
-        counts.push(0)?;
         let steps = owner.steps;
+        let mut fields = FieldList::new(basis.alloc);
+        let mut counts = Vec::with_capacity(basis.alloc, steps.len().saturating_add(1))?;
+        counts.push(0)?;
         for (i, node) in steps.iter().enumerate() {
             let step = Step {
                 job: owner.job,

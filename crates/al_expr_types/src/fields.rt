@@ -17,9 +17,10 @@ pub struct FieldMap<'a> {
 
 impl<'a> FieldMap<'a> {
     ghost use Rattle.std.specs.Prelude.{◌∷◌, ◌++◌, ◌<◌, [], List, IfOk, get_or, if◌then◌else◌, is_none};
-    ghost use Rattle.std.specs.Prelude.{option_map, slice_get, take, true, ℕ};
+    ghost use Rattle.std.specs.Prelude.{map, option_map, slice_get, take, true, ℕ};
     ghost use Rattle.al_base.specs.NamePlaces.{name_place};
     ghost use Rattle.al_types.specs.Types.{Parts, field_at, fields_of};
+    ghost use Rattle.al_expr_types.specs.Once.{are_once};
     ghost use Rattle.al_expr_types.specs.Types.{is_below, is_rest_below, named_types, type_in};
     ghost use Rattle.std.specs.List.{list_all};
 
@@ -34,7 +35,25 @@ impl<'a> FieldMap<'a> {
         }
     }
 
-    /// The fields, and one more behind them unless one has its name. Fails with `AllocError` where it is out of memory, as below.
+    /// These fields, of which no two have the same name. Fails with `AllocError` where it is out of memory, as below.
+    pub fn of(alloc: Global, fields: &[(&'a [u8], Ty)]) -> Result<FieldMap<'a>, AllocError>
+        requires { are_once (map (λ f. f.0.now) fields.now) ≡ true }
+        ensures names { IfOk result (λ m. names_in m.names ≡ map (λ f. f.0.now) fields.now) }
+        ensures types { IfOk result (λ m. m.types.items ≡ map (λ f. f.1) fields.now) }
+    {
+        let mut names = Vec::with_capacity(alloc, fields.len())?;
+        let mut types = Vec::with_capacity(alloc, fields.len())?;
+        for field in fields {
+            names.push(field.0)?;
+            types.push(field.1)?;
+        }
+        Ok(FieldMap {
+            names: Names::of(names),
+            types,
+        })
+    }
+
+    /// The fields, and one more behind them unless one has its name.
     pub fn and(self, alloc: Global, name: &'a [u8], ty: Ty) -> Result<FieldMap<'a>, AllocError>
         ensures names { IfOk result
             (λ f. names_in f.names ≡ (if is_none (name_place (names_in self.entry.names) name.now)

@@ -80,6 +80,14 @@ impl<'a> Names<'a> {
         }
     }
 
+    /// These names, of which no two are the same, without an index: they are to be few.
+    pub(crate) fn of(names: Vec<&'a [u8]>) -> Names<'a>
+        requires { are_once (map (λ n. n.now) names.items) ≡ true }
+        ensures { names_in result ≡ map (λ n. n.now) names.entry.items }
+    {
+        Names { names, index: None }
+    }
+
     /// The name at a position.
     pub(crate) fn at(&self, i: usize) -> &'a [u8]
         requires { i < length (names_in self.now) }

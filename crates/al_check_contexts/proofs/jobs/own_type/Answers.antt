@@ -5,6 +5,7 @@ use Rattle.al_tree_declarations.specs.Declarations.{names_of}
 use Rattle.al_types.specs.Strings.{named_strings}
 use Rattle.al_expr_types.specs.Tables.{objects_of}
 use Rattle.al_check_contexts.specs.Lookups.{shown_with}
+use Rattle.al_check_contexts.proofs.JobLemmas.{keeps_bare_stays}
 use Rattle.al_check_contexts.proofs.Numbers.{means_as}
 use Rattle.al_check_contexts.proofs.jobs.own_type.Goals as goal
 
@@ -13,11 +14,17 @@ shown_with-requires c = c.in_ok-outputs.ensures.ty.known
 
 pub returns-clause-ty : goal.returns-clause-ty
 returns-clause-ty c =
-    means_as c.shown_with.new.types c.in_ok-ty.ty _ _
+    means_as c.shown_with.new.types c.in_ok-ty-2.ty _ _
     (ap shown_with (c.in_ok-outputs.ensures.ty.is
-    ∙ ap (λ es. named_strings (names_of es)) (ap (map member_of) c.as_slice.ensures.value ∙ c.in_ok-entries.ensures))) c.in_ok-ty.ensures.ty
+    ∙ ap (λ es. named_strings (names_of es)) (ap (map member_of) c.as_slice.ensures.value ∙ c.in_ok-entries.ensures))) c.in_ok-ty-2.ensures.ty
 
 pub returns-clause-kept : goal.returns-clause-kept
 returns-clause-kept c =
     begins_trans (objects_of c.args.types.now) (objects_of c.declared_strings.new.types) (objects_of c.shown_with.new.types) c.in_ok-outputs.ensures.kept
-    c.in_ok-ty.ensures.kept
+    c.in_ok-ty-2.ensures.kept
+
+pub returns-clause-keeps : goal.returns-clause-keeps
+returns-clause-keeps c =
+    let kept = begins_trans (objects_of c.args.types.now) (objects_of c.declared_strings.new.types) (objects_of c.shown_with.new.types)
+    c.in_ok-outputs.ensures.kept c.in_ok-ty-2.ensures.kept in
+    keeps_bare_stays c.shown_with.new.types c.args.types.now c.args.made.now kept c.requires

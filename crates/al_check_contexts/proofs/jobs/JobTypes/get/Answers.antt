@@ -24,5 +24,6 @@ returns-clause-keeps c =
       calls = c.in_ok-ty.ensures.keeps;
       shown = c.set.ensures now (shown_at known js) shown
           (means_as now c.in_ok-ty.ty _ _ (shown_there known js c.args.i _ c.job_at.ensures) c.in_ok-ty.ensures.ty);
+      bare = c.in_ok-ty.ensures.bare;
       all = λ t e. means_stays now entry t _ c.in_ok-ty.ensures.kept (c.requires.keeps.all t (sym c.type_of.ensures.all ∙ e));
     }

@@ -3,7 +3,7 @@ use Rattle.al_tree.specs.Values.{member_of}
 use Rattle.al_check_contexts.specs.Contexts.{call_outputs}
 use Rattle.al_check_contexts.specs.Lookups.{called_at, known_by, shown_with}
 use Rattle.al_check_contexts.specs.Made.{known_from}
-use Rattle.al_check_contexts.proofs.JobLemmas.{shown_called, shown_own}
+use Rattle.al_check_contexts.proofs.JobLemmas.{keeps_bare_stays, shown_called, shown_own}
 use Rattle.al_check_contexts.proofs.Numbers.{keeps_stays, means_as}
 use Rattle.al_check_contexts.proofs.jobs.JobTypes.type_of.Goals as goal
 
@@ -15,6 +15,10 @@ returns-then-has_value-clause-ty c =
     ∙ shown_called (known_by known) (member_of c.args.job) (sym c.has_value.ensures ∙ c.if-has_value.true))
     c.in_ok-ty.ensures.ty
 
+pub returns-then-has_value-clause-bare : goal.returns-then-has_value-clause-bare
+returns-then-has_value-clause-bare c =
+    keeps_bare_stays c.called_type.new.types c.args.types.now c.args.self.now.bare c.in_ok-ty.ensures.kept c.requires.bare
+
 pub returns-clause-ty : goal.returns-clause-ty
 returns-clause-ty c =
     means_as c.own_type.new.types c.in_ok-ty-2.ty _ _
@@ -22,4 +26,4 @@ returns-clause-ty c =
 
 pub returns-clause-keeps : goal.returns-clause-keeps
 returns-clause-keeps c =
-    keeps_stays c.own_type.new.types c.args.types.now (called_at c.args.basis.now.outputs.now) c.args.self.now.calls c.in_ok-ty-2.ensures.kept c.requires
+    keeps_stays c.own_type.new.types c.args.types.now (called_at c.args.basis.now.outputs.now) c.args.self.now.calls c.in_ok-ty-2.ensures.kept c.requires.calls
