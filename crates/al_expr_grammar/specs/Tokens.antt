@@ -59,7 +59,7 @@ abbrev pub exponent_len : List ℕ → ℕ
 exponent_len bs =
     if first_is (λ b. b == ascii.capital_e || b == ascii.small_e) bs
     then (if first_is is_sign (drop 1 bs) then with_digits 2 (prefix_len is_digit (drop 2 bs))
-        else with_digits 1 (prefix_len is_digit (drop 1 bs)))
+    else with_digits 1 (prefix_len is_digit (drop 1 bs)))
     else 0
 
 -- what follows the digits of a decimal number

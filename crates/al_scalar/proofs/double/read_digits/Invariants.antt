@@ -1,7 +1,6 @@
 use Rattle.std.proofs.Common.{◌≡◌, ◌<◌, ◌-◌, ◌^◌, Some}
 use Rattle.al_scalar.specs.Private.Double.{hex_value}
 use Rattle.al_scalar.specs.LineEnds.{cells_between}
-
 use Rattle.al_scalar.specs.Private.Double.{Between}
 use Rattle.al_scalar.proofs.double.read_digits.Given as goal
 
