@@ -14,36 +14,24 @@ use Rattle.al_base.specs.Proofs.Orders.{args_total}
 use Rattle.al_base.specs.FaultLists.{fault_cmp, fault_list, kind_place, place_in_kind}
 use Rattle.al_base.specs.declared.codes.Code.{Code}
 use Rattle.al_base.specs.declared.codes.Code.TheVariants as C
-use Rattle.al_base.specs.declared.codes.YamlCode.{YamlCode}
 use Rattle.al_base.specs.declared.codes.YamlCode.TheVariants.{NotUtf8, ControlCharacter, TabInIndentation, WrongIndentation, UnclosedQuote}
 use Rattle.al_base.specs.declared.codes.YamlCode.TheVariants.{UnclosedFlow, AnchorOrAlias, Tag, ExplicitKey, Directive, SecondDocument}
 use Rattle.al_base.specs.declared.codes.YamlCode.TheVariants.{WrongEscape, UnexpectedCharacter, NestingTooDeep, TooManyNodes}
 use Rattle.al_base.specs.declared.codes.YamlCode.TheVariants.{WrongBlockHeader, WrongKey, UnknownAlias}
-use Rattle.al_base.specs.declared.codes.KeyCode.{KeyCode}
 use Rattle.al_base.specs.declared.codes.KeyCode.TheVariants.{Unexpected, Missing, Repeated, WrongKind, WrongType, NotBeside, EmptyFile}
-use Rattle.al_base.specs.declared.codes.RuleCode.{RuleCode}
 use Rattle.al_base.specs.declared.codes.RuleCode.TheVariants.{UnknownEvent, UnknownActivity, WrongPattern, WrongSchedule, ScheduleTooOften}
 use Rattle.al_base.specs.declared.codes.RuleCode.TheVariants.{WrongId, RepeatedId, UndefinedJob, NeedsCycle, WrongMatrix, UnknownMatrixRow}
 use Rattle.al_base.specs.declared.codes.RuleCode.TheVariants.{UnknownShell, UnknownPermission, WrongPermission, WrongVariable}
 use Rattle.al_base.specs.declared.codes.RuleCode.TheVariants.{PasswordNotExpression, DeprecatedCommand, AlwaysTrue, UnknownInputType}
 use Rattle.al_base.specs.declared.codes.RuleCode.TheVariants.{UnknownUsing, MissingShell, MissingOutputValue}
-use Rattle.al_base.specs.declared.codes.CallCode.{CallCode}
 use Rattle.al_base.specs.declared.codes.CallCode.TheVariants.{NoWorkflow, UndefinedInput, MissingInput, WrongInput, UndefinedSecret, MissingSecret, WrongUses, NotCallable, LeadsBack}
-use Rattle.al_base.specs.declared.codes.Caller.{Caller}
 use Rattle.al_base.specs.declared.codes.Caller.TheVariants as caller
-use Rattle.al_base.specs.declared.codes.ExpressionCode.{ExpressionCode}
 use Rattle.al_base.specs.declared.codes.ExpressionCode.TheVariants.{BadCharacter, UnclosedText, UnexpectedToken, EndsEarly, TooLong}
 use Rattle.al_base.specs.declared.codes.ExpressionCode.TheVariants.{TooDeep, UndefinedContext, UnavailableContext, UndefinedFunction}
 use Rattle.al_base.specs.declared.codes.ExpressionCode.TheVariants.{UnavailableFunction, ArgumentCount, ArgumentType, UndefinedProperty}
 use Rattle.al_base.specs.declared.codes.ExpressionCode.TheVariants.{NotIndexable, NotComparable, WrongPlaceholder, UnusedArgument, NotText}
 use Rattle.al_base.specs.declared.codes.ExpressionCode.TheVariants.{Untrusted, UnclosedChunk}
 use Rattle.al_base.specs.declared.faults.Fault.{Fault}
-use Rattle.al_base.specs.contracts.codes.YamlCodeOrd.TheImpl as yaml
-use Rattle.al_base.specs.contracts.codes.KeyCodeOrd.TheImpl as key
-use Rattle.al_base.specs.contracts.codes.RuleCodeOrd.TheImpl as rule
-use Rattle.al_base.specs.contracts.codes.ExpressionCodeOrd.TheImpl as expression
-use Rattle.al_base.specs.contracts.codes.CallCodeOrd.TheImpl as call
-use Rattle.al_base.specs.contracts.codes.CallerOrd.TheImpl as by_caller
 use Rattle.al_base.specs.contracts.codes.CodeOrd.TheImpl as code
 use Rattle.al_base.specs.contracts.faults.FaultOrd.TheImpl as derived
 use Rattle.al_base.specs.contracts.faults.FaultOrd.TheImpl.Laws.{matches_eq-law}
@@ -52,83 +40,32 @@ use Rattle.al_base.proofs.InOrder.{IsStrictlySortedBy-in_order, Contains-in_orde
 
 -- ---- the derived order: each code beside each other one, by computation
 
-yaml_is : (a b : YamlCode) → yaml.ghosts.cmp a b ≡ nat_cmp (place_in_kind (C.Yaml a)) (place_in_kind (C.Yaml b))
-yaml_is NotUtf8 NotUtf8 = refl
-yaml_is _ NotUtf8 = refl
-yaml_is _ _ = refl
-
-key_is : (a b : KeyCode) → key.ghosts.cmp a b ≡ nat_cmp (place_in_kind (C.Key a)) (place_in_kind (C.Key b))
-key_is Unexpected Unexpected = refl
-key_is _ Unexpected = refl
-key_is _ _ = refl
-
-rule_is : (a b : RuleCode) → rule.ghosts.cmp a b ≡ nat_cmp (place_in_kind (C.Rule a)) (place_in_kind (C.Rule b))
-rule_is UnknownEvent UnknownEvent = refl
-rule_is _ UnknownEvent = refl
-rule_is _ _ = refl
-
-expression_is : (a b : ExpressionCode) → expression.ghosts.cmp a b ≡ nat_cmp (place_in_kind (C.Expression a)) (place_in_kind (C.Expression b))
-expression_is BadCharacter BadCharacter = refl
-expression_is _ BadCharacter = refl
-expression_is _ _ = refl
-
-jobs_are : (a b : CallCode) →
-    ordering_then (call.ghosts.cmp a b) (by_caller.ghosts.cmp caller.Job caller.Job) ≡ nat_cmp (place_in_kind (C.Call a caller.Job)) (place_in_kind (C.Call b caller.Job))
-jobs_are NoWorkflow NoWorkflow = refl
-jobs_are _ NoWorkflow = refl
-jobs_are _ _ = refl
-
-job_step : (a b : CallCode) →
-    ordering_then (call.ghosts.cmp a b) (by_caller.ghosts.cmp caller.Job caller.Step) ≡ nat_cmp (place_in_kind (C.Call a caller.Job)) (place_in_kind (C.Call b caller.Step))
-job_step NoWorkflow NoWorkflow = refl
-job_step _ NoWorkflow = refl
-job_step _ _ = refl
-
-step_job : (a b : CallCode) →
-    ordering_then (call.ghosts.cmp a b) (by_caller.ghosts.cmp caller.Step caller.Job) ≡ nat_cmp (place_in_kind (C.Call a caller.Step)) (place_in_kind (C.Call b caller.Job))
-step_job NoWorkflow NoWorkflow = refl
-step_job _ NoWorkflow = refl
-step_job _ _ = refl
-
-steps_are : (a b : CallCode) →
-    ordering_then (call.ghosts.cmp a b) (by_caller.ghosts.cmp caller.Step caller.Step) ≡ nat_cmp (place_in_kind (C.Call a caller.Step)) (place_in_kind (C.Call b caller.Step))
-steps_are NoWorkflow NoWorkflow = refl
-steps_are _ NoWorkflow = refl
-steps_are _ _ = refl
-
-call_is : (a : CallCode) (c : Caller) (b : CallCode) (d : Caller) →
-    ordering_then (call.ghosts.cmp a b) (by_caller.ghosts.cmp c d) ≡ nat_cmp (place_in_kind (C.Call a c)) (place_in_kind (C.Call b d))
-call_is a caller.Job b caller.Job = jobs_are a b
-call_is a caller.Job b caller.Step = job_step a b
-call_is a caller.Step b caller.Job = step_job a b
-call_is a caller.Step b caller.Step = steps_are a b
-
 code_is : (a b : Code) → code.ghosts.cmp a b ≡ ordering_then (nat_cmp (kind_place a) (kind_place b)) (nat_cmp (place_in_kind a) (place_in_kind b))
-code_is (C.Yaml a) (C.Yaml b) = yaml_is a b
-code_is (C.Key a) (C.Key b) = key_is a b
-code_is (C.Rule a) (C.Rule b) = rule_is a b
-code_is (C.Expression a) (C.Expression b) = expression_is a b
-code_is (C.Yaml a) (C.Key b) = refl
-code_is (C.Yaml a) (C.Rule b) = refl
-code_is (C.Yaml a) (C.Expression b) = refl
-code_is (C.Key a) (C.Yaml b) = refl
-code_is (C.Key a) (C.Rule b) = refl
-code_is (C.Key a) (C.Expression b) = refl
-code_is (C.Rule a) (C.Yaml b) = refl
-code_is (C.Rule a) (C.Key b) = refl
-code_is (C.Rule a) (C.Expression b) = refl
-code_is (C.Expression a) (C.Yaml b) = refl
-code_is (C.Expression a) (C.Key b) = refl
-code_is (C.Expression a) (C.Rule b) = refl
-code_is (C.Call a c) (C.Call b d) = call_is a c b d
-code_is (C.Yaml a) (C.Call b d) = refl
-code_is (C.Call a c) (C.Yaml b) = refl
-code_is (C.Key a) (C.Call b d) = refl
-code_is (C.Call a c) (C.Key b) = refl
-code_is (C.Rule a) (C.Call b d) = refl
-code_is (C.Call a c) (C.Rule b) = refl
-code_is (C.Expression a) (C.Call b d) = refl
-code_is (C.Call a c) (C.Expression b) = refl
+code_is (C.Yaml NotUtf8) (C.Yaml NotUtf8) = refl
+code_is (C.Yaml _) (C.Yaml NotUtf8) = refl
+code_is (C.Yaml _) (C.Yaml _) = refl
+code_is (C.Key Unexpected) (C.Key Unexpected) = refl
+code_is (C.Key _) (C.Key Unexpected) = refl
+code_is (C.Key _) (C.Key _) = refl
+code_is (C.Rule UnknownEvent) (C.Rule UnknownEvent) = refl
+code_is (C.Rule _) (C.Rule UnknownEvent) = refl
+code_is (C.Rule _) (C.Rule _) = refl
+code_is (C.Expression BadCharacter) (C.Expression BadCharacter) = refl
+code_is (C.Expression _) (C.Expression BadCharacter) = refl
+code_is (C.Expression _) (C.Expression _) = refl
+code_is (C.Call NoWorkflow caller.Job) (C.Call NoWorkflow caller.Job) = refl
+code_is (C.Call _ caller.Job) (C.Call NoWorkflow caller.Job) = refl
+code_is (C.Call _ caller.Job) (C.Call _ caller.Job) = refl
+code_is (C.Call NoWorkflow caller.Job) (C.Call NoWorkflow caller.Step) = refl
+code_is (C.Call _ caller.Job) (C.Call NoWorkflow caller.Step) = refl
+code_is (C.Call _ caller.Job) (C.Call _ caller.Step) = refl
+code_is (C.Call NoWorkflow caller.Step) (C.Call NoWorkflow caller.Job) = refl
+code_is (C.Call _ caller.Step) (C.Call NoWorkflow caller.Job) = refl
+code_is (C.Call _ caller.Step) (C.Call _ caller.Job) = refl
+code_is (C.Call NoWorkflow caller.Step) (C.Call NoWorkflow caller.Step) = refl
+code_is (C.Call _ caller.Step) (C.Call NoWorkflow caller.Step) = refl
+code_is (C.Call _ caller.Step) (C.Call _ caller.Step) = refl
+code_is _ _ = refl
 
 then_assoc : (p c l : Ordering) → ordering_then (ordering_then p c) l ≡ ordering_then p (ordering_then c l)
 then_assoc Less c l = refl
