@@ -1,77 +1,21 @@
 -- The tree of a file lies in it, and so does its first fault.
-use Rattle.std.proofs.Common.{◌≡◌, subst, ℕ, zero, suc, ◌+◌, ◌<◌, ◌≤◌, List, [], ◌∷◌, length, arith, ◌||◌, nat_lt}
+use Rattle.std.proofs.Common.{◌≡◌, subst, ℕ, zero, suc, ◌+◌, ◌<◌, ◌≤◌, List, [], ◌∷◌, length, arith}
 use Rattle.std.proofs.Common.{Option, Some, None, Result, Ok, Err, IfOk}
 use Rattle.al_base.specs.Spans.{LiesIn}
 use Rattle.al_base.specs.declared.codes.YamlCode.TheVariants as yaml
-use Rattle.al_scalar.specs.Line.{Line}
 use Rattle.al_scalar.specs.Taken.{Fault}
 use Rattle.al_scalar.proofs.OffsetLemmas.{choose}
-use Rattle.al_yaml_tree.specs.Bytes.{following, is_well_formed, ill_formed_at, is_unprintable, unprintable_at, file_lines}
+use Rattle.al_yaml_tree.specs.Bytes.{following, is_well_formed, ill_formed_at, is_unprintable, unprintable_at}
 use Rattle.al_yaml_tree.specs.ByteFaults.{span_among}
-use Rattle.al_yaml_tree.specs.Content.{Next, ended, at_line, content}
-use Rattle.al_yaml_tree.specs.Document.{document_start, document_end, root_slot, root_found, root, document, document_of, tree_of}
-use Rattle.al_base.specs.Limits.{deepest_collection, most_alias_text, most_nodes}
-use Rattle.al_yaml_tree.specs.Limits.{broken_limit, unless_broken}
+use Rattle.al_yaml_tree.specs.Document.{document_of, tree_of}
 use Rattle.al_yaml_tree.specs.Node.{Node}
-use Rattle.al_yaml_tree.specs.Reading.{Start, nothing_known, gives, given, Part, ◌>>=◌}
 use Rattle.al_yaml_tree.specs.Laws.{IsTreeLaid}
 use Rattle.al_yaml_tree.specs.Spans.{IsLaidIn, IsLaid, IsInside, AreFrom}
 use Rattle.al_yaml_tree.proofs.LaidLemmas.{laid-inside, laid-from, laid-wider}
 use Rattle.al_yaml_tree.proofs.CharacterLemmas.{character-inside}
-use Rattle.al_yaml_tree.proofs.ScalarSpans.{Answers}
-use Rattle.al_yaml_tree.proofs.LaidBlocks.{block_node-in}
-use Rattle.al_yaml_tree.proofs.LaidReading.{StartsIn, Gives, NodeIn, gives-value, gives-answer, gives-then, empty-in}
-use Rattle.al_yaml_tree.proofs.SpanLines.{NextIn, Anything, content-in, document_start-in, document_end-in}
-use Rattle.al_yaml_tree.proofs.SpanRoot.{file-stands}
-use Rattle.al_yaml_tree.proofs.Standing.{Stand}
-
-module _ (size : ℕ) where
-  -- ---- the document
-
-  root_found-in : (ls : List Line) → Stand size 0 ls → (found : Next) → NextIn size 0 found
-      → Gives size (NodeIn size 0) (root_found size ls found)
-  root_found-in ls h ended k = empty-in size 0 size ls (omega arith) (omega arith) h
-  root_found-in ls h (at_line i left) k =
-      block_node-in size (suc size) (root_slot size) 1 i 0 left (record { tab = tt; behind = omega arith; inside = omega arith }) k
-
-  root-in : (ls : List Line) → Stand size 0 ls → Gives size (NodeIn size 0) (root size ls)
-  root-in ls h =
-      gives-then size (NextIn size 0) (NodeIn size 0) (given (content ls)) (λ (found : Next). root_found size ls found)
-      (gives-answer size (NextIn size 0) (content ls) (content-in size 0 ls h))
-      (λ found k. root_found-in ls h found k)
-
-  abbrev ValueIn : Node → Type 0
-  ValueIn n = IsLaidIn size size n
-
-  end-kept : (x : Part Node) → NodeIn size 0 x → Gives size ValueIn (given (document_end x.left) >>= (λ (rest : Unit {0}). gives x.value))
-  end-kept x h =
-      gives-then size Anything ValueIn (given (document_end x.left)) (λ (rest : Unit {0}). gives x.value)
-      (gives-answer size Anything (document_end x.left) (document_end-in size 0 x.left h.3))
-      (λ rest k. gives-value size ValueIn x.value h.2)
-
-  document-in : (ls : List Line) → Stand size 0 ls → Gives size ValueIn (document size ls)
-  document-in ls h =
-      gives-then size (Stand size 0) ValueIn (given (document_start ls))
-      (λ (left : List Line). root size left >>= (λ (x : Part Node). given (document_end x.left) >>= (λ (rest : Unit {0}). gives x.value)))
-      (gives-answer size (Stand size 0) (document_start ls) (document_start-in size 0 ls h))
-      (λ left v. gives-then size (NodeIn size 0) ValueIn (root size left)
-      (λ (x : Part Node). given (document_end x.left) >>= (λ (rest : Unit {0}). gives x.value)) (root-in left v) (λ x k. end-kept x k))
-
-  -- ---- limits
-
-  abbrev FaultIn : Option Fault → Type 0
-  FaultIn None = Unit {0}
-  FaultIn (Some f) = f.at ≤ size
-
-  limit-in : (nodes text : ℕ) (ss : List Start) → StartsIn size ss → FaultIn (broken_limit nodes text ss)
-  limit-in nodes text [] h = tt
-  limit-in nodes text (s ∷ ss) h =
-      choose FaultIn (nat_lt most_nodes (nodes + s.nodes) || nat_lt most_alias_text (text + s.text)) (λ _. h.0)
-      (λ _. choose FaultIn (nat_lt deepest_collection s.depth) (λ _. h.0) (λ _. limit-in (nodes + s.nodes) (text + s.text) ss h.1))
-
-  limited-in : (o : Option Fault) (r : Result Node Fault) → FaultIn o → Answers size ValueIn r → Answers size ValueIn (unless_broken o r)
-  limited-in None r f h = h
-  limited-in (Some e) r f h = f
+use Rattle.al_yaml_tree.proofs.DocumentReading.{file_of, document-lies}
+use Rattle.al_yaml_tree.proofs.NodeReading.{Lies}
+use Rattle.al_yaml_tree.proofs.ScalarSpans.{Answers, answers-also}
 
 -- ---- faults of bytes
 
@@ -100,19 +44,17 @@ unprintable-below at (b ∷ bs) =
     (λ _. below-more (at + 1 + length bs) (at + suc (length bs)) (unprintable_at (at + 1) bs) (omega arith) (unprintable-below (at + 1) bs))
 
 module _ (bytes : List ℕ) where
-  document_of-in : Answers (length bytes) (ValueIn (length bytes)) (document_of bytes)
-  document_of-in =
-      let size = length bytes in
-      let o = document size (file_lines bytes) nothing_known in
-      let k = document-in size (file_lines bytes) (file-stands bytes) nothing_known (λ name. tt) in
-      limited-in size (broken_limit 0 0 o.starts) o.answer (limit-in size 0 0 o.starts k.starts) k.answers
+  abbrev ValueIn : Node → Type 0
+  ValueIn n = IsLaidIn (length bytes) (length bytes) n
 
-  answered : (r : Result Node Fault) (root : Node) → r ≡ Ok root → Answers (length bytes) (ValueIn (length bytes)) r → IsLaidIn (length bytes) (length bytes) root
-  answered r root h k = subst (Answers (length bytes) (ValueIn (length bytes))) h k
+  document_of-in : Answers (length bytes) ValueIn (document_of bytes)
+  document_of-in =
+      answers-also (length bytes) (Lies (file_of bytes ⊥) 0 (length bytes)) ValueIn (document_of bytes) (λ n h. h.laid)
+      (document-lies bytes ⊥ (λ e. absurd e))
 
   -- each node of the tree lies in the file, one behind an alias at its anchor, and so does its text
   pub document-laid : (root : Node) → document_of bytes ≡ Ok root → IsLaidIn (length bytes) (length bytes) root
-  document-laid root h = answered (document_of bytes) root h document_of-in
+  document-laid root h = subst (Answers (length bytes) ValueIn) h document_of-in
 
   pub document-inside : (root : Node) → document_of bytes ≡ Ok root → IsInside (length bytes) root
   document-inside root h = laid-inside (length bytes) (length bytes) root (document-laid root h)
@@ -127,7 +69,7 @@ module _ (bytes : List ℕ) where
   LiesAmong wrong (Ok root) = IsLaidIn (length bytes) (length bytes) root
   LiesAmong wrong (Err f) = LiesIn (length bytes) (span_among wrong bytes f.at)
 
-  answer_lies : (r : Result Node Fault) → Answers (length bytes) (ValueIn (length bytes)) r → LiesAmong None r
+  answer_lies : (r : Result Node Fault) → Answers (length bytes) ValueIn r → LiesAmong None r
   answer_lies (Ok root) h = h
   answer_lies (Err f) h = character-inside bytes f.at h
 

@@ -1,19 +1,16 @@
 -- Lines are cut where characters begin: what is left of lines that are UTF-8 is UTF-8.
-use Rattle.std.proofs.Common.{◌≡◌, ◌⊎◌, inl, inr, ℕ, suc, ◌+◌, ◌<◌, List, [], ◌∷◌, ◌++◌, length, drop, sym, subst, arith, append_assoc, Bool, true, ◌&&◌, ◌||◌, ◌==◌, Result, IfOk}
+use Rattle.std.proofs.Common.{◌≡◌, ◌⊎◌, inl, inr, ℕ, suc, ◌+◌, ◌<◌, List, [], ◌∷◌, ◌++◌, length, drop, sym, subst, arith, append_assoc, Bool, true, ◌&&◌, ◌||◌, ◌==◌}
 use Rattle.std.proofs.lemmas.Str.{IsUtf8-nil}
 use Rattle.std.specs.Prelude.{IsUtf8}
 use Rattle.al_base.specs.Ascii as ascii
-use Rattle.al_scalar.specs.Line.{Cell, Line, is_blank, after_blanks, after_spaces, begins, is_blank_or_end, is_marker, is_document_marker, blanks_dropped, spaces_dropped}
+use Rattle.al_scalar.specs.Line.{Cell, Line, is_blank, after_blanks, after_spaces, begins, is_blank_or_end, is_marker, blanks_dropped, spaces_dropped}
 use Rattle.al_scalar.specs.Places.{first_text}
 use Rattle.al_scalar.specs.Plain.{Context, is_flow_indicator, ends_key, is_value_colon}
-use Rattle.al_scalar.specs.Taken.{Fault}
 use Rattle.al_scalar.proofs.OffsetLemmas.{choose}
 use Rattle.al_scalar.proofs.Utf8Lemmas.{AreUtf8, bytes_of, split-before, split-behind, keeps-blanks, equal-ascii, either, both-left, blank-ascii}
 use Rattle.al_scalar.proofs.Utf8Texts.{IsText, behind-text, both-right, indicator-ascii}
-use Rattle.al_yaml_tree.specs.Content.{Next, ended, at_line, is_skipped, content_line, content, ends_line, line_ended}
 use Rattle.al_yaml_tree.specs.Content.{whole_lines, behind, is_dash, is_flow_start, is_property, anchor_cells, behind_name}
 use Rattle.al_yaml_tree.specs.Flow.{is_gap_line, gap}
-use Rattle.al_yaml_tree.specs.Document.{first_line, document_start}
 use Rattle.al_yaml_tree.proofs.ByteTexts.{equal}
 
 -- ---- behind one character
@@ -51,7 +48,7 @@ spaces-text [] u = u
 spaces-text (c ∷ cs) u =
     choose IsText (c.0 == ascii.space) (λ e. spaces-text cs (split-behind c.0 (bytes_of cs) (equal-ascii c.0 32 (omega arith) e) u)) (λ _. u)
 
-spaces-utf8 : (ls : List Line) → AreUtf8 ls → AreUtf8 (spaces_dropped ls)
+pub spaces-utf8 : (ls : List Line) → AreUtf8 ls → AreUtf8 (spaces_dropped ls)
 spaces-utf8 [] u = tt
 spaces-utf8 (l ∷ ls) u = (spaces-text l.text u.0, u.1)
 
@@ -60,31 +57,6 @@ gap-utf8 at_start [] u = tt
 gap-utf8 at_start (l ∷ ls) u =
     choose AreUtf8 (is_gap_line at_start l.text) (λ _. choose AreUtf8 l.last (λ _. (IsUtf8-nil, tt)) (λ _. gap-utf8 true ls u.1))
     (λ _. (keeps-blanks l.text [] u.0, u.1))
-
--- ---- content lines
-
-abbrev pub NextText : Next → Type 0
-NextText ended = Unit {0}
-NextText (at_line i left) = AreUtf8 left
-
-abbrev OkNext : Result Next Fault → Type 0
-OkNext r = IfOk r NextText
-
-content_line-utf8 : (ls : List Line) → AreUtf8 ls → OkNext (content_line ls)
-content_line-utf8 ls u =
-    choose OkNext (is_document_marker (first_text ls)) (λ _. tt)
-    (λ _. choose OkNext (begins ascii.tab (first_text (spaces_dropped ls))) (λ _. tt) (λ _. spaces-utf8 ls u))
-
-pub content-utf8 : (ls : List Line) → AreUtf8 ls → OkNext (content ls)
-content-utf8 [] u = tt
-content-utf8 (l ∷ ls) u =
-    choose OkNext (is_skipped l.text) (λ _. choose OkNext l.last (λ _. tt) (λ _. content-utf8 ls u.1)) (λ _. content_line-utf8 (l ∷ ls) u)
-
-abbrev pub OkLines : Result (List Line) Fault → Type 0
-OkLines r = IfOk r AreUtf8
-
-pub line_ended-utf8 : (ls : List Line) → AreUtf8 ls → OkLines (line_ended ls)
-line_ended-utf8 ls u = choose OkLines (ends_line (first_text ls)) (λ _. whole-utf8 ls u) (λ _. tt)
 
 -- ---- colons
 
@@ -152,16 +124,6 @@ marker-text b (c ∷ d ∷ x ∷ cs) a e u =
     (split-behind d.0 (bytes_of (x ∷ cs)) (equal-ascii d.0 b a (both-right (c.0 == b) (d.0 == b) two))
     (split-behind c.0 (bytes_of (d ∷ x ∷ cs)) (equal-ascii c.0 b a (both-left (c.0 == b) (d.0 == b) two)) u))
 
-marker-utf8 : (b : ℕ) (ls : List Line) → b < 128 → is_marker b (first_text ls) ≡ true → AreUtf8 ls → AreUtf8 (behind 3 ls)
+pub marker-utf8 : (b : ℕ) (ls : List Line) → b < 128 → is_marker b (first_text ls) ≡ true → AreUtf8 ls → AreUtf8 (behind 3 ls)
 marker-utf8 b [] a e u = tt
 marker-utf8 b (l ∷ ls) a e u = (marker-text b l.text a e u.0, u.1)
-
-first_line-utf8 : (ls : List Line) → AreUtf8 ls → OkLines (first_line ls)
-first_line-utf8 ls u =
-    choose OkLines (begins ascii.percent (first_text ls)) (λ _. tt)
-    (λ _. choose OkLines (is_marker ascii.dash (first_text ls)) (λ e. line_ended-utf8 (behind 3 ls) (marker-utf8 ascii.dash ls (omega arith) e u)) (λ _. u))
-
-pub start-utf8 : (ls : List Line) → AreUtf8 ls → OkLines (document_start ls)
-start-utf8 [] u = tt
-start-utf8 (l ∷ ls) u =
-    choose OkLines (is_skipped l.text) (λ _. choose OkLines l.last (λ _. (IsUtf8-nil, tt)) (λ _. start-utf8 ls u.1)) (λ _. first_line-utf8 (l ∷ ls) u)

@@ -1,0 +1,270 @@
+-- Block nodes keep to what is said of nodes.
+use Rattle.std.proofs.Common.{◌≡◌, ℕ, zero, suc, ◌+◌, ◌≤◌, List, [], ◌∷◌, refl, arith, Bool, true, not, ◌&&◌, ◌||◌, ◌==◌, nat_lt}
+use Rattle.std.proofs.Common.{Option, Some, None, Result, Ok, Err}
+use Rattle.al_base.specs.Ascii as ascii
+use Rattle.al_scalar.specs.Line.{Cell, Line, start, begins, is_blank, blanks_dropped}
+use Rattle.al_scalar.specs.Offsets.{AreClimbing}
+use Rattle.al_scalar.specs.Places.{first_text}
+use Rattle.al_scalar.specs.Plain.{block}
+use Rattle.al_scalar.specs.Scalar.{scalar_at}
+use Rattle.al_scalar.specs.Taken.{Fault}
+use Rattle.al_scalar.proofs.OffsetLemmas.{choose, climbing-order}
+use Rattle.al_yaml_tree.specs.Blocks.{Spot, own_line, compact, behind_key, Slot, at_spot, BlockReader, is_behind_key, tab_before}
+use Rattle.al_yaml_tree.specs.Blocks.{unless_at, spot_behind, is_deeper, node_found, rest_node, next_found, next_from}
+use Rattle.al_yaml_tree.specs.Blocks.{next_at, entry_slot, sequence_next, sequence_entries, value_slot}
+use Rattle.al_yaml_tree.specs.Blocks.{mapping_next, mapping_entries, scalar_left, scalar_node_at, flow_rest}
+use Rattle.al_yaml_tree.specs.Blocks.{block_sequence, keyed_node, block_content, block_property, block_node}
+use Rattle.al_yaml_tree.specs.Content.{Next, ended, at_line, is_skipped, content, line_ended, whole_lines, behind, is_dash}
+use Rattle.al_yaml_tree.specs.Content.{tab_among, block_fault, is_flow_start, is_property, same_line, characters, is_short_key}
+use Rattle.al_yaml_tree.specs.Content.{anchor_name, behind_name, has_no_name}
+use Rattle.al_yaml_tree.specs.Flow.{CollectionReader, flow_collection}
+use Rattle.al_yaml_tree.specs.Keys.{Key, key_at, has_colon, is_block_start, is_on_key}
+use Rattle.al_yaml_tree.specs.Node.{Node, Nodes, Entries, sequence, mapping, no_nodes, with_item, no_entries, with_entry, scalar_node}
+use Rattle.al_yaml_tree.specs.Reading.{Reading, gives, anchored, Part, part}
+use Rattle.al_yaml_tree.proofs.FlowReading.{CollectionIn, flow_collection-in}
+use Rattle.al_yaml_tree.proofs.KeyReading.{KeyIn, OptionKeyIn, key_at-in, no_entry-in, entry_key-in}
+use Rattle.al_yaml_tree.proofs.LeftLines.{File, AreLeft, IsRead, NextLeft, OptionLeft, left-lower, left-start, starts-behind, starts-in}
+use Rattle.al_yaml_tree.proofs.LeftLines.{left-whole, left-blanks, left-dash, left-name, scalar-read, content-in, line_ended-in}
+use Rattle.al_yaml_tree.proofs.NodeReading.{IsDone, no-items, no-entries, IsPart, same, itself, IsNode, AreItems, AreEntries}
+use Rattle.al_yaml_tree.proofs.NodeReading.{whole-part, read-part, part-lower, part-back, item-done, entry-done, Reads, reads-value, reads-fault}
+use Rattle.al_yaml_tree.proofs.NodeReading.{reads-given, reads-then, reads-start, reads-unless, reads-by, reads-also, empty-reads, collected}
+use Rattle.al_yaml_tree.proofs.NodeReading.{alias-reads, anchored-reads}
+use Rattle.al_yaml_tree.proofs.ScalarSpans.{Answers}
+
+abbrev IsIn : File → Option ℕ → Type 0
+IsIn f None = Unit {0}
+IsIn f (Some at) = at ≤ f.size
+
+-- the tab before a compact collection stands in the file
+abbrev TabIn : File → Spot → Type 0
+TabIn f spot = IsIn f (tab_before spot)
+
+-- An empty node would stand in the file, behind the offset. What is left then stands behind `back` of where it does: the same place as
+-- that of the lines, but at the root, where it would stand at the file's end.
+pub record SlotIn (f : File) (back : ℕ → ℕ) (low : ℕ) (slot : Slot) : Type 0 where
+  pub tab : TabIn f slot.spot
+  pub behind : low ≤ slot.empty
+  pub inside : slot.empty ≤ f.size
+  pub reach : back slot.empty ≤ low
+  pub back_to : (end : ℕ) → back end ≤ end
+
+abbrev pub BlockIn : File → BlockReader → Type 0
+BlockIn f node = (back : ℕ → ℕ) (slot : Slot) (depth column low : ℕ) (ls : List Line) → SlotIn f back low slot → AreLeft f low ls
+    → Reads f (IsPart f itself back low) (node slot depth column ls)
+
+module _ (f : File) where
+  -- ---- what stands behind an indicator
+
+  tab_among-in : (low end : ℕ) (cs : List Cell) → end ≤ f.size → AreClimbing low end cs → IsIn f (tab_among cs)
+  tab_among-in low end [] a h = tt
+  tab_among-in low end (c ∷ cs) a h =
+      let b = climbing-order (c.1 + 1) end cs h.1 in
+      choose (IsIn f) (c.0 == ascii.tab) (λ _. omega (arith, a, b))
+      (λ _. choose (IsIn f) (is_blank c) (λ _. tab_among-in (c.1 + 1) end cs a h.1) (λ _. tt))
+
+  spot_behind-in : (text : List Cell) (spot : Spot) → IsIn f (tab_among text) → TabIn f spot → TabIn f (spot_behind text spot)
+  spot_behind-in text own_line t h = t
+  spot_behind-in text (compact None) t h = t
+  spot_behind-in text (compact (Some tab)) t h = h
+  spot_behind-in text behind_key t h = h
+
+  next_found-in : (column low : ℕ) (found : Next) → NextLeft f low found → Answers f.size (OptionLeft f low) (next_found column found)
+  next_found-in column low ended k = tt
+  next_found-in column low (at_line i left) k =
+      choose (Answers f.size (OptionLeft f low)) (i == column) (λ _. k)
+      (λ _. choose (Answers f.size (OptionLeft f low)) (nat_lt i column) (λ _. tt) (λ _. starts-in k))
+
+  next_from-in : (column low : ℕ) (r : Result Next Fault) → Answers f.size (NextLeft f low) r
+      → Answers f.size (OptionLeft f low) (next_from column r)
+  next_from-in column low (Err e) k = k
+  next_from-in column low (Ok found) k = next_found-in column low found k
+
+module _ {f : File} where
+  first_tab-in : (low : ℕ) (ls : List Line) → AreLeft f low ls → IsIn f (tab_among (first_text ls))
+  first_tab-in low [] h = tt
+  first_tab-in low (l ∷ ls) h = tab_among-in f low l.end l.text h.stand.1.0 h.stand.0.0
+
+  at_spot-in : {back : ℕ → ℕ} {low : ℕ} {slot : Slot} (spot : Spot) → TabIn f spot → SlotIn f back low slot
+      → SlotIn f back low (at_spot spot slot)
+  at_spot-in spot t s = record { tab = t; behind = s.behind; inside = s.inside; reach = s.reach; back_to = s.back_to }
+
+  next-in : (column low : ℕ) (ls : List Line) → AreLeft f low ls → Answers f.size (OptionLeft f low) (next_at column ls)
+  next-in column low ls h = next_from-in f column low (content ls) (content-in low ls h)
+
+  module _ (node : BlockReader) (n : BlockIn f node) where
+    found-in : (back : ℕ → ℕ) (slot : Slot) (depth low : ℕ) (ls : List Line) → SlotIn f back low slot → AreLeft f low ls
+        → (found : Next) → NextLeft f low found → Reads f (IsPart f itself back low) (node_found node slot depth ls found)
+    found-in back slot depth low ls s h ended k = empty-reads s.behind s.inside (left-lower s.reach h)
+    found-in back slot depth low ls s h (at_line i left) k =
+        reads-by (is_deeper slot i left) (λ _. n back (at_spot own_line slot) depth i low left (at_spot-in own_line tt s) k)
+        (λ _. empty-reads s.behind s.inside (left-lower s.reach h))
+
+    rest-in : (back : ℕ → ℕ) (slot : Slot) (depth column low : ℕ) (ls rest : List Line) → SlotIn f back low slot → AreLeft f low rest
+        → Reads f (IsPart f itself back low) (rest_node node slot depth column ls rest)
+    rest-in back slot depth column low ls rest s h =
+        let spot = spot_behind (first_text rest) slot.spot in
+        let left = blanks_dropped rest in
+        reads-by (is_skipped (first_text rest))
+        (λ _. reads-then (reads-given (NextLeft f low) (content (whole_lines rest)) (content-in low (whole_lines rest) (left-whole h)))
+        (λ found k. found-in back slot depth low (whole_lines rest) s (left-whole h) found k))
+        (λ _. n back (at_spot spot slot) depth (column + characters (start left) (first_text ls)) low left
+        (at_spot-in spot (spot_behind-in f (first_text rest) slot.spot (first_tab-in low rest h) s.tab) s) (left-blanks h))
+
+    -- what stands in a collection, where an empty node would stand at the lines
+    rest-lies : (slot : Slot) (depth column low : ℕ) (ls rest : List Line) → TabIn f slot.spot → slot.empty ≡ start rest
+        → AreLeft f low rest → Reads f (IsNode f low) (rest_node node slot depth column ls rest)
+    rest-lies slot depth column low ls rest t e h =
+        let at = start rest in
+        reads-also (rest-in same slot depth column at ls rest (record {
+          tab = t;
+          behind = omega (arith, e);
+          inside = let a = starts-in h in omega (arith, a, e);
+          reach = omega (arith, e);
+          back_to = λ end. omega arith;
+        }) (left-start h)) (λ p k. part-lower (starts-behind h) k)
+
+    -- an alias, or an anchor and its node
+    property-in : (back : ℕ → ℕ) (slot : Slot) (depth column low : ℕ) (ls : List Line) → is_property (first_text ls) ≡ true
+        → SlotIn f back low slot → AreLeft f low ls → Reads f (IsPart f itself back low) (block_property node slot depth column ls)
+    unfolding block_property
+    property-in back slot depth column low ls e s h =
+        let a = starts-in h in
+        let rest = behind_name ls in
+        let v = left-name e h in
+        reads-by (has_no_name ls) (λ _. reads-fault a)
+        (λ _. reads-by (not (is_behind_key slot.spot) && is_on_key ls) (λ _. reads-fault a)
+        (λ _. reads-by (begins ascii.asterisk (first_text ls))
+        (λ _. reads-then (alias-reads (anchor_name ls) (start ls) depth a)
+        (λ m k. reads-then {g = λ (left : List Line). gives (part m (start rest) left)}
+        (reads-given (AreLeft f (start rest)) (line_ended rest) (line_ended-in (start rest) rest (left-start v)))
+        (λ left w. reads-value (part-back back (s.back_to (start rest))
+        (whole-part (record { ordered = starts-behind v; lies = k low (start rest) }) w)))))
+        (λ _. reads-then {g = λ (x : Part Node). anchored (record { name = anchor_name ls; at = start ls; node = x.value }) x}
+        (rest-in back slot depth column low ls rest s v)
+        (λ x k. anchored-reads (record { name = anchor_name ls; at = start ls; node = x.value }) k.done.lies k))))
+
+  -- ---- scalars and flow collections
+
+  scalar_left-in : (low : ℕ) (ls left : List Line) → AreLeft f low left → Answers f.size (AreLeft f low) (scalar_left ls left)
+  scalar_left-in low ls left h =
+      choose (Answers f.size (AreLeft f low)) (is_block_start (first_text ls)) (λ _. h) (λ _. line_ended-in low left h)
+
+  scalar_node-in : (within low : ℕ) (ls : List Line) → AreLeft f low ls → Reads f (IsNode f low) (scalar_node_at within ls)
+  scalar_node-in within low ls h =
+      reads-start (starts-in h)
+      (reads-then (reads-given (IsRead f low) (scalar_at (block within) ls) (scalar-read (block within) low ls h))
+      (λ r k. reads-then {g = λ (left : List Line). gives (part (scalar_node r) r.span.end left)}
+      (reads-given (AreLeft f r.span.end) (scalar_left ls r.left) (scalar_left-in r.span.end ls r.left k.left))
+      (λ left v. reads-value (read-part k v))))
+
+  flow_rest-in : (spot : Spot) (at low : ℕ) (x : Part Node) → at ≤ f.size → IsNode f low x → Reads f (IsNode f low) (flow_rest spot at x)
+  flow_rest-in spot at low x a h =
+      reads-by (not (is_behind_key spot) && has_colon x.left) (λ _. reads-fault a)
+      (λ _. reads-then {g = λ (left : List Line). gives (part x.value x.end left)}
+      (reads-given (AreLeft f x.end) (line_ended x.left) (line_ended-in x.end x.left h.left))
+      (λ left v. reads-value (whole-part h.done v)))
+
+  unless_at-in : {P : Part Node → Type 0} (o : Option ℕ) {r : Reading (Part Node)} → IsIn f o → Reads f P r → Reads f P (unless_at o r)
+  unless_at-in (Some at) a h = reads-fault a
+  unless_at-in None a h = h
+
+  module _ (node : BlockReader) (n : BlockIn f node) (collection : CollectionReader) (c : CollectionIn f collection) where
+    -- ---- sequences
+
+    sequence_next-in : (more : List Line → Reading (Part Nodes)) (from low : ℕ)
+        → ((ls : List Line) → is_dash (first_text ls) ≡ true → AreLeft f low ls → Reads f (AreItems f from) (more ls))
+        → (in_mapping : Bool) (depth : ℕ) (closed : Part Nodes) → AreItems f from closed → (o : Option (List Line)) → OptionLeft f low o
+        → Reads f (AreItems f from) (sequence_next collection more in_mapping depth closed o)
+    sequence_next-in more from low m in_mapping depth closed h None k = reads-value h
+    sequence_next-in more from low m in_mapping depth closed h (Some left) k =
+        reads-by (is_dash (first_text left)) (λ e. m left e k)
+        (λ _. reads-by in_mapping (λ _. reads-value h) (λ _. no_entry-in collection c depth low left k))
+
+    items-in : (turns : ℕ) (in_mapping : Bool) (column depth from low : ℕ) (done : Nodes) (ls : List Line) → IsDone f sequence from low done
+        → is_dash (first_text ls) ≡ true → AreLeft f low ls
+        → Reads f (AreItems f from) (sequence_entries node collection turns in_mapping column depth done ls)
+    unfolding sequence_entries
+    items-in zero in_mapping column depth from low done ls d e h = reads-fault (omega arith)
+    items-in (suc turns) in_mapping column depth from low done ls d e h =
+        let rest = behind 1 ls in
+        reads-then (rest-lies node n (entry_slot column (start rest)) depth column low ls rest tt refl (left-dash e h))
+        (λ x k. let i = item-done d k in
+        reads-then (reads-given (OptionLeft f x.end) (next_at column x.left) (next-in column x.end x.left k.left))
+        (λ found w. sequence_next-in
+        (λ left. sequence_entries node collection turns in_mapping column depth (with_item done x.value) left) from x.end
+        (λ left j v. items-in turns in_mapping column depth from x.end (with_item done x.value) left i j v)
+        in_mapping depth (part (with_item done x.value) x.end x.left) (whole-part i k.left) found w))
+
+    -- ---- mappings
+
+    mapping_next-in : (more : Key → Reading (Part Entries)) (from low : ℕ)
+        → ((key : Key) → KeyIn f low key → Reads f (AreEntries f from) (more key))
+        → (depth : ℕ) (closed : Part Entries) → AreEntries f from closed → (o : Option (List Line)) → OptionLeft f low o
+        → Reads f (AreEntries f from) (mapping_next collection more depth closed o)
+    mapping_next-in more from low m depth closed h None k = reads-value h
+    mapping_next-in more from low m depth closed h (Some left) k = reads-then (entry_key-in collection c depth low left k) m
+
+    entries-in : (turns column depth from low : ℕ) (done : Entries) (key : Key) → IsDone f mapping from low done → KeyIn f low key
+        → Reads f (AreEntries f from) (mapping_entries node collection turns column depth done key)
+    unfolding mapping_entries
+    entries-in zero column depth from low done key d h = reads-fault (omega arith)
+    entries-in (suc turns) column depth from low done key d h =
+        reads-then (rest-lies node n (value_slot column (start key.behind)) depth 0 key.scalar.span.end key.behind key.behind tt refl h.1)
+        (λ x k. let i = entry-done d h.0 k in
+        reads-then (reads-given (OptionLeft f x.end) (next_at column x.left) (next-in column x.end x.left k.left))
+        (λ found w. mapping_next-in
+        (λ next. mapping_entries node collection turns column depth (with_entry done (scalar_node key.scalar) x.value) next) from x.end
+        (λ next v. entries-in turns column depth from x.end (with_entry done (scalar_node key.scalar) x.value) next i v)
+        depth (part (with_entry done (scalar_node key.scalar) x.value) x.end x.left) (whole-part i k.left) found w))
+
+    -- ---- nodes without properties
+
+    block_sequence-in : (turns : ℕ) (slot : Slot) (depth column low : ℕ) (ls : List Line) → TabIn f slot.spot
+        → is_dash (first_text ls) ≡ true → AreLeft f low ls
+        → Reads f (IsNode f low) (block_sequence node collection turns slot depth column ls)
+    block_sequence-in turns slot depth column low ls t e h =
+        let at = start ls in
+        let a = starts-in h in
+        reads-by (is_behind_key slot.spot) (λ _. reads-fault a)
+        (λ _. unless_at-in (tab_before slot.spot) t (reads-start a (collected (starts-behind h)
+        (items-in turns slot.in_mapping column (depth + 1) at at no_nodes ls (no-items at a) e (left-start h)))))
+
+    keyed-in : (turns : ℕ) (slot : Slot) (depth column low : ℕ) (ls : List Line) → TabIn f slot.spot → AreLeft f low ls
+        → (o : Option Key) → OptionKeyIn f (start ls) o → Reads f (IsNode f low) (keyed_node node collection turns slot depth column ls o)
+    keyed-in turns slot depth column low ls t h None k = scalar_node-in slot.within low ls h
+    keyed-in turns slot depth column low ls t h (Some key) k =
+        let at = start ls in
+        let a = starts-in h in
+        reads-by (not (same_line ls key.scalar.left)) (λ _. reads-fault a)
+        (λ _. unless_at-in (tab_before slot.spot) t
+        (reads-by (not (is_short_key ls key.scalar)) (λ _. reads-fault a)
+        (λ _. reads-start a (collected (starts-behind h)
+        (entries-in turns column (depth + 1) at at no_entries key (no-entries at a) k)))))
+
+    content-lies : (turns : ℕ) (slot : Slot) (depth column low : ℕ) (ls : List Line) → TabIn f slot.spot → AreLeft f low ls
+        → Reads f (IsNode f low) (block_content node collection turns slot depth column ls)
+    unfolding block_content
+    content-lies turns slot depth column low ls t h =
+        let a = starts-in h in
+        reads-by (is_dash (first_text ls)) (λ e. block_sequence-in turns slot depth column low ls t e h)
+        (λ _. reads-unless (block_fault (first_text ls)) (start ls) a
+        (reads-by (is_property (first_text ls)) (λ _. reads-fault a)
+        (λ _. reads-by (is_flow_start (first_text ls))
+        (λ e. reads-then (c depth low ls e h) (λ x k. flow_rest-in slot.spot (start ls) low x a k))
+        (λ _. reads-by (is_block_start (first_text ls) || is_behind_key slot.spot) (λ _. scalar_node-in slot.within low ls h)
+        (λ _. reads-then (reads-given (OptionKeyIn f (start ls)) (key_at ls) (key_at-in (start ls) ls (left-start h)))
+        (λ found k. keyed-in turns slot depth column low ls t h found k))))))
+
+  pub block_node-in : (bound : ℕ) → BlockIn f (block_node bound)
+  unfolding block_node
+  block_node-in zero back slot depth column low ls s h = reads-fault (omega arith)
+  block_node-in (suc bound) back slot depth column low ls s h =
+      let n : BlockIn f (block_node bound) = λ b t d i l ms u v. block_node-in bound b t d i l ms u v in
+      let collection = flow_collection (suc bound) in
+      let c : CollectionIn f collection = λ d l ms e v. flow_collection-in (suc bound) d l ms e v in
+      let inner : BlockIn f (block_content (block_node bound) collection (suc bound)) =
+      λ b t d i l ms u v. reads-also (content-lies (block_node bound) n collection c (suc bound) t d i l ms u.tab v)
+      (λ p k. part-back b (u.back_to p.end) k) in
+      reads-by (is_property (first_text ls))
+      (λ e. property-in (block_content (block_node bound) collection (suc bound)) inner back slot depth column low ls e s h)
+      (λ _. inner back slot depth column low ls s h)

@@ -1,0 +1,133 @@
+-- The tree of a file keeps to what is said of nodes, and its first fault lies in the file.
+use Rattle.std.proofs.Common.{◌≡◌, ℕ, suc, ◌+◌, ◌≤◌, List, [], ◌∷◌, length, drop, refl, arith, true, ◌&&◌, ◌||◌, ◌==◌, nat_lt}
+use Rattle.std.proofs.Common.{Option, Some, None, Result, Ok, Err, IfOk}
+use Rattle.std.proofs.Math.Utf8.{encode}
+use Rattle.std.proofs.lemmas.Str.{IsUtf8-nil, IsUtf8-past_char}
+use Rattle.std.specs.Prelude.{IsUtf8}
+use Rattle.al_base.specs.Limits.{deepest_collection, most_alias_text, most_nodes}
+use Rattle.al_scalar.specs.Line.{Line, lines}
+use Rattle.al_scalar.specs.Taken.{Fault}
+use Rattle.al_scalar.proofs.OffsetLemmas.{choose, lines-climb}
+use Rattle.al_scalar.proofs.Utf8Lemmas.{AreUtf8, lines-utf8, both-left}
+use Rattle.al_scalar.proofs.Utf8Texts.{both-right}
+use Rattle.al_yaml_tree.specs.Bytes.{has_mark, file_lines}
+use Rattle.al_yaml_tree.specs.Content.{Next, ended, at_line, content}
+use Rattle.al_yaml_tree.specs.Document.{document_start, document_end, root_slot, root_found, root, document, document_of, HasNoAlias}
+use Rattle.al_yaml_tree.specs.Limits.{broken_limit, unless_broken}
+use Rattle.al_yaml_tree.specs.Node.{Node}
+use Rattle.al_yaml_tree.specs.Reading.{Start, nothing_known, gives, Part}
+use Rattle.al_yaml_tree.proofs.BlockReading.{block_node-in}
+use Rattle.al_yaml_tree.proofs.ByteTexts.{cons-same, equal}
+use Rattle.al_yaml_tree.proofs.LeftLines.{File, AreLeft, NextLeft, Anything, content-in, document_start-in, document_end-in}
+use Rattle.al_yaml_tree.proofs.NodeReading.{Lies, IsPart, itself, StartsIn, Reads, reads-value, reads-given, reads-then, empty-reads}
+use Rattle.al_yaml_tree.proofs.ScalarSpans.{Answers}
+use Rattle.al_yaml_tree.proofs.SpanLemmas.{wider_in}
+use Rattle.al_yaml_tree.proofs.Standing.{Stand, stand-lower, lines-end}
+
+-- ---- the lines of a file
+
+climb-from : (low at : ℕ) (bs : List ℕ) (size : ℕ) → low ≤ at → at + length bs ≤ size → Stand size low (lines at bs)
+climb-from low at bs size a b = stand-lower size at low (lines at bs) a (lines-climb at bs, lines-end size at bs b)
+
+-- a byte order mark has three bytes
+mark-long : (bs : List ℕ) → has_mark bs ≡ true → 3 + length (drop 3 bs) ≤ length bs
+mark-long [] e = absurd cc
+mark-long (a ∷ []) e = absurd cc
+mark-long (a ∷ b ∷ []) e = absurd cc
+mark-long (a ∷ b ∷ c ∷ bs) e = omega arith
+
+file-stands : (bs : List ℕ) → Stand (length bs) 0 (file_lines bs)
+file-stands bs =
+    choose (Stand (length bs) 0) (has_mark bs) (λ e. climb-from 0 3 (drop 3 bs) (length bs) (omega arith) (mark-long bs e))
+    (λ _. climb-from 0 0 bs (length bs) (omega arith) (omega arith))
+
+-- and it is a character
+mark-text : (bs : List ℕ) → has_mark bs ≡ true → IsUtf8 bs → IsUtf8 (drop 3 bs)
+unfolding encode
+mark-text [] e u = IsUtf8-nil
+mark-text (a ∷ []) e u = IsUtf8-nil
+mark-text (a ∷ b ∷ []) e u = IsUtf8-nil
+mark-text (a ∷ b ∷ c ∷ bs) e u =
+    let front = both-left ((a == 0xef) && (b == 0xbb)) (c == 0xbf) e in
+    let first = equal a 0xef (both-left (a == 0xef) (b == 0xbb) front) in
+    let second = equal b 0xbb (both-right (a == 0xef) (b == 0xbb) front) in
+    let third = equal c 0xbf (both-right ((a == 0xef) && (b == 0xbb)) (c == 0xbf) e) in
+    IsUtf8-past_char (a ∷ b ∷ c ∷ bs) bs 65279 u
+    (cons-same a 239 (b ∷ c ∷ bs) (187 ∷ 191 ∷ bs) first (cons-same b 187 (c ∷ bs) (191 ∷ bs) second (cons-same c 191 bs bs third refl)))
+
+file-utf8 : (bs : List ℕ) → IsUtf8 bs → AreUtf8 (file_lines bs)
+file-utf8 bs u = choose AreUtf8 (has_mark bs) (λ e. lines-utf8 3 (drop 3 bs) (mark-text bs e u)) (λ _. lines-utf8 0 bs u)
+
+-- ---- the document
+
+-- what is left behind a root stands in the file
+abbrev to_start : ℕ → ℕ
+to_start end = 0
+
+module _ {f : File} where
+  root_found-in : (ls : List Line) → AreLeft f 0 ls → (found : Next) → NextLeft f 0 found
+      → Reads f (IsPart f itself to_start 0) (root_found f.size ls found)
+  root_found-in ls h ended k = empty-reads (omega arith) (omega arith) h
+  root_found-in ls h (at_line i left) k = block_node-in (suc f.size) to_start (root_slot f.size) 1 i 0 left (record {
+    tab = tt;
+    behind = omega arith;
+    inside = omega arith;
+    reach = omega arith;
+    back_to = λ end. omega arith;
+  }) k
+
+  root-lies : {p : Part Node} → IsPart f itself to_start 0 p → Lies f 0 f.size p.value
+  root-lies {p} k = record {
+    laid = k.done.lies.laid;
+    texts = k.done.lies.texts;
+    placed = λ u. wider_in f.size 0 p.end 0 f.size p.value (omega arith) k.inside (k.done.lies.placed u);
+  }
+
+  root-in : (ls : List Line) → AreLeft f 0 ls → Reads f (IsPart f itself to_start 0) (root f.size ls)
+  root-in ls h =
+      reads-then (reads-given (NextLeft f 0) (content ls) (content-in 0 ls h)) (λ found k. root_found-in ls h found k)
+
+  document-in : (ls : List Line) → AreLeft f 0 ls → Reads f (Lies f 0 f.size) (document f.size ls)
+  document-in ls h =
+      reads-then (reads-given (AreLeft f 0) (document_start ls) (document_start-in 0 ls h))
+      (λ left v. reads-then (root-in left v)
+      (λ x k. reads-then {g = λ (rest : Unit {0}). gives x.value}
+      (reads-given Anything (document_end x.left) (document_end-in f.size 0 x.left k.left.stand)) (λ rest i. reads-value (root-lies k))))
+
+-- ---- limits
+
+abbrev FaultIn : ℕ → Option Fault → Type 0
+FaultIn size None = Unit {0}
+FaultIn size (Some f) = f.at ≤ size
+
+limit-in : (size nodes text : ℕ) (ss : List Start) → StartsIn size ss → FaultIn size (broken_limit nodes text ss)
+limit-in size nodes text [] h = tt
+limit-in size nodes text (s ∷ ss) h =
+    choose (FaultIn size) (nat_lt most_nodes (nodes + s.nodes) || nat_lt most_alias_text (text + s.text)) (λ _. h.0)
+    (λ _. choose (FaultIn size) (nat_lt deepest_collection s.depth) (λ _. h.0)
+    (λ _. limit-in size (nodes + s.nodes) (text + s.text) ss h.1))
+
+limited-in : (size : ℕ) (P : Node → Type 0) (o : Option Fault) (r : Result Node Fault) → FaultIn size o → Answers size P r
+    → Answers size P (unless_broken o r)
+limited-in size P None r a h = h
+limited-in size P (Some e) r a h = a
+
+-- ---- the file
+
+abbrev pub file_of : List ℕ → Type 0 → File
+file_of bytes plain = record { size = length bytes; is_utf8 = IsUtf8 bytes; is_plain = plain }
+
+-- what holds of each node of the tree, whose order is known where no alias is read
+pub document-lies : (bytes : List ℕ) (plain : Type 0) → (plain → HasNoAlias bytes)
+    → Answers (length bytes) (Lies (file_of bytes plain) 0 (length bytes)) (document_of bytes)
+document-lies bytes plain none =
+    let f : File = file_of bytes plain in
+    let left : AreLeft f 0 (file_lines bytes) = record { stand = file-stands bytes; utf8 = λ u. file-utf8 bytes u } in
+    let o = document (length bytes) (file_lines bytes) nothing_known in
+    let k = (document-in (file_lines bytes) left).run nothing_known (λ name. tt) none in
+    limited-in (length bytes) (Lies f 0 (length bytes)) (broken_limit 0 0 o.starts) o.answer
+    (limit-in (length bytes) 0 0 o.starts k.starts) k.answers
+
+pub answered : {A : Type 0} (size : ℕ) (P Q : A → Type 0) (r : Result A Fault) → ((x : A) → P x → Q x) → Answers size P r → IfOk r Q
+answered size P Q (Ok x) g h = g x h
+answered size P Q (Err e) g h = tt

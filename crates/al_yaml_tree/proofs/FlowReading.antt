@@ -1,0 +1,245 @@
+-- Flow collections keep to what is said of nodes.
+use Rattle.std.proofs.Common.{◌≡◌, ◌⊎◌, inl, inr, ℕ, zero, suc, ◌+◌, ◌<◌, ◌≤◌, List, refl, arith, Bool, true, false, not, ◌&&◌, ◌||◌}
+use Rattle.std.proofs.Common.{Option, Some, None}
+use Rattle.al_base.specs.declared.codes.YamlCode.TheVariants as yaml
+use Rattle.al_base.specs.declared.faults.Span.{Span}
+use Rattle.al_base.specs.Ascii as ascii
+use Rattle.al_scalar.specs.Line.{Line, start, after_blanks, begins, blanks_dropped}
+use Rattle.al_scalar.specs.Places.{first_text}
+use Rattle.al_scalar.specs.Plain.{flow, is_value_colon}
+use Rattle.al_scalar.specs.Scalar.{ScalarRead, scalar_at}
+use Rattle.al_scalar.proofs.OffsetLemmas.{choose}
+use Rattle.al_scalar.proofs.Utf8Lemmas.{AreUtf8, either}
+use Rattle.al_scalar.proofs.Utf8Texts.{both-right}
+use Rattle.al_yaml_tree.specs.Content.{behind, flow_fault, is_flow_start, is_quote, is_property, is_simple_key, anchor_name, behind_name, has_no_name}
+use Rattle.al_yaml_tree.specs.Flow.{FlowSlot, FlowReader, CollectionReader, gap, is_file_end, empty_node, After, goes_on, closes}
+use Rattle.al_yaml_tree.specs.Flow.{after_item, flow_items, is_key_colon, behind_colon, flow_value, FlowKey}
+use Rattle.al_yaml_tree.specs.Flow.{is_late_colon, unless_late, key_colon, flow_key_of, flow_key, flow_entry_value}
+use Rattle.al_yaml_tree.specs.Flow.{flow_entries, flow_collection_over, flow_content, flow_property, flow_node_over, flow_collection}
+use Rattle.al_yaml_tree.specs.Node.{Node, Nodes, Entries, sequence, mapping, no_nodes, with_item, no_entries, with_entry, scalar_node}
+use Rattle.al_yaml_tree.specs.Reading.{Reading, gives, fails, given, starting_scalar, anchored, Part, part, ◌>>=◌}
+use Rattle.al_yaml_tree.proofs.LeftLines.{File, AreLeft, IsRead, OptionLeft, left-lower, left-start, starts-behind, starts-in, is-inside}
+use Rattle.al_yaml_tree.proofs.LeftLines.{left-gap, left-first, left-bracket, left-name, left-colon, scalar-read}
+use Rattle.al_yaml_tree.proofs.NodeReading.{IsDone, Grows, no-items, no-entries, items-grow, entries-grow, IsPart, same, IsNode, AreItems}
+use Rattle.al_yaml_tree.proofs.NodeReading.{AreEntries, whole-part, read-part, part-lower, item-done, entry-done, Reads, reads-value, reads-fault}
+use Rattle.al_yaml_tree.proofs.NodeReading.{reads-given, reads-then, reads-start, reads-one, reads-unless, reads-by, reads-also, empty-reads, collected}
+use Rattle.al_yaml_tree.proofs.NodeReading.{alias-reads, anchored-reads}
+use Rattle.al_yaml_tree.proofs.ScalarSpans.{Answers}
+use Rattle.al_yaml_tree.proofs.TextLines.{first_colon-utf8, colon-utf8}
+
+abbrev pub CollectionIn : File → CollectionReader → Type 0
+CollectionIn f collection = (depth low : ℕ) (ls : List Line) → is_flow_start (first_text ls) ≡ true → AreLeft f low ls
+    → Reads f (IsNode f low) (collection depth ls)
+
+-- an empty node would stand at the offset
+abbrev EmptyAt : ℕ → Option ℕ → Type 0
+EmptyAt low None = Unit {0}
+EmptyAt low (Some at) = low ≡ at
+
+abbrev SlotIn : File → ℕ → FlowSlot → Type 0
+SlotIn f low slot = (slot.opening ≤ f.size) × EmptyAt low slot.empty
+
+abbrev FlowIn : File → FlowReader → Type 0
+FlowIn f node = (slot : FlowSlot) (depth low : ℕ) (ls : List Line) → SlotIn f low slot → AreLeft f low ls
+    → Reads f (IsNode f low) (node slot depth ls)
+
+abbrev AfterIn : File → ℕ → After → Type 0
+AfterIn f low (goes_on ls) = AreLeft f low ls
+AfterIn f low (closes end ls) = (low ≤ end) × AreLeft f end ls
+
+abbrev FlowKeyIn : File → ℕ → FlowKey → Type 0
+FlowKeyIn f low key = IsRead f low key.scalar × OptionLeft f key.scalar.span.end key.behind
+
+key_colon-behind : (after_quote : Bool) (ls : List Line) → is_key_colon after_quote ls ≡ true → AreUtf8 ls
+    → AreUtf8 (behind 1 (blanks_dropped ls))
+key_colon-behind after_quote ls e u =
+    by-colon (either (after_quote && begins ascii.colon (first_text ls)) (is_value_colon flow (after_blanks (first_text ls))) e)
+  where
+    by-colon : ((after_quote && begins ascii.colon (first_text ls)) ≡ true) ⊎ (is_value_colon flow (after_blanks (first_text ls)) ≡ true)
+        → AreUtf8 (behind 1 (blanks_dropped ls))
+    by-colon (inl h) = first_colon-utf8 ls (both-right after_quote (begins ascii.colon (first_text ls)) h) u
+    by-colon (inr h) = colon-utf8 flow ls h u
+
+late-in : (f : File) (low : ℕ) (ls : List Line) (r : ScalarRead) (o : Option (List Line)) → start ls ≤ f.size → OptionLeft f low o
+    → Answers f.size (OptionLeft f low) (unless_late ls r o)
+late-in f low ls r (Some left) a h = h
+late-in f low ls r None a h = choose (Answers f.size (OptionLeft f low)) (is_late_colon r.left) (λ _. a) (λ _. tt)
+
+module _ {f : File} where
+  -- ---- behind an item
+
+  closed-in : (q low : ℕ) (ls : List Line) → q < 128 → begins q (first_text ls) ≡ true → AreLeft f low ls
+      → AfterIn f low (closes (start ls + 1) (behind 1 ls))
+  closed-in q low ls a e h = let b = starts-behind h in (omega (arith, b), left-first q a e h)
+
+  after-in : (opening close low : ℕ) (ls : List Line) → opening ≤ f.size → close < 128 → AreLeft f low ls
+      → Answers f.size (AfterIn f low) (after_item opening close ls)
+  after-in opening close low ls o a h =
+      choose (Answers f.size (AfterIn f low)) (is_file_end ls) (λ _. o)
+      (λ _. choose (Answers f.size (AfterIn f low)) (begins ascii.comma (first_text ls))
+      (λ e. let k = closed-in ascii.comma low ls (omega arith) e h in left-gap (left-lower k.0 k.1))
+      (λ _. choose (Answers f.size (AfterIn f low)) (begins close (first_text ls)) (λ e. closed-in close low ls a e h) (λ _. starts-in h)))
+
+  -- items or entries behind those done, given what reads further ones
+  module _ {A : Type 0} {g : A → Span → Node} (grows : Grows f g) (from low : ℕ) (done : A) (d : IsDone f g from low done) where
+    closed-part : (end : ℕ) (ls : List Line) → AfterIn f low (closes end ls) → IsPart f g same from (part done end ls)
+    closed-part end ls h = whole-part (grows from low end done h.0 (is-inside h.1) d) h.1
+
+    after-reads : (more : List Line → Reading (Part A)) → ((ls : List Line) → AreLeft f low ls → Reads f (IsPart f g same from) (more ls))
+        → (found : After) → AfterIn f low found
+        → Reads f (IsPart f g same from) (elim found [ goes_on next ↦ more next | closes end next ↦ gives (part done end next) ])
+    after-reads more m (goes_on next) h = m next h
+    after-reads more m (closes end next) h = reads-value (closed-part end next h)
+
+    rest-reads : (more : List Line → Reading (Part A)) (opening close : ℕ) (left : List Line) → opening ≤ f.size → close < 128
+        → ((ls : List Line) → AreLeft f low ls → Reads f (IsPart f g same from) (more ls)) → AreLeft f low left
+        → Reads f (IsPart f g same from) (given (after_item opening close (gap false left))
+        >>= (λ (found : After). elim found [ goes_on next ↦ more next | closes end next ↦ gives (part done end next) ]))
+    rest-reads more opening close left o a m h =
+        reads-then (reads-given (AfterIn f low) (after_item opening close (gap false left))
+        (after-in opening close low (gap false left) o a (left-gap h)))
+        (λ found k. after-reads more m found k)
+
+  -- ---- keys
+
+  behind_colon-in : (after_quote : Bool) (low : ℕ) (ls : List Line) → AreLeft f low ls → OptionLeft f low (behind_colon after_quote ls)
+  behind_colon-in after_quote low ls h =
+      choose (OptionLeft f low) (is_key_colon after_quote ls) (λ e. left-colon (key_colon-behind after_quote ls e) h) (λ _. tt)
+
+  key_colon-in : (low : ℕ) (ls : List Line) (r : ScalarRead) → start ls ≤ f.size → AreLeft f low r.left
+      → Answers f.size (OptionLeft f low) (key_colon ls r)
+  key_colon-in low ls r a h =
+      choose (Answers f.size (OptionLeft f low)) (not (is_simple_key ls r)) (λ _. a)
+      (λ _. late-in f low ls r (behind_colon (is_quote (first_text ls)) r.left) a (behind_colon-in (is_quote (first_text ls)) low r.left h))
+
+  flow_key_of-in : (low : ℕ) (ls : List Line) (r : ScalarRead) → start ls ≤ f.size → IsRead f low r
+      → Reads f (FlowKeyIn f low) (flow_key_of ls r)
+  flow_key_of-in low ls r a h =
+      reads-then {g = λ (colon : Option (List Line)). starting_scalar (start ls) (gives (record { scalar = r; behind = colon }))}
+      (reads-given (OptionLeft f r.span.end) (key_colon ls r) (key_colon-in r.span.end ls r a h.left))
+      (λ colon k. reads-one a (h, k))
+
+  flow_key-in : (collection : CollectionReader) → CollectionIn f collection → (depth low : ℕ) (ls : List Line) → AreLeft f low ls
+      → Reads f (FlowKeyIn f low) (flow_key collection depth ls)
+  unfolding flow_key
+  flow_key-in collection c depth low ls h =
+      let a = starts-in h in
+      reads-unless (flow_fault (first_text ls)) (start ls) a
+      (reads-by (is_property (first_text ls)) (λ _. reads-fault a)
+      (λ _. reads-by (is_flow_start (first_text ls)) (λ e. reads-then {g = λ (x : Part Node). fails yaml.WrongKey (start ls)} (c depth low ls e h) (λ x k. reads-fault a))
+      (λ _. reads-then (reads-given (IsRead f low) (scalar_at flow ls) (scalar-read flow low ls h)) (λ r k. flow_key_of-in low ls r a k))))
+
+  -- ---- nodes in a collection, given what reads one
+
+  module _ (node : FlowReader) (n : FlowIn f node) where
+    flow_value-in : (slot : FlowSlot) (depth low : ℕ) (ls : List Line) → SlotIn f low slot → AreLeft f low ls
+        → Reads f (IsNode f low) (flow_value node slot depth ls)
+    flow_value-in slot depth low ls s h =
+        reads-by (is_file_end ls) (λ _. reads-fault s.0)
+        (λ _. reads-by (begins ascii.comma (first_text ls) || begins ascii.close_brace (first_text ls))
+        (λ _. by-empty slot.empty s.1) (λ _. n slot depth low ls s h))
+      where
+        by-empty : (o : Option ℕ) → EmptyAt low o
+            → Reads f (IsNode f low) (elim o [ None ↦ fails yaml.UnexpectedCharacter (start ls) | Some at ↦ empty_node at ls ])
+        by-empty None e = reads-fault (starts-in h)
+        by-empty (Some at) e =
+            let a = is-inside h in empty-reads (omega (arith, e)) (omega (arith, a, e)) (left-lower (omega (arith, e)) h)
+
+    value_behind-in : (opening depth : ℕ) (key : ScalarRead) → opening ≤ f.size → AreLeft f key.span.end key.left
+        → (o : Option (List Line)) → OptionLeft f key.span.end o
+        → Reads f (IsNode f key.span.end) (elim o [
+          | None ↦ empty_node key.span.end key.left
+          | Some left ↦ flow_value node (record { opening = opening; empty = Some (start left) }) depth (gap false left)
+        ])
+    value_behind-in opening depth key o h None k = empty-reads (omega arith) (is-inside h) h
+    value_behind-in opening depth key o h (Some left) k =
+        reads-also (flow_value-in (record { opening = opening; empty = Some (start left) }) depth (start left) (gap false left) (o, refl)
+        (left-gap (left-start k))) (λ p i. part-lower (starts-behind k) i)
+
+    entry_value-in : (opening depth low : ℕ) (key : FlowKey) → opening ≤ f.size → FlowKeyIn f low key
+        → Reads f (IsNode f key.scalar.span.end) (flow_entry_value node opening depth key)
+    unfolding flow_entry_value
+    entry_value-in opening depth low key o h = value_behind-in opening depth key.scalar o h.0.left key.behind h.1
+
+    items-in : (turns opening depth from low : ℕ) (done : Nodes) (ls : List Line) → opening ≤ f.size → IsDone f sequence from low done
+        → AreLeft f low ls → Reads f (AreItems f from) (flow_items node turns opening depth done ls)
+    unfolding flow_items
+    items-in zero opening depth from low done ls o d h = reads-fault (omega arith)
+    items-in (suc turns) opening depth from low done ls o d h =
+        reads-by (is_file_end ls) (λ _. reads-fault o)
+        (λ _. reads-by (begins ascii.close_bracket (first_text ls))
+        (λ e. reads-value (closed-part items-grow from low done d (start ls + 1) (behind 1 ls)
+        (closed-in ascii.close_bracket low ls (omega arith) e h)))
+        (λ _. reads-then (n (record { opening = opening; empty = None }) depth low ls (o, tt) h)
+        (λ x k. let i = item-done d k in
+        rest-reads items-grow from x.end (with_item done x.value) i
+        (λ left. flow_items node turns opening depth (with_item done x.value) left) opening ascii.close_bracket x.left o (omega arith)
+        (λ left v. items-in turns opening depth from x.end (with_item done x.value) left o i v) k.left)))
+
+    module _ (collection : CollectionReader) (c : CollectionIn f collection) where
+      entries-in : (turns opening depth from low : ℕ) (done : Entries) (ls : List Line) → opening ≤ f.size → IsDone f mapping from low done
+          → AreLeft f low ls → Reads f (AreEntries f from) (flow_entries node collection turns opening depth done ls)
+      unfolding flow_entries
+      entries-in zero opening depth from low done ls o d h = reads-fault (omega arith)
+      entries-in (suc turns) opening depth from low done ls o d h =
+          reads-by (is_file_end ls) (λ _. reads-fault o)
+          (λ _. reads-by (begins ascii.close_brace (first_text ls))
+          (λ e. reads-value (closed-part entries-grow from low done d (start ls + 1) (behind 1 ls)
+          (closed-in ascii.close_brace low ls (omega arith) e h)))
+          (λ _. reads-then (flow_key-in collection c depth low ls h)
+          (λ key k. reads-then (entry_value-in opening depth low key o k)
+          (λ x v. let i = entry-done d k.0 v in
+          rest-reads entries-grow from x.end (with_entry done (scalar_node key.scalar) x.value) i
+          (λ left. flow_entries node collection turns opening depth (with_entry done (scalar_node key.scalar) x.value) left)
+          opening ascii.close_brace x.left o (omega arith)
+          (λ left w. entries-in turns opening depth from x.end (with_entry done (scalar_node key.scalar) x.value) left o i w) v.left))))
+
+      over-in : (turns : ℕ) → CollectionIn f (flow_collection_over node collection turns)
+      over-in turns depth low ls e h =
+          let at = start ls in
+          let a = starts-in h in
+          let v = left-gap (left-bracket e (left-start h)) in
+          reads-start a
+          (reads-by (begins ascii.open_bracket (first_text ls))
+          (λ _. collected (starts-behind h) (items-in turns at (depth + 1) at at no_nodes (gap false (behind 1 ls)) a (no-items at a) v))
+          (λ _. collected (starts-behind h) (entries-in turns at (depth + 1) at at no_entries (gap false (behind 1 ls)) a (no-entries at a) v)))
+
+  -- ---- nodes and collections
+
+  module _ (collection : CollectionReader) (c : CollectionIn f collection) where
+    content-in : FlowIn f (flow_content collection)
+    unfolding flow_content
+    content-in slot depth low ls s h =
+        let a = starts-in h in
+        reads-unless (flow_fault (first_text ls)) (start ls) a
+        (reads-by (is_property (first_text ls)) (λ _. reads-fault a)
+        (λ _. reads-by (is_flow_start (first_text ls)) (λ e. c depth low ls e h)
+        (λ _. reads-start a (reads-then {g = λ (r : ScalarRead). gives (part (scalar_node r) r.span.end r.left)}
+        (reads-given (IsRead f low) (scalar_at flow ls) (scalar-read flow low ls h)) (λ r k. reads-value (read-part k k.left))))))
+
+    property-in : (slot : FlowSlot) (depth low : ℕ) (ls : List Line) → is_property (first_text ls) ≡ true → SlotIn f low slot
+        → AreLeft f low ls → Reads f (IsNode f low) (flow_property collection slot depth ls)
+    unfolding flow_property
+    property-in slot depth low ls e s h =
+        let a = starts-in h in
+        let rest = behind_name ls in
+        let v = left-name e h in
+        reads-by (has_no_name ls) (λ _. reads-fault a)
+        (λ _. reads-by (begins ascii.asterisk (first_text ls))
+        (λ _. reads-then {g = λ (n : Node). gives (part n (start rest) rest)} (alias-reads (anchor_name ls) (start ls) depth a)
+        (λ n k. reads-value (whole-part (record { ordered = starts-behind v; lies = k low (start rest) }) (left-start v))))
+        (λ _. reads-then {g = λ (x : Part Node). anchored (record { name = anchor_name ls; at = start ls; node = x.value }) x}
+        (flow_value-in (flow_content collection) content-in slot depth low (gap false rest) s (left-gap v))
+        (λ x k. anchored-reads (record { name = anchor_name ls; at = start ls; node = x.value }) k.done.lies k)))
+
+    node-in : FlowIn f (flow_node_over collection)
+    node-in slot depth low ls s h =
+        reads-by (is_property (first_text ls)) (λ e. property-in slot depth low ls e s h) (λ _. content-in slot depth low ls s h)
+
+  pub flow_collection-in : (bound : ℕ) → CollectionIn f (flow_collection bound)
+  unfolding flow_collection
+  flow_collection-in zero depth low ls e h = reads-fault (omega arith)
+  flow_collection-in (suc bound) depth low ls e h =
+      let c : CollectionIn f (flow_collection bound) = λ d l ms i v. flow_collection-in bound d l ms i v in
+      over-in (flow_node_over (flow_collection bound)) (node-in (flow_collection bound) c) (flow_collection bound) c
+      (suc bound) depth low ls e h

@@ -1,0 +1,131 @@
+-- Keys of block mappings keep to what is said of scalars, and the lines behind their colon to what is said of lines.
+use Rattle.std.proofs.Common.{◌≡◌, ℕ, ◌≤◌, List, [], ◌∷◌, refl, arith, Bool, true, false, ◌||◌, Option, Some, None, Result, Ok, Err}
+use Rattle.std.proofs.lemmas.Str.{IsUtf8-nil}
+use Rattle.al_base.specs.declared.codes.YamlCode.TheVariants as yaml
+use Rattle.al_scalar.specs.Line.{Line, start}
+use Rattle.al_scalar.specs.Offsets.{AreClimbing}
+use Rattle.al_scalar.specs.Places.{first_text}
+use Rattle.al_scalar.specs.Plain.{block}
+use Rattle.al_scalar.specs.Scalar.{ScalarRead, scalar_at}
+use Rattle.al_scalar.specs.Taken.{Fault}
+use Rattle.al_scalar.proofs.OffsetLemmas.{choose}
+use Rattle.al_scalar.proofs.Utf8Lemmas.{AreUtf8}
+use Rattle.al_scalar.proofs.Utf8Texts.{IsText}
+use Rattle.al_yaml_tree.specs.Content.{is_dash, block_fault, is_flow_start, is_quote, is_property, is_simple_key}
+use Rattle.al_yaml_tree.specs.Flow.{CollectionReader}
+use Rattle.al_yaml_tree.specs.Keys.{Key, one_line, read_with_lines, key_scalar, has_colon, behind_colon, key_from, key_at}
+use Rattle.al_yaml_tree.specs.Keys.{is_block_start, flow_refused, no_entry, found_key, entry_key}
+use Rattle.al_yaml_tree.specs.Node.{Node, scalar_node}
+use Rattle.al_yaml_tree.specs.Reading.{fails, Part, ◌>>=◌}
+use Rattle.al_yaml_tree.proofs.FlowReading.{CollectionIn}
+use Rattle.al_yaml_tree.proofs.LeftLines.{File, AreLeft, IsRead, OptionLeft, starts-in, left-colon, scalar-read}
+use Rattle.al_yaml_tree.proofs.NodeReading.{Reads, reads-fault, reads-given, reads-then, reads-one, reads-unless, reads-by}
+use Rattle.al_yaml_tree.proofs.ScalarSpans.{Answers}
+use Rattle.al_yaml_tree.proofs.SpanLemmas.{placed-more}
+use Rattle.al_yaml_tree.proofs.Standing.{climbing-higher, Stand, stand-cut}
+use Rattle.al_yaml_tree.proofs.TextLines.{colon-utf8}
+
+-- ---- the scalar of a key
+
+first_text-climbs : (end low : ℕ) (rest : List Line) → Stand end low rest → AreClimbing low end (first_text rest)
+first_text-climbs end low [] h = absurd h.0
+first_text-climbs end low (l ∷ ls) h = climbing-higher low l.end end l.text h.1.0 h.0.0
+
+first_text-utf8 : (ls : List Line) → AreUtf8 ls → IsText (first_text ls)
+first_text-utf8 [] u = IsUtf8-nil
+first_text-utf8 (l ∷ ls) u = u.0
+
+abbrev pub KeyIn : File → ℕ → Key → Type 0
+KeyIn f low key = IsRead f low key.scalar × AreLeft f key.scalar.span.end key.behind
+
+abbrev pub OptionKeyIn : File → ℕ → Option Key → Type 0
+OptionKeyIn f low None = Unit {0}
+OptionKeyIn f low (Some key) = KeyIn f low key
+
+-- the file as if the line were its last
+abbrev up_to : File → Line → File
+up_to f l = record { size = l.end; is_utf8 = f.is_utf8; is_plain = f.is_plain }
+
+module _ {f : File} where
+  one_line-left : (low : ℕ) (l : Line) (ls : List Line) → AreLeft f low (l ∷ ls) → AreLeft (up_to f l) low (one_line (l ∷ ls))
+  one_line-left low l ls h = record { stand = ((h.stand.0.0, refl), (omega arith, tt)); utf8 = λ u. ((h.utf8 u).0, tt) }
+
+  with_lines-read : (low : ℕ) (l : Line) (ls : List Line) (r : Result ScalarRead Fault) → AreLeft f low (l ∷ ls)
+      → Answers l.end (IsRead (up_to f l) low) r → Answers f.size (IsRead f low) (read_with_lines (l ∷ ls) r)
+  with_lines-read low l ls (Err e) h k = let a = h.stand.1.0 in omega (arith, k, a)
+  with_lines-read low l ls (Ok r) h k = record {
+    placed = placed-more l.end f.size h.stand.1.0 low r.span.end (scalar_node r) k.placed;
+    text = k.text;
+    left = record {
+      stand = stand-cut f.size low r.span.end (first_text r.left) l ls (first_text-climbs l.end r.span.end r.left k.left.stand) h.stand;
+      utf8 = λ u. (first_text-utf8 r.left (k.left.utf8 u), (h.utf8 u).1);
+    };
+  }
+
+  plain-read : (low : ℕ) (ls : List Line) → AreLeft f low ls
+      → Answers f.size (IsRead f low) (read_with_lines ls (scalar_at (block 0) (one_line ls)))
+  plain-read low [] h = absurd h.stand.0
+  plain-read low (l ∷ ls) h = with_lines-read low l ls (scalar_at (block 0) (one_line (l ∷ ls))) h
+      (scalar-read (block 0) low (one_line (l ∷ ls)) (one_line-left low l ls h))
+
+  key_scalar-in : (low : ℕ) (ls : List Line) → AreLeft f low ls → Answers f.size (IsRead f low) (key_scalar ls)
+  key_scalar-in low ls h = choose (Answers f.size (IsRead f low)) (is_quote (first_text ls)) (λ _. scalar-read (block 0) low ls h)
+      (λ _. plain-read low ls h)
+
+  -- ---- keys
+
+  behind_colon-in : (low : ℕ) (ls : List Line) → AreLeft f low ls → OptionLeft f low (behind_colon ls)
+  behind_colon-in low ls h = choose (OptionLeft f low) (has_colon ls) (λ e. left-colon (colon-utf8 (block 0) ls e) h) (λ _. tt)
+
+  key_by : (low : ℕ) (r : ScalarRead) → IsRead f low r → (o : Option (List Line)) → OptionLeft f r.span.end o
+      → OptionKeyIn f low (elim o [ None ↦ None | Some left ↦ Some (record { scalar = r; behind = left }) ])
+  key_by low r h None k = tt
+  key_by low r h (Some left) k = (h, k)
+
+key_from-in : (f : File) (low : ℕ) (r : Result ScalarRead Fault) → Answers f.size (IsRead f low) r
+    → Answers f.size (OptionKeyIn f low) (key_from r)
+key_from-in f low (Err e) h = h
+key_from-in f low (Ok r) h = key_by low r h (behind_colon r.left) (behind_colon-in r.span.end r.left h.left)
+
+module _ {f : File} where
+  pub key_at-in : (low : ℕ) (ls : List Line) → AreLeft f low ls → Answers f.size (OptionKeyIn f low) (key_at ls)
+  key_at-in low ls h = key_from-in f low (key_scalar ls) (key_scalar-in low ls h)
+
+  -- ---- lines that begin no entry
+
+  refused-in : {A : Type 0} {P : A → Type 0} (in_mapping : Bool) (collection : CollectionReader) → CollectionIn f collection
+      → (depth low : ℕ) (ls : List Line) → is_flow_start (first_text ls) ≡ true → AreLeft f low ls
+      → Reads f P (collection depth ls >>= (λ (x : Part Node). flow_refused in_mapping (start ls) x))
+  refused-in in_mapping collection c depth low ls e h =
+      reads-then {g = λ (x : Part Node). flow_refused in_mapping (start ls) x} (c depth low ls e h) (λ x k. reads-fault (starts-in h))
+
+  pub no_entry-in : {A : Type 0} {P : A → Type 0} (collection : CollectionReader) → CollectionIn f collection
+      → (depth low : ℕ) (ls : List Line) → AreLeft f low ls → Reads f P (no_entry collection depth ls)
+  unfolding no_entry
+  no_entry-in collection c depth low ls h =
+      let a = starts-in h in
+      reads-unless (block_fault (first_text ls)) (start ls) a
+      (reads-by (is_property (first_text ls)) (λ _. reads-fault a)
+      (λ _. reads-by (is_flow_start (first_text ls)) (λ e. refused-in false collection c depth low ls e h)
+      (λ _. reads-by (is_quote (first_text ls))
+      (λ _. reads-then {g = λ (r : ScalarRead). fails yaml.UnexpectedCharacter (start ls)}
+      (reads-given (IsRead f low) (scalar_at (block 0) ls) (scalar-read (block 0) low ls h)) (λ r k. reads-fault a))
+      (λ _. reads-fault a))))
+
+  -- ---- the key of a further entry
+
+  found_key-in : (low : ℕ) (ls : List Line) (o : Option Key) → start ls ≤ f.size → OptionKeyIn f low o → Reads f (KeyIn f low) (found_key ls o)
+  found_key-in low ls None a h = reads-fault a
+  found_key-in low ls (Some key) a h =
+      reads-by (is_simple_key ls key.scalar) (λ _. reads-one a h) (λ _. reads-fault a)
+
+  pub entry_key-in : (collection : CollectionReader) → CollectionIn f collection → (depth low : ℕ) (ls : List Line) → AreLeft f low ls
+      → Reads f (KeyIn f low) (entry_key collection depth ls)
+  unfolding entry_key
+  entry_key-in collection c depth low ls h =
+      let a = starts-in h in
+      reads-unless (block_fault (first_text ls)) (start ls) a
+      (reads-by (is_property (first_text ls)) (λ _. reads-fault a)
+      (λ _. reads-by (is_dash (first_text ls) || is_block_start (first_text ls)) (λ _. reads-fault a)
+      (λ _. reads-by (is_flow_start (first_text ls)) (λ e. refused-in true collection c depth low ls e h)
+      (λ _. reads-then (reads-given (OptionKeyIn f low) (key_at ls) (key_at-in low ls h)) (λ found k. found_key-in low ls found a k)))))

@@ -1,0 +1,182 @@
+-- What is left of a file's lines as it is read: it stands behind an offset, and is UTF-8 where the file is; a fault lies in the file.
+use Rattle.std.proofs.Common.{◌≡◌, ℕ, ◌+◌, ◌<◌, ◌≤◌, List, [], ◌∷◌, length, drop, arith, true, false}
+use Rattle.std.proofs.Common.{Option, Some, None, Result, Ok, Err, IfOk}
+use Rattle.std.proofs.lemmas.Str.{IsUtf8-nil}
+use Rattle.std.specs.Prelude.{IsUtf8}
+use Rattle.al_base.specs.Ascii as ascii
+use Rattle.al_scalar.specs.Block.{at_end}
+use Rattle.al_scalar.specs.Line.{Line, start, begins, is_marker, dot, is_document_marker, blanks_dropped, spaces_dropped}
+use Rattle.al_scalar.specs.Places.{first_text}
+use Rattle.al_scalar.specs.Plain.{Context}
+use Rattle.al_scalar.specs.Scalar.{ScalarRead, text_of, scalar_at}
+use Rattle.al_scalar.specs.Taken.{Fault}
+use Rattle.al_scalar.proofs.OffsetLemmas.{choose}
+use Rattle.al_scalar.proofs.TextLemmas.{ReadsText, scalar-text}
+use Rattle.al_scalar.proofs.Utf8Lemmas.{AreUtf8}
+use Rattle.al_yaml_tree.specs.Content.{Next, ended, at_line, is_skipped, content_line, content, ends_line, line_ended, whole_lines, behind}
+use Rattle.al_yaml_tree.specs.Content.{is_dash, is_flow_start, is_property, anchor_cells, behind_name}
+use Rattle.al_yaml_tree.specs.Document.{first_line, document_start, ended_behind, last_line, document_end}
+use Rattle.al_yaml_tree.specs.Flow.{gap}
+use Rattle.al_yaml_tree.specs.Node.{scalar_node}
+use Rattle.al_yaml_tree.specs.Spans.{IsPlacedIn}
+use Rattle.al_yaml_tree.proofs.ScalarSpans.{Answers, ReadIn, scalar-in}
+use Rattle.al_yaml_tree.proofs.Standing.{Stand, stand-lower, low-in, stand-start, start-behind, start-in, stand-below, stand-at_end}
+use Rattle.al_yaml_tree.proofs.Standing.{stand-behind, stand-first, stand-blanks, stand-spaces, stand-whole, stand-gap}
+use Rattle.al_yaml_tree.proofs.TextLines.{whole-utf8, first-utf8, dash-utf8, bracket-utf8, blanks-utf8, spaces-utf8, gap-utf8}
+use Rattle.al_yaml_tree.proofs.TextLines.{name-utf8, marker-utf8}
+
+-- A file of so many bytes, that it is UTF-8, and that no alias is read in it.
+pub record File : Type 1 where
+  pub size : ℕ
+  pub is_utf8 : Type 0
+  pub is_plain : Type 0
+
+pub record AreLeft (f : File) (low : ℕ) (ls : List Line) : Type 0 where
+  pub stand : Stand f.size low ls
+  pub utf8 : f.is_utf8 → AreUtf8 ls
+
+-- a scalar that was read behind an offset, and the lines left behind it
+pub record IsRead (f : File) (low : ℕ) (r : ScalarRead) : Type 0 where
+  pub placed : IsPlacedIn f.size low r.span.end (scalar_node r)
+  pub text : f.is_utf8 → IsUtf8 (text_of r.scalar)
+  pub left : AreLeft f r.span.end r.left
+
+abbrev pub NextLeft : File → ℕ → Next → Type 0
+NextLeft f low ended = Unit {0}
+NextLeft f low (at_line i left) = AreLeft f low left
+
+abbrev pub OptionLeft : File → ℕ → Option (List Line) → Type 0
+OptionLeft f low None = Unit {0}
+OptionLeft f low (Some ls) = AreLeft f low ls
+
+abbrev pub Anything : Unit {0} → Type 0
+Anything x = Unit {0}
+
+both-read : (f : File) (low : ℕ) (r : Result ScalarRead Fault) → Answers f.size (ReadIn f.size low) r → (f.is_utf8 → IfOk r ReadsText)
+    → Answers f.size (IsRead f low) r
+both-read f low (Ok r) h k = record { placed = h.placed; text = λ u. (k u).0; left = record { stand = h.left; utf8 = λ u. (k u).1 } }
+both-read f low (Err e) h k = h
+
+module _ {f : File} where
+  -- ---- bounds
+
+  pub left-lower : {low low' : ℕ} {ls : List Line} → low' ≤ low → AreLeft f low ls → AreLeft f low' ls
+  left-lower {low} {low'} {ls} a h = record { stand = stand-lower f.size low low' ls a h.stand; utf8 = h.utf8 }
+
+  pub left-start : {low : ℕ} {ls : List Line} → AreLeft f low ls → AreLeft f (start ls) ls
+  left-start {low} {ls} h = record { stand = stand-start f.size low ls h.stand; utf8 = h.utf8 }
+
+  pub starts-behind : {low : ℕ} {ls : List Line} → AreLeft f low ls → low ≤ start ls
+  starts-behind {low} {ls} h = start-behind f.size low ls h.stand
+
+  pub starts-in : {low : ℕ} {ls : List Line} → AreLeft f low ls → start ls ≤ f.size
+  starts-in {low} {ls} h = start-in f.size low ls h.stand
+
+  pub is-inside : {low : ℕ} {ls : List Line} → AreLeft f low ls → low ≤ f.size
+  is-inside {low} {ls} h = low-in f.size low ls h.stand
+
+  -- ---- what is dropped
+
+  pub left-whole : {low : ℕ} {ls : List Line} → AreLeft f low ls → AreLeft f low (whole_lines ls)
+  left-whole {low} {ls} h = record { stand = stand-whole f.size low ls h.stand; utf8 = λ u. whole-utf8 ls (h.utf8 u) }
+
+  pub left-blanks : {low : ℕ} {ls : List Line} → AreLeft f low ls → AreLeft f low (blanks_dropped ls)
+  left-blanks {low} {ls} h = record { stand = stand-blanks f.size low ls h.stand; utf8 = λ u. blanks-utf8 ls (h.utf8 u) }
+
+  left-spaces : {low : ℕ} {ls : List Line} → AreLeft f low ls → AreLeft f low (spaces_dropped ls)
+  left-spaces {low} {ls} h = record { stand = stand-spaces f.size low ls h.stand; utf8 = λ u. spaces-utf8 ls (h.utf8 u) }
+
+  pub left-gap : {low : ℕ} {ls : List Line} → AreLeft f low ls → AreLeft f low (gap false ls)
+  left-gap {low} {ls} h = record { stand = stand-gap f.size false low ls h.stand; utf8 = λ u. gap-utf8 false ls (h.utf8 u) }
+
+  pub left-first : (q : ℕ) {low : ℕ} {ls : List Line} → q < 128 → begins q (first_text ls) ≡ true → AreLeft f low ls
+      → AreLeft f (start ls + 1) (behind 1 ls)
+  left-first q {low} {ls} a e h = record { stand = stand-first f.size q low ls e h.stand; utf8 = λ u. first-utf8 q ls a e (h.utf8 u) }
+
+  left-behind : (k : ℕ) {low : ℕ} {ls : List Line} → (AreUtf8 ls → AreUtf8 (behind k ls)) → AreLeft f low ls → AreLeft f low (behind k ls)
+  left-behind k {low} {ls} g h = record { stand = stand-behind f.size k low ls h.stand; utf8 = λ u. g (h.utf8 u) }
+
+  pub left-dash : {low : ℕ} {ls : List Line} → is_dash (first_text ls) ≡ true → AreLeft f low ls → AreLeft f low (behind 1 ls)
+  left-dash {low} {ls} e h = left-behind 1 (dash-utf8 ls e) h
+
+  pub left-bracket : {low : ℕ} {ls : List Line} → is_flow_start (first_text ls) ≡ true → AreLeft f low ls → AreLeft f low (behind 1 ls)
+  left-bracket {low} {ls} e h = left-behind 1 (bracket-utf8 ls e) h
+
+  pub left-name : {low : ℕ} {ls : List Line} → is_property (first_text ls) ≡ true → AreLeft f low ls → AreLeft f low (behind_name ls)
+  left-name {low} {ls} e h = left-behind (length (anchor_cells (drop 1 (first_text ls))) + 1) (name-utf8 ls e) h
+
+  -- behind a colon, which blanks may stand before
+  pub left-colon : {low : ℕ} {ls : List Line} → (AreUtf8 ls → AreUtf8 (behind 1 (blanks_dropped ls))) → AreLeft f low ls
+      → AreLeft f low (behind 1 (blanks_dropped ls))
+  left-colon {low} {ls} g h = record {
+    stand = stand-behind f.size 1 low (blanks_dropped ls) (stand-blanks f.size low ls h.stand);
+    utf8 = λ u. g (h.utf8 u);
+  }
+
+  left-at_end : {low : ℕ} {l : Line} {ls : List Line} → AreLeft f low (l ∷ ls) → AreLeft f low (at_end l)
+  left-at_end {low} {l} {ls} h = record { stand = stand-at_end f.size low l ls h.stand; utf8 = λ u. (IsUtf8-nil, tt) }
+
+  left-below : {low : ℕ} {l : Line} {ls : List Line} → l.last ≡ false → AreLeft f low (l ∷ ls) → AreLeft f low ls
+  left-below {low} {l} {ls} e h = record { stand = stand-below f.size low l ls e h.stand; utf8 = λ u. (h.utf8 u).1 }
+
+  -- ---- scalars
+
+  pub scalar-read : (p : Context) (low : ℕ) (ls : List Line) → AreLeft f low ls → Answers f.size (IsRead f low) (scalar_at p ls)
+  scalar-read p low ls h = both-read f low (scalar_at p ls) (scalar-in f.size p low ls h.stand) (λ u. scalar-text p ls (h.utf8 u))
+
+  -- ---- content lines
+
+  content_line-in : (low : ℕ) (ls : List Line) → AreLeft f low ls → Answers f.size (NextLeft f low) (content_line ls)
+  content_line-in low ls h =
+      choose (Answers f.size (NextLeft f low)) (is_document_marker (first_text ls)) (λ _. tt)
+      (λ _. choose (Answers f.size (NextLeft f low)) (begins ascii.tab (first_text (spaces_dropped ls)))
+      (λ _. starts-in (left-spaces h)) (λ _. left-spaces h))
+
+  pub content-in : (low : ℕ) (ls : List Line) → AreLeft f low ls → Answers f.size (NextLeft f low) (content ls)
+  content-in low [] h = tt
+  content-in low (l ∷ ls) h =
+      choose (Answers f.size (NextLeft f low)) (is_skipped l.text)
+      (λ _. choose (Answers f.size (NextLeft f low)) l.last (λ _. tt) (λ e. content-in low ls (left-below e h)))
+      (λ _. content_line-in low (l ∷ ls) h)
+
+  pub line_ended-in : (low : ℕ) (ls : List Line) → AreLeft f low ls → Answers f.size (AreLeft f low) (line_ended ls)
+  line_ended-in low ls h =
+      choose (Answers f.size (AreLeft f low)) (ends_line (first_text ls)) (λ _. left-whole h) (λ _. starts-in (left-blanks h))
+
+  -- ---- the start of a document, and its end
+
+  first_line-in : (low : ℕ) (ls : List Line) → AreLeft f low ls → Answers f.size (AreLeft f low) (first_line ls)
+  first_line-in low ls h =
+      choose (Answers f.size (AreLeft f low)) (begins ascii.percent (first_text ls)) (λ _. starts-in h)
+      (λ _. choose (Answers f.size (AreLeft f low)) (is_marker ascii.dash (first_text ls))
+      (λ e. line_ended-in low (behind 3 ls) (left-behind 3 (marker-utf8 ascii.dash ls (omega arith) e) h)) (λ _. h))
+
+  pub document_start-in : (low : ℕ) (ls : List Line) → AreLeft f low ls → Answers f.size (AreLeft f low) (document_start ls)
+  document_start-in low [] h = h
+  document_start-in low (l ∷ ls) h =
+      choose (Answers f.size (AreLeft f low)) (is_skipped l.text)
+      (λ _. choose (Answers f.size (AreLeft f low)) l.last (λ _. left-at_end h) (λ e. document_start-in low ls (left-below e h)))
+      (λ _. first_line-in low (l ∷ ls) h)
+
+module _ (size : ℕ) where
+  ended_behind-in : (low : ℕ) (ls : List Line) → Stand size low ls → Answers size Anything (ended_behind ls)
+  ended_behind-in low [] h = tt
+  ended_behind-in low (l ∷ ls) h =
+      choose (Answers size Anything) (is_skipped l.text)
+      (λ _. choose (Answers size Anything) l.last (λ _. tt) (λ e. ended_behind-in low ls (stand-below size low l ls e h)))
+      (λ _. start-in size low (blanks_dropped (l ∷ ls)) (stand-blanks size low (l ∷ ls) h))
+
+  last_line-in : (low : ℕ) (ls : List Line) → Stand size low ls → Answers size Anything (last_line ls)
+  last_line-in low ls h =
+      let left = start-in size low (spaces_dropped ls) (stand-spaces size low ls h) in
+      choose (Answers size Anything) (is_marker ascii.dash (first_text ls)) (λ _. start-in size low ls h)
+      (λ _. choose (Answers size Anything) (is_marker dot (first_text ls))
+      (λ _. ended_behind-in low (behind 3 ls) (stand-behind size 3 low ls h))
+      (λ _. choose (Answers size Anything) (begins ascii.tab (first_text (spaces_dropped ls))) (λ _. left) (λ _. left)))
+
+  pub document_end-in : (low : ℕ) (ls : List Line) → Stand size low ls → Answers size Anything (document_end ls)
+  document_end-in low [] h = tt
+  document_end-in low (l ∷ ls) h =
+      choose (Answers size Anything) (is_skipped l.text)
+      (λ _. choose (Answers size Anything) l.last (λ _. tt) (λ e. document_end-in low ls (stand-below size low l ls e h)))
+      (λ _. last_line-in low (l ∷ ls) h)
