@@ -52,7 +52,7 @@ abbrev pub AreCalled : List (List ℕ × List ℕ) → List (List ℕ × List �
 AreCalled first [] = Unit {0}
 AreCalled first (e ∷ es) = (has_path (called_by first) e.0 ≡ true) × AreCalled (first ++ e ∷ []) es
 
--- Files in order: first those that these FILEs ask for, and then files that others call which stand before them.
+-- Files in order: first those that these FILEs ask for, and then others, each called by a file that stands before it.
 pub record AreInOrder (words : List (List ℕ)) (files : List (List ℕ × List ℕ)) : Type 0 where
   pub first : List (List ℕ × List ℕ)
   pub behind : List (List ℕ × List ℕ)

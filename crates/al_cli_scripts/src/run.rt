@@ -62,18 +62,10 @@ pub fn run_session<R: Read, W: Write>(
 {
     // A proof knows that a count fits its type where the body reads it.
     let _turns_before = reader.turns();
-    let mut session = Session::open(alloc, Actions::new());
-    let mut waiting: Vec<u8> = Vec::new(alloc);
+    let mut run = Run::new(alloc, oneline);
     let mut piece = empty_piece(alloc)?;
     for _turn in 0..MOST_READS {
-        match take_turn(
-            &mut session,
-            &mut waiting,
-            &mut piece,
-            reader,
-            writer,
-            oneline,
-        )? {
+        match run.take_turn(&mut piece, reader, writer)? {
             Some(answer) => return Ok(answer),
             None => {}
         }
@@ -88,41 +80,64 @@ fn empty_piece(alloc: Global) -> Result<Vec<u8>, AllocError>
     vec![in alloc; 0u8; LARGEST_READ]
 }
 
-// One read, and the answers to what came. `Some` is the answer of a run that is over.
-fn take_turn<R: Read, W: Write>(
-    session: &mut Session<Actions>,
-    waiting: &mut Vec<u8>,
-    piece: &mut [u8],
-    reader: &mut Input<R>,
-    writer: &mut Output<W>,
+// A run of a script between two reads.
+#[derive(Drop)]
+struct Run {
     oneline: bool,
-) -> Result<Option<u8>, Stop>
-    requires room { length piece.old ≡ largest_read }
-    requires pending { IsPending waiting.old.items }
-    ensures turn { Turns (replies.session oneline)
-        (run_state session.old.folder waiting.old.items (bytes_left R.remaining reader.old)
-        (bytes_written W.contents writer.old))
-        (run_state session.new.folder waiting.new.items (bytes_left R.remaining reader.new)
-        (bytes_written W.contents writer.new))
-        result }
-    ensures turns { turns_of reader.new ≡ raised (turns_of reader.old) 1 }
-    ensures asked { largest_ask reader.new ≡ max (largest_ask reader.old) largest_read }
-    ensures read_failures { CountsFailures result Stop.ReadFault (read_failures reader.old)
-        (read_failures reader.new) }
-    ensures write_failures { CountsFailures result Stop.WriteFault (write_failures writer.old)
-        (write_failures writer.new) }
-{
-    let count = reader.read(piece)?;
-    if count == 0 {
-        return Ok(Some(finish(session, waiting, writer)?));
+    session: Session<Actions>,
+    // the bytes behind the last whole command
+    waiting: Vec<u8>,
+}
+
+impl Run {
+    // A run that has read nothing.
+    fn new(alloc: Global, oneline: bool) -> Run
+        ensures oneline { result.oneline ≡ oneline }
+        ensures folder { result.session.folder ≡ [] }
+        ensures waiting { result.waiting.items ≡ [] }
+    {
+        Run {
+            oneline,
+            session: Session::open(alloc, Actions::new()),
+            waiting: Vec::new(alloc),
+        }
     }
-    waiting.extend_from_slice(&piece[..count])?;
-    match answer_all(session, waiting, writer, oneline)? {
-        Progress::Bad => Ok(Some(2)),
-        Progress::Waits(done) => {
-            drop_front(waiting, done);
-            writer.flush()?;
-            Ok(None)
+
+    // One read, and the answers to what came. `Some` is the answer of a run that is over.
+    fn take_turn<R: Read, W: Write>(
+        &mut self,
+        piece: &mut [u8],
+        reader: &mut Input<R>,
+        writer: &mut Output<W>,
+    ) -> Result<Option<u8>, Stop>
+        requires room { length piece.old ≡ largest_read }
+        requires pending { IsPending self.old.waiting.items }
+        ensures turn { Turns (replies.session self.old.oneline)
+            (run_state self.old.session.folder self.old.waiting.items
+            (bytes_left R.remaining reader.old) (bytes_written W.contents writer.old))
+            (run_state self.new.session.folder self.new.waiting.items
+            (bytes_left R.remaining reader.new) (bytes_written W.contents writer.new))
+            result }
+        ensures oneline { self.new.oneline ≡ self.old.oneline }
+        ensures turns { turns_of reader.new ≡ raised (turns_of reader.old) 1 }
+        ensures asked { largest_ask reader.new ≡ max (largest_ask reader.old) largest_read }
+        ensures read_failures { CountsFailures result Stop.ReadFault (read_failures reader.old)
+            (read_failures reader.new) }
+        ensures write_failures { CountsFailures result Stop.WriteFault
+            (write_failures writer.old) (write_failures writer.new) }
+    {
+        let count = reader.read(piece)?;
+        if count == 0 {
+            return Ok(Some(finish(&mut self.session, &self.waiting, writer)?));
+        }
+        self.waiting.extend_from_slice(&piece[..count])?;
+        match answer_all(&mut self.session, &self.waiting, writer, self.oneline)? {
+            Progress::Bad => Ok(Some(2)),
+            Progress::Waits(done) => {
+                drop_front(&mut self.waiting, done);
+                writer.flush()?;
+                Ok(None)
+            }
         }
     }
 }

@@ -13,9 +13,10 @@ use Rattle.al_cli_scripts.proofs.run.run_session.Goals as goal
 pub loop-turn-init : goal.loop-turn-init
 loop-turn-init g c = record {
   room = c.in_ok-piece.ensures;
+  kind = c.new-run.ensures.oneline;
   asked = refl;
   asks = λ h. absurd (omega (arith, h));
-  paused = ([], omega arith, rw (c.open-session.ensures.folder, c.new-waiting.ensures.items) (Paused-none (session c.args.oneline) [] _ _));
+  paused = ([], omega arith, rw (c.new-run.ensures.folder, c.new-run.ensures.waiting) (Paused-none (session c.args.oneline) [] _ _));
   turns = search (rules, common_steps);
   reads_well = refl;
   writes_well = refl;
@@ -30,7 +31,7 @@ pub returns-in_err-answer-clause-stop : goal.returns-in_err-answer-clause-stop
 returns-in_err-answer-clause-stop g c =
     let p = err_from_is_err_and c.from_residual-in_err-answer.result c.from_residual-in_err-answer.ensures.1 in
     let s = c.loop-turn.invariant.paused in
-    rw (p.1, p.2) (Stops-after (session c.args.oneline) [] s.0 _ _ _ _ _ s.2 c.in_err-answer.ensures.turn)
+    rw (p.1, p.2) (Stops-after (session c.args.oneline) [] s.0 _ _ _ _ _ s.2 (rw c.loop-turn.invariant.kind at c.in_err-answer.ensures.turn))
 
 pub returns-in_err-answer-clause-read_failures : goal.returns-in_err-answer-clause-read_failures
 returns-in_err-answer-clause-read_failures g c =
@@ -47,15 +48,16 @@ returns-in_err-answer-clause-write_failures g c =
 pub returns-in-Some-clause-end : goal.returns-in-Some-clause-end
 returns-in-Some-clause-end g c =
     let s = c.loop-turn.invariant.paused in
-    let r = rw c.in-Some.is at c.in_ok-answer.ensures.turn in
+    let r = rw (c.in-Some.is, c.loop-turn.invariant.kind) at c.in_ok-answer.ensures.turn in
     Runs-after (session c.args.oneline) [] _ _ s.0 _ _ _ _ _ _ s.2 r.0
 
 pub loop-turn-preserved : goal.loop-turn-preserved
 loop-turn-preserved g c =
     let s = c.loop-turn.invariant.paused in
-    let t : GoesOn (session c.args.oneline) _ _ = rw c.in-None.is at c.in_ok-answer.ensures.turn in
+    let t : GoesOn (session c.args.oneline) _ _ = rw (c.in-None.is, c.loop-turn.invariant.kind) at c.in_ok-answer.ensures.turn in
     record {
       room = search (rules, common_steps);
+      kind = search (rules, common_steps);
       asked = asked_again _ _ _ c.loop-turn.invariant.asked c.take_turn.ensures.asked;
       asks = λ h. c.take_turn.ensures.asked ∙ c.loop-turn.invariant.asked;
       paused = (s.0 ++ t.read, omega (arith, length-append s.0 t.read, t.some), Paused-more (session c.args.oneline) [] s.0 _ _ _ _ s.2 t);
@@ -67,7 +69,7 @@ loop-turn-preserved g c =
 pub returns-in-Some-clause-last_read : goal.returns-in-Some-clause-last_read
 returns-in-Some-clause-last_read g c =
     let s = c.loop-turn.invariant.paused in
-    let r = rw c.in-Some.is at c.in_ok-answer.ensures.turn in
+    let r = rw (c.in-Some.is, c.loop-turn.invariant.kind) at c.in_ok-answer.ensures.turn in
     Last-after (session c.args.oneline) [] _ _ s.0 _ _ _ _ _ s.2 r.1
 
 pub returns-in_err-answer-clause-asked : goal.returns-in_err-answer-clause-asked

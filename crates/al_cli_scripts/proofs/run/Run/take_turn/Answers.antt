@@ -4,7 +4,7 @@ use Rattle.std.proofs.KnownBytes.{Keeps-refl, Appends-kept}
 use Rattle.std.proofs.lemmas.Result.{err_from_is_err_and}
 use Rattle.al_cli_scripts.specs.Replies.{session}
 use Rattle.al_cli_scripts.proofs.Turns.{turn_end, turn_end_cut, turn_unwritten, turn_stuck, turn_answered, turn_bad, TurnStops-cut}
-use Rattle.al_cli_scripts.proofs.run.take_turn.Goals as goal
+use Rattle.al_cli_scripts.proofs.run.Run.take_turn.Goals as goal
 
 pub finish-requires : goal.finish-requires
 finish-requires g c = rw c.deref.ensures.value c.requires.pending.unfinished
@@ -16,10 +16,10 @@ returns-in_err-finish-clause-turn g c =
     let k = rw z at c.in_ok-count.ensures.bytes.0 in
     let end = c.in_ok-count.ensures.bytes.1 z (search rules) in
     let w = rw c.deref.ensures.value at c.in_err-finish.ensures.err in
-    rw (p.1, p.2) (TurnStops-cut (session c.args.oneline) _ _ _ c.in_err-finish.ensures.only
+    rw (p.1, p.2) (TurnStops-cut (session c.args.self.now.oneline) _ _ _ c.in_err-finish.ensures.only
     (elim w [
-      | inl x ↦ turn_end_cut (session c.args.oneline) _ _ _ _ _ _ k end c.requires.pending.unfinished x.0 x.1
-      | inr x ↦ turn_unwritten (session c.args.oneline) _ _ _ _ _ x
+      | inl x ↦ turn_end_cut (session c.args.self.now.oneline) _ _ _ _ _ _ k end c.requires.pending.unfinished x.0 x.1
+      | inr x ↦ turn_unwritten (session c.args.self.now.oneline) _ _ _ _ _ x
     ]))
 
 pub returns-then-count-eq0-clause-turn : goal.returns-then-count-eq0-clause-turn
@@ -27,39 +27,40 @@ returns-then-count-eq0-clause-turn g c =
     let e = rw c.deref.ensures.value at c.in_ok-finish.ensures.ok in
     let z : c.in_ok-count.count ≡ 0 = search rules in
     let k = rw z at c.in_ok-count.ensures.bytes.0 in (
-      turn_end (session c.args.oneline) _ _ e.0 _ _ _ _ _ k (c.in_ok-count.ensures.bytes.1 z (search rules)) e.1 e.2,
+      turn_end (session c.args.self.now.oneline) _ _ e.0 _ _ _ _ _ k (c.in_ok-count.ensures.bytes.1 z (search rules)) e.1 e.2,
       ([], omega arith, k, inl refl),
     )
 
 pub returns-in_err-extend_from_slice-clause-turn : goal.returns-in_err-extend_from_slice-clause-turn
 returns-in_err-extend_from_slice-clause-turn g c =
     let p = err_from_is_err_and c.from_residual-in_err-extend_from_slice.result c.from_residual-in_err-extend_from_slice.ensures.1 in
-    rw (p.1, p.2) (turn_unwritten (session c.args.oneline) _ _ _ _ _ (Keeps-refl _))
+    rw (p.1, p.2) (turn_unwritten (session c.args.self.now.oneline) _ _ _ _ _ (Keeps-refl _))
 
 pub returns-in_err-answer_all-clause-turn : goal.returns-in_err-answer_all-clause-turn
 returns-in_err-answer_all-clause-turn g c =
     let p = err_from_is_err_and c.from_residual-in_err-answer_all.result c.from_residual-in_err-answer_all.ensures.1 in
-    let e : c.deref-2.result.now ≡ c.args.waiting.now.items ++ take c.in_ok-count.count c.read.new.buf = search (rules, common_steps) in
-    rw (p.1, p.2) (TurnStops-cut (session c.args.oneline) _ _ _ c.in_err-answer_all.ensures.only
-    (turn_stuck (session c.args.oneline) _ c.args.waiting.now.items (take c.in_ok-count.count c.read.new.buf) _ _ _ _ c.in_ok-count.ensures.bytes.0 (rw e at c.in_err-answer_all.ensures.err)))
+    let e : c.deref-2.result.now ≡ c.args.self.now.waiting.items ++ take c.in_ok-count.count c.read.new.buf = search (rules, common_steps) in
+    rw (p.1, p.2) (TurnStops-cut (session c.args.self.now.oneline) _ _ _ c.in_err-answer_all.ensures.only
+    (turn_stuck (session c.args.self.now.oneline) _ c.args.self.now.waiting.items (take c.in_ok-count.count c.read.new.buf) _ _ _ _
+    c.in_ok-count.ensures.bytes.0 (rw e at c.in_err-answer_all.ensures.err)))
 
 pub returns-in_err-flush-in-Waits-clause-turn : goal.returns-in_err-flush-in-Waits-clause-turn
 returns-in_err-flush-in-Waits-clause-turn g c =
     let p = err_from_is_err_and c.from_residual-in_err-flush-in-Waits.result c.from_residual-in_err-flush-in-Waits.ensures.1 in
-    let e : c.deref-2.result.now ≡ c.args.waiting.now.items ++ take c.in_ok-count.count c.read.new.buf = search (rules, common_steps) in
+    let e : c.deref-2.result.now ≡ c.args.self.now.waiting.items ++ take c.in_ok-count.count c.read.new.buf = search (rules, common_steps) in
     let s = rw (c.in-Waits.is, e) at c.in_ok-answer_all.ensures.ok in
     rw (p.1, p.2, c.in_err-flush-in-Waits.ensures.err)
-    (turn_answered (session c.args.oneline) _ _ c.args.waiting.now.items (take c.in_ok-count.count c.read.new.buf) s.0 _ _ _ _ _
+    (turn_answered (session c.args.self.now.oneline) _ _ c.args.self.now.waiting.items (take c.in_ok-count.count c.read.new.buf) s.0 _ _ _ _ _
     c.in_ok-count.ensures.bytes.0 s.1
     (Appends-kept _ _ _ s.0 s.4 c.in_err-flush-in-Waits.ensures.bytes))
 
 pub returns-in-Bad-clause-turn : goal.returns-in-Bad-clause-turn
 returns-in-Bad-clause-turn g c =
-    let e : c.deref-2.result.now ≡ c.args.waiting.now.items ++ take c.in_ok-count.count c.read.new.buf = search (rules, common_steps) in
+    let e : c.deref-2.result.now ≡ c.args.self.now.waiting.items ++ take c.in_ok-count.count c.read.new.buf = search (rules, common_steps) in
     let s = rw (c.in-Bad.is, e) at c.in_ok-answer_all.ensures.ok in
     let room : length c.read.new.buf ≡ 65536 = search (rules, common_steps) in
     let some : c.in_ok-count.count ≤ length c.read.new.buf = search (rules, common_steps) in
     let short : length (take c.in_ok-count.count c.read.new.buf) ≤ 65536 = omega (arith, some, room, length-take-le c.in_ok-count.count c.read.new.buf some) in (
-      turn_bad (session c.args.oneline) _ _ c.args.waiting.now.items (take c.in_ok-count.count c.read.new.buf) s.0 s.1 _ _ _ _ c.in_ok-count.ensures.bytes.0 s.2 s.3 s.4,
+      turn_bad (session c.args.self.now.oneline) _ _ c.args.self.now.waiting.items (take c.in_ok-count.count c.read.new.buf) s.0 s.1 _ _ _ _ c.in_ok-count.ensures.bytes.0 s.2 s.3 s.4,
       (take c.in_ok-count.count c.read.new.buf, short, c.in_ok-count.ensures.bytes.0, inr (_, s.0, s.1, s.2, s.3)),
     )
