@@ -8,7 +8,7 @@ use Rattle.al_yaml_tree.specs.Spans.{IsBetween, IsPlacedIn, ArePlacedIn, Entries
 -- ---- wider bounds
 
 module _ (size : ℕ) where
-  pub bounds_in : (low high : ℕ) (n : Node) → IsPlacedIn size low high n → IsBetween low high (span_of n)
+  bounds_in : (low high : ℕ) (n : Node) → IsPlacedIn size low high n → IsBetween low high (span_of n)
   bounds_in low high (scalar s at) h = h.0
   bounds_in low high (sequence ns at) h = h.0
   bounds_in low high (mapping es at) h = h.0
@@ -44,9 +44,6 @@ module _ (size : ℕ) where
     wider_in (span_of l).end at (span_of l).end high w (omega arith) b h.1,
     behind-entry (span_of w).end at high es k v (bounds_in (span_of l).end at w h.1).to b h.2 x y,
   )
-
-  pub over : (low high : ℕ) (n : Node) → IsPlacedIn size low high n → low ≤ high
-  over low high n h = let b = bounds_in low high n h in omega (arith, b.from, b.ordered, b.to)
 
 -- ---- a file of more bytes
 
