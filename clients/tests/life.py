@@ -239,7 +239,7 @@ def pipes_and_devices(program: str) -> None:
 def what_changes_between_the_look_and_the_opening(program: str) -> None:
     """What was opened is looked at: a pipe that took a file's place isn't waited for, nor is a file outside read."""
     with tempfile.TemporaryDirectory(prefix="actionlint-test-") as top:
-        root, file = top + "/root", top + "/root/" + FILE
+        root, file = top + "/folder", top + "/folder/" + FILE
         for replaced in ("pipe", "link"):
             write(root, {FILE: RIGHT})
             write(top, {"outside.yml": "SECRET: x\n"})
