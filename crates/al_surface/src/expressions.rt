@@ -214,48 +214,56 @@ fn types_stand_for_others(rt: HostRuntime) {
 }
 
 /// A place where `github`, an object without fields, is the only context, and no special function is available.
+fn context_types(alloc: Global) -> ContextTypes {
+    ContextTypes {
+        github: Ty::Object {
+            fields: Vec::new(alloc),
+            rest: None,
+        },
+        env: Ty::Any,
+        vars: Ty::Any,
+        secrets: Ty::Any,
+        runner: Ty::Any,
+        job: Ty::Any,
+        strategy: Ty::Any,
+        needs: Ty::Any,
+        jobs: Ty::Any,
+        steps: Ty::Any,
+        matrix: Ty::Any,
+        inputs: Ty::Any,
+    }
+}
+
+fn only_github() -> Available {
+    Available {
+        contexts: ContextSet {
+            github: true,
+            env: false,
+            vars: false,
+            secrets: false,
+            runner: false,
+            job: false,
+            strategy: false,
+            needs: false,
+            jobs: false,
+            steps: false,
+            matrix: false,
+            inputs: false,
+        },
+        functions: FunctionSet {
+            hash_files: false,
+            success: false,
+            always: false,
+            cancelled: false,
+            failure: false,
+        },
+    }
+}
+
 fn scope(alloc: Global) -> Scope {
     Scope {
-        types: ContextTypes {
-            github: Ty::Object {
-                fields: Vec::new(alloc),
-                rest: None,
-            },
-            env: Ty::Any,
-            vars: Ty::Any,
-            secrets: Ty::Any,
-            runner: Ty::Any,
-            job: Ty::Any,
-            strategy: Ty::Any,
-            needs: Ty::Any,
-            jobs: Ty::Any,
-            steps: Ty::Any,
-            matrix: Ty::Any,
-            inputs: Ty::Any,
-        },
-        available: Available {
-            contexts: ContextSet {
-                github: true,
-                env: false,
-                vars: false,
-                secrets: false,
-                runner: false,
-                job: false,
-                strategy: false,
-                needs: false,
-                jobs: false,
-                steps: false,
-                matrix: false,
-                inputs: false,
-            },
-            functions: FunctionSet {
-                hash_files: false,
-                success: false,
-                always: false,
-                cancelled: false,
-                failure: false,
-            },
-        },
+        types: context_types(alloc),
+        available: only_github(),
         in_run: false,
     }
 }
