@@ -1,7 +1,8 @@
 -- Where texts and names first stand in a list.
 use Rattle.std.specs.Prelude.{ℕ, ◌+◌, List, [], ◌∷◌, Bool, Option, Some, None, option_map, if◌then◌else◌}
 use Rattle.std.specs.Str.{bytes_eq}
-use Rattle.al_base.specs.Names.{same_name}
+use Rattle.al_base.specs.Names.{folded, same_name}
+use Rattle.al_base.specs.SortedTexts.{position_among}
 use Rattle.al_base.specs.declared.name_positions.NamePositions.{NamePositions}
 use Rattle.al_base.specs.declared.name_positions.TextPositions.{TextPositions}
 
@@ -20,8 +21,8 @@ text_place ts t = first_at (λ u. bytes_eq u t) ts
 
 -- where a text first stands
 unfoldable pub text_position : TextPositions → List ℕ → Option ℕ
-text_position p text = None
+text_position p = position_among (λ t. t.now) p.entries.items
 
 -- where a name first stands
 unfoldable pub name_position : NamePositions → List ℕ → Option ℕ
-name_position p name = None
+name_position p name = position_among (λ n. n.items) p.entries.items (folded name)

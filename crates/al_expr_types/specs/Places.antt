@@ -1,16 +1,15 @@
 -- Where names stand: by an index, where there is one.
 use Rattle.std.specs.Prelude.{◌≡◌, ℕ, List, Option, Some, None, if◌then◌else◌}
 use Rattle.std.specs.BTreeMap.{get_by}
-use Rattle.std.specs.Cmp.Lexicographic.{slice_cmp}
 use Rattle.std.specs.Option.{option_or}
-use Rattle.std.specs.Ordering.{nat_cmp}
 use Rattle.al_base.specs.Names.{folded, same_name}
 use Rattle.al_base.specs.NamePlaces.{name_place}
+use Rattle.al_base.specs.SortedTexts.{key_cmp, key_of}
 use Rattle.al_expr_types.specs.declared.name_index.NameIndex.{NameIndex}
 
 -- where a name first stands by an index
 unfoldable pub place_in : NameIndex → List ℕ → Option ℕ
-place_in index name = get_by (λ k. slice_cmp nat_cmp (folded name) k.items) index.positions
+place_in index name = get_by (λ k. key_cmp (key_of (folded name)) (k.0, k.1.items)) index.positions
 
 -- an index that tells of each name where it first stands among names
 abbrev pub IsNameIndex : NameIndex → List (List ℕ) → Type 0

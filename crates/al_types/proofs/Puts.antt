@@ -1,8 +1,8 @@
 -- Fields put to others: behind them, at the one that has the name, or not at all.
-use Rattle.std.proofs.Common.{◌≡◌, ℕ, ◌+◌, List, [], ◌∷◌, ◌++◌, refl, sym, ap, ◌∙◌, Bool, true, false, Option, Some, None, option_map, length, set, get_or, zero, suc, arith}
+use Rattle.std.proofs.Common.{◌≡◌, ℕ, ◌+◌, List, [], ◌∷◌, ◌++◌, refl, sym, ap, ◌∙◌, Bool, true, false, Option, Some, None, option_map, set, get_or, suc, arith}
 use Rattle.std.specs.Prelude.{if◌then◌else◌, is_none}
 use Rattle.al_base.specs.Names.{same_name}
-use Rattle.al_types.specs.Types.{Type', fuse_type}
+use Rattle.al_types.specs.Types.{fuse_type}
 use Rattle.al_types.specs.Puts.{Typed, put, put_new}
 use Rattle.al_types.specs.Indexes.{name_at}
 
