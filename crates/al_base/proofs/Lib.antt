@@ -11,3 +11,4 @@ pub mod ShownTexts
 pub mod TwoTexts
 pub mod SameName
 pub mod NamePlaces
+pub mod SortedTexts

@@ -1,6 +1,7 @@
 pub mod Limits
 pub mod Ascii
 pub mod Names
+pub mod SortedTexts
 pub mod NamePlaces
 pub mod Spans
 pub mod Streams

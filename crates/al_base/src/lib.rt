@@ -2,7 +2,8 @@
 //!
 //! - faults, in `codes`, `args`, `faults`, `sink`, `lists` and `copies`: a span, a code and the texts of a message; where they go as they
 //!   are found; their order, and a file's list of them
-//! - names in which case does not count, in `names`, and where texts and names first stand in a list, in `name_positions`
+//! - names in which case does not count, in `names`, and where texts and names first stand in a list, in `name_positions` and
+//!   `sorted_texts`
 //! - paths, in `paths`: which texts name a file of a folder
 //! - control bytes of texts that are printed, in `controls`
 //! - positions, in `positions` and `lines`: the line and the column of an offset
@@ -25,6 +26,7 @@ mod names;
 mod paths;
 mod positions;
 mod sink;
+mod sorted_texts;
 mod stops;
 mod streams;
 
@@ -44,5 +46,6 @@ pub use names::is_same_name;
 pub use paths::{Path, PathFault, path_fault};
 pub use positions::{Location, is_char_start, location_of, position};
 pub use sink::FaultSink;
+pub use sorted_texts::last_bytes;
 pub use stops::Stop;
 pub use streams::{Input, Output};

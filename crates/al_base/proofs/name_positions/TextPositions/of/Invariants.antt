@@ -1,0 +1,7 @@
+use Rattle.std.proofs.Common.{◌≡◌, map, take}
+use Rattle.al_base.specs.NamePlaces.{text_place}
+use Rattle.al_base.specs.SortedTexts.{position_among}
+use Rattle.al_base.proofs.name_positions.TextPositions.of.Given as goal
+
+abbrev pub invariant-loop-i : goal.invariant-loop-i
+invariant-loop-i l = position_among (λ t. t.now) l.entries.items ≡ text_place (map (λ t. t.now) (take l.i l.texts))

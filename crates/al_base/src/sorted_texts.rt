@@ -1,0 +1,82 @@
+//! Texts in order, each with where it stands in the list that it comes from.
+
+ghost use Rattle.std.specs.Prelude.{◌≡◌, IfOk};
+ghost use Rattle.al_base.specs.SortedTexts.{AreSorted, entry_key, key_cmp, key_of, number_of, position_among};
+
+use std::alloc::AllocError;
+use std::cmp::Ordering;
+use std::convert::AsSlice;
+
+/// The last eight bytes of a text as one number, which tells most texts apart at once.
+pub fn last_bytes(text: &[u8]) -> u64
+    ensures { result ≡ number_of text.now }
+{
+    let mut number: u64 = 0;
+    for byte in text {
+        number = number.wrapping_mul(256).wrapping_add(u64::from(*byte));
+    }
+    number
+}
+
+/// A text and where it stands, with its last bytes in front.
+#[derive(Drop)]
+pub(crate) struct Entry<T> {
+    number: u64,
+    text: T,
+    position: usize,
+}
+
+impl<T: AsSlice<u8> + Drop> Entry<T> {
+    /// A text at a position.
+    pub(crate) fn new(text: T, position: usize) -> Entry<T>
+        ensures key { entry_key T.items result ≡ key_of (T.items text) }
+        ensures position { result.position ≡ position }
+    {
+        let number = last_bytes(text.as_slice());
+        Entry {
+            number,
+            text,
+            position,
+        }
+    }
+
+    /// How it compares with a text that has this number.
+    fn compare(&self, number: u64, text: &[u8]) -> Ordering
+        ensures { result ≡ key_cmp (entry_key T.items self.now) (number, text.now) }
+    {
+        match self.number.cmp(&number) {
+            Ordering::Equal => self.text.as_slice().cmp(text),
+            unequal => unequal,
+        }
+    }
+}
+
+/// The entries in order. Those of equal texts stay in the order that they had. Fails with `AllocError` when out of memory.
+pub(crate) fn sort_entries<T: AsSlice<u8> + Drop>(
+    entries: Vec<Entry<T>>,
+) -> Result<Vec<Entry<T>>, AllocError>
+    ensures order { IfOk result (λ es. AreSorted T.items es.items) }
+    ensures positions { IfOk result
+        (λ es. position_among T.items es.items ≡ position_among T.items entries.items) }
+{
+    let mut sorted = entries;
+    sorted.sort_by(|a, b| a.compare(b.number, b.text.as_slice()))?;
+    Ok(sorted)
+}
+
+/// Where a text first stands, by entries in order.
+pub(crate) fn position_by<T: AsSlice<u8> + Drop>(entries: &[Entry<T>], text: &[u8]) -> Option<usize>
+    requires { AreSorted T.items entries.now }
+    ensures { result ≡ position_among T.items entries.now text.now }
+{
+    let number = last_bytes(text);
+    let i = entries.partition_point(|entry| entry.compare(number, text).is_lt());
+    if i >= entries.len() {
+        return None;
+    }
+    let entry = &entries[i];
+    if entry.compare(number, text).is_eq() {
+        return Some(entry.position);
+    }
+    None
+}
