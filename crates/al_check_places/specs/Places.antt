@@ -40,11 +40,10 @@ rule_or_any None = record { scalars = AnyScalar; items = Some Any; keys_of = fre
 
 abbrev pub has_no_keys : Keys → Bool
 has_no_keys no_keys = true
-has_no_keys (free s) = false
-has_no_keys (keys o fs) = false
+has_no_keys _ = false
 
 abbrev pub takes_scalars_only : Rule → Bool
-takes_scalars_only r = option_map_or (λ s. false) r.items (has_no_keys r.keys_of)
+takes_scalars_only r = is_none r.items && has_no_keys r.keys_of
 
 abbrev pub available_at : FileKind → List WayStep → Option Row
 available_at kind.Workflow way = availability (keys_of way)
@@ -76,10 +75,8 @@ scalar_places k r is_item way s at =
 
 -- of an entry, given the places of its value as a node of a shape
 abbrev pub entry_places : Standing → (Shape → List Place) → List Place
-entry_places repeated value = []
-entry_places (unexpected other) value = []
-entry_places ignored value = []
 entry_places (expected s other) value = value s
+entry_places _ value = []
 
 abbrev mutual
   -- the places of a node at the end of a way, where it should have a shape and may be an item of a list
