@@ -1,12 +1,15 @@
--- The keys of the first entries of a mapping.
-use Rattle.std.proofs.Common.{◌≡◌, ◌≤◌, ℕ, ◌+◌, zero, suc, Bool, true, false, List, [], ◌∷◌, length, map, take, refl, sym, ap, ◌∙◌, ◌||◌}
-use Rattle.std.specs.Prelude.{Option, Some, None, option_map, if◌then◌else◌}
-use Rattle.std.specs.Option.{option_map_or}
+-- The keys of the first entries of a mapping, and where keys and names first stand.
+use Rattle.std.proofs.Common.{◌≡◌, Bor, ◌≤◌, ◌<◌, ℕ, ◌+◌, zero, suc, Bool, true, false, List, [], ◌∷◌, length, map, take, get_or, refl, sym, ap, subst, absurd, arith, add-one, ◌∙◌, ◌||◌}
+use Rattle.std.specs.Prelude.{Option, Some, None, is_none, nat_eq, nat_lt, option_map, if◌then◌else◌}
+use Rattle.std.specs.Option.{option_eq}
 use Rattle.std.specs.Str.{bytes_eq}
 use Rattle.std.specs.Cmp.{nat_eq_equiv, partial_equiv_from_equiv, IsPartialEquivalence}
 use Rattle.std.specs.Cmp.Lexicographic.{lists_per}
-use Rattle.std.proofs.lemmas.List.{take-map, take_all}
-use Rattle.al_base.specs.NamePlaces.{first_at, text_place, text_position}
+use Rattle.std.proofs.Math.ListN.{get_or-map}
+use Rattle.std.proofs.lemmas.List.{length-map, take-map, take_all}
+use Rattle.std.proofs.lemmas.Slice.Eq.{bytes_eq-Decides}
+use Rattle.al_base.specs.Names.{folded, same_name}
+use Rattle.al_base.specs.NamePlaces.{first_at, name_place, text_place, text_position}
 use Rattle.al_base.specs.declared.name_positions.TextPositions.{TextPositions}
 use Rattle.al_yaml_tree.specs.View.{entry_view}
 use Rattle.al_yaml_tree.specs.declared.node.Entry.{Entry}
@@ -24,7 +27,7 @@ before_none (Some i) = refl
 
 before_more : (n : ℕ) (place : Option ℕ) → is_before (suc n) (option_map (λ i. i + 1) place) ≡ is_before n place
 before_more n None = refl
-before_more n (Some i) = refl
+before_more n (Some i) = ap (λ j. nat_lt j (suc n)) (add-one i)
 
 here_or_behind : (here : Bool) (n : ℕ) (place : Option ℕ) (behind : Bool) → is_before n place ≡ behind →
     is_before (suc n) (if here then Some 0 else option_map (λ i. i + 1) place) ≡ (here || behind)
@@ -39,18 +42,56 @@ placed_before (u ∷ us) (suc n) t =
     here_or_behind (bytes_eq u t) n (text_place us t) (among (take n us) t) (placed_before us n t)
     ∙ ap (λ b. b || among (take n us) t) (bytes_swap u t)
 
--- what an index of many keys tells
-pub many_keys : (x : KeyIndex) (p : TextPositions) (es : List Entry) → x.positions ≡ Some p →
-    text_position p ≡ text_place (keys_in (map entry_view es)) → IsIndexOf x es
+-- what an index of few keys tells, and one of many
+pub few_keys : (es : Bor (List Entry)) → IsIndexOf (record { entries = es; positions = None }) es.now
 unfolding has_first
-many_keys x p es at is = λ i n k.
-    (ap (λ o. option_map_or (λ q. is_before n (text_position q k)) o (among (keys_in (map entry_view (take n x.entries.now))) k)) at
-    ∙ ap (λ f. is_before n (f k)) is
-    ∙ placed_before (keys_in (map entry_view es)) n k
-    ∙ ap (λ ks. among ks k) (take-map key_of n (map entry_view es) ∙ ap keys_in (take-map entry_view n es))) i
+few_keys es = refl
+
+pub many_keys : (es : Bor (List Entry)) (p : TextPositions) → text_position p ≡ text_place (keys_in (map entry_view es.now)) →
+    IsIndexOf (record { entries = es; positions = Some p }) es.now
+unfolding has_first
+many_keys es p is = λ i n k.
+    (ap (λ f. is_before n (f k)) is
+    ∙ placed_before (keys_in (map entry_view es.now)) n k
+    ∙ ap (λ ks. among ks k) (take-map key_of n (map entry_view es.now) ∙ ap keys_in (take-map entry_view n es.now))) i
 
 -- all keys of a mapping
 pub all_keys : (x : KeyIndex) (s : KeySet) (es : List Entry) (n : ℕ) → IsIndexOf x es → holds s ≡ has_first x n → length es ≤ n →
     holds s ≡ among (keys_in (map entry_view es))
 all_keys x s es n index first all =
     first ∙ ap (λ f. f n) index ∙ ap (λ l. among (keys_in (map entry_view l))) (take_all n es all)
+
+-- ---- where a name first stands in a list
+
+module _ {A : Type 0} (test : A → Bool) where
+  first_here : (here : Bool) (behind : Option ℕ) → here ≡ true → option_eq nat_eq (if here then Some 0 else behind) (Some 0) ≡ true
+  first_here true behind e = refl
+  first_here false behind e = absurd cc
+
+  first_behind : (here : Bool) (behind before : Option ℕ) (i : ℕ) → option_eq nat_eq behind (Some i) ≡ is_none before →
+      option_eq nat_eq (if here then Some 0 else option_map (λ k. k + 1) behind) (Some (suc i))
+      ≡ is_none (if here then Some 0 else option_map (λ k. k + 1) before)
+  first_behind true behind before i e = refl
+  first_behind false None None i e = e
+  first_behind false None (Some j) i e = refl
+  first_behind false (Some k) None i e = ap (λ j. nat_eq j (suc i)) (add-one k) ∙ e
+  first_behind false (Some k) (Some j) i e = ap (λ j. nat_eq j (suc i)) (add-one k) ∙ e
+
+  -- what passes a test is the first that does where none before it does
+  pub stands_first : (xs : List A) (i : ℕ) (d : A) → i < length xs → test (get_or xs i d) ≡ true →
+      option_eq nat_eq (first_at test xs) (Some i) ≡ is_none (first_at test (take i xs))
+  stands_first [] i d within passes = absurd (omega (arith, within))
+  stands_first (y ∷ ys) zero d within passes = first_here (test y) (option_map (λ k. k + 1) (first_at test ys)) passes
+  stands_first (y ∷ ys) (suc i) d within passes =
+      first_behind (test y) (first_at test ys) (first_at test (take i ys)) i (stands_first ys i d (omega (arith, within)) passes)
+
+same_itself : (n : List ℕ) → same_name n n ≡ true
+same_itself n = (bytes_eq-Decides (folded n) (folded n)).1 refl
+
+-- a name that no earlier one equals first stands where it does
+pub name_stands_first : {X : Type 0} (name : X → List ℕ) (xs : List X) (i : ℕ) (x : X) → i < length xs → x ≡ get_or xs i x →
+    option_eq nat_eq (name_place (map name xs) (name x)) (Some i) ≡ is_none (name_place (map name (take i xs)) (name x))
+name_stands_first name xs i x within is =
+    stands_first (λ m. same_name m (name x)) (map name xs) i (name x) (subst (λ n. i < n) (sym (length-map xs name)) within)
+    (ap (λ n. same_name n (name x)) (get_or-map name xs i x ∙ ap name (sym is)) ∙ same_itself (name x))
+    ∙ ap (λ ns. is_none (name_place ns (name x))) (take-map name i xs)

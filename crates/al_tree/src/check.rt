@@ -31,12 +31,7 @@ struct Demand<'a> {
 }
 
 /// Adds the fault of a key that is needed and isn't there.
-fn check_row(
-    row: &Row,
-    all: KeySet<'_>,
-    at: Span,
-    faults: &mut FaultSink,
-) -> Result<(), AllocError>
+fn check_row(row: &Row, all: KeySet<'_>, at: Span, faults: &mut FaultSink) -> Result<(), AllocError>
     ensures { OnOk result (faults.new
         ≡ faults.old ++ missing_fault at (holds all) (field_of row.now)) }
 {

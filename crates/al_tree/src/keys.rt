@@ -64,15 +64,21 @@ pub struct KeyIndex<'a> {
 
 impl<'a> KeyIndex<'a> {
     /// The keys of some entries; of few it takes neither time nor memory. Fails with `AllocError` when out of memory.
+    #[tactic(auto, using(crate::proofs::KeyLemmas::few_keys, crate::proofs::KeyLemmas::many_keys))]
     pub fn of(alloc: Global, entries: &'a [Entry]) -> Result<KeyIndex<'a>, AllocError>
         ensures { IfOk result (λ x. IsIndexOf x entries.now) }
     {
-        let positions = if entries.len() > FEW {
-            Some(positions_of(alloc, entries)?)
-        } else {
-            None
-        };
-        Ok(KeyIndex { entries, positions })
+        if entries.len() <= FEW {
+            return Ok(KeyIndex {
+                entries,
+                positions: None,
+            });
+        }
+        let positions = positions_of(alloc, entries)?;
+        Ok(KeyIndex {
+            entries,
+            positions: Some(positions),
+        })
     }
 
     /// The keys of the first entries, of which there are at most so many.

@@ -115,12 +115,7 @@ fn event_shape(key: &[u8]) -> Shape
 }
 
 /// How an entry without a row stands.
-fn standing_without_row(
-    others: Others,
-    seen: KeySet<'_>,
-    all: KeySet<'_>,
-    key: &[u8],
-) -> Standing
+fn standing_without_row(others: Others, seen: KeySet<'_>, all: KeySet<'_>, key: &[u8]) -> Standing
     ensures { standing_view result
         ≡ other_standing (others_of others) (holds seen) (holds all) key.now }
 {

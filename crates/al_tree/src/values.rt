@@ -175,10 +175,7 @@ fn key_texts<'a>(alloc: Global, members: &[Member<'a>]) -> Result<Vec<&'a [u8]>,
 }
 
 /// Where the key of each member first stands, without regard to ASCII case. Fails with `AllocError` when out of memory.
-pub fn member_positions(
-    alloc: Global,
-    members: &[Member<'_>],
-) -> Result<NamePositions, AllocError>
+pub fn member_positions(alloc: Global, members: &[Member<'_>]) -> Result<NamePositions, AllocError>
     ensures { IfOk result (λ p. name_position p ≡ name_place (keys_in (map member_of members.now))) }
 {
     let keys = key_texts(alloc, members)?;
