@@ -26,11 +26,3 @@ faults_mapping s null above n v e =
     ap (faults s null above) (view_mapping n v e)
     ∙ ap (λ es. mapping_faults (rule (refined s es)) above (among (keys_in es)) n.span
     (λ ks. entries_faults ks [] (among (keys_in es)) (entries_of (map entry_view v.items)))) (entries_again (map entry_view v.items))
-
--- where every key may stand, it makes no difference which keys there are
-pub free_apart : (s : Shape) (seen : List (List ℕ)) (all most : List ℕ → Bool) (es : Entries) →
-    entries_faults (free s) seen all es ≡ entries_faults (free s) seen most es
-free_apart s seen all most no_entries = refl
-free_apart s seen all most (entry k v es) =
-    ap (λ l. entry_faults (standing (free s) (among seen) most (key_text k)) k (λ t. faults t (takes_null t) (key_text k) v) ++ l)
-    (free_apart s (seen ++ key_text k ∷ []) all most es)

@@ -61,8 +61,8 @@ fn row_at<'a>(rows: &'a [Row], key: &[u8]) -> Option<&'a Row>
 }
 
 /// Whether a key has to stand in a mapping with these keys.
-pub(crate) fn is_needed(need: Need, all: &KeySet<'_>) -> bool
-    ensures { result ≡ needed (need_of need) (holds all.now) }
+pub(crate) fn is_needed(need: Need, all: KeySet<'_>) -> bool
+    ensures { result ≡ needed (need_of need) (holds all) }
 {
     match need {
         Need::May => false,
@@ -81,8 +81,8 @@ pub enum Standing {
 }
 
 /// A key, if it is in a set.
-fn if_in(set: &KeySet<'_>, key: &'static str) -> Option<&'static str>
-    ensures { option_map (λ k. k.now) result ≡ if_it (holds set.now) key.now }
+fn if_in(set: KeySet<'_>, key: &'static str) -> Option<&'static str>
+    ensures { option_map (λ k. k.now) result ≡ if_it (holds set) key.now }
 {
     if set.contains(key.as_bytes()) {
         Some(key)
@@ -92,9 +92,9 @@ fn if_in(set: &KeySet<'_>, key: &'static str) -> Option<&'static str>
 }
 
 /// The key that a key cannot stand beside, if it is there.
-fn clash(clash: Clash, seen: &KeySet<'_>, all: &KeySet<'_>) -> Option<&'static str>
+fn clash(clash: Clash, seen: KeySet<'_>, all: KeySet<'_>) -> Option<&'static str>
     ensures { option_map (λ k. k.now) result
-        ≡ clash_with (clash_of clash) (holds seen.now) (holds all.now) }
+        ≡ clash_with (clash_of clash) (holds seen) (holds all) }
 {
     match clash {
         Clash::Never => None,
@@ -115,14 +115,9 @@ fn event_shape(key: &[u8]) -> Shape
 }
 
 /// How an entry without a row stands.
-fn standing_without_row<'a>(
-    others: Others,
-    seen: &KeySet<'a>,
-    all: &KeySet<'_>,
-    key: &'a [u8],
-) -> Standing
+fn standing_without_row(others: Others, seen: KeySet<'_>, all: KeySet<'_>, key: &[u8]) -> Standing
     ensures { standing_view result
-        ≡ other_standing (others_of others) (holds seen.now) (holds all.now) key.now }
+        ≡ other_standing (others_of others) (holds seen) (holds all) key.now }
 {
     match others {
         Others::Unchecked => Standing::Ignored,
@@ -134,9 +129,9 @@ fn standing_without_row<'a>(
 }
 
 /// How an entry with a key stands behind the keys that were seen, in a mapping with all these.
-pub fn standing_of<'a>(keys: Keys, seen: &KeySet<'a>, all: &KeySet<'_>, key: &'a [u8]) -> Standing
+pub fn standing_of(keys: Keys, seen: KeySet<'_>, all: KeySet<'_>, key: &[u8]) -> Standing
     ensures { standing_view result
-        ≡ stands (keys_view keys) (holds seen.now) (holds all.now) key.now }
+        ≡ stands (keys_view keys) (holds seen) (holds all) key.now }
 {
     match keys {
         Keys::No => Standing::Ignored,
