@@ -80,27 +80,27 @@ entry_places _ value = []
 
 abbrev mutual
   -- the places of a node at the end of a way, where it should have a shape and may be an item of a list
-  pub placed : FileKind → Shape → Bool → List WayStep → Node → List Place
-  placed k shape is_item way (scalar s at) = scalar_places k (rule_or_any (rule shape)) is_item way s at
-  placed k shape is_item way (sequence ns at) = option_map_or (λ s. placed_items k s way 0 ns) (rule_or_any (rule shape)).items []
-  placed k shape is_item way (mapping es at) =
-      placed_entries k (rule_or_any (rule (refined shape (entries es)))).keys_of [] (among (keys_in (entries es))) way es
+  pub places_of_node : FileKind → Shape → Bool → List WayStep → Node → List Place
+  places_of_node k shape is_item way (scalar s at) = scalar_places k (rule_or_any (rule shape)) is_item way s at
+  places_of_node k shape is_item way (sequence ns at) = option_map_or (λ s. places_of_items k s way 0 ns) (rule_or_any (rule shape)).items []
+  places_of_node k shape is_item way (mapping es at) =
+      places_of_entries k (rule_or_any (rule (refined shape (entries es)))).keys_of [] (among (keys_in (entries es))) way es
 
   -- of the items of a list from the nth on
-  pub placed_items : FileKind → Shape → List WayStep → ℕ → Nodes → List Place
-  placed_items k s way i no_nodes = []
-  placed_items k s way i (item n ns) = placed k s true (way ++ nth i ∷ []) n ++ placed_items k s way (i + 1) ns
+  pub places_of_items : FileKind → Shape → List WayStep → ℕ → Nodes → List Place
+  places_of_items k s way i no_nodes = []
+  places_of_items k s way i (item n ns) = places_of_node k s true (way ++ nth i ∷ []) n ++ places_of_items k s way (i + 1) ns
 
   -- of entries behind others with the keys that were seen, in a mapping with all these
-  pub placed_entries : FileKind → Keys → List (List ℕ) → (List ℕ → Bool) → List WayStep → Entries → List Place
-  placed_entries k ks seen all way no_entries = []
-  placed_entries k ks seen all way (entry key v es) =
-      entry_places (standing ks (among seen) all (key_text key)) (λ s. placed k s false (way ++ under (key_text key) ∷ []) v)
-      ++ placed_entries k ks (seen ++ key_text key ∷ []) all way es
+  pub places_of_entries : FileKind → Keys → List (List ℕ) → (List ℕ → Bool) → List WayStep → Entries → List Place
+  places_of_entries k ks seen all way no_entries = []
+  places_of_entries k ks seen all way (entry key v es) =
+      entry_places (standing ks (among seen) all (key_text key)) (λ s. places_of_node k s false (way ++ under (key_text key) ∷ []) v)
+      ++ places_of_entries k ks (seen ++ key_text key ∷ []) all way es
 
 -- the places of a file with this root
 abbrev pub places_of : FileKind → Node → List Place
-places_of k root = placed k (shape_of k) false [] root
+places_of k root = places_of_node k (shape_of k) false [] root
 
 -- what the program's places stand for
 abbrev pub place_of : rust.Place → Place

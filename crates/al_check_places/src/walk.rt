@@ -6,8 +6,8 @@ ghost use Rattle.al_tree.specs.Names.{among};
 ghost use Rattle.al_tree.specs.Table.{keys_view, rule_view, rule as table_rule};
 ghost use Rattle.al_check_places.specs.Availability.{row_of};
 ghost use Rattle.al_check_places.specs.Places as places;
-ghost use Rattle.al_check_places.specs.Places.{available_at, entry_places, place_of, placed, placed_entries};
-ghost use Rattle.al_check_places.specs.Places.{placed_items, places_of, rule_or_any, scalar_places};
+ghost use Rattle.al_check_places.specs.Places.{available_at, entry_places, place_of, places_of_node, places_of_entries};
+ghost use Rattle.al_check_places.specs.Places.{places_of_items, places_of, rule_or_any, scalar_places};
 ghost use Rattle.al_check_places.specs.Private.Walks.{places_in, way_in};
 ghost use Rattle.al_check_places.specs.Ways.{keys_of, step_of, under};
 ghost use Rattle.al_tree.specs.Files.{shape_of as file_shape};
@@ -19,7 +19,7 @@ use crate::ways::{WayStep, ends_as_condition, is_checked, is_condition, is_scrip
 use al_base::Span;
 use al_scalar::Scalar;
 use al_tree::{
-    FileKind, KeySet, Keys, Rule, ScalarNode, ScalarSet, Shape, Standing, contains_chunk,
+    FileKind, KeyIndex, Keys, Rule, ScalarNode, ScalarSet, Shape, Standing, contains_chunk,
     is_null_scalar, key_of, refine, rule_of, scalar_fault, standing_of,
 };
 use al_yaml_tree::{Entry, Kind, Node};
@@ -179,11 +179,11 @@ fn find_scalar<'a>(
 }
 
 /// Adds the places of a node, where it should have a shape and may be an item of a list.
-#[tactic(auto, using(crate::proofs::Nodes::placed_sequence, crate::proofs::Nodes::placed_mapping))]
+#[tactic(auto, using(crate::proofs::Nodes::places_of_sequence, crate::proofs::Nodes::places_of_mapping))]
 #[cycle(finds)]
 fn find<'a>(asked: Asked, node: &'a Node, walk: &mut Walk<'a>) -> Result<(), AllocError>
     ensures found { OnOk result (places_in walk.new ≡ places_in walk.old
-        ++ placed walk.old.kind asked.shape asked.is_item (way_in walk.old) (view node.now)) }
+        ++ places_of_node walk.old.kind asked.shape asked.is_item (way_in walk.old) (view node.now)) }
     ensures way { OnOk result (walk.new.way.items ≡ walk.old.way.items) }
     ensures kind { OnOk result (walk.new.kind ≡ walk.old.kind) }
 {
@@ -212,7 +212,7 @@ fn find<'a>(asked: Asked, node: &'a Node, walk: &mut Walk<'a>) -> Result<(), All
 #[cycle(finds)]
 fn find_items<'a>(shape: Shape, nodes: &'a [Node], walk: &mut Walk<'a>) -> Result<(), AllocError>
     ensures found { OnOk result (places_in walk.new ≡ places_in walk.old
-        ++ placed_items walk.old.kind shape (way_in walk.old) 0 (nodes_of (map view nodes.now))) }
+        ++ places_of_items walk.old.kind shape (way_in walk.old) 0 (nodes_of (map view nodes.now))) }
     ensures way { OnOk result (walk.new.way.items ≡ walk.old.way.items) }
     ensures kind { OnOk result (walk.new.kind ≡ walk.old.kind) }
 {
@@ -231,7 +231,6 @@ fn find_items<'a>(shape: Shape, nodes: &'a [Node], walk: &mut Walk<'a>) -> Resul
 }
 
 /// Adds the places of the entries of a mapping that takes these keys.
-#[tactic(auto, using(al_tree::proofs::KeyLemmas::among_more))]
 #[cycle(finds)]
 fn find_entries<'a>(
     takes: Keys,
@@ -239,19 +238,17 @@ fn find_entries<'a>(
     walk: &mut Walk<'a>,
 ) -> Result<(), AllocError>
     ensures found { OnOk result (places_in walk.new ≡ places_in walk.old
-        ++ placed_entries walk.old.kind (keys_view takes) []
+        ++ places_of_entries walk.old.kind (keys_view takes) []
         (among (keys_in (map entry_view entries.now))) (way_in walk.old)
         (entries_of (map entry_view entries.now))) }
     ensures way { OnOk result (walk.new.way.items ≡ walk.old.way.items) }
     ensures kind { OnOk result (walk.new.kind ≡ walk.old.kind) }
 {
-    let mut seen = KeySet::new(walk.alloc);
-    for entry in entries {
-        let key = key_of(entry);
-        // All keys of the mapping would tell beside which of them the key cannot stand, and so no place.
-        let standing = standing_of(takes, &seen, &seen, key);
+    let index = KeyIndex::of(walk.alloc, entries)?;
+    let all = index.first(entries.len());
+    for (i, entry) in entries.iter().enumerate() {
+        let standing = standing_of(takes, index.first(i), all, key_of(entry));
         find_entry(standing, entry, walk)?;
-        seen.insert(key)?;
     }
     Ok(())
 }
@@ -266,7 +263,7 @@ fn find_entry<'a>(
 ) -> Result<(), AllocError>
     ensures found { OnOk result (places_in walk.new ≡ places_in walk.old
         ++ entry_places (standing_view standing)
-        (λ s. placed walk.old.kind s false
+        (λ s. places_of_node walk.old.kind s false
         (way_in walk.old ++ under (key_in (entry_view entry.now)) ∷ [])
         (entry_view entry.now).1)) }
     ensures way { OnOk result (walk.new.way.items ≡ walk.old.way.items) }
