@@ -14,7 +14,7 @@ use Rattle.al_yaml_tree.specs.Node.{Node}
 use Rattle.al_tree.specs.Keys.{key_of}
 use Rattle.al_tree.specs.Values.{entries_at}
 use Rattle.al_tree_declarations.specs.Declarations.{has_value, names_of}
-use Rattle.al_check_contexts.specs.Contexts.{Known, call_outputs, job_field, needed}
+use Rattle.al_check_contexts.specs.Contexts.{Known, call_outputs, dependency, job_field}
 use Rattle.al_base.specs.Growth.{BeginsWith}
 use Rattle.al_expr_types.specs.Tables.{objects_of}
 use Rattle.al_expr_types.specs.declared.ty.Ty.{Ty}
@@ -35,15 +35,15 @@ same_there g xs ys i x e lt is =
 pub shown_there : (known : Outputs) (js : List (Node × Node)) (i : ℕ) (j : Node × Node) → slice_get js i ≡ Some j → (job_field (known_by known) j).1 ≡ shown_at known js i
 shown_there known js i j e = sym (ap (λ o. option_map_or (λ j. (job_field (known_by known) j).1) o Any) e)
 
-pub needed_at : (k : Known) (js : List (Node × Node)) (n : List ℕ) (i : ℕ) (j : Node × Node) → first_at (λ j. same_name (key_of j) n) js ≡ Some i →
-    slice_get js i ≡ Some j → needed k js n ≡ Some (job_field k j)
-needed_at k js n i j e h =
+pub dependency_at : (k : Known) (js : List (Node × Node)) (n : List ℕ) (i : ℕ) (j : Node × Node) → first_at (λ j. same_name (key_of j) n) js ≡ Some i →
+    slice_get js i ≡ Some j → dependency k js n ≡ Some (job_field k j)
+dependency_at k js n i j e h =
     ap (option_map (job_field k))
     (find_first (λ j. same_name (key_of j) n) js j ∙ ap (option_map (λ m. get_or js m j)) e ∙ ap Some (get_or_from_slice_get js i j j h))
 
-pub none_needed : (k : Known) (js : List (Node × Node)) (n : List ℕ) → first_at (λ j. same_name (key_of j) n) js ≡ None → needed k js n ≡ None
-none_needed k [] n e = refl
-none_needed k (x ∷ js) n e =
+pub no_dependency : (k : Known) (js : List (Node × Node)) (n : List ℕ) → first_at (λ j. same_name (key_of j) n) js ≡ None → dependency k js n ≡ None
+no_dependency k [] n e = refl
+no_dependency k (x ∷ js) n e =
     ap (option_map (job_field k)) (find_first (λ j. same_name (key_of j) n) (x ∷ js) x ∙ ap (option_map (λ m. get_or (x ∷ js) m x)) e)
 
 -- what a job shows that calls a workflow, and one that doesn't

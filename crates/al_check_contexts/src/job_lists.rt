@@ -5,7 +5,7 @@ ghost use Rattle.al_check_places.specs.Positions.{section_view};
 ghost use Rattle.al_tree.specs.Values.{member_of};
 ghost use Rattle.al_tree.specs.Files.{jobs_of};
 ghost use Rattle.al_yaml_tree.specs.View.{view};
-ghost use Rattle.al_check_contexts.specs.Contexts.{job_among};
+ghost use Rattle.al_check_contexts.specs.Contexts.{job_in};
 ghost use Rattle.al_check_contexts.specs.Private.JobPositions.{key_at, named_at};
 
 use al_base::{NamePositions, TextPositions};
@@ -82,7 +82,7 @@ impl<'a> JobList<'a> {
     /// The job of a section.
     pub(crate) fn job_of(&self, section: Section<'_>) -> Option<Member<'a>>
         ensures { option_map member_of result
-            ≡ job_among (map member_of self.now.members.items) (section_view section.entry) }
+            ≡ job_in (map member_of self.now.members.items) (section_view section.entry) }
     {
         match section {
             Section::Apart => None,

@@ -2,7 +2,7 @@
 ghost use Rattle.std.specs.Prelude.{◌≡◌, ◌<◌, [], IfOk, OnOk, List, codes, length, option_map, true};
 ghost use Rattle.std.specs.Option.{option_to_list};
 ghost use Rattle.al_base.specs.Growth.{BeginsWith};
-ghost use Rattle.al_check_contexts.specs.Contexts.{call_outputs, job_field, jobs_type_of, needed, needs_type_of};
+ghost use Rattle.al_check_contexts.specs.Contexts.{call_outputs, dependency, job_field, jobs_type, needs_type};
 ghost use Rattle.al_check_contexts.specs.Lookups.{called_at, shown_at, shown_with};
 ghost use Rattle.al_check_contexts.specs.Made.{KeepsBare, KeepsJobs, KeepsJobsOf, jobs_from, known_from};
 ghost use Rattle.al_check_contexts.specs.Numbers.{Keeps, Lists, Means};
@@ -206,7 +206,7 @@ impl JobTypes {
     ) -> Result<Ty, AllocError>
         requires { KeepsJobsOf types.old basis.now self.old }
         ensures ty { IfOk result
-            (λ t. Means types.new t (jobs_type_of (known_from basis.now) (jobs_from basis.now))) }
+            (λ t. Means types.new t (jobs_type (known_from basis.now) (jobs_from basis.now))) }
         ensures keeps { OnOk result (KeepsJobsOf types.new basis.now self.new) }
         ensures kept { OnOk result (BeginsWith (objects_of types.new) (objects_of types.old)) }
     {
@@ -229,7 +229,7 @@ impl JobTypes {
     ) -> Result<Ty, AllocError>
         requires { KeepsJobsOf types.old basis.now self.old }
         ensures ty { IfOk result
-            (λ t. Means types.new t (jobs_type_of (known_from basis.now) (jobs_from basis.now))) }
+            (λ t. Means types.new t (jobs_type (known_from basis.now) (jobs_from basis.now))) }
         ensures keeps { OnOk result (KeepsJobsOf types.new basis.now self.new) }
         ensures kept { OnOk result (BeginsWith (objects_of types.new) (objects_of types.old)) }
     {
@@ -242,7 +242,7 @@ impl JobTypes {
     }
 
     /// Fields, and what the first job of a name shows, where there is one, unless a field has its name.
-    fn and_needed<'a>(
+    fn and_dependency<'a>(
         &mut self,
         types: &mut Types<'a>,
         basis: &Basis<'_, 'a>,
@@ -253,7 +253,7 @@ impl JobTypes {
         ensures fields { IfOk result
             (λ l. (ts : List Typed) → Lists types.old fields.entry ts → Lists types.new l
             (put_all put_new ts (option_to_list
-            (needed (known_from basis.now) (jobs_from basis.now) name.now)))) }
+            (dependency (known_from basis.now) (jobs_from basis.now) name.now)))) }
         ensures keeps { OnOk result (KeepsJobsOf types.new basis.now self.new) }
         ensures kept { OnOk result (BeginsWith (objects_of types.new) (objects_of types.old)) }
     {
@@ -276,14 +276,14 @@ impl JobTypes {
     ) -> Result<Ty, AllocError>
         requires { KeepsJobsOf types.old basis.now self.old }
         ensures ty { IfOk result (λ t. Means types.new t
-            (needs_type_of (known_from basis.now) (jobs_from basis.now) (view job.entry.now))) }
+            (needs_type (known_from basis.now) (jobs_from basis.now) (view job.entry.now))) }
         ensures keeps { OnOk result (KeepsJobsOf types.new basis.now self.new) }
         ensures kept { OnOk result (BeginsWith (objects_of types.new) (objects_of types.old)) }
     {
         let mut fields = FieldList::new(basis.alloc);
         let names = texts_under(basis.alloc, job, "needs")?;
         for name in names.as_slice() {
-            let more = self.and_needed(types, basis, name.scalar.text(), fields)?;
+            let more = self.and_dependency(types, basis, name.scalar.text(), fields)?;
             fields = more;
         }
         let ty = fields.into_type(basis.alloc, types, None)?;

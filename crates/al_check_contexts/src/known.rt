@@ -51,13 +51,13 @@ impl<'a> Outputs<'a> {
         let mut rest = known.answers.len();
         while rest > 0 {
             rest -= 1;
-            outputs.put(known.answers[rest])?;
+            outputs.push_front(known.answers[rest])?;
         }
         Ok(outputs)
     }
 
-    /// Puts an answer in front of the others.
-    fn put(&mut self, answer: Answer<'a>) -> Result<(), AllocError>
+    /// Adds an answer in front of the others.
+    fn push_front(&mut self, answer: Answer<'a>) -> Result<(), AllocError>
         ensures found { OnOk result
             (found_at self.new ≡ and_found (behind_of (lists_of self.old) answer.entry)
             (found_at self.old)) }

@@ -10,9 +10,9 @@ use Rattle.al_check_contexts.specs.Private.JobPositions.{named_at}
 use Rattle.al_check_contexts.specs.Lookups.{known_by}
 use Rattle.al_check_contexts.specs.Made.{jobs_from, known_from}
 use Rattle.al_check_contexts.specs.Numbers.{Lists}
-use Rattle.al_check_contexts.proofs.JobLemmas.{needed_at, none_needed, shown_there}
+use Rattle.al_check_contexts.proofs.JobLemmas.{dependency_at, no_dependency, shown_there}
 use Rattle.al_check_contexts.proofs.Numbers.{lists_stay, means_as}
-use Rattle.al_check_contexts.proofs.jobs.JobTypes.and_needed.Goals as goal
+use Rattle.al_check_contexts.proofs.jobs.JobTypes.and_dependency.Goals as goal
 
 pub get-requires-clause-inside : goal.get-requires-clause-inside
 get-requires-clause-inside c =
@@ -28,7 +28,7 @@ pub returns-in-None-clause-fields : goal.returns-in-None-clause-fields
 returns-in-None-clause-fields c = λ ts h.
     let js = jobs_from c.args.basis.now in
     subst (λ o. Lists c.args.types.now c.args.fields (put_all put_new ts (option_to_list o)))
-    (sym (none_needed (known_from c.args.basis.now) js c.args.name.now (sym c.in_ok-position_of.ensures ∙ c.in-None.is))) h
+    (sym (no_dependency (known_from c.args.basis.now) js c.args.name.now (sym c.in_ok-position_of.ensures ∙ c.in-None.is))) h
 
 pub returns-in_ok-more-in-Some-clause-fields : goal.returns-in_ok-more-in-Some-clause-fields
 returns-in_ok-more-in-Some-clause-fields c = λ ts h.
@@ -42,5 +42,5 @@ returns-in_ok-more-in-Some-clause-fields c = λ ts h.
     let at : named_at js c.args.name.now ≡ Some c.in-Some.i = sym c.in_ok-position_of.ensures ∙ c.in-Some.is in
     let means = means_as now c.in_ok-ty-in-Some.ty _ _ (sym (shown_there known js c.in-Some.i j c.job_at.ensures)) c.in_ok-ty-in-Some.ensures.ty in
     let lists = lists_stay now entry c.args.fields ts c.in_ok-ty-in-Some.ensures.kept h in
-    subst (λ o. Lists now more (put_all put_new ts (option_to_list o))) (sym (needed_at k js c.args.name.now c.in-Some.i j at c.job_at.ensures))
+    subst (λ o. Lists now more (put_all put_new ts (option_to_list o))) (sym (dependency_at k js c.args.name.now c.in-Some.i j at c.job_at.ensures))
     (subst (λ n. Lists now more (put_new ts (n, (job_field k j).1))) c.key_text.ensures (c.in_ok-more-in-Some.ensures now ts _ lists means))

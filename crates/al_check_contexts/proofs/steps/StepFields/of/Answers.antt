@@ -3,7 +3,7 @@ use Rattle.std.specs.Prelude.{option_map}
 use Rattle.al_check_contexts.specs.Private.Owners.{owner_view}
 use Rattle.al_check_contexts.specs.Steps.{AreStepsOf}
 use Rattle.al_check_contexts.specs.Made.{known_from}
-use Rattle.al_check_contexts.proofs.sections.owned_steps.Goals as goal
+use Rattle.al_check_contexts.proofs.steps.StepFields.of.Goals as goal
 
 pub returns-in_ok-steps-in-None-clause-steps : goal.returns-in_ok-steps-in-None-clause-steps
 returns-in_ok-steps-in-None-clause-steps c =

@@ -12,7 +12,7 @@ use Rattle.al_check_contexts.specs.Private.Owners.{owner_view}
 use Rattle.al_check_contexts.specs.Steps.{IsCount, first_fields}
 use Rattle.al_check_contexts.proofs.Numbers.{list_long}
 use Rattle.al_check_contexts.proofs.StepLemmas.{counts_more, fields_next}
-use Rattle.al_check_contexts.proofs.steps.StepFields.of.Goals as goal
+use Rattle.al_check_contexts.proofs.steps.StepFields.of_owner.Goals as goal
 
 pub loop-i-preserved : goal.loop-i-preserved
 loop-i-preserved c =

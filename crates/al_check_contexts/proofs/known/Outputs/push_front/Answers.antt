@@ -1,5 +1,5 @@
 use Rattle.al_check_contexts.proofs.Found.{put_found}
-use Rattle.al_check_contexts.proofs.known.Outputs.put.Goals as goal
+use Rattle.al_check_contexts.proofs.known.Outputs.push_front.Goals as goal
 
 pub returns-clause-found : goal.returns-clause-found
 returns-clause-found c =
