@@ -1,5 +1,5 @@
 -- What jobs show to others, and the jobs that names find.
-use Rattle.std.proofs.Common.{◌≡◌, ◌<◌, ℕ, true, false, List, [], ◌∷◌, refl, sym, ap, ◌∙◌, Option, Some, None, option_map, length, map, get_or, arith}
+use Rattle.std.proofs.Common.{◌≡◌, ◌<◌, ◌+◌, ℕ, Bool, true, false, List, [], ◌∷◌, refl, sym, ap, ◌∙◌, Option, Some, None, option_map, length, map, get_or, arith}
 use Rattle.std.proofs.Math.ListN.{get_or-map}
 use Rattle.std.proofs.lemmas.Option.{get_or_from_slice_get, slice_get_read}
 use Rattle.std.specs.Option.{option_map_or}
@@ -24,6 +24,11 @@ use Rattle.al_check_contexts.specs.Made.{KeepsBare, KeepsJobs}
 use Rattle.al_check_contexts.specs.declared.jobs.JobTypes.{JobTypes}
 use Rattle.al_check_contexts.specs.declared.known.Outputs.{Outputs}
 use Rattle.al_check_contexts.proofs.Numbers.{keeps_stays, means_stays}
+
+-- where the first stands whose image passes a test
+pub first_mapped : {X Y : Type 0} (f : X → Y) (test : Y → Bool) (xs : List X) → first_at test (map f xs) ≡ first_at (λ x. test (f x)) xs
+first_mapped f test [] = refl
+first_mapped f test (x ∷ xs) = ap (λ o. if test (f x) then Some 0 else option_map (λ i. i + 1) o) (first_mapped f test xs)
 
 -- the element of a list that another list agrees with
 pub same_there : {X Y : Type 0} (g : X → Y) (xs : List X) (ys : List Y) (i : ℕ) (x : X) → map g xs ≡ ys → i < length xs → x ≡ get_or xs i x → slice_get ys i ≡ Some (g x)

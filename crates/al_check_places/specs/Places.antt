@@ -7,10 +7,10 @@ use Rattle.al_base.specs.declared.faults.Span.{Span}
 use Rattle.al_scalar.specs.Scalar.{Scalar, text_of}
 use Rattle.al_yaml_tree.specs.Access.{entries}
 use Rattle.al_yaml_tree.specs.Node.{Node, Nodes, Entries, scalar, sequence, mapping, no_nodes, item, no_entries, entry}
-use Rattle.al_tree.specs.Faults.{Standing, repeated, unexpected, ignored, expected, standing, refined, scalar_fault, has_chunk, is_null}
+use Rattle.al_tree.specs.Faults.{Standing, expected, standing, refined, scalar_fault, has_chunk, is_null}
 use Rattle.al_tree.specs.Keys.{key_text, keys_in}
 use Rattle.al_tree.specs.Names.{among}
-use Rattle.al_tree.specs.Table.{Rule, Keys, no_keys, free, keys, rule}
+use Rattle.al_tree.specs.Table.{Rule, Keys, no_keys, free, rule}
 use Rattle.al_tree.specs.declared.table.Shape.{Shape}
 use Rattle.al_tree.specs.declared.table.Shape.TheVariants.{Any}
 use Rattle.al_tree.specs.declared.table.ScalarSet.TheVariants.{AnyScalar}
@@ -82,7 +82,8 @@ abbrev mutual
   -- the places of a node at the end of a way, where it should have a shape and may be an item of a list
   pub places_of_node : FileKind → Shape → Bool → List WayStep → Node → List Place
   places_of_node k shape is_item way (scalar s at) = scalar_places k (rule_or_any (rule shape)) is_item way s at
-  places_of_node k shape is_item way (sequence ns at) = option_map_or (λ s. places_of_items k s way 0 ns) (rule_or_any (rule shape)).items []
+  places_of_node k shape is_item way (sequence ns at) =
+      option_map_or (λ s. places_of_items k s way 0 ns) (rule_or_any (rule shape)).items []
   places_of_node k shape is_item way (mapping es at) =
       places_of_entries k (rule_or_any (rule (refined shape (entries es)))).keys_of [] (among (keys_in (entries es))) way es
 
