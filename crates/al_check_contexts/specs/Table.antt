@@ -30,7 +30,8 @@ pub record AreFixed (types : Types) (ts : FixedTypes) : Type 0 where
   pub job : Means types ts.job job_type
 
 -- the types of a section of a workflow with these jobs, of which this is the section's
-pub record AreOfSection (types : Types) (known : Known) (js : List (Node × Node)) (s : Section) (job : Option (Node × Node)) (st : SectionTypes) : Type 0 where
+pub record AreOfSection (types : Types) (known : Known) (js : List (Node × Node)) (s : Section)
+    (job : Option (Node × Node)) (st : SectionTypes) : Type 0 where
   pub strategy : Means types st.strategy (type_in_job (λ j. strategy_type) job)
   pub needs : Means types st.needs (type_in_job (λ j. needs_type known js j.1) job)
   pub jobs : Means types st.jobs (jobs_in known js s)
