@@ -11,8 +11,8 @@ use Rattle.al_check_contexts.proofs.Numbers.{keeps_stays, means_stays}
 use Rattle.al_check_contexts.proofs.StepLemmas.{prefixes_stay, steps_stay}
 use Rattle.al_check_contexts.proofs.env.Env.new.Goals as goal
 
-pub of-steps-requires : goal.of-steps-requires
-of-steps-requires c = c.in_ok-step_types.ensures c.strategy.new.types (step_at c.in_ok-outputs.outputs)
+pub of-requires-3 : goal.of-requires-3
+of-requires-3 c = c.in_ok-step_types.ensures c.strategy.new.types (step_at c.in_ok-outputs.outputs)
 
 pub returns : goal.returns
 returns c =
@@ -22,7 +22,7 @@ returns c =
     let known = known_by outputs in
     let owner = owner_of kind root None in
     let zero = c.strategy.new.types in
-    let one = c.of-steps.new.types in
+    let one = c.of-3.new.types in
     let two = c.first.new.types in
     let now = c.first_types.new.types in
     let first = c.in_ok-none_seen.ensures in
@@ -38,5 +38,5 @@ returns c =
       prefixes = prefixes_stay now two c.first.new.self from_two first.prefixes;
       strategy = means_stays now zero c.in_ok-strategy.strategy strategy_type from_zero c.in_ok-strategy.ensures.ty;
       job_types = c.in_ok-job_types.ensures now outputs (map member_of c.in_ok-jobs.jobs.members.items);
-      step_types = keeps_stays now one (step_at outputs) c.of-steps.new.made from_one c.in_ok-steps.ensures.keeps;
+      step_types = keeps_stays now one (step_at outputs) c.of-3.new.made from_one c.in_ok-steps.ensures.keeps;
     }
