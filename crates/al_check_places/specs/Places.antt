@@ -1,16 +1,16 @@
 -- The scalars that have expressions, each with its place: found by the table of sections, so a value that doesn't fit, a value under a
 -- wrong key and one under a repeated key have no place.
 use Rattle.std.specs.Prelude.{ℕ, List, [], ◌∷◌, ◌++◌, ◌+◌, Bool, true, false, ◌&&◌, ◌||◌, not}
-use Rattle.std.specs.Prelude.{Option, Some, None, is_none, option_map, if◌then◌else◌}
+use Rattle.std.specs.Prelude.{Option, Some, None, is_none, option_map, unwrap_or, if◌then◌else◌}
 use Rattle.std.specs.Option.{option_map_or}
 use Rattle.al_base.specs.declared.faults.Span.{Span}
 use Rattle.al_scalar.specs.Scalar.{Scalar, text_of}
 use Rattle.al_yaml_tree.specs.Access.{entries}
 use Rattle.al_yaml_tree.specs.Node.{Node, Nodes, Entries, scalar, sequence, mapping, no_nodes, item, no_entries, entry}
-use Rattle.al_tree.specs.Faults.{Standing, repeated, unexpected, ignored, expected, standing, refined, scalar_fault, has_chunk, is_null}
+use Rattle.al_tree.specs.Faults.{Standing, expected, standing, refined, scalar_fault, has_chunk, is_null}
 use Rattle.al_tree.specs.Keys.{key_text, keys_in}
 use Rattle.al_tree.specs.Names.{among}
-use Rattle.al_tree.specs.Table.{Rule, Keys, no_keys, free, keys, rule}
+use Rattle.al_tree.specs.Table.{Rule, Keys, no_keys, free, rule}
 use Rattle.al_tree.specs.declared.table.Shape.{Shape}
 use Rattle.al_tree.specs.declared.table.Shape.TheVariants.{Any}
 use Rattle.al_tree.specs.declared.table.ScalarSet.TheVariants.{AnyScalar}
@@ -35,8 +35,7 @@ pub record Place : Type 0 where
 
 -- what isn't checked takes everything below it
 abbrev pub rule_or_any : Option Rule → Rule
-rule_or_any (Some r) = r
-rule_or_any None = record { scalars = AnyScalar; items = Some Any; keys_of = free Any }
+rule_or_any r = unwrap_or r (record { scalars = AnyScalar; items = Some Any; keys_of = free Any })
 
 abbrev pub has_no_keys : Keys → Bool
 has_no_keys no_keys = true
