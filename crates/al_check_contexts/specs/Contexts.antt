@@ -23,25 +23,26 @@ use Rattle.al_types.specs.Strings.{named_strings}
 use Rattle.al_check_contexts.specs.Objects.{strictly, loose_strings, loose_any}
 use Rattle.al_types.specs.Puts.{Typed, firsts}
 
--- What is known of the outputs behind calls: of the nth step of a job or, without a key, of an action, and of a job; None where nothing is.
-pub record Known : Type 0 where
-  pub of_step : Option (List ℕ) → ℕ → Option (List (List ℕ))
-  pub of_job : List ℕ → Option (List (List ℕ))
+-- What is known of the names of outputs behind calls: of a job by its key, and with an index of a step of a job or, without a key, of
+-- an action. None where nothing is.
+abbrev pub Known : Type 0
+Known = Option (List ℕ) → Option ℕ → Option (List (List ℕ))
 
 abbrev pub nothing_known : Known
-nothing_known = record { of_step = λ job i. None; of_job = λ job. None }
+nothing_known job step = None
+
+-- outputs, by what is known of their names
+abbrev pub outputs_type : Type' → Option (List (List ℕ)) → Type'
+outputs_type unknown names = option_map_or named_strings names unknown
 
 -- `steps`: each step with an id, of those that are seen; of equal ids the first
-abbrev pub step_outputs : Option (List (List ℕ)) → Type'
-step_outputs names = option_map_or named_strings names loose_strings
-
 abbrev pub step_type : Option (List (List ℕ)) → Type'
 step_type names =
-    strictly ((codes "conclusion", String) ∷ (codes "outcome", String) ∷ (codes "outputs", step_outputs names) ∷ [])
+    strictly ((codes "conclusion", String) ∷ (codes "outcome", String) ∷ (codes "outputs", outputs_type loose_strings names) ∷ [])
 
 abbrev pub step_field : Known → Option (List ℕ) → ℕ × Node → Option Typed
 step_field known job s =
-    option_map (λ id. (text_of id.0, step_type (known.of_step job s.0))) (text_at (codes "id") s.1)
+    option_map (λ id. (text_of id.0, step_type (known job (Some s.0)))) (text_at (codes "id") s.1)
 
 abbrev pub seen_of : Seen → List Node → List Node
 seen_of no_step steps = []
@@ -57,12 +58,9 @@ steps_fields known o seen =
     firsts (filter_map (step_field known o.0) (enumerate_from 0 (seen_of seen o.1)))
 
 -- what a job shows to others: its result, and its outputs, those of the called workflow where it calls one
-abbrev pub call_outputs : Option (List (List ℕ)) → Type'
-call_outputs names = option_map_or named_strings names loose_any
-
 abbrev pub job_outputs : Known → Node × Node → Type'
 job_outputs known j =
-    if has_value (codes "uses") j.1 then call_outputs (known.of_job (key_of j))
+    if has_value (codes "uses") j.1 then outputs_type loose_any (known (Some (key_of j)) None)
     else named_strings (names_of (entries_at (codes "outputs") j.1))
 
 abbrev pub job_field : Known → Node × Node → Typed

@@ -2,10 +2,11 @@
 ghost use Rattle.std.specs.Prelude.{◌≡◌, ◌<◌, [], IfOk, OnOk, List, codes, length, option_map, true};
 ghost use Rattle.std.specs.Option.{option_to_list};
 ghost use Rattle.al_base.specs.Growth.{BeginsWith};
-ghost use Rattle.al_check_contexts.specs.Contexts.{call_outputs, dependency, job_field, jobs_type, needs_type};
+ghost use Rattle.al_check_contexts.specs.Contexts.{dependency, job_field, jobs_type, needs_type, outputs_type};
 ghost use Rattle.al_check_contexts.specs.Lookups.{called_at, shown_at, shown_with};
 ghost use Rattle.al_check_contexts.specs.Made.{KeepsBare, KeepsJobs, KeepsJobsOf, jobs_from, known_from};
 ghost use Rattle.al_check_contexts.specs.Numbers.{Keeps, Lists, Means};
+ghost use Rattle.al_check_contexts.specs.Objects as objects;
 ghost use Rattle.al_expr_types.specs.Tables.{is_known, objects_of, type_at};
 ghost use Rattle.al_expr_types.specs.declared.types.Types as declared;
 ghost use Rattle.al_check_contexts.specs.declared.known.Outputs as outputs;
@@ -58,7 +59,8 @@ fn call_outputs_type<'a>(
     outputs: Option<&'a NameList>,
 ) -> Result<Ty, AllocError>
     ensures ty { IfOk result
-        (λ t. Means types.new t (call_outputs (option_map (λ l. l.now) outputs.entry))) }
+        (λ t. Means types.new t
+        (outputs_type objects.loose_any (option_map (λ l. l.now) outputs.entry))) }
     ensures kept { OnOk result (BeginsWith (objects_of types.new) (objects_of types.old)) }
 {
     match outputs {
@@ -168,7 +170,7 @@ impl JobTypes {
         ensures kept { OnOk result (BeginsWith (objects_of types.new) (objects_of types.old)) }
     {
         if has_value(job.value, "uses") {
-            let position = basis.outputs.position_of_job(key_text(job.key));
+            let position = basis.outputs.position(Some(key_text(job.key)), None);
             let ty = called_type(types, basis, &mut self.calls, position)?;
             return Ok(ty);
         }

@@ -8,6 +8,7 @@ ghost use Rattle.al_check_places.specs.Positions.{before, seen_view};
 ghost use Rattle.al_check_contexts.specs.Lookups.{step_at};
 ghost use Rattle.al_check_contexts.specs.Made.{known_from};
 ghost use Rattle.al_check_contexts.specs.Numbers.{Keeps, Lists, Means};
+ghost use Rattle.al_check_contexts.specs.Objects as objects;
 ghost use Rattle.al_check_contexts.specs.Steps.{ArePrefixes, AreSteps, AreStepsOf};
 ghost use Rattle.al_check_contexts.specs.Steps as specs;
 ghost use Rattle.al_check_contexts.specs.Private.Owners.{owner_view};
@@ -55,7 +56,8 @@ fn outputs_type<'a>(
     outputs: Option<&'a NameList>,
 ) -> Result<Ty, AllocError>
     ensures ty { IfOk result
-        (λ t. Means types.new t (contexts.step_outputs (option_map (λ l. l.now) outputs.entry))) }
+        (λ t. Means types.new t (contexts.outputs_type objects.loose_strings
+        (option_map (λ l. l.now) outputs.entry))) }
     ensures kept { OnOk result (BeginsWith (objects_of types.new) (objects_of types.old)) }
 {
     match outputs {
@@ -108,7 +110,7 @@ fn and_step<'a>(
     match text_under(step.node, "id") {
         None => Ok(fields),
         Some(id) => {
-            let position = basis.outputs.position_of_step(step.job, step.index);
+            let position = basis.outputs.position(step.job, Some(step.index));
             let ty = step_type(types, basis, made, position)?;
             let more = fields.and(basis.alloc, id.scalar.text(), ty)?;
             Ok(more)

@@ -12,7 +12,7 @@ use Rattle.al_tree.specs.Table.{Rule}
 use Rattle.al_base.specs.declared.faults.Span.{Span}
 use Rattle.al_tree.specs.declared.files.FileKind.{FileKind}
 use Rattle.al_check_places.specs.Private.Endings.{is_condition_key}
-use Rattle.al_check_places.specs.Ways.{conditions, WayStep, is_checked, is_one, is_path, keys_of, step_of, under}
+use Rattle.al_check_places.specs.Ways.{conditions, WayStep, is_checked, is_one, keys_of, step_of, under}
 use Rattle.al_check_places.specs.declared.ways.WayStep as rust
 use Rattle.al_check_places.specs.declared.ways.WayStep.TheVariants.{Nth, Under}
 
@@ -57,6 +57,9 @@ last_under (t ∷ way) s k e = front t (way ++ s ∷ []) k (last_under way s k e
 both : (a b : Bool) → (a && b) ≡ true → (a ≡ true) × (b ≡ true)
 both true b h = (refl, h)
 both false b h = absurd cc
+
+abbrev is_path : List (List ℕ) → Path → Bool
+is_path ks p = begins p ks && (length p == length ks)
 
 -- the last key of a way along a path is the path's
 ends_with : (p : Path) (w : List ℕ) (ks : List (List ℕ)) → begins (p ++ Some w ∷ []) ks ≡ true → length (p ++ Some w ∷ []) ≡ length ks →

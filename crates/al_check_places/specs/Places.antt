@@ -1,7 +1,7 @@
 -- The scalars that have expressions, each with its place: found by the table of sections, so a value that doesn't fit, a value under a
 -- wrong key and one under a repeated key have no place.
 use Rattle.std.specs.Prelude.{ℕ, List, [], ◌∷◌, ◌++◌, ◌+◌, Bool, true, false, ◌&&◌, ◌||◌, not}
-use Rattle.std.specs.Prelude.{Option, Some, None, is_none, option_map, if◌then◌else◌}
+use Rattle.std.specs.Prelude.{Option, Some, None, is_none, option_map, unwrap_or, if◌then◌else◌}
 use Rattle.std.specs.Option.{option_map_or}
 use Rattle.al_base.specs.declared.faults.Span.{Span}
 use Rattle.al_scalar.specs.Scalar.{Scalar, text_of}
@@ -35,8 +35,7 @@ pub record Place : Type 0 where
 
 -- what isn't checked takes everything below it
 abbrev pub rule_or_any : Option Rule → Rule
-rule_or_any (Some r) = r
-rule_or_any None = record { scalars = AnyScalar; items = Some Any; keys_of = free Any }
+rule_or_any r = unwrap_or r (record { scalars = AnyScalar; items = Some Any; keys_of = free Any })
 
 abbrev pub has_no_keys : Keys → Bool
 has_no_keys no_keys = true

@@ -22,11 +22,8 @@ keys_of = filter_map key_of
 abbrev pub begins_one : List Path → List (List ℕ) → Bool
 begins_one paths ks = list_any (λ p. begins p ks) paths
 
-abbrev pub is_path : List (List ℕ) → Path → Bool
-is_path ks p = begins p ks && (length p == length ks)
-
 abbrev pub is_one : List Path → List (List ℕ) → Bool
-is_one paths ks = list_any (is_path ks) paths
+is_one paths ks = list_any (λ p. begins p ks && (length p == length ks)) paths
 
 -- Of a workflow: all but `needs`, `id` and `uses`, and of `on` the defaults and values of a call.
 abbrev pub of_call : List Path
