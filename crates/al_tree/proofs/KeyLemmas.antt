@@ -1,6 +1,7 @@
 -- The keys of the first entries of a mapping, and where keys and names first stand.
 use Rattle.std.proofs.Common.{◌≡◌, Bor, ◌≤◌, ◌<◌, ℕ, ◌+◌, zero, suc, Bool, true, false, List, [], ◌∷◌, length, map, take, get_or, refl, sym, ap, subst, absurd, arith, add-one, ◌∙◌, ◌||◌}
-use Rattle.std.specs.Prelude.{Option, Some, None, is_none, nat_eq, nat_lt, option_map, if◌then◌else◌}
+use Rattle.std.specs.Prelude.{Option, Some, None, is_none, nat_eq, nat_lt, not, option_map, if◌then◌else◌}
+use Rattle.std.specs.List.{list_any}
 use Rattle.std.specs.Option.{option_eq}
 use Rattle.std.specs.Str.{bytes_eq}
 use Rattle.std.specs.Cmp.{nat_eq_equiv, partial_equiv_from_equiv, IsPartialEquivalence}
@@ -84,6 +85,17 @@ module _ {A : Type 0} (test : A → Bool) where
   stands_first (y ∷ ys) zero d within passes = first_here (test y) (option_map (λ k. k + 1) (first_at test ys)) passes
   stands_first (y ∷ ys) (suc i) d within passes =
       first_behind (test y) (first_at test ys) (first_at test (take i ys)) i (stands_first ys i d (omega (arith, within)) passes)
+
+  -- and none does where no element passes
+  none_step : (here : Bool) (behind : Option ℕ) (more : Bool) → is_none behind ≡ not more →
+      is_none (if here then Some 0 else option_map (λ k. k + 1) behind) ≡ not (here || more)
+  none_step true behind more e = refl
+  none_step false None more e = e
+  none_step false (Some k) more e = e
+
+  pub none_at : (xs : List A) → is_none (first_at test xs) ≡ not (list_any test xs)
+  none_at [] = refl
+  none_at (x ∷ xs) = none_step (test x) (first_at test xs) (list_any test xs) (none_at xs)
 
 same_itself : (n : List ℕ) → same_name n n ≡ true
 same_itself n = (bytes_eq-Decides (folded n) (folded n)).1 refl

@@ -1,7 +1,7 @@
 use Rattle.std.proofs.Common.{◌≡◌, ap, ◌∙◌, ◌+◌, ◌∷◌, ◌++◌, [], List, append_assoc, drop, false, map, sym, take, Some}
 use Rattle.al_base.specs.declared.faults.Fault.{Fault}
 use Rattle.al_yaml_tree.specs.View.{entries_of, entry_view, nodes_of, view}
-use Rattle.al_tree.specs.Faults.{entries_faults, entry_faults, faults, items_faults, keyed_faults, mapping_faults, refined, Standing, standing, standing_view, takes_null}
+use Rattle.al_tree.specs.Faults.{entries_faults, entry_faults, faults, items_faults, keyed_faults, mapping_faults, mapping_shape, Standing, standing, standing_view, takes_null}
 use Rattle.al_tree.specs.Keys.{holds, key_of, keys_in}
 use Rattle.al_tree.specs.Names.{among}
 use Rattle.al_tree.specs.Table.{keys_view, rule, rule_view}
