@@ -14,7 +14,7 @@ use crate::table::{Clash, Keys, Need, Others, Row, Shape, Trigger};
 use al_yaml_tree::Entry;
 
 /// The section that `runs` is, by what `using` says.
-fn runs_of(using_text: &[u8]) -> Shape
+pub fn runs_of(using_text: &[u8]) -> Shape
     ensures { result ≡ runs using_text.now }
 {
     if is_among(using_text, &["node12", "node16", "node20", "node24"]) {
