@@ -151,6 +151,7 @@ fn check(demand: Demand<'_>, node: &Node, faults: &mut FaultSink) -> Result<(), 
 }
 
 /// Adds the faults of a mapping at a place.
+#[tactic(auto, using(crate::proofs::KeyLemmas::all_keys))]
 #[cycle(checks)]
 fn check_mapping(
     demand: Demand<'_>,

@@ -18,7 +18,8 @@ fn first_named<'a>(alloc: Global, members: &[Member<'a>]) -> Result<Vec<Member<'
     let mut found = Vec::new(alloc);
     for (i, member) in members.iter().enumerate() {
         let first = positions.get(alloc, key_text(member.key))?;
-        if first == Some(i) {
+        let is_first = first == Some(i);
+        if is_first {
             found.push(*member)?;
         }
     }

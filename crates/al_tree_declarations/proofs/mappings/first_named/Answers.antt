@@ -10,7 +10,7 @@ use Rattle.al_tree.proofs.Lists.{left_next, not_not}
 use Rattle.al_tree.specs.Keys.{key_of, keys_in}
 use Rattle.al_tree.specs.Values.{member_of}
 use Rattle.al_tree_declarations.specs.Declarations.{first_named, named_among}
-use Rattle.al_tree_declarations.proofs.mappings.first_named.Goals.{then-first+in_ok-push, else-first}
+use Rattle.al_tree_declarations.proofs.mappings.first_named.Goals.{then-is_first+in_ok-push, else-is_first}
 use Rattle.al_tree_declarations.proofs.mappings.first_named.Goals as goal
 
 pub loop-i-preserved : goal.loop-i-preserved
@@ -37,15 +37,15 @@ loop-i-preserved c =
     ∙ none_at (λ m. same_name m key) (map (λ m. key_of (member_of m)) (take i members))
     ∙ ap (λ ks. not (named_among ks key)) (sym (map-map key_of member_of (take i members))) in
     let taken : not (option_eq nat_eq c.in_ok-first.first (Some i)) ≡ named_among before key = ap not new ∙ not_not (named_among before key) in
-    let added : map member_of c.if-first.found.items ≡ out ++ (if not (option_eq nat_eq c.in_ok-first.first (Some i)) then [] else member_of member ∷ []) =
-    elim c.if-first.branch [
-      | then-first+in_ok-push w ↦
+    let added : map member_of c.if-is_first.found.items ≡ out ++ (if not (option_eq nat_eq c.in_ok-first.first (Some i)) then [] else member_of member ∷ []) =
+    elim c.if-is_first.branch [
+      | then-is_first+in_ok-push w ↦
           ap (λ v. map member_of v.items) w.found-is ∙ ap (map member_of) w.in_ok-push.ensures.items
           ∙ map-append member_of c.loop-i.found.items (member ∷ [])
-          ∙ ap (λ b. out ++ (if not b then [] else member_of member ∷ [])) (sym w.if-first.true)
-      | else-first w ↦
+          ∙ ap (λ b. out ++ (if not b then [] else member_of member ∷ [])) (sym w.if-is_first.true)
+      | else-is_first w ↦
           ap (λ v. map member_of v.items) w.found-is ∙ sym (append-nil out)
-          ∙ ap (λ b. out ++ (if not b then [] else member_of member ∷ [])) (sym w.if-first.false)
+          ∙ ap (λ b. out ++ (if not b then [] else member_of member ∷ [])) (sym w.if-is_first.false)
     ] in
     ap (λ ms. ms ++ first_named (keys_in (map member_of (take (i + 1) members))) left) added
     ∙ ap (λ b. (out ++ (if b then [] else member_of member ∷ [])) ++ first_named (keys_in (map member_of (take (i + 1) members))) left) taken
