@@ -6,7 +6,6 @@ use Rattle.std.specs.Str.{bytes_eq}
 use Rattle.al_base.specs.declared.codes.RuleCode.TheVariants.{ScheduleTooOften, UnknownActivity, UnknownEvent, UnknownInputType}
 use Rattle.al_base.specs.declared.codes.RuleCode.TheVariants.{WrongPattern, WrongSchedule}
 use Rattle.al_base.specs.declared.faults.Fault.{Fault}
-use Rattle.al_scalar.specs.Scalar.{text_of}
 use Rattle.al_yaml_tree.specs.Node.{Node}
 use Rattle.al_tree.specs.Names.{is_event}
 use Rattle.al_tree.specs.Values.{text_at, texts_in, texts_at, entries_in, entries_at, items_in}
@@ -27,7 +26,7 @@ type_faults name event =
 -- a filter that is no pattern
 abbrev pub filter_faults : Filter → Node → List ℕ → List Fault
 filter_faults filter event key =
-    flat_map (λ s. unless (is_pattern filter (text_of s.0)) WrongPattern (of_scalar s)) (texts_at key event)
+    flat_map (λ s. unless (is_pattern filter (of_scalar s).text) WrongPattern (of_scalar s)) (texts_at key event)
 
 abbrev pub filters_faults : Node → List Fault
 filters_faults event =

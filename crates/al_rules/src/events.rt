@@ -7,7 +7,6 @@ ghost use Rattle.al_rules_formats.specs.Patterns.{is_pattern as means_pattern};
 ghost use Rattle.al_rules_formats.specs.Schedules.{schedule_of};
 ghost use Rattle.al_rules_settings.specs.Views.{named_of};
 ghost use Rattle.al_rules_settings.specs.Words.{of_scalar, unless, unless_among};
-ghost use Rattle.al_scalar.specs.Scalar.{text_of};
 ghost use Rattle.al_tree.specs.Values.{member_of, scalar_node_of};
 ghost use Rattle.al_yaml_tree.specs.View.{view};
 ghost use Rattle.std.specs.List.{flat_map};
@@ -57,20 +56,27 @@ fn check_activities(name: &[u8], event: &Node, faults: &mut FaultSink) -> Result
     }
 }
 
-/// Adds the filters that are no patterns.
+/// Adds the fault of a filter that is no pattern.
+fn check_pattern(filter: Filter, named: Named<'_>, faults: &mut FaultSink) -> Result<(), AllocError>
+    ensures { let n = named_of named.entry in
+        OnOk result (faults.new ≡ faults.old ++ unless (means_pattern filter n.text) WrongPattern n) }
+{
+    let right = is_pattern(faults.alloc(), filter, named.text)?;
+    report_unless(right, RuleCode::WrongPattern, named, faults)
+}
+
+/// Adds the faults of some filters.
 fn check_patterns(
     filter: Filter,
     scalars: &[ScalarNode<'_>],
     faults: &mut FaultSink,
 ) -> Result<(), AllocError>
     ensures { OnOk result (faults.new ≡ faults.old
-        ++ flat_map (λ s. unless (means_pattern filter (text_of s.0)) WrongPattern (of_scalar s))
+        ++ flat_map (λ s. unless (means_pattern filter (of_scalar s).text) WrongPattern (of_scalar s))
         (map scalar_node_of scalars.now)) }
 {
     for scalar in scalars {
-        let named = named_text(*scalar);
-        let right = is_pattern(faults.alloc(), filter, named.text)?;
-        report_unless(right, RuleCode::WrongPattern, named, faults)?;
+        check_pattern(filter, named_text(*scalar), faults)?;
     }
     Ok(())
 }

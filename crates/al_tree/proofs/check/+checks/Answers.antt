@@ -44,9 +44,9 @@ check_entries-loop-i-preserved t c =
     let rest = left_next entry_view es i e c.loop-i-test.true c.index-entries-i.is in
     let stands : standing_view c.standing_of-standing.result ≡ standing ks (among before) all (key_of (entry_view e)) =
     c.standing_of-standing.ensures
-    ∙ ap (λ f. standing ks f (holds c.first-all.result) c.key_of.result.now) (c.first.ensures ∙ ap (λ f. f i) c.args.requires)
+    ∙ ap (λ f. standing ks f (holds c.first-all.result) c.key_of.result.now) (c.first.ensures ∙ ap (λ f. f i) c.requires)
     ∙ ap (λ f. standing ks (among before) f c.key_of.result.now)
-    (all_keys c.args.index.now c.first-all.result es _ c.args.requires c.first-all.ensures (omega arith))
+    (all_keys c.args.index.now c.first-all.result es _ c.requires c.first-all.ensures (omega arith))
     ∙ ap (standing ks (among before) all) c.key_of.ensures in
     let here : Standing → List Fault = λ st. entry_faults st (entry_view e).0 (λ s. faults s (takes_null s) (key_of (entry_view e)) (entry_view e).1) in
     let behind : List _ → List Fault = λ ks'. entries_faults ks ks' all (entries_of left) in
