@@ -1,11 +1,14 @@
 -- The keys of the first entries of a mapping, and where keys and names first stand.
 use Rattle.std.proofs.Common.{◌≡◌, Bor, ◌≤◌, ◌<◌, ℕ, ◌+◌, zero, suc, Bool, true, false, List, [], ◌∷◌, length, map, take, get_or, refl, sym, ap, subst, absurd, arith, add-one, ◌∙◌, ◌||◌}
-use Rattle.std.specs.Prelude.{Option, Some, None, is_none, nat_eq, nat_lt, option_map, if◌then◌else◌}
-use Rattle.std.specs.Option.{option_eq}
+use Rattle.std.specs.Prelude.{Option, Some, None, is_none, nat_eq, nat_lt, not, option_map, if◌then◌else◌}
+use Rattle.std.specs.List.{list_any}
+use Rattle.std.specs.Option.{option_eq, option_map_or}
 use Rattle.std.specs.Str.{bytes_eq}
 use Rattle.std.specs.Cmp.{nat_eq_equiv, partial_equiv_from_equiv, IsPartialEquivalence}
 use Rattle.std.specs.Cmp.Lexicographic.{lists_per}
+use Rattle.std.proofs.Math.Dec.{eqb-suc-suc}
 use Rattle.std.proofs.Math.ListN.{get_or-map}
+use Rattle.std.proofs.lemmas.Bool.{le-ltb, lt-ltb, ltb-true, ltb_from_iff}
 use Rattle.std.proofs.lemmas.List.{length-map, take-map, take_all}
 use Rattle.std.proofs.lemmas.Slice.Eq.{bytes_eq-Decides}
 use Rattle.al_base.specs.Names.{folded, same_name}
@@ -23,15 +26,16 @@ bytes_swap a b = let p : IsPartialEquivalence bytes_eq = lists_per (partial_equi
 
 before_none : (place : Option ℕ) → is_before 0 place ≡ false
 before_none None = refl
-before_none (Some i) = refl
+before_none (Some i) = le-ltb i 0 (omega arith)
 
 before_more : (n : ℕ) (place : Option ℕ) → is_before (suc n) (option_map (λ i. i + 1) place) ≡ is_before n place
 before_more n None = refl
-before_more n (Some i) = ap (λ j. nat_lt j (suc n)) (add-one i)
+before_more n (Some i) =
+    ltb_from_iff ((λ e. let h = ltb-true (i + 1) (suc n) e in omega (arith, h)), (λ h. lt-ltb (i + 1) (suc n) (omega (arith, h))))
 
 here_or_behind : (here : Bool) (n : ℕ) (place : Option ℕ) (behind : Bool) → is_before n place ≡ behind →
     is_before (suc n) (if here then Some 0 else option_map (λ i. i + 1) place) ≡ (here || behind)
-here_or_behind true n place behind e = refl
+here_or_behind true n place behind e = lt-ltb 0 (suc n) (omega arith)
 here_or_behind false n place behind e = before_more n place ∙ e
 
 -- a text stands among the first ones where its place is before their end
@@ -55,6 +59,18 @@ many_keys es p is = λ i n k.
     ∙ placed_before (keys_in (map entry_view es.now)) n k
     ∙ ap (λ ks. among ks k) (take-map key_of n (map entry_view es.now) ∙ ap keys_in (take-map entry_view n es.now))) i
 
+-- what a set of few keys holds, and one of many
+pub few_hold : (s : KeySet) (k : List ℕ) → s.index.now.positions ≡ None →
+    among (keys_in (map entry_view (take s.count s.index.now.entries.now))) k ≡ holds s k
+unfolding has_first
+few_hold s k few =
+    sym (ap (λ o. option_map_or (λ p. is_before s.count (text_position p k)) o (among (keys_in (map entry_view (take s.count s.index.now.entries.now))) k)) few)
+
+pub many_hold : (s : KeySet) (k : List ℕ) (p : TextPositions) → s.index.now.positions ≡ Some p → is_before s.count (text_position p k) ≡ holds s k
+unfolding has_first
+many_hold s k p many =
+    sym (ap (λ o. option_map_or (λ p. is_before s.count (text_position p k)) o (among (keys_in (map entry_view (take s.count s.index.now.entries.now))) k)) many)
+
 -- all keys of a mapping
 pub all_keys : (x : KeyIndex) (s : KeySet) (es : List Entry) (n : ℕ) → IsIndexOf x es → holds s ≡ has_first x n → length es ≤ n →
     holds s ≡ among (keys_in (map entry_view es))
@@ -62,6 +78,9 @@ all_keys x s es n index first all =
     first ∙ ap (λ f. f n) index ∙ ap (λ l. among (keys_in (map entry_view l))) (take_all n es all)
 
 -- ---- where a name first stands in a list
+
+same_more : (k i : ℕ) → nat_eq (k + 1) (suc i) ≡ nat_eq k i
+same_more k i = ap (λ j. nat_eq j (suc i)) (add-one k) ∙ eqb-suc-suc k i
 
 module _ {A : Type 0} (test : A → Bool) where
   first_here : (here : Bool) (behind : Option ℕ) → here ≡ true → option_eq nat_eq (if here then Some 0 else behind) (Some 0) ≡ true
@@ -74,8 +93,8 @@ module _ {A : Type 0} (test : A → Bool) where
   first_behind true behind before i e = refl
   first_behind false None None i e = e
   first_behind false None (Some j) i e = refl
-  first_behind false (Some k) None i e = ap (λ j. nat_eq j (suc i)) (add-one k) ∙ e
-  first_behind false (Some k) (Some j) i e = ap (λ j. nat_eq j (suc i)) (add-one k) ∙ e
+  first_behind false (Some k) None i e = same_more k i ∙ e
+  first_behind false (Some k) (Some j) i e = same_more k i ∙ e
 
   -- what passes a test is the first that does where none before it does
   pub stands_first : (xs : List A) (i : ℕ) (d : A) → i < length xs → test (get_or xs i d) ≡ true →
@@ -84,6 +103,17 @@ module _ {A : Type 0} (test : A → Bool) where
   stands_first (y ∷ ys) zero d within passes = first_here (test y) (option_map (λ k. k + 1) (first_at test ys)) passes
   stands_first (y ∷ ys) (suc i) d within passes =
       first_behind (test y) (first_at test ys) (first_at test (take i ys)) i (stands_first ys i d (omega (arith, within)) passes)
+
+  -- and none does where no element passes
+  none_step : (here : Bool) (behind : Option ℕ) (more : Bool) → is_none behind ≡ not more →
+      is_none (if here then Some 0 else option_map (λ k. k + 1) behind) ≡ not (here || more)
+  none_step true behind more e = refl
+  none_step false None more e = e
+  none_step false (Some k) more e = e
+
+  pub none_at : (xs : List A) → is_none (first_at test xs) ≡ not (list_any test xs)
+  none_at [] = refl
+  none_at (x ∷ xs) = none_step (test x) (first_at test xs) (list_any test xs) (none_at xs)
 
 same_itself : (n : List ℕ) → same_name n n ≡ true
 same_itself n = (bytes_eq-Decides (folded n) (folded n)).1 refl

@@ -1,6 +1,6 @@
 -- What holds of the first entries of each key, and lists up to an item and behind it.
-use Rattle.std.specs.Prelude.{ℕ, List, [], ◌∷◌, ◌++◌, ◌+◌, ◌<◌, length}
-use Rattle.std.proofs.Common.{◌≡◌, ap, map, cond, add-one, drop, drop-cons, get_or, sym, take, ◌∙◌}
+use Rattle.std.specs.Prelude.{ℕ, Bool, true, false, not, List, [], ◌∷◌, ◌++◌, ◌+◌, ◌<◌, length}
+use Rattle.std.proofs.Common.{◌≡◌, refl, ap, map, cond, add-one, drop, drop-cons, get_or, sym, take, ◌∙◌}
 use Rattle.std.proofs.lemmas.List.{flat_map_more, map-append, map_more}
 use Rattle.std.specs.List.{AllByRecursion, flat_map}
 use Rattle.al_base.proofs.Elements.{each_both, each_either}
@@ -10,6 +10,10 @@ use Rattle.al_yaml_tree.specs.declared.node.Entry.{Entry}
 use Rattle.al_tree.specs.Keys.{key_of, keys_in}
 use Rattle.al_tree.specs.Names.{among}
 use Rattle.al_tree.specs.Values.{firsts}
+
+pub not_not : (b : Bool) → not (not b) ≡ b
+not_not true = refl
+not_not false = refl
 
 pub firsts_kept : (P : Node × Node → Type 0) (seen : List (List ℕ)) (es : List (Node × Node)) → AllByRecursion P es → AllByRecursion P (firsts seen es)
 firsts_kept P seen [] p = tt

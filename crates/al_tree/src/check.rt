@@ -1,7 +1,7 @@
 //! A node against the shape that its place asks for.
 
 ghost use Rattle.al_tree.specs.Faults.{beside_faults, entries_faults, entry_faults, faults as faults_of, is_empty as empty, items_faults};
-ghost use Rattle.al_tree.specs.Faults.{mapping_faults, missing_fault, missing_faults, refined, root_faults, standing_view};
+ghost use Rattle.al_tree.specs.Faults.{mapping_faults, mapping_shape, missing_fault, root_faults, standing_view};
 ghost use Rattle.al_tree.specs.Faults.{takes_null as null_taken};
 ghost use Rattle.al_base.specs.Growth.{SameSet};
 ghost use Rattle.al_tree.specs.Keys.{IsIndexOf, holds, key_of as key_in, keys_in};
@@ -33,7 +33,7 @@ struct Demand<'a> {
 /// Adds the fault of a key that is needed and isn't there.
 fn check_row(row: &Row, all: KeySet<'_>, at: Span, faults: &mut FaultSink) -> Result<(), AllocError>
     ensures { OnOk result (faults.new
-        ≡ faults.old ++ missing_fault at (holds all) (field_of row.now)) }
+        ≡ faults.old ++ missing_fault at (holds all.entry) (field_of row.now)) }
 {
     if is_needed(row.need, all) && !all.contains(row.key.as_bytes()) {
         let start = Span {
@@ -53,7 +53,7 @@ fn check_missing(
     faults: &mut FaultSink,
 ) -> Result<(), AllocError>
     ensures { OnOk result (faults.new
-        ≡ faults.old ++ missing_faults at (holds all) (map field_of rows.now)) }
+        ≡ faults.old ++ flat_map (missing_fault at (holds all.entry)) (map field_of rows.now)) }
 {
     for row in rows {
         check_row(row, all, at, faults)?;
@@ -151,6 +151,7 @@ fn check(demand: Demand<'_>, node: &Node, faults: &mut FaultSink) -> Result<(), 
 }
 
 /// Adds the faults of a mapping at a place.
+#[tactic(auto, using(crate::proofs::KeyLemmas::all_keys))]
 #[cycle(checks)]
 fn check_mapping(
     demand: Demand<'_>,
@@ -159,7 +160,7 @@ fn check_mapping(
     faults: &mut FaultSink,
 ) -> Result<(), AllocError>
     ensures { OnOk result (faults.new ≡ faults.old
-        ++ mapping_faults (rule (refined (demand.entry).shape (map entry_view entries.now)))
+        ++ mapping_faults (rule (mapping_shape (demand.entry).shape (map entry_view entries.now)))
         (demand.entry).above.now (among (keys_in (map entry_view entries.now))) at
         (λ ks. entries_faults ks [] (among (keys_in (map entry_view entries.now)))
         (entries_of (map entry_view entries.now)))) }

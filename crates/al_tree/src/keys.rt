@@ -96,16 +96,23 @@ pub struct KeySet<'a> {
     count: usize,
 }
 
-impl KeySet<'_> {
+impl<'a> KeySet<'a> {
+    /// The entries whose keys they are.
+    #[tactic(auto, using(std::proofs::lemmas::List::take_min))]
+    fn entries(self) -> &'a [Entry]
+        ensures { result.now ≡ take self.entry.count self.entry.index.now.entries.now }
+    {
+        let entries = self.index.entries;
+        &entries[..self.count.min(entries.len())]
+    }
+
     /// Whether a key is among them. Of many keys it takes time that grows with the logarithm of their number.
+    #[tactic(auto, using(crate::proofs::KeyLemmas::few_hold, crate::proofs::KeyLemmas::many_hold))]
     pub fn contains(self, key: &[u8]) -> bool
         ensures { result ≡ holds self.entry key.now }
     {
         match &self.index.positions {
-            None => {
-                let entries = self.index.entries;
-                is_key_among(key, &entries[..self.count.min(entries.len())])
-            }
+            None => is_key_among(key, self.entries()),
             Some(positions) => match positions.get(key) {
                 Some(position) => position < self.count,
                 None => false,

@@ -200,7 +200,8 @@ fn first_members(alloc: Global, entries: &[Entry]) -> Result<Vec<Member<'_>>, Al
     let index = KeyIndex::of(alloc, entries)?;
     let mut firsts = Vec::with_capacity(alloc, entries.len())?;
     for (i, entry) in entries.iter().enumerate() {
-        if !index.first(i).contains(key_of(entry)) {
+        let is_new = !index.first(i).contains(key_of(entry));
+        if is_new {
             firsts.push(as_member(entry))?;
         }
     }

@@ -1,7 +1,7 @@
-use Rattle.std.proofs.Common.{◌≡◌, ap, ◌∙◌, ◌+◌, ◌∷◌, ◌++◌, [], List, append_assoc, drop, false, map, sym, take, Some}
+use Rattle.std.proofs.Common.{◌≡◌, arith, ap, ◌∙◌, ◌+◌, ◌∷◌, ◌++◌, [], List, append_assoc, drop, false, map, sym, take, Some}
 use Rattle.al_base.specs.declared.faults.Fault.{Fault}
 use Rattle.al_yaml_tree.specs.View.{entries_of, entry_view, nodes_of, view}
-use Rattle.al_tree.specs.Faults.{entries_faults, entry_faults, faults, items_faults, keyed_faults, mapping_faults, refined, Standing, standing, standing_view, takes_null}
+use Rattle.al_tree.specs.Faults.{entries_faults, entry_faults, faults, items_faults, keyed_faults, mapping_faults, mapping_shape, Standing, standing, standing_view, takes_null}
 use Rattle.al_tree.specs.Keys.{holds, key_of, keys_in}
 use Rattle.al_tree.specs.Names.{among}
 use Rattle.al_tree.specs.Table.{keys_view, rule, rule_view}
@@ -44,10 +44,10 @@ check_entries-loop-i-preserved t c =
     let rest = left_next entry_view es i e c.loop-i-test.true c.index-entries-i.is in
     let stands : standing_view c.standing_of-standing.result ≡ standing ks (among before) all (key_of (entry_view e)) =
     c.standing_of-standing.ensures
-    ∙ ap (λ f. standing ks f (holds c.first-all.result) c.key_of-standing.result.now) (c.first-standing.ensures ∙ ap (λ f. f i) c.args.requires)
-    ∙ ap (λ f. standing ks (among before) f c.key_of-standing.result.now)
-    (all_keys c.args.index.now c.first-all.result es _ c.args.requires c.first-all.ensures (omega arith))
-    ∙ ap (standing ks (among before) all) c.key_of-standing.ensures in
+    ∙ ap (λ f. standing ks f (holds c.first-all.result) c.key_of.result.now) (c.first.ensures ∙ ap (λ f. f i) c.requires)
+    ∙ ap (λ f. standing ks (among before) f c.key_of.result.now)
+    (all_keys c.args.index.now c.first-all.result es _ c.requires c.first-all.ensures (omega arith))
+    ∙ ap (standing ks (among before) all) c.key_of.ensures in
     let here : Standing → List Fault = λ st. entry_faults st (entry_view e).0 (λ s. faults s (takes_null s) (key_of (entry_view e)) (entry_view e).1) in
     let behind : List _ → List Fault = λ ks'. entries_faults ks ks' all (entries_of left) in
     ap (λ l. l ++ behind (keys_in (map entry_view (take (i + 1) es)))) c.in_ok-check_entry.ensures
