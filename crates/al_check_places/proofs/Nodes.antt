@@ -7,7 +7,7 @@ use Rattle.al_yaml_tree.specs.declared.node.Entry.{Entry}
 use Rattle.al_yaml_tree.specs.declared.node.Kind.TheVariants.{Mapping, Sequence}
 use Rattle.al_yaml_tree.specs.declared.node.Node.{Node}
 use Rattle.al_yaml_tree.proofs.ViewLemmas.{entries_again, view_mapping, view_sequence}
-use Rattle.al_tree.specs.Faults.{refined}
+use Rattle.al_tree.specs.Faults.{mapping_shape}
 use Rattle.al_tree.specs.Keys.{keys_in}
 use Rattle.al_tree.specs.Names.{among}
 use Rattle.al_tree.specs.Table.{rule}
@@ -22,7 +22,7 @@ places_of_sequence k s b way n v e = ap (places_of_node k s b way) (view_sequenc
 
 pub places_of_mapping : (k : FileKind) (s : Shape) (b : Bool) (way : List WayStep) (n : Node) (v : Vec Entry Global) → n.kind ≡ Mapping v →
     places_of_node k s b way (view n)
-    ≡ places_of_entries k (rule_or_any (rule (refined s (map entry_view v.items)))).keys_of [] (among (keys_in (map entry_view v.items))) way (entries_of (map entry_view v.items))
+    ≡ places_of_entries k (rule_or_any (rule (mapping_shape s (map entry_view v.items)))).keys_of [] (among (keys_in (map entry_view v.items))) way (entries_of (map entry_view v.items))
 places_of_mapping k s b way n v e =
     ap (places_of_node k s b way) (view_mapping n v e)
-    ∙ ap (λ es. places_of_entries k (rule_or_any (rule (refined s es))).keys_of [] (among (keys_in es)) way (entries_of (map entry_view v.items))) (entries_again (map entry_view v.items))
+    ∙ ap (λ es. places_of_entries k (rule_or_any (rule (mapping_shape s es))).keys_of [] (among (keys_in es)) way (entries_of (map entry_view v.items))) (entries_again (map entry_view v.items))

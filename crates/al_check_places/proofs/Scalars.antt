@@ -9,7 +9,7 @@ use Rattle.al_yaml_tree.specs.Access.{entries}
 use Rattle.al_yaml_tree.specs.Node.{Node, Nodes, Entries, scalar, sequence, mapping, no_nodes, item, no_entries, entry}
 use Rattle.al_yaml_tree.specs.Spans.{AreLaid, EntriesLaid, IsLaid}
 use Rattle.al_yaml_tree.specs.Texts.{EntriesHaveTexts, HasTexts, HaveTexts}
-use Rattle.al_tree.specs.Faults.{Standing, repeated, unexpected, ignored, expected, refined, standing}
+use Rattle.al_tree.specs.Faults.{Standing, repeated, unexpected, ignored, expected, mapping_shape, standing}
 use Rattle.al_tree.specs.Keys.{key_text, keys_in}
 use Rattle.al_tree.specs.Names.{among}
 use Rattle.al_tree.specs.Table.{Keys, Rule, rule}
@@ -69,7 +69,7 @@ module _ (P : Scalar → Span → Type 0) where
     node_holds (sequence ns at) h k shape b way =
         items_hold (rule_or_any (rule shape)).items (λ s. places_of_items k s way 0 ns) (λ s. nodes_hold ns h k s way 0)
     node_holds (mapping es at) h k shape b way =
-        entries_hold es h k (rule_or_any (rule (refined shape (entries es)))).keys_of [] (among (keys_in (entries es))) way
+        entries_hold es h k (rule_or_any (rule (mapping_shape shape (entries es)))).keys_of [] (among (keys_in (entries es))) way
 
     nodes_hold : (ns : Nodes) → OfItems ns → (k : FileKind) (s : Shape) (way : List WayStep) (i : ℕ) → All Holds (places_of_items k s way i ns)
     nodes_hold no_nodes h k s way i = none_hold

@@ -7,7 +7,7 @@ use Rattle.al_base.specs.declared.faults.Span.{Span}
 use Rattle.al_scalar.specs.Scalar.{Scalar, text_of}
 use Rattle.al_yaml_tree.specs.Access.{entries}
 use Rattle.al_yaml_tree.specs.Node.{Node, Nodes, Entries, scalar, sequence, mapping, no_nodes, item, no_entries, entry}
-use Rattle.al_tree.specs.Faults.{Standing, expected, standing, refined, scalar_fault, has_chunk, is_null}
+use Rattle.al_tree.specs.Faults.{Standing, expected, standing, mapping_shape, scalar_fault, has_chunk, is_null}
 use Rattle.al_tree.specs.Keys.{key_text, keys_in}
 use Rattle.al_tree.specs.Names.{among}
 use Rattle.al_tree.specs.Table.{Rule, Keys, no_keys, free, rule}
@@ -84,7 +84,7 @@ abbrev mutual
   places_of_node k shape is_item way (sequence ns at) =
       option_map_or (λ s. places_of_items k s way 0 ns) (rule_or_any (rule shape)).items []
   places_of_node k shape is_item way (mapping es at) =
-      places_of_entries k (rule_or_any (rule (refined shape (entries es)))).keys_of [] (among (keys_in (entries es))) way es
+      places_of_entries k (rule_or_any (rule (mapping_shape shape (entries es)))).keys_of [] (among (keys_in (entries es))) way es
 
   -- of the items of a list from the nth on
   pub places_of_items : FileKind → Shape → List WayStep → ℕ → Nodes → List Place

@@ -2,7 +2,7 @@ use Rattle.std.proofs.Common.{◌≡◌, ℕ, ◌+◌, List, [], ◌∷◌, ◌+
 use Rattle.al_yaml_tree.specs.View.{entries_of, entry_view}
 use Rattle.al_tree.proofs.KeyLemmas.{all_keys}
 use Rattle.al_tree.proofs.Lists.{keys_next, left_next}
-use Rattle.al_tree.specs.Faults.{Standing, refined, standing, standing_view}
+use Rattle.al_tree.specs.Faults.{Standing, mapping_shape, standing, standing_view}
 use Rattle.al_tree.specs.Keys.{holds, key_of, keys_in}
 use Rattle.al_tree.specs.Names.{among}
 use Rattle.al_tree.specs.Table.{keys_view, rule, rule_view}
@@ -17,7 +17,7 @@ find-returns-in-Mapping-clause-found t c =
     let es = c.in-Mapping.entries.items in
     let kind = c.args.walk.now.kind in
     let way = map step_of c.args.walk.now.way.items in
-    let taken : rule_or_any (rule (refined c.args.asked.shape (map entry_view es))) ≡ rule_view c.rule_at-in-Mapping.result =
+    let taken : rule_or_any (rule (mapping_shape c.args.asked.shape (map entry_view es))) ≡ rule_view c.rule_at-in-Mapping.result =
     cc (c.refine.ensures, c.as_slice-in-Mapping.ensures.value, c.rule_at-in-Mapping.ensures) in
     let same = places_of_mapping kind c.args.asked.shape c.args.asked.is_item way c.args.node.now c.in-Mapping.entries c.in-Mapping.is
     ∙ ap (λ r. places_of_entries kind r.keys_of [] (among (keys_in (map entry_view es))) way (entries_of (map entry_view es))) taken in
@@ -40,10 +40,10 @@ find_entries-loop-i-preserved t c =
     let st = standing ks (among before) all (key_of (entry_view e)) in
     let stands : standing_view c.standing_of-standing.result ≡ st =
     c.standing_of-standing.ensures
-    ∙ ap (λ f. standing ks f (holds c.first-all.result) c.key_of-standing.result.now) (c.first-standing.ensures ∙ ap (λ f. f i) c.in_ok-index.ensures)
-    ∙ ap (λ f. standing ks (among before) f c.key_of-standing.result.now)
+    ∙ ap (λ f. standing ks f (holds c.first-all.result) c.key_of.result.now) (c.first.ensures ∙ ap (λ f. f i) c.in_ok-index.ensures)
+    ∙ ap (λ f. standing ks (among before) f c.key_of.result.now)
     (all_keys c.in_ok-index.index c.first-all.result es _ c.in_ok-index.ensures c.first-all.ensures (omega arith))
-    ∙ ap (standing ks (among before) all) c.key_of-standing.ensures in
+    ∙ ap (standing ks (among before) all) c.key_of.ensures in
     let out = map place_of c.loop-i.walk.found.items in
     let here : Standing → FileKind → List WayStep → List Place = λ s k w. entry_places s
     (λ s. places_of_node k s false (w ++ under (key_of (entry_view e)) ∷ []) (entry_view e).1) in
