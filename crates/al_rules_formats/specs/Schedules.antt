@@ -130,5 +130,8 @@ minute_set items = filter (λ n. list_any (picks n) items) (range_with_len 0 60)
 abbrev pub is_just_below : ℕ → ℕ → Bool
 is_just_below m n = nat_lt m n && nat_lt (n - m) 5
 
+abbrev pub are_close : List ℕ → Bool
+are_close ns = list_any (λ m. list_any (is_just_below m) ns) ns
+
 abbrev pub is_too_often : List Item → Bool
-is_too_often items = let ns = minute_set items in list_any (λ m. list_any (is_just_below m) ns) ns
+is_too_often items = are_close (minute_set items)

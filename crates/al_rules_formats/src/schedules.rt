@@ -1,7 +1,7 @@
 //! Schedules: five fields, each a set of numbers (GitHub, "Events that trigger workflows", `schedule`).
 
 ghost use Rattle.al_rules_formats.specs.Schedules as spec;
-ghost use Rattle.al_rules_formats.specs.Schedules.{all_of, field_of, from_to as numbers_from_to, head_of, is_empty};
+ghost use Rattle.al_rules_formats.specs.Schedules.{all_of, are_close as close, field_of, from_to as numbers_from_to, head_of, is_empty};
 ghost use Rattle.al_rules_formats.specs.Schedules.{is_field as field_is_right, is_just_below, is_too_often as too_often};
 ghost use Rattle.al_rules_formats.specs.Schedules.{item_of, minute_set};
 ghost use Rattle.al_rules_formats.specs.Schedules.{minutes_in, name_in, number_in as in_range_number, number_of, picks as item_picks};
@@ -452,7 +452,7 @@ fn is_close_below(low: u32, numbers: &[u32]) -> bool
 
 /// Whether two of some numbers differ by less than 5.
 fn are_close(numbers: &[u32]) -> bool
-    ensures { result ≡ list_any (λ m. list_any (is_just_below m) numbers.now) numbers.now }
+    ensures { result ≡ close numbers.now }
 {
     for low in numbers {
         if is_close_below(*low, numbers) {

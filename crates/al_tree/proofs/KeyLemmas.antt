@@ -1,12 +1,12 @@
 -- The keys of the first entries of a mapping, and where keys and names first stand.
-use Rattle.std.proofs.Common.{◌≡◌, Bor, ◌≤◌, ◌<◌, ℕ, ◌+◌, zero, suc, Bool, true, false, List, [], ◌∷◌, length, map, take, get_or, refl, sym, ap, subst, absurd, arith, add-one, ◌∙◌, ◌||◌}
+use Rattle.std.proofs.Common.{◌≡◌, Bor, ◌≤◌, ◌<◌, ℕ, ◌+◌, zero, suc, Bool, true, false, List, [], ◌∷◌, length, map, take, get_or, refl, sym, ap, subst, arith, add-one, ◌∙◌, ◌||◌}
 use Rattle.std.specs.Prelude.{Option, Some, None, is_none, nat_eq, nat_lt, not, option_map, if◌then◌else◌}
 use Rattle.std.specs.List.{list_any}
 use Rattle.std.specs.Option.{option_eq, option_map_or}
 use Rattle.std.specs.Str.{bytes_eq}
 use Rattle.std.specs.Cmp.{nat_eq_equiv, partial_equiv_from_equiv, IsPartialEquivalence}
 use Rattle.std.specs.Cmp.Lexicographic.{lists_per}
-use Rattle.std.proofs.Math.Dec.{eqb-suc-suc}
+use Rattle.std.proofs.Math.Dec.{eqb-suc-suc, eqb-zero-suc}
 use Rattle.std.proofs.Math.ListN.{get_or-map}
 use Rattle.std.proofs.lemmas.Bool.{le-ltb, lt-ltb, ltb-true, ltb_from_iff}
 use Rattle.std.proofs.lemmas.List.{length-map, take-map, take_all}
@@ -90,7 +90,7 @@ module _ {A : Type 0} (test : A → Bool) where
   first_behind : (here : Bool) (behind before : Option ℕ) (i : ℕ) → option_eq nat_eq behind (Some i) ≡ is_none before →
       option_eq nat_eq (if here then Some 0 else option_map (λ k. k + 1) behind) (Some (suc i))
       ≡ is_none (if here then Some 0 else option_map (λ k. k + 1) before)
-  first_behind true behind before i e = refl
+  first_behind true behind before i e = eqb-zero-suc i
   first_behind false None None i e = e
   first_behind false None (Some j) i e = refl
   first_behind false (Some k) None i e = same_more k i ∙ e

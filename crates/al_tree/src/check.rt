@@ -10,6 +10,7 @@ ghost use Rattle.al_tree.specs.Private.Demands.{demanded_faults};
 ghost use Rattle.al_tree.specs.Table.{field_of, keys_view, rule};
 ghost use Rattle.al_yaml_tree.specs.Node.{scalar as scalar_node};
 ghost use Rattle.al_yaml_tree.specs.View.{entries_of, entry_view, nodes_of, view};
+ghost use Rattle.std.specs.List.{flat_map};
 ghost use Rattle.std.specs.Prelude.{◌≡◌, [], ◌++◌, map, option_map, IfOk, OnOk};
 
 use crate::keys::{KeyIndex, KeySet, key_of, key_text};

@@ -107,7 +107,7 @@ impl<'a> KeySet<'a> {
     }
 
     /// Whether a key is among them. Of many keys it takes time that grows with the logarithm of their number.
-    #[tactic(auto, using(crate::proofs::KeyLemmas::few_hold, crate::proofs::KeyLemmas::many_hold))]
+    #[tactic(auto, using(crate::proofs::KeyLemmas::few_hold))]
     pub fn contains(self, key: &[u8]) -> bool
         ensures { result ≡ holds self.entry key.now }
     {

@@ -1,10 +1,10 @@
-use Rattle.std.proofs.Common.{◌≡◌, ◌∷◌, ◌++◌, [], ◌+◌, ap, append_assoc, append-nil, drop, map, not, sym, take, ◌∙◌, if◌then◌else◌}
+use Rattle.std.proofs.Common.{◌≡◌, ◌∷◌, ◌++◌, [], ◌+◌, ap, append_assoc, append-nil, drop, map, sym, take, ◌∙◌, if◌then◌else◌}
 use Rattle.std.proofs.lemmas.List.{map-append}
 use Rattle.al_yaml_tree.specs.View.{entry_view}
 use Rattle.al_tree.specs.Keys.{key_of, keys_in}
 use Rattle.al_tree.specs.Names.{among}
 use Rattle.al_tree.specs.Values.{firsts, member_of}
-use Rattle.al_tree.proofs.Lists.{keys_next, left_next, not_not}
+use Rattle.al_tree.proofs.Lists.{keys_next, left_next}
 use Rattle.al_tree.proofs.values.first_members.Goals.{then-is_new+in_ok-push, else-is_new}
 use Rattle.al_tree.proofs.values.first_members.Goals as goal
 
@@ -18,22 +18,21 @@ loop-i-preserved c =
     let members = map member_of c.loop-i.firsts.items in
     let more = keys_next es i e c.loop-i-test.true c.index-entries-i.is in
     let rest = left_next entry_view es i e c.loop-i-test.true c.index-entries-i.is in
-    let repeats : c.contains.result ≡ among before (key_of (entry_view e)) =
-    c.contains.ensures ∙ ap (λ f. f c.key_of.result.now) (c.first.ensures ∙ ap (λ f. f i) c.in_ok-index.ensures) ∙ ap (among before) c.key_of.ensures in
-    let taken : not (not c.contains.result) ≡ among before (key_of (entry_view e)) = not_not c.contains.result ∙ repeats in
-    let added : map member_of c.if-is_new.firsts.items ≡ members ++ (if not (not c.contains.result) then [] else entry_view e ∷ []) =
+    let repeats : c.contains-is_new.result ≡ among before (key_of (entry_view e)) =
+    c.contains-is_new.ensures ∙ ap (λ f. f c.key_of.result.now) (c.first.ensures ∙ ap (λ f. f i) c.in_ok-index.ensures) ∙ ap (among before) c.key_of.ensures in
+    let added : map member_of c.if-is_new.firsts.items ≡ members ++ (if c.contains-is_new.result then [] else entry_view e ∷ []) =
     elim c.if-is_new.branch [
       | then-is_new+in_ok-push w ↦
           ap (λ v. map member_of v.items) w.firsts-is ∙ ap (map member_of) w.in_ok-push.ensures.items
           ∙ map-append member_of c.loop-i.firsts.items (w.as_member.result ∷ [])
           ∙ ap (λ m. members ++ m ∷ []) w.as_member.ensures
-          ∙ ap (λ b. members ++ (if not b then [] else entry_view e ∷ [])) (sym w.if-is_new.true)
+          ∙ ap (λ b. members ++ (if b then [] else entry_view e ∷ [])) (sym w.if-is_new.true)
       | else-is_new w ↦
           ap (λ v. map member_of v.items) w.firsts-is ∙ sym (append-nil members)
-          ∙ ap (λ b. members ++ (if not b then [] else entry_view e ∷ [])) (sym w.if-is_new.false)
+          ∙ ap (λ b. members ++ (if b then [] else entry_view e ∷ [])) (sym w.if-is_new.false)
     ] in
     ap (λ ms. ms ++ firsts (keys_in (map entry_view (take (i + 1) es))) left) added
-    ∙ ap (λ b. (members ++ (if b then [] else entry_view e ∷ [])) ++ firsts (keys_in (map entry_view (take (i + 1) es))) left) taken
+    ∙ ap (λ b. (members ++ (if b then [] else entry_view e ∷ [])) ++ firsts (keys_in (map entry_view (take (i + 1) es))) left) repeats
     ∙ ap (λ ks. (members ++ (if among before (key_of (entry_view e)) then [] else entry_view e ∷ [])) ++ firsts ks left) more
     ∙ append_assoc members (if among before (key_of (entry_view e)) then [] else entry_view e ∷ []) (firsts (before ++ key_of (entry_view e) ∷ []) left)
     ∙ ap (λ l. members ++ firsts before l) (sym rest)
