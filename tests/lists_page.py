@@ -37,8 +37,8 @@ SCALARS = {"AnyScalar": "text", "NotNull": "text that is not null", "Bools": "fl
            "NoScalar": None}
 OTHER_KEYS = {"wrong": [], "events": [("any other", "an *event* where it is the name of one, else anything", "")],
               "unchecked": [("any other", "anything, and repeated keys too", "")]}
-# Of the table of places: a row, and a list that rows name.
-PLACE = re.compile(r"(?:^| ∷ )(row|job_row|step_row) ")
+# Of the table of places: the rows of some paths, and a list that rows name.
+PLACES = re.compile(r"(?:^| \+\+ )rows ")
 LIST = re.compile(r"^(of_\w+|status) = (.+)$", re.MULTILINE)
 TYPES = {"Any": "any", "Bool'": "bool", "Number": "number", "String": "string"}
 WANTED = {
@@ -258,39 +258,31 @@ def names_in(text, lists):
     return found
 
 
-def path_of(form, text):
-    """A path of keys, where `*` stands for any."""
-    keys = [named or "*" for named in re.findall(r'codes "([^"]+)"|(?<!\w)any(?!\w)', text)]
-    return ".".join({"row": [], "job_row": ["jobs", "*"], "step_row": ["jobs", "*", "steps"]}[form] + keys)
-
-
 def availability_rows(crates):
-    """Each path in the order of the table of places, with the contexts and the special functions that it has."""
+    """The paths of the table of places, together where they have the same contexts and special functions, and these."""
     text, lists = (crates / AVAILABILITY).read_text(), {}
     for name, right in LIST.findall(text):
         lists[name] = names_in(right, lists)
     start = text.index("\ntable =\n") + len("\ntable =\n")
-    # A row may stand on several lines.
-    before, *found = PLACE.split(" ".join(text[start : text.index("\n    ∷ []", start)].split()))
+    # The rows of some paths may stand on several lines.
+    before, *found = PLACES.split(" ".join(text[start : text.index("\n\n", start)].split()))
     rows = []
-    for form, rest in zip(found[::2], found[1::2]):
-        parts = arguments_of(rest)
+    for group in found:
+        parts = arguments_of(group)
         if len(parts) != 3:
-            sys.exit(f"a row of the table isn't read: {form} {rest}")
-        path, shown, special = parts
+            sys.exit(f"rows of the table aren't read: {group}")
+        paths, shown, special = parts
         functions_of = [{"HashFiles": "hashFiles"}.get(name, name.lower()) for name in names_in(special, lists)]
-        rows.append((path_of(form, path), [name.lower() for name in names_in(shown, lists)], functions_of))
+        rows.append((re.findall(r'"([^"]+)"', paths), [name.lower() for name in names_in(shown, lists)], functions_of))
     if before or not rows:
         sys.exit("a row of the table isn't read")
     return rows
 
 
 def places(crates):
-    """The paths that have the same contexts and special functions together."""
-    found = {}
-    for path, shown, special in availability_rows(crates):
-        found.setdefault((", ".join(shown), ", ".join(special)), []).append(path)
-    return table_of(("Places", "Contexts", "Special functions"), [(quoted(paths), *both) for both, paths in found.items()])
+    """The paths with their contexts and special functions."""
+    rows = [(quoted(paths), ", ".join(shown), ", ".join(special)) for paths, shown, special in availability_rows(crates)]
+    return table_of(("Places", "Contexts", "Special functions"), rows)
 
 
 def functions(crates):

@@ -17,7 +17,7 @@ use Rattle.std.specs.declared.cmp.Ordering.{Ordering}
 use Rattle.std.specs.declared.cmp.Ordering.TheVariants.{Less, Equal, Greater}
 use Rattle.al_check_contexts.specs.Answered.{Behind, is_at, behind_of}
 use Rattle.al_expr_types.specs.declared.name_list.NameList.{NameList}
-use Rattle.al_check_contexts.specs.Lookups.{Found, and_found, found_at, list_at, names_by}
+use Rattle.al_check_contexts.specs.Lookups.{Found, and_found, found_at, known_by, list_at}
 use Rattle.al_check_contexts.specs.declared.known.Answer.{Answer}
 use Rattle.al_check_contexts.specs.declared.known.Outputs.{Outputs}
 
@@ -96,7 +96,7 @@ at_place key names job step =
 
 -- what is found at a key is what is known there
 pub names_found : (o : Outputs) (job : Option (Bor (List ℕ))) (step : Option ℕ) (r : Option (Option ℕ)) → r ≡ get_by (key_cmp (job, step)) o.positions →
-    names_by o (option_copied job) step ≡ option_and_then (λ names. names) (option_map (option_and_then (list_at o)) r)
+    known_by o (option_copied job) step ≡ option_and_then (λ names. names) (option_map (option_and_then (list_at o)) r)
 unfolding found_at
 names_found o job step r e =
     ap (λ x. option_and_then (λ names. names) (option_map (option_and_then (list_at o)) x))
@@ -137,10 +137,6 @@ put_found old new key position u =
 
 abbrev pub found_in : List Behind → Found
 found_in bs job step = option_map (λ b. b.names) (find (is_at job step) bs)
-
-flat : (o : Option Behind) → option_and_then (λ names. names) (option_map (λ x. x.names) o) ≡ option_and_then (λ x. x.names) o
-flat None = refl
-flat (Some b) = refl
 
 -- one answer more, in front
 pub found_more : (lists : List (List (List ℕ))) (answers : List Answer) (i k : ℕ) (d : Answer) (old new : Found) → i < length answers → k ≡ i + 1 →

@@ -1,5 +1,5 @@
 -- What jobs show to others, and the jobs that names find.
-use Rattle.std.proofs.Common.{◌≡◌, ◌<◌, ℕ, true, false, List, [], ◌∷◌, refl, sym, ap, ◌∙◌, Option, Some, None, option_map, length, map, get_or, arith}
+use Rattle.std.proofs.Common.{◌≡◌, ◌<◌, ◌+◌, ℕ, Bool, true, false, List, [], ◌∷◌, refl, sym, ap, ◌∙◌, Option, Some, None, option_map, length, map, get_or, arith}
 use Rattle.std.proofs.Math.ListN.{get_or-map}
 use Rattle.std.proofs.lemmas.Option.{get_or_from_slice_get, slice_get_read}
 use Rattle.std.specs.Option.{option_map_or}
@@ -14,7 +14,8 @@ use Rattle.al_yaml_tree.specs.Node.{Node}
 use Rattle.al_tree.specs.Keys.{key_of}
 use Rattle.al_tree.specs.Values.{entries_at}
 use Rattle.al_tree_declarations.specs.Declarations.{has_value, names_of}
-use Rattle.al_check_contexts.specs.Contexts.{Known, call_outputs, job_field, needed}
+use Rattle.al_check_contexts.specs.Objects.{loose_any}
+use Rattle.al_check_contexts.specs.Contexts.{Known, outputs_type, dependency, job_field}
 use Rattle.al_base.specs.Growth.{BeginsWith}
 use Rattle.al_expr_types.specs.Tables.{objects_of}
 use Rattle.al_expr_types.specs.declared.ty.Ty.{Ty}
@@ -24,6 +25,11 @@ use Rattle.al_check_contexts.specs.Made.{KeepsBare, KeepsJobs}
 use Rattle.al_check_contexts.specs.declared.jobs.JobTypes.{JobTypes}
 use Rattle.al_check_contexts.specs.declared.known.Outputs.{Outputs}
 use Rattle.al_check_contexts.proofs.Numbers.{keeps_stays, means_stays}
+
+-- where the first stands whose image passes a test
+pub first_mapped : {X Y : Type 0} (f : X → Y) (test : Y → Bool) (xs : List X) → first_at test (map f xs) ≡ first_at (λ x. test (f x)) xs
+first_mapped f test [] = refl
+first_mapped f test (x ∷ xs) = ap (λ o. if test (f x) then Some 0 else option_map (λ i. i + 1) o) (first_mapped f test xs)
 
 -- the element of a list that another list agrees with
 pub same_there : {X Y : Type 0} (g : X → Y) (xs : List X) (ys : List Y) (i : ℕ) (x : X) → map g xs ≡ ys → i < length xs → x ≡ get_or xs i x → slice_get ys i ≡ Some (g x)
@@ -35,26 +41,26 @@ same_there g xs ys i x e lt is =
 pub shown_there : (known : Outputs) (js : List (Node × Node)) (i : ℕ) (j : Node × Node) → slice_get js i ≡ Some j → (job_field (known_by known) j).1 ≡ shown_at known js i
 shown_there known js i j e = sym (ap (λ o. option_map_or (λ j. (job_field (known_by known) j).1) o Any) e)
 
-pub needed_at : (k : Known) (js : List (Node × Node)) (n : List ℕ) (i : ℕ) (j : Node × Node) → first_at (λ j. same_name (key_of j) n) js ≡ Some i →
-    slice_get js i ≡ Some j → needed k js n ≡ Some (job_field k j)
-needed_at k js n i j e h =
+pub dependency_at : (k : Known) (js : List (Node × Node)) (n : List ℕ) (i : ℕ) (j : Node × Node) → first_at (λ j. same_name (key_of j) n) js ≡ Some i →
+    slice_get js i ≡ Some j → dependency k js n ≡ Some (job_field k j)
+dependency_at k js n i j e h =
     ap (option_map (job_field k))
     (find_first (λ j. same_name (key_of j) n) js j ∙ ap (option_map (λ m. get_or js m j)) e ∙ ap Some (get_or_from_slice_get js i j j h))
 
-pub none_needed : (k : Known) (js : List (Node × Node)) (n : List ℕ) → first_at (λ j. same_name (key_of j) n) js ≡ None → needed k js n ≡ None
-none_needed k [] n e = refl
-none_needed k (x ∷ js) n e =
+pub no_dependency : (k : Known) (js : List (Node × Node)) (n : List ℕ) → first_at (λ j. same_name (key_of j) n) js ≡ None → dependency k js n ≡ None
+no_dependency k [] n e = refl
+no_dependency k (x ∷ js) n e =
     ap (option_map (job_field k)) (find_first (λ j. same_name (key_of j) n) (x ∷ js) x ∙ ap (option_map (λ m. get_or (x ∷ js) m x)) e)
 
 -- what a job shows that calls a workflow, and one that doesn't
-pub shown_called : (k : Known) (j : Node × Node) → has_value (codes "uses") j.1 ≡ true → shown_with (call_outputs (k.of_job (key_of j))) ≡ (job_field k j).1
+pub shown_called : (k : Known) (j : Node × Node) → has_value (codes "uses") j.1 ≡ true → shown_with (outputs_type loose_any (k (Some (key_of j)) None)) ≡ (job_field k j).1
 shown_called k j e =
-    sym (ap (λ b. shown_with (if b then call_outputs (k.of_job (key_of j)) else named_strings (names_of (entries_at (codes "outputs") j.1)))) e)
+    sym (ap (λ b. shown_with (if b then outputs_type loose_any (k (Some (key_of j)) None) else named_strings (names_of (entries_at (codes "outputs") j.1)))) e)
 
 pub shown_own : (k : Known) (j : Node × Node) → has_value (codes "uses") j.1 ≡ false →
     shown_with (named_strings (names_of (entries_at (codes "outputs") j.1))) ≡ (job_field k j).1
 shown_own k j e =
-    sym (ap (λ b. shown_with (if b then call_outputs (k.of_job (key_of j)) else named_strings (names_of (entries_at (codes "outputs") j.1)))) e)
+    sym (ap (λ b. shown_with (if b then outputs_type loose_any (k (Some (key_of j)) None) else named_strings (names_of (entries_at (codes "outputs") j.1)))) e)
 
 -- ---- in longer tables
 

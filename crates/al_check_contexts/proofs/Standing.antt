@@ -5,10 +5,11 @@ use Rattle.al_yaml_tree.specs.View.{view}
 use Rattle.al_tree.specs.Values.{member_of}
 use Rattle.al_check_places.specs.Positions.{before, section_view}
 use Rattle.al_check_contexts.specs.Fixed.{strategy_type}
-use Rattle.al_check_contexts.specs.Environment.{owner_in}
+use Rattle.al_check_contexts.specs.Contexts.{job_in, owner_of, type_at}
+use Rattle.al_tree.specs.Files.{jobs_of}
 use Rattle.al_check_contexts.specs.Lookups.{known_by, step_at}
 use Rattle.al_check_contexts.specs.Standing.{Stands}
-use Rattle.al_check_contexts.specs.Table.{table}
+use Rattle.al_check_contexts.specs.Table.{position}
 use Rattle.al_check_contexts.specs.declared.env.Env.{Env}
 use Rattle.al_check_contexts.specs.declared.env.File.{File}
 use Rattle.al_expr_types.specs.Tables.{objects_of}
@@ -27,8 +28,8 @@ stands_stays f old types h b =
     record {
       members = h.members;
       known = h.known;
-      shows = shows_stays types old.types old.scope.types (table f.kind known root section (before old.seen)) b h.shows;
-      steps = steps_stay types old.types known (owner_in f.kind root section) old.steps b h.prefixes h.steps;
+      shows = shows_stays types old.types old.scope.types (type_at f.kind known root (position section (before old.seen))) b h.shows;
+      steps = steps_stay types old.types known (owner_of f.kind root (job_in (jobs_of root) section)) old.steps b h.prefixes h.steps;
       prefixes = prefixes_stay types old.types old.steps b h.prefixes;
       strategy = means_stays types old.types old.strategy strategy_type b h.strategy;
       job_types = keeps_jobs_stay types old.types old.outputs (map member_of old.jobs.members.items) old.job_types b h.job_types;

@@ -12,9 +12,8 @@ use Rattle.al_base.specs.Growth.{BeginsWith}
 use Rattle.al_types.specs.Puts.{Typed, firsts, put_all, put_new}
 use Rattle.al_yaml_tree.specs.Node.{Node}
 use Rattle.al_check_places.specs.Positions.{before}
-use Rattle.al_check_contexts.specs.Contexts.{Known, step_field, steps_fields}
+use Rattle.al_check_contexts.specs.Contexts.{Known, Owner, step_field, steps_type}
 use Rattle.al_check_contexts.specs.Objects.{strictly}
-use Rattle.al_check_contexts.specs.Environment.{Owner, owned}
 use Rattle.al_types.specs.Types.{object_type}
 use Rattle.al_expr_types.specs.Names.{names_in}
 use Rattle.al_expr_types.specs.Prefixes.{HasPrefix, map_in, prefix_parts}
@@ -52,8 +51,6 @@ pub steps_stay : (new old : Types) (known : Known) (o : Option Owner) (s : StepF
 steps_stay new old known None s b p h = h
 steps_stay new old known (Some o) s b p h = owned_steps_stay new old known o s b p h
 
--- ---- how many are seen
-
 -- ---- one step more
 
 numbered_more : (n : ℕ) (ss : List Node) (s : Node) → enumerate_from n (ss ++ s ∷ []) ≡ enumerate_from n ss ++ (n + length ss, s) ∷ []
@@ -68,7 +65,7 @@ alone (Some p) = refl
 
 module _ {X : Type 0} (g : X → Node) (known : Known) (job : Option (List ℕ)) where
   abbrev fields_of_first : List X → ℕ → List Typed
-  fields_of_first xs k = firsts (steps_fields known job 0 (take k (map g xs)))
+  fields_of_first xs k = firsts (filter_map (step_field known job) (enumerate_from 0 (take k (map g xs))))
 
   pub fields_next : (xs : List X) (i : ℕ) (x : X) → i < length xs → x ≡ get_or xs i x →
       fields_of_first xs (i + 1) ≡ put_all put_new (fields_of_first xs i) (option_to_list (step_field known job (i, g x)))
@@ -119,7 +116,7 @@ first_zipped f (suc n) (x ∷ xs) (y ∷ ys) = ap (λ zs. (x, f y) ∷ zs) (firs
 -- a number of an object of the first so many fields stands for the type of `steps`
 pub first_means : (new old : Types) (known : Known) (o : Option Owner) (s : StepFields) (k n : ℕ) (t : Ty) → k < length s.counts.items →
     n ≡ get_or s.counts.items k 0 → is_known new t ≡ true → type_at new t ≡ object_type (prefix_parts (objects_of old) (map_in s.prefixes) n) →
-    AreStepsOf old known o s → Means new t (owned known o (before k))
+    AreStepsOf old known o s → Means new t (steps_type known o (before k))
 first_means new old known None s k n t lt e there is h = let no : length s.counts.items ≡ 0 = ap length h in absurd (omega (arith, lt, no))
 first_means new old known (Some o) s k n t lt e there is h =
     let ms = objects_of old in

@@ -38,10 +38,10 @@ include_more ts [] n = refl
 include_more ts (m ∷ ns) n = include_more (put_all put ts (combination m)) ns n
 
 -- of an object of rows and one of each combination, with one more
-pub included_next : {X : Type 0} (g : X → Node) (ts : List Typed) (xs : List X) (i : ℕ) (x : X) (sofar new : Optional) → i < length xs → x ≡ get_or xs i x →
+pub include_next : {X : Type 0} (g : X → Node) (ts : List Typed) (xs : List X) (i : ℕ) (x : X) (sofar new : Optional) → i < length xs → x ≡ get_or xs i x →
     sofar ≡ Present (strictly (include_all ts (map g (take i xs)))) → new ≡ fuse_optional sofar (Present (strictly (combination (g x)))) →
     new ≡ Present (strictly (include_all ts (map g (take (i + 1) xs))))
-included_next g ts xs i x sofar new lt e old step =
+include_next g ts xs i x sofar new lt e old step =
     let front = map g (take i xs) in
     step ∙ ap (λ o. fuse_optional o (Present (strictly (combination (g x))))) old
     ∙ ap Present (sym (put_together (include_all ts front) (combination (g x)) (distinct_combination (g x))))

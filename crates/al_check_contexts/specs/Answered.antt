@@ -1,5 +1,5 @@
 -- What is known of the outputs behind calls, as a list.
-use Rattle.std.specs.Prelude.{ℕ, List, Bool, ◌&&◌, ◌==◌, Option, Some, None, option_and_then, find, map, slice_get}
+use Rattle.std.specs.Prelude.{ℕ, List, Bool, ◌&&◌, ◌==◌, Option, option_and_then, find, map, slice_get}
 use Rattle.std.specs.Option.{option_copied, option_eq}
 use Rattle.std.specs.Str.{bytes_eq}
 use Rattle.al_check_contexts.specs.Contexts.{Known}
@@ -17,11 +17,8 @@ abbrev pub is_at : Option (List ℕ) → Option ℕ → Behind → Bool
 is_at job step b = option_eq (λ i k. i == k) b.step step && option_eq bytes_eq b.job job
 
 -- the names that the first at a place has
-abbrev pub names_at : List Behind → Option (List ℕ) → Option ℕ → Option (List (List ℕ))
-names_at bs job step = option_and_then (λ b. b.names) (find (is_at job step) bs)
-
 abbrev pub known_in : List Behind → Known
-known_in bs = record { of_step = λ job i. names_at bs job (Some i); of_job = λ job. names_at bs (Some job) None }
+known_in bs job step = option_and_then (λ b. b.names) (find (is_at job step) bs)
 
 -- how an answer of the code is seen, by the lists of names that it has a position in
 abbrev pub behind_of : List (List (List ℕ)) → Answer → Behind

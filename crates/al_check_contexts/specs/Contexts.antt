@@ -3,8 +3,7 @@ use Rattle.std.specs.Prelude.{ℕ, List, [], ◌∷◌, codes, map, take, Option
 use Rattle.std.specs.List.{filter_map, enumerate_from}
 use Rattle.std.specs.Option.{option_map_or}
 use Rattle.std.specs.Str.{bytes_eq}
-use Rattle.al_base.specs.declared.faults.Span.{Span}
-use Rattle.al_scalar.specs.Scalar.{Scalar, text_of}
+use Rattle.al_scalar.specs.Scalar.{text_of}
 use Rattle.al_base.specs.Names.{same_name}
 use Rattle.al_types.specs.Types.{Type', Any, String}
 use Rattle.al_types.specs.declared.names.Context.{Context}
@@ -18,92 +17,88 @@ use Rattle.al_tree.specs.declared.files.FileKind.TheVariants as kind
 use Rattle.al_check_places.specs.Positions.{Position, Section, apart, in_job, Seen, no_step, before, every_step}
 use Rattle.al_tree_declarations.specs.Declarations.{action_steps, has_value, is_composite, names_of}
 use Rattle.al_check_contexts.specs.Fixed.{github_type, runner_type, job_type, strategy_type}
-use Rattle.al_check_contexts.specs.Inputs.{workflow_inputs, action_inputs}
+use Rattle.al_check_contexts.specs.Inputs.{inputs_type}
 use Rattle.al_check_contexts.specs.Matrix.{matrix_type}
 use Rattle.al_types.specs.Strings.{named_strings}
 use Rattle.al_check_contexts.specs.Objects.{strictly, loose_strings, loose_any}
 use Rattle.al_types.specs.Puts.{Typed, firsts}
 
--- What is known of the outputs behind calls: of the nth step of a job or, without a key, of an action, and of a job; None where nothing is.
-pub record Known : Type 0 where
-  pub of_step : Option (List ℕ) → ℕ → Option (List (List ℕ))
-  pub of_job : List ℕ → Option (List (List ℕ))
+-- What is known of the names of outputs behind calls: of a job by its key, and with an index of a step of a job or, without a key, of
+-- an action. None where nothing is.
+abbrev pub Known : Type 0
+Known = Option (List ℕ) → Option ℕ → Option (List (List ℕ))
 
 abbrev pub nothing_known : Known
-nothing_known = record { of_step = λ job i. None; of_job = λ job. None }
+nothing_known job step = None
 
-abbrev pub step_outputs : Option (List (List ℕ)) → Type'
-step_outputs None = loose_strings
-step_outputs (Some names) = named_strings names
-
-abbrev pub call_outputs : Option (List (List ℕ)) → Type'
-call_outputs None = loose_any
-call_outputs (Some names) = named_strings names
+-- outputs, by what is known of their names
+abbrev pub outputs_type : Type' → Option (List (List ℕ)) → Type'
+outputs_type unknown names = option_map_or named_strings names unknown
 
 -- `steps`: each step with an id, of those that are seen; of equal ids the first
 abbrev pub step_type : Option (List (List ℕ)) → Type'
-step_type outputs = strictly ((codes "conclusion", String) ∷ (codes "outcome", String) ∷ (codes "outputs", step_outputs outputs) ∷ [])
+step_type names =
+    strictly ((codes "conclusion", String) ∷ (codes "outcome", String) ∷ (codes "outputs", outputs_type loose_strings names) ∷ [])
 
 abbrev pub step_field : Known → Option (List ℕ) → ℕ × Node → Option Typed
-step_field known job s = option_map (λ id. (text_of id.0, step_type (known.of_step job s.0))) (text_at (codes "id") s.1)
+step_field known job s =
+    option_map (λ id. (text_of id.0, step_type (known job (Some s.0)))) (text_at (codes "id") s.1)
 
 abbrev pub seen_of : Seen → List Node → List Node
 seen_of no_step steps = []
 seen_of (before n) steps = take n steps
 seen_of every_step steps = steps
 
-abbrev pub steps_fields : Known → Option (List ℕ) → ℕ → List Node → List Typed
-steps_fields known job from steps = filter_map (step_field known job) (enumerate_from from steps)
+-- steps, with the key of the job that they are of; an action's without one
+abbrev pub Owner : Type 0
+Owner = Option (List ℕ) × List Node
 
-abbrev pub steps_shown : Known → Option (List ℕ) → List Node → Seen → List Typed
-steps_shown known job steps seen = firsts (steps_fields known job 0 (seen_of seen steps))
-
-abbrev pub steps_type : Known → Option (List ℕ) → List Node → Seen → Type'
-steps_type known job steps seen = strictly (steps_shown known job steps seen)
+abbrev pub steps_fields : Known → Owner → Seen → List Typed
+steps_fields known o seen =
+    firsts (filter_map (step_field known o.0) (enumerate_from 0 (seen_of seen o.1)))
 
 -- what a job shows to others: its result, and its outputs, those of the called workflow where it calls one
 abbrev pub job_outputs : Known → Node × Node → Type'
 job_outputs known j =
-    if has_value (codes "uses") j.1 then call_outputs (known.of_job (key_of j))
+    if has_value (codes "uses") j.1 then outputs_type loose_any (known (Some (key_of j)) None)
     else named_strings (names_of (entries_at (codes "outputs") j.1))
 
 abbrev pub job_field : Known → Node × Node → Typed
-job_field known j = (key_of j, strictly ((codes "result", String) ∷ (codes "outputs", job_outputs known j) ∷ []))
+job_field known j =
+    (key_of j, strictly ((codes "result", String) ∷ (codes "outputs", job_outputs known j) ∷ []))
 
-abbrev pub jobs_type_of : Known → List (Node × Node) → Type'
-jobs_type_of known jobs = strictly (firsts (map (job_field known) jobs))
-
-abbrev pub jobs_type : Known → Node → Type'
-jobs_type known root = jobs_type_of known (jobs_of root)
+abbrev pub jobs_type : Known → List (Node × Node) → Type'
+jobs_type known jobs = strictly (firsts (map (job_field known) jobs))
 
 -- `needs`: the direct dependencies that exist; a name means the first such job, in any ASCII case
-abbrev pub needed : Known → List (Node × Node) → List ℕ → Option Typed
-needed known jobs name = option_map (job_field known) (find (λ j. same_name (key_of j) name) jobs)
+abbrev pub dependency : Known → List (Node × Node) → List ℕ → Option Typed
+dependency known jobs name = option_map (job_field known) (find (λ j. same_name (key_of j) name) jobs)
 
-abbrev pub needed_by : Known → List (Node × Node) → Scalar × Span → Option Typed
-needed_by known jobs t = needed known jobs (text_of t.0)
-
-abbrev pub needs_type_of : Known → List (Node × Node) → Node → Type'
-needs_type_of known jobs job = strictly (firsts (filter_map (needed_by known jobs) (texts_at (codes "needs") job)))
-
-abbrev pub needs_type : Known → Node → Node → Type'
-needs_type known root job = needs_type_of known (jobs_of root) job
+abbrev pub needs_type : Known → List (Node × Node) → Node → Type'
+needs_type known jobs job =
+    strictly (firsts (filter_map (λ t. dependency known jobs (text_of t.0)) (texts_at (codes "needs") job)))
 
 -- the job of a section, with its key; none where there is none
-abbrev pub job_among : List (Node × Node) → Section → Option (Node × Node)
-job_among jobs (in_job k) = find (λ j. bytes_eq (key_of j) k) jobs
-job_among jobs _ = None
+abbrev pub job_in : List (Node × Node) → Section → Option (Node × Node)
+job_in jobs (in_job k) = find (λ j. bytes_eq (key_of j) k) jobs
+job_in jobs _ = None
 
-abbrev pub job_in : Node → Section → Option (Node × Node)
-job_in root s = job_among (jobs_of root) s
+-- the steps of a job, or of a composite action
+abbrev pub owner_of : FileKind → Node → Option (Node × Node) → Option Owner
+owner_of kind.Workflow root job =
+    option_map (λ j. (Some (key_of j), items_at (codes "steps") j.1)) job
+owner_of kind.Action root job = if is_composite root then Some (None, action_steps root) else None
 
--- in a job a type, elsewhere any
+-- What contexts are that change with the position: any where they aren't there. An action has no section but `apart`.
 abbrev pub type_in_job : (Node × Node → Type') → Option (Node × Node) → Type'
 type_in_job of job = option_map_or of job Any
 
-abbrev pub jobs_seen : Known → Node → Section → Type'
-jobs_seen known root apart = Any
-jobs_seen known root _ = jobs_type known root
+abbrev pub jobs_in : Known → List (Node × Node) → Section → Type'
+jobs_in known jobs apart = Any
+jobs_in known jobs _ = jobs_type known jobs
+
+abbrev pub steps_type : Known → Option Owner → Seen → Type'
+steps_type known owner seen = option_map_or (λ o. strictly (steps_fields known o seen)) owner Any
 
 -- The table of contexts. Some are the same in every file.
 abbrev pub type_at : FileKind → Known → Node → Position → Context → Type'
@@ -113,13 +108,11 @@ type_at k known root p context.Vars = loose_strings
 type_at k known root p context.Secrets = loose_strings
 type_at k known root p context.Runner = runner_type
 type_at k known root p context.Job = job_type
-type_at kind.Workflow known root p context.Strategy = type_in_job (λ j. strategy_type) (job_in root p.section)
-type_at kind.Workflow known root p context.Needs = type_in_job (λ j. needs_type known root j.1) (job_in root p.section)
-type_at kind.Workflow known root p context.Jobs = jobs_seen known root p.section
-type_at kind.Workflow known root p context.Steps =
-    type_in_job (λ j. steps_type known (Some (key_of j)) (items_at (codes "steps") j.1) p.seen) (job_in root p.section)
-type_at kind.Workflow known root p context.Matrix = type_in_job (λ j. matrix_type j.1) (job_in root p.section)
-type_at kind.Workflow known root p context.Inputs = workflow_inputs root
-type_at kind.Action known root p context.Steps = if is_composite root then steps_type known None (action_steps root) p.seen else Any
-type_at kind.Action known root p context.Inputs = action_inputs root
-type_at kind.Action known root p _ = Any
+type_at k known root p context.Strategy = type_in_job (λ j. strategy_type) (job_in (jobs_of root) p.section)
+type_at k known root p context.Needs =
+    type_in_job (λ j. needs_type known (jobs_of root) j.1) (job_in (jobs_of root) p.section)
+type_at k known root p context.Jobs = jobs_in known (jobs_of root) p.section
+type_at k known root p context.Steps =
+    steps_type known (owner_of k root (job_in (jobs_of root) p.section)) p.seen
+type_at k known root p context.Matrix = type_in_job (λ j. matrix_type j.1) (job_in (jobs_of root) p.section)
+type_at k known root p context.Inputs = inputs_type k root

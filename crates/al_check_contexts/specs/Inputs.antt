@@ -3,6 +3,8 @@ use Rattle.std.specs.Prelude.{ℕ, List, [], ◌∷◌, codes, map}
 use Rattle.al_types.specs.Types.{Type', Number, Bool', String}
 use Rattle.al_yaml_tree.specs.Node.{Node}
 use Rattle.al_tree.specs.Keys.{key_of}
+use Rattle.al_tree.specs.declared.files.FileKind.{FileKind}
+use Rattle.al_tree.specs.declared.files.FileKind.TheVariants as kind
 use Rattle.al_tree_declarations.specs.Declarations.{declared_below, names_of}
 use Rattle.al_tree_declarations.specs.Inputs.{input_of}
 use Rattle.al_tree_declarations.specs.declared.inputs.InputType.{InputType}
@@ -24,10 +26,8 @@ input_field e = (key_of e, input_type (input_of e.1))
 abbrev pub event_inputs : List ℕ → Node → List Typed
 event_inputs event root = map input_field (declared_below (codes "on" ∷ event ∷ codes "inputs" ∷ []) root)
 
--- of a workflow those of a call, and those of a dispatch fused in
-abbrev pub workflow_inputs : Node → Type'
-workflow_inputs root = strictly (put_all put (event_inputs (codes "workflow_call") root) (event_inputs (codes "workflow_dispatch") root))
-
--- of an action strings
-abbrev pub action_inputs : Node → Type'
-action_inputs root = named_strings (names_of (declared_below (codes "inputs" ∷ []) root))
+-- of a workflow those of a call, and those of a dispatch fused in; of an action strings
+abbrev pub inputs_type : FileKind → Node → Type'
+inputs_type kind.Workflow root =
+    strictly (put_all put (event_inputs (codes "workflow_call") root) (event_inputs (codes "workflow_dispatch") root))
+inputs_type kind.Action root = named_strings (names_of (declared_below (codes "inputs" ∷ []) root))

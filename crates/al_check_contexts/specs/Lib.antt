@@ -5,7 +5,6 @@ pub mod Inputs
 pub mod Contexts
 pub mod Answered
 pub mod Scopes
-pub mod Environment
 pub mod Lookups
 pub mod Made
 pub mod Numbers

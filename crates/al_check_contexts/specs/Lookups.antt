@@ -1,5 +1,5 @@
 -- What is found in maps that are made once for a file.
-use Rattle.std.specs.Prelude.{ℕ, List, [], ◌∷◌, Option, Some, None, codes, map, option_map, option_and_then, slice_get, if◌then◌else◌}
+use Rattle.std.specs.Prelude.{ℕ, List, [], ◌∷◌, Option, Some, codes, map, option_map, option_and_then, slice_get, if◌then◌else◌}
 use Rattle.std.specs.BTreeMap.{get_by}
 use Rattle.std.specs.Cmp.Lexicographic.{slice_cmp}
 use Rattle.std.specs.Option.{option_cmp, option_copied, option_map_or}
@@ -7,8 +7,8 @@ use Rattle.std.specs.Ordering.{nat_cmp, ordering_then}
 use Rattle.al_types.specs.Types.{Type', Any, String}
 use Rattle.al_yaml_tree.specs.Node.{Node}
 use Rattle.al_check_contexts.specs.Answered.{Behind, is_at}
-use Rattle.al_check_contexts.specs.Contexts.{Known, call_outputs, job_field, step_type}
-use Rattle.al_check_contexts.specs.Objects.{strictly}
+use Rattle.al_check_contexts.specs.Contexts.{Known, job_field, outputs_type, step_type}
+use Rattle.al_check_contexts.specs.Objects.{loose_any, strictly}
 use Rattle.al_check_contexts.specs.declared.known.Outputs.{Outputs}
 
 -- the names at a place, None where nothing is known of them; None where nothing was answered there
@@ -31,11 +31,8 @@ found_at o job step =
 abbrev pub and_found : Behind → Found → Found
 and_found b found job step = if is_at job step b then Some b.names else found job step
 
-abbrev pub names_by : Outputs → Option (List ℕ) → Option ℕ → Option (List (List ℕ))
-names_by o job step = option_and_then (λ names. names) (found_at o job step)
-
 abbrev pub known_by : Outputs → Known
-known_by o = record { of_step = λ job i. names_by o job (Some i); of_job = λ job. names_by o (Some job) None }
+known_by o job step = option_and_then (λ names. names) (found_at o job step)
 
 -- the type of a step by the position of the names of its outputs
 abbrev pub step_at : Outputs → ℕ → Type'
@@ -47,7 +44,7 @@ shown_with outputs = strictly ((codes "result", String) ∷ (codes "outputs", ou
 
 -- what a job that calls a workflow shows, likewise by a position
 abbrev pub called_at : Outputs → ℕ → Type'
-called_at o i = shown_with (call_outputs (list_at o i))
+called_at o i = shown_with (outputs_type loose_any (list_at o i))
 
 -- what the job at a position shows
 abbrev pub shown_at : Outputs → List (Node × Node) → ℕ → Type'

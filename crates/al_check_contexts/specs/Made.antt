@@ -2,7 +2,7 @@
 use Rattle.std.specs.Prelude.{◌≡◌, List, [], Option, Some, map}
 use Rattle.al_yaml_tree.specs.Node.{Node}
 use Rattle.al_tree.specs.Values.{member_of}
-use Rattle.al_check_contexts.specs.Contexts.{Known, jobs_type_of}
+use Rattle.al_check_contexts.specs.Contexts.{Known, jobs_type}
 use Rattle.al_expr_types.specs.declared.ty.Ty.{Ty}
 use Rattle.al_expr_types.specs.declared.types.Types.{Types}
 use Rattle.al_types.specs.Strings.{named_strings}
@@ -21,7 +21,7 @@ pub record KeepsJobs (types : Types) (known : Outputs) (js : List (Node × Node)
   pub calls : Keeps types (called_at known) m.calls
   pub shown : Keeps types (shown_at known js) m.shown
   pub bare : KeepsBare types m.bare
-  pub all : (t : Ty) → m.all ≡ Some t → Means types t (jobs_type_of (known_by known) js)
+  pub all : (t : Ty) → m.all ≡ Some t → Means types t (jobs_type (known_by known) js)
 
 -- the jobs of a basis, and what it knows
 abbrev pub jobs_from : Basis → List (Node × Node)

@@ -1,6 +1,6 @@
 -- The type of `matrix` in a job (GitHub, "Workflow syntax", `jobs.<job_id>.strategy.matrix`).
-use Rattle.std.specs.Prelude.{List, [], ◌∷◌, Bool, true, false, ◌||◌, codes, Option, Some, None, if◌then◌else◌}
-use Rattle.std.specs.List.{list_any, filter_map}
+use Rattle.std.specs.Prelude.{List, [], ◌∷◌, Bool, ◌||◌, codes, Option, Some, None, is_some, if◌then◌else◌}
+use Rattle.std.specs.List.{filter_map, fold, list_any}
 use Rattle.std.specs.Option.{option_map_or}
 use Rattle.al_scalar.specs.Scalar.{Scalar, text_of}
 use Rattle.al_scalar.specs.declared.styles.Class.{Class}
@@ -9,6 +9,7 @@ use Rattle.al_rules_formats.specs.Chunks.{is_lone_chunk}
 use Rattle.al_rules_formats.specs.declared.chunks.Around.TheVariants.{Nothing}
 use Rattle.al_types.specs.Types.{Type', Any, Null, Number, Bool', String, ArrayOf, Optional, Absent, Present}
 use Rattle.al_types.specs.Types.{fuse_optional, option_of, or_any}
+use Rattle.al_yaml_tree.specs.Access.{scalar_in}
 use Rattle.al_yaml_tree.specs.Node.{Node, Nodes, Entries, scalar, sequence, mapping, no_nodes, item, no_entries, entry}
 use Rattle.al_tree.specs.Faults.{has_chunk}
 use Rattle.al_tree.specs.Keys.{key_of, key_text}
@@ -63,26 +64,24 @@ combination (mapping es at) = entries_types [] es
 combination _ = []
 
 abbrev pub include_all : List Typed → List Node → List Typed
-include_all ts [] = ts
-include_all ts (n ∷ ns) = include_all (put_all put ts (combination n)) ns
+include_all = fold (λ ts n. put_all put ts (combination n))
 
 abbrev pub is_scalar : Node → Bool
-is_scalar (scalar s at) = true
-is_scalar _ = false
+is_scalar n = is_some (scalar_in n)
 
 -- an `include` that isn't known before the workflow runs
 abbrev pub is_open_include : Node → Bool
 is_open_include n = is_scalar n || list_any is_scalar (items_in n)
 
 -- the rows, and what each combination of `include` adds to them
-abbrev pub included : List Typed → Option Node → Type'
-included rows None = strictly rows
-included rows (Some n) = if is_open_include n then loose_any else strictly (include_all rows (items_in n))
+abbrev pub with_combinations : List Typed → Option Node → Type'
+with_combinations rows None = strictly rows
+with_combinations rows (Some n) = if is_open_include n then loose_any else strictly (include_all rows (items_in n))
 
 abbrev pub matrix_of : Node → Type'
 matrix_of (scalar s at) = loose_any
 matrix_of (sequence ns at) = strictly []
-matrix_of (mapping es at) = included (rows_of (mapping es at)) (value_at (codes "include") (mapping es at))
+matrix_of (mapping es at) = with_combinations (rows_of (mapping es at)) (value_at (codes "include") (mapping es at))
 
 -- of a job; without a matrix it has no properties
 abbrev pub matrix_type : Node → Type'

@@ -1,5 +1,5 @@
 -- What an expression can refer to at a place.
-use Rattle.std.specs.Prelude.{List, [], ◌∷◌, Bool, ◌||◌, not, Option, if◌then◌else◌}
+use Rattle.std.specs.Prelude.{ℕ, List, [], ◌∷◌, Bool, ◌||◌, not, Option, if◌then◌else◌}
 use Rattle.std.specs.List.{list_any}
 use Rattle.std.specs.Option.{option_map_or}
 use Rattle.std.specs.Str.{bytes_eq}
@@ -16,18 +16,16 @@ use Rattle.al_check_places.specs.Availability.{Row, status}
 use Rattle.al_check_places.specs.Places.{Place}
 use Rattle.al_check_contexts.specs.Contexts.{Known, type_at}
 
-abbrev pub has_context : List Context → Context → Bool
-has_context cs c = list_any (λ d. bytes_eq (context_name d) (context_name c)) cs
-
-abbrev pub has_function : List Function → Function → Bool
-has_function fs f = list_any (λ g. bytes_eq (function_name g) (function_name f)) fs
+-- one of these has the name of this
+abbrev pub is_listed : {A : Type 0} → (A → List ℕ) → List A → A → Bool
+is_listed name xs x = list_any (λ y. bytes_eq (name y) (name x)) xs
 
 -- A special function has to be listed.
 abbrev pub can_call : List Function → Function → Bool
-can_call fs f = not (has_function (HashFiles ∷ status) f) || has_function fs f
+can_call fs f = not (is_listed function_name (HashFiles ∷ status) f) || is_listed function_name fs f
 
 abbrev pub available : List Context → List Function → Available
-available cs fs = record { contexts = has_context cs; functions = can_call fs }
+available cs fs = record { contexts = is_listed context_name cs; functions = can_call fs }
 
 -- all but `secrets`
 abbrev pub of_action : List Context

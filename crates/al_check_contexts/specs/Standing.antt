@@ -5,13 +5,13 @@ use Rattle.al_tree.specs.Values.{member_of}
 use Rattle.al_tree.specs.Files.{jobs_of}
 use Rattle.al_check_places.specs.Positions.{before, section_view}
 use Rattle.al_check_contexts.specs.Fixed.{strategy_type}
-use Rattle.al_check_contexts.specs.Environment.{owner_in}
+use Rattle.al_check_contexts.specs.Contexts.{job_in, owner_of, type_at}
 use Rattle.al_check_contexts.specs.Answered.{known_of}
 use Rattle.al_check_contexts.specs.Lookups.{known_by, step_at}
 use Rattle.al_check_contexts.specs.Made.{KeepsJobs}
 use Rattle.al_check_contexts.specs.Numbers.{Keeps, Means}
 use Rattle.al_check_contexts.specs.Steps.{ArePrefixes, AreStepsOf}
-use Rattle.al_check_contexts.specs.Table.{Shows, table}
+use Rattle.al_check_contexts.specs.Table.{Shows, position}
 use Rattle.al_check_contexts.specs.declared.env.Env.{Env}
 use Rattle.al_check_contexts.specs.declared.env.File.{File}
 
@@ -21,8 +21,9 @@ pub record Stands (f : File) (e : Env) : Type 0 where
   pub members : map member_of e.jobs.members.items ≡ jobs_of (view f.root.now)
   pub known : known_by e.outputs ≡ known_of f.known
   pub shows : Shows e.types e.scope.types
-      (table f.kind (known_by e.outputs) (view f.root.now) (section_view e.section) (before e.seen))
-  pub steps : AreStepsOf e.types (known_by e.outputs) (owner_in f.kind (view f.root.now) (section_view e.section)) e.steps
+      (type_at f.kind (known_by e.outputs) (view f.root.now) (position (section_view e.section) (before e.seen)))
+  pub steps : AreStepsOf e.types (known_by e.outputs)
+      (owner_of f.kind (view f.root.now) (job_in (jobs_of (view f.root.now)) (section_view e.section))) e.steps
   pub prefixes : ArePrefixes e.types e.steps
   pub strategy : Means e.types e.strategy strategy_type
   pub job_types : KeepsJobs e.types e.outputs (map member_of e.jobs.members.items) e.job_types

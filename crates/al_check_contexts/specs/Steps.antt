@@ -3,9 +3,8 @@ use Rattle.std.specs.Prelude.{◌≡◌, ◌+◌, ◌<◌, ◌≤◌, ℕ, List,
 use Rattle.al_types.specs.Puts.{Typed}
 use Rattle.al_types.specs.Types.{Type', String}
 use Rattle.al_check_places.specs.Positions.{before}
-use Rattle.al_check_contexts.specs.Contexts.{Known, steps_shown}
+use Rattle.al_check_contexts.specs.Contexts.{Known, Owner, steps_fields}
 use Rattle.al_check_contexts.specs.Objects.{strictly}
-use Rattle.al_check_contexts.specs.Environment.{Owner}
 use Rattle.al_expr_types.specs.Prefixes.{HasPrefix, map_in}
 use Rattle.al_expr_types.specs.Tables.{objects_of}
 use Rattle.al_expr_types.specs.declared.types.Types.{Types}
@@ -18,7 +17,7 @@ step_with outputs = strictly ((codes "conclusion", String) ∷ (codes "outcome",
 
 -- the fields of the first so many steps
 abbrev pub first_fields : Known → Owner → ℕ → List Typed
-first_fields known o k = steps_shown known o.0 o.1 (before k)
+first_fields known o k = steps_fields known o (before k)
 
 -- so many fields are there, and the first so many are these
 abbrev pub IsCount : List Typed → ℕ → List Typed → Type 0

@@ -3,14 +3,14 @@ ghost use Rattle.std.specs.Prelude.{◌≡◌, IfOk, OnOk, IsTrue};
 ghost use Rattle.al_base.specs.Growth.{BeginsWith};
 ghost use Rattle.al_check_contexts.specs.Scopes as scopes;
 ghost use Rattle.al_check_places.specs.Places.{place_of};
-ghost use Rattle.al_check_places.specs.Positions.{seen_view, section_view};
+ghost use Rattle.al_check_places.specs.Positions.{position_view, seen_view, section_view};
 ghost use Rattle.al_check_contexts.specs.Answered.{known_of};
+ghost use Rattle.al_check_contexts.specs.Contexts.{type_at};
 ghost use Rattle.al_check_contexts.specs.Lookups.{known_by};
 ghost use Rattle.al_check_contexts.specs.Standing.{Stands};
-ghost use Rattle.al_check_contexts.specs.Table.{Shows, table};
+ghost use Rattle.al_check_contexts.specs.Table.{Shows, position};
 ghost use Rattle.al_expr_types.specs.Tables.{objects_of};
 ghost use Rattle.al_expr_typing.specs.Scopes.{IsShown, scope_at};
-ghost use Rattle.al_tree.specs.declared.files.FileKind.TheVariants as kind;
 ghost use Rattle.al_yaml_tree.specs.View.{view};
 
 use crate::basis::Basis;
@@ -20,8 +20,8 @@ use crate::job_lists::JobList;
 use crate::jobs::JobTypes;
 use crate::known::{Answers, Outputs};
 use crate::scopes::{available, available_at};
-use crate::sections::{owned_steps, section_steps, section_types};
-use crate::start::{first_owner, first_types};
+use crate::sections::{owner_at, section_types};
+use crate::start::first_types;
 use crate::steps::StepFields;
 use al_check_places::{Place, Position, Section, Seen};
 use al_expr_types::{Ty, Types};
@@ -79,15 +79,14 @@ fn is_same_section(a: Section<'_>, b: Section<'_>) -> bool
     }
 }
 
-/// Goes on to another section of a workflow, where no step is seen.
-fn enter_workflow<'a>(
+/// Goes on to another section, where no step is seen.
+fn enter_section<'a>(
     alloc: Global,
     file: File<'a>,
     env: &mut Env<'a>,
     section: Section<'a>,
 ) -> Result<(), AllocError>
-    requires kind { file.kind ≡ kind.Workflow }
-    requires stands { Stands file env.old }
+    requires { Stands file env.old }
     ensures stands { OnOk result (Stands file.entry env.new) }
     ensures same { OnOk result (section_view (env.new).section ≡ section_view section.entry) }
     ensures kept { OnOk result
@@ -99,8 +98,10 @@ fn enter_workflow<'a>(
         outputs: &env.outputs,
         strategy: env.strategy,
     };
-    let made = section_types(&mut env.types, &basis, &mut env.job_types, section)?;
-    let mut steps = section_steps(&mut env.types, &basis, &mut env.step_types, section)?;
+    let job = env.jobs.job_of(section);
+    let owner = owner_at(file.kind, file.root, job);
+    let made = section_types(&mut env.types, &basis, &mut env.job_types, section, job)?;
+    let mut steps = StepFields::of(&mut env.types, &basis, &mut env.step_types, owner)?;
     let none_seen = steps.first(&mut env.types, 0)?;
     env.scope.types.strategy = made.strategy;
     env.scope.types.needs = made.needs;
@@ -129,13 +130,7 @@ fn enter<'a>(
     if is_same_section(env.section, section) {
         return Ok(());
     }
-    match file.kind {
-        FileKind::Workflow => enter_workflow(alloc, file, env, section),
-        FileKind::Action => {
-            env.section = section;
-            Ok(())
-        }
-    }
+    enter_section(alloc, file, env, section)
 }
 
 /// Goes on to what is seen in the same section.
@@ -145,8 +140,8 @@ fn see<'a>(file: File<'a>, env: &mut Env<'a>, seen: Seen) -> Result<(), AllocErr
     ensures same { OnOk result (section_view (env.new).section ≡ section_view (env.old).section) }
     ensures shows { OnOk result
         (Shows (env.new).types (env.new).scope.types
-        (table (file.entry).kind (known_by (env.new).outputs)
-        (view (file.entry).root.now) (section_view (env.old).section) (seen_view seen))) }
+        (type_at (file.entry).kind (known_by (env.new).outputs) (view (file.entry).root.now)
+        (position (section_view (env.old).section) (seen_view seen)))) }
     ensures kept { OnOk result
         (BeginsWith (objects_of (env.new).types) (objects_of (env.old).types)) }
 {
@@ -171,9 +166,8 @@ fn go<'a>(
     ensures stands { OnOk result (Stands file.entry env.new) }
     ensures shows { OnOk result
         (Shows (env.new).types (env.new).scope.types
-        (table (file.entry).kind (known_of (file.entry).known)
-        (view (file.entry).root.now) (section_view (position.entry).section)
-        (seen_view (position.entry).seen))) }
+        (type_at (file.entry).kind (known_of (file.entry).known) (view (file.entry).root.now)
+        (position_view position.entry))) }
     ensures kept { OnOk result
         (BeginsWith (objects_of (env.new).types) (objects_of (env.old).types)) }
 {
@@ -203,8 +197,8 @@ impl<'a> Env<'a> {
             outputs: &outputs,
             strategy,
         };
-        let owner = first_owner(file.kind, file.root);
-        let mut steps = owned_steps(&mut types, &basis, &mut step_types, owner)?;
+        let owner = owner_at(file.kind, file.root, None);
+        let mut steps = StepFields::of(&mut types, &basis, &mut step_types, owner)?;
         let none_seen = steps.first(&mut types, 0)?;
         let contexts = first_types(alloc, &mut types, file, none_seen)?;
         Ok(Env {

@@ -3,11 +3,11 @@ ghost use Rattle.std.specs.Prelude.{IfOk, OnOk, map};
 ghost use Rattle.al_base.specs.Growth.{BeginsWith};
 ghost use Rattle.al_check_contexts.specs.Inputs as inputs;
 ghost use Rattle.al_check_contexts.specs.Objects.{strictly};
-ghost use Rattle.al_check_contexts.specs.Environment.{inputs_in};
 ghost use Rattle.al_check_contexts.specs.Numbers.{Lists, Means};
 ghost use Rattle.al_expr_types.specs.Tables.{objects_of};
 ghost use Rattle.al_expr_types.specs.declared.types.Types as declared;
 ghost use Rattle.al_tree.specs.Values.{member_of};
+ghost use Rattle.al_tree.specs.declared.files.FileKind.TheVariants as kind;
 ghost use Rattle.al_types.specs.Puts.{firsts};
 ghost use Rattle.al_yaml_tree.specs.View.{view};
 
@@ -60,7 +60,7 @@ fn workflow_inputs<'a>(
     root: &'a Node,
 ) -> Result<Ty, AllocError>
     ensures ty { IfOk result
-        (λ t. Means types.new t (inputs.workflow_inputs (view root.entry.now))) }
+        (λ t. Means types.new t (inputs.inputs_type kind.Workflow (view root.entry.now))) }
     ensures kept { OnOk result (BeginsWith (objects_of types.new) (objects_of types.old)) }
 {
     let call = event_inputs(alloc, types, root, "workflow_call")?;
@@ -71,7 +71,8 @@ fn workflow_inputs<'a>(
 
 /// The type of `inputs` in an action.
 fn action_inputs<'a>(alloc: Global, types: &mut Types<'a>, root: &'a Node) -> Result<Ty, AllocError>
-    ensures ty { IfOk result (λ t. Means types.new t (inputs.action_inputs (view root.entry.now))) }
+    ensures ty { IfOk result (λ t. Means types.new t
+        (inputs.inputs_type kind.Action (view root.entry.now))) }
     ensures kept { OnOk result (BeginsWith (objects_of types.new) (objects_of types.old)) }
 {
     let declared = declared_at(alloc, value(root, "inputs"))?;
@@ -86,7 +87,7 @@ pub(crate) fn inputs_type<'a>(
     kind: FileKind,
     root: &'a Node,
 ) -> Result<Ty, AllocError>
-    ensures ty { IfOk result (λ t. Means types.new t (inputs_in kind (view root.entry.now))) }
+    ensures ty { IfOk result (λ t. Means types.new t (inputs.inputs_type kind (view root.entry.now))) }
     ensures kept { OnOk result (BeginsWith (objects_of types.new) (objects_of types.old)) }
 {
     match kind {

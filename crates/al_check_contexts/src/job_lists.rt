@@ -1,16 +1,17 @@
 //! The jobs of a workflow, found by their keys.
 ghost use Rattle.std.specs.Prelude.{◌≡◌, ◌<◌, IfOk, length, map, option_map, slice_get};
-ghost use Rattle.al_base.specs.NamePlaces.{name_position, text_position};
+ghost use Rattle.al_base.specs.NamePlaces.{name_place, name_position, text_place, text_position};
 ghost use Rattle.al_check_places.specs.Positions.{section_view};
 ghost use Rattle.al_tree.specs.Values.{member_of};
 ghost use Rattle.al_tree.specs.Files.{jobs_of};
+ghost use Rattle.al_tree_declarations.specs.Declarations.{names_of};
 ghost use Rattle.al_yaml_tree.specs.View.{view};
-ghost use Rattle.al_check_contexts.specs.Contexts.{job_among};
-ghost use Rattle.al_check_contexts.specs.Private.JobPositions.{key_at, named_at};
+ghost use Rattle.al_check_contexts.specs.Contexts.{job_in};
 
+use crate::objects::key_texts;
 use al_base::{NamePositions, TextPositions};
 use al_check_places::Section;
-use al_tree::{Member, key_text, members_under};
+use al_tree::{Member, members_under};
 use al_yaml_tree::Node;
 use std::alloc::{AllocError, Global};
 
@@ -18,35 +19,12 @@ use std::alloc::{AllocError, Global};
 #[derive(Drop)]
 pub(crate) struct JobList<'a> {
     members: Vec<Member<'a>>,
-    /// Where each key stands.
-    keys: TextPositions,
+    /// Where each key first stands. Two jobs may have keys that are the same but for ASCII case.
+    keys: TextPositions<'a>,
     /// Where each key first stands, without regard to ASCII case.
     names: NamePositions,
-    ghost by_key: { text_position keys ≡ key_at (map member_of members.items) },
-    ghost by_name: { name_position names ≡ named_at (map member_of members.items) },
-}
-
-/// Where the keys of some members stand.
-fn key_positions(alloc: Global, members: &[Member<'_>]) -> Result<TextPositions, AllocError>
-    ensures { IfOk result (λ p. text_position p ≡ key_at (map member_of members.now)) }
-{
-    let mut keys = TextPositions::new(alloc);
-    for (i, member) in members.iter().enumerate() {
-        let key = Vec::from_slice(alloc, key_text(member.key))?;
-        let _ = keys.insert(key, i)?;
-    }
-    Ok(keys)
-}
-
-/// Where the keys of some members first stand, without regard to ASCII case.
-fn name_positions(alloc: Global, members: &[Member<'_>]) -> Result<NamePositions, AllocError>
-    ensures { IfOk result (λ p. name_position p ≡ named_at (map member_of members.now)) }
-{
-    let mut names = NamePositions::new(alloc);
-    for (i, member) in members.iter().enumerate() {
-        let _ = names.insert(alloc, key_text(member.key), i)?;
-    }
-    Ok(names)
+    ghost by_key: { text_position keys ≡ text_place (names_of (map member_of members.items)) },
+    ghost by_name: { name_position names ≡ name_place (names_of (map member_of members.items)) },
 }
 
 impl<'a> JobList<'a> {
@@ -55,8 +33,9 @@ impl<'a> JobList<'a> {
         ensures { IfOk result (λ l. map member_of l.members.items ≡ jobs_of (view root.now)) }
     {
         let members = members_under(alloc, root, "jobs")?;
-        let keys = key_positions(alloc, members.as_slice())?;
-        let names = name_positions(alloc, members.as_slice())?;
+        let texts = key_texts(alloc, members.as_slice())?;
+        let keys = TextPositions::of(alloc, texts.as_slice())?;
+        let names = NamePositions::of(alloc, texts.as_slice())?;
         Ok(JobList {
             members,
             keys,
@@ -82,7 +61,7 @@ impl<'a> JobList<'a> {
     /// The job of a section.
     pub(crate) fn job_of(&self, section: Section<'_>) -> Option<Member<'a>>
         ensures { option_map member_of result
-            ≡ job_among (map member_of self.now.members.items) (section_view section.entry) }
+            ≡ job_in (map member_of self.now.members.items) (section_view section.entry) }
     {
         match section {
             Section::Apart => None,
@@ -100,7 +79,8 @@ impl<'a> JobList<'a> {
         alloc: Global,
         name: &[u8],
     ) -> Result<Option<usize>, AllocError>
-        ensures { IfOk result (λ i. i ≡ named_at (map member_of self.now.members.items) name.now) }
+        ensures { IfOk result
+            (λ i. i ≡ name_place (names_of (map member_of self.now.members.items)) name.now) }
     {
         let i = self.names.get(alloc, name)?;
         Ok(i)

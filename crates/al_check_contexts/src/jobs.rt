@@ -2,10 +2,11 @@
 ghost use Rattle.std.specs.Prelude.{◌≡◌, ◌<◌, [], IfOk, OnOk, List, codes, length, option_map, true};
 ghost use Rattle.std.specs.Option.{option_to_list};
 ghost use Rattle.al_base.specs.Growth.{BeginsWith};
-ghost use Rattle.al_check_contexts.specs.Contexts.{call_outputs, job_field, jobs_type_of, needed, needs_type_of};
+ghost use Rattle.al_check_contexts.specs.Contexts.{dependency, job_field, jobs_type, needs_type, outputs_type};
 ghost use Rattle.al_check_contexts.specs.Lookups.{called_at, shown_at, shown_with};
 ghost use Rattle.al_check_contexts.specs.Made.{KeepsBare, KeepsJobs, KeepsJobsOf, jobs_from, known_from};
 ghost use Rattle.al_check_contexts.specs.Numbers.{Keeps, Lists, Means};
+ghost use Rattle.al_check_contexts.specs.Objects as objects;
 ghost use Rattle.al_expr_types.specs.Tables.{is_known, objects_of, type_at};
 ghost use Rattle.al_expr_types.specs.declared.types.Types as declared;
 ghost use Rattle.al_check_contexts.specs.declared.known.Outputs as outputs;
@@ -58,7 +59,8 @@ fn call_outputs_type<'a>(
     outputs: Option<&'a NameList>,
 ) -> Result<Ty, AllocError>
     ensures ty { IfOk result
-        (λ t. Means types.new t (call_outputs (option_map (λ l. l.now) outputs.entry))) }
+        (λ t. Means types.new t
+        (outputs_type objects.loose_any (option_map (λ l. l.now) outputs.entry))) }
     ensures kept { OnOk result (BeginsWith (objects_of types.new) (objects_of types.old)) }
 {
     match outputs {
@@ -168,7 +170,7 @@ impl JobTypes {
         ensures kept { OnOk result (BeginsWith (objects_of types.new) (objects_of types.old)) }
     {
         if has_value(job.value, "uses") {
-            let position = basis.outputs.position_of_job(key_text(job.key));
+            let position = basis.outputs.position(Some(key_text(job.key)), None);
             let ty = called_type(types, basis, &mut self.calls, position)?;
             return Ok(ty);
         }
@@ -206,7 +208,7 @@ impl JobTypes {
     ) -> Result<Ty, AllocError>
         requires { KeepsJobsOf types.old basis.now self.old }
         ensures ty { IfOk result
-            (λ t. Means types.new t (jobs_type_of (known_from basis.now) (jobs_from basis.now))) }
+            (λ t. Means types.new t (jobs_type (known_from basis.now) (jobs_from basis.now))) }
         ensures keeps { OnOk result (KeepsJobsOf types.new basis.now self.new) }
         ensures kept { OnOk result (BeginsWith (objects_of types.new) (objects_of types.old)) }
     {
@@ -229,7 +231,7 @@ impl JobTypes {
     ) -> Result<Ty, AllocError>
         requires { KeepsJobsOf types.old basis.now self.old }
         ensures ty { IfOk result
-            (λ t. Means types.new t (jobs_type_of (known_from basis.now) (jobs_from basis.now))) }
+            (λ t. Means types.new t (jobs_type (known_from basis.now) (jobs_from basis.now))) }
         ensures keeps { OnOk result (KeepsJobsOf types.new basis.now self.new) }
         ensures kept { OnOk result (BeginsWith (objects_of types.new) (objects_of types.old)) }
     {
@@ -242,7 +244,7 @@ impl JobTypes {
     }
 
     /// Fields, and what the first job of a name shows, where there is one, unless a field has its name.
-    fn and_needed<'a>(
+    fn and_dependency<'a>(
         &mut self,
         types: &mut Types<'a>,
         basis: &Basis<'_, 'a>,
@@ -253,7 +255,7 @@ impl JobTypes {
         ensures fields { IfOk result
             (λ l. (ts : List Typed) → Lists types.old fields.entry ts → Lists types.new l
             (put_all put_new ts (option_to_list
-            (needed (known_from basis.now) (jobs_from basis.now) name.now)))) }
+            (dependency (known_from basis.now) (jobs_from basis.now) name.now)))) }
         ensures keeps { OnOk result (KeepsJobsOf types.new basis.now self.new) }
         ensures kept { OnOk result (BeginsWith (objects_of types.new) (objects_of types.old)) }
     {
@@ -276,14 +278,14 @@ impl JobTypes {
     ) -> Result<Ty, AllocError>
         requires { KeepsJobsOf types.old basis.now self.old }
         ensures ty { IfOk result (λ t. Means types.new t
-            (needs_type_of (known_from basis.now) (jobs_from basis.now) (view job.entry.now))) }
+            (needs_type (known_from basis.now) (jobs_from basis.now) (view job.entry.now))) }
         ensures keeps { OnOk result (KeepsJobsOf types.new basis.now self.new) }
         ensures kept { OnOk result (BeginsWith (objects_of types.new) (objects_of types.old)) }
     {
         let mut fields = FieldList::new(basis.alloc);
         let names = texts_under(basis.alloc, job, "needs")?;
         for name in names.as_slice() {
-            let more = self.and_needed(types, basis, name.scalar.text(), fields)?;
+            let more = self.and_dependency(types, basis, name.scalar.text(), fields)?;
             fields = more;
         }
         let ty = fields.into_type(basis.alloc, types, None)?;

@@ -2,7 +2,7 @@
 ghost use Rattle.std.specs.Prelude.{◌≡◌, IfOk, OnOk, length, option_and_then, option_map};
 ghost use Rattle.std.specs.Option.{option_copied};
 ghost use Rattle.al_check_contexts.specs.Answered.{behind_of, known_of};
-ghost use Rattle.al_check_contexts.specs.Lookups.{and_found, found_at, known_by, list_at, lists_of, names_by};
+ghost use Rattle.al_check_contexts.specs.Lookups.{and_found, found_at, known_by, list_at, lists_of};
 
 use al_expr_types::NameList;
 use std::alloc::{AllocError, Global};
@@ -51,13 +51,13 @@ impl<'a> Outputs<'a> {
         let mut rest = known.answers.len();
         while rest > 0 {
             rest -= 1;
-            outputs.put(known.answers[rest])?;
+            outputs.push_front(known.answers[rest])?;
         }
         Ok(outputs)
     }
 
-    /// Puts an answer in front of the others.
-    fn put(&mut self, answer: Answer<'a>) -> Result<(), AllocError>
+    /// Adds an answer in front of the others.
+    fn push_front(&mut self, answer: Answer<'a>) -> Result<(), AllocError>
         ensures found { OnOk result
             (found_at self.new ≡ and_found (behind_of (lists_of self.old) answer.entry)
             (found_at self.old)) }
@@ -86,28 +86,13 @@ impl<'a> Outputs<'a> {
     }
 
     /// The position of the names of the outputs behind a call, or `unknown`. Calls with one position have the same outputs.
-    fn position(&self, job: Option<&'a [u8]>, step: Option<usize>) -> usize
-        ensures { list_at self.now result ≡ names_by self.now (option_copied job.entry) step }
+    pub(crate) fn position(&self, job: Option<&'a [u8]>, step: Option<usize>) -> usize
+        ensures { list_at self.now result ≡ known_by self.now (option_copied job.entry) step }
     {
         match self.positions.get(&(job, step)) {
             Some(position) => self.or_unknown(*position),
             None => self.unknown_position(),
         }
-    }
-
-    /// The position of the names of a step's outputs, likewise.
-    pub(crate) fn position_of_step(&self, job: Option<&'a [u8]>, i: usize) -> usize
-        ensures { list_at self.now result
-            ≡ (known_by self.now).of_step (option_copied job.entry) i }
-    {
-        self.position(job, Some(i))
-    }
-
-    /// The position of the names of a job's outputs, likewise.
-    pub(crate) fn position_of_job(&self, job: &'a [u8]) -> usize
-        ensures { list_at self.now result ≡ (known_by self.now).of_job job.entry.now }
-    {
-        self.position(Some(job), None)
     }
 
     /// The names at a position.

@@ -239,7 +239,7 @@ fn with_combinations<'a>(
 ) -> Result<Ty, AllocError>
     requires { is_known types.old rows ≡ true }
     ensures ty { IfOk result (λ t. (ts : List Typed) → Means types.old rows (strictly ts)
-        → Means types.new t (matrix.included ts
+        → Means types.new t (matrix.with_combinations ts
         (option_map (λ n. view n.now) combinations.entry))) }
     ensures kept { OnOk result (BeginsWith (objects_of types.new) (objects_of types.old)) }
 {
@@ -258,7 +258,7 @@ fn with_combinations<'a>(
 /// The type of a matrix that is a mapping.
 fn mapped_matrix<'a>(alloc: Global, types: &mut Types<'a>, node: &'a Node) -> Result<Ty, AllocError>
     ensures ty { IfOk result (λ t. Means types.new t
-        (matrix.included (rows_of (view node.entry.now))
+        (matrix.with_combinations (rows_of (view node.entry.now))
         (value_at (codes "include") (view node.entry.now)))) }
     ensures kept { OnOk result (BeginsWith (objects_of types.new) (objects_of types.old)) }
 {

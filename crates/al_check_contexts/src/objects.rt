@@ -43,7 +43,10 @@ pub(crate) fn loose_any(alloc: Global, types: &mut Types<'_>) -> Result<Ty, Allo
 }
 
 /// The keys of entries.
-fn key_texts<'a>(alloc: Global, entries: &[Member<'a>]) -> Result<Vec<&'a [u8]>, AllocError>
+pub(crate) fn key_texts<'a>(
+    alloc: Global,
+    entries: &[Member<'a>],
+) -> Result<Vec<&'a [u8]>, AllocError>
     ensures { IfOk result (λ v. map (λ n. n.now) v.items ≡ names_of (map member_of entries.now)) }
 {
     let mut keys = Vec::new(alloc);

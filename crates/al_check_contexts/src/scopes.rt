@@ -1,6 +1,8 @@
 //! What a place makes available, as the sets of a scope.
 ghost use Rattle.std.specs.Prelude.{◌≡◌, option_map};
 ghost use Rattle.al_check_contexts.specs.Scopes as scopes;
+ghost use Rattle.al_check_contexts.specs.Scopes.{is_listed};
+ghost use Rattle.al_types.specs.Names.{context_name, function_name};
 ghost use Rattle.al_check_places.specs.Availability.{row_of};
 ghost use Rattle.al_types.specs.Scopes.{available_of, is_allowed, is_available};
 ghost use Rattle.al_types.specs.declared.names.Context as context_names;
@@ -36,7 +38,7 @@ const OF_CONDITION: &[Function] = &[
 
 /// Whether a context is one of some.
 fn has_context(contexts: &[Context], context: Context) -> bool
-    ensures { result ≡ scopes.has_context contexts.now context }
+    ensures { result ≡ is_listed context_name contexts.now context }
 {
     for other in contexts {
         if *other == context {
@@ -48,10 +50,10 @@ fn has_context(contexts: &[Context], context: Context) -> bool
 
 /// Whether a function is one of some.
 fn has_function(functions: &[Function], function: Function) -> bool
-    ensures { result ≡ scopes.has_function functions.now function }
+    ensures { result ≡ is_listed function_name functions.now function }
 {
     for other in functions {
-        if other.name().as_bytes() == function.name().as_bytes() {
+        if *other == function {
             return true;
         }
     }
@@ -61,7 +63,7 @@ fn has_function(functions: &[Function], function: Function) -> bool
 /// The set of some contexts.
 fn context_set(contexts: &[Context]) -> ContextSet
     ensures { (c : context_names.Context) → is_available result c
-        ≡ scopes.has_context contexts.now c }
+        ≡ is_listed context_name contexts.now c }
 {
     ContextSet {
         github: has_context(contexts, Context::Github),

@@ -1,30 +1,28 @@
-//! The types of contexts that change with the section.
+//! The types of contexts that change with the section, and whose steps are seen there.
 ghost use Rattle.std.specs.Prelude.{◌≡◌, IfOk, OnOk, option_map};
 ghost use Rattle.al_base.specs.Growth.{BeginsWith};
-ghost use Rattle.al_check_contexts.specs.Contexts.{job_among, needs_type_of, type_in_job};
+ghost use Rattle.al_check_contexts.specs.Contexts.{jobs_in, needs_type, owner_of, type_in_job};
 ghost use Rattle.al_check_contexts.specs.Fixed.{strategy_type};
 ghost use Rattle.al_check_contexts.specs.Matrix as specs;
-ghost use Rattle.al_check_contexts.specs.Environment as environment;
 ghost use Rattle.al_check_places.specs.Positions.{section_view};
-ghost use Rattle.al_check_contexts.specs.Lookups.{step_at};
 ghost use Rattle.al_check_contexts.specs.Made.{KeepsJobsOf, jobs_from, known_from};
-ghost use Rattle.al_check_contexts.specs.Numbers.{Keeps, Means};
+ghost use Rattle.al_check_contexts.specs.Numbers.{Means};
 ghost use Rattle.al_check_contexts.specs.Private.Owners.{owner_view};
-ghost use Rattle.al_check_contexts.specs.Steps.{ArePrefixes, AreStepsOf};
 ghost use Rattle.al_check_contexts.specs.Table.{AreOfSection};
 ghost use Rattle.al_expr_types.specs.Tables.{objects_of};
 ghost use Rattle.al_expr_types.specs.declared.types.Types as declared;
 ghost use Rattle.al_tree.specs.Values.{member_of};
+ghost use Rattle.al_yaml_tree.specs.View.{view};
 
 use crate::basis::Basis;
-use crate::caches::TypeCache;
 use crate::jobs::JobTypes;
 use crate::matrix::matrix_type;
 use crate::owners::Owner;
-use crate::steps::StepFields;
 use al_check_places::Section;
 use al_expr_types::{Ty, Types};
-use al_tree::{Member, items_under, key_text};
+use al_tree::{FileKind, Member, items_under, key_text};
+use al_tree_declarations::{action_steps, is_composite};
+use al_yaml_tree::Node;
 use std::alloc::{AllocError, Global};
 
 /// The types of contexts that change with the section alone.
@@ -34,17 +32,6 @@ pub(crate) struct SectionTypes {
     pub(crate) needs: Ty,
     pub(crate) jobs: Ty,
     pub(crate) matrix: Ty,
-}
-
-/// Whether the jobs are seen in a section.
-fn shows_jobs(section: Section<'_>) -> bool
-    ensures { result ≡ environment.shows_jobs (section_view section.entry) }
-{
-    match section {
-        Section::Apart => false,
-        Section::On => true,
-        Section::Job(_) => true,
-    }
 }
 
 /// The type of `strategy` in a job or outside of jobs, from that in jobs.
@@ -85,7 +72,7 @@ fn needs_at<'a>(
 ) -> Result<Ty, AllocError>
     requires { KeepsJobsOf types.old basis.now made.old }
     ensures ty { IfOk result
-        (λ t. Means types.new t (type_in_job (λ j. needs_type_of (known_from basis.now)
+        (λ t. Means types.new t (type_in_job (λ j. needs_type (known_from basis.now)
         (jobs_from basis.now) j.1) (option_map member_of job.entry))) }
     ensures keeps { OnOk result (KeepsJobsOf types.new basis.now made.new) }
     ensures kept { OnOk result (BeginsWith (objects_of types.new) (objects_of types.old)) }
@@ -99,7 +86,7 @@ fn needs_at<'a>(
     }
 }
 
-/// The type of `jobs` in a section of a workflow.
+/// The type of `jobs` in a section.
 fn jobs_at<'a>(
     types: &mut Types<'a>,
     basis: &Basis<'_, 'a>,
@@ -108,34 +95,32 @@ fn jobs_at<'a>(
 ) -> Result<Ty, AllocError>
     requires { KeepsJobsOf types.old basis.now made.old }
     ensures ty { IfOk result (λ t. Means types.new t
-        (environment.jobs_shown (known_from basis.now) (jobs_from basis.now)
-        (section_view section.entry))) }
+        (jobs_in (known_from basis.now) (jobs_from basis.now) (section_view section.entry))) }
     ensures keeps { OnOk result (KeepsJobsOf types.new basis.now made.new) }
     ensures kept { OnOk result (BeginsWith (objects_of types.new) (objects_of types.old)) }
 {
-    if !shows_jobs(section) {
-        return Ok(Ty::ANY);
+    match section {
+        Section::Apart => Ok(Ty::ANY),
+        Section::On | Section::Job(_) => made.jobs_type(types, basis),
     }
-    let ty = made.jobs_type(types, basis)?;
-    Ok(ty)
 }
 
-/// The types in a section of a workflow. Fails with `AllocError` when out of memory.
+/// The types in a section, which is that of a job. Fails with `AllocError` when out of memory.
 pub(crate) fn section_types<'a>(
     types: &mut Types<'a>,
     basis: &Basis<'_, 'a>,
     made: &mut JobTypes,
     section: Section<'a>,
+    job: Option<Member<'a>>,
 ) -> Result<SectionTypes, AllocError>
     requires strategy { Means types.old basis.now.strategy strategy_type }
     requires keeps { KeepsJobsOf types.old basis.now made.old }
     ensures types { IfOk result (λ st.
         AreOfSection types.new (known_from basis.now) (jobs_from basis.now)
-        (section_view section.entry) st) }
+        (section_view section.entry) (option_map member_of job.entry) st) }
     ensures keeps { OnOk result (KeepsJobsOf types.new basis.now made.new) }
     ensures kept { OnOk result (BeginsWith (objects_of types.new) (objects_of types.old)) }
 {
-    let job = basis.jobs.job_of(section);
     let needs = needs_at(types, basis, made, job)?;
     let jobs = jobs_at(types, basis, made, section)?;
     let matrix = matrix_at(basis.alloc, types, job)?;
@@ -147,59 +132,32 @@ pub(crate) fn section_types<'a>(
     })
 }
 
-/// The steps of a job.
-fn owner_at<'a>(job: Option<Member<'a>>) -> Option<Owner<'a>>
+/// The steps that are seen in a section: in a workflow those of its job, in an action its own where it is composite.
+pub(crate) fn owner_at<'a>(
+    kind: FileKind,
+    root: &'a Node,
+    job: Option<Member<'a>>,
+) -> Option<Owner<'a>>
     ensures { option_map owner_view result
-        ≡ option_map environment.owner_of (option_map member_of job.entry) }
+        ≡ owner_of kind (view root.entry.now) (option_map member_of job.entry) }
 {
-    let job = job?;
-    Some(Owner {
-        job: Some(key_text(job.key)),
-        steps: items_under(job.value, "steps"),
-    })
-}
-
-/// The fields of `steps` of an owner. Fails with `AllocError` when out of memory.
-pub(crate) fn owned_steps<'a>(
-    types: &mut Types<'a>,
-    basis: &Basis<'_, 'a>,
-    made: &mut TypeCache,
-    owner: Option<Owner<'a>>,
-) -> Result<StepFields<'a>, AllocError>
-    requires { Keeps types.old (step_at basis.now.outputs.now) made.old }
-    ensures steps { IfOk result
-        (λ s. AreStepsOf types.new (known_from basis.now) (option_map owner_view owner.entry) s) }
-    ensures prefixes { IfOk result (λ s. ArePrefixes types.new s) }
-    ensures keeps { OnOk result (Keeps types.new (step_at basis.now.outputs.now) made.new) }
-    ensures kept { OnOk result (BeginsWith (objects_of types.new) (objects_of types.old)) }
-{
-    match owner {
-        None => {
-            let steps = StepFields::none(basis.alloc)?;
-            Ok(steps)
-        }
-        Some(owner) => {
-            let steps = StepFields::of(types, basis, made, owner)?;
-            Ok(steps)
+    match kind {
+        FileKind::Workflow => match job {
+            Some(job) => Some(Owner {
+                job: Some(key_text(job.key)),
+                steps: items_under(job.value, "steps"),
+            }),
+            None => None,
+        },
+        FileKind::Action => {
+            if is_composite(root) {
+                Some(Owner {
+                    job: None,
+                    steps: action_steps(root),
+                })
+            } else {
+                None
+            }
         }
     }
-}
-
-/// The fields of `steps` in a section of a workflow. Fails with `AllocError` when out of memory.
-pub(crate) fn section_steps<'a>(
-    types: &mut Types<'a>,
-    basis: &Basis<'_, 'a>,
-    made: &mut TypeCache,
-    section: Section<'a>,
-) -> Result<StepFields<'a>, AllocError>
-    requires { Keeps types.old (step_at basis.now.outputs.now) made.old }
-    ensures steps { IfOk result (λ s. AreStepsOf types.new (known_from basis.now)
-        (option_map environment.owner_of
-        (job_among (jobs_from basis.now) (section_view section.entry))) s) }
-    ensures prefixes { IfOk result (λ s. ArePrefixes types.new s) }
-    ensures keeps { OnOk result (Keeps types.new (step_at basis.now.outputs.now) made.new) }
-    ensures kept { OnOk result (BeginsWith (objects_of types.new) (objects_of types.old)) }
-{
-    let steps = owned_steps(types, basis, made, owner_at(basis.jobs.job_of(section)))?;
-    Ok(steps)
 }

@@ -1,12 +1,10 @@
 //! The types of contexts at the start of a file.
-ghost use Rattle.std.specs.Prelude.{◌≡◌, IfOk, OnOk, option_map};
+ghost use Rattle.std.specs.Prelude.{IfOk, OnOk};
 ghost use Rattle.al_base.specs.Growth.{BeginsWith};
-ghost use Rattle.al_check_contexts.specs.Contexts.{Known};
-ghost use Rattle.al_check_contexts.specs.Environment.{owner_in};
+ghost use Rattle.al_check_contexts.specs.Contexts.{Known, type_at};
 ghost use Rattle.al_check_places.specs.Positions.{apart, before};
 ghost use Rattle.al_check_contexts.specs.Numbers.{Means};
-ghost use Rattle.al_check_contexts.specs.Private.Owners.{owner_view};
-ghost use Rattle.al_check_contexts.specs.Table.{AreFixed, Shows, table};
+ghost use Rattle.al_check_contexts.specs.Table.{AreFixed, Shows, position};
 ghost use Rattle.al_expr_types.specs.Tables.{objects_of};
 ghost use Rattle.al_types.specs.declared.names.Context.TheVariants as context;
 ghost use Rattle.al_yaml_tree.specs.View.{view};
@@ -15,32 +13,9 @@ use crate::env::File;
 use crate::fixed::{github, job, runner};
 use crate::inputs::inputs_type;
 use crate::objects::loose_strings;
-use crate::owners::Owner;
 use al_expr_types::{Ty, Types};
 use al_expr_typing::ContextTypes;
-use al_tree::FileKind;
-use al_tree_declarations::{action_steps, is_composite};
-use al_yaml_tree::Node;
 use std::alloc::{AllocError, Global};
-
-/// Whose steps are seen at the start of a file: those of a composite action, and of a workflow nobody's.
-pub(crate) fn first_owner(kind: FileKind, root: &Node) -> Option<Owner<'_>>
-    ensures { option_map owner_view result ≡ owner_in kind (view root.now) apart }
-{
-    match kind {
-        FileKind::Workflow => None,
-        FileKind::Action => {
-            if is_composite(root) {
-                Some(Owner {
-                    job: None,
-                    steps: action_steps(root),
-                })
-            } else {
-                None
-            }
-        }
-    }
-}
 
 /// The types of contexts that are the same in every file.
 #[derive(Clone, Copy)]
@@ -77,9 +52,10 @@ pub(crate) fn first_types<'a>(
 ) -> Result<ContextTypes, AllocError>
     ensures types { IfOk result (λ ts. (known : Known)
         → Means types.old steps
-        (table (file.entry).kind known (view (file.entry).root.now) apart (before 0) context.Steps)
-        → Shows types.new ts (table (file.entry).kind known (view (file.entry).root.now) apart
-        (before 0))) }
+        (type_at (file.entry).kind known (view (file.entry).root.now) (position apart (before 0))
+        context.Steps)
+        → Shows types.new ts (type_at (file.entry).kind known (view (file.entry).root.now)
+        (position apart (before 0)))) }
     ensures kept { OnOk result (BeginsWith (objects_of types.new) (objects_of types.old)) }
 {
     let fixed = fixed_types(alloc, types)?;

@@ -3,13 +3,12 @@ ghost use Rattle.std.specs.Prelude.{◌≡◌, ◌-◌, ◌≤◌, IfOk, List, N
 ghost use Rattle.std.specs.Option.{option_copied, option_to_list};
 ghost use Rattle.al_base.specs.Growth.{BeginsWith};
 ghost use Rattle.al_check_contexts.specs.Contexts as contexts;
-ghost use Rattle.al_check_contexts.specs.Contexts.{Known, step_field};
-ghost use Rattle.al_check_contexts.specs.Environment as environment;
-ghost use Rattle.al_check_contexts.specs.Environment.{owned};
+ghost use Rattle.al_check_contexts.specs.Contexts.{Known, Owner as StepOwner, step_field, steps_type};
 ghost use Rattle.al_check_places.specs.Positions.{before, seen_view};
 ghost use Rattle.al_check_contexts.specs.Lookups.{step_at};
 ghost use Rattle.al_check_contexts.specs.Made.{known_from};
 ghost use Rattle.al_check_contexts.specs.Numbers.{Keeps, Lists, Means};
+ghost use Rattle.al_check_contexts.specs.Objects as objects;
 ghost use Rattle.al_check_contexts.specs.Steps.{ArePrefixes, AreSteps, AreStepsOf};
 ghost use Rattle.al_check_contexts.specs.Steps as specs;
 ghost use Rattle.al_check_contexts.specs.Private.Owners.{owner_view};
@@ -57,7 +56,8 @@ fn outputs_type<'a>(
     outputs: Option<&'a NameList>,
 ) -> Result<Ty, AllocError>
     ensures ty { IfOk result
-        (λ t. Means types.new t (contexts.step_outputs (option_map (λ l. l.now) outputs.entry))) }
+        (λ t. Means types.new t (contexts.outputs_type objects.loose_strings
+        (option_map (λ l. l.now) outputs.entry))) }
     ensures kept { OnOk result (BeginsWith (objects_of types.new) (objects_of types.old)) }
 {
     match outputs {
@@ -110,7 +110,7 @@ fn and_step<'a>(
     match text_under(step.node, "id") {
         None => Ok(fields),
         Some(id) => {
-            let position = basis.outputs.position_of_step(step.job, step.index);
+            let position = basis.outputs.position(step.job, Some(step.index));
             let ty = step_type(types, basis, made, position)?;
             let more = fields.and(basis.alloc, id.scalar.text(), ty)?;
             Ok(more)
@@ -120,7 +120,7 @@ fn and_step<'a>(
 
 impl<'a> StepFields<'a> {
     /// Where `steps` is nobody's.
-    pub(crate) fn none(alloc: Global) -> Result<StepFields<'a>, AllocError>
+    fn none(alloc: Global) -> Result<StepFields<'a>, AllocError>
         ensures steps { IfOk result
             (λ s. (types : declared.Types) (known : Known) → AreStepsOf types known None s) }
         ensures prefixes { IfOk result (λ s. (types : declared.Types) → ArePrefixes types s) }
@@ -130,8 +130,34 @@ impl<'a> StepFields<'a> {
         Ok(StepFields { prefixes, counts })
     }
 
-    /// Those of some steps.
+    /// Those of an owner, or of nobody.
     pub(crate) fn of(
+        types: &mut Types<'a>,
+        basis: &Basis<'_, 'a>,
+        made: &mut TypeCache,
+        owner: Option<Owner<'a>>,
+    ) -> Result<StepFields<'a>, AllocError>
+        requires { Keeps types.old (step_at basis.now.outputs.now) made.old }
+        ensures steps { IfOk result (λ s.
+            AreStepsOf types.new (known_from basis.now) (option_map owner_view owner.entry) s) }
+        ensures prefixes { IfOk result (λ s. ArePrefixes types.new s) }
+        ensures keeps { OnOk result (Keeps types.new (step_at basis.now.outputs.now) made.new) }
+        ensures kept { OnOk result (BeginsWith (objects_of types.new) (objects_of types.old)) }
+    {
+        match owner {
+            None => {
+                let steps = StepFields::none(basis.alloc)?;
+                Ok(steps)
+            }
+            Some(owner) => {
+                let steps = StepFields::of_owner(types, basis, made, owner)?;
+                Ok(steps)
+            }
+        }
+    }
+
+    /// Those of an owner's steps.
+    fn of_owner(
         types: &mut Types<'a>,
         basis: &Basis<'_, 'a>,
         made: &mut TypeCache,
@@ -164,9 +190,9 @@ impl<'a> StepFields<'a> {
 
     /// How many steps are seen.
     pub(crate) fn seen_count(&self, seen: Seen) -> usize
-        ensures seen { (types : declared.Types) (known : Known) (o : Option environment.Owner)
+        ensures seen { (types : declared.Types) (known : Known) (o : Option StepOwner)
             → AreStepsOf types known o self.now
-            → owned known o (seen_view seen) ≡ owned known o (before result) }
+            → steps_type known o (seen_view seen) ≡ steps_type known o (before result) }
         ensures inside { result ≤ length self.now.counts.items - 1 }
     {
         let all = self.counts.len().saturating_sub(1);
@@ -182,11 +208,11 @@ impl<'a> StepFields<'a> {
         requires prefixes { ArePrefixes types.old self.old }
         requires inside { count ≤ length (self.old).counts.items - 1 }
         ensures ty { IfOk result
-            (λ t. (known : Known) (o : Option environment.Owner)
+            (λ t. (known : Known) (o : Option StepOwner)
             → AreStepsOf types.old known o self.old
-            → Means types.new t (owned known o (before count))) }
+            → Means types.new t (steps_type known o (before count))) }
         ensures steps { OnOk result
-            ((known : Known) (o : Option environment.Owner) → AreStepsOf types.old known o self.old
+            ((known : Known) (o : Option StepOwner) → AreStepsOf types.old known o self.old
             → AreStepsOf types.new known o self.new) }
         ensures prefixes { OnOk result (ArePrefixes types.new self.new) }
         ensures kept { OnOk result (BeginsWith (objects_of types.new) (objects_of types.old)) }

@@ -5,14 +5,14 @@ use Rattle.std.proofs.Common.{◌≡◌, ℕ, suc, List, [], ◌∷◌, ◌++◌
 use Rattle.std.proofs.lemmas.Bool.{eqb-true}
 use Rattle.std.specs.Prelude.{codes}
 use Rattle.std.specs.Str.{bytes_eq}
-use Rattle.al_check_places.specs.Availability.{any, begins, fits, key}
+use Rattle.al_check_places.specs.Paths.{Path, path, begins, fits}
 use Rattle.al_check_places.specs.Places.{fits as fits_rule, has_expression, place_at, scalar_places, takes_scalars_only}
 use Rattle.al_scalar.specs.Scalar.{Scalar}
 use Rattle.al_tree.specs.Table.{Rule}
 use Rattle.al_base.specs.declared.faults.Span.{Span}
 use Rattle.al_tree.specs.declared.files.FileKind.{FileKind}
 use Rattle.al_check_places.specs.Private.Endings.{is_condition_key}
-use Rattle.al_check_places.specs.Ways.{Path, conditions, WayStep, is_checked, is_one, is_path, keys_of, step_of, under}
+use Rattle.al_check_places.specs.Ways.{conditions, WayStep, is_checked, is_one, keys_of, step_of, under}
 use Rattle.al_check_places.specs.declared.ways.WayStep as rust
 use Rattle.al_check_places.specs.declared.ways.WayStep.TheVariants.{Nth, Under}
 
@@ -58,8 +58,11 @@ both : (a b : Bool) → (a && b) ≡ true → (a ≡ true) × (b ≡ true)
 both true b h = (refl, h)
 both false b h = absurd cc
 
+abbrev is_path : List (List ℕ) → Path → Bool
+is_path ks p = begins p ks && (length p == length ks)
+
 -- the last key of a way along a path is the path's
-ends_with : (p : Path) (w : List ℕ) (ks : List (List ℕ)) → begins (p ++ key w ∷ []) ks ≡ true → length (p ++ key w ∷ []) ≡ length ks →
+ends_with : (p : Path) (w : List ℕ) (ks : List (List ℕ)) → begins (p ++ Some w ∷ []) ks ≡ true → length (p ++ Some w ∷ []) ≡ length ks →
     (k : List ℕ) → last_key ks ≡ Some k → bytes_eq w k ≡ true
 ends_with [] w [] h e k is = absurd cc
 ends_with [] w (l ∷ []) h e k is = sym (ap (bytes_eq w) (same l k is)) ∙ (both (bytes_eq w l) true h).0
@@ -68,13 +71,13 @@ ends_with (q ∷ p) w [] h e k is = absurd cc
 ends_with (q ∷ []) w (l ∷ []) h e k is = absurd cc
 ends_with (q ∷ r ∷ p) w (l ∷ []) h e k is = absurd cc
 ends_with (q ∷ p) w (l ∷ m ∷ ks) h e k is =
-    ends_with p w (m ∷ ks) (both (fits q l) (begins (p ++ key w ∷ []) (m ∷ ks)) h).1 (less (length (p ++ key w ∷ [])) (length (m ∷ ks)) e) k is
+    ends_with p w (m ∷ ks) (both (fits q l) (begins (p ++ Some w ∷ []) (m ∷ ks)) h).1 (less (length (p ++ Some w ∷ [])) (length (m ∷ ks)) e) k is
 
-along : (p : Path) (w : List ℕ) (ks : List (List ℕ)) → is_path ks (p ++ key w ∷ []) ≡ true →
+along : (p : Path) (w : List ℕ) (ks : List (List ℕ)) → is_path ks (p ++ Some w ∷ []) ≡ true →
     (k : List ℕ) → last_key ks ≡ Some k → bytes_eq w k ≡ true
 along p w ks h k is =
-    let parts = both (begins (p ++ key w ∷ []) ks) (length (p ++ key w ∷ []) == length ks) h in
-    ends_with p w ks parts.0 (eqb-true (length (p ++ key w ∷ [])) (length ks) parts.1) k is
+    let parts = both (begins (p ++ Some w ∷ []) ks) (length (p ++ Some w ∷ []) == length ks) h in
+    ends_with p w ks parts.0 (eqb-true (length (p ++ Some w ∷ [])) (length ks) parts.1) k is
 
 either : (a b c : Bool) → (a || b) ≡ true → (a ≡ true → c ≡ true) → (b ≡ true → c ≡ true) → c ≡ true
 either true b c h f g = f refl
@@ -99,17 +102,17 @@ last_of_condition ks k is h =
     let plain = λ (e : one ≡ true). first (one || two) three (first one two e) in
     let before = λ (e : two ≡ true). first (one || two) three (second one two e) in
     let after = second (one || two) three in
-    let a = is_path ks (key (codes "jobs") ∷ any ∷ key (codes "if") ∷ []) in
-    let b = is_path ks (key (codes "jobs") ∷ any ∷ key (codes "steps") ∷ key (codes "if") ∷ []) in
-    let c = is_path ks (key (codes "runs") ∷ key (codes "steps") ∷ key (codes "if") ∷ []) in
-    let d = is_path ks (key (codes "runs") ∷ key (codes "pre-if") ∷ []) in
-    let f = is_path ks (key (codes "runs") ∷ key (codes "post-if") ∷ []) in
+    let a = is_path ks (path "jobs.*.if") in
+    let b = is_path ks (path "jobs.*.steps.if") in
+    let c = is_path ks (path "runs.steps.if") in
+    let d = is_path ks (path "runs.pre-if") in
+    let f = is_path ks (path "runs.post-if") in
     let all = is_condition_key k in
-    either a (b || (c || (d || (f || false)))) all h (λ e. plain (along (key (codes "jobs") ∷ any ∷ []) (codes "if") ks e k is)) (λ h2.
-    either b (c || (d || (f || false))) all h2 (λ e. plain (along (key (codes "jobs") ∷ any ∷ key (codes "steps") ∷ []) (codes "if") ks e k is)) (λ h3.
-    either c (d || (f || false)) all h3 (λ e. plain (along (key (codes "runs") ∷ key (codes "steps") ∷ []) (codes "if") ks e k is)) (λ h4.
-    either d (f || false) all h4 (λ e. before (along (key (codes "runs") ∷ []) (codes "pre-if") ks e k is)) (λ h5.
-    either f false all h5 (λ e. after (along (key (codes "runs") ∷ []) (codes "post-if") ks e k is)) (λ h6. absurd (false_is_true h6))))))
+    either a (b || (c || (d || (f || false)))) all h (λ e. plain (along (path "jobs.*") (codes "if") ks e k is)) (λ h2.
+    either b (c || (d || (f || false))) all h2 (λ e. plain (along (path "jobs.*.steps") (codes "if") ks e k is)) (λ h3.
+    either c (d || (f || false)) all h3 (λ e. plain (along (path "runs.steps") (codes "if") ks e k is)) (λ h4.
+    either d (f || false) all h4 (λ e. before (along (path "runs") (codes "pre-if") ks e k is)) (λ h5.
+    either f false all h5 (λ e. after (along (path "runs") (codes "post-if") ks e k is)) (λ h6. absurd (false_is_true h6))))))
 
 -- what is said of the last key of a way
 pub last_is_under : (way before : List rust.WayStep) (s : rust.WayStep) (k : List ℕ) → keys_of (map step_of way) ≡ keys_of (map step_of (before ++ s ∷ [])) →

@@ -1,4 +1,3 @@
 pub mod Nodes
-pub mod Entries
 pub mod Scalars
 pub mod Endings

@@ -9,7 +9,7 @@ use Rattle.al_yaml_tree.specs.Access.{entries}
 use Rattle.al_yaml_tree.specs.Node.{Node, Nodes, Entries, scalar, sequence, mapping, no_nodes, item, no_entries, entry}
 use Rattle.al_yaml_tree.specs.Spans.{AreLaid, EntriesLaid, IsLaid}
 use Rattle.al_yaml_tree.specs.Texts.{EntriesHaveTexts, HasTexts, HaveTexts}
-use Rattle.al_tree.specs.Faults.{Standing, repeated, unexpected, ignored, expected, refined, standing}
+use Rattle.al_tree.specs.Faults.{Standing, repeated, unexpected, ignored, expected, mapping_shape, standing}
 use Rattle.al_tree.specs.Keys.{key_text, keys_in}
 use Rattle.al_tree.specs.Names.{among}
 use Rattle.al_tree.specs.Table.{Keys, Rule, rule}
@@ -17,7 +17,7 @@ use Rattle.al_tree.specs.declared.table.Shape.{Shape}
 use Rattle.al_tree.specs.Files.{shape_of}
 use Rattle.al_tree.specs.declared.files.FileKind.{FileKind}
 use Rattle.al_check_places.specs.Laws.{Lies, PlacesHaveTexts, PlacesLie}
-use Rattle.al_check_places.specs.Places.{Place, entry_places, fits, has_expression, place_at, placed, placed_entries, placed_items, rule_or_any, scalar_places, takes_scalars_only}
+use Rattle.al_check_places.specs.Places.{Place, entry_places, fits, has_expression, place_at, places_of_node, places_of_entries, places_of_items, rule_or_any, scalar_places, takes_scalars_only}
 use Rattle.al_check_places.specs.Ways.{WayStep, is_checked, nth, under}
 
 module _ (P : Scalar → Span → Type 0) where
@@ -64,25 +64,25 @@ module _ (P : Scalar → Span → Type 0) where
   entry_holds (expected s other) value f = f s
 
   mutual
-    node_holds : (n : Node) → OfNode n → (k : FileKind) (shape : Shape) (b : Bool) (way : List WayStep) → All Holds (placed k shape b way n)
+    node_holds : (n : Node) → OfNode n → (k : FileKind) (shape : Shape) (b : Bool) (way : List WayStep) → All Holds (places_of_node k shape b way n)
     node_holds (scalar s at) h k shape b way = scalar_holds k (rule_or_any (rule shape)) b way s at h
     node_holds (sequence ns at) h k shape b way =
-        items_hold (rule_or_any (rule shape)).items (λ s. placed_items k s way 0 ns) (λ s. nodes_hold ns h k s way 0)
+        items_hold (rule_or_any (rule shape)).items (λ s. places_of_items k s way 0 ns) (λ s. nodes_hold ns h k s way 0)
     node_holds (mapping es at) h k shape b way =
-        entries_hold es h k (rule_or_any (rule (refined shape (entries es)))).keys_of [] (among (keys_in (entries es))) way
+        entries_hold es h k (rule_or_any (rule (mapping_shape shape (entries es)))).keys_of [] (among (keys_in (entries es))) way
 
-    nodes_hold : (ns : Nodes) → OfItems ns → (k : FileKind) (s : Shape) (way : List WayStep) (i : ℕ) → All Holds (placed_items k s way i ns)
+    nodes_hold : (ns : Nodes) → OfItems ns → (k : FileKind) (s : Shape) (way : List WayStep) (i : ℕ) → All Holds (places_of_items k s way i ns)
     nodes_hold no_nodes h k s way i = none_hold
     nodes_hold (item n ns) h k s way i =
-        both (placed k s true (way ++ nth i ∷ []) n) (placed_items k s way (i + 1) ns)
+        both (places_of_node k s true (way ++ nth i ∷ []) n) (places_of_items k s way (i + 1) ns)
         (node_holds n h.0 k s true (way ++ nth i ∷ [])) (nodes_hold ns h.1 k s way (i + 1))
 
-    entries_hold : (es : Entries) → OfValues es → (k : FileKind) (ks : Keys) (seen : List (List ℕ)) (all : List ℕ → Bool) (way : List WayStep) → All Holds (placed_entries k ks seen all way es)
+    entries_hold : (es : Entries) → OfValues es → (k : FileKind) (ks : Keys) (seen : List (List ℕ)) (all : List ℕ → Bool) (way : List WayStep) → All Holds (places_of_entries k ks seen all way es)
     entries_hold no_entries h k ks seen all way = none_hold
     entries_hold (entry key v es) h k ks seen all way =
         let st = standing ks (among seen) all (key_text key) in
-        let value = λ (s : Shape). placed k s false (way ++ under (key_text key) ∷ []) v in
-        both (entry_places st value) (placed_entries k ks (seen ++ key_text key ∷ []) all way es)
+        let value = λ (s : Shape). places_of_node k s false (way ++ under (key_text key) ∷ []) v in
+        both (entry_places st value) (places_of_entries k ks (seen ++ key_text key ∷ []) all way es)
         (entry_holds st value (λ s. node_holds v h.0 k s false (way ++ under (key_text key) ∷ [])))
         (entries_hold es h.1 k ks (seen ++ key_text key ∷ []) all way)
 

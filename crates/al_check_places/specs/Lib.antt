@@ -1,3 +1,4 @@
+pub mod Paths
 pub mod Availability
 pub mod Ways
 pub mod Positions

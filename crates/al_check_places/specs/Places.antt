@@ -1,16 +1,16 @@
 -- The scalars that have expressions, each with its place: found by the table of sections, so a value that doesn't fit, a value under a
 -- wrong key and one under a repeated key have no place.
 use Rattle.std.specs.Prelude.{ℕ, List, [], ◌∷◌, ◌++◌, ◌+◌, Bool, true, false, ◌&&◌, ◌||◌, not}
-use Rattle.std.specs.Prelude.{Option, Some, None, is_none, option_map, if◌then◌else◌}
+use Rattle.std.specs.Prelude.{Option, Some, None, is_none, option_map, unwrap_or, if◌then◌else◌}
 use Rattle.std.specs.Option.{option_map_or}
 use Rattle.al_base.specs.declared.faults.Span.{Span}
 use Rattle.al_scalar.specs.Scalar.{Scalar, text_of}
 use Rattle.al_yaml_tree.specs.Access.{entries}
 use Rattle.al_yaml_tree.specs.Node.{Node, Nodes, Entries, scalar, sequence, mapping, no_nodes, item, no_entries, entry}
-use Rattle.al_tree.specs.Faults.{Standing, repeated, unexpected, ignored, expected, standing, refined, scalar_fault, has_chunk, is_null}
+use Rattle.al_tree.specs.Faults.{Standing, expected, standing, mapping_shape, scalar_fault, has_chunk, is_null}
 use Rattle.al_tree.specs.Keys.{key_text, keys_in}
 use Rattle.al_tree.specs.Names.{among}
-use Rattle.al_tree.specs.Table.{Rule, Keys, no_keys, free, keys, rule}
+use Rattle.al_tree.specs.Table.{Rule, Keys, no_keys, free, rule}
 use Rattle.al_tree.specs.declared.table.Shape.{Shape}
 use Rattle.al_tree.specs.declared.table.Shape.TheVariants.{Any}
 use Rattle.al_tree.specs.declared.table.ScalarSet.TheVariants.{AnyScalar}
@@ -35,16 +35,14 @@ pub record Place : Type 0 where
 
 -- what isn't checked takes everything below it
 abbrev pub rule_or_any : Option Rule → Rule
-rule_or_any (Some r) = r
-rule_or_any None = record { scalars = AnyScalar; items = Some Any; keys_of = free Any }
+rule_or_any r = unwrap_or r (record { scalars = AnyScalar; items = Some Any; keys_of = free Any })
 
 abbrev pub has_no_keys : Keys → Bool
 has_no_keys no_keys = true
-has_no_keys (free s) = false
-has_no_keys (keys o fs) = false
+has_no_keys _ = false
 
 abbrev pub takes_scalars_only : Rule → Bool
-takes_scalars_only r = option_map_or (λ s. false) r.items (has_no_keys r.keys_of)
+takes_scalars_only r = is_none r.items && has_no_keys r.keys_of
 
 abbrev pub available_at : FileKind → List WayStep → Option Row
 available_at kind.Workflow way = availability (keys_of way)
@@ -76,34 +74,33 @@ scalar_places k r is_item way s at =
 
 -- of an entry, given the places of its value as a node of a shape
 abbrev pub entry_places : Standing → (Shape → List Place) → List Place
-entry_places repeated value = []
-entry_places (unexpected other) value = []
-entry_places ignored value = []
 entry_places (expected s other) value = value s
+entry_places _ value = []
 
 abbrev mutual
   -- the places of a node at the end of a way, where it should have a shape and may be an item of a list
-  pub placed : FileKind → Shape → Bool → List WayStep → Node → List Place
-  placed k shape is_item way (scalar s at) = scalar_places k (rule_or_any (rule shape)) is_item way s at
-  placed k shape is_item way (sequence ns at) = option_map_or (λ s. placed_items k s way 0 ns) (rule_or_any (rule shape)).items []
-  placed k shape is_item way (mapping es at) =
-      placed_entries k (rule_or_any (rule (refined shape (entries es)))).keys_of [] (among (keys_in (entries es))) way es
+  pub places_of_node : FileKind → Shape → Bool → List WayStep → Node → List Place
+  places_of_node k shape is_item way (scalar s at) = scalar_places k (rule_or_any (rule shape)) is_item way s at
+  places_of_node k shape is_item way (sequence ns at) =
+      option_map_or (λ s. places_of_items k s way 0 ns) (rule_or_any (rule shape)).items []
+  places_of_node k shape is_item way (mapping es at) =
+      places_of_entries k (rule_or_any (rule (mapping_shape shape (entries es)))).keys_of [] (among (keys_in (entries es))) way es
 
   -- of the items of a list from the nth on
-  pub placed_items : FileKind → Shape → List WayStep → ℕ → Nodes → List Place
-  placed_items k s way i no_nodes = []
-  placed_items k s way i (item n ns) = placed k s true (way ++ nth i ∷ []) n ++ placed_items k s way (i + 1) ns
+  pub places_of_items : FileKind → Shape → List WayStep → ℕ → Nodes → List Place
+  places_of_items k s way i no_nodes = []
+  places_of_items k s way i (item n ns) = places_of_node k s true (way ++ nth i ∷ []) n ++ places_of_items k s way (i + 1) ns
 
   -- of entries behind others with the keys that were seen, in a mapping with all these
-  pub placed_entries : FileKind → Keys → List (List ℕ) → (List ℕ → Bool) → List WayStep → Entries → List Place
-  placed_entries k ks seen all way no_entries = []
-  placed_entries k ks seen all way (entry key v es) =
-      entry_places (standing ks (among seen) all (key_text key)) (λ s. placed k s false (way ++ under (key_text key) ∷ []) v)
-      ++ placed_entries k ks (seen ++ key_text key ∷ []) all way es
+  pub places_of_entries : FileKind → Keys → List (List ℕ) → (List ℕ → Bool) → List WayStep → Entries → List Place
+  places_of_entries k ks seen all way no_entries = []
+  places_of_entries k ks seen all way (entry key v es) =
+      entry_places (standing ks (among seen) all (key_text key)) (λ s. places_of_node k s false (way ++ under (key_text key) ∷ []) v)
+      ++ places_of_entries k ks (seen ++ key_text key ∷ []) all way es
 
 -- the places of a file with this root
 abbrev pub places_of : FileKind → Node → List Place
-places_of k root = placed k (shape_of k) false [] root
+places_of k root = places_of_node k (shape_of k) false [] root
 
 -- what the program's places stand for
 abbrev pub place_of : rust.Place → Place

@@ -1,5 +1,5 @@
 -- Where a way leads, as far as the types of contexts depend on it.
-use Rattle.std.specs.Prelude.{ℕ, List, ◌∷◌, Bool, true, ◌&&◌, codes, if◌then◌else◌}
+use Rattle.std.specs.Prelude.{ℕ, List, ◌∷◌, ◌&&◌, codes, if◌then◌else◌}
 use Rattle.std.specs.Str.{bytes_eq}
 use Rattle.al_tree.specs.declared.files.FileKind.{FileKind}
 use Rattle.al_tree.specs.declared.files.FileKind.TheVariants as kind
@@ -28,37 +28,24 @@ abbrev pub section_of : List WayStep → Section
 section_of (under a ∷ under b ∷ more) = if bytes_eq a (codes "on") then in_on else if bytes_eq a (codes "jobs") then in_job b else apart
 section_of _ = apart
 
-abbrev pub sees_every_step : List ℕ → List ℕ → Bool
-sees_every_step a b = if bytes_eq a (codes "outputs") then true else bytes_eq a (codes "environment") && bytes_eq b (codes "url")
-
--- From an item of the list under a key: of `steps` those before it.
+-- In a step those before it are seen; in a job's `outputs` and its `environment.url`, and in an action's `outputs`, all.
 abbrev pub seen_in_item : List ℕ → ℕ → Seen
-seen_in_item a i = if bytes_eq a (codes "steps") then before i else no_step
+seen_in_item k i = if bytes_eq k (codes "steps") then before i else no_step
 
--- From below a job: in a step the earlier ones, in `outputs` and `environment.url` all.
-abbrev pub seen_below_job : List WayStep → Seen
-seen_below_job (under a ∷ nth i ∷ more) = seen_in_item a i
-seen_below_job (under a ∷ under b ∷ more) =
-    if sees_every_step a b then every_step else no_step
-seen_below_job _ = no_step
+abbrev pub seen_below : List ℕ → List ℕ → Seen
+seen_below a b =
+    if bytes_eq a (codes "outputs") then every_step
+    else if bytes_eq a (codes "environment") && bytes_eq b (codes "url") then every_step else no_step
 
-abbrev pub seen_in_workflow : List WayStep → Seen
-seen_in_workflow (a ∷ b ∷ more) = seen_below_job more
-seen_in_workflow _ = no_step
-
--- From an action's outputs all, in a step the earlier ones.
-abbrev pub seen_below_runs : List WayStep → Seen
-seen_below_runs (under a ∷ nth i ∷ more) = seen_in_item a i
-seen_below_runs _ = no_step
-
-abbrev pub seen_in_action : List WayStep → Seen
-seen_in_action (under a ∷ more) =
-    if bytes_eq a (codes "outputs") then every_step else if bytes_eq a (codes "runs") then seen_below_runs more else no_step
-seen_in_action _ = no_step
+abbrev pub seen_at : FileKind → List WayStep → Seen
+seen_at kind.Workflow (jobs ∷ job ∷ under a ∷ nth i ∷ more) = seen_in_item a i
+seen_at kind.Workflow (jobs ∷ job ∷ under a ∷ under b ∷ more) = seen_below a b
+seen_at kind.Action (under runs ∷ under a ∷ nth i ∷ more) = seen_in_item a i
+seen_at kind.Action (under a ∷ under b ∷ more) = seen_below a b
+seen_at _ _ = no_step
 
 abbrev pub position_of : FileKind → List WayStep → Position
-position_of kind.Workflow way = record { section = section_of way; seen = seen_in_workflow way }
-position_of kind.Action way = record { section = apart; seen = seen_in_action way }
+position_of k way = record { section = section_of way; seen = seen_at k way }
 
 -- what the program's positions stand for
 abbrev pub section_view : rust_section.Section → Section

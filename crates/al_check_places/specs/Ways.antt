@@ -1,9 +1,9 @@
 -- Ways from the root of a file to a scalar, and which of them lead to an expression.
-use Rattle.std.specs.Prelude.{ℕ, List, [], ◌∷◌, Bool, ◌&&◌, ◌==◌, not, codes, Option, Some, None, length, if◌then◌else◌}
+use Rattle.std.specs.Prelude.{ℕ, List, [], ◌∷◌, Bool, ◌&&◌, ◌==◌, not, map, Option, Some, None, length, if◌then◌else◌}
 use Rattle.std.specs.List.{filter_map, list_any}
 use Rattle.al_tree.specs.declared.files.FileKind.{FileKind}
 use Rattle.al_tree.specs.declared.files.FileKind.TheVariants as kind
-use Rattle.al_check_places.specs.Availability.{any, key, begins}
+use Rattle.al_check_places.specs.Paths.{Path, path, begins}
 use Rattle.al_check_places.specs.declared.ways.WayStep as rust
 
 -- a step of a way: to the value under a key, or to the nth item of a list
@@ -19,47 +19,36 @@ key_of (nth i) = None
 abbrev pub keys_of : List WayStep → List (List ℕ)
 keys_of = filter_map key_of
 
--- a path of keys, where None stands for any key
-abbrev pub Path : Type 0
-Path = List (Option (List ℕ))
-
 abbrev pub begins_one : List Path → List (List ℕ) → Bool
 begins_one paths ks = list_any (λ p. begins p ks) paths
 
-abbrev pub is_path : List (List ℕ) → Path → Bool
-is_path ks p = begins p ks && (length p == length ks)
-
 abbrev pub is_one : List Path → List (List ℕ) → Bool
-is_one paths ks = list_any (is_path ks) paths
+is_one paths ks = list_any (λ p. begins p ks && (length p == length ks)) paths
 
 -- Of a workflow: all but `needs`, `id` and `uses`, and of `on` the defaults and values of a call.
 abbrev pub of_call : List Path
-of_call =
-    (key (codes "on") ∷ key (codes "workflow_call") ∷ key (codes "inputs") ∷ any ∷ key (codes "default") ∷ [])
-    ∷ (key (codes "on") ∷ key (codes "workflow_call") ∷ key (codes "outputs") ∷ any ∷ key (codes "value") ∷ []) ∷ []
+of_call = map path ("on.workflow_call.inputs.*.default" ∷ "on.workflow_call.outputs.*.value" ∷ [])
 
 abbrev pub not_in_workflow : List Path
 not_in_workflow =
-    (key (codes "jobs") ∷ any ∷ key (codes "needs") ∷ []) ∷ (key (codes "jobs") ∷ any ∷ key (codes "uses") ∷ [])
-    ∷ (key (codes "jobs") ∷ any ∷ key (codes "steps") ∷ key (codes "id") ∷ [])
-    ∷ (key (codes "jobs") ∷ any ∷ key (codes "steps") ∷ key (codes "uses") ∷ []) ∷ []
+    map path ("jobs.*.needs" ∷ "jobs.*.uses" ∷ "jobs.*.steps.id" ∷ "jobs.*.steps.uses" ∷ [])
 
 abbrev pub is_checked_in_workflow : List (List ℕ) → Bool
-is_checked_in_workflow ks = if begins (key (codes "on") ∷ []) ks then begins_one of_call ks else not (begins_one not_in_workflow ks)
+is_checked_in_workflow ks =
+    if begins (path "on") ks then begins_one of_call ks else not (begins_one not_in_workflow ks)
 
 -- Of an action: the defaults of inputs, the values of outputs, and below `runs` all but `using`, `id` and `uses`.
 abbrev pub of_interface : List Path
-of_interface = (key (codes "inputs") ∷ any ∷ key (codes "default") ∷ []) ∷ (key (codes "outputs") ∷ any ∷ key (codes "value") ∷ []) ∷ []
+of_interface = map path ("inputs.*.default" ∷ "outputs.*.value" ∷ [])
 
 abbrev pub not_in_runs : List Path
-not_in_runs =
-    (key (codes "runs") ∷ key (codes "using") ∷ []) ∷ (key (codes "runs") ∷ key (codes "steps") ∷ key (codes "id") ∷ [])
-    ∷ (key (codes "runs") ∷ key (codes "steps") ∷ key (codes "uses") ∷ []) ∷ []
+not_in_runs = map path ("runs.using" ∷ "runs.steps.id" ∷ "runs.steps.uses" ∷ [])
 
 -- a default or value is checked where it is itself a scalar: its way has no further key and no position
 abbrev pub is_checked_in_action : ℕ → List (List ℕ) → Bool
 is_checked_in_action steps ks =
-    if begins (key (codes "runs") ∷ []) ks then not (begins_one not_in_runs ks) else begins_one of_interface ks && (steps == 3)
+    if begins (path "runs") ks then not (begins_one not_in_runs ks)
+    else begins_one of_interface ks && (steps == 3)
 
 abbrev pub is_checked : FileKind → List WayStep → Bool
 is_checked kind.Workflow way = is_checked_in_workflow (keys_of way)
@@ -68,14 +57,10 @@ is_checked kind.Action way = is_checked_in_action (length way) (keys_of way)
 -- ways to conditions, and to scripts of steps
 abbrev pub conditions : List Path
 conditions =
-    (key (codes "jobs") ∷ any ∷ key (codes "if") ∷ []) ∷ (key (codes "jobs") ∷ any ∷ key (codes "steps") ∷ key (codes "if") ∷ [])
-    ∷ (key (codes "runs") ∷ key (codes "steps") ∷ key (codes "if") ∷ []) ∷ (key (codes "runs") ∷ key (codes "pre-if") ∷ [])
-    ∷ (key (codes "runs") ∷ key (codes "post-if") ∷ []) ∷ []
+    map path ("jobs.*.if" ∷ "jobs.*.steps.if" ∷ "runs.steps.if" ∷ "runs.pre-if" ∷ "runs.post-if" ∷ [])
 
 abbrev pub scripts : List Path
-scripts =
-    (key (codes "jobs") ∷ any ∷ key (codes "steps") ∷ key (codes "run") ∷ [])
-    ∷ (key (codes "runs") ∷ key (codes "steps") ∷ key (codes "run") ∷ []) ∷ []
+scripts = map path ("jobs.*.steps.run" ∷ "runs.steps.run" ∷ [])
 
 -- what a step of the program's ways stands for
 abbrev pub step_of : rust.WayStep → WayStep

@@ -46,19 +46,7 @@ fn section_at<'a>(way: &[WayStep<'a>]) -> Section<'a>
     }
 }
 
-/// Whether all steps are seen below these two keys of a job.
-fn sees_every_step(first: &[u8], second: &[u8]) -> bool
-    ensures { result ≡ positions.sees_every_step first.now second.now }
-{
-    if first == b"outputs".as_slice() {
-        true
-    } else if first == b"environment".as_slice() {
-        second == b"url".as_slice()
-    } else {
-        false
-    }
-}
-
+/// The steps that are seen from an item of the list under a key: of `steps` those before it.
 fn seen_in_item(key: &[u8], i: usize) -> Seen
     ensures { seen_view result ≡ positions.seen_in_item key.now i }
 {
@@ -69,54 +57,39 @@ fn seen_in_item(key: &[u8], i: usize) -> Seen
     }
 }
 
-fn seen_below_job(way: &[WayStep<'_>]) -> Seen
-    ensures { seen_view result ≡ positions.seen_below_job (map step_of way.now) }
+/// The steps that are seen below two keys: in `outputs` and `environment.url` all.
+fn seen_below(first: &[u8], second: &[u8]) -> Seen
+    ensures { seen_view result ≡ positions.seen_below first.now second.now }
 {
-    match way {
-        [WayStep::Under(first), WayStep::Nth(i), ..] => seen_in_item(first, *i),
-        [WayStep::Under(first), WayStep::Under(second), ..] => {
-            if sees_every_step(first, second) {
-                Seen::Everything
-            } else {
-                Seen::Nothing
-            }
-        }
-        _ => Seen::Nothing,
+    if first == b"outputs".as_slice() {
+        Seen::Everything
+    } else if first == b"environment".as_slice() && second == b"url".as_slice() {
+        Seen::Everything
+    } else {
+        Seen::Nothing
     }
 }
 
-fn seen_in_workflow(way: &[WayStep<'_>]) -> Seen
-    ensures { seen_view result ≡ positions.seen_in_workflow (map step_of way.now) }
+/// The steps that are seen where a way leads in a file of a kind.
+fn seen_at(kind: FileKind, way: &[WayStep<'_>]) -> Seen
+    ensures { seen_view result ≡ positions.seen_at kind (map step_of way.now) }
 {
-    match way {
-        [_, _, rest @ ..] => seen_below_job(rest),
-        _ => Seen::Nothing,
-    }
-}
-
-fn seen_below_runs(way: &[WayStep<'_>]) -> Seen
-    ensures { seen_view result ≡ positions.seen_below_runs (map step_of way.now) }
-{
-    match way {
-        [WayStep::Under(first), WayStep::Nth(i), ..] => seen_in_item(first, *i),
-        _ => Seen::Nothing,
-    }
-}
-
-fn seen_in_action(way: &[WayStep<'_>]) -> Seen
-    ensures { seen_view result ≡ positions.seen_in_action (map step_of way.now) }
-{
-    match way {
-        [WayStep::Under(first), rest @ ..] => {
-            if *first == b"outputs".as_slice() {
-                Seen::Everything
-            } else if *first == b"runs".as_slice() {
-                seen_below_runs(rest)
-            } else {
-                Seen::Nothing
-            }
-        }
-        _ => Seen::Nothing,
+    match kind {
+        FileKind::Workflow => match way {
+            [_, _, WayStep::Under(first), WayStep::Nth(i), ..] => seen_in_item(first, *i),
+            [_, _, WayStep::Under(first), WayStep::Under(second), ..] => seen_below(first, second),
+            _ => Seen::Nothing,
+        },
+        FileKind::Action => match way {
+            [
+                WayStep::Under(_),
+                WayStep::Under(first),
+                WayStep::Nth(i),
+                ..
+            ] => { seen_in_item(first, *i) }
+            [WayStep::Under(first), WayStep::Under(second), ..] => seen_below(first, second),
+            _ => Seen::Nothing,
+        },
     }
 }
 
@@ -124,14 +97,8 @@ fn seen_in_action(way: &[WayStep<'_>]) -> Seen
 pub(crate) fn position_at<'a>(kind: FileKind, way: &[WayStep<'a>]) -> Position<'a>
     ensures { position_view result ≡ positions.position_of kind (map step_of way.now) }
 {
-    match kind {
-        FileKind::Workflow => Position {
-            section: section_at(way),
-            seen: seen_in_workflow(way),
-        },
-        FileKind::Action => Position {
-            section: Section::Apart,
-            seen: seen_in_action(way),
-        },
+    Position {
+        section: section_at(way),
+        seen: seen_at(kind, way),
     }
 }

@@ -1,6 +1,7 @@
 //! Availability of contexts and special functions: the table, and its longest path.
 ghost use Rattle.std.specs.Prelude.{◌≡◌, IsTrue, map, option_map};
-ghost use Rattle.al_check_places.specs.Availability.{availability, begins, fits, key_of, longer, row_of, table};
+ghost use Rattle.al_check_places.specs.Availability.{availability, longer, row_of, table};
+ghost use Rattle.al_check_places.specs.Paths.{begins, fits, key_of};
 
 use al_types::{Context, Function};
 

@@ -1,15 +1,15 @@
 //! The walk that finds the scalars that have expressions.
-ghost use Rattle.std.specs.Prelude.{◌≡◌, ◌++◌, ◌∷◌, [], false, map, option_map, IfOk, IsTrue, OnOk};
+ghost use Rattle.std.specs.Prelude.{◌≡◌, ◌||◌, ◌++◌, ◌∷◌, [], false, map, option_map, IfOk, IsTrue, OnOk};
 ghost use Rattle.al_tree.specs.Faults.{standing_view};
 ghost use Rattle.al_tree.specs.Keys.{key_of as key_in, keys_in};
 ghost use Rattle.al_tree.specs.Names.{among};
 ghost use Rattle.al_tree.specs.Table.{keys_view, rule_view, rule as table_rule};
 ghost use Rattle.al_check_places.specs.Availability.{row_of};
 ghost use Rattle.al_check_places.specs.Places as places;
-ghost use Rattle.al_check_places.specs.Places.{available_at, entry_places, place_of, placed, placed_entries};
-ghost use Rattle.al_check_places.specs.Places.{placed_items, places_of, rule_or_any, scalar_places};
+ghost use Rattle.al_check_places.specs.Places.{available_at, entry_places, place_of, places_of_node, places_of_entries};
+ghost use Rattle.al_check_places.specs.Places.{places_of_items, places_of, rule_or_any, scalar_places};
 ghost use Rattle.al_check_places.specs.Private.Walks.{places_in, way_in};
-ghost use Rattle.al_check_places.specs.Ways.{keys_of, step_of, under};
+ghost use Rattle.al_check_places.specs.Ways.{conditions, is_one, keys_of, step_of, under};
 ghost use Rattle.al_tree.specs.Files.{shape_of as file_shape};
 ghost use Rattle.al_yaml_tree.specs.View.{entries_of, entry_view, nodes_of, view};
 
@@ -19,7 +19,7 @@ use crate::ways::{WayStep, ends_as_condition, is_checked, is_condition, is_scrip
 use al_base::Span;
 use al_scalar::Scalar;
 use al_tree::{
-    FileKind, KeySet, Keys, Rule, ScalarNode, ScalarSet, Shape, Standing, contains_chunk,
+    FileKind, KeyIndex, Keys, Rule, ScalarNode, ScalarSet, Shape, Standing, contains_chunk,
     is_null_scalar, key_of, refine, rule_of, scalar_fault, standing_of,
 };
 use al_yaml_tree::{Entry, Kind, Node};
@@ -100,14 +100,16 @@ fn available_in(kind: FileKind, way: &[WayStep<'_>], keys: &[&[u8]]) -> Option<&
     }
 }
 
-/// The place where a walk is, with the keys of its way.
+/// The place where a walk is, with the keys of its way, and whether it is a condition.
 fn place_at<'a>(
     walk: &Walk<'a>,
     keys: &[&[u8]],
+    is_condition: bool,
     is_scalar_only: bool,
     scalar: ScalarNode<'a>,
 ) -> Place<'a>
-    requires { map (λ k. k.now) keys.now ≡ keys_of (way_in walk.now) }
+    requires keys { map (λ k. k.now) keys.now ≡ keys_of (way_in walk.now) }
+    requires condition { is_condition ≡ is_one conditions (keys_of (way_in walk.now)) }
     ensures { place_of result ≡ places.place_at walk.now.kind (way_in walk.now)
         is_scalar_only (scalar.entry).scalar.now (scalar.entry).span }
 {
@@ -117,7 +119,7 @@ fn place_at<'a>(
         span: scalar.span,
         is_scalar_only,
         available: available_in(walk.kind, way, keys),
-        is_condition: is_condition(keys),
+        is_condition,
         is_script: is_script(keys),
         position: position_at(walk.kind, way),
     }
@@ -130,19 +132,12 @@ fn fits(rule: Rule, scalar: &Scalar) -> bool
     !is_null_scalar(scalar) && scalar_fault(rule.scalars, scalar).is_none()
 }
 
-/// Whether a scalar at the end of a way may have an expression. Most don't, and nothing more is asked of those.
-fn may_have_expression(way: &[WayStep<'_>], scalar: &Scalar) -> bool
-    ensures { IsTrue (places.has_expression (map step_of way.now) scalar.now) → IsTrue result }
+/// Whether a text at the end of a way, where it may have a `${{`, may have an expression. Most don't, and nothing more is asked of those.
+fn may_have_expression(way: &[WayStep<'_>], has_chunk: bool) -> bool
+    ensures { IsTrue (is_one conditions (keys_of (map step_of way.now)) || has_chunk)
+        → IsTrue result }
 {
-    contains_chunk(scalar.text()) || ends_as_condition(way)
-}
-
-/// Whether a scalar has an expression: with these keys on the way to it, it is a condition, or its text has `${{`.
-fn has_expression(way: &[WayStep<'_>], keys: &[&[u8]], scalar: &Scalar) -> bool
-    requires { map (λ k. k.now) keys.now ≡ keys_of (map step_of way.now) }
-    ensures { result ≡ places.has_expression (map step_of way.now) scalar.now }
-{
-    is_condition(keys) || contains_chunk(scalar.text())
+    has_chunk || ends_as_condition(way)
 }
 
 /// Adds the place of a scalar, where it is checked and has an expression.
@@ -160,7 +155,8 @@ fn find_scalar<'a>(
     let alloc = walk.alloc;
     let kind = walk.kind;
     let way = walk.way.as_slice();
-    if !may_have_expression(way, scalar.scalar) {
+    let has_chunk = contains_chunk(scalar.scalar.text());
+    if !may_have_expression(way, has_chunk) {
         return Ok(());
     }
     let rule = rule_at(asked.shape);
@@ -169,21 +165,23 @@ fn find_scalar<'a>(
     }
     let keys = keys(alloc, way)?;
     let keys = keys.as_slice();
-    if !is_checked(kind, way, keys) || !has_expression(way, keys, scalar.scalar) {
+    let is_condition = is_condition(keys);
+    let has_expression = is_condition || has_chunk;
+    if !is_checked(kind, way, keys) || !has_expression {
         return Ok(());
     }
     let only = takes_scalars_only(rule) && !asked.is_item;
-    let place = place_at(walk, keys, only, scalar);
+    let place = place_at(walk, keys, is_condition, only, scalar);
     walk.found.push(place)?;
     Ok(())
 }
 
 /// Adds the places of a node, where it should have a shape and may be an item of a list.
-#[tactic(auto, using(crate::proofs::Nodes::placed_sequence, crate::proofs::Nodes::placed_mapping))]
+#[tactic(auto, using(crate::proofs::Nodes::places_of_sequence, crate::proofs::Nodes::places_of_mapping))]
 #[cycle(finds)]
 fn find<'a>(asked: Asked, node: &'a Node, walk: &mut Walk<'a>) -> Result<(), AllocError>
     ensures found { OnOk result (places_in walk.new ≡ places_in walk.old
-        ++ placed walk.old.kind asked.shape asked.is_item (way_in walk.old) (view node.now)) }
+        ++ places_of_node walk.old.kind asked.shape asked.is_item (way_in walk.old) (view node.now)) }
     ensures way { OnOk result (walk.new.way.items ≡ walk.old.way.items) }
     ensures kind { OnOk result (walk.new.kind ≡ walk.old.kind) }
 {
@@ -212,7 +210,7 @@ fn find<'a>(asked: Asked, node: &'a Node, walk: &mut Walk<'a>) -> Result<(), All
 #[cycle(finds)]
 fn find_items<'a>(shape: Shape, nodes: &'a [Node], walk: &mut Walk<'a>) -> Result<(), AllocError>
     ensures found { OnOk result (places_in walk.new ≡ places_in walk.old
-        ++ placed_items walk.old.kind shape (way_in walk.old) 0 (nodes_of (map view nodes.now))) }
+        ++ places_of_items walk.old.kind shape (way_in walk.old) 0 (nodes_of (map view nodes.now))) }
     ensures way { OnOk result (walk.new.way.items ≡ walk.old.way.items) }
     ensures kind { OnOk result (walk.new.kind ≡ walk.old.kind) }
 {
@@ -231,7 +229,6 @@ fn find_items<'a>(shape: Shape, nodes: &'a [Node], walk: &mut Walk<'a>) -> Resul
 }
 
 /// Adds the places of the entries of a mapping that takes these keys.
-#[tactic(auto, using(al_tree::proofs::KeyLemmas::among_more))]
 #[cycle(finds)]
 fn find_entries<'a>(
     takes: Keys,
@@ -239,19 +236,17 @@ fn find_entries<'a>(
     walk: &mut Walk<'a>,
 ) -> Result<(), AllocError>
     ensures found { OnOk result (places_in walk.new ≡ places_in walk.old
-        ++ placed_entries walk.old.kind (keys_view takes) []
+        ++ places_of_entries walk.old.kind (keys_view takes) []
         (among (keys_in (map entry_view entries.now))) (way_in walk.old)
         (entries_of (map entry_view entries.now))) }
     ensures way { OnOk result (walk.new.way.items ≡ walk.old.way.items) }
     ensures kind { OnOk result (walk.new.kind ≡ walk.old.kind) }
 {
-    let mut seen = KeySet::new(walk.alloc);
-    for entry in entries {
-        let key = key_of(entry);
-        // All keys of the mapping would tell beside which of them the key cannot stand, and so no place.
-        let standing = standing_of(takes, &seen, &seen, key);
+    let index = KeyIndex::of(walk.alloc, entries)?;
+    let all = index.first(entries.len());
+    for (i, entry) in entries.iter().enumerate() {
+        let standing = standing_of(takes, index.first(i), all, key_of(entry));
         find_entry(standing, entry, walk)?;
-        seen.insert(key)?;
     }
     Ok(())
 }
@@ -266,7 +261,7 @@ fn find_entry<'a>(
 ) -> Result<(), AllocError>
     ensures found { OnOk result (places_in walk.new ≡ places_in walk.old
         ++ entry_places (standing_view standing)
-        (λ s. placed walk.old.kind s false
+        (λ s. places_of_node walk.old.kind s false
         (way_in walk.old ++ under (key_in (entry_view entry.now)) ∷ [])
         (entry_view entry.now).1)) }
     ensures way { OnOk result (walk.new.way.items ≡ walk.old.way.items) }

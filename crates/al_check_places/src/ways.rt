@@ -1,6 +1,6 @@
 //! Ways from the root of a file to a scalar, and which of them lead to an expression.
 ghost use Rattle.std.specs.Prelude.{◌≡◌, map, IfOk, IsTrue};
-ghost use Rattle.al_check_places.specs.Availability.{key_of};
+ghost use Rattle.al_check_places.specs.Paths.{key_of};
 ghost use Rattle.al_check_places.specs.Ways as ways;
 ghost use Rattle.al_check_places.specs.Private.Endings.{is_condition_key};
 ghost use Rattle.al_check_places.specs.Ways.{begins_one, is_one, keys_of, step_of};

@@ -14,31 +14,30 @@ use Rattle.al_scalar.specs.Scalar.{Scalar, text_of}
 use Rattle.al_yaml_tree.specs.Node.{Node}
 use Rattle.al_tree.specs.Names.{among, is_event}
 use Rattle.al_tree.specs.Values.{entries_at, entries_in, items_in, text_at, texts_at, texts_in}
-use Rattle.al_rules.specs.Events.{activity_faults, cron_faults, event_faults, filter_faults, filters_faults, input_faults, inputs_faults}
-use Rattle.al_rules.specs.Events.{name_faults, named_faults, on_faults, pattern_faults, schedule_faults, type_faults}
+use Rattle.al_rules.specs.Events.{cron_faults, event_faults, filter_faults, filters_faults, input_faults, inputs_faults}
+use Rattle.al_rules.specs.Events.{name_faults, named_faults, on_faults, schedule_faults, type_faults}
 use Rattle.al_rules.specs.Names.{activities_of, call_types, dispatch_types}
-use Rattle.al_rules_settings.specs.Words.{Named, of_key, of_scalar, unless_among}
+use Rattle.al_rules_settings.specs.Words.{Named, of_key, of_scalar, unless, unless_among}
 use Rattle.al_base.proofs.Elements.{each_of, map_or}
 use Rattle.al_rules_settings.proofs.Inside.{Are, Fine, Lies, NameLies, Pair, Text, about_lies, both, entries_at_fine, entries_in_fine}
 use Rattle.al_rules_settings.proofs.Inside.{items_in_fine, or_lies, span_lies, text_at_fine, texts_at_fine, texts_in_fine, unless_lies}
 
 module _ (size : ℕ) where
-  activity : (types : List (List ℕ)) (s : Scalar × Span) → Text size s → Are size (activity_faults types s)
-  activity types s t = unless_lies size (among types (text_of s.0)) UnknownActivity (of_scalar s) t.place
-
-  types_of : (o : Option (List (List ℕ))) (event : Node) → Fine size event → Are size (option_map_or (λ types. flat_map (activity_faults types) (texts_at (codes "types") event)) o [])
+  types_of : (o : Option (List (List ℕ))) (event : Node) → Fine size event →
+      Are size (option_map_or (λ types. flat_map (λ s. unless_among UnknownActivity types (of_scalar s)) (texts_at (codes "types") event)) o [])
   types_of None event f = tt
-  types_of (Some types) event f = each_of (Text size) (Lies size) (activity_faults types) (activity types) (texts_at (codes "types") event) (texts_at_fine size (codes "types") event f)
+  types_of (Some types) event f =
+      each_of (Text size) (Lies size) (λ s. unless_among UnknownActivity types (of_scalar s))
+      (λ s t. unless_lies size (among types (text_of s.0)) UnknownActivity (of_scalar s) t.place) (texts_at (codes "types") event)
+      (texts_at_fine size (codes "types") event f)
 
   types_lie : (name : List ℕ) (event : Node) → Fine size event → Are size (type_faults name event)
   types_lie name event f = types_of (activities_of name) event f
 
-  pattern : (filter : Filter) (n : Named) → NameLies size n → Are size (pattern_faults filter n)
-  pattern filter n p = unless_lies size (is_pattern filter n.text) WrongPattern n p
-
   filter_lies : (filter : Filter) (event : Node) (key : List ℕ) → Fine size event → Are size (filter_faults filter event key)
   filter_lies filter event key f =
-      each_of (Text size) (Lies size) (λ s. pattern_faults filter (of_scalar s)) (λ s t. pattern filter (of_scalar s) t.place) (texts_at key event) (texts_at_fine size key event f)
+      each_of (Text size) (Lies size) (λ s. unless (is_pattern filter (text_of s.0)) WrongPattern (of_scalar s))
+      (λ s t. unless_lies size (is_pattern filter (text_of s.0)) WrongPattern (of_scalar s) t.place) (texts_at key event) (texts_at_fine size key event f)
 
   keys_lie : (filter : Filter) (event : Node) → Fine size event → (keys : List (List ℕ)) → Are size (flat_map (filter_faults filter event) keys)
   keys_lie filter event f [] = tt

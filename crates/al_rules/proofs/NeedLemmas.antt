@@ -18,8 +18,9 @@ use Rattle.al_base.specs.declared.faults.Span.{Span}
 use Rattle.al_tree.specs.Values.{texts_at}
 use Rattle.al_rules.specs.Private.Components.{has_label_of, labelled_fault, labelled_faults}
 use Rattle.al_rules.specs.Needs.{AddsAllNeeds, AddsNeeds, AreNeedsFaults, undefined_job, leads_back, leads_on, no_needs, and_need}
-use Rattle.al_rules.specs.Needs.{IsNeedFaults, Need, all_needs, cycle_fault, keys_of, named_by, needs_in, needs_lists, needs_of}
-use Rattle.al_rules.specs.Needs.{position_in}
+use Rattle.al_rules.specs.Needs.{IsNeedFaults, Need, all_needs, cycle_fault, named_by, needs_in, needs_lists, needs_of}
+use Rattle.al_base.specs.NamePlaces.{name_place}
+use Rattle.al_tree.specs.Keys.{keys_in}
 use Rattle.al_base.specs.Names.{same_name}
 use Rattle.al_base.proofs.NamePlaces.{first_within}
 use Rattle.al_rules_settings.specs.Words.{Named, of_key, of_scalar}
@@ -140,40 +141,40 @@ below_cons : (o : Option ℕ) (xs : List ℕ) (m : ℕ) → ((k : ℕ) → o ≡
 below_cons None xs m f a = a
 below_cons (Some k) xs m f a = All-cons (Below m) k xs (f k refl) a
 
-named_below : (keys : List Named) (text : List ℕ) (k : ℕ) → position_in keys text ≡ Some k → k < length keys
-named_below keys text k e = first_within (λ n. same_name n.text text) keys k e
+named_below : (keys : List (List ℕ)) (text : List ℕ) (k : ℕ) → name_place keys text ≡ Some k → k < length keys
+named_below keys text k e = first_within (λ m. same_name m text) keys k e
 
-list_below : (keys needs : List Named) → All (Below (length keys)) (filter_map (named_by (position_in keys)) needs)
+list_below : (keys : List (List ℕ)) (needs : List Named) → All (Below (length keys)) (filter_map (named_by (name_place keys)) needs)
 list_below keys [] = All-nil (Below (length keys))
 list_below keys (n ∷ ns) =
-    below_cons (named_by (position_in keys) n) (filter_map (named_by (position_in keys)) ns) (length keys) (λ k e. named_below keys n.text k e) (list_below keys ns)
+    below_cons (named_by (name_place keys) n) (filter_map (named_by (name_place keys)) ns) (length keys) (λ k e. named_below keys n.text k e) (list_below keys ns)
 
-lists_below : (keys : List Named) (jobs : List (Node × Node)) → All (λ l. All (Below (length keys)) l) (needs_lists (position_in keys) jobs)
+lists_below : (keys : List (List ℕ)) (jobs : List (Node × Node)) → All (λ l. All (Below (length keys)) l) (needs_lists (name_place keys) jobs)
 lists_below keys [] = All-nil (λ l. All (Below (length keys)) l)
 lists_below keys (j ∷ js) =
-    All-cons (λ l. All (Below (length keys)) l) (filter_map (named_by (position_in keys)) (needs_of j)) (needs_lists (position_in keys) js) (list_below keys (needs_of j)) (lists_below keys js)
+    All-cons (λ l. All (Below (length keys)) l) (filter_map (named_by (name_place keys)) (needs_of j)) (needs_lists (name_place keys) js) (list_below keys (needs_of j)) (lists_below keys js)
 
-needs_below : (keys : List Named) (jobs : List (Node × Node)) (j k : ℕ) → Edge (needs_lists (position_in keys) jobs) j k → k < length keys
+needs_below : (keys : List (List ℕ)) (jobs : List (Node × Node)) (j k : ℕ) → Edge (needs_lists (name_place keys) jobs) j k → k < length keys
 needs_below keys jobs j k has =
     let m = length keys in
     let P : List ℕ → Type 0 = λ l. All (Below m) l in
-    let lists = needs_lists (position_in keys) jobs in
+    let lists = needs_lists (name_place keys) jobs in
     let inside : P (get_or lists j []) =
     ⊎_elim (λ h. All-get_or P lists j [] h (lists_below keys jobs)) (λ h. subst P (sym (get_or_past lists j [] h)) (All-nil (Below m))) (cases_lt j (length lists)) in
     All-contains (Below m) (get_or lists j []) k inside has
 
-pub lists_length : (jobs : List (Node × Node)) (lists : List (Vec ℕ Global)) → edges_of lists ≡ needs_lists (position_in (keys_of jobs)) jobs → length lists ≡ length jobs
+pub lists_length : (jobs : List (Node × Node)) (lists : List (Vec ℕ Global)) → edges_of lists ≡ needs_lists (name_place (keys_in jobs)) jobs → length lists ≡ length jobs
 lists_length jobs lists e =
-    let b : length (needs_lists (position_in (keys_of jobs)) jobs) ≡ length jobs = length-map jobs _ in
+    let b : length (needs_lists (name_place (keys_in jobs)) jobs) ≡ length jobs = length-map jobs _ in
     let d : length (edges_of lists) ≡ length lists = length-map lists _ in
     sym d ∙ ap length e ∙ b
 
 -- what a job needs is a job
-pub edges_below : (jobs : List (Node × Node)) (lists : List (Vec ℕ Global)) → edges_of lists ≡ needs_lists (position_in (keys_of jobs)) jobs → (j k : ℕ) → Edge (edges_of lists) j k → k < length lists
+pub edges_below : (jobs : List (Node × Node)) (lists : List (Vec ℕ Global)) → edges_of lists ≡ needs_lists (name_place (keys_in jobs)) jobs → (j k : ℕ) → Edge (edges_of lists) j k → k < length lists
 edges_below jobs lists e j k has =
     let P : List (List ℕ) → Type 0 = λ ls. Edge ls j k in
-    let below : k < length (keys_of jobs) = needs_below (keys_of jobs) jobs j k (subst P e has) in
-    let a : length (keys_of jobs) ≡ length jobs = length-map jobs _ in
+    let below : k < length (keys_in jobs) = needs_below (keys_in jobs) jobs j k (subst P e has) in
+    let a : length (keys_in jobs) ≡ length jobs = length-map jobs _ in
     let b : length lists ≡ length jobs = lists_length jobs lists e in omega (arith, below, a, b)
 
 -- the entries of a job
@@ -184,13 +185,13 @@ needs_are {X} seen i job key xs ns e t k =
     e ∙ ap (λ (ss : List (Scalar × Span)). map (λ n. record { job = i; key = key; text = n }) (map of_scalar ss)) t
     ∙ ap (λ (h : Named). map (λ n. record { job = i; key = h; text = n }) (map of_scalar (texts_at (codes "needs") job.1))) k
 
-pub lists_same : (jobs : List (Node × Node)) (position : List ℕ → Option ℕ) (lists : List (List ℕ)) → position ≡ position_in (keys_of jobs)
-    → lists ≡ needs_lists position jobs → lists ≡ needs_lists (position_in (keys_of jobs)) jobs
+pub lists_same : (jobs : List (Node × Node)) (position : List ℕ → Option ℕ) (lists : List (List ℕ)) → position ≡ name_place (keys_in jobs)
+    → lists ≡ needs_lists position jobs → lists ≡ needs_lists (name_place (keys_in jobs)) jobs
 lists_same jobs position lists p l = l ∙ ap (λ f. needs_lists f jobs) p
 
 -- the faults of all
 pub adds_all : (jobs : List (Node × Node)) (position : List ℕ → Option ℕ) (lists : List (Vec ℕ Global)) (labels : List (Option ℕ))
-    (old new : List Fault) → position ≡ position_in (keys_of jobs) → edges_of lists ≡ needs_lists position jobs
+    (old new : List Fault) → position ≡ name_place (keys_in jobs) → edges_of lists ≡ needs_lists position jobs
     → ((j k : ℕ) → j < length lists → k < length lists
     → (get_or labels j None ≡ get_or labels k None) ↔ StronglyConnected (edges_of lists) j k)
     → new ≡ old ++ labelled_faults position labels (all_needs jobs) → AddsAllNeeds jobs old new
@@ -199,7 +200,7 @@ adds_all jobs position lists labels old new p l exact grows =
     let size : length graph ≡ length lists = length-map lists _ in
     let number : length (needs_lists position jobs) ≡ length jobs = length-map jobs _ in
     let all : length graph ≡ length jobs = ap length l ∙ number in
-    let same : edges_of lists ≡ needs_lists (position_in (keys_of jobs)) jobs = lists_same jobs position graph p l in
+    let same : edges_of lists ≡ needs_lists (name_place (keys_in jobs)) jobs = lists_same jobs position graph p l in
     let below : (j k : ℕ) → Edge graph j k → k < length graph =
     λ j k e. (let h = edges_below jobs lists same j k e in omega (arith, h, size)) in
     let are = jobs_are position graph labels (λ j k a b. exact j k (omega (arith, a, size)) (omega (arith, b, size))) below 0 jobs

@@ -4,9 +4,9 @@ use Rattle.std.specs.List.{flat_map, filter_map, enumerate_from}
 use Rattle.al_base.specs.declared.codes.RuleCode.TheVariants.{NeedsCycle, UndefinedJob}
 use Rattle.al_base.specs.declared.faults.Fault.{Fault}
 use Rattle.al_yaml_tree.specs.Node.{Node}
+use Rattle.al_tree.specs.Keys.{keys_in}
 use Rattle.al_tree.specs.Values.{texts_at}
-use Rattle.al_base.specs.Names.{same_name}
-use Rattle.al_base.specs.NamePlaces.{first_at}
+use Rattle.al_base.specs.NamePlaces.{name_place}
 use Rattle.al_graph.specs.Graphs.{Walk}
 use Rattle.al_rules_settings.specs.Words.{Named, about, fault, of_key, of_scalar}
 
@@ -18,11 +18,7 @@ keys_of jobs = map (λ j. of_key j.0) jobs
 abbrev pub needs_of : Node × Node → List Named
 needs_of j = map of_scalar (texts_at (codes "needs") j.1)
 
--- where the first job stands whose key is a name, in any ASCII case
-abbrev pub position_in : List Named → List ℕ → Option ℕ
-position_in keys name = first_at (λ k. same_name k.text name) keys
-
--- where the job stands that a text names
+-- where the job stands that a text names, by where names stand
 abbrev pub named_by : (List ℕ → Option ℕ) → Named → Option ℕ
 named_by position n = position n.text
 
@@ -60,7 +56,7 @@ pub data AreNeedsFaults (position : List ℕ → Option ℕ) (Leads : ℕ → �
 
 abbrev pub IsNeedsFaults : List (Node × Node) → List Fault → Type 0
 IsNeedsFaults jobs found =
-    let position = position_in (keys_of jobs) in AreNeedsFaults position (Walk (needs_lists position jobs)) (all_needs jobs) found
+    let position = name_place (keys_in jobs) in AreNeedsFaults position (Walk (needs_lists position jobs)) (all_needs jobs) found
 
 -- what is added for some entries, and for all
 pub record AddsNeeds (position : List ℕ → Option ℕ) (Leads : ℕ → ℕ → Type 0) (ns : List Need) (old new : List Fault) : Type 0 where
@@ -70,7 +66,7 @@ pub record AddsNeeds (position : List ℕ → Option ℕ) (Leads : ℕ → ℕ �
 
 abbrev pub AddsAllNeeds : List (Node × Node) → List Fault → List Fault → Type 0
 AddsAllNeeds jobs old new =
-    let position = position_in (keys_of jobs) in AddsNeeds position (Walk (needs_lists position jobs)) (all_needs jobs) old new
+    let position = name_place (keys_in jobs) in AddsNeeds position (Walk (needs_lists position jobs)) (all_needs jobs) old new
 
 -- To compute rows with: what an entry gives, where a test says from which jobs a walk comes back
 abbrev pub tested_faults : (ℕ → Bool) → Need → Option ℕ → List Fault
@@ -79,4 +75,4 @@ tested_faults leads n (Some j) = if leads j then cycle_fault n ∷ [] else []
 
 abbrev pub needs_faults : (ℕ → ℕ → Bool) → List (Node × Node) → List Fault
 needs_faults leads jobs =
-    flat_map (λ n. tested_faults (λ j. leads j n.job) n (named_by (position_in (keys_of jobs)) n.text)) (all_needs jobs)
+    flat_map (λ n. tested_faults (λ j. leads j n.job) n (named_by (name_place (keys_in jobs)) n.text)) (all_needs jobs)

@@ -3,15 +3,16 @@ use Rattle.std.specs.Prelude.{◌≡◌, ◌↔◌, ◌⊎◌, ℕ, List, [], �
 use Rattle.std.specs.Prelude.{option_and_then}
 use Rattle.std.specs.List.{flat_map, filter_map}
 use Rattle.std.specs.Option.{option_map_or}
-use Rattle.std.specs.Str.{bytes_eq}
 use Rattle.al_base.specs.declared.codes.RuleCode.TheVariants.{MissingOutputValue, MissingShell, UnknownUsing}
 use Rattle.al_base.specs.declared.faults.Fault.{Fault}
 use Rattle.al_yaml_tree.specs.Access.{scalar_in}
 use Rattle.al_yaml_tree.specs.Node.{Node, span_of}
 use Rattle.al_yaml_tree.specs.View.{view}
-use Rattle.al_tree.specs.Names.{among}
+use Rattle.al_tree.specs.Faults.{runs_of}
 use Rattle.al_tree.specs.Values.{entries_at, items_at, key_at, text_at, text_below, value_at, value_below}
 use Rattle.al_tree.specs.Files.{jobs_of}
+use Rattle.al_tree.specs.declared.table.Shape.{Shape}
+use Rattle.al_tree.specs.declared.table.Shape.TheVariants.{CompositeRuns, DockerRuns, NodeRuns}
 use Rattle.al_tree.specs.declared.files.FileKind.{FileKind}
 use Rattle.al_tree.specs.declared.files.FileKind.TheVariants as kind
 use Rattle.al_tree.specs.declared.files.Tree.{Tree}
@@ -25,11 +26,10 @@ use Rattle.al_rules_settings.specs.Settings.{permissions_faults, script_faults, 
 use Rattle.al_rules_settings.specs.Words.{Named, about, fault, of_key, of_scalar}
 
 -- of a step
-abbrev pub run_faults : Node → List Fault
-run_faults step = shell_faults (text_at (codes "shell") step) ++ script_faults (text_at (codes "run") step)
-
 abbrev pub step_faults : Node → List Fault
-step_faults step = env_faults step ++ condition_faults (text_at (codes "if") step) ++ run_faults step
+step_faults step =
+    env_faults step ++ condition_faults (text_at (codes "if") step) ++ shell_faults (text_at (codes "shell") step)
+    ++ script_faults (text_at (codes "run") step)
 
 abbrev pub step_ids : List Node → List Named
 step_ids steps = map of_scalar (filter_map (text_at (codes "id")) steps)
@@ -45,16 +45,15 @@ container_faults c = env_faults c ++ credentials_faults c
 abbrev pub section_faults : Node → List Fault
 section_faults n = permissions_faults n ++ env_faults n ++ shell_faults (text_below (codes "defaults" ∷ codes "run" ∷ codes "shell" ∷ []) n)
 
-abbrev pub matrix_faults_of : Node → List Fault
-matrix_faults_of job = option_map_or matrix_faults (value_below (codes "strategy" ∷ codes "matrix" ∷ []) job) []
-
 abbrev pub containers_faults : Node → List Fault
 containers_faults job =
     option_map_or container_faults (value_at (codes "container") job) []
     ++ flat_map (λ m. container_faults m.1) (entries_at (codes "services") job)
 
 abbrev pub settings_faults : Node → List Fault
-settings_faults job = section_faults job ++ condition_faults (text_at (codes "if") job) ++ matrix_faults_of job
+settings_faults job =
+    section_faults job ++ condition_faults (text_at (codes "if") job)
+    ++ option_map_or matrix_faults (value_below (codes "strategy" ∷ codes "matrix" ∷ []) job) []
 
 abbrev pub job_faults : Node × Node → List Fault
 job_faults j = settings_faults j.1 ++ containers_faults j.1 ++ steps_faults (items_at (codes "steps") j.1)
@@ -83,24 +82,20 @@ composite_faults root runs =
 abbrev pub hooks_faults : Node → List Fault
 hooks_faults runs = condition_faults (text_at (codes "pre-if") runs) ++ condition_faults (text_at (codes "post-if") runs)
 
--- the values of `using` that run JavaScript (GitHub, "Metadata syntax")
-abbrev pub node_usings : List (List ℕ)
-node_usings = codes "node12" ∷ codes "node16" ∷ codes "node20" ∷ codes "node24" ∷ []
-
--- by `using`; one that isn't known, and then only it is checked
-abbrev pub using_faults : Node → Node → Named → List Fault
-using_faults root runs using_name =
-    if among node_usings using_name.text then hooks_faults runs
-    else if bytes_eq using_name.text (codes "docker") then env_faults runs ++ hooks_faults runs
-    else if bytes_eq using_name.text (codes "composite") then composite_faults root runs
-    else about UnknownUsing using_name
+-- by the section that `runs` is; where that isn't known, only `using` is checked
+abbrev pub using_faults : Node → Node → Named → Shape → List Fault
+using_faults root runs using_name NodeRuns = hooks_faults runs
+using_faults root runs using_name DockerRuns = env_faults runs ++ hooks_faults runs
+using_faults root runs using_name CompositeRuns = composite_faults root runs
+using_faults root runs using_name _ = about UnknownUsing using_name
 
 -- `using` as a scalar, null too
 abbrev pub scalar_of_value : Node → Option Named
 scalar_of_value n = option_map (λ s. of_scalar (s, span_of n)) (scalar_in n)
 
 abbrev pub runs_faults : Node → Node → List Fault
-runs_faults root runs = option_map_or (using_faults root runs) (option_and_then scalar_of_value (value_at (codes "using") runs)) []
+runs_faults root runs =
+    option_map_or (λ n. using_faults root runs n (runs_of n.text)) (option_and_then scalar_of_value (value_at (codes "using") runs)) []
 
 abbrev pub action_faults : Node → List Fault
 action_faults root = option_map_or (runs_faults root) (value_at (codes "runs") root) []

@@ -3,6 +3,7 @@
 ghost use Rattle.al_rules.specs.Rules.{action_faults, composite_faults, hooks_faults, no_shell_faults, output_faults, runs_faults};
 ghost use Rattle.al_rules.specs.Rules.{scalar_of_value, using_faults};
 ghost use Rattle.al_rules_settings.specs.Views.{named_of};
+ghost use Rattle.al_tree.specs.Faults.{runs_of as section_of};
 ghost use Rattle.al_tree.specs.Values.{entries_at, member_of, value_at};
 ghost use Rattle.al_yaml_tree.specs.View.{view};
 ghost use Rattle.std.specs.List.{flat_map};
@@ -11,12 +12,9 @@ ghost use Rattle.std.specs.Prelude.{◌≡◌, ◌++◌, codes, map, option_and_
 use crate::sections::check_steps;
 use al_base::{Code, FaultSink, RuleCode};
 use al_rules_settings::{Named, check_condition, check_env, named_key, report};
-use al_tree::{Member, is_among, items_under, key, members, text_under, value};
+use al_tree::{Member, Shape, items_under, key, members, runs_of, text_under, value};
 use al_yaml_tree::Node;
 use std::alloc::AllocError;
-
-/// The values of `using` that run JavaScript.
-const NODE_USINGS: &[&str] = &["node12", "node16", "node20", "node24"];
 
 /// Adds the fault of a step of a composite action that runs a script and names no shell.
 fn check_no_shell(step: &Node, faults: &mut FaultSink) -> Result<(), AllocError>
@@ -104,17 +102,17 @@ fn check_using(
     faults: &mut FaultSink,
 ) -> Result<(), AllocError>
     ensures { OnOk result (faults.new ≡ faults.old
-        ++ using_faults (view root.now) (view runs.now) (named_of using_name.entry)) }
+        ++ using_faults (view root.now) (view runs.now) (named_of using_name.entry)
+        (section_of (named_of using_name.entry).text)) }
 {
-    if is_among(using_name.text, NODE_USINGS) {
-        check_hooks(runs, faults)
-    } else if using_name.text == b"docker".as_slice() {
-        check_env(runs, faults)?;
-        check_hooks(runs, faults)
-    } else if using_name.text == b"composite".as_slice() {
-        check_composite(root, runs, faults)
-    } else {
-        report(RuleCode::UnknownUsing, using_name, faults)
+    match runs_of(using_name.text) {
+        Shape::NodeRuns => check_hooks(runs, faults),
+        Shape::DockerRuns => {
+            check_env(runs, faults)?;
+            check_hooks(runs, faults)
+        }
+        Shape::CompositeRuns => check_composite(root, runs, faults),
+        _ => report(RuleCode::UnknownUsing, using_name, faults),
     }
 }
 

@@ -1,10 +1,12 @@
 //! Events: their names, activity types, filters, schedules, and the types of inputs.
 
-ghost use Rattle.al_rules.specs.Events.{activity_faults, cron_faults, event_faults, filter_faults, filters_faults, input_faults};
-ghost use Rattle.al_rules.specs.Events.{inputs_faults, name_faults, named_faults, on_faults, pattern_faults, schedule_faults, type_faults};
+ghost use Rattle.al_base.specs.declared.codes.RuleCode.TheVariants.{UnknownActivity, WrongPattern};
+ghost use Rattle.al_rules.specs.Events.{cron_faults, event_faults, filter_faults, filters_faults, input_faults};
+ghost use Rattle.al_rules.specs.Events.{inputs_faults, name_faults, named_faults, on_faults, schedule_faults, type_faults};
+ghost use Rattle.al_rules_formats.specs.Patterns.{is_pattern as means_pattern};
 ghost use Rattle.al_rules_formats.specs.Schedules.{schedule_of};
 ghost use Rattle.al_rules_settings.specs.Views.{named_of};
-ghost use Rattle.al_rules_settings.specs.Words.{of_scalar};
+ghost use Rattle.al_rules_settings.specs.Words.{of_scalar, unless, unless_among};
 ghost use Rattle.al_tree.specs.Values.{member_of, scalar_node_of};
 ghost use Rattle.al_yaml_tree.specs.View.{view};
 ghost use Rattle.std.specs.List.{flat_map};
@@ -20,18 +22,6 @@ use al_tree::{
 use al_yaml_tree::Node;
 use std::alloc::AllocError;
 
-/// Adds an activity type that an event doesn't take.
-fn check_type(
-    types: &[&str],
-    scalar: ScalarNode<'_>,
-    faults: &mut FaultSink,
-) -> Result<(), AllocError>
-    ensures { OnOk result (faults.new ≡ faults.old
-        ++ activity_faults (map (λ n. n.now) types.now) (scalar_node_of scalar.entry)) }
-{
-    report_unless_among(RuleCode::UnknownActivity, types, named_text(scalar), faults)
-}
-
 /// Adds the activity types that an event doesn't take.
 fn check_types(
     types: &[&str],
@@ -39,11 +29,16 @@ fn check_types(
     faults: &mut FaultSink,
 ) -> Result<(), AllocError>
     ensures { OnOk result (faults.new ≡ faults.old
-        ++ flat_map (activity_faults (map (λ n. n.now) types.now))
+        ++ flat_map (λ s. unless_among UnknownActivity (map (λ n. n.now) types.now) (of_scalar s))
         (map scalar_node_of scalars.now)) }
 {
     for scalar in scalars {
-        check_type(types, *scalar, faults)?;
+        report_unless_among(
+            RuleCode::UnknownActivity,
+            types,
+            named_text(*scalar),
+            faults,
+        )?;
     }
     Ok(())
 }
@@ -63,8 +58,8 @@ fn check_activities(name: &[u8], event: &Node, faults: &mut FaultSink) -> Result
 
 /// Adds the fault of a filter that is no pattern.
 fn check_pattern(filter: Filter, named: Named<'_>, faults: &mut FaultSink) -> Result<(), AllocError>
-    ensures { OnOk result (faults.new ≡ faults.old
-        ++ pattern_faults filter (named_of named.entry)) }
+    ensures { let n = named_of named.entry in
+        OnOk result (faults.new ≡ faults.old ++ unless (means_pattern filter n.text) WrongPattern n) }
 {
     let right = is_pattern(faults.alloc(), filter, named.text)?;
     report_unless(right, RuleCode::WrongPattern, named, faults)
@@ -77,7 +72,8 @@ fn check_patterns(
     faults: &mut FaultSink,
 ) -> Result<(), AllocError>
     ensures { OnOk result (faults.new ≡ faults.old
-        ++ flat_map (λ s. pattern_faults filter (of_scalar s)) (map scalar_node_of scalars.now)) }
+        ++ flat_map (λ s. unless (means_pattern filter (of_scalar s).text) WrongPattern (of_scalar s))
+        (map scalar_node_of scalars.now)) }
 {
     for scalar in scalars {
         check_pattern(filter, named_text(*scalar), faults)?;

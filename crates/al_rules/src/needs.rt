@@ -3,12 +3,11 @@
 ghost use Rattle.al_base.specs.NamePlaces.{name_position};
 ghost use Rattle.al_graph.specs.Graphs.{edges_of};
 ghost use Rattle.al_rules.specs.Needs.{AddsAllNeeds, all_needs, keys_of as keys_of_all, named_by, needs_in, needs_lists};
-ghost use Rattle.al_rules.specs.Needs.{position_in};
 ghost use Rattle.al_rules.specs.Private.Components as components;
 ghost use Rattle.al_rules.specs.Private.Components.{labelled_fault};
 ghost use Rattle.al_rules_settings.specs.Views.{named_of};
 ghost use Rattle.al_rules.specs.Private.Views.{faults_by, need_of};
-ghost use Rattle.al_rules_settings.specs.Words.{of_key, of_scalar};
+ghost use Rattle.al_rules_settings.specs.Words.{of_scalar};
 ghost use Rattle.al_tree.specs.Values.{member_of, scalar_node_of};
 ghost use Rattle.std.specs.List.{filter_map};
 ghost use Rattle.std.specs.Prelude.{◌≡◌, ◌++◌, map, slice_index_or, IfOk, OnOk, None};
@@ -16,7 +15,7 @@ ghost use Rattle.std.specs.Prelude.{◌≡◌, ◌++◌, map, slice_index_or, If
 use al_base::{Code, FaultSink, NamePositions, RuleCode};
 use al_graph::strongly_connected_components;
 use al_rules_settings::{Named, named_key, named_text, report};
-use al_tree::{Member, ScalarNode, key_text, texts_under};
+use al_tree::{Member, ScalarNode, member_positions, texts_under};
 use std::alloc::{AllocError, Global};
 
 /// An entry of `needs`: its text, and the position and the key of its job.
@@ -45,18 +44,6 @@ pub(crate) fn keys_of<'a>(alloc: Global, jobs: &[Member<'a>]) -> Result<Vec<Name
         keys.push(named_key(job.key))?;
     }
     Ok(keys)
-}
-
-/// Where the first job with each key stands, without regard to ASCII case.
-fn positions_by(alloc: Global, jobs: &[Member<'_>]) -> Result<NamePositions, AllocError>
-    ensures { IfOk result (λ p. name_position p
-        ≡ position_in (map (λ j. of_key (member_of j).0) jobs.now)) }
-{
-    let mut positions = NamePositions::new(alloc);
-    for (i, job) in jobs.iter().enumerate() {
-        let _ = positions.insert(alloc, key_text(job.key), i)?;
-    }
-    Ok(positions)
 }
 
 /// The positions of the jobs that some texts name.
@@ -217,7 +204,7 @@ fn check_each_job(
 pub(crate) fn check_needs(jobs: &[Member<'_>], faults: &mut FaultSink) -> Result<(), AllocError>
     ensures { OnOk result (AddsAllNeeds (map member_of jobs.now) faults.old faults.new) }
 {
-    let positions = positions_by(faults.alloc(), jobs)?;
+    let positions = member_positions(faults.alloc(), jobs)?;
     let needs = lists_for(faults.alloc(), &positions, jobs)?;
     let labels = strongly_connected_components(faults.alloc(), needs.as_slice())?;
     let graph = JobGraph {

@@ -1,7 +1,8 @@
 //! Steps, containers and jobs: which rules stand where.
 
-ghost use Rattle.al_rules.specs.Rules.{container_faults, containers_faults, job_faults, matrix_faults_of, run_faults, section_faults};
+ghost use Rattle.al_rules.specs.Rules.{container_faults, containers_faults, job_faults, section_faults};
 ghost use Rattle.al_rules.specs.Rules.{settings_faults, step_faults, step_ids, steps_faults};
+ghost use Rattle.al_rules_settings.specs.Matrix.{matrix_faults};
 ghost use Rattle.al_rules_settings.specs.Views.{named_of};
 ghost use Rattle.al_tree.specs.Values.{entries_at, member_of, scalar_node_of, text_below, value_at, value_below};
 ghost use Rattle.al_yaml_tree.specs.View.{view};
@@ -18,21 +19,14 @@ use al_tree::{Member, ScalarNode, items_under, members, text_under, value};
 use al_yaml_tree::Node;
 use std::alloc::{AllocError, Global};
 
-/// Adds the faults of what a step runs.
-fn check_run(step: &Node, faults: &mut FaultSink) -> Result<(), AllocError>
-    ensures { OnOk result (faults.new ≡ faults.old ++ run_faults (view step.now)) }
-{
-    check_shell(text_under(step, "shell"), faults)?;
-    check_script(text_under(step, "run"), faults)
-}
-
 /// Adds the faults of a step by itself.
 fn check_step(step: &Node, faults: &mut FaultSink) -> Result<(), AllocError>
     ensures { OnOk result (faults.new ≡ faults.old ++ step_faults (view step.now)) }
 {
     check_env(step, faults)?;
     check_condition(text_under(step, "if"), faults)?;
-    check_run(step, faults)
+    check_shell(text_under(step, "shell"), faults)?;
+    check_script(text_under(step, "run"), faults)
 }
 
 /// The ids of some steps.
@@ -138,7 +132,8 @@ fn matrix_of(job: &Node) -> Option<&Node>
 
 /// Adds the faults of the matrix of a job.
 fn check_job_matrix(job: &Node, faults: &mut FaultSink) -> Result<(), AllocError>
-    ensures { OnOk result (faults.new ≡ faults.old ++ matrix_faults_of (view job.now)) }
+    ensures { OnOk result (faults.new ≡ faults.old ++ option_map_or matrix_faults
+        (value_below (codes "strategy" ∷ codes "matrix" ∷ []) (view job.now)) []) }
 {
     match matrix_of(job) {
         None => Ok(()),

@@ -21,14 +21,11 @@ is_mark c = c == ascii.question || c == ascii.plus
 -- the characters up to the first `]`
 abbrev pub before_closing : List ℕ → List ℕ
 before_closing [] = []
-before_closing (c ∷ cs) = let more = before_closing cs in if c == ascii.close_bracket then [] else c ∷ more
+before_closing (c ∷ cs) = if c == ascii.close_bracket then [] else c ∷ before_closing cs
 
 -- no range descends
 abbrev pub ascends : List ℕ → Bool
-ascends (low ∷ mark ∷ high ∷ cs) =
-    let behind_range = ascends cs in
-    let behind_one = ascends (mark ∷ high ∷ cs) in
-    if mark == ascii.dash then nat_le low high && behind_range else behind_one
+ascends (low ∷ mark ∷ high ∷ cs) = if mark == ascii.dash then nat_le low high && ascends cs else ascends (mark ∷ high ∷ cs)
 ascends _ = true
 
 abbrev pub is_class : List ℕ → Bool

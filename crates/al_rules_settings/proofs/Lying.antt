@@ -1,18 +1,19 @@
 -- Each fault of a setting lies in the file that the tree was read from.
-use Rattle.std.specs.Prelude.{ℕ, ◌||◌, Bool, not, List, [], ◌∷◌, ◌++◌, codes, map, Option, Some, None, IfSome}
+use Rattle.std.specs.Prelude.{ℕ, ◌||◌, Bool, not, is_none, is_some, List, [], ◌∷◌, ◌++◌, codes, map, Option, Some, None, IfSome}
 use Rattle.std.specs.List.{AllByRecursion, flat_map}
 use Rattle.al_base.specs.Spans.{LiesIn}
 use Rattle.al_base.specs.declared.codes.RuleCode.TheVariants.{AlwaysTrue, PasswordNotExpression, RepeatedId, UnknownMatrixRow}
 use Rattle.al_base.specs.declared.codes.RuleCode.TheVariants.{UnknownPermission, UnknownShell, WrongId, WrongMatrix, WrongPermission}
 use Rattle.al_base.specs.declared.codes.RuleCode.TheVariants.{WrongVariable}
+use Rattle.al_base.specs.NamePlaces.{name_place}
 use Rattle.al_base.specs.declared.faults.Span.{Span}
 use Rattle.al_rules_formats.specs.Names.{is_id, is_variable}
 use Rattle.al_scalar.specs.Scalar.{Scalar, text_of}
 use Rattle.al_yaml_tree.specs.Node.{Node, span_of}
 use Rattle.al_tree.specs.Names.{among}
 use Rattle.al_tree.specs.Values.{entries_at, entries_in, items_at, text_in, value_at, value_below}
-use Rattle.al_rules_settings.specs.Ids.{id_faults, ids_faults, repeated_faults, with_folded}
-use Rattle.al_rules_settings.specs.Matrix.{exclude_faults, exclude_keys, excludes_faults, is_dynamic, is_mapping, is_null_node, is_row_value, matrix_faults, row_faults, row_names, shape_faults}
+use Rattle.al_rules_settings.specs.Ids.{id_faults, ids_faults, repeated_faults}
+use Rattle.al_rules_settings.specs.Matrix.{exclude_faults, exclude_keys, is_dynamic, is_mapping, is_null_node, is_row_value, matrix_faults, row_faults, row_names, shape_faults}
 use Rattle.al_rules_settings.specs.Names.{permissions, scope_values, whole_values}
 use Rattle.al_rules_settings.specs.Settings.{all_permissions_faults, condition_faults, credentials_faults, env_faults, is_always_true}
 use Rattle.al_rules_settings.specs.Settings.{is_password, is_shell, password_faults, permission_faults, permissions_faults, script_faults}
@@ -26,22 +27,16 @@ use Rattle.al_rules_settings.proofs.Inside.{items_at_fine, one_lies, or_lies, sp
 module _ (size : ℕ) where
   -- ---- ids
 
-  abbrev Folded : Named × List ℕ → Type 0
-  Folded p = NameLies size p.0
-
-  repeated_lie : (seen : List (List ℕ)) (ps : List (Named × List ℕ)) → AllByRecursion Folded ps → Are size (repeated_faults seen ps)
+  repeated_lie : (seen : List (List ℕ)) (ns : List Named) → AllByRecursion (NameLies size) ns → Are size (repeated_faults seen ns)
   repeated_lie seen [] h = tt
-  repeated_lie seen (p ∷ ps) h =
-      both size (unless (not (among seen p.1)) RepeatedId p.0) (repeated_faults (seen ++ p.1 ∷ []) ps)
-      (unless_lies size (not (among seen p.1)) RepeatedId p.0 h.0) (repeated_lie (seen ++ p.1 ∷ []) ps h.1)
-
-  folded_place : (ids : List Named) → AllByRecursion (NameLies size) ids → AllByRecursion Folded (map with_folded ids)
-  folded_place ids h = each_as (NameLies size) Folded with_folded (λ n p. p) ids h
+  repeated_lie seen (n ∷ ns) h =
+      both size (unless (is_none (name_place seen n.text)) RepeatedId n) (repeated_faults (seen ++ n.text ∷ []) ns)
+      (unless_lies size (is_none (name_place seen n.text)) RepeatedId n h.0) (repeated_lie (seen ++ n.text ∷ []) ns h.1)
 
   pub ids_lie : (ids : List Named) → AllByRecursion (NameLies size) ids → Are size (ids_faults ids)
   ids_lie ids h =
-      both size (flat_map id_faults ids) (repeated_faults [] (map with_folded ids)) (each_of (NameLies size) (Lies size) id_faults (λ n p. unless_lies size (is_id n.text) WrongId n p) ids h)
-      (repeated_lie [] (map with_folded ids) (folded_place ids h))
+      both size (flat_map id_faults ids) (repeated_faults [] ids)
+      (each_of (NameLies size) (Lies size) id_faults (λ n p. unless_lies size (is_id n.text) WrongId n p) ids h) (repeated_lie [] ids h)
 
   -- ---- matrices
 
@@ -56,16 +51,19 @@ module _ (size : ℕ) where
       each_of (Fine size) (NameLies size) (λ item. map (λ m. of_key m.0) (entries_in item))
       (λ item f. each_as (Pair size) (NameLies size) (λ m. of_key m.0) (λ m q. span_lies size m.0 q.0) (entries_in item) (entries_in_fine size item f)) items h
 
-  excludes_lie : (rows : List (List ℕ)) (names : List Named) → AllByRecursion (NameLies size) names → Are size (excludes_faults rows names)
-  excludes_lie rows names h =
-      each_of Folded (Lies size) (exclude_faults rows) (λ p q. unless_lies size (among rows p.1) UnknownMatrixRow p.0 q) (map with_folded names) (folded_place names h)
+  excludes_lie : (place : List ℕ → Option ℕ) (names : List Named) → AllByRecursion (NameLies size) names
+      → Are size (flat_map (exclude_faults place) names)
+  excludes_lie place names h =
+      each_of (NameLies size) (Lies size) (exclude_faults place) (λ n p. unless_lies size (is_some (place n.text)) UnknownMatrixRow n p) names h
 
   pub matrix_lies : (n : Node) → Fine size n → Are size (matrix_faults n)
   matrix_lies n f =
+      let place = name_place (row_names (entries_in n)) in
+      let keys = exclude_keys (items_at (codes "exclude") n) in
       or_lies size (is_mapping n) _ _
-      (both size (flat_map row_faults (entries_in n)) (excludes_faults (row_names (entries_in n)) (exclude_keys (items_at (codes "exclude") n)))
+      (both size (flat_map row_faults (entries_in n)) (flat_map (exclude_faults place) keys)
       (each_of (Pair size) (Lies size) row_faults row_lies (entries_in n) (entries_in_fine size n f))
-      (excludes_lie (row_names (entries_in n)) (exclude_keys (items_at (codes "exclude") n)) (exclude_place (items_at (codes "exclude") n) (items_at_fine size (codes "exclude") n f))))
+      (excludes_lie place keys (exclude_place (items_at (codes "exclude") n) (items_at_fine size (codes "exclude") n f))))
       (shape_lies (is_null_node n || is_dynamic n) (span_of n) (codes "matrix") (span_lies size n f))
 
   -- ---- settings

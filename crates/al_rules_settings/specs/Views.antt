@@ -4,7 +4,6 @@ use Rattle.al_tree.specs.declared.values.ScalarNode.{ScalarNode}
 use Rattle.al_tree.specs.Values.{scalar_node_of}
 use Rattle.al_rules_settings.specs.Words.{Named, of_scalar}
 use Rattle.al_rules_settings.specs.declared.commands.Command.{Command}
-use Rattle.al_rules_settings.specs.declared.ids.FoldedId.{FoldedId}
 use Rattle.al_rules_settings.specs.declared.reports.Named as rust
 
 abbrev pub named_of : rust.Named → Named
@@ -12,9 +11,6 @@ named_of n = record { text = n.text.now; span = n.span }
 
 abbrev pub named_scalar : ScalarNode → Named
 named_scalar s = of_scalar (scalar_node_of s)
-
-abbrev pub folded_id : FoldedId → Named × List ℕ
-folded_id i = (named_of i.id, i.text.items)
 
 -- what is looked for, and its name
 abbrev pub command_of : Command → List ℕ × List ℕ

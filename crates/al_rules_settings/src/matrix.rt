@@ -1,25 +1,22 @@
 //! The matrix of a job.
 
-ghost use Rattle.al_rules_settings.specs.Matrix.{are_combinations as all_combinations, exclude_faults, exclude_keys, excludes_faults};
+ghost use Rattle.al_base.specs.NamePlaces.{name_place, name_position};
+ghost use Rattle.al_rules_settings.specs.Matrix.{are_combinations as all_combinations, exclude_faults, exclude_keys};
 ghost use Rattle.al_rules_settings.specs.Matrix.{is_combination as combination, is_dynamic as dynamic};
 ghost use Rattle.al_rules_settings.specs.Matrix.{is_mapping as mapping, is_null_node as null_node, is_row_value as row_value};
-ghost use Rattle.al_rules_settings.specs.Matrix.{is_sequence as sequence, mapping_faults, matrix_faults};
-ghost use Rattle.al_rules_settings.specs.Matrix.{row_faults, row_names, shape_faults};
-ghost use Rattle.al_rules_settings.specs.Views.{folded_id, named_of};
-ghost use Rattle.al_rules_settings.specs.Words.{of_key, unless};
-ghost use Rattle.al_tree.specs.Keys.{holds};
-ghost use Rattle.al_tree.specs.Names.{among};
+ghost use Rattle.al_rules_settings.specs.Matrix.{mapping_faults, matrix_faults};
+ghost use Rattle.al_rules_settings.specs.Matrix.{row_faults, row_names as names_of_rows, shape_faults};
+ghost use Rattle.al_rules_settings.specs.Views.{named_of};
+ghost use Rattle.al_rules_settings.specs.Words.{of_key};
 ghost use Rattle.al_tree.specs.Values.{entries_in, member_of};
-ghost use Rattle.al_base.specs.declared.codes.RuleCode.TheVariants.{UnknownMatrixRow};
 ghost use Rattle.al_yaml_tree.specs.View.{view};
 ghost use Rattle.std.specs.List.{flat_map, list_all};
 ghost use Rattle.std.specs.Prelude.{◌≡◌, ◌++◌, map, IfOk, OnOk};
 
-use crate::ids::{FoldedId, fold_ids};
 use crate::reports::{Named, named_key, report_unless};
-use al_base::{Code, FaultSink, RuleCode, Span};
+use al_base::{Code, FaultSink, NamePositions, RuleCode, Span};
 use al_tree::{
-    KeySet, Member, contains_chunk, is_combination_key, is_null_scalar, items_under, members,
+    Member, contains_chunk, is_combination_key, is_null_scalar, items_under, key_text, members,
 };
 use al_yaml_tree::Node;
 use std::alloc::{AllocError, Global};
@@ -42,13 +39,6 @@ fn is_dynamic(node: &Node) -> bool
         Some(scalar) => contains_chunk(scalar.text()),
         None => false,
     }
-}
-
-/// Whether a node is a sequence.
-fn is_sequence(node: &Node) -> bool
-    ensures { result ≡ sequence (view node.now) }
-{
-    node.sequence().is_some()
 }
 
 /// Whether a node is a mapping.
@@ -97,7 +87,7 @@ fn is_row_value(key: &[u8], value: &Node) -> bool
     if is_combination_key(key) {
         are_combinations(value)
     } else {
-        is_sequence(value)
+        value.sequence().is_some()
     }
 }
 
@@ -136,30 +126,19 @@ fn check_rows(rows: &[Member<'_>], faults: &mut FaultSink) -> Result<(), AllocEr
     Ok(())
 }
 
-/// The names of the rows, without case, and without `include` and `exclude`.
-fn names_of(alloc: Global, rows: &[Member<'_>]) -> Result<Vec<Vec<u8>>, AllocError>
-    ensures { IfOk result (λ v. map (λ t. t.items) v.items ≡ row_names (map member_of rows.now)) }
+/// The names of the rows: the keys but `include` and `exclude`.
+fn row_names<'a>(alloc: Global, rows: &[Member<'a>]) -> Result<Vec<&'a [u8]>, AllocError>
+    ensures { IfOk result (λ v. map (λ t. t.now) v.items
+        ≡ names_of_rows (map member_of rows.now)) }
 {
     let mut names = Vec::new(alloc);
     for row in rows {
-        let key = named_key(row.key);
-        if !is_combination_key(key.text) {
-            names.push(key.text.to_ascii_lowercase(alloc)?)?;
+        let key = key_text(row.key);
+        if !is_combination_key(key) {
+            names.push(key)?;
         }
     }
     Ok(names)
-}
-
-/// Texts as a set.
-#[tactic(auto, using(al_tree::proofs::KeyLemmas::among_more))]
-fn set_of(alloc: Global, names: &[Vec<u8>]) -> Result<KeySet<'_>, AllocError>
-    ensures { IfOk result (λ s. holds s ≡ among (map (λ t. t.items) names.now)) }
-{
-    let mut set = KeySet::new(alloc);
-    for name in names {
-        set.insert(name.as_slice())?;
-    }
-    Ok(set)
 }
 
 /// The keys of an item of `exclude`.
@@ -193,34 +172,20 @@ fn excluded_keys(alloc: Global, items: &[Node]) -> Result<Vec<Named<'_>>, AllocE
     Ok(found)
 }
 
-/// Adds the faults of some keys of `exclude`.
-fn check_excluded<'a>(
-    rows: &KeySet<'a>,
-    keys: &'a [FoldedId<'a>],
+/// Adds the faults of some keys of `exclude`, beside rows that stand at these positions.
+fn check_excluded(
+    rows: &NamePositions,
+    keys: &[Named<'_>],
     faults: &mut FaultSink,
 ) -> Result<(), AllocError>
     ensures { OnOk result (faults.new ≡ faults.old
-        ++ flat_map (λ p. unless (holds rows.now p.1) UnknownMatrixRow p.0)
-        (map folded_id keys.now)) }
+        ++ flat_map (exclude_faults (name_position rows.now)) (map named_of keys.now)) }
 {
     for key in keys {
-        let known = rows.contains(key.text.as_slice());
-        report_unless(known, RuleCode::UnknownMatrixRow, key.id, faults)?;
+        let row = rows.get(faults.alloc(), key.text)?;
+        report_unless(row.is_some(), RuleCode::UnknownMatrixRow, *key, faults)?;
     }
     Ok(())
-}
-
-/// Adds the faults of some keys of `exclude`, beside rows with these names.
-fn check_beside<'a>(
-    names: &'a [Vec<u8>],
-    keys: &'a [FoldedId<'a>],
-    faults: &mut FaultSink,
-) -> Result<(), AllocError>
-    ensures { OnOk result (faults.new ≡ faults.old
-        ++ flat_map (exclude_faults (map (λ t. t.items) names.now)) (map folded_id keys.now)) }
-{
-    let rows = set_of(faults.alloc(), names)?;
-    check_excluded(&rows, keys, faults)
 }
 
 /// Adds the faults of the keys of `exclude` beside some rows.
@@ -230,13 +195,14 @@ fn check_excludes(
     faults: &mut FaultSink,
 ) -> Result<(), AllocError>
     ensures { OnOk result (faults.new ≡ faults.old
-        ++ excludes_faults (row_names (map member_of rows.now))
+        ++ flat_map (exclude_faults (name_place (names_of_rows (map member_of rows.now))))
         (exclude_keys (map view items.now))) }
 {
-    let names = names_of(faults.alloc(), rows)?;
-    let keys = excluded_keys(faults.alloc(), items)?;
-    let keys = fold_ids(faults.alloc(), keys.as_slice())?;
-    check_beside(names.as_slice(), keys.as_slice(), faults)
+    let alloc = faults.alloc();
+    let names = row_names(alloc, rows)?;
+    let positions = NamePositions::of(alloc, names.as_slice())?;
+    let keys = excluded_keys(alloc, items)?;
+    check_excluded(&positions, keys.as_slice(), faults)
 }
 
 /// Adds the faults of a matrix that is a mapping.

@@ -1,121 +1,127 @@
--- Sets of keys as tests of texts.
-use Rattle.std.proofs.Common.{◌≡◌, Equal, ℕ, Bool, true, false, cond, List, [], ◌∷◌, ◌++◌, length, map, take, refl, sym, ap, ◌∙◌, ◌||◌, ◌&&◌}
+-- The keys of the first entries of a mapping, and where keys and names first stand.
+use Rattle.std.proofs.Common.{◌≡◌, Bor, ◌≤◌, ◌<◌, ℕ, ◌+◌, zero, suc, Bool, true, false, List, [], ◌∷◌, length, map, take, get_or, refl, sym, ap, subst, arith, add-one, ◌∙◌, ◌||◌}
+use Rattle.std.specs.Prelude.{Option, Some, None, is_none, nat_eq, nat_lt, not, option_map, if◌then◌else◌}
 use Rattle.std.specs.List.{list_any}
+use Rattle.std.specs.Option.{option_eq, option_map_or}
 use Rattle.std.specs.Str.{bytes_eq}
-use Rattle.std.specs.Ordering.{nat_cmp, is_eq, ordering_then}
-use Rattle.std.specs.Cmp.{nat_cmp_is, nat_eq_equiv, partial_equiv_from_equiv, tied_then, IsPartialEquivalence}
-use Rattle.std.specs.Cmp.Lexicographic.{slice_cmp, lists_per}
-use Rattle.std.proofs.lemmas.List.{nil_from_length}
-use Rattle.std.proofs.lemmas.Map.Text.{is_eq-slice_cmp}
+use Rattle.std.specs.Cmp.{nat_eq_equiv, partial_equiv_from_equiv, IsPartialEquivalence}
+use Rattle.std.specs.Cmp.Lexicographic.{lists_per}
+use Rattle.std.proofs.Math.Dec.{eqb-suc-suc, eqb-zero-suc}
+use Rattle.std.proofs.Math.ListN.{get_or-map}
+use Rattle.std.proofs.lemmas.Bool.{le-ltb, lt-ltb, ltb-true, ltb_from_iff}
+use Rattle.std.proofs.lemmas.List.{length-map, take-map, take_all}
 use Rattle.std.proofs.lemmas.Slice.Eq.{bytes_eq-Decides}
+use Rattle.al_base.specs.Names.{folded, same_name}
+use Rattle.al_base.specs.NamePlaces.{first_at, name_place, text_place, text_position}
+use Rattle.al_base.specs.declared.name_positions.TextPositions.{TextPositions}
+use Rattle.al_yaml_tree.specs.View.{entry_view}
+use Rattle.al_yaml_tree.specs.declared.node.Entry.{Entry}
+use Rattle.al_tree.specs.Keys.{IsIndexOf, has_first, holds, is_before, key_of, keys_in}
 use Rattle.al_tree.specs.Names.{among}
-use Rattle.std.specs.BTreeSet.{Updates}
-use Rattle.std.proofs.lemmas.List.{map-append}
-use Rattle.std.proofs.Common.{Bor}
-use Rattle.al_tree.specs.Keys.{and_text, holds, holds_behind, number_of}
+use Rattle.al_tree.specs.declared.keys.KeyIndex.{KeyIndex}
 use Rattle.al_tree.specs.declared.keys.KeySet.{KeySet}
 
-or_assoc : (a b c : Bool) → ((a || b) || c) ≡ (a || (b || c))
-or_assoc true b c = refl
-or_assoc false b c = refl
-
-pub or_comm : (a b : Bool) → (a || b) ≡ (b || a)
-or_comm true true = refl
-or_comm true false = refl
-or_comm false true = refl
-or_comm false false = refl
-
-or_swap : (a b c : Bool) → ((a || b) || c) ≡ ((a || c) || b)
-or_swap true b c = refl
-or_swap false b c = or_comm b c
-
-cond_or : (a b : Bool) → cond a true b ≡ (b || a)
-cond_or true true = refl
-cond_or true false = refl
-cond_or false true = refl
-cond_or false false = refl
-
-pub bytes_swap : (a b : List ℕ) → bytes_eq a b ≡ bytes_eq b a
+bytes_swap : (a b : List ℕ) → bytes_eq a b ≡ bytes_eq b a
 bytes_swap a b = let p : IsPartialEquivalence bytes_eq = lists_per (partial_equiv_from_equiv nat_eq_equiv) in p.symm a b
 
-among_more_at : (ks : List (List ℕ)) (k text : List ℕ) → and_text (among ks) k text ≡ among (ks ++ k ∷ []) text
-among_more_at [] k text = or_comm false (bytes_eq text k)
-among_more_at (x ∷ xs) k text = or_assoc (bytes_eq text x) (among xs text) (bytes_eq text k) ∙ ap (λ b. bytes_eq text x || b) (among_more_at xs k text)
+before_none : (place : Option ℕ) → is_before 0 place ≡ false
+before_none None = refl
+before_none (Some i) = le-ltb i 0 (omega arith)
 
--- the texts of a list and one more
-pub among_more : (ks : List (List ℕ)) (k : List ℕ) → and_text (among ks) k ≡ among (ks ++ k ∷ [])
-among_more ks k = λ i text. among_more_at ks k text i
+before_more : (n : ℕ) (place : Option ℕ) → is_before (suc n) (option_map (λ i. i + 1) place) ≡ is_before n place
+before_more n None = refl
+before_more n (Some i) =
+    ltb_from_iff ((λ e. let h = ltb-true (i + 1) (suc n) e in omega (arith, h)), (λ h. lt-ltb (i + 1) (suc n) (omega (arith, h))))
 
-and_true : (a b : Bool) → (b ≡ true → a ≡ true) → (a && b) ≡ b
-and_true true b h = refl
-and_true false true h = h refl
-and_true false false h = refl
+here_or_behind : (here : Bool) (n : ℕ) (place : Option ℕ) (behind : Bool) → is_before n place ≡ behind →
+    is_before (suc n) (if here then Some 0 else option_map (λ i. i + 1) place) ≡ (here || behind)
+here_or_behind true n place behind e = lt-ltb 0 (suc n) (omega arith)
+here_or_behind false n place behind e = before_more n place ∙ e
 
--- texts that are the same by their last bytes and by all
-same_texts : (k text : List ℕ) → is_eq (ordering_then (nat_cmp (number_of k) (number_of text)) (slice_cmp nat_cmp k text)) ≡ bytes_eq k text
-same_texts k text =
-    sym (tied_then (nat_cmp (number_of k) (number_of text)) (slice_cmp nat_cmp k text))
-    ∙ ap (λ b. is_eq (nat_cmp (number_of k) (number_of text)) && b) (is_eq-slice_cmp k text)
-    ∙ and_true (is_eq (nat_cmp (number_of k) (number_of text))) (bytes_eq k text)
-    (λ same. ap (λ t. is_eq (nat_cmp (number_of k) (number_of t))) (sym ((bytes_eq-Decides k text).0 same))
-    ∙ ap is_eq (sym (nat_cmp_is (number_of k) (number_of k) Equal refl)))
+-- a text stands among the first ones where its place is before their end
+pub placed_before : (ts : List (List ℕ)) (n : ℕ) (t : List ℕ) → is_before n (text_place ts t) ≡ among (take n ts) t
+placed_before ts zero t = before_none (text_place ts t)
+placed_before [] (suc n) t = refl
+placed_before (u ∷ us) (suc n) t =
+    here_or_behind (bytes_eq u t) n (text_place us t) (among (take n us) t) (placed_before us n t)
+    ∙ ap (λ b. b || among (take n us) t) (bytes_swap u t)
 
-pub added_at : (k text : List ℕ) (old : Bool)
-    → cond (is_eq (ordering_then (nat_cmp (number_of k) (number_of text)) (slice_cmp nat_cmp k text))) true old ≡ (old || bytes_eq text k)
-added_at k text old =
-    ap (λ b. cond b true old) (same_texts k text ∙ bytes_swap k text) ∙ cond_or (bytes_eq text k) old
+-- what an index of few keys tells, and one of many
+pub few_keys : (es : Bor (List Entry)) → IsIndexOf (record { entries = es; positions = None }) es.now
+unfolding has_first
+few_keys es = refl
 
--- none are behind the first ones
-pub none_behind : (s : KeySet) (text : List ℕ) → length s.more.keys ≡ 0 → false ≡ holds_behind s text
-none_behind s text e =
-    ap (list_any (λ k. is_eq (ordering_then (nat_cmp (number_of text) k.0) (slice_cmp nat_cmp text k.1.now)))) (sym (nil_from_length s.more.keys e))
+pub many_keys : (es : Bor (List Entry)) (p : TextPositions) → text_position p ≡ text_place (keys_in (map entry_view es.now)) →
+    IsIndexOf (record { entries = es; positions = Some p }) es.now
+unfolding has_first
+many_keys es p is = λ i n k.
+    (ap (λ f. is_before n (f k)) is
+    ∙ placed_before (keys_in (map entry_view es.now)) n k
+    ∙ ap (λ ks. among ks k) (take-map key_of n (map entry_view es.now) ∙ ap keys_in (take-map entry_view n es.now))) i
 
--- where nothing was added behind the first keys
-pub as_it_was : (old new : KeySet) → new.few ≡ old.few → new.count ≡ old.count → new.more.keys ≡ old.more.keys → holds new ≡ holds old
-unfolding holds
-as_it_was old new few count e = λ i text.
-    among (map (λ k. k.now) (take (count i) (few i))) text || list_any (λ k. is_eq (ordering_then (nat_cmp (number_of text) k.0) (slice_cmp nat_cmp text k.1.now))) (e i)
+-- what a set of few keys holds, and one of many
+pub few_hold : (s : KeySet) (k : List ℕ) → s.index.now.positions ≡ None →
+    among (keys_in (map entry_view (take s.count s.index.now.entries.now))) k ≡ holds s k
+unfolding has_first
+few_hold s k few =
+    sym (ap (λ o. option_map_or (λ p. is_before s.count (text_position p k)) o (among (keys_in (map entry_view (take s.count s.index.now.entries.now))) k)) few)
 
--- one more of the first keys
-pub appended : (old new : KeySet) (key : Bor (List ℕ)) → take new.count new.few ≡ take old.count old.few ++ key ∷ [] → new.more ≡ old.more
-    → holds new ≡ and_text (holds old) key.now
-unfolding holds
-appended old new key more same = λ i text.
-    (ap (λ ks. among ks text || holds_behind new text)
-    (ap (map (λ k. k.now)) more ∙ map-append (λ k. k.now) (take old.count old.few) (key ∷ []))
-    ∙ ap (λ m. among (map (λ k. k.now) (take old.count old.few) ++ key.now ∷ []) text || holds_behind (record old { more = m }) text) same
-    ∙ ap (λ b. b || holds_behind old text) (sym (among_more_at (map (λ k. k.now) (take old.count old.few)) key.now text))
-    ∙ or_swap (among (map (λ k. k.now) (take old.count old.few)) text) (bytes_eq text key.now) (holds_behind old text)) i
+pub many_hold : (s : KeySet) (k : List ℕ) (p : TextPositions) → s.index.now.positions ≡ Some p → is_before s.count (text_position p k) ≡ holds s k
+unfolding has_first
+many_hold s k p many =
+    sym (ap (λ o. option_map_or (λ p. is_before s.count (text_position p k)) o (among (keys_in (map entry_view (take s.count s.index.now.entries.now))) k)) many)
 
--- one more behind the first keys
-pub inserted : (old new : KeySet) (key : Bor (List ℕ)) (n : ℕ) → n ≡ number_of key.now → new.few ≡ old.few → new.count ≡ old.count
-    → Updates (λ a b. ordering_then (nat_cmp a.0 b.0) (slice_cmp nat_cmp a.1.now b.1.now)) old.more new.more (n, key) true → holds new ≡ and_text (holds old) key.now
-unfolding holds
-inserted old new key n e few count u = λ i text.
-    (ap (λ fs. among (map (λ k. k.now) (take new.count fs)) text || holds_behind new text) few
-    ∙ ap (λ n. among (map (λ k. k.now) (take n old.few)) text || holds_behind new text) count
-    ∙ ap (λ b. among (map (λ k. k.now) (take old.count old.few)) text || b)
-    (u.0 (number_of text, record key { now = text })
-    ∙ ap (λ m. cond (is_eq (ordering_then (nat_cmp m (number_of text)) (slice_cmp nat_cmp key.now text))) true (holds_behind old text)) e
-    ∙ added_at key.now text (holds_behind old text))
-    ∙ sym (or_assoc (among (map (λ k. k.now) (take old.count old.few)) text) (holds_behind old text) (bytes_eq text key.now))) i
+-- all keys of a mapping
+pub all_keys : (x : KeyIndex) (s : KeySet) (es : List Entry) (n : ℕ) → IsIndexOf x es → holds s ≡ has_first x n → length es ≤ n →
+    holds s ≡ among (keys_in (map entry_view es))
+all_keys x s es n index first all =
+    first ∙ ap (λ f. f n) index ∙ ap (λ l. among (keys_in (map entry_view l))) (take_all n es all)
 
--- where a key stands
-pub first_held : (s : KeySet) (key : List ℕ) → true ≡ among (map (λ k. k.now) (take s.count s.few)) key → true ≡ holds s key
-unfolding holds
-first_held s key few = ap (λ b. b || holds_behind s key) few
+-- ---- where a name first stands in a list
 
-pub behind_first : (s : KeySet) (key : List ℕ) → false ≡ among (map (λ k. k.now) (take s.count s.few)) key
-    → holds_behind s key ≡ holds s key
-unfolding holds
-behind_first s key few = ap (λ b. b || holds_behind s key) few
+same_more : (k i : ℕ) → nat_eq (k + 1) (suc i) ≡ nat_eq k i
+same_more k i = ap (λ j. nat_eq j (suc i)) (add-one k) ∙ eqb-suc-suc k i
 
-held_at : (seen same : Bool) → (same ≡ true → seen ≡ true) → seen ≡ (seen || same)
-held_at true same h = refl
-held_at false true h = h refl
-held_at false false h = refl
+module _ {A : Type 0} (test : A → Bool) where
+  first_here : (here : Bool) (behind : Option ℕ) → here ≡ true → option_eq nat_eq (if here then Some 0 else behind) (Some 0) ≡ true
+  first_here true behind e = refl
+  first_here false behind e = absurd cc
 
--- a key that is there
-pub held : (s : KeySet) (key : List ℕ) → true ≡ holds s key → holds s ≡ and_text (holds s) key
-held s key there = λ i text.
-    held_at (holds s text) (bytes_eq text key) (λ same. ap (holds s) ((bytes_eq-Decides text key).0 same) ∙ sym there) i
+  first_behind : (here : Bool) (behind before : Option ℕ) (i : ℕ) → option_eq nat_eq behind (Some i) ≡ is_none before →
+      option_eq nat_eq (if here then Some 0 else option_map (λ k. k + 1) behind) (Some (suc i))
+      ≡ is_none (if here then Some 0 else option_map (λ k. k + 1) before)
+  first_behind true behind before i e = eqb-zero-suc i
+  first_behind false None None i e = e
+  first_behind false None (Some j) i e = refl
+  first_behind false (Some k) None i e = same_more k i ∙ e
+  first_behind false (Some k) (Some j) i e = same_more k i ∙ e
+
+  -- what passes a test is the first that does where none before it does
+  pub stands_first : (xs : List A) (i : ℕ) (d : A) → i < length xs → test (get_or xs i d) ≡ true →
+      option_eq nat_eq (first_at test xs) (Some i) ≡ is_none (first_at test (take i xs))
+  stands_first [] i d within passes = absurd (omega (arith, within))
+  stands_first (y ∷ ys) zero d within passes = first_here (test y) (option_map (λ k. k + 1) (first_at test ys)) passes
+  stands_first (y ∷ ys) (suc i) d within passes =
+      first_behind (test y) (first_at test ys) (first_at test (take i ys)) i (stands_first ys i d (omega (arith, within)) passes)
+
+  -- and none does where no element passes
+  none_step : (here : Bool) (behind : Option ℕ) (more : Bool) → is_none behind ≡ not more →
+      is_none (if here then Some 0 else option_map (λ k. k + 1) behind) ≡ not (here || more)
+  none_step true behind more e = refl
+  none_step false None more e = e
+  none_step false (Some k) more e = e
+
+  pub none_at : (xs : List A) → is_none (first_at test xs) ≡ not (list_any test xs)
+  none_at [] = refl
+  none_at (x ∷ xs) = none_step (test x) (first_at test xs) (list_any test xs) (none_at xs)
+
+same_itself : (n : List ℕ) → same_name n n ≡ true
+same_itself n = (bytes_eq-Decides (folded n) (folded n)).1 refl
+
+-- a name that no earlier one equals first stands where it does
+pub name_stands_first : {X : Type 0} (name : X → List ℕ) (xs : List X) (i : ℕ) (x : X) → i < length xs → x ≡ get_or xs i x →
+    option_eq nat_eq (name_place (map name xs) (name x)) (Some i) ≡ is_none (name_place (map name (take i xs)) (name x))
+name_stands_first name xs i x within is =
+    stands_first (λ m. same_name m (name x)) (map name xs) i (name x) (subst (λ n. i < n) (sym (length-map xs name)) within)
+    (ap (λ n. same_name n (name x)) (get_or-map name xs i x ∙ ap name (sym is)) ∙ same_itself (name x))
+    ∙ ap (λ ns. is_none (name_place ns (name x))) (take-map name i xs)

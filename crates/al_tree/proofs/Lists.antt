@@ -1,8 +1,8 @@
--- Tests of mapped lists, what holds of the first entries of each key, and lists up to an item and behind it.
+-- What holds of the first entries of each key, and lists up to an item and behind it.
 use Rattle.std.specs.Prelude.{ℕ, Bool, true, false, not, List, [], ◌∷◌, ◌++◌, ◌+◌, ◌<◌, length}
-use Rattle.std.proofs.Common.{◌≡◌, refl, ap, map, ◌||◌, cond, add-one, drop, drop-cons, get_or, sym, take, ◌∙◌}
+use Rattle.std.proofs.Common.{◌≡◌, refl, ap, map, cond, add-one, drop, drop-cons, get_or, sym, take, ◌∙◌}
 use Rattle.std.proofs.lemmas.List.{flat_map_more, map-append, map_more}
-use Rattle.std.specs.List.{AllByRecursion, flat_map, list_any}
+use Rattle.std.specs.List.{AllByRecursion, flat_map}
 use Rattle.al_base.proofs.Elements.{each_both, each_either}
 use Rattle.al_yaml_tree.specs.Node.{Node}
 use Rattle.al_yaml_tree.specs.View.{entry_view}
@@ -14,10 +14,6 @@ use Rattle.al_tree.specs.Values.{firsts}
 pub not_not : (b : Bool) → not (not b) ≡ b
 not_not true = refl
 not_not false = refl
-
-pub list_any_map : {X Y : Type 0} (p : Y → Bool) (f : X → Y) (xs : List X) → list_any p (map f xs) ≡ list_any (λ x. p (f x)) xs
-list_any_map p f [] = refl
-list_any_map p f (x ∷ xs) = ap (λ b. p (f x) || b) (list_any_map p f xs)
 
 pub firsts_kept : (P : Node × Node → Type 0) (seen : List (List ℕ)) (es : List (Node × Node)) → AllByRecursion P es → AllByRecursion P (firsts seen es)
 firsts_kept P seen [] p = tt

@@ -1,7 +1,8 @@
 -- Each fault of a node lies in the file that the node lies in.
-use Rattle.std.specs.Prelude.{ℕ, ◌≤◌, ◌&&◌, Bool, true, false, not, List, [], ◌∷◌, ◌++◌, codes, All, Option, Some, None}
+use Rattle.std.specs.Prelude.{ℕ, ◌≤◌, ◌&&◌, Bool, true, false, not, List, [], ◌∷◌, ◌++◌, codes, All, Option, Some, None, option_and_then}
 use Rattle.std.proofs.Common.{cond, arith}
 use Rattle.std.proofs.lemmas.List.Elements.{All-append, All-from_recursion}
+use Rattle.std.specs.List.{flat_map}
 use Rattle.std.specs.Option.{option_map_or}
 use Rattle.al_base.specs.Spans.{LiesIn}
 use Rattle.al_base.specs.declared.codes.KeyCode as codes_key
@@ -14,8 +15,8 @@ use Rattle.al_yaml_tree.specs.Node.{Node, Nodes, Entries, scalar, sequence, mapp
 use Rattle.al_yaml_tree.specs.Spans.{IsInside, AreInside, EntriesInside}
 use Rattle.al_tree.specs.Faults.{Standing, repeated, unexpected, ignored, expected, beside_faults, entries_faults, entry_faults, fault}
 use Rattle.al_tree.specs.Faults.{faults, is_empty, is_needed, is_null, items_faults, keyed_faults, mapping_faults, missing_fault}
-use Rattle.al_tree.specs.Faults.{missing_faults, one_fault, refined, root_faults, scalar_faults, sequence_faults, standing, takes_null}
-use Rattle.al_tree.specs.Faults.{scalar_fault, fault_if_any}
+use Rattle.al_tree.specs.Faults.{one_fault, mapping_shape, root_faults, scalar_faults, sequence_faults, standing, takes_null}
+use Rattle.al_tree.specs.Faults.{scalar_fault}
 use Rattle.al_tree.specs.Keys.{key_text, keys_in}
 use Rattle.al_tree.specs.Names.{among}
 use Rattle.al_tree.specs.Table.{Field, Keys, no_keys, free, keys, Rule, rule}
@@ -46,30 +47,29 @@ module _ (size : ℕ) where
   span_lies (sequence ns at) i = i.0
   span_lies (mapping es at) i = i.0
 
-  word_lies : (key : Option codes_key.KeyCode) (above : List ℕ) (at : Span) → LiesIn size at → All (Lies size) (fault_if_any key above at)
+  word_lies : (key : Option codes_key.KeyCode) (above : List ℕ) (at : Span) → LiesIn size at → All (Lies size) (option_map_or (λ k. one_fault k at above) key [])
   word_lies None above at i = none_lie
   word_lies (Some key) above at i = one_lies _ i
 
   scalar_lies : (r : Option Rule) (above : List ℕ) (s : Scalar) (at : Span) → LiesIn size at → All (Lies size) (scalar_faults r above s at)
-  scalar_lies None above s at i = none_lie
-  scalar_lies (Some r) above s at i = word_lies (scalar_fault r.scalars s) above at i
+  scalar_lies r above s at i = word_lies (option_and_then (λ r. scalar_fault r.scalars s) r) above at i
 
   sequence_lies : (r : Option Rule) (misfit : List Fault) (items : Shape → List Fault) → All (Lies size) misfit
       → ((s : Shape) → All (Lies size) (items s)) → All (Lies size) (sequence_faults r misfit items)
   sequence_lies None misfit items m f = none_lie
   sequence_lies (Some r) misfit items m f = elim r.items as (λ o. All (Lies size) (option_map_or items o misfit)) [ None ↦ m | Some s ↦ f s ]
 
-  missing_lies : (at : Span) (all : List ℕ → Bool) (fs : List Field) → LiesIn size at → All (Lies size) (missing_faults at all fs)
+  missing_lies : (at : Span) (all : List ℕ → Bool) (fs : List Field) → LiesIn size at → All (Lies size) (flat_map (missing_fault at all) fs)
   missing_lies at all [] i = none_lie
   missing_lies at all (f ∷ fs) i =
-      both (missing_fault at all f) (missing_faults at all fs)
+      both (missing_fault at all f) (flat_map (missing_fault at all) fs)
       (either (is_needed f.need all && not (all f.key)) _ _ (one_lies _ (start_lies at i)) none_lie) (missing_lies at all fs i)
 
   keyed_lies : (ks : Keys) (above : List ℕ) (all : List ℕ → Bool) (at : Span) (inside : Keys → List Fault)
       → LiesIn size at → ((own : Keys) → All (Lies size) (inside own)) → All (Lies size) (keyed_faults ks above all at inside)
   keyed_lies no_keys above all at inside i f = one_lies _ i
   keyed_lies (free s) above all at inside i f = f (free s)
-  keyed_lies (keys others fs) above all at inside i f = both (missing_faults at all fs) (inside (keys others fs)) (missing_lies at all fs i) (f (keys others fs))
+  keyed_lies (keys others fs) above all at inside i f = both (flat_map (missing_fault at all) fs) (inside (keys others fs)) (missing_lies at all fs i) (f (keys others fs))
 
   mapping_lies : (r : Option Rule) (above : List ℕ) (all : List ℕ → Bool) (at : Span) (inside : Keys → List Fault)
       → LiesIn size at → ((own : Keys) → All (Lies size) (inside own)) → All (Lies size) (mapping_faults r above all at inside)
@@ -92,7 +92,7 @@ module _ (size : ℕ) where
     node_lies (scalar s at) i shape null above = either (is_null s && null) _ _ none_lie (scalar_lies (rule shape) above s at i)
     node_lies (sequence ns at) i shape null above = sequence_lies (rule shape) _ _ (one_lies _ i.0) (λ s. items_lie ns i.1 s above)
     node_lies (mapping es at) i shape null above =
-        mapping_lies (rule (refined shape (entries es))) above (among (keys_in (entries es))) at (λ ks. entries_faults ks [] (among (keys_in (entries es))) es) i.0
+        mapping_lies (rule (mapping_shape shape (entries es))) above (among (keys_in (entries es))) at (λ ks. entries_faults ks [] (among (keys_in (entries es))) es) i.0
         (λ ks. entries_lie es i.1 ks [] (among (keys_in (entries es))))
 
     items_lie : (ns : Nodes) → AreInside size ns → (s : Shape) (above : List ℕ) → All (Lies size) (items_faults s above ns)

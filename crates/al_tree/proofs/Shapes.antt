@@ -8,7 +8,7 @@ use Rattle.al_yaml_tree.specs.declared.node.Node.{Node}
 use Rattle.al_yaml_tree.proofs.ViewLemmas.{entries_again, view_mapping, view_sequence}
 use Rattle.al_base.specs.declared.codes.KeyCode.TheVariants.{WrongKind}
 use Rattle.al_yaml_tree.specs.Node.{Entries, entry, no_entries}
-use Rattle.al_tree.specs.Faults.{entries_faults, entry_faults, faults, items_faults, mapping_faults, one_fault, refined, sequence_faults, standing, takes_null}
+use Rattle.al_tree.specs.Faults.{entries_faults, entry_faults, faults, items_faults, mapping_faults, one_fault, mapping_shape, sequence_faults, standing, takes_null}
 use Rattle.al_tree.specs.Keys.{key_text, keys_in}
 use Rattle.al_tree.specs.Names.{among}
 use Rattle.al_tree.specs.Table.{free, rule}
@@ -20,17 +20,9 @@ faults_sequence s null above n v e = ap (faults s null above) (view_sequence n v
 
 pub faults_mapping : (s : Shape) (null : Bool) (above : List ℕ) (n : Node) (v : Vec Entry Global) → n.kind ≡ Mapping v →
     faults s null above (view n)
-    ≡ mapping_faults (rule (refined s (map entry_view v.items))) above (among (keys_in (map entry_view v.items))) n.span
+    ≡ mapping_faults (rule (mapping_shape s (map entry_view v.items))) above (among (keys_in (map entry_view v.items))) n.span
     (λ ks. entries_faults ks [] (among (keys_in (map entry_view v.items))) (entries_of (map entry_view v.items)))
 faults_mapping s null above n v e =
     ap (faults s null above) (view_mapping n v e)
-    ∙ ap (λ es. mapping_faults (rule (refined s es)) above (among (keys_in es)) n.span
+    ∙ ap (λ es. mapping_faults (rule (mapping_shape s es)) above (among (keys_in es)) n.span
     (λ ks. entries_faults ks [] (among (keys_in es)) (entries_of (map entry_view v.items)))) (entries_again (map entry_view v.items))
-
--- where every key may stand, it makes no difference which keys there are
-pub free_apart : (s : Shape) (seen : List (List ℕ)) (all most : List ℕ → Bool) (es : Entries) →
-    entries_faults (free s) seen all es ≡ entries_faults (free s) seen most es
-free_apart s seen all most no_entries = refl
-free_apart s seen all most (entry k v es) =
-    ap (λ l. entry_faults (standing (free s) (among seen) most (key_text k)) k (λ t. faults t (takes_null t) (key_text k) v) ++ l)
-    (free_apart s (seen ++ key_text k ∷ []) all most es)

@@ -79,9 +79,6 @@ scalar_fault Bools s = unless_taken (is_bool_class s.class || has_chunk (text_of
 scalar_fault Numbers s = unless_taken (is_number_class s.class || has_chunk (text_of s)) WrongType
 scalar_fault Chunks s = unless_taken (has_chunk (text_of s)) WrongKind
 
-abbrev pub fault_if_any : Option codes_key.KeyCode → List ℕ → Span → List Fault
-fault_if_any key above at = option_map_or (λ k. one_fault k at above) key []
-
 -- `runs` by what `using` says; where that is nothing known, only `using` is checked
 abbrev pub runs_of : List ℕ → Shape
 runs_of using =
@@ -90,9 +87,9 @@ runs_of using =
     else (if bytes_eq using (codes "docker") then DockerRuns
     else Runs))
 
-abbrev pub refined : Shape → List (Node × Node) → Shape
-refined Runs es = option_map_or (λ s. runs_of (text_of s)) (option_and_then scalar_in (value_in (codes "using") es)) Runs
-refined s es = s
+abbrev pub mapping_shape : Shape → List (Node × Node) → Shape
+mapping_shape Runs es = option_map_or (λ s. runs_of (text_of s)) (option_and_then scalar_in (value_in (codes "using") es)) Runs
+mapping_shape s es = s
 
 -- every key but `on`, `jobs` and a job's own takes null
 abbrev pub takes_null : Shape → Bool
@@ -111,9 +108,6 @@ is_needed (unless k) all = not (all k)
 abbrev pub missing_fault : Span → (List ℕ → Bool) → Field → List Fault
 missing_fault at all f =
     if is_needed f.need all && not (all f.key) then one_fault Missing (record { start = at.start; end = at.start }) f.key else []
-
-abbrev pub missing_faults : Span → (List ℕ → Bool) → List Field → List Fault
-missing_faults at all = flat_map (missing_fault at all)
 
 abbrev pub if_it : (List ℕ → Bool) → List ℕ → Option (List ℕ)
 if_it test k = if test k then Some k else None
@@ -169,7 +163,8 @@ entry_faults ignored key value = []
 entry_faults (expected s other) key value = beside_faults other key ++ value s
 
 abbrev pub scalar_faults : Option Rule → List ℕ → Scalar → Span → List Fault
-scalar_faults taken above s at = option_map_or (λ r. fault_if_any (scalar_fault r.scalars s) above at) taken []
+scalar_faults taken above s at =
+    option_map_or (λ k. one_fault k at above) (option_and_then (λ r. scalar_fault r.scalars s) taken) []
 
 -- of a sequence, given what its items have as nodes of a shape
 abbrev pub sequence_faults : Option Rule → List Fault → (Shape → List Fault) → List Fault
@@ -179,7 +174,7 @@ sequence_faults taken misfit items = option_map_or (λ r. option_map_or items r.
 abbrev pub keyed_faults : Keys → List ℕ → (List ℕ → Bool) → Span → (Keys → List Fault) → List Fault
 keyed_faults no_keys above all at inside = one_fault WrongKind at above
 keyed_faults (free s) above all at inside = inside (free s)
-keyed_faults (keys others fs) above all at inside = missing_faults at all fs ++ inside (keys others fs)
+keyed_faults (keys others fs) above all at inside = flat_map (missing_fault at all) fs ++ inside (keys others fs)
 
 abbrev pub mapping_faults : Option Rule → List ℕ → (List ℕ → Bool) → Span → (Keys → List Fault) → List Fault
 mapping_faults taken above all at inside = option_map_or (λ r. keyed_faults r.keys_of above all at inside) taken []
@@ -190,7 +185,7 @@ abbrev mutual
   faults shape null above (scalar s at) = if is_null s && null then [] else scalar_faults (rule shape) above s at
   faults shape null above (sequence ns at) = sequence_faults (rule shape) (one_fault WrongKind at above) (λ s. items_faults s above ns)
   faults shape null above (mapping es at) =
-      mapping_faults (rule (refined shape (entries es))) above (among (keys_in (entries es))) at
+      mapping_faults (rule (mapping_shape shape (entries es))) above (among (keys_in (entries es))) at
       (λ ks. entries_faults ks [] (among (keys_in (entries es))) es)
 
   -- of the items of a sequence below a key

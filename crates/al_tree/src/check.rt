@@ -1,18 +1,19 @@
 //! A node against the shape that its place asks for.
 
 ghost use Rattle.al_tree.specs.Faults.{beside_faults, entries_faults, entry_faults, faults as faults_of, is_empty as empty, items_faults};
-ghost use Rattle.al_tree.specs.Faults.{mapping_faults, missing_fault, missing_faults, refined, root_faults, standing_view};
+ghost use Rattle.al_tree.specs.Faults.{mapping_faults, mapping_shape, missing_fault, root_faults, standing_view};
 ghost use Rattle.al_tree.specs.Faults.{takes_null as null_taken};
 ghost use Rattle.al_base.specs.Growth.{SameSet};
-ghost use Rattle.al_tree.specs.Keys.{holds, key_of as key_in, keys_in};
+ghost use Rattle.al_tree.specs.Keys.{IsIndexOf, holds, key_of as key_in, keys_in};
 ghost use Rattle.al_tree.specs.Names.{among};
 ghost use Rattle.al_tree.specs.Private.Demands.{demanded_faults};
 ghost use Rattle.al_tree.specs.Table.{field_of, keys_view, rule};
 ghost use Rattle.al_yaml_tree.specs.Node.{scalar as scalar_node};
 ghost use Rattle.al_yaml_tree.specs.View.{entries_of, entry_view, nodes_of, view};
+ghost use Rattle.std.specs.List.{flat_map};
 ghost use Rattle.std.specs.Prelude.{◌≡◌, [], ◌++◌, map, option_map, IfOk, OnOk};
 
-use crate::keys::{KeySet, key_of, key_text};
+use crate::keys::{KeyIndex, KeySet, key_of, key_text};
 use crate::scalars::{is_null_scalar, scalar_fault};
 use crate::standings::{Standing, is_needed, refine, standing_of, takes_null};
 use crate::table::{Keys, Row, Shape, rule_of};
@@ -31,14 +32,9 @@ struct Demand<'a> {
 }
 
 /// Adds the fault of a key that is needed and isn't there.
-fn check_row(
-    row: &Row,
-    all: &KeySet<'_>,
-    at: Span,
-    faults: &mut FaultSink,
-) -> Result<(), AllocError>
+fn check_row(row: &Row, all: KeySet<'_>, at: Span, faults: &mut FaultSink) -> Result<(), AllocError>
     ensures { OnOk result (faults.new
-        ≡ faults.old ++ missing_fault at (holds all.now) (field_of row.now)) }
+        ≡ faults.old ++ missing_fault at (holds all.entry) (field_of row.now)) }
 {
     if is_needed(row.need, all) && !all.contains(row.key.as_bytes()) {
         let start = Span {
@@ -53,12 +49,12 @@ fn check_row(
 /// Adds the faults of the keys that are needed and aren't there.
 fn check_missing(
     rows: &[Row],
-    all: &KeySet<'_>,
+    all: KeySet<'_>,
     at: Span,
     faults: &mut FaultSink,
 ) -> Result<(), AllocError>
     ensures { OnOk result (faults.new
-        ≡ faults.old ++ missing_faults at (holds all.now) (map field_of rows.now)) }
+        ≡ faults.old ++ flat_map (missing_fault at (holds all.entry)) (map field_of rows.now)) }
 {
     for row in rows {
         check_row(row, all, at, faults)?;
@@ -156,6 +152,7 @@ fn check(demand: Demand<'_>, node: &Node, faults: &mut FaultSink) -> Result<(), 
 }
 
 /// Adds the faults of a mapping at a place.
+#[tactic(auto, using(crate::proofs::KeyLemmas::all_keys))]
 #[cycle(checks)]
 fn check_mapping(
     demand: Demand<'_>,
@@ -164,7 +161,7 @@ fn check_mapping(
     faults: &mut FaultSink,
 ) -> Result<(), AllocError>
     ensures { OnOk result (faults.new ≡ faults.old
-        ++ mapping_faults (rule (refined (demand.entry).shape (map entry_view entries.now)))
+        ++ mapping_faults (rule (mapping_shape (demand.entry).shape (map entry_view entries.now)))
         (demand.entry).above.now (among (keys_in (map entry_view entries.now))) at
         (λ ks. entries_faults ks [] (among (keys_in (map entry_view entries.now)))
         (entries_of (map entry_view entries.now)))) }
@@ -173,14 +170,14 @@ fn check_mapping(
         None => Ok(()),
         Some(rule) => match rule.keys {
             Keys::No => faults.report_text(at, Code::Key(KeyCode::WrongKind), demand.above),
-            // Where every key may stand, none excludes another.
             Keys::Free(_) => {
-                check_entries(rule.keys, entries, &KeySet::new(faults.alloc()), faults)
+                let index = KeyIndex::of(faults.alloc(), entries)?;
+                check_entries(rule.keys, entries, &index, faults)
             }
             Keys::These(rows, _) => {
-                let all = KeySet::of(faults.alloc(), entries)?;
-                check_missing(rows, &all, at, faults)?;
-                check_entries(rule.keys, entries, &all, faults)
+                let index = KeyIndex::of(faults.alloc(), entries)?;
+                check_missing(rows, index.first(entries.len()), at, faults)?;
+                check_entries(rule.keys, entries, &index, faults)
             }
         },
     }
@@ -208,25 +205,23 @@ fn check_items(
     Ok(())
 }
 
-/// Adds the faults of the entries of a mapping that has all these keys.
-#[tactic(auto, using(crate::proofs::KeyLemmas::among_more))]
+/// Adds the faults of the entries of a mapping.
 #[cycle(checks)]
 fn check_entries(
     keys: Keys,
     entries: &[Entry],
-    all: &KeySet<'_>,
+    index: &KeyIndex<'_>,
     faults: &mut FaultSink,
 ) -> Result<(), AllocError>
+    requires { IsIndexOf index.now entries.now }
     ensures { OnOk result (faults.new ≡ faults.old
-        ++ entries_faults (keys_view keys) [] (holds all.now)
+        ++ entries_faults (keys_view keys) [] (among (keys_in (map entry_view entries.now)))
         (entries_of (map entry_view entries.now))) }
 {
-    let mut seen = KeySet::new(faults.alloc());
-    for entry in entries {
-        let key = key_of(entry);
-        let standing = standing_of(keys, &seen, all, key);
+    let all = index.first(entries.len());
+    for (i, entry) in entries.iter().enumerate() {
+        let standing = standing_of(keys, index.first(i), all, key_of(entry));
         check_entry(standing, entry, faults)?;
-        seen.insert(key)?;
     }
     Ok(())
 }

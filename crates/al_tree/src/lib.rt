@@ -19,13 +19,13 @@ mod values;
 pub use check::shape_faults;
 pub use examples::rows;
 pub use files::{Action, FileKind, Tree, Workflow, document_faults, read_action, read_workflow};
-pub use keys::{KeySet, key_of, key_text};
+pub use keys::{KeyIndex, KeySet, key_of, key_text};
 pub use kinds::{file_kind, is_action, is_workflow, is_workflow_name};
 pub use names::{is_among, is_combination_key, is_event};
 pub use scalars::{contains_chunk, is_null_scalar, scalar_fault};
-pub use standings::{Standing, refine, standing_of};
+pub use standings::{Standing, refine, runs_of, standing_of};
 pub use table::{Clash, Keys, Need, Others, Row, Rule, ScalarSet, Shape, Trigger, rule_of};
 pub use values::{
-    Member, ScalarNode, items, items_under, key, members, members_under, text, text_under, texts,
-    texts_under, value,
+    Member, ScalarNode, items, items_under, key, member_positions, members, members_under, text,
+    text_under, texts, texts_under, value,
 };

@@ -1,6 +1,6 @@
 //! How a key stands in its mapping: known, unknown, given twice or beside one that excludes it.
 
-ghost use Rattle.al_tree.specs.Faults.{clash_with, event_shape as event, field_at, if_it, is_needed as needed, other_standing, refined};
+ghost use Rattle.al_tree.specs.Faults.{clash_with, event_shape as event, field_at, if_it, is_needed as needed, other_standing, mapping_shape};
 ghost use Rattle.al_tree.specs.Faults.{runs_of as runs, standing as stands, standing_view, takes_null as null_taken};
 ghost use Rattle.al_tree.specs.Keys.{holds};
 ghost use Rattle.al_tree.specs.Table.{clash_of, field_of, keys_view, need_of, others_of};
@@ -14,7 +14,7 @@ use crate::table::{Clash, Keys, Need, Others, Row, Shape, Trigger};
 use al_yaml_tree::Entry;
 
 /// The section that `runs` is, by what `using` says.
-fn runs_of(using_text: &[u8]) -> Shape
+pub fn runs_of(using_text: &[u8]) -> Shape
     ensures { result ≡ runs using_text.now }
 {
     if is_among(using_text, &["node12", "node16", "node20", "node24"]) {
@@ -30,7 +30,7 @@ fn runs_of(using_text: &[u8]) -> Shape
 
 /// The shape of a mapping with these entries, which for `runs` depends on one of its keys.
 pub fn refine(shape: Shape, entries: &[Entry]) -> Shape
-    ensures { result ≡ refined shape (map entry_view entries.now) }
+    ensures { result ≡ mapping_shape shape (map entry_view entries.now) }
 {
     match shape {
         Shape::Runs => match scalar_among(entries, "using") {
@@ -61,8 +61,8 @@ fn row_at<'a>(rows: &'a [Row], key: &[u8]) -> Option<&'a Row>
 }
 
 /// Whether a key has to stand in a mapping with these keys.
-pub(crate) fn is_needed(need: Need, all: &KeySet<'_>) -> bool
-    ensures { result ≡ needed (need_of need) (holds all.now) }
+pub(crate) fn is_needed(need: Need, all: KeySet<'_>) -> bool
+    ensures { result ≡ needed (need_of need) (holds all.entry) }
 {
     match need {
         Need::May => false,
@@ -81,8 +81,8 @@ pub enum Standing {
 }
 
 /// A key, if it is in a set.
-fn if_in(set: &KeySet<'_>, key: &'static str) -> Option<&'static str>
-    ensures { option_map (λ k. k.now) result ≡ if_it (holds set.now) key.now }
+fn if_in(set: KeySet<'_>, key: &'static str) -> Option<&'static str>
+    ensures { option_map (λ k. k.now) result ≡ if_it (holds set.entry) key.now }
 {
     if set.contains(key.as_bytes()) {
         Some(key)
@@ -92,9 +92,9 @@ fn if_in(set: &KeySet<'_>, key: &'static str) -> Option<&'static str>
 }
 
 /// The key that a key cannot stand beside, if it is there.
-fn clash(clash: Clash, seen: &KeySet<'_>, all: &KeySet<'_>) -> Option<&'static str>
+fn clash(clash: Clash, seen: KeySet<'_>, all: KeySet<'_>) -> Option<&'static str>
     ensures { option_map (λ k. k.now) result
-        ≡ clash_with (clash_of clash) (holds seen.now) (holds all.now) }
+        ≡ clash_with (clash_of clash) (holds seen.entry) (holds all.entry) }
 {
     match clash {
         Clash::Never => None,
@@ -115,14 +115,9 @@ fn event_shape(key: &[u8]) -> Shape
 }
 
 /// How an entry without a row stands.
-fn standing_without_row<'a>(
-    others: Others,
-    seen: &KeySet<'a>,
-    all: &KeySet<'_>,
-    key: &'a [u8],
-) -> Standing
+fn standing_without_row(others: Others, seen: KeySet<'_>, all: KeySet<'_>, key: &[u8]) -> Standing
     ensures { standing_view result
-        ≡ other_standing (others_of others) (holds seen.now) (holds all.now) key.now }
+        ≡ other_standing (others_of others) (holds seen.entry) (holds all.entry) key.now }
 {
     match others {
         Others::Unchecked => Standing::Ignored,
@@ -134,9 +129,9 @@ fn standing_without_row<'a>(
 }
 
 /// How an entry with a key stands behind the keys that were seen, in a mapping with all these.
-pub fn standing_of<'a>(keys: Keys, seen: &KeySet<'a>, all: &KeySet<'_>, key: &'a [u8]) -> Standing
+pub fn standing_of(keys: Keys, seen: KeySet<'_>, all: KeySet<'_>, key: &[u8]) -> Standing
     ensures { standing_view result
-        ≡ stands (keys_view keys) (holds seen.now) (holds all.now) key.now }
+        ≡ stands (keys_view keys) (holds seen.entry) (holds all.entry) key.now }
 {
     match keys {
         Keys::No => Standing::Ignored,

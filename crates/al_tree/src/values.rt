@@ -1,5 +1,7 @@
 //! Items, values and texts of nodes, where they have the kind that is asked for.
 
+ghost use Rattle.al_base.specs.NamePlaces.{name_place, name_position};
+ghost use Rattle.al_tree.specs.Keys.{keys_in};
 ghost use Rattle.al_tree.specs.Values.{entries_at, entries_in, firsts, items_at, items_in, key_at, member_of, text_at, text_in};
 ghost use Rattle.al_tree.specs.Values.{texts_at, texts_in, unless_null, value_at, scalar_node_of};
 ghost use Rattle.al_yaml_tree.specs.View.{entry_view, view};
@@ -8,9 +10,9 @@ ghost use Rattle.std.specs.Option.{option_copied};
 ghost use Rattle.std.specs.Prelude.{◌≡◌, [], map, option_map, IfOk};
 
 use crate::entries::{key_among, value_among};
-use crate::keys::{KeySet, key_of};
+use crate::keys::{KeyIndex, key_of, key_text};
 use crate::scalars::is_null_scalar;
-use al_base::Span;
+use al_base::{NamePositions, Span};
 use al_scalar::Scalar;
 use al_yaml_tree::{Entry, Node};
 use std::alloc::{AllocError, Global};
@@ -161,6 +163,25 @@ pub fn members_under<'a>(
     }
 }
 
+/// The texts of the keys of members.
+fn key_texts<'a>(alloc: Global, members: &[Member<'a>]) -> Result<Vec<&'a [u8]>, AllocError>
+    ensures { IfOk result (λ v. map (λ k. k.now) v.items ≡ keys_in (map member_of members.now)) }
+{
+    let mut keys = Vec::with_capacity(alloc, members.len())?;
+    for member in members {
+        keys.push(key_text(member.key))?;
+    }
+    Ok(keys)
+}
+
+/// Where the key of each member first stands, without regard to ASCII case. Fails with `AllocError` when out of memory.
+pub fn member_positions(alloc: Global, members: &[Member<'_>]) -> Result<NamePositions, AllocError>
+    ensures { IfOk result (λ p. name_position p ≡ name_place (keys_in (map member_of members.now))) }
+{
+    let keys = key_texts(alloc, members)?;
+    NamePositions::of(alloc, keys.as_slice())
+}
+
 /// An entry as a member.
 #[tactic(auto, using(al_yaml_tree::proofs::ViewLemmas::entry_parts))]
 fn as_member(entry: &Entry) -> Member<'_>
@@ -176,10 +197,10 @@ fn as_member(entry: &Entry) -> Member<'_>
 fn first_members(alloc: Global, entries: &[Entry]) -> Result<Vec<Member<'_>>, AllocError>
     ensures { IfOk result (λ v. map member_of v.items ≡ firsts [] (map entry_view entries.now)) }
 {
-    let mut seen = KeySet::new(alloc);
+    let index = KeyIndex::of(alloc, entries)?;
     let mut firsts = Vec::with_capacity(alloc, entries.len())?;
-    for entry in entries {
-        let is_new = seen.insert_new(key_of(entry))?;
+    for (i, entry) in entries.iter().enumerate() {
+        let is_new = !index.first(i).contains(key_of(entry));
         if is_new {
             firsts.push(as_member(entry))?;
         }

@@ -1,3 +1,2 @@
 pub mod Declarations
 pub mod Inputs
-pub mod NameSets

@@ -5,11 +5,9 @@
 mod below;
 mod inputs;
 mod mappings;
-mod name_sets;
 mod names;
 
 pub use below::{action_steps, has_value, is_composite, value_below_three, value_below_two};
 pub use inputs::{InputType, input_of};
 pub use mappings::{declared_at, declared_in};
-pub use name_sets::NameSet;
 pub use names::is_named_among;

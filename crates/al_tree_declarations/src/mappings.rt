@@ -5,21 +5,21 @@ ghost use Rattle.al_tree_declarations.specs.Declarations as declarations;
 ghost use Rattle.al_tree.specs.Values.{member_of};
 ghost use Rattle.al_yaml_tree.specs.View.{view};
 
-use crate::name_sets::NameSet;
-use al_tree::{Member, key_text, members};
+use al_tree::{Member, key_text, member_positions, members};
 use al_yaml_tree::Node;
 use std::alloc::{AllocError, Global};
 
 /// Of members with equal names the first.
-#[tactic(auto, using(crate::proofs::NameLemmas::named_more))]
 fn first_named<'a>(alloc: Global, members: &[Member<'a>]) -> Result<Vec<Member<'a>>, AllocError>
     ensures { IfOk result
         (λ v. map member_of v.items ≡ declarations.first_named [] (map member_of members.now)) }
 {
-    let mut names = NameSet::new(alloc);
+    let positions = member_positions(alloc, members)?;
     let mut found = Vec::new(alloc);
-    for member in members {
-        if names.insert(alloc, key_text(member.key))? {
+    for (i, member) in members.iter().enumerate() {
+        let first = positions.get(alloc, key_text(member.key))?;
+        let is_first = first == Some(i);
+        if is_first {
             found.push(*member)?;
         }
     }

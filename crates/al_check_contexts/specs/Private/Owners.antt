@@ -2,7 +2,7 @@
 use Rattle.std.specs.Prelude.{map}
 use Rattle.std.specs.Option.{option_copied}
 use Rattle.al_yaml_tree.specs.View.{view}
-use Rattle.al_check_contexts.specs.Environment.{Owner}
+use Rattle.al_check_contexts.specs.Contexts.{Owner}
 use Rattle.al_check_contexts.specs.declared.owners.Owner as code
 
 abbrev pub owner_view : code.Owner → Owner

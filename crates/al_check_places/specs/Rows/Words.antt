@@ -49,8 +49,8 @@ row_at p = (
 abbrev pub is_row : Row → Row → Bool
 is_row a b = (a.0 == b.0) && same a.1 b.1 && same a.2 b.2 && same a.3 b.3 && (a.4 == b.4) && (a.5 == b.5)
 
-abbrev pub found : FileKind → Node → List Row
-found k n = map row_at (places_of k n)
+abbrev pub rows_of : FileKind → Node → List Row
+rows_of k n = map row_at (places_of k n)
 
 abbrev pub holds : FileKind → Node → List Row → Bool
-holds k n rs = list_all (λ x. list_any (is_row x) rs) (found k n) && list_all (λ y. list_any (is_row y) (found k n)) rs
+holds k n rs = list_all (λ x. list_any (is_row x) rs) (rows_of k n) && list_all (λ y. list_any (is_row y) (rows_of k n)) rs

@@ -1,7 +1,8 @@
 use Rattle.std.proofs.Common.{map}
 use Rattle.al_check_places.specs.Positions.{before, section_view, seen_view}
 use Rattle.al_check_contexts.specs.Fixed.{strategy_type}
-use Rattle.al_check_contexts.specs.Environment.{owner_in}
+use Rattle.al_check_contexts.specs.Contexts.{job_in, owner_of}
+use Rattle.al_tree.specs.Files.{jobs_of}
 use Rattle.al_tree.specs.Values.{member_of}
 use Rattle.al_yaml_tree.specs.View.{view}
 use Rattle.al_check_contexts.specs.Lookups.{known_by, step_at}
@@ -17,7 +18,7 @@ returns-clause-stands c =
     let known = known_by env.outputs in
     let root = view c.args.file.root.now in
     let section = section_view env.section in
-    let owner = owner_in c.args.file.kind root section in
+    let owner = owner_of c.args.file.kind root (job_in (jobs_of root) section) in
     let now = c.first.new.types in
     let made = c.in_ok-steps.ensures in
     record {
@@ -39,7 +40,7 @@ returns-clause-shows c =
     let known = known_by env.outputs in
     let root = view c.args.file.root.now in
     let section = section_view env.section in
-    let owner = owner_in c.args.file.kind root section in
+    let owner = owner_of c.args.file.kind root (job_in (jobs_of root) section) in
     let now = c.first.new.types in
     let made = c.in_ok-steps.ensures in
     let count = c.seen_count-count.result in

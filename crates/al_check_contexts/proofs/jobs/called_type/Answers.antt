@@ -1,7 +1,8 @@
 use Rattle.std.proofs.Common.{◌∙◌, ap}
 use Rattle.al_base.proofs.Growing.{begins_trans}
 use Rattle.al_expr_types.specs.Tables.{objects_of}
-use Rattle.al_check_contexts.specs.Contexts.{call_outputs}
+use Rattle.al_check_contexts.specs.Objects.{loose_any}
+use Rattle.al_check_contexts.specs.Contexts.{outputs_type}
 use Rattle.al_check_contexts.specs.Lookups.{shown_with, called_at}
 use Rattle.al_check_contexts.proofs.Numbers.{keeps_stays, means_as}
 use Rattle.al_check_contexts.proofs.jobs.called_type.Goals as goal
@@ -11,7 +12,7 @@ shown_with-requires c = c.in_ok-outputs.ensures.ty.known
 
 pub returns-clause-ty : goal.returns-clause-ty
 returns-clause-ty c =
-    means_as c.shown_with.new.types c.in_ok-ty.ty _ _ (ap shown_with (c.in_ok-outputs.ensures.ty.is ∙ ap call_outputs c.list.ensures)) c.in_ok-ty.ensures.ty
+    means_as c.shown_with.new.types c.in_ok-ty.ty _ _ (ap shown_with (c.in_ok-outputs.ensures.ty.is ∙ ap (outputs_type loose_any) c.list.ensures)) c.in_ok-ty.ensures.ty
 
 pub returns-clause-keeps : goal.returns-clause-keeps
 returns-clause-keeps c =
@@ -20,7 +21,7 @@ returns-clause-keeps c =
     let at = called_at c.args.basis.now.outputs.now in
     let kept = begins_trans (objects_of entry) (objects_of c.call_outputs_type.new.types) (objects_of now) c.in_ok-outputs.ensures.kept c.in_ok-ty.ensures.kept in
     c.set.ensures now at (keeps_stays now entry at c.args.made.now kept c.requires)
-    (means_as now c.in_ok-ty.ty _ _ (ap shown_with (c.in_ok-outputs.ensures.ty.is ∙ ap call_outputs c.list.ensures)) c.in_ok-ty.ensures.ty)
+    (means_as now c.in_ok-ty.ty _ _ (ap shown_with (c.in_ok-outputs.ensures.ty.is ∙ ap (outputs_type loose_any) c.list.ensures)) c.in_ok-ty.ensures.ty)
 
 pub returns-clause-kept : goal.returns-clause-kept
 returns-clause-kept c =

@@ -8,7 +8,7 @@ use Rattle.al_expr_types.specs.Tables.{objects_of}
 use Rattle.al_expr_types.proofs.Keeping.{joined_longer, joined_wider, longer}
 use Rattle.al_check_contexts.specs.Matrix.{include_all}
 use Rattle.al_check_contexts.specs.Objects.{strictly}
-use Rattle.al_check_contexts.proofs.Values.{included_next}
+use Rattle.al_check_contexts.proofs.Values.{include_next}
 use Rattle.al_check_contexts.proofs.matrix.include.Goals as goal
 
 pub loop-node-preserved : goal.loop-node-preserved
@@ -21,7 +21,7 @@ loop-node-preserved c =
     let step = c.in_ok-more.ensures.ty (objects_of now)
     ∙ (λ d. fuse_optional (joined_longer now.objects.items before.objects.items c.loop-node.all made.kept was.below d) (Present (made.ty.is d))) in
     record {
-      all = λ ts h. included_next view ts c.args.nodes.now c.loop-node.node-index c.node-item.result (join_in (objects_of before) c.loop-node.all) _
+      all = λ ts h. include_next view ts c.args.nodes.now c.loop-node.node-index c.node-item.result (join_in (objects_of before) c.loop-node.all) _
           c.loop-node-test.true c.node-item.is (was.all ts h) step;
       below = c.in_ok-more.ensures.below (length now.objects.items)
           (joined_wider (length before.objects.items) (length now.objects.items) le c.loop-node.all was.below) made.ty.known;

@@ -1,9 +1,10 @@
-use Rattle.al_check_contexts.specs.Scopes.{has_context}
+use Rattle.al_check_contexts.specs.Scopes.{is_listed}
+use Rattle.al_types.specs.Names.{context_name}
 use Rattle.al_check_contexts.proofs.Sets.{set_test}
 use Rattle.al_check_contexts.proofs.scopes.context_set.Goals as goal
 
 pub returns : goal.returns
-returns c = set_test _ (has_context c.args.contexts.now) (record {
+returns c = set_test _ (is_listed context_name c.args.contexts.now) (record {
   github = c.has_context.ensures;
   env = c.has_context-2.ensures;
   vars = c.has_context-3.ensures;

@@ -1,12 +1,8 @@
-use Rattle.std.proofs.Common.{ap}
 use Rattle.al_base.proofs.Growing.{begins_trans}
 use Rattle.al_expr_types.specs.Tables.{objects_of}
-use Rattle.al_check_contexts.specs.Contexts.{needs_type_of, type_in_job}
-use Rattle.al_check_contexts.specs.Fixed.{strategy_type}
-use Rattle.al_check_contexts.specs.Matrix.{matrix_type}
-use Rattle.al_check_contexts.specs.Made.{jobs_from, known_from}
+use Rattle.al_check_contexts.specs.Made.{jobs_from}
 use Rattle.al_check_contexts.proofs.JobLemmas.{keeps_jobs_stay}
-use Rattle.al_check_contexts.proofs.Numbers.{means_as, means_stays}
+use Rattle.al_check_contexts.proofs.Numbers.{means_stays}
 use Rattle.al_check_contexts.proofs.sections.section_types.Goals as goal
 
 pub returns-clause-types : goal.returns-clause-types
@@ -17,16 +13,11 @@ returns-clause-types c =
     let now = c.matrix_at.new.types in
     let from_one = begins_trans (objects_of one) (objects_of two) (objects_of now) c.in_ok-jobs.ensures.kept c.in_ok-matrix.ensures.kept in
     let from_entry = begins_trans (objects_of entry) (objects_of one) (objects_of now) c.in_ok-needs.ensures.kept from_one in
-    let known = known_from c.args.basis.now in
-    let js = jobs_from c.args.basis.now in
-    let same = c.job_of-job.ensures in
     record {
-      strategy = means_as now c.strategy_at.result _ _ (ap (type_in_job (λ j. strategy_type)) same)
-          (c.strategy_at.ensures now (means_stays now entry c.args.basis.now.strategy _ from_entry c.requires.strategy));
-      needs = means_as now c.in_ok-needs.needs _ _ (ap (type_in_job (λ j. needs_type_of known js j.1)) same)
-          (means_stays now one c.in_ok-needs.needs _ from_one c.in_ok-needs.ensures.ty);
+      strategy = c.strategy_at.ensures now (means_stays now entry c.args.basis.now.strategy _ from_entry c.requires.strategy);
+      needs = means_stays now one c.in_ok-needs.needs _ from_one c.in_ok-needs.ensures.ty;
       jobs = means_stays now two c.in_ok-jobs.jobs _ c.in_ok-matrix.ensures.kept c.in_ok-jobs.ensures.ty;
-      matrix = means_as now c.in_ok-matrix.matrix _ _ (ap (type_in_job (λ j. matrix_type j.1)) same) c.in_ok-matrix.ensures.ty;
+      matrix = c.in_ok-matrix.ensures.ty;
     }
 
 pub returns-clause-keeps : goal.returns-clause-keeps

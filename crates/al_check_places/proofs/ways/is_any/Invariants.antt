@@ -1,5 +1,5 @@
 use Rattle.std.proofs.Common.{◌≡◌, drop, map}
-use Rattle.al_check_places.specs.Availability.{key_of}
+use Rattle.al_check_places.specs.Paths.{key_of}
 use Rattle.al_check_places.specs.Ways.{is_one}
 use Rattle.al_check_places.proofs.ways.is_any.Given as goal
 

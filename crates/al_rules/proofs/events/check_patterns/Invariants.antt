@@ -1,12 +1,13 @@
 use Rattle.std.proofs.Common.{◌≡◌, ◌++◌, drop, map}
 use Rattle.std.specs.List.{flat_map}
+use Rattle.al_base.specs.declared.codes.RuleCode.TheVariants.{WrongPattern}
+use Rattle.al_rules_formats.specs.Patterns.{is_pattern}
 use Rattle.al_tree.specs.Values.{scalar_node_of}
-use Rattle.al_rules.specs.Events.{pattern_faults}
-use Rattle.al_rules_settings.specs.Words.{of_scalar}
+use Rattle.al_rules_settings.specs.Words.{of_scalar, unless}
 use Rattle.al_rules.proofs.events.check_patterns.Given as goal
 
 -- what was added, and the faults of what is left, are the faults of all
 abbrev pub invariant-loop-scalar : goal.invariant-loop-scalar
 invariant-loop-scalar l =
-    l.faults ++ flat_map (λ s. pattern_faults l.filter (of_scalar s)) (map scalar_node_of (drop l.scalar-index l.scalars))
-    ≡ l.fn.faults ++ flat_map (λ s. pattern_faults l.filter (of_scalar s)) (map scalar_node_of l.scalars)
+    l.faults ++ flat_map (λ s. unless (is_pattern l.filter (of_scalar s).text) WrongPattern (of_scalar s)) (map scalar_node_of (drop l.scalar-index l.scalars))
+    ≡ l.fn.faults ++ flat_map (λ s. unless (is_pattern l.filter (of_scalar s).text) WrongPattern (of_scalar s)) (map scalar_node_of l.scalars)

@@ -1,13 +1,13 @@
-use Rattle.std.proofs.Common.{◌≡◌, ap, ◌∙◌, ◌+◌, ◌∷◌, ◌++◌, [], List, append_assoc, drop, false, map, sym, take, Some}
+use Rattle.std.proofs.Common.{◌≡◌, arith, ap, ◌∙◌, ◌+◌, ◌∷◌, ◌++◌, [], List, append_assoc, drop, false, map, sym, take, Some}
 use Rattle.al_base.specs.declared.faults.Fault.{Fault}
 use Rattle.al_yaml_tree.specs.View.{entries_of, entry_view, nodes_of, view}
-use Rattle.al_tree.specs.Faults.{entries_faults, entry_faults, faults, items_faults, keyed_faults, mapping_faults, refined, Standing, standing, standing_view, takes_null}
-use Rattle.al_tree.specs.Keys.{and_text, holds, key_of, keys_in}
+use Rattle.al_tree.specs.Faults.{entries_faults, entry_faults, faults, items_faults, keyed_faults, mapping_faults, mapping_shape, Standing, standing, standing_view, takes_null}
+use Rattle.al_tree.specs.Keys.{holds, key_of, keys_in}
 use Rattle.al_tree.specs.Names.{among}
 use Rattle.al_tree.specs.Table.{keys_view, rule, rule_view}
-use Rattle.al_tree.proofs.KeyLemmas.{among_more}
+use Rattle.al_tree.proofs.KeyLemmas.{all_keys}
 use Rattle.al_tree.proofs.Lists.{keys_next, left_next}
-use Rattle.al_tree.proofs.Shapes.{faults_mapping, free_apart}
+use Rattle.al_tree.proofs.Shapes.{faults_mapping}
 use Rattle.al_tree.proofs.check.+checks.Goals as goal
 
 pub check-returns-in-Mapping : goal.check-returns-in-Mapping
@@ -16,20 +16,6 @@ check-returns-in-Mapping t c =
     let same = faults_mapping demand.shape demand.takes_null demand.above.now c.args.node.now c.in-Mapping.entries c.in-Mapping.is in
     let here = rw c.as_slice-in-Mapping.ensures.value at c.check_mapping.ensures in
     rw same here
-
-pub check_mapping-returns-in-Free : goal.check_mapping-returns-in-Free
-check_mapping-returns-in-Free t c =
-    let shape = c.args.demand.shape in
-    let above = c.args.demand.above.now in
-    let pairs = map entry_view c.args.entries.now in
-    let es = entries_of pairs in
-    let all = among (keys_in pairs) in
-    let taken : rule (refined shape pairs) ≡ Some (rule_view c.in-Some.rule) = cc (c.refine.ensures, c.in-Some.ensures) in
-    let kind = ap keys_view c.in-Free.is in
-    let same = ap (λ ks. entries_faults ks [] (holds c.new.result) es) kind ∙ free_apart c.in-Free.field-0 [] (holds c.new.result) all es
-    ∙ sym (ap (λ ks. keyed_faults ks above all c.args.at (λ ks'. entries_faults ks' [] all es)) kind)
-    ∙ sym (ap (λ r. mapping_faults r above all c.args.at (λ ks. entries_faults ks [] all es)) taken) in
-    rw same at c.check_entries.ensures
 
 pub check_items-loop-node-preserved : goal.check_items-loop-node-preserved
 check_items-loop-node-preserved t c =
@@ -44,30 +30,29 @@ check_items-loop-node-preserved t c =
     ∙ ap (λ l. out ++ items_faults c.args.shape c.args.above.now (nodes_of l)) (sym rest)
     ∙ c.loop-node.invariant
 
-pub check_entries-loop-entry-preserved : goal.check_entries-loop-entry-preserved
-check_entries-loop-entry-preserved t c =
+pub check_entries-loop-i-preserved : goal.check_entries-loop-i-preserved
+check_entries-loop-i-preserved t c =
     let es = c.args.entries.now in
-    let i = c.loop-entry.entry-index in
-    let e = c.entry-item.result in
-    let all = holds c.args.all.now in
+    let i = c.loop-i.i in
+    let e = c.index-entries-i.result in
+    let all = among (keys_in (map entry_view es)) in
     let ks = keys_view c.args.keys in
     let before = keys_in (map entry_view (take i es)) in
     let left = map entry_view (drop (i + 1) es) in
-    let out = c.loop-entry.faults in
-    let more = keys_next es i e c.loop-entry-test.true c.entry-item.is in
-    let rest = left_next entry_view es i e c.loop-entry-test.true c.entry-item.is in
+    let out = c.loop-i.faults in
+    let more = keys_next es i e c.loop-i-test.true c.index-entries-i.is in
+    let rest = left_next entry_view es i e c.loop-i-test.true c.index-entries-i.is in
     let stands : standing_view c.standing_of-standing.result ≡ standing ks (among before) all (key_of (entry_view e)) =
-    c.standing_of-standing.ensures ∙ ap (λ f. standing ks f all c.key_of-key.result.now) c.loop-entry.invariant.seen
-    ∙ ap (standing ks (among before) all) c.key_of-key.ensures in
+    c.standing_of-standing.ensures
+    ∙ ap (λ f. standing ks f (holds c.first-all.result) c.key_of.result.now) (c.first.ensures ∙ ap (λ f. f i) c.requires)
+    ∙ ap (λ f. standing ks (among before) f c.key_of.result.now)
+    (all_keys c.args.index.now c.first-all.result es _ c.requires c.first-all.ensures (omega arith))
+    ∙ ap (standing ks (among before) all) c.key_of.ensures in
     let here : Standing → List Fault = λ st. entry_faults st (entry_view e).0 (λ s. faults s (takes_null s) (key_of (entry_view e)) (entry_view e).1) in
     let behind : List _ → List Fault = λ ks'. entries_faults ks ks' all (entries_of left) in
-    record {
-      all = ap (λ l. l ++ behind (keys_in (map entry_view (take (i + 1) es)))) c.in_ok-check_entry.ensures
-          ∙ ap (λ st. (out ++ here st) ++ behind (keys_in (map entry_view (take (i + 1) es)))) stands
-          ∙ ap (λ before'. (out ++ here (standing ks (among before) all (key_of (entry_view e)))) ++ behind before') more
-          ∙ append_assoc out (here (standing ks (among before) all (key_of (entry_view e)))) (behind (before ++ key_of (entry_view e) ∷ []))
-          ∙ ap (λ l. out ++ entries_faults ks before all (entries_of l)) (sym rest)
-          ∙ c.loop-entry.invariant.all;
-      seen = c.in_ok-insert.ensures.set ∙ ap (λ f. and_text f c.key_of-key.result.now) c.loop-entry.invariant.seen
-          ∙ ap (and_text (among before)) c.key_of-key.ensures ∙ among_more before (key_of (entry_view e)) ∙ ap among (sym more);
-    }
+    ap (λ l. l ++ behind (keys_in (map entry_view (take (i + 1) es)))) c.in_ok-check_entry.ensures
+    ∙ ap (λ st. (out ++ here st) ++ behind (keys_in (map entry_view (take (i + 1) es)))) stands
+    ∙ ap (λ before'. (out ++ here (standing ks (among before) all (key_of (entry_view e)))) ++ behind before') more
+    ∙ append_assoc out (here (standing ks (among before) all (key_of (entry_view e)))) (behind (before ++ key_of (entry_view e) ∷ []))
+    ∙ ap (λ l. out ++ entries_faults ks before all (entries_of l)) (sym rest)
+    ∙ c.loop-i.invariant

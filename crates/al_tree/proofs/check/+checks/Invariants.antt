@@ -1,7 +1,7 @@
 use Rattle.std.proofs.Common.{◌≡◌, ◌++◌, [], take, drop, map}
 use Rattle.al_yaml_tree.specs.View.{entries_of, entry_view, nodes_of, view}
 use Rattle.al_tree.specs.Faults.{entries_faults, items_faults}
-use Rattle.al_tree.specs.Keys.{holds, keys_in}
+use Rattle.al_tree.specs.Keys.{keys_in}
 use Rattle.al_tree.specs.Names.{among}
 use Rattle.al_tree.specs.Table.{keys_view}
 use Rattle.al_tree.proofs.check.+checks.Given as goal
@@ -12,9 +12,8 @@ invariant-check_items-loop-node l =
     l.faults ++ items_faults l.shape l.above (nodes_of (map view (drop l.node-index l.nodes)))
     ≡ l.fn.faults ++ items_faults l.shape l.above (nodes_of (map view l.nodes))
 
-abbrev pub invariant-check_entries-loop-entry : goal.invariant-check_entries-loop-entry
-invariant-check_entries-loop-entry l = record {
-  all : l.faults ++ entries_faults (keys_view l.keys) (keys_in (map entry_view (take l.entry-index l.entries))) (holds l.all) (entries_of (map entry_view (drop l.entry-index l.entries)))
-      ≡ l.fn.faults ++ entries_faults (keys_view l.keys) [] (holds l.all) (entries_of (map entry_view l.entries));
-  seen : holds l.seen ≡ among (keys_in (map entry_view (take l.entry-index l.entries)));
-}
+abbrev pub invariant-check_entries-loop-i : goal.invariant-check_entries-loop-i
+invariant-check_entries-loop-i l =
+    let all = among (keys_in (map entry_view l.entries)) in
+    l.faults ++ entries_faults (keys_view l.keys) (keys_in (map entry_view (take l.i l.entries))) all (entries_of (map entry_view (drop l.i l.entries)))
+    ≡ l.fn.faults ++ entries_faults (keys_view l.keys) [] all (entries_of (map entry_view l.entries))

@@ -1,45 +1,39 @@
-use Rattle.std.proofs.Common.{◌≡◌, ◌∷◌, ◌++◌, [], ◌+◌, ap, append_assoc, append-nil, drop, map, not, sym, take, ◌∙◌, if◌then◌else◌}
+use Rattle.std.proofs.Common.{◌≡◌, ◌∷◌, ◌++◌, [], ◌+◌, ap, append_assoc, append-nil, drop, map, sym, take, ◌∙◌, if◌then◌else◌}
 use Rattle.std.proofs.lemmas.List.{map-append}
 use Rattle.al_yaml_tree.specs.View.{entry_view}
-use Rattle.al_tree.specs.Keys.{and_text, key_of, keys_in}
+use Rattle.al_tree.specs.Keys.{key_of, keys_in}
 use Rattle.al_tree.specs.Names.{among}
 use Rattle.al_tree.specs.Values.{firsts, member_of}
-use Rattle.al_tree.proofs.KeyLemmas.{among_more}
-use Rattle.al_tree.proofs.Lists.{keys_next, left_next, not_not}
+use Rattle.al_tree.proofs.Lists.{keys_next, left_next}
 use Rattle.al_tree.proofs.values.first_members.Goals.{then-is_new+in_ok-push, else-is_new}
 use Rattle.al_tree.proofs.values.first_members.Goals as goal
 
-pub loop-entry-preserved : goal.loop-entry-preserved
-loop-entry-preserved c =
+pub loop-i-preserved : goal.loop-i-preserved
+loop-i-preserved c =
     let es = c.args.entries.now in
-    let i = c.loop-entry.entry-index in
-    let e = c.entry-item.result in
+    let i = c.loop-i.i in
+    let e = c.index-entries-i.result in
     let before = keys_in (map entry_view (take i es)) in
     let left = map entry_view (drop (i + 1) es) in
-    let members = map member_of c.loop-entry.firsts.items in
-    let more = keys_next es i e c.loop-entry-test.true c.entry-item.is in
-    let rest = left_next entry_view es i e c.loop-entry-test.true c.entry-item.is in
-    let news : c.in_ok-is_new.is_new ≡ not (among before (key_of (entry_view e))) =
-    c.in_ok-is_new.ensures.is_new ∙ ap (λ f. not (f c.key_of.result.now)) c.loop-entry.invariant.seen ∙ ap (λ k. not (among before k)) c.key_of.ensures in
-    let taken : not c.in_ok-is_new.is_new ≡ among before (key_of (entry_view e)) = ap not news ∙ not_not (among before (key_of (entry_view e))) in
-    let added : map member_of c.if-is_new.firsts.items ≡ members ++ (if not c.in_ok-is_new.is_new then [] else entry_view e ∷ []) =
+    let members = map member_of c.loop-i.firsts.items in
+    let more = keys_next es i e c.loop-i-test.true c.index-entries-i.is in
+    let rest = left_next entry_view es i e c.loop-i-test.true c.index-entries-i.is in
+    let repeats : c.contains-is_new.result ≡ among before (key_of (entry_view e)) =
+    c.contains-is_new.ensures ∙ ap (λ f. f c.key_of.result.now) (c.first.ensures ∙ ap (λ f. f i) c.in_ok-index.ensures) ∙ ap (among before) c.key_of.ensures in
+    let added : map member_of c.if-is_new.firsts.items ≡ members ++ (if c.contains-is_new.result then [] else entry_view e ∷ []) =
     elim c.if-is_new.branch [
       | then-is_new+in_ok-push w ↦
           ap (λ v. map member_of v.items) w.firsts-is ∙ ap (map member_of) w.in_ok-push.ensures.items
-          ∙ map-append member_of c.loop-entry.firsts.items (w.as_member.result ∷ [])
+          ∙ map-append member_of c.loop-i.firsts.items (w.as_member.result ∷ [])
           ∙ ap (λ m. members ++ m ∷ []) w.as_member.ensures
-          ∙ ap (λ b. members ++ (if not b then [] else entry_view e ∷ [])) (sym w.if-is_new.true)
+          ∙ ap (λ b. members ++ (if b then [] else entry_view e ∷ [])) (sym w.if-is_new.true)
       | else-is_new w ↦
           ap (λ v. map member_of v.items) w.firsts-is ∙ sym (append-nil members)
-          ∙ ap (λ b. members ++ (if not b then [] else entry_view e ∷ [])) (sym w.if-is_new.false)
+          ∙ ap (λ b. members ++ (if b then [] else entry_view e ∷ [])) (sym w.if-is_new.false)
     ] in
-    record {
-      all = ap (λ ms. ms ++ firsts (keys_in (map entry_view (take (i + 1) es))) left) added
-          ∙ ap (λ b. (members ++ (if b then [] else entry_view e ∷ [])) ++ firsts (keys_in (map entry_view (take (i + 1) es))) left) taken
-          ∙ ap (λ ks. (members ++ (if among before (key_of (entry_view e)) then [] else entry_view e ∷ [])) ++ firsts ks left) more
-          ∙ append_assoc members (if among before (key_of (entry_view e)) then [] else entry_view e ∷ []) (firsts (before ++ key_of (entry_view e) ∷ []) left)
-          ∙ ap (λ l. members ++ firsts before l) (sym rest)
-          ∙ c.loop-entry.invariant.all;
-      seen = c.in_ok-is_new.ensures.set ∙ ap (λ f. and_text f c.key_of.result.now) c.loop-entry.invariant.seen
-          ∙ ap (and_text (among before)) c.key_of.ensures ∙ among_more before (key_of (entry_view e)) ∙ ap among (sym more);
-    }
+    ap (λ ms. ms ++ firsts (keys_in (map entry_view (take (i + 1) es))) left) added
+    ∙ ap (λ b. (members ++ (if b then [] else entry_view e ∷ [])) ++ firsts (keys_in (map entry_view (take (i + 1) es))) left) repeats
+    ∙ ap (λ ks. (members ++ (if among before (key_of (entry_view e)) then [] else entry_view e ∷ [])) ++ firsts ks left) more
+    ∙ append_assoc members (if among before (key_of (entry_view e)) then [] else entry_view e ∷ []) (firsts (before ++ key_of (entry_view e) ∷ []) left)
+    ∙ ap (λ l. members ++ firsts before l) (sym rest)
+    ∙ c.loop-i.invariant

@@ -1,8 +1,3 @@
-use Rattle.std.proofs.Common.{◌∙◌}
-use Rattle.al_yaml_tree.specs.View.{view}
-use Rattle.al_check_places.specs.Positions.{position_view}
-use Rattle.al_check_contexts.specs.Answered.{known_of}
-use Rattle.al_check_contexts.proofs.TableLemmas.{table_right}
 use Rattle.al_check_contexts.proofs.env.Env.go_to.Goals as goal
 
 pub returns-clause-stands : goal.returns-clause-stands
@@ -24,8 +19,7 @@ returns-clause-shown c = record { known = λ x. (c.in_ok-go.ensures.shows.each x
 
 pub returns-clause-scope : goal.returns-clause-scope
 returns-clause-scope c = λ i. record {
-  types = λ x. ((c.in_ok-go.ensures.shows.each x).is
-      ∙ table_right c.args.file.kind (known_of c.args.file.known) (view c.args.file.root.now) (position_view c.args.place.position) x) i;
+  types = λ x. (c.in_ok-go.ensures.shows.each x).is i;
   available = c.available_at-self.ensures i;
   in_run = c.args.place.is_script;
 }

@@ -24,10 +24,10 @@ loop-rest-preserved c =
     let none : Answer = record { job = None; step = None; names = None } in
     record {
       within = omega arith;
-      lists = c.put.ensures.lists ∙ c.loop-rest.invariant.lists;
-      found = found_more (map (λ n. n.now) c.args.known.lists.now) answers (rest - 1) rest none (found_at c.loop-rest.outputs) (found_at c.put.new.self)
+      lists = c.push_front.ensures.lists ∙ c.loop-rest.invariant.lists;
+      found = found_more (map (λ n. n.now) c.args.known.lists.now) answers (rest - 1) rest none (found_at c.loop-rest.outputs) (found_at c.push_front.new.self)
           (omega arith) (omega arith)
-          (c.in_ok-put.ensures.found
+          (c.in_ok-push_front.ensures.found
           ∙ ap (λ ls. and_found (behind_of (map (λ n. n.now) ls.now) (get_or answers (rest - 1) none)) (found_at c.loop-rest.outputs)) c.loop-rest.invariant.lists)
           c.loop-rest.invariant.found;
     }

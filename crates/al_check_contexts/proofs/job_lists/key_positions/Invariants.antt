@@ -1,8 +1,0 @@
-use Rattle.std.proofs.Common.{◌≡◌, map, take}
-use Rattle.al_base.specs.NamePlaces.{text_position}
-use Rattle.al_tree.specs.Values.{member_of}
-use Rattle.al_check_contexts.specs.Private.JobPositions.{key_at}
-use Rattle.al_check_contexts.proofs.job_lists.key_positions.Given as goal
-
-abbrev pub invariant-loop-i : goal.invariant-loop-i
-invariant-loop-i l = text_position l.keys ≡ key_at (map member_of (take l.i l.members))

@@ -1,0 +1,31 @@
+-- Paths of keys, as tables have them.
+use Prim.Native.String.{String}
+use Rattle.std.specs.Prelude.{ℕ, List, [], ◌∷◌, Bool, true, false, ◌&&◌, Option, Some, None, codes, map, nat_eq, if◌then◌else◌}
+use Rattle.std.specs.List.{slice_split}
+use Rattle.std.specs.Option.{option_map_or}
+use Rattle.std.specs.Str.{bytes_eq}
+use Rattle.al_check_places.specs.declared.table.Key.{Key}
+use Rattle.al_check_places.specs.declared.table.Key.TheVariants.{Named, Id}
+
+-- keys, where None stands for any
+abbrev pub Path : Type 0
+Path = List (Option (List ℕ))
+
+-- a path as it is written: a `.` between its keys, and `*` for any key
+abbrev pub path : String → Path
+path text =
+    map (λ k. if bytes_eq k (codes "*") then None else Some k) (slice_split (nat_eq 46) (codes text))
+
+abbrev pub fits : Option (List ℕ) → List ℕ → Bool
+fits p k = option_map_or (λ name. bytes_eq name k) p true
+
+-- the path begins the keys
+abbrev pub begins : Path → List (List ℕ) → Bool
+begins [] ks = true
+begins (p ∷ ps) [] = false
+begins (p ∷ ps) (k ∷ ks) = fits p k && begins ps ks
+
+-- what the program's keys stand for
+abbrev pub key_of : Key → Option (List ℕ)
+key_of Id = None
+key_of (Named k) = Some k.now
