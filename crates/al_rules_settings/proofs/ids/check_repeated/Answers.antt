@@ -1,8 +1,9 @@
-use Rattle.std.proofs.Common.{◌≡◌, ◌+◌, ◌++◌, ◌∷◌, [], List, Some, ap, append_assoc, drop, map, sym, take, ◌∙◌}
+use Rattle.std.proofs.Common.{◌≡◌, ◌+◌, ◌++◌, ◌∷◌, [], List, Some, get_or, ap, append_assoc, drop, map, sym, take, ◌∙◌}
 use Rattle.std.specs.Prelude.{is_none, nat_eq}
 use Rattle.std.specs.Option.{option_eq}
 use Rattle.std.proofs.lemmas.List.{map-append, map_more}
-use Rattle.al_base.specs.NamePlaces.{name_place}
+use Rattle.std.proofs.lemmas.Simd.{map-map}
+use Rattle.al_base.specs.NamePlaces.{name_place, name_position}
 use Rattle.al_base.specs.declared.codes.RuleCode.TheVariants.{RepeatedId}
 use Rattle.al_tree.proofs.KeyLemmas.{name_stands_first}
 use Rattle.al_tree.proofs.Lists.{left_next}
@@ -23,15 +24,18 @@ loop-i-preserved c =
     let rest = left_next named_of ids i id c.loop-i-test.true c.index-ids-i.is in
     let more : map (λ n. n.text) (map named_of (take (i + 1) ids)) ≡ before ++ text ∷ [] =
     ap (map (λ n. n.text)) (map_more named_of ids i id c.loop-i-test.true)
-    ∙ map-append (λ n. n.text) (map named_of (take i ids)) (named_of _ ∷ [])
+    ∙ map-append (λ n. n.text) (map named_of (take i ids)) (named_of (get_or ids i id) ∷ [])
     ∙ ap (λ x. before ++ x.text.now ∷ []) (sym c.index-ids-i.is) in
-    let place : c.in_ok-first.first ≡ name_place (map (λ n. n.text) (map named_of ids)) text =
-    c.in_ok-first.ensures
-    ∙ ap (λ f. f text) (c.in_ok-positions.ensures ∙ ap name_place (ap (map (λ t. t.now)) c.as_slice.ensures.value ∙ c.in_ok-texts.ensures)) in
-    let right : option_eq nat_eq c.in_ok-first.first (Some i) ≡ is_none (name_place before text) =
-    ap (λ o. option_eq nat_eq o (Some i)) place ∙ name_stands_first (λ x. (named_of x).text) ids i id c.loop-i-test.true c.index-ids-i.is in
-    ap (λ l. l ++ repeated_faults (map (λ n. n.text) (map named_of (take (i + 1) ids))) left) c.in_ok-report_unless.ensures
-    ∙ ap (λ b. (out ++ unless b RepeatedId (named_of id)) ++ repeated_faults (map (λ n. n.text) (map named_of (take (i + 1) ids))) left) right
+    let place : name_position c.in_ok-positions.positions ≡ name_place (map (λ n. n.text) (map named_of ids)) =
+    c.in_ok-positions.ensures ∙ ap name_place (ap (map (λ t. t.now)) c.as_slice.ensures.value ∙ c.in_ok-texts.ensures) in
+    let right : option_eq nat_eq (name_position c.in_ok-positions.positions text) (Some i) ≡ is_none (name_place before text) =
+    ap (λ f. option_eq nat_eq (f text) (Some i)) place
+    ∙ ap (λ ns. option_eq nat_eq (name_place ns text) (Some i)) (map-map (λ n. n.text) named_of ids)
+    ∙ name_stands_first (λ x. (named_of x).text) ids i id c.loop-i-test.true c.index-ids-i.is
+    ∙ ap (λ ns. is_none (name_place ns text)) (sym (map-map (λ n. n.text) named_of (take i ids))) in
+    let behind = map (λ n. n.text) (map named_of (take (i + 1) ids)) in
+    ap (λ l. l ++ repeated_faults behind left) c.in_ok-check_first.ensures
+    ∙ ap (λ b. (out ++ unless b RepeatedId (named_of id)) ++ repeated_faults behind left) right
     ∙ ap (λ ts. (out ++ unless (is_none (name_place before text)) RepeatedId (named_of id)) ++ repeated_faults ts left) more
     ∙ append_assoc out (unless (is_none (name_place before text)) RepeatedId (named_of id)) (repeated_faults (before ++ text ∷ []) left)
     ∙ ap (λ l. out ++ repeated_faults before l) (sym rest)
