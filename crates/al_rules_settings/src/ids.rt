@@ -1,7 +1,7 @@
 //! The keys of jobs and the ids of steps.
 
 ghost use Rattle.al_rules_settings.specs.Ids.{id_faults, ids_faults, repeated_faults};
-ghost use Rattle.al_base.specs.NamePlaces.{name_position};
+ghost use Rattle.al_base.specs.NamePlaces.{name_place, name_position};
 ghost use Rattle.al_base.specs.declared.codes.RuleCode.TheVariants.{RepeatedId};
 ghost use Rattle.al_rules_settings.specs.Views.{named_of};
 ghost use Rattle.al_rules_settings.specs.Words.{unless};
@@ -51,16 +51,29 @@ fn check_first(
     report_unless(first == Some(position), RuleCode::RepeatedId, id, faults)
 }
 
+/// Adds the ids that are repeated, by where each first stands.
+fn check_each_first(
+    positions: &NamePositions,
+    ids: &[Named<'_>],
+    faults: &mut FaultSink,
+) -> Result<(), AllocError>
+    requires { name_position positions.now
+        ≡ name_place (map (λ n. n.text) (map named_of ids.now)) }
+    ensures { OnOk result (faults.new ≡ faults.old ++ repeated_faults [] (map named_of ids.now)) }
+{
+    for (i, id) in ids.iter().enumerate() {
+        check_first(positions, i, *id, faults)?;
+    }
+    Ok(())
+}
+
 /// Adds the ids that are repeated.
 fn check_repeated(ids: &[Named<'_>], faults: &mut FaultSink) -> Result<(), AllocError>
     ensures { OnOk result (faults.new ≡ faults.old ++ repeated_faults [] (map named_of ids.now)) }
 {
     let texts = texts_of(faults.alloc(), ids)?;
     let positions = NamePositions::of(faults.alloc(), texts.as_slice())?;
-    for (i, id) in ids.iter().enumerate() {
-        check_first(&positions, i, *id, faults)?;
-    }
-    Ok(())
+    check_each_first(&positions, ids, faults)
 }
 
 /// Adds the faults of the keys of jobs or the ids of steps: those that are no ids, and those that repeat an earlier one without ASCII case.

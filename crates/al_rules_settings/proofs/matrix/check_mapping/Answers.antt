@@ -15,5 +15,5 @@ returns c =
     let keyed = rw again at c.check_excludes.ensures in
     let listed = rw c.items_under.ensures at keyed in
     let added = rw (c.in_ok-check_rows.ensures ∙ ap (λ es. old ++ flat_map row_faults es) rows) at listed in
-    rw append_assoc old (flat_map row_faults (entries_in node))
-    (flat_map (exclude_faults (name_place (row_names (entries_in node)))) (exclude_keys (items_at (codes "exclude") node))) at added
+    rw (append_assoc old (flat_map row_faults (entries_in node))
+    (flat_map (exclude_faults (name_place (row_names (entries_in node)))) (exclude_keys (items_at (codes "exclude") node)))) at added
