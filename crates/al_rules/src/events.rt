@@ -22,6 +22,19 @@ use al_tree::{
 use al_yaml_tree::Node;
 use std::alloc::AllocError;
 
+/// Adds an activity type that an event doesn't take.
+fn check_type(
+    types: &[&str],
+    scalar: ScalarNode<'_>,
+    faults: &mut FaultSink,
+) -> Result<(), AllocError>
+    ensures { let n = of_scalar (scalar_node_of scalar.entry) in
+        OnOk result (faults.new ≡ faults.old
+        ++ unless_among UnknownActivity (map (λ n. n.now) types.now) n) }
+{
+    report_unless_among(RuleCode::UnknownActivity, types, named_text(scalar), faults)
+}
+
 /// Adds the activity types that an event doesn't take.
 fn check_types(
     types: &[&str],
