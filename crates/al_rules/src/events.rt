@@ -45,12 +45,7 @@ fn check_types(
         (map scalar_node_of scalars.now)) }
 {
     for scalar in scalars {
-        report_unless_among(
-            RuleCode::UnknownActivity,
-            types,
-            named_text(*scalar),
-            faults,
-        )?;
+        check_type(types, *scalar, faults)?;
     }
     Ok(())
 }
