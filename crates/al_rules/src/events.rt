@@ -1,12 +1,12 @@
 //! Events: their names, activity types, filters, schedules, and the types of inputs.
 
-ghost use Rattle.al_base.specs.declared.codes.RuleCode.TheVariants.{UnknownActivity, WrongPattern};
-ghost use Rattle.al_rules.specs.Events.{cron_faults, event_faults, filter_faults, filters_faults, input_faults};
+ghost use Rattle.al_base.specs.declared.codes.RuleCode.TheVariants.{WrongPattern};
+ghost use Rattle.al_rules.specs.Events.{activity_faults, cron_faults, event_faults, filter_faults, filters_faults, input_faults};
 ghost use Rattle.al_rules.specs.Events.{inputs_faults, name_faults, named_faults, on_faults, schedule_faults, type_faults};
 ghost use Rattle.al_rules_formats.specs.Patterns.{is_pattern as means_pattern};
 ghost use Rattle.al_rules_formats.specs.Schedules.{schedule_of};
 ghost use Rattle.al_rules_settings.specs.Views.{named_of};
-ghost use Rattle.al_rules_settings.specs.Words.{of_scalar, unless, unless_among};
+ghost use Rattle.al_rules_settings.specs.Words.{of_scalar, unless};
 ghost use Rattle.al_tree.specs.Values.{member_of, scalar_node_of};
 ghost use Rattle.al_yaml_tree.specs.View.{view};
 ghost use Rattle.std.specs.List.{flat_map};
@@ -22,6 +22,18 @@ use al_tree::{
 use al_yaml_tree::Node;
 use std::alloc::AllocError;
 
+/// Adds an activity type that an event doesn't take.
+fn check_type(
+    types: &[&str],
+    scalar: ScalarNode<'_>,
+    faults: &mut FaultSink,
+) -> Result<(), AllocError>
+    ensures { OnOk result (faults.new ≡ faults.old
+        ++ activity_faults (map (λ n. n.now) types.now) (scalar_node_of scalar.entry)) }
+{
+    report_unless_among(RuleCode::UnknownActivity, types, named_text(scalar), faults)
+}
+
 /// Adds the activity types that an event doesn't take.
 fn check_types(
     types: &[&str],
@@ -29,16 +41,11 @@ fn check_types(
     faults: &mut FaultSink,
 ) -> Result<(), AllocError>
     ensures { OnOk result (faults.new ≡ faults.old
-        ++ flat_map (λ s. unless_among UnknownActivity (map (λ n. n.now) types.now) (of_scalar s))
+        ++ flat_map (activity_faults (map (λ n. n.now) types.now))
         (map scalar_node_of scalars.now)) }
 {
     for scalar in scalars {
-        report_unless_among(
-            RuleCode::UnknownActivity,
-            types,
-            named_text(*scalar),
-            faults,
-        )?;
+        check_type(types, *scalar, faults)?;
     }
     Ok(())
 }

@@ -1,3 +1,4 @@
 pub mod Inside
 pub mod Places
 pub mod Lying
+mod RepeatedIds

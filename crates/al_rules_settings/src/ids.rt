@@ -1,9 +1,13 @@
 //! The keys of jobs and the ids of steps.
 
 ghost use Rattle.al_rules_settings.specs.Ids.{id_faults, ids_faults, repeated_faults};
+ghost use Rattle.al_base.specs.NamePlaces.{name_place, name_position};
+ghost use Rattle.al_base.specs.declared.codes.RuleCode.TheVariants.{RepeatedId};
 ghost use Rattle.al_rules_settings.specs.Views.{named_of};
+ghost use Rattle.al_rules_settings.specs.Words.{unless};
+ghost use Rattle.std.specs.Option.{option_eq};
 ghost use Rattle.std.specs.List.{flat_map};
-ghost use Rattle.std.specs.Prelude.{◌≡◌, ◌++◌, [], map, IfOk, OnOk};
+ghost use Rattle.std.specs.Prelude.{◌≡◌, ◌++◌, [], map, nat_eq, IfOk, OnOk, Some};
 
 use crate::reports::{Named, report_unless};
 use al_base::{FaultSink, NamePositions, RuleCode};
@@ -32,18 +36,44 @@ fn check_each(ids: &[Named<'_>], faults: &mut FaultSink) -> Result<(), AllocErro
     Ok(())
 }
 
+/// Adds an id, unless it first stands at its position.
+fn check_first(
+    positions: &NamePositions,
+    position: usize,
+    id: Named<'_>,
+    faults: &mut FaultSink,
+) -> Result<(), AllocError>
+    ensures { let n = named_of id.entry in
+        let is_first = option_eq nat_eq (name_position positions.now n.text) (Some position) in
+        OnOk result (faults.new ≡ faults.old ++ unless is_first RepeatedId n) }
+{
+    let first = positions.get(faults.alloc(), id.text)?;
+    report_unless(first == Some(position), RuleCode::RepeatedId, id, faults)
+}
+
+/// Adds the ids that are repeated, by where each first stands.
+fn check_each_first(
+    positions: &NamePositions,
+    ids: &[Named<'_>],
+    faults: &mut FaultSink,
+) -> Result<(), AllocError>
+    requires { name_position positions.now
+        ≡ name_place (map (λ n. n.text) (map named_of ids.now)) }
+    ensures { OnOk result (faults.new ≡ faults.old ++ repeated_faults [] (map named_of ids.now)) }
+{
+    for (i, id) in ids.iter().enumerate() {
+        check_first(positions, i, *id, faults)?;
+    }
+    Ok(())
+}
+
 /// Adds the ids that are repeated.
 fn check_repeated(ids: &[Named<'_>], faults: &mut FaultSink) -> Result<(), AllocError>
     ensures { OnOk result (faults.new ≡ faults.old ++ repeated_faults [] (map named_of ids.now)) }
 {
-    let alloc = faults.alloc();
-    let texts = texts_of(alloc, ids)?;
-    let positions = NamePositions::of(alloc, texts.as_slice())?;
-    for (i, id) in ids.iter().enumerate() {
-        let first = positions.get(alloc, id.text)?;
-        report_unless(first == Some(i), RuleCode::RepeatedId, *id, faults)?;
-    }
-    Ok(())
+    let texts = texts_of(faults.alloc(), ids)?;
+    let positions = NamePositions::of(faults.alloc(), texts.as_slice())?;
+    check_each_first(&positions, ids, faults)
 }
 
 /// Adds the faults of the keys of jobs or the ids of steps: those that are no ids, and those that repeat an earlier one without ASCII case.

@@ -8,7 +8,9 @@ use Rattle.al_base.specs.declared.faults.Fault.{Fault}
 use Rattle.al_base.specs.declared.faults.Span.{Span}
 use Rattle.al_yaml_tree.specs.Node.{Node, scalar, sequence, mapping, no_nodes, item, no_entries, entry}
 use Rattle.al_graph.specs.Within.{leads_within}
-use Rattle.al_rules.specs.Needs.{keys_of, needs_faults, needs_lists, position_in}
+use Rattle.al_rules.specs.Needs.{needs_faults, needs_lists}
+use Rattle.al_base.specs.NamePlaces.{name_place}
+use Rattle.al_tree.specs.Keys.{keys_in}
 use Rattle.al_tree.specs.Files.{jobs_of}
 
 abbrev pub at : ℕ → ℕ → Span
@@ -34,7 +36,7 @@ quoted text i =
 -- the faults of needs, by walks of at most as many steps as there are jobs
 abbrev pub needs_by_steps : Node → List Fault
 needs_by_steps root =
-    let jobs = jobs_of root in needs_faults (leads_within (length jobs) (needs_lists (position_in (keys_of jobs)) jobs)) jobs
+    let jobs = jobs_of root in needs_faults (leads_within (length jobs) (needs_lists (name_place (keys_in jobs)) jobs)) jobs
 
 -- on: pus
 -- jobs: {}

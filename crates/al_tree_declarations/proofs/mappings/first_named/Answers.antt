@@ -1,4 +1,4 @@
-use Rattle.std.proofs.Common.{◌≡◌, ◌+◌, ◌++◌, ◌∷◌, [], Some, ap, append_assoc, append-nil, drop, map, not, sym, take, ◌∙◌, if◌then◌else◌}
+use Rattle.std.proofs.Common.{◌≡◌, ◌+◌, ◌++◌, ◌∷◌, [], Some, ap, append_assoc, append-nil, drop, map, not, rules, sym, take, ◌∙◌, get_or, if◌then◌else◌}
 use Rattle.std.specs.Prelude.{nat_eq}
 use Rattle.std.specs.Option.{option_eq}
 use Rattle.std.proofs.lemmas.List.{map-append, map_more}
@@ -25,19 +25,20 @@ loop-i-preserved c =
     let rest = left_next member_of members i member c.loop-i-test.true c.index-members-i.is in
     let more : keys_in (map member_of (take (i + 1) members)) ≡ before ++ key ∷ [] =
     ap keys_in (map_more member_of members i member c.loop-i-test.true)
-    ∙ map-append key_of (map member_of (take i members)) (member_of _ ∷ [])
+    ∙ map-append key_of (map member_of (take i members)) (member_of (get_or members i member) ∷ [])
     ∙ ap (λ m. before ++ key_of (member_of m) ∷ []) (sym c.index-members-i.is) in
     let place : c.in_ok-first.first ≡ name_place (keys_in (map member_of members)) key =
     c.in_ok-first.ensures ∙ ap (λ f. f c.key_text.result.now) c.in_ok-positions.ensures
     ∙ ap (name_place (keys_in (map member_of members))) c.key_text.ensures in
-    let new : option_eq nat_eq c.in_ok-first.first (Some i) ≡ not (named_among before key) =
-    ap (λ o. option_eq nat_eq o (Some i)) place
+    let compared : c.eq-is_first.result ≡ option_eq nat_eq c.in_ok-first.first (Some i) = search rules in
+    let new : c.eq-is_first.result ≡ not (named_among before key) =
+    compared ∙ ap (λ o. option_eq nat_eq o (Some i)) place
     ∙ ap (λ ks. option_eq nat_eq (name_place ks key) (Some i)) (map-map key_of member_of members)
     ∙ name_stands_first (λ m. key_of (member_of m)) members i member c.loop-i-test.true c.index-members-i.is
     ∙ none_at (λ m. same_name m key) (map (λ m. key_of (member_of m)) (take i members))
     ∙ ap (λ ks. not (named_among ks key)) (sym (map-map key_of member_of (take i members))) in
-    let taken : not (option_eq nat_eq c.in_ok-first.first (Some i)) ≡ named_among before key = ap not new ∙ not_not (named_among before key) in
-    let added : map member_of c.if-is_first.found.items ≡ out ++ (if not (option_eq nat_eq c.in_ok-first.first (Some i)) then [] else member_of member ∷ []) =
+    let taken : not c.eq-is_first.result ≡ named_among before key = ap not new ∙ not_not (named_among before key) in
+    let added : map member_of c.if-is_first.found.items ≡ out ++ (if not c.eq-is_first.result then [] else member_of member ∷ []) =
     elim c.if-is_first.branch [
       | then-is_first+in_ok-push w ↦
           ap (λ v. map member_of v.items) w.found-is ∙ ap (map member_of) w.in_ok-push.ensures.items

@@ -1,7 +1,7 @@
 use Rattle.std.proofs.Common.{◌≡◌, ◌++◌, [], drop, take, map}
 use Rattle.al_rules_settings.specs.Ids.{repeated_faults}
 use Rattle.al_rules_settings.specs.Views.{named_of}
-use Rattle.al_rules_settings.proofs.ids.check_repeated.Given as goal
+use Rattle.al_rules_settings.proofs.ids.check_each_first.Given as goal
 
 abbrev pub invariant-loop-i : goal.invariant-loop-i
 invariant-loop-i l =

@@ -1,0 +1,43 @@
+-- The ids that repeat an earlier one, with one id more.
+use Rattle.std.proofs.Common.{◌≡◌, ◌<◌, ◌+◌, ◌++◌, ◌∷◌, [], ℕ, Option, List, Some, length, get_or, ap, append_assoc, drop, map, sym, take, ◌∙◌}
+use Rattle.std.specs.Prelude.{is_none, nat_eq}
+use Rattle.std.specs.Option.{option_eq}
+use Rattle.std.proofs.lemmas.List.{get_or_default, map-append, map_more}
+use Rattle.std.proofs.lemmas.Simd.{map-map}
+use Rattle.al_base.specs.NamePlaces.{name_place}
+use Rattle.al_base.specs.declared.codes.RuleCode.TheVariants.{RepeatedId}
+use Rattle.al_base.specs.declared.faults.Fault.{Fault}
+use Rattle.al_tree.proofs.KeyLemmas.{name_stands_first}
+use Rattle.al_tree.proofs.Lists.{left_next}
+use Rattle.al_rules_settings.specs.Ids.{repeated_faults}
+use Rattle.al_rules_settings.specs.Views.{named_of}
+use Rattle.al_rules_settings.specs.Words.{unless}
+use Rattle.al_rules_settings.specs.declared.reports.Named.{Named}
+
+abbrev texts : List Named → List (List ℕ)
+texts ids = map (λ n. n.text) (map named_of ids)
+
+pub repeated_next : (place : List ℕ → Option ℕ) (ids : List Named) (i : ℕ) (d : Named) (mid new all : List Fault) → place ≡ name_place (texts ids)
+    → i < length ids → mid ++ repeated_faults (texts (take i ids)) (map named_of (drop i ids)) ≡ all
+    → new ≡ mid ++ unless (option_eq nat_eq (place (get_or ids i d).text.now) (Some i)) RepeatedId (named_of (get_or ids i d))
+    → new ++ repeated_faults (texts (take (i + 1) ids)) (map named_of (drop (i + 1) ids)) ≡ all
+repeated_next place ids i d mid new all is within before added =
+    let id = get_or ids i d in
+    let text = id.text.now in
+    let here : id ≡ get_or ids i id = get_or_default ids i d id within in
+    let seen = texts (take i ids) in
+    let behind = texts (take (i + 1) ids) in
+    let left = map named_of (drop (i + 1) ids) in
+    let more : behind ≡ seen ++ text ∷ [] =
+    ap (map (λ n. n.text)) (map_more named_of ids i d within) ∙ map-append (λ n. n.text) (map named_of (take i ids)) (named_of id ∷ []) in
+    let right : option_eq nat_eq (place text) (Some i) ≡ is_none (name_place seen text) =
+    ap (λ f. option_eq nat_eq (f text) (Some i)) is
+    ∙ ap (λ ns. option_eq nat_eq (name_place ns text) (Some i)) (map-map (λ n. n.text) named_of ids)
+    ∙ name_stands_first (λ x. (named_of x).text) ids i id within here
+    ∙ ap (λ ns. is_none (name_place ns text)) (sym (map-map (λ n. n.text) named_of (take i ids))) in
+    ap (λ l. l ++ repeated_faults behind left) added
+    ∙ ap (λ b. (mid ++ unless b RepeatedId (named_of id)) ++ repeated_faults behind left) right
+    ∙ ap (λ ts. (mid ++ unless (is_none (name_place seen text)) RepeatedId (named_of id)) ++ repeated_faults ts left) more
+    ∙ append_assoc mid (unless (is_none (name_place seen text)) RepeatedId (named_of id)) (repeated_faults (seen ++ text ∷ []) left)
+    ∙ ap (λ l. mid ++ repeated_faults seen l) (sym (left_next named_of ids i id within here))
+    ∙ before
