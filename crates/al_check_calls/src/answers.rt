@@ -5,7 +5,7 @@ ghost use Rattle.std.specs.Option.{option_copied};
 ghost use Rattle.al_check_calls.specs.Answers as answering;
 ghost use Rattle.al_check_calls.specs.Private.AnswerViews.{answered_at, answered_of, call_of, call_of_site};
 ghost use Rattle.al_tree.specs.declared.files.FileKind.{FileKind};
-ghost use Rattle.al_check_interfaces.specs.Kept.{AreCallsOf};
+ghost use Rattle.al_check_interfaces.specs.FolderCalls.{AreCallsOf};
 ghost use Rattle.al_check_interfaces.specs.CallViews.{site_of};
 ghost use Rattle.al_check_interfaces.specs.Uses as uses;
 ghost use Rattle.al_yaml_tree.specs.Node.{Node};
