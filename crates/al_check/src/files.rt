@@ -155,7 +155,7 @@ fn add_behind(
 
 /// These faults as they are printed, in the order of reports, each once.
 fn in_report_order(alloc: Global, found: Vec<Fault>) -> Result<Vec<Fault>, AllocError>
-    ensures { IfOk result (λ list. list.items ≡ fault_list (map meant.printed found.items)) }
+    ensures { IfOk result (λ list. list.items ≡ fault_list (map meant.printed_fault found.items)) }
 {
     Ok(ordered(with_printed_args(alloc, found)?))
 }

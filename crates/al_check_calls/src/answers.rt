@@ -124,7 +124,7 @@ pub(crate) fn with_answers<'a>(
     ensures { (kind : FileKind) (root : Node) → map site_of sites.now ≡ uses.sites_in kind root
         → AreCallsOf kind root calls.now
         → IfOk result (λ v. map answered_of v.items
-        ≡ answering.answered (uses.calls_in kind root) (map (λ a. option_copied a) answers.now)) }
+        ≡ answering.calls_with_answers (uses.calls_in kind root) (map (λ a. option_copied a) answers.now)) }
 {
     answered_at(alloc, sites, calls, answers)
 }

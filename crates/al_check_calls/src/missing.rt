@@ -8,6 +8,7 @@ ghost use Rattle.al_check_calls.specs.CallFaults as meant;
 ghost use Rattle.al_check_calls.specs.Private.AnswerViews.{compared_of};
 ghost use Rattle.al_check_calls.specs.Private.Comparing as comparing;
 ghost use Rattle.al_check_calls.specs.Private.Comparing.{HaveOneSignature, IsSaid, TellSignatures};
+ghost use Rattle.al_tree_declarations.specs.Declarations.{named_among, names_of};
 ghost use Rattle.al_tree_declarations.specs.NameSets.{holds};
 ghost use Rattle.al_tree.specs.Values.{member_of};
 
@@ -29,7 +30,7 @@ struct Giver<'a> {
 /// The keys of members.
 #[tactic(auto, using(al_tree_declarations::proofs::NameLemmas::named_more))]
 fn names_in(alloc: Global, given: &[Member<'_>]) -> Result<NameSet, AllocError>
-    ensures { IfOk result (λ s. holds s ≡ meant.given_names (map member_of given.now)) }
+    ensures { IfOk result (λ s. holds s ≡ named_among (names_of (map member_of given.now))) }
 {
     let mut names = NameSet::new(alloc);
     for member in given {
@@ -41,7 +42,8 @@ fn names_in(alloc: Global, given: &[Member<'_>]) -> Result<NameSet, AllocError>
 fn giver_of<'a>(alloc: Global, call: Comparison<'a>) -> Result<Giver<'a>, AllocError>
     ensures call { IfOk result (λ g. compared_of g.call ≡ compared_of call.entry) }
     ensures names { let q = compared_of call.entry in IfOk result
-        (λ g. holds g.names ≡ meant.given_names (meant.given_by q.kind q.call.site.node)) }
+        (λ g. holds g.names
+        ≡ named_among (names_of (meant.given_by q.kind q.call.site.node))) }
 {
     let given = given_by(alloc, call.kind, call.call.site.node)?;
     let names = names_in(alloc, given.as_slice())?;
@@ -80,7 +82,7 @@ fn check_parameter<'a>(
     faults: &mut FaultSink,
 ) -> Result<(), AllocError>
     requires { let q = compared_of giver.now.call in holds giver.now.names
-        ≡ meant.given_names (meant.given_by q.kind q.call.site.node) }
+        ≡ named_among (names_of (meant.given_by q.kind q.call.site.node)) }
     ensures faults { OnOk result (faults.new ≡ faults.old
         ++ comparing.fault_unless_given (compared_of giver.now.call) parameter.entry.now) }
     ensures left { OnOk result (map (λ p. p.now) left.new.items
@@ -96,7 +98,7 @@ fn check_parameter<'a>(
 }
 
 /// Adds C3 and C6 of these parameters, and answers those that the call gives.
-fn check_parameters<'a>(
+fn check_each_parameter<'a>(
     call: Comparison<'_>,
     parameters: &[&'a Parameter],
     faults: &mut FaultSink,
@@ -114,6 +116,28 @@ fn check_parameters<'a>(
         check_parameter(&giver, *parameter, &mut left, faults)?;
     }
     Ok(left)
+}
+
+/// Likewise; where there are none, what the call gives isn't looked at.
+fn check_parameters<'a>(
+    call: Comparison<'_>,
+    parameters: &[&'a Parameter],
+    faults: &mut FaultSink,
+) -> Result<Vec<&'a Parameter>, AllocError>
+    ensures faults { OnOk result (faults.new ≡ faults.old
+        ++ flat_map (comparing.fault_unless_given (compared_of call.entry))
+        (map (λ p. p.now) parameters.now)) }
+    ensures left { IfOk result (λ v. map (λ p. p.now) v.items
+        ≡ flat_map (comparing.parameter_if_given (compared_of call.entry))
+        (map (λ p. p.now) parameters.now)) }
+{
+    match parameters {
+        [] => Ok(Vec::new(faults.alloc())),
+        _ => {
+            let left = check_each_parameter(call, parameters, faults)?;
+            Ok(left)
+        }
+    }
 }
 
 /// Whether calls alike are by one `uses`.
