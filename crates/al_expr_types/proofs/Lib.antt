@@ -9,3 +9,4 @@ pub mod Indexes
 pub mod PrefixLemmas
 pub mod OnceLemmas
 pub mod Scans
+pub mod NameIndexes

@@ -4,10 +4,11 @@ use Rattle.std.proofs.lemmas.List.{length-map, length-take, map-append, take_mor
 use Rattle.std.specs.Option.{option_or}
 use Rattle.std.specs.Prelude.{if◌then◌else◌}
 use Rattle.al_base.specs.Names.{same_name}
-use Rattle.al_base.specs.NamePlaces.{IsNameIndex, and_name_at, name_place, name_position}
-use Rattle.al_base.specs.declared.name_positions.NamePositions.{NamePositions}
+use Rattle.al_base.specs.NamePlaces.{name_place}
 use Rattle.al_base.proofs.NamePlaces.{first_more}
-use Rattle.al_types.proofs.AddedNames.{placed_new}
+use Rattle.al_expr_types.specs.Places.{IsNameIndex, and_place, place_in}
+use Rattle.al_expr_types.specs.declared.name_index.NameIndex.{NameIndex}
+use Rattle.al_expr_types.proofs.NameIndexes.{placed_new}
 
 here_step : (b : Bool) (o p : Option ℕ) (i : ℕ) → (if b then Some 0 else option_map (λ k. k + 1) o) ≡ None → (o ≡ None → p ≡ Some i) →
     (if b then Some 0 else option_map (λ k. k + 1) p) ≡ Some (suc i)
@@ -40,8 +41,8 @@ module _ {X : Type 0} (g : X → List ℕ) where
       ∙ ap (λ b. if b then Some (length front) else None) isnt
 
   -- an index of the names up to a position, and of the one there
-  pub indexed_more : (old new : NamePositions) (xs : List X) (i : ℕ) (d : X) → i < length xs → IsNameIndex old (map g (take i xs)) →
-      name_position new ≡ and_name_at (name_position old) (g (get_or xs i d)) i → IsNameIndex new (map g (take (i + 1) xs))
+  pub indexed_more : (old new : NameIndex) (xs : List X) (i : ℕ) (d : X) → i < length xs → IsNameIndex old (map g (take i xs)) →
+      place_in new ≡ and_place (place_in old) (g (get_or xs i d)) i → IsNameIndex new (map g (take (i + 1) xs))
   indexed_more old new xs i d lt h e =
       let long : i ≡ length (map g (take i xs)) = omega (arith, length-map (take i xs) g, length-take i xs, lt) in
       placed_new old new (map g (take i xs)) (g (get_or xs i d)) i h long e ∙ ap name_place (sym (mapped_more xs i d lt))

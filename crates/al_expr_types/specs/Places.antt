@@ -1,8 +1,25 @@
 -- Where names stand: by an index, where there is one.
-use Rattle.std.specs.Prelude.{ℕ, List, Option, Some, None}
-use Rattle.al_base.specs.NamePlaces.{name_place, name_position}
-use Rattle.al_base.specs.declared.name_positions.NamePositions.{NamePositions}
+use Rattle.std.specs.Prelude.{◌≡◌, ℕ, List, Option, Some, None, if◌then◌else◌}
+use Rattle.std.specs.BTreeMap.{get_by}
+use Rattle.std.specs.Cmp.Lexicographic.{slice_cmp}
+use Rattle.std.specs.Option.{option_or}
+use Rattle.std.specs.Ordering.{nat_cmp}
+use Rattle.al_base.specs.Names.{folded, same_name}
+use Rattle.al_base.specs.NamePlaces.{name_place}
+use Rattle.al_expr_types.specs.declared.name_index.NameIndex.{NameIndex}
 
-abbrev pub place_by : Option NamePositions → List (List ℕ) → List ℕ → Option ℕ
+-- where a name first stands by an index
+unfoldable pub place_in : NameIndex → List ℕ → Option ℕ
+place_in index name = get_by (λ k. slice_cmp nat_cmp (folded name) k.items) index.positions
+
+-- an index that tells of each name where it first stands among names
+abbrev pub IsNameIndex : NameIndex → List (List ℕ) → Type 0
+IsNameIndex index ns = place_in index ≡ name_place ns
+
+-- places, and that of one more name, which counts where there was none of its name
+abbrev pub and_place : (List ℕ → Option ℕ) → List ℕ → ℕ → List ℕ → Option ℕ
+and_place place more i name = option_or (place name) (if same_name more name then Some i else None)
+
+abbrev pub place_by : Option NameIndex → List (List ℕ) → List ℕ → Option ℕ
 place_by None ns = name_place ns
-place_by (Some index) ns = name_position index
+place_by (Some index) ns = place_in index

@@ -7,6 +7,7 @@ mod indexing;
 mod joining;
 mod marks;
 mod merging;
+mod name_index;
 mod name_list;
 mod names;
 mod objects;

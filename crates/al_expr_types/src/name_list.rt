@@ -1,7 +1,7 @@
 //! Names that are kept: texts that compare equal exactly where their bytes are the same, ASCII case and all.
 
-ghost use Rattle.std.specs.Prelude.{◌≡◌, IfOk};
-ghost use Rattle.al_base.specs.NamePlaces.{IsNameIndex};
+ghost use Rattle.std.specs.Prelude.{◌≡◌, IfOk, map};
+ghost use Rattle.al_base.specs.NamePlaces.{name_place, name_position};
 ghost use Rattle.al_expr_types.specs.Merging.{is_placed};
 
 use al_base::NamePositions;
@@ -87,23 +87,33 @@ pub struct NameList {
 
 impl Model for NameList {
     ghost use Rattle.std.specs.Prelude.{List, ℕ};
-    ghost use Rattle.al_base.specs.NamePlaces.{IsNameIndex};
+    ghost use Rattle.std.specs.Prelude.{◌≡◌};
+    ghost use Rattle.al_base.specs.NamePlaces.{name_place, name_position};
 
     ghost Value = { List (List ℕ) };
 
     ghost view = { λ a. a.names.items };
 
-    ghost invariant = { λ a. IsNameIndex a.positions a.names.items };
+    ghost invariant = { λ a. name_position a.positions ≡ name_place a.names.items };
 }
 
-/// Where each name first stands.
-fn positions_of(alloc: Global, names: &[Name]) -> Result<NamePositions, AllocError>
-    ensures { IfOk result (λ p. IsNameIndex p names.now) }
+/// The bytes of each name. Fails with `AllocError` when out of memory.
+fn bytes_of(alloc: Global, names: &[Name]) -> Result<Vec<&[u8]>, AllocError>
+    ensures { IfOk result (λ bytes. map (λ b. b.now) bytes.items ≡ names.now) }
 {
-    let mut positions = NamePositions::new(alloc);
-    for (i, name) in names.iter().enumerate() {
-        let _ = positions.insert(alloc, name.as_bytes(), i)?;
+    let mut bytes = Vec::with_capacity(alloc, names.len())?;
+    for name in names {
+        bytes.push(name.as_bytes())?;
     }
+    Ok(bytes)
+}
+
+/// Where each name first stands. Fails with `AllocError` when out of memory.
+fn positions_of(alloc: Global, names: &[Name]) -> Result<NamePositions, AllocError>
+    ensures { IfOk result (λ p. name_position p ≡ name_place names.now) }
+{
+    let bytes = bytes_of(alloc, names)?;
+    let positions = NamePositions::of(alloc, bytes.as_slice())?;
     Ok(positions)
 }
 

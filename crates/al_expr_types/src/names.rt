@@ -1,11 +1,12 @@
 //! The names of fields, found by going over them, and by an index where there are many.
 
 ghost use Rattle.std.specs.Prelude.{◌≡◌, ◌++◌, ◌∷◌, [], IfOk, None, if◌then◌else◌, is_none, map, true};
-ghost use Rattle.al_base.specs.NamePlaces.{IsNameIndex, name_place};
+ghost use Rattle.al_base.specs.NamePlaces.{name_place};
 ghost use Rattle.al_expr_types.specs.Once.{are_once};
-ghost use Rattle.al_expr_types.specs.Places.{place_by};
+ghost use Rattle.al_expr_types.specs.Places.{IsNameIndex, place_by};
 
-use al_base::{NamePositions, is_same_name};
+use crate::name_index::NameIndex;
+use al_base::is_same_name;
 use std::alloc::{AllocError, Global};
 
 /// Up to so many names are gone over to find one, which takes no memory. Of more there is an index.
@@ -16,7 +17,7 @@ const MOST_SCANNED: usize = 64;
 pub struct Names<'a> {
     names: Vec<&'a [u8]>,
     /// Where each stands, of too many names to go over.
-    index: Option<NamePositions>,
+    index: Option<NameIndex>,
     ghost indexed: { place_by index (map (λ n. n.now) names.items) ≡ name_place (map (λ n. n.now) names.items) },
     ghost once: { are_once (map (λ n. n.now) names.items) ≡ true },
 }
@@ -34,12 +35,12 @@ fn scan(names: &[&[u8]], name: &[u8]) -> Option<usize>
 }
 
 /// Where each name first stands. Fails with `AllocError` where it is out of memory, as all here.
-fn index_of(alloc: Global, names: &[&[u8]]) -> Result<NamePositions, AllocError>
+fn index_of(alloc: Global, names: &[&[u8]]) -> Result<NameIndex, AllocError>
     ensures { IfOk result (λ index. IsNameIndex index (map (λ n. n.now) names.now)) }
 {
-    let mut index = NamePositions::new(alloc);
+    let mut index = NameIndex::new(alloc);
     for (i, name) in names.iter().enumerate() {
-        let _ = index.insert(alloc, name, i)?;
+        index.insert(alloc, name, i)?;
     }
     Ok(index)
 }
@@ -48,8 +49,8 @@ fn index_of(alloc: Global, names: &[&[u8]]) -> Result<NamePositions, AllocError>
 fn index_for_more(
     alloc: Global,
     names: &[&[u8]],
-    index: Option<NamePositions>,
-) -> Result<Option<NamePositions>, AllocError>
+    index: Option<NameIndex>,
+) -> Result<Option<NameIndex>, AllocError>
     requires { place_by index (map (λ n. n.now) names.now)
         ≡ name_place (map (λ n. n.now) names.now) }
     ensures { IfOk result
@@ -126,7 +127,7 @@ impl<'a> Names<'a> {
         match found {
             Some(sofar) => {
                 let mut index = sofar;
-                let _ = index.insert(alloc, name, names.len())?;
+                index.insert(alloc, name, names.len())?;
                 names.push(name)?;
                 Ok(Names {
                     names,

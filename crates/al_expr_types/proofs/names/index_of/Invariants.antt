@@ -1,5 +1,5 @@
 use Rattle.std.proofs.Common.{map, take}
-use Rattle.al_base.specs.NamePlaces.{IsNameIndex}
+use Rattle.al_expr_types.specs.Places.{IsNameIndex}
 use Rattle.al_expr_types.proofs.names.index_of.Given as goal
 
 abbrev pub invariant-loop-i : goal.invariant-loop-i

@@ -1,11 +1,11 @@
 use Rattle.std.proofs.Common.{◌≡◌, ◌∷◌, ◌++◌, ◌∙◌, [], ap, refl, sym, map, length, arith}
 use Rattle.std.proofs.lemmas.List.{length-map, map-append}
 use Rattle.std.specs.Prelude.{is_none}
-use Rattle.al_base.specs.NamePlaces.{IsNameIndex, name_place}
-use Rattle.al_types.proofs.AddedNames.{placed_new}
+use Rattle.al_base.specs.NamePlaces.{name_place}
+use Rattle.al_expr_types.proofs.NameIndexes.{placed_new}
 use Rattle.al_expr_types.specs.Once.{are_once}
 use Rattle.al_expr_types.specs.Names.{names_in}
-use Rattle.al_expr_types.specs.Places.{place_by}
+use Rattle.al_expr_types.specs.Places.{IsNameIndex, place_by}
 use Rattle.al_expr_types.proofs.OnceLemmas.{once_more}
 use Rattle.al_expr_types.proofs.names.Names.push.Goals as goal
 
@@ -21,7 +21,7 @@ invariant_of-result c =
     sym (ap (λ o. place_by o ns) c.in-Some.is) ∙ ap (λ xs. place_by c.in_ok-found.found (map (λ n. n.now) xs)) (sym c.as_slice.ensures.value)
     ∙ c.in_ok-found.ensures ∙ ap (λ xs. name_place (map (λ n. n.now) xs)) c.as_slice.ensures.value in
     record {
-      indexed = placed_new c.in-Some.sofar c.insert.new.self ns n c.len.result indexed long c.in_ok-insert-in-Some.ensures.positions ∙ ap name_place (sym all);
+      indexed = placed_new c.in-Some.sofar c.insert.new.self ns n c.len.result indexed long c.in_ok-insert-in-Some.ensures ∙ ap name_place (sym all);
       once = ap are_once all ∙ once_more ns n _ refl (ap is_none c.requires) c.args.self.once;
     }
 
