@@ -2,6 +2,8 @@
 use Rattle.std.proofs.Common.{◌≡◌, ◌<◌, ◌∙◌, ℕ, List, [], ◌∷◌, Option, Some, None, length, map, get_or, refl, slice_get, ap, sym, subst, arith, option_map}
 use Rattle.std.specs.Prelude.{Contains, Result, Ok, Err}
 use Rattle.std.specs.List.{AllByRecursion, cons_option}
+use Rattle.std.specs.Option.{option_map_or}
+use Rattle.std.specs.Result.{result_ok}
 use Rattle.std.specs.Str.Lossy.{utf8_lossy}
 use Rattle.std.proofs.lemmas.List.{length-map}
 use Rattle.std.proofs.lemmas.List.Elements.{All-contains, All-from_recursion}
@@ -18,24 +20,43 @@ use Rattle.al_tree.specs.Files.{kind_in, root_of}
 use Rattle.al_tree.specs.declared.files.FileKind.{FileKind}
 use Rattle.al_tree.specs.declared.files.Tree.{Tree}
 use Rattle.al_check_interfaces.proofs.CallLists.{kept_faults, kept_targets}
+use Rattle.al_check_interfaces.specs.Interfaces.{interface_of}
+use Rattle.al_check_interfaces.specs.declared.interfaces.Interface.TheVariants.{Unreadable}
 use Rattle.al_check_interfaces.specs.Uses as uses
 use Rattle.al_check_interfaces.specs.Uses.{calls_in, loop_faults, sites_in, target_in, that_uses}
 use Rattle.al_check_interfaces.specs.declared.calls.Call.{Call}
-use Rattle.al_check.specs.Calling.{file_interface, file_targets, interface_given, shown_by, shown_read, targets_given, targets_of, targets_read}
+use Rattle.al_check.specs.Calling.{file_interface, file_targets, shown_by, shown_read, targets_of, targets_read}
 use Rattle.al_check.specs.Reading.{CallsGiven, IsGiven, IsRead}
-use Rattle.al_check.specs.Sites.{file_sites, sites_given}
+use Rattle.al_check.specs.Sites.{file_sites}
 use Rattle.al_check.specs.Units.{HasCalls, IsUnit, calls_kept, interface_kept}
 use Rattle.al_check.specs.declared.files.ReadFile.{ReadFile}
 use Rattle.al_check.specs.declared.units.Unit.{Unit}
 use Rattle.al_check.specs.declared.units.Unit.TheVariants as unit
 
+-- what the reading of some bytes gives, as definitions say it of the bytes
+module _ {A : Type 0} (f : FileKind → Node → A) (none : A) where
+  abbrev of_reading : FileKind → Result Node yaml.Fault → A
+  of_reading kind read = option_map_or (f kind) (result_ok read) none
+
+  of_tree : (kind : FileKind) (bytes : List ℕ) (t : Tree) → IsGiven kind bytes (Ok t) → f (kind_in t) (root_of t) ≡ of_reading kind (tree_of bytes)
+  of_tree kind bytes t is = ap (λ k. f k (root_of t)) is.kind_is ∙ ap (of_reading kind) (sym is.root_is)
+
+  of_fault : (kind : FileKind) (bytes : List ℕ) (fault : YamlFault) → IsGiven kind bytes (Err fault) → none ≡ of_reading kind (tree_of bytes)
+  of_fault kind bytes fault is = ap (of_reading kind) (sym is.fault_is)
+
+abbrev targets_in_tree : FileKind → Node → List Target
+targets_in_tree kind root = uses.targets_of (calls_in kind root)
+
+abbrev sites_in_tree : FileKind → Node → List Fault
+sites_in_tree kind root = loop_faults (calls_in kind root)
+
 targets_are : (kind : FileKind) (bytes : List ℕ) (read : Result Tree YamlFault) → IsGiven kind bytes read → targets_read read ≡ file_targets kind bytes
-targets_are kind bytes (Ok t) is = ap (λ k. targets_given k (Ok (root_of t))) is.kind_is ∙ ap (targets_given kind) (sym is.root_is)
-targets_are kind bytes (Err fault) is = ap (targets_given kind) (sym is.fault_is)
+targets_are kind bytes (Ok t) is = of_tree targets_in_tree [] kind bytes t is
+targets_are kind bytes (Err fault) is = of_fault targets_in_tree [] kind bytes fault is
 
 interface_is : (kind : FileKind) (bytes : List ℕ) (read : Result Tree YamlFault) → IsGiven kind bytes read → shown_read read ≡ file_interface kind bytes
-interface_is kind bytes (Ok t) is = ap (λ k. interface_given k (Ok (root_of t))) is.kind_is ∙ ap (interface_given kind) (sym is.root_is)
-interface_is kind bytes (Err fault) is = ap (interface_given kind) (sym is.fault_is)
+interface_is kind bytes (Ok t) is = of_tree interface_of Unreadable kind bytes t is
+interface_is kind bytes (Err fault) is = of_fault interface_of Unreadable kind bytes fault is
 
 pub targets_called : (file : ReadFile) (kind : FileKind) (bytes : List ℕ) → IsRead file kind bytes → targets_of file ≡ file_targets kind bytes
 targets_called file kind bytes is = targets_are kind bytes file.tree is.given
@@ -56,8 +77,8 @@ faults_in : (kind : FileKind) (bytes : List ℕ) (read : Result Tree YamlFault) 
     map (λ c. c.fault) calls ≡ file_sites kind bytes
 faults_in kind bytes (Ok t) calls is are =
     kept_faults (sites_in (kind_in t) (root_of t)) (calls_in (kind_in t) (root_of t)) calls are
-    ∙ ap (λ k. sites_given k (Ok (root_of t))) is.kind_is ∙ ap (sites_given kind) (sym is.root_is)
-faults_in kind bytes (Err fault) calls is none = ap (map (λ c. c.fault)) none ∙ ap (sites_given kind) (sym is.fault_is)
+    ∙ of_tree sites_in_tree [] kind bytes t is
+faults_in kind bytes (Err fault) calls is none = ap (map (λ c. c.fault)) none ∙ of_fault sites_in_tree [] kind bytes fault is
 
 faults_kept : (file : ReadFile) (kind : FileKind) (bytes : List ℕ) → IsRead file kind bytes → map (λ c. c.fault) file.calls.items ≡ file_sites kind bytes
 faults_kept file kind bytes is = faults_in kind bytes file.tree file.calls.items is.given is.calls
@@ -97,7 +118,7 @@ loops_named (c ∷ cs) = put (target_in c.form) (loops_named cs)
     put None rest = rest
     put (Some t) rest = (record { text = utf8_lossy c.text; is = refl }, rest)
 
-sites_named : (kind : FileKind) (read : Result Node yaml.Fault) → AllByRecursion IsNamed (sites_given kind read)
+sites_named : (kind : FileKind) (read : Result Node yaml.Fault) → AllByRecursion IsNamed (of_reading sites_in_tree [] kind read)
 sites_named kind (Ok root) = loops_named (calls_in kind root)
 sites_named kind (Err fault) = tt
 

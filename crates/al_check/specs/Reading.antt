@@ -12,7 +12,7 @@ use Rattle.al_yaml_tree.specs.ByteFaults.{fault_span}
 use Rattle.al_yaml_tree.specs.Document.{tree_of}
 use Rattle.al_yaml_tree.specs.Spans.{AreFrom, IsInside, IsLaid}
 use Rattle.al_yaml_tree.specs.Texts.{HasTexts}
-use Rattle.al_check_interfaces.specs.Kept.{AreCallsOf}
+use Rattle.al_check_interfaces.specs.FolderCalls.{AreCallsOf}
 use Rattle.al_check_interfaces.specs.declared.calls.Call.{Call}
 use Rattle.al_check.specs.FileFaults.{own_faults}
 use Rattle.al_check.specs.declared.files.ReadFile.{ReadFile}

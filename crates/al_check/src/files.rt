@@ -11,7 +11,7 @@ ghost use Rattle.al_yaml_tree.specs.Spans.{AreFrom, IsInside, IsLaid};
 ghost use Rattle.al_yaml_tree.specs.Texts.{HasTexts};
 ghost use Rattle.al_yaml_tree.specs.View.{view};
 ghost use Rattle.al_check_interfaces.specs.Interfaces as interfaces;
-ghost use Rattle.al_check_interfaces.specs.Kept.{AreCallsOf};
+ghost use Rattle.al_check_interfaces.specs.FolderCalls.{AreCallsOf};
 ghost use Rattle.al_check_interfaces.specs.Uses as uses;
 ghost use Rattle.al_session_folder.specs.Meaning.{AreAnswers};
 ghost use Rattle.al_check_calls.specs.FileCalls as file_calls;
@@ -155,7 +155,7 @@ fn add_behind(
 
 /// These faults as they are printed, in the order of reports, each once.
 fn in_report_order(alloc: Global, found: Vec<Fault>) -> Result<Vec<Fault>, AllocError>
-    ensures { IfOk result (λ list. list.items ≡ fault_list (map meant.printed found.items)) }
+    ensures { IfOk result (λ list. list.items ≡ fault_list (map meant.printed_fault found.items)) }
 {
     Ok(ordered(with_printed_args(alloc, found)?))
 }

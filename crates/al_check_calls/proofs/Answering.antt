@@ -12,10 +12,10 @@ use Rattle.al_yaml_tree.specs.Node.{Node}
 use Rattle.al_tree.specs.Values.{text_at}
 use Rattle.al_tree.specs.declared.files.FileKind.{FileKind}
 use Rattle.al_check_interfaces.specs.declared.interfaces.Interface.{Interface}
-use Rattle.al_check_interfaces.specs.Kept.{AreCallsOf, Kept, kept, seen}
+use Rattle.al_check_interfaces.specs.FolderCalls.{AreCallsOf, FolderCall, as_folder_call, folder_call}
 use Rattle.al_check_interfaces.specs.Uses.{Call, Site, call_at, call_by, calls_in, sites_in, target_in, that_uses}
 use Rattle.al_check_interfaces.specs.declared.calls.Call as code
-use Rattle.al_check_calls.specs.Answers.{Answered, answered, answered_by, first_answer}
+use Rattle.al_check_calls.specs.Answers.{Answered, calls_with_answers, answered_by, first_answer}
 use Rattle.al_check_calls.specs.Private.AnswerViews.{answered_at, call_of_site}
 
 -- ---- a call is the one of its site
@@ -40,28 +40,28 @@ all_at_sites (s ∷ sites) = put IsAtSite (call_at s) (filter_map call_at sites)
 abbrev with_answer : List (Option Interface) → Call → Answered
 with_answer answers c = answered_by c (first_answer answers)
 
-abbrev answered_of_kept : List Kept → List (Option Interface) → List Answered
+abbrev answered_of_kept : List FolderCall → List (Option Interface) → List Answered
 answered_of_kept [] answers = []
 answered_of_kept (k ∷ ks) answers = cons_option (option_map (with_answer answers) (option_and_then call_at k.0)) (answered_of_kept ks (drop 1 answers))
 
 of_seen : (sites : List Site) (calls : List code.Call) (answers : List (Option Interface)) →
-    answered_at sites (map (λ c. c.site) calls) answers ≡ answered_of_kept (map (seen sites) calls) answers
+    answered_at sites (map (λ c. c.site) calls) answers ≡ answered_of_kept (map (folder_call sites) calls) answers
 of_seen sites [] answers = refl
 of_seen sites (c ∷ calls) answers =
     ap (λ l. cons_option (option_map (with_answer answers) (option_and_then call_at (slice_get sites c.site))) l) (of_seen sites calls (drop 1 answers))
 
-of_kept : (cs : List Call) → AllByRecursion IsAtSite cs → (answers : List (Option Interface)) → answered_of_kept (filter_map kept cs) answers ≡ answered cs answers
+of_kept : (cs : List Call) → AllByRecursion IsAtSite cs → (answers : List (Option Interface)) → answered_of_kept (filter_map as_folder_call cs) answers ≡ calls_with_answers cs answers
 of_kept [] at answers = refl
 of_kept (c ∷ cs) at answers = by (target_in c.form) (of_kept cs at.1)
   where
-    by : (o : Option Target) → ((answers : List (Option Interface)) → answered_of_kept (filter_map kept cs) answers ≡ answered cs answers) →
-        answered_of_kept (cons_option (option_map (λ t. (Some c.site, t, that_uses LeadsBack c)) o) (filter_map kept cs)) answers
-        ≡ cons_option (option_map (λ t. with_answer answers c) o) (answered cs (option_map_or (λ t. drop 1 answers) o answers))
+    by : (o : Option Target) → ((answers : List (Option Interface)) → answered_of_kept (filter_map as_folder_call cs) answers ≡ calls_with_answers cs answers) →
+        answered_of_kept (cons_option (option_map (λ t. (Some c.site, t, that_uses LeadsBack c)) o) (filter_map as_folder_call cs)) answers
+        ≡ cons_option (option_map (λ t. with_answer answers c) o) (calls_with_answers cs (option_map_or (λ t. drop 1 answers) o answers))
     by None rest = rest answers
     by (Some t) rest = λ i. cons_option (option_map (with_answer answers) (at.0 i)) (rest (drop 1 answers) i)
 
 pub all_answered : (kind : FileKind) (root : Node) (calls : List code.Call) (answers : List (Option Interface)) → AreCallsOf kind root calls →
-    answered_at (sites_in kind root) (map (λ c. c.site) calls) answers ≡ answered (calls_in kind root) answers
+    answered_at (sites_in kind root) (map (λ c. c.site) calls) answers ≡ calls_with_answers (calls_in kind root) answers
 all_answered kind root calls answers are =
     of_seen (sites_in kind root) calls answers ∙ ap (λ ks. answered_of_kept ks answers) are ∙ of_kept (calls_in kind root) (all_at_sites (sites_in kind root)) answers
 

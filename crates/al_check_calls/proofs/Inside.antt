@@ -10,13 +10,15 @@ use Rattle.al_base.specs.declared.codes.Caller.{Caller}
 use Rattle.al_base.specs.declared.codes.Caller.TheVariants as caller
 use Rattle.al_base.specs.declared.faults.Fault.{Fault}
 use Rattle.al_base.specs.declared.faults.Span.{Span}
-use Rattle.al_types.specs.Types.{Type'}
+use Rattle.al_types.specs.Types.{Type', assignable_type}
+use Rattle.al_check_contexts.specs.Inputs.{input_type}
+use Rattle.al_tree_declarations.specs.Declarations.{named_among, names_of}
 use Rattle.al_scalar.specs.Scalar.{Scalar}
 use Rattle.al_yaml_tree.specs.Node.{Node, scalar, sequence, mapping, span_of}
 use Rattle.al_yaml_tree.specs.Spans.{IsInside}
 use Rattle.al_tree.specs.Keys.{key_of}
 use Rattle.al_tree.specs.Values.{entries_at}
-use Rattle.al_check_interfaces.specs.Parameters.{is_parameter}
+use Rattle.al_check_interfaces.specs.Parameters.{is_parameter, mandatory_of}
 use Rattle.al_check_interfaces.specs.Kinds.{parameters_of}
 use Rattle.al_check_interfaces.specs.declared.interfaces.Interface.{Interface}
 use Rattle.al_check_interfaces.specs.declared.interfaces.Interface.TheVariants.{Readable, Unreadable}
@@ -24,15 +26,15 @@ use Rattle.al_check_interfaces.specs.declared.interfaces.Parameter.{Parameter}
 use Rattle.al_check_interfaces.specs.declared.interfaces.ParameterKind.{ParameterKind}
 use Rattle.al_check_interfaces.specs.declared.interfaces.ParameterKind.TheVariants.{Input, Secret}
 use Rattle.al_check_interfaces.specs.declared.interfaces.Signature.{Signature}
-use Rattle.al_check_interfaces.specs.Uses.{Call, calls_in, target_in}
+use Rattle.al_check_interfaces.specs.Uses.{Call, calls_in, target_in, that_uses}
 use Rattle.al_session_folder.specs.declared.lint.Target.{Target}
 use Rattle.al_check_interfaces.proofs.Inside.{AtLies, calls_lie, inside_kept}
 use Rattle.al_base.proofs.Elements.{each_both, each_either, each_of}
 use Rattle.al_check_interfaces.proofs.Parts.{entries_kept}
-use Rattle.al_check_calls.specs.Answers.{Answered, Typing, answered, answered_by, answered_faults, first_answer, values_in}
-use Rattle.al_check_calls.specs.CallFaults.{Given, Names, absent_faults, at_uses, call_faults, called_name, called_signature, caller_of, fault}
-use Rattle.al_check_calls.specs.CallFaults.{given_by, given_names, is_callable, is_missing, is_right, is_taken, missing_code, missing_name}
-use Rattle.al_check_calls.specs.CallFaults.{missing_names, name_faults, names_against, names_of_kind, signature_for, that_uses, type_faults, undefined_code}
+use Rattle.al_check_calls.specs.Answers.{Answered, Typing, calls_with_answers, answered_by, answered_faults, first_answer, values_in}
+use Rattle.al_check_calls.specs.CallFaults.{Given, absent_faults, call_faults, callable_signature, called_name, caller_of, fault}
+use Rattle.al_check_calls.specs.CallFaults.{given_by, is_callable, is_taken, missing_code, missing_name}
+use Rattle.al_check_calls.specs.CallFaults.{missing_names, name_faults, names_against, names_of_kind, signature_for, type_faults, undefined_code}
 use Rattle.al_check_calls.specs.CallFaults.{undefined_name, undefined_names, uses_faults, value_faults, values_against, values_of, wrong_input}
 use Rattle.al_check_calls.specs.Laws.{CallFaultsLie}
 
@@ -60,9 +62,6 @@ module _ (size : ℕ) where
   unless : (b : Bool) (fs : List Fault) → AllLie fs → AllLie (cond b [] fs)
   unless b fs p = each_either Lies b [] fs tt p
 
-  when : (b : Bool) (fs : List Fault) → AllLie fs → AllLie (cond b fs [])
-  when b fs p = each_either Lies b fs [] p tt
-
   one_lies : (f : CallCode) (c : Call) (at : Span) (texts : List (List ℕ)) → LiesIn size at → AllLie (fault f c at texts ∷ [])
   one_lies f c at texts i = (i, tt)
 
@@ -75,9 +74,9 @@ module _ (size : ℕ) where
       unless (is_taken k c s (key_of e)) (fault (undefined_code k) c (span_of e.0) (key_of e ∷ called_name c s ∷ []) ∷ [])
       (one_lies (undefined_code k) c (span_of e.0) (key_of e ∷ called_name c s ∷ []) (node_lies e.0 p.0))
 
-  missing_lies : (k : ParameterKind) (c : Call) (s : Signature) (given : Names) → LiesIn size c.at → (i : Parameter) → AllLie (missing_name k c s given i)
-  missing_lies k c s given at i =
-      when (is_missing given i) (at_uses (missing_code k) c (i.name ∷ called_name c s ∷ []))
+  missing_lies : (k : ParameterKind) (c : Call) (s : Signature) → LiesIn size c.at → (i : Parameter) → AllLie (missing_name k c s i)
+  missing_lies k c s at i =
+      unless (named_among (names_of (given_by k c.site.node)) i.name) (fault (missing_code k) c c.at (i.name ∷ called_name c s ∷ []) ∷ [])
       (one_lies (missing_code k) c c.at (i.name ∷ called_name c s ∷ []) at)
 
   entries_lie : (k : List ℕ) (n : Node) → IsInside size n → AllByRecursion Pair (entries_at k n)
@@ -91,14 +90,14 @@ module _ (size : ℕ) where
   names_lie k c s p =
       each_both Lies (undefined_names k c s) (missing_names k c s)
       (each_of Pair Lies (undefined_name k c s) (undefined_lies k c s) (given_by k c.site.node) (given_lie k c.site.node p.1))
-      (same_for_all (missing_name k c s (given_names (given_by k c.site.node))) (missing_lies k c s (given_names (given_by k c.site.node)) p.0) (parameters_of k s))
+      (same_for_all (missing_name k c s) (missing_lies k c s p.0) (mandatory_of (parameters_of k s)))
 
   kind_lies : (k : ParameterKind) (c : Call) (o : Option Signature) → CallLies c → AllLie (option_map_or (names_against k c) o [])
   kind_lies k c None p = tt
   kind_lies k c (Some s) p = names_lie k c s p
 
   type_lies : (c : Call) (e : Node × Node) (t : Type') (i : Parameter) → Pair e → AllLie (type_faults c e t i)
-  type_lies c e t i p = unless (is_right t i.takes) _ (node_lies e.1 p.1, tt)
+  type_lies c e t i p = unless (assignable_type t (input_type i.takes)) _ (node_lies e.1 p.1, tt)
 
   typed_lies : (c : Call) (v : Given) (o : Option Parameter) → GivenLies v → AllLie (option_map_or (type_faults c v.0 v.1) o [])
   typed_lies c v None p = tt
@@ -119,13 +118,13 @@ module _ (size : ℕ) where
   uses_lie : (c : Call) (answer : Option Interface) → LiesIn size c.at → AllLie (uses_faults c answer)
   uses_lie c None i = absent_lies c (caller_of c) i
   uses_lie c (Some Unreadable) i = tt
-  uses_lie c (Some (Readable s)) i = unless (is_callable (caller_of c) s.role) (that_uses code.NotCallable c) (i, tt)
+  uses_lie c (Some (Readable s)) i = unless (is_callable (caller_of c) s.role) (that_uses code.NotCallable c ∷ []) (i, tt)
 
   call_lies : (c : Call) (values : List Given) (answer : Option Interface) → CallLies c → AllByRecursion GivenLies values → AllLie (call_faults c values answer)
   call_lies c values answer p v =
       each_both Lies (uses_faults c answer ++ value_faults c values answer) (name_faults c answer)
       (each_both Lies (uses_faults c answer) (value_faults c values answer) (uses_lie c answer p.0)
-      (values_against_lie (caller_of c) c values (called_signature c answer) v))
+      (values_against_lie (caller_of c) c values (callable_signature (caller_of c) answer) v))
       (each_both Lies (names_of_kind Input c answer) (names_of_kind Secret c answer)
       (kind_lies Input c (signature_for Input c answer) p) (kind_lies Secret c (signature_for Secret c answer) p))
 
@@ -145,13 +144,13 @@ module _ (size : ℕ) where
   one_answered c None answer p = tt
   one_answered c (Some t) answer p = p
 
-  all_answered : (cs : List Call) (answers : List (Option Interface)) → AllByRecursion CallLies cs → AllByRecursion (λ a. CallLies a.call) (answered cs answers)
+  all_answered : (cs : List Call) (answers : List (Option Interface)) → AllByRecursion CallLies cs → AllByRecursion (λ a. CallLies a.call) (calls_with_answers cs answers)
   all_answered [] answers p = tt
   all_answered (c ∷ cs) answers p =
-      put (option_map (λ t. answered_by c (first_answer answers)) (target_in c.form)) (answered cs (option_map_or (λ t. drop 1 answers) (target_in c.form) answers))
+      put (option_map (λ t. answered_by c (first_answer answers)) (target_in c.form)) (calls_with_answers cs (option_map_or (λ t. drop 1 answers) (target_in c.form) answers))
       (one_answered c (target_in c.form) (first_answer answers) p.0) (all_answered cs (option_map_or (λ t. drop 1 answers) (target_in c.form) answers) p.1)
 
 pub call_faults_lie : CallFaultsLie
 call_faults_lie size kind typing root answers i =
-    each_of (λ a. CallLies size a.call) (Lies size) (answered_faults typing) (answered_lies size typing) (answered (calls_in kind root) answers)
+    each_of (λ a. CallLies size a.call) (Lies size) (answered_faults typing) (answered_lies size typing) (calls_with_answers (calls_in kind root) answers)
     (all_answered size (calls_in kind root) answers (calls_lie size kind root i))

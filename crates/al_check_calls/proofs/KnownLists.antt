@@ -2,11 +2,10 @@
 use Rattle.std.proofs.Common.{◌≡◌, ◌<◌, ◌≤◌, ◌+◌, ◌++◌, ◌∙◌, ℕ, List, [], ◌∷◌, Bool, true, false, cond, Bor, Option, Some, None, refl, sym, ap}
 use Rattle.std.proofs.Common.{append-nil, append_assoc, get_or, length, map, subst, take}
 use Rattle.std.specs.Prelude.{if◌then◌else◌, is_some, option_and_then, slice_get}
-use Rattle.std.specs.BTreeMap.{BTreeMap, Updates, get, is_at}
+use Rattle.std.specs.BTreeMap.{Updates, get, is_at}
 use Rattle.std.specs.Cmp.Lexicographic.{slice_cmp}
 use Rattle.std.specs.List.{AllByRecursion}
 use Rattle.std.specs.Map.{lookup}
-use Rattle.std.specs.Option.{option_to_list}
 use Rattle.std.specs.Ordering.{bool_cmp, is_eq, nat_cmp, ordering_then}
 use Rattle.std.specs.declared.cmp.Ordering.{Ordering}
 use Rattle.std.proofs.lemmas.List.{length-map, map-append, take_all, take_more}
@@ -15,7 +14,7 @@ use Rattle.std.proofs.lemmas.Map.Text.{is_eq-slice_cmp}
 use Rattle.std.proofs.lemmas.Slice.Eq.{bytes_eq-Decides}
 use Rattle.al_base.specs.declared.codes.Caller.TheVariants as caller
 use Rattle.al_check_calls.specs.Answers.{Answered}
-use Rattle.al_check_calls.specs.CallFaults.{caller_of}
+use Rattle.al_check_calls.specs.CallFaults.{callable_signature, caller_of}
 use Rattle.al_check_calls.specs.Outputs.{outputs_behind, outputs_in}
 use Rattle.al_check_calls.specs.Private.AnswerViews.{answered_of}
 use Rattle.al_check_calls.specs.declared.answers.Answered as code
@@ -85,43 +84,50 @@ none_placed naming ls e = record {
       absurd cc;
 }
 
-put_at : (naming : Naming) (lists : List Names) (of_step key_step : Bool) (text key_text : List ℕ) (put position : Option ℕ) (old : Option (Option ℕ)) (test : Bool) →
-    (test ≡ true → (of_step ≡ key_step) × (text ≡ key_text)) → StandsAt lists put (naming key_step key_text) →
-    ((p : Option ℕ) → old ≡ Some p → StandsAt lists p (naming of_step text)) → cond test (Some put) old ≡ Some position → StandsAt lists position (naming of_step text)
+put_at : (naming : Naming) (lists : List Names) (of_step key_step : Bool) (text key_text : List ℕ) (put position : ℕ) (old : Option ℕ) (test : Bool) →
+    (test ≡ true → (of_step ≡ key_step) × (text ≡ key_text)) → StandsAt lists (Some put) (naming key_step key_text) →
+    ((p : ℕ) → old ≡ Some p → StandsAt lists (Some p) (naming of_step text)) → cond test (Some put) old ≡ Some position → StandsAt lists (Some position) (naming of_step text)
 put_at naming lists of_step key_step text key_text put position old true same here there is =
     let at : position ≡ put = cc in
     let key = same refl in
-    λ more. ap (option_and_then (slice_get (lists ++ more))) at ∙ here more ∙ λ j. naming (sym key.0 j) (sym key.1 j)
+    λ more. ap (slice_get (lists ++ more)) at ∙ here more ∙ λ j. naming (sym key.0 j) (sym key.1 j)
 put_at naming lists of_step key_step text key_text put position old false same here there is = there position is
 
 -- the names behind the calls by one text more have a position
-pub put_takes : (old new : Lists) (was : BTreeMap Key (Option ℕ)) (key : Key) (names : Option Names) (put : Option ℕ) → was ≡ old.positions →
-    Updates key_cmp was new.positions key (Some put) → lists_of new ≡ lists_of old ++ option_to_list names → StandsAt (lists_of new) put names →
-    Takes old new key.0 key.1.now names put
+pub put_takes : (old new : Lists) (key : Key) (names : Names) (put : ℕ) → Updates key_cmp old.positions new.positions key (Some put) →
+    lists_of new ≡ lists_of old ++ names ∷ [] → StandsAt (lists_of new) (Some put) (Some names) → Takes old new key.0 key.1.now (Some names) (Some put)
 unfolding position_of
-put_takes old new was key names put same updates grown stands = record {
-  added = option_to_list names;
+put_takes old new key names put updates grown stands = record {
+  added = names ∷ [];
   grown = grown;
   placed = λ naming told before. record {
     at = λ of_step text position is.
-        put_at naming (lists_of new) of_step key.0 text key.1.now put position (get key_cmp was (to_key of_step text)) (is_at (key_cmp key) (to_key of_step text))
+        put_at naming (lists_of new) of_step key.0 text key.1.now put position (get key_cmp old.positions (to_key of_step text)) (is_at (key_cmp key) (to_key of_step text))
         (λ e. let order = slice_cmp nat_cmp key.1.now text in (same_first key.0 of_step order e, same_text key.1.now text (same_second key.0 of_step order e)))
         (λ more. stands more ∙ sym told)
-        (λ p found. grown_stands (lists_of old) (lists_of new) (option_to_list names) p (naming of_step text) grown
-        (before.at of_step text p (sym (ap (λ m. get key_cmp m (to_key of_step text)) same) ∙ found)))
+        (λ p found. grown_stands (lists_of old) (lists_of new) (names ∷ []) (Some p) (naming of_step text) grown (before.at of_step text p found))
         (sym (updates.0 (to_key of_step text)) ∙ is);
   };
   stands = λ naming told before. stands;
 }
 
 -- or had it before
-pub found_takes : (ls : Lists) (of_step : Bool) (text : List ℕ) (names : Option Names) (position : Option ℕ) → position_of ls of_step text ≡ Some position →
-    Takes ls ls of_step text names position
+pub found_takes : (ls : Lists) (of_step : Bool) (text : List ℕ) (names : Option Names) (position : ℕ) → position_of ls of_step text ≡ Some position →
+    Takes ls ls of_step text names (Some position)
 found_takes ls of_step text names position is = record {
   added = [];
   grown = sym (append-nil (lists_of ls));
   placed = λ naming told before. before;
   stands = λ naming told before more. before.at of_step text position is more ∙ told;
+}
+
+-- or there are none
+pub none_takes : (ls : Lists) (of_step : Bool) (text : List ℕ) (names : Option Names) → names ≡ None → Takes ls ls of_step text names None
+none_takes ls of_step text names none = record {
+  added = [];
+  grown = sym (append-nil (lists_of ls));
+  placed = λ naming told before. before;
+  stands = λ naming told before more. sym none;
 }
 
 pub takes_as : {old new : Lists} {b b' : Bool} {t t' : List ℕ} {n n' : Option Names} {position : Option ℕ} → b ≡ b' → t ≡ t' → n ≡ n' → Takes old new b t n position →
@@ -174,7 +180,7 @@ one_known answered i a old new known now position within is takes pushed before 
 abbrev naming_of : (found : List Answered) → AreToldByUses found → Naming
 naming_of found told of_step text =
     let by = if of_step then caller.Step else caller.Job in
-    outputs_in by (told.answer by text)
+    option_and_then outputs_in (callable_signature by (told.answer by text))
 
 all_named : (naming : Naming) (told : List Answered) (P : Answered → Type 0) → ((a : Answered) → P a → IsNamed naming a) → AllByRecursion P told → AllByRecursion (IsNamed naming) told
 all_named naming [] P each h = tt
@@ -187,6 +193,6 @@ all_known answered i ls known end told so_far =
     let found = map answered_of answered in
     let naming = naming_of found told in
     let named = all_named naming found (λ (a : Answered). a.answer ≡ told.answer (caller_of a.call) a.call.text)
-    (λ a h. ap (outputs_in (caller_of a.call)) (sym h)) told.told in
+    (λ a h. ap (λ o. option_and_then outputs_in (callable_signature (caller_of a.call) o)) (sym h)) told.told in
     ap (λ l. map (behind_of l) known) (sym (append-nil (lists_of ls))) ∙ (so_far naming named).1 []
     ∙ ap (λ l. map behind (map answered_of l)) (take_all i answered end)

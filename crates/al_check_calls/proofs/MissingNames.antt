@@ -1,8 +1,8 @@
 -- Names that are missing, call by call: behind one alike by the same `uses` only what all of them so far have given is looked up.
 use Rattle.std.proofs.Common.{◌≡◌, ◌∙◌, ◌⊎◌, ⊎_elim, inl, inr, zero, suc, List, [], ◌∷◌, ◌++◌, Bool, true, false, cond, Option, Some, None}
 use Rattle.std.proofs.Common.{ap, append-nil, arith, map, option_map, refl, subst, sym}
-use Rattle.std.specs.Prelude.{Contains, ◌&&◌, not}
-use Rattle.std.specs.List.{cons_option, filter, flat_map}
+use Rattle.std.specs.Prelude.{Contains}
+use Rattle.std.specs.List.{cons_option, flat_map}
 use Rattle.std.specs.List.Sorted.{IsPermutation}
 use Rattle.std.specs.Option.{option_map_or}
 use Rattle.std.specs.Str.Lossy.{utf8_lossy}
@@ -17,14 +17,14 @@ use Rattle.al_base.specs.contracts.faults.SpanPartialEq.TheImpl as span_eq
 use Rattle.al_base.specs.declared.codes.Code.TheVariants as kind_of_code
 use Rattle.al_base.specs.declared.faults.Fault.{Fault}
 use Rattle.al_check_interfaces.specs.Kinds.{parameters_of}
-use Rattle.al_check_interfaces.specs.Parameters.{is_mandatory, mandatory_of}
+use Rattle.al_check_interfaces.specs.Parameters.{mandatory_of}
 use Rattle.al_check_interfaces.specs.declared.interfaces.Parameter.{Parameter}
 use Rattle.al_check_interfaces.specs.declared.interfaces.ParameterKind.{ParameterKind}
 use Rattle.al_check_interfaces.specs.declared.interfaces.ParameterKind.TheVariants.{Input, Secret}
 use Rattle.al_check_interfaces.specs.declared.interfaces.Signature.{Signature}
 use Rattle.al_check_interfaces.specs.Uses.{Call}
 use Rattle.al_check_calls.specs.Answers.{Answered}
-use Rattle.al_check_calls.specs.CallFaults.{given_by, given_names, missing_code, missing_name, names_against, names_of_kind, signature_for}
+use Rattle.al_check_calls.specs.CallFaults.{missing_code, names_against, names_of_kind, signature_for}
 use Rattle.al_check_calls.specs.Private.AnswerViews.{compared_of}
 use Rattle.al_check_calls.specs.Private.Comparing.{Comparison, HaveOneSignature, IsSaid, call_alike, compared_with, comparison_of, comparisons}
 use Rattle.al_check_calls.specs.Private.Comparing.{fault_unless_given, faults_of_names, gives, is_by_same_uses, mandatory_for, missing_fault, missing_of}
@@ -32,27 +32,6 @@ use Rattle.al_check_calls.specs.Private.Comparing.{name_faults_of, parameter_if_
 use Rattle.al_check_calls.specs.declared.comparisons.Comparison as code
 use Rattle.al_check_calls.proofs.Alike.{likeness, span_exact}
 use Rattle.al_check_calls.proofs.Parts.{in_parts}
-
--- ---- what is missing is among what each call has to give
-
-filtered_step : {A B : Type 0} (g : A → List B) (x : A) (rest : List A) (b : Bool) (first more : List B) →
-    first ≡ cond b (g x) [] → more ≡ flat_map g rest → first ++ more ≡ flat_map g (cond b (x ∷ rest) rest)
-filtered_step g x rest true first more h m = λ i. h i ++ m i
-filtered_step g x rest false first more h m = λ i. h i ++ m i
-
-filtered : {A B : Type 0} (p : A → Bool) (f g : A → List B) → ((x : A) → f x ≡ cond (p x) (g x) []) → (xs : List A) → flat_map f xs ≡ flat_map g (filter p xs)
-filtered p f g h [] = refl
-filtered p f g h (x ∷ xs) = filtered_step g x (filter p xs) (p x) (f x) (flat_map f xs) (h x) (filtered p f g h xs)
-
-either : (mandatory given : Bool) (fs : List Fault) → cond (mandatory && not given) fs [] ≡ cond mandatory (cond given [] fs) []
-either true true fs = refl
-either true false fs = refl
-either false given fs = refl
-
-pub missing_are : (q : Comparison) → missing_of q ≡ flat_map (fault_unless_given q) (mandatory_for q)
-missing_are q =
-    filtered is_mandatory (missing_name q.kind q.call q.signature (given_names (given_by q.kind q.call.site.node))) (fault_unless_given q)
-    (λ p. either (is_mandatory p) (gives q p) (missing_fault q p ∷ [])) (parameters_of q.kind q.signature)
 
 -- ---- one call more
 
@@ -105,8 +84,7 @@ module _ (q : Comparison) (left : List Parameter) (old : List Fault) (before : I
 pub next_found : (q : Comparison) (left : List Parameter) (old new : List Fault) → IsSaid q left old → new ≡ old ++ flat_map (fault_unless_given q) left →
     SameSet new (old ++ missing_of q)
 next_found q left old new before is =
-    set_trans new (old ++ flat_map (fault_unless_given q) left) (old ++ missing_of q) (same_set _ _ is)
-    (subst (λ l. SameSet (old ++ flat_map (fault_unless_given q) left) (old ++ l)) (sym (missing_are q)) (all_found q left old before))
+    set_trans new (old ++ flat_map (fault_unless_given q) left) (old ++ missing_of q) (same_set _ _ is) (all_found q left old before)
 
 pub next_said : (q : Comparison) (left after : List Parameter) (old new : List Fault) → IsSaid q left old → new ≡ old ++ flat_map (fault_unless_given q) left →
     after ≡ flat_map (parameter_if_given q) left → IsSaid q after new

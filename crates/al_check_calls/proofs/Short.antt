@@ -21,7 +21,7 @@ use Rattle.al_check_interfaces.specs.Uses.{Call, calls_in, target_in}
 use Rattle.al_check_interfaces.proofs.Parts.{IsKept, calls_kept, entries_kept}
 use Rattle.al_check_calls.specs.Private.AnswerViews.{answered_of}
 use Rattle.al_session_folder.specs.declared.lint.Target.{Target}
-use Rattle.al_check_calls.specs.Answers.{Answered, answered, answered_by, first_answer}
+use Rattle.al_check_calls.specs.Answers.{Answered, calls_with_answers, answered_by, first_answer}
 use Rattle.al_check_calls.specs.declared.answers.Answered as code
 use Rattle.al_check_calls.specs.FileCalls.{AreShort, EntriesShort, IsShort, ItemsShort}
 
@@ -69,11 +69,11 @@ put_short : (c : Call) (o : Option Target) (answer : Option Interface) (rest : L
 put_short c None answer rest h hs = hs
 put_short c (Some t) answer rest h hs = (h, hs)
 
-answered_short : (cs : List Call) (answers : List (Option Interface)) → AllByRecursion CallIsShort cs → AllByRecursion AnsweredIsShort (answered cs answers)
+answered_short : (cs : List Call) (answers : List (Option Interface)) → AllByRecursion CallIsShort cs → AllByRecursion AnsweredIsShort (calls_with_answers cs answers)
 answered_short [] answers h = tt
 answered_short (c ∷ cs) answers h =
     let others = option_map_or (λ t. drop 1 answers) (target_in c.form) answers in
-    put_short c (target_in c.form) (first_answer answers) (answered cs others) (h.0).1 (answered_short cs others h.1)
+    put_short c (target_in c.form) (first_answer answers) (calls_with_answers cs others) (h.0).1 (answered_short cs others h.1)
 
 calls_back : (as' : List code.Answered) → AllByRecursion AnsweredIsShort (map answered_of as') →
     AllByRecursion (λ (a : code.Answered). AreShort (view a.call.site.node.now)) as'
@@ -82,7 +82,7 @@ calls_back (a ∷ as') h = (h.0, calls_back as' h.1)
 
 -- of the calls that the code has found, with their answers
 pub all_short : (as' : List code.Answered) (k : FileKind) (root : Node) (answers : List (Option Interface)) →
-    map answered_of as' ≡ answered (calls_in k root) answers → IsLaid 1048576 root → HasTexts root → All (λ (a : code.Answered). AreShort (view a.call.site.node.now)) as'
+    map answered_of as' ≡ calls_with_answers (calls_in k root) answers → IsLaid 1048576 root → HasTexts root → All (λ (a : code.Answered). AreShort (view a.call.site.node.now)) as'
 all_short as' k root answers e w t =
     let there = answered_short (calls_in k root) answers (calls_short k root (short_all root w t)) in
     All-from_recursion (λ (a : code.Answered). AreShort (view a.call.site.node.now)) as'

@@ -14,7 +14,7 @@ use Rattle.al_tree.specs.declared.files.FileKind.{FileKind}
 use Rattle.al_check_interfaces.specs.declared.interfaces.Interface.{Interface}
 use Rattle.al_check_interfaces.specs.Forms.{form_by}
 use Rattle.al_check_interfaces.specs.Uses.{Call, Site, call_at, call_by, calls_in, sites_in, target_in, targets_of}
-use Rattle.al_check_calls.specs.Answers.{Answered, answered, answered_by, first_answer}
+use Rattle.al_check_calls.specs.Answers.{Answered, calls_with_answers, answered_by, first_answer}
 use Rattle.al_check_calls.specs.CallFaults.{caller_of}
 use Rattle.al_check_calls.specs.Private.AnswerViews.{answered_of}
 use Rattle.al_check_calls.specs.declared.answers.Answered as code
@@ -50,15 +50,15 @@ module _ (answer : Target → Option Interface) where
   put_told c None rest more is formed h = h
   put_told c (Some t) rest more is formed h = (ap (option_and_then answer) (sym is) ∙ ap (λ f. option_and_then answer (target_in f)) formed, h)
 
-  all_told : (cs : List Call) → AllByRecursion IsFormed cs → AllByRecursion IsTold (answered cs (map answer (targets_of cs)))
+  all_told : (cs : List Call) → AllByRecursion IsFormed cs → AllByRecursion IsTold (calls_with_answers cs (map answer (targets_of cs)))
   all_told [] formed = tt
-  all_told (c ∷ cs) formed = put_told c (target_in c.form) (targets_of cs) (answered cs) refl formed.0 (all_told cs formed.1)
+  all_told (c ∷ cs) formed = put_told c (target_in c.form) (targets_of cs) (calls_with_answers cs) refl formed.0 (all_told cs formed.1)
 
-pub told_by_uses : (k : FileKind) (root : Node) (given : List (Option Interface)) → AreAnswers (targets_of (calls_in k root)) given → AreToldByUses (answered (calls_in k root) given)
+pub told_by_uses : (k : FileKind) (root : Node) (given : List (Option Interface)) → AreAnswers (targets_of (calls_in k root)) given → AreToldByUses (calls_with_answers (calls_in k root) given)
 told_by_uses k root given answers = record {
   answer = answer_by answers.answer;
   told =
-      subst (λ list. AllByRecursion (IsTold answers.answer) (answered (calls_in k root) list)) (sym answers.are)
+      subst (λ list. AllByRecursion (IsTold answers.answer) (calls_with_answers (calls_in k root) list)) (sym answers.are)
       (all_told answers.answer (calls_in k root) (sites_formed (sites_in k root)));
 }
 

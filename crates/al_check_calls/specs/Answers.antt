@@ -24,11 +24,11 @@ first_answer (a ∷ more) = a
 abbrev pub answered_by : Call → Option Interface → Answered
 answered_by c answer = record { call = c; answer = answer }
 
-abbrev pub answered : List Call → List (Option Interface) → List Answered
-answered [] answers = []
-answered (c ∷ cs) answers =
+abbrev pub calls_with_answers : List Call → List (Option Interface) → List Answered
+calls_with_answers [] answers = []
+calls_with_answers (c ∷ cs) answers =
     cons_option (option_map (λ t. answered_by c (first_answer answers)) (target_in c.form))
-    (answered cs (option_map_or (λ t. drop 1 answers) (target_in c.form) answers))
+    (calls_with_answers cs (option_map_or (λ t. drop 1 answers) (target_in c.form) answers))
 
 -- the type of what is given at a call, by its key and its scalar
 abbrev pub Typing : Type 0
@@ -43,4 +43,5 @@ answered_faults typing a = call_faults a.call (values_in typing a.call) a.answer
 
 -- The faults of all calls of files of the folder that a file has, given their answers in order.
 abbrev pub faults_in : FileKind → Typing → Node → List (Option Interface) → List Fault
-faults_in kind typing root answers = flat_map (answered_faults typing) (answered (calls_in kind root) answers)
+faults_in kind typing root answers =
+    flat_map (answered_faults typing) (calls_with_answers (calls_in kind root) answers)

@@ -1,5 +1,5 @@
 -- The faults of calls of files of the folder, given the answers.
-use Rattle.std.specs.Prelude.{ℕ, List, [], ◌∷◌, ◌++◌, Bool, true, false, ◌||◌, ◌&&◌, not, codes}
+use Rattle.std.specs.Prelude.{ℕ, List, [], ◌∷◌, ◌++◌, Bool, true, false, ◌||◌, not, codes}
 use Rattle.std.specs.Prelude.{map, Option, Some, None, find, if◌then◌else◌}
 use Rattle.std.specs.List.{flat_map}
 use Rattle.std.specs.Option.{option_map_or}
@@ -22,7 +22,7 @@ use Rattle.al_tree_declarations.specs.Declarations.{named_among, names_of}
 use Rattle.al_check_contexts.specs.Inputs.{input_type}
 use Rattle.al_tree_declarations.specs.declared.inputs.InputType.{InputType}
 use Rattle.al_tree_declarations.specs.declared.inputs.InputType.TheVariants as input
-use Rattle.al_check_interfaces.specs.Parameters.{has_parameter, is_mandatory, is_parameter}
+use Rattle.al_check_interfaces.specs.Parameters.{has_parameter, is_parameter, mandatory_of}
 use Rattle.al_check_interfaces.specs.Kinds.{parameters_of}
 use Rattle.al_check_interfaces.specs.declared.interfaces.Interface.{Interface}
 use Rattle.al_check_interfaces.specs.declared.interfaces.Interface.TheVariants.{Readable, Unreadable}
@@ -33,7 +33,7 @@ use Rattle.al_check_interfaces.specs.declared.interfaces.Role.{Role}
 use Rattle.al_check_interfaces.specs.declared.interfaces.Role.TheVariants as role
 use Rattle.al_check_interfaces.specs.declared.interfaces.Signature.{Signature}
 use Rattle.al_check_interfaces.specs.Uses as uses
-use Rattle.al_check_interfaces.specs.Uses.{Call}
+use Rattle.al_check_interfaces.specs.Uses.{Call, that_uses}
 
 abbrev pub caller_of : Call → Caller
 caller_of c = uses.caller_of c.site
@@ -41,53 +41,32 @@ caller_of c = uses.caller_of c.site
 abbrev pub fault : CallCode → Call → Span → List (List ℕ) → Fault
 fault f c at texts = record { span = at; code = kind_of_code.Call f (caller_of c); args = map utf8_lossy texts }
 
--- at the value of `uses`
-abbrev pub at_uses : CallCode → Call → List (List ℕ) → List Fault
-at_uses f c texts = fault f c c.at texts ∷ []
-
-abbrev pub that_uses : CallCode → Call → List Fault
-that_uses f c = at_uses f c (c.text ∷ [])
-
 -- which files a step may call, and which a job
 abbrev pub is_callable : Caller → Role → Bool
 is_callable caller.Step role.Composite = true
 is_callable caller.Step role.Action = true
-is_callable caller.Step _ = false
 is_callable caller.Job role.Callable = true
-is_callable caller.Job _ = false
+is_callable by r = false
 
 -- a step may call an action that isn't there, a job no workflow
 abbrev pub absent_faults : Call → Caller → List Fault
 absent_faults c caller.Step = []
-absent_faults c caller.Job = that_uses code.NoWorkflow c
+absent_faults c caller.Job = that_uses code.NoWorkflow c ∷ []
 
 -- of `uses`: C1 where no file answers, C8 where the one that does can't be called
 abbrev pub uses_faults : Call → Option Interface → List Fault
 uses_faults c None = absent_faults c (caller_of c)
 uses_faults c (Some Unreadable) = []
-uses_faults c (Some (Readable s)) = if is_callable (caller_of c) s.role then [] else that_uses code.NotCallable c
+uses_faults c (Some (Readable s)) = if is_callable (caller_of c) s.role then [] else that_uses code.NotCallable c ∷ []
 
--- what a file shows to a step, or a job, that may call it
+-- what a file shows to a step, or a job, that may call it: none where the call has C1 or C8, or the file can't be read
 abbrev pub callable_signature : Caller → Option Interface → Option Signature
-callable_signature by None = None
-callable_signature by (Some Unreadable) = None
 callable_signature by (Some (Readable s)) = if is_callable by s.role then Some s else None
-
--- what a call is compared with: none where it has C1 or C8, or the file can't be read
-abbrev pub called_signature : Call → Option Interface → Option Signature
-called_signature c answer = callable_signature (caller_of c) answer
+callable_signature by answer = None
 
 -- how the called file is named: by its `name`, else by the text of `uses`
 abbrev pub called_name : Call → Signature → List ℕ
 called_name c s = option_map_or (λ n. n) s.name c.text
-
--- a test of names
-abbrev pub Names : Type 0
-Names = List ℕ → Bool
-
--- the names under a key
-abbrev pub given_names : List (Node × Node) → Names
-given_names given = named_among (names_of given)
 
 -- what is given of each kind, and what is said of it: a name that isn't declared is C2 or C5, one that is missing C3 or C6
 abbrev pub given_by : ParameterKind → Node → List (Node × Node)
@@ -115,17 +94,16 @@ abbrev pub undefined_name : ParameterKind → Call → Signature → Node × Nod
 undefined_name k c s e =
     if is_taken k c s (key_of e) then [] else fault (undefined_code k) c (span_of e.0) (key_of e ∷ called_name c s ∷ []) ∷ []
 
-abbrev pub is_missing : Names → Parameter → Bool
-is_missing given p = is_mandatory p && not (given p.name)
-
-abbrev pub missing_name : ParameterKind → Call → Signature → Names → Parameter → List Fault
-missing_name k c s given p = if is_missing given p then at_uses (missing_code k) c (p.name ∷ called_name c s ∷ []) else []
+abbrev pub missing_name : ParameterKind → Call → Signature → Parameter → List Fault
+missing_name k c s p =
+    if named_among (names_of (given_by k c.site.node)) p.name then []
+    else fault (missing_code k) c c.at (p.name ∷ called_name c s ∷ []) ∷ []
 
 abbrev pub undefined_names : ParameterKind → Call → Signature → List Fault
 undefined_names k c s = flat_map (undefined_name k c s) (given_by k c.site.node)
 
 abbrev pub missing_names : ParameterKind → Call → Signature → List Fault
-missing_names k c s = flat_map (missing_name k c s (given_names (given_by k c.site.node))) (parameters_of k s)
+missing_names k c s = flat_map (missing_name k c s) (mandatory_of (parameters_of k s))
 
 abbrev pub names_against : ParameterKind → Call → Signature → List Fault
 names_against k c s = undefined_names k c s ++ missing_names k c s
@@ -140,7 +118,8 @@ is_compared kind.Secret caller.Step n = false
 is_compared kind.Secret caller.Job n = not (is_inherit n)
 
 abbrev pub signature_for : ParameterKind → Call → Option Interface → Option Signature
-signature_for k c answer = if is_compared k (caller_of c) c.site.node then called_signature c answer else None
+signature_for k c answer =
+    if is_compared k (caller_of c) c.site.node then callable_signature (caller_of c) answer else None
 
 abbrev pub names_of_kind : ParameterKind → Call → Option Interface → List Fault
 names_of_kind k c answer = option_map_or (names_against k c) (signature_for k c answer) []
@@ -154,11 +133,10 @@ type_name input.Boolean = codes "boolean"
 type_name input.Number = codes "number"
 type_name input.String = codes "string"
 
-abbrev pub is_right : Type' → InputType → Bool
-is_right t i = assignable_type t (input_type i)
-
 abbrev pub type_faults : Call → Node × Node → Type' → Parameter → List Fault
-type_faults c e t i = if is_right t i.takes then [] else fault code.WrongInput c (span_of e.1) (i.name ∷ type_name i.takes ∷ []) ∷ []
+type_faults c e t i =
+    if assignable_type t (input_type i.takes) then []
+    else fault code.WrongInput c (span_of e.1) (i.name ∷ type_name i.takes ∷ []) ∷ []
 
 -- a value that is given, with its type; what is no scalar is any
 abbrev pub Given : Type 0
@@ -183,7 +161,7 @@ values_against caller.Step c values o = []
 values_against caller.Job c values o = option_map_or (wrong_inputs c values) o []
 
 abbrev pub value_faults : Call → List Given → Option Interface → List Fault
-value_faults c values answer = values_against (caller_of c) c values (called_signature c answer)
+value_faults c values answer = values_against (caller_of c) c values (callable_signature (caller_of c) answer)
 
 -- The faults of a call of a file of the folder, given the values under `with` with their types, and its answer.
 abbrev pub call_faults : Call → List Given → Option Interface → List Fault

@@ -1,5 +1,5 @@
 -- The faults of a file's calls and expressions, given the answers of its calls.
-use Rattle.std.specs.Prelude.{ℕ, List, [], ◌∷◌, ◌++◌, ◌≤◌, true, codes, length, map, Option, Some, None, IsUtf8}
+use Rattle.std.specs.Prelude.{ℕ, List, [], ◌∷◌, ◌++◌, ◌≤◌, true, codes, length, map, Option, unwrap_or, IsUtf8}
 use Rattle.std.specs.List.{flat_map}
 use Rattle.al_base.specs.declared.faults.Fault.{Fault}
 use Rattle.al_base.specs.Limits.{longest_text}
@@ -10,14 +10,14 @@ use Rattle.al_tree.specs.Keys.{key_text}
 use Rattle.al_tree.specs.declared.files.FileKind.{FileKind}
 use Rattle.al_tree.specs.declared.files.FileKind.TheVariants as kind
 use Rattle.al_check_places.specs.Places.{Place, place_at}
-use Rattle.al_check_places.specs.Ways.{WayStep, under}
+use Rattle.al_check_places.specs.Ways.{under}
 use Rattle.al_check_contexts.specs.Answered.{Behind, known_in}
 use Rattle.al_check_contexts.specs.Contexts.{Known}
 use Rattle.al_check_contexts.specs.Scopes.{scope_at}
 use Rattle.al_check_expressions.specs.FileExpressions.{expression_faults}
 use Rattle.al_check_interfaces.specs.declared.interfaces.Interface.{Interface}
 use Rattle.al_check_interfaces.specs.Uses.{calls_in}
-use Rattle.al_check_calls.specs.Answers.{Answered, Typing, answered, answered_faults}
+use Rattle.al_check_calls.specs.Answers.{Answered, Typing, calls_with_answers, answered_faults}
 use Rattle.al_check_calls.specs.Outputs.{outputs_behind}
 use Rattle.al_check_calls.specs.Types.{scalar_type}
 
@@ -28,36 +28,30 @@ behind a = record { job = a.call.site.job; step = a.call.site.step; names = outp
 abbrev pub known_by : List Answered → Known
 known_by found = known_in (map behind found)
 
--- the way to what a job gives under a key of `with`
-abbrev pub way_to : List ℕ → List ℕ → List WayStep
-way_to job key = under (codes "jobs") ∷ under job ∷ under (codes "with") ∷ under key ∷ []
-
+-- the place of what a job gives under a key of `with`
 abbrev pub place_of_value : List ℕ → Node → Scalar → Place
-place_of_value job key s = place_at kind.Workflow (way_to job (key_text key)) true s (span_of key)
+place_of_value job key s =
+    let way = under (codes "jobs") ∷ under job ∷ under (codes "with") ∷ under (key_text key) ∷ [] in
+    place_at kind.Workflow way true s (span_of key)
 
 -- its type, under what can be referred to there
 abbrev pub type_in_job : FileKind → Known → Node → List ℕ → Node → Scalar → Type'
 type_in_job kind known root job key s = scalar_type (scope_at kind known root (place_of_value job key s)) s
 
-abbrev pub text_or_empty : Option (List ℕ) → List ℕ
-text_or_empty None = []
-text_or_empty (Some text) = text
-
 -- the types of what calls give; those of steps' calls aren't looked at
 abbrev pub typing : FileKind → Known → Node → Typing
-typing kind known root site = type_in_job kind known root (text_or_empty site.job)
-
--- the faults of some calls of a file
-abbrev pub call_faults : FileKind → Known → Node → List Answered → List Fault
-call_faults kind known root found = flat_map (answered_faults (typing kind known root)) found
+typing kind known root site = type_in_job kind known root (unwrap_or site.job [])
 
 -- The faults that depend on what answers a file's calls: those of its expressions, which see the outputs that answers make known, and
 -- those of its calls.
 abbrev pub faults_by : FileKind → Node → List Answered → List Fault
-faults_by kind root found = expression_faults kind (known_by found) root ++ call_faults kind (known_by found) root found
+faults_by kind root found =
+    expression_faults kind (known_by found) root
+    ++ flat_map (answered_faults (typing kind (known_by found) root)) found
 
 abbrev pub behind_faults : FileKind → Node → List (Option Interface) → List Fault
-behind_faults kind root answers = faults_by kind root (answered (calls_in kind root) answers)
+behind_faults kind root answers =
+    faults_by kind root (calls_with_answers (calls_in kind root) answers)
 
 -- each text of a node, of keys too, is UTF-8 and short enough to look for expressions in it
 abbrev pub IsShort : Scalar → Type 0

@@ -5,7 +5,7 @@ ghost use Rattle.std.specs.Option.{option_copied};
 ghost use Rattle.al_check_calls.specs.Answers as answering;
 ghost use Rattle.al_check_calls.specs.Private.AnswerViews.{answered_at, answered_of, call_of, call_of_site};
 ghost use Rattle.al_tree.specs.declared.files.FileKind.{FileKind};
-ghost use Rattle.al_check_interfaces.specs.Kept.{AreCallsOf};
+ghost use Rattle.al_check_interfaces.specs.FolderCalls.{AreCallsOf};
 ghost use Rattle.al_check_interfaces.specs.CallViews.{site_of};
 ghost use Rattle.al_check_interfaces.specs.Uses as uses;
 ghost use Rattle.al_yaml_tree.specs.Node.{Node};
@@ -124,7 +124,7 @@ pub(crate) fn with_answers<'a>(
     ensures { (kind : FileKind) (root : Node) → map site_of sites.now ≡ uses.sites_in kind root
         → AreCallsOf kind root calls.now
         → IfOk result (λ v. map answered_of v.items
-        ≡ answering.answered (uses.calls_in kind root) (map (λ a. option_copied a) answers.now)) }
+        ≡ answering.calls_with_answers (uses.calls_in kind root) (map (λ a. option_copied a) answers.now)) }
 {
     answered_at(alloc, sites, calls, answers)
 }

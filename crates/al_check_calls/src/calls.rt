@@ -45,7 +45,8 @@ pub(crate) fn called_signature<'a>(
     answer: Option<&'a Interface>,
 ) -> Option<&'a Signature>
     ensures { option_copied result
-        ≡ meant.called_signature (call_of call.entry) (option_copied answer.entry) }
+        ≡ meant.callable_signature (meant.caller_of (call_of call.entry))
+        (option_copied answer.entry) }
 {
     callable_signature(caller_of(call), answer)
 }

@@ -12,7 +12,7 @@ ghost use Rattle.al_check_expressions.specs.FileExpressions as expressions;
 ghost use Rattle.al_check_contexts.specs.Answered.{known_of};
 ghost use Rattle.al_base.specs.Growth.{SameSet};
 ghost use Rattle.al_base.specs.Limits.{largest_file};
-ghost use Rattle.al_check_interfaces.specs.Kept.{AreCallsOf};
+ghost use Rattle.al_check_interfaces.specs.FolderCalls.{AreCallsOf};
 ghost use Rattle.al_check_interfaces.specs.Uses as uses;
 ghost use Rattle.al_yaml_tree.specs.Spans.{IsLaid};
 ghost use Rattle.al_yaml_tree.specs.Texts.{HasTexts};

@@ -1,16 +1,16 @@
 //! What answers make known.
-ghost use Rattle.std.specs.Prelude.{◌≡◌, ◌++◌, map, is_some, IfOk, OnOk};
-ghost use Rattle.std.specs.Option.{option_copied, option_to_list};
+ghost use Rattle.std.specs.Prelude.{◌≡◌, map, is_some, IfOk, Some};
 ghost use Rattle.al_check_calls.specs.Outputs.{outputs_behind};
 ghost use Rattle.al_check_calls.specs.Private.AnswerViews.{answered_of};
 ghost use Rattle.al_check_contexts.specs.Answered.{known_in, known_of};
 ghost use Rattle.al_check_calls.specs.FileCalls.{behind};
-ghost use Rattle.al_check_calls.specs.Private.KnownLists.{ArePlaced, Naming, StandsAt, Takes, behind_all, lists_of, position_of};
+ghost use Rattle.al_check_calls.specs.Private.KnownLists.{ArePlaced, Naming, Takes, behind_all, position_of};
 ghost use Rattle.al_check_calls.specs.Private.Comparing.{AreToldByUses};
 ghost use Rattle.al_yaml_tree.specs.View.{view};
 
 use crate::answers::Answered;
 use crate::outputs::outputs_of;
+use crate::reports::uses_text;
 use al_check_contexts::{Answer, Answers, File};
 use al_check_interfaces::NameList;
 use al_tree::FileKind;
@@ -21,8 +21,8 @@ use std::collections::BTreeMap;
 /// The lists of names of the outputs behind calls. Steps that call by one text share a list, and so do jobs.
 #[derive(Drop)]
 struct Lists<'a> {
-    /// The positions among the lists by whether a step calls, and by which text; none where nothing is known of the outputs.
-    positions: BTreeMap<(bool, &'a [u8]), Option<usize>>,
+    /// The positions among the lists by whether a step calls, and by which text.
+    positions: BTreeMap<(bool, &'a [u8]), usize>,
     lists: Vec<&'a NameList>,
 }
 
@@ -36,61 +36,63 @@ impl<'a> Lists<'a> {
         }
     }
 
-    /// The position of the outputs behind the calls by a text, if it is known.
-    fn known_position(&self, of_step: bool, text: &'a [u8]) -> Option<Option<usize>>
+    /// The position of the outputs behind the calls by a text, if they have one.
+    fn known_position(&self, of_step: bool, text: &'a [u8]) -> Option<usize>
         ensures { result ≡ position_of self.now of_step text.entry.now }
     {
         self.positions.get(&(of_step, text)).copied()
     }
 
-    /// Puts names behind the others, and answers their position. Fails with `AllocError` when out of memory, as all here.
-    fn push(&mut self, names: Option<&'a NameList>) -> Result<Option<usize>, AllocError>
-        ensures lists { OnOk result (lists_of self.new ≡ lists_of self.old
-            ++ option_to_list (option_copied names.entry)) }
-        ensures position { IfOk result
-            (λ position. StandsAt (lists_of self.new) position (option_copied names.entry)) }
-        ensures positions { (self.new).positions ≡ (self.old).positions }
-    {
-        match names {
-            Some(list) => {
-                let position = self.lists.len();
-                self.lists.push(list)?;
-                Ok(Some(position))
-            }
-            None => Ok(None),
-        }
-    }
-
-    /// Adds the names of the outputs behind the calls by a text that has no position, and answers it.
+    /// Adds the names of the outputs behind the calls by a text that has no position, and answers it. Fails with `AllocError` when out of
+    /// memory, as all here.
     fn add(
         &mut self,
         of_step: bool,
         text: &'a [u8],
-        names: Option<&'a NameList>,
-    ) -> Result<Option<usize>, AllocError>
+        names: &'a NameList,
+    ) -> Result<usize, AllocError>
         ensures { IfOk result
             (λ position. Takes self.old self.new of_step text.entry.now
-            (option_copied names.entry) position) }
+            (Some names.entry.now) (Some position)) }
     {
-        let position = self.push(names)?;
+        let position = self.lists.len();
+        self.lists.push(names)?;
         self.positions.insert((of_step, text), position)?;
         Ok(position)
     }
 
-    /// The position of the outputs behind a call.
+    /// The position of the names of the outputs behind the calls by a text.
+    fn position_by(
+        &mut self,
+        of_step: bool,
+        text: &'a [u8],
+        names: &'a NameList,
+    ) -> Result<usize, AllocError>
+        ensures { IfOk result
+            (λ position. Takes self.old self.new of_step text.entry.now
+            (Some names.entry.now) (Some position)) }
+    {
+        match self.known_position(of_step, text) {
+            Some(known) => Ok(known),
+            None => {
+                let added = self.add(of_step, text, names)?;
+                Ok(added)
+            }
+        }
+    }
+
+    /// The position of the outputs behind a call; none where nothing is known of them.
     fn position(&mut self, answered: Answered<'a>) -> Result<Option<usize>, AllocError>
         ensures { let a = answered_of answered.entry in IfOk result
             (λ position. Takes self.old self.new (is_some a.call.site.step) a.call.text
             (outputs_behind a) position) }
     {
-        let call = answered.call;
-        let of_step = call.site.step.is_some();
-        let text = call.uses.scalar.text();
-        match self.known_position(of_step, text) {
-            Some(known) => Ok(known),
-            None => {
-                let added = self.add(of_step, text, outputs_of(answered))?;
-                Ok(added)
+        match outputs_of(answered) {
+            None => Ok(None),
+            Some(names) => {
+                let of_step = answered.call.site.step.is_some();
+                let position = self.position_by(of_step, uses_text(answered.call), names)?;
+                Ok(Some(position))
             }
         }
     }

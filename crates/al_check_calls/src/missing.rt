@@ -1,6 +1,8 @@
 //! Names that calls have to give and don't: C3 and C6. They are said at `uses`, in words that name the parameter alone; so of calls alike
 //! by one `uses` a parameter is looked up as long as all of them so far have given it, and is said where the first doesn't.
 ghost use Rattle.std.specs.Prelude.{◌≡◌, ◌++◌, ◌∷◌, [], map, IfOk, IfSome, OnOk};
+ghost use Rattle.al_base.specs.NamePlaces.{name_place, name_position};
+ghost use Rattle.al_tree_declarations.specs.Declarations.{names_of};
 ghost use Rattle.std.specs.List.{flat_map};
 ghost use Rattle.std.specs.List.Sorted.{IsPermutation};
 ghost use Rattle.al_base.specs.Growth.{SameSet};
@@ -8,40 +10,48 @@ ghost use Rattle.al_check_calls.specs.CallFaults as meant;
 ghost use Rattle.al_check_calls.specs.Private.AnswerViews.{compared_of};
 ghost use Rattle.al_check_calls.specs.Private.Comparing as comparing;
 ghost use Rattle.al_check_calls.specs.Private.Comparing.{HaveOneSignature, IsSaid, TellSignatures};
-ghost use Rattle.al_tree_declarations.specs.NameSets.{holds};
 ghost use Rattle.al_tree.specs.Values.{member_of};
 
 use crate::comparisons::{Comparison, call_alike, given_by};
 use crate::reports::{called_name, caller_of, code_at, uses_span};
-use al_base::{CallCode, Caller, FaultSink};
+use al_base::{CallCode, Caller, FaultSink, NamePositions};
 use al_check_interfaces::{Parameter, ParameterKind};
 use al_tree::{Member, key_text};
-use al_tree_declarations::NameSet;
 use std::alloc::{AllocError, Global};
 
 /// A call, and the names that it gives.
 #[derive(Drop)]
 struct Giver<'a> {
     call: Comparison<'a>,
-    names: NameSet,
+    names: NamePositions,
 }
 
-/// The keys of members.
-#[tactic(auto, using(al_tree_declarations::proofs::NameLemmas::named_more))]
-fn names_in(alloc: Global, given: &[Member<'_>]) -> Result<NameSet, AllocError>
-    ensures { IfOk result (λ s. holds s ≡ meant.given_names (map member_of given.now)) }
+/// The texts of the keys of members.
+fn texts_of<'a>(alloc: Global, given: &[Member<'a>]) -> Result<Vec<&'a [u8]>, AllocError>
+    ensures { IfOk result (λ v. map (λ n. n.now) v.items ≡ names_of (map member_of given.now)) }
 {
-    let mut names = NameSet::new(alloc);
+    let mut texts = Vec::with_capacity(alloc, given.len())?;
     for member in given {
-        let _ = names.insert(alloc, key_text(member.key))?;
+        texts.push(key_text(member.key))?;
     }
+    Ok(texts)
+}
+
+/// The keys of members, as names.
+fn names_in(alloc: Global, given: &[Member<'_>]) -> Result<NamePositions, AllocError>
+    ensures { IfOk result
+        (λ p. name_position p ≡ name_place (names_of (map member_of given.now))) }
+{
+    let texts = texts_of(alloc, given)?;
+    let names = NamePositions::of(alloc, texts.as_slice())?;
     Ok(names)
 }
 
 fn giver_of<'a>(alloc: Global, call: Comparison<'a>) -> Result<Giver<'a>, AllocError>
     ensures call { IfOk result (λ g. compared_of g.call ≡ compared_of call.entry) }
     ensures names { let q = compared_of call.entry in IfOk result
-        (λ g. holds g.names ≡ meant.given_names (meant.given_by q.kind q.call.site.node)) }
+        (λ g. name_position g.names
+        ≡ name_place (names_of (meant.given_by q.kind q.call.site.node))) }
 {
     let given = given_by(alloc, call.kind, call.call.site.node)?;
     let names = names_in(alloc, given.as_slice())?;
@@ -72,6 +82,17 @@ fn report_missing(
     faults.report_two(uses_span(call.call), code, name, called)
 }
 
+/// Whether a call gives a parameter.
+fn is_given(alloc: Global, giver: &Giver<'_>, parameter: &Parameter) -> Result<bool, AllocError>
+    requires { let q = compared_of giver.now.call in name_position giver.now.names
+        ≡ name_place (names_of (meant.given_by q.kind q.call.site.node)) }
+    ensures { IfOk result
+        (λ b. b ≡ comparing.gives (compared_of giver.now.call) parameter.now) }
+{
+    let position = giver.names.get(alloc, parameter.name.as_bytes())?;
+    Ok(position.is_some())
+}
+
 /// C3 or C6 of a parameter, which is left if the call gives it.
 fn check_parameter<'a>(
     giver: &Giver<'_>,
@@ -79,16 +100,15 @@ fn check_parameter<'a>(
     left: &mut Vec<&'a Parameter>,
     faults: &mut FaultSink,
 ) -> Result<(), AllocError>
-    requires { let q = compared_of giver.now.call in holds giver.now.names
-        ≡ meant.given_names (meant.given_by q.kind q.call.site.node) }
+    requires { let q = compared_of giver.now.call in name_position giver.now.names
+        ≡ name_place (names_of (meant.given_by q.kind q.call.site.node)) }
     ensures faults { OnOk result (faults.new ≡ faults.old
         ++ comparing.fault_unless_given (compared_of giver.now.call) parameter.entry.now) }
     ensures left { OnOk result (map (λ p. p.now) left.new.items
         ≡ map (λ p. p.now) left.old.items
         ++ comparing.parameter_if_given (compared_of giver.now.call) parameter.entry.now) }
 {
-    let name = parameter.name.as_bytes();
-    if giver.names.contains(faults.alloc(), name)? {
+    if is_given(faults.alloc(), giver, parameter)? {
         left.push(parameter)?;
         return Ok(());
     }
@@ -96,7 +116,7 @@ fn check_parameter<'a>(
 }
 
 /// Adds C3 and C6 of these parameters, and answers those that the call gives.
-fn check_parameters<'a>(
+fn check_each_parameter<'a>(
     call: Comparison<'_>,
     parameters: &[&'a Parameter],
     faults: &mut FaultSink,
@@ -114,6 +134,28 @@ fn check_parameters<'a>(
         check_parameter(&giver, *parameter, &mut left, faults)?;
     }
     Ok(left)
+}
+
+/// Likewise; where there are none, what the call gives isn't looked at.
+fn check_parameters<'a>(
+    call: Comparison<'_>,
+    parameters: &[&'a Parameter],
+    faults: &mut FaultSink,
+) -> Result<Vec<&'a Parameter>, AllocError>
+    ensures faults { OnOk result (faults.new ≡ faults.old
+        ++ flat_map (comparing.fault_unless_given (compared_of call.entry))
+        (map (λ p. p.now) parameters.now)) }
+    ensures left { IfOk result (λ v. map (λ p. p.now) v.items
+        ≡ flat_map (comparing.parameter_if_given (compared_of call.entry))
+        (map (λ p. p.now) parameters.now)) }
+{
+    match parameters {
+        [] => Ok(Vec::new(faults.alloc())),
+        _ => {
+            let left = check_each_parameter(call, parameters, faults)?;
+            Ok(left)
+        }
+    }
 }
 
 /// Whether calls alike are by one `uses`.

@@ -5,17 +5,18 @@ ghost use Rattle.al_check_calls.specs.Private.AnswerViews.{answered_of};
 ghost use Rattle.al_check_calls.specs.Outputs.{outputs_behind, shows_outputs};
 
 use crate::answers::Answered;
-use crate::reports::caller_of;
-use al_base::Caller;
-use al_check_interfaces::{Interface, NameList, Role};
+use crate::calls::called_signature;
+use al_check_interfaces::{NameList, Role};
 
-/// Whether the outputs of such a file are those of a step, or of a job, that calls it.
-fn has_outputs(caller: Caller, role: Role) -> bool
-    ensures { result ≡ shows_outputs caller role }
+/// Whether a file shows its outputs: an action that isn't composite doesn't show all that its code sets.
+fn has_outputs(role: Role) -> bool
+    ensures { result ≡ shows_outputs role }
 {
-    match caller {
-        Caller::Step => matches!(role, Role::Composite),
-        Caller::Job => matches!(role, Role::Callable),
+    match role {
+        Role::Action => false,
+        Role::Workflow => true,
+        Role::Callable => true,
+        Role::Composite => true,
     }
 }
 
@@ -24,11 +25,10 @@ fn has_outputs(caller: Caller, role: Role) -> bool
 pub(crate) fn outputs_of<'a>(answered: Answered<'a>) -> Option<&'a NameList>
     ensures { option_copied result ≡ outputs_behind (answered_of answered.entry) }
 {
-    match answered.answer {
+    match called_signature(answered.call, answered.answer) {
         None => None,
-        Some(Interface::Unreadable) => None,
-        Some(Interface::Readable(signature)) => {
-            if has_outputs(caller_of(answered.call), signature.role) {
+        Some(signature) => {
+            if has_outputs(signature.role) {
                 Some(&signature.outputs)
             } else {
                 None

@@ -1,6 +1,7 @@
 //! How faults of calls are reported.
-ghost use Rattle.std.specs.Prelude.{◌≡◌, ◌++◌, OnOk};
+ghost use Rattle.std.specs.Prelude.{◌≡◌, ◌++◌, ◌∷◌, [], OnOk};
 ghost use Rattle.al_check_calls.specs.CallFaults as meant;
+ghost use Rattle.al_check_interfaces.specs.Uses.{that_uses};
 ghost use Rattle.al_check_calls.specs.Private.AnswerViews.{call_of};
 
 use crate::answers::SiteCall;
@@ -52,7 +53,7 @@ pub(crate) fn report_uses(
     code: CallCode,
     faults: &mut FaultSink,
 ) -> Result<(), AllocError>
-    ensures { OnOk result (faults.new ≡ faults.old ++ meant.that_uses code (call_of call.entry)) }
+    ensures { OnOk result (faults.new ≡ faults.old ++ that_uses code (call_of call.entry) ∷ []) }
 {
     faults.report_text(uses_span(call), code_at(call, code), uses_text(call))
 }

@@ -1,5 +1,5 @@
 //! What a job gives under `with`, each value with its type.
-ghost use Rattle.std.specs.Prelude.{◌≡◌, map, true, IfOk, OnOk};
+ghost use Rattle.std.specs.Prelude.{◌≡◌, [], map, true, unwrap_or, IfOk, OnOk};
 ghost use Rattle.std.specs.Option.{option_copied};
 ghost use Rattle.al_base.specs.Growth.{BeginsWith};
 ghost use Rattle.al_check_calls.specs.Private.AnswerViews.{call_of, given_at, typing_in};
@@ -83,7 +83,7 @@ fn value_type<'a>(
 
 /// The text of a job's key; empty where there is none.
 fn text_or_empty<'a>(text: Option<&'a [u8]>) -> &'a [u8]
-    ensures { result.now ≡ file_calls.text_or_empty (option_copied text.entry) }
+    ensures { result.now ≡ unwrap_or (option_copied text.entry) [] }
 {
     match text {
         None => &[],

@@ -4,7 +4,8 @@ ghost use Rattle.std.specs.Option.{option_copied};
 ghost use Rattle.al_base.specs.declared.codes.Caller.TheVariants as by;
 ghost use Rattle.al_expr_types.specs.Types.{type_in};
 ghost use Rattle.al_tree.specs.Values.{member_of};
-ghost use Rattle.al_types.specs.Types.{Parts};
+ghost use Rattle.al_types.specs.Types.{Parts, assignable_type};
+ghost use Rattle.al_check_contexts.specs.Inputs.{input_type};
 ghost use Rattle.al_check_calls.specs.CallFaults as meant;
 ghost use Rattle.al_check_calls.specs.Private.AnswerViews.{call_of, given_in};
 
@@ -36,7 +37,8 @@ fn type_name(takes: InputType) -> &'static [u8]
 }
 
 fn is_right(ty: Ty, takes: InputType) -> bool
-    ensures { (ms : List Parts) → result ≡ meant.is_right (type_in ms ty) takes }
+    ensures { (ms : List Parts) → result
+        ≡ assignable_type (type_in ms ty) (input_type takes) }
 {
     let wanted = Ty {
         arrays: 0,

@@ -32,7 +32,7 @@ use Rattle.al_check_places.specs.Places.{Place, places_of}
 use Rattle.al_check_contexts.specs.Contexts.{Known}
 use Rattle.al_check_contexts.specs.Scopes.{scope_at}
 use Rattle.al_check_expressions.specs.FileExpressions.{expression_faults}
-use Rattle.al_check_expressions.specs.Contents.{chunk_faults, chunked_faults, collection_faults, content_faults, is_one_chunk, is_whole, located, moved, place_faults, tree_faults}
+use Rattle.al_check_expressions.specs.Contents.{chunk_faults, chunked_faults, collection_faults, content_faults, is_one_chunk, is_whole, span_in_file, fault_in_file, place_faults, tree_faults}
 use Rattle.al_expr_grammar.specs.Inside.{AllLie}
 use Rattle.al_check_expressions.specs.Inside.{IsThere}
 use Rattle.al_check_expressions.specs.Spelled.{tree_in, tree_of_content, tree_of_tokens}
@@ -82,10 +82,10 @@ module _ (size : ℕ) (s : Scalar) (at : Span) (there : LiesIn size at) (p : IsP
       let up : offset_of s i ≤ offset_of s (j - 1) = rise s.cells at.start (reach 1048576 s.style s.end) s.end i (j - 1) p.rising (omega (arith, apart)) (omega (arith, apart, h, same)) in
       record { ordered = omega (arith, up); inside = omega (arith, last) }
 
-  located_lies : (i j : ℕ) → i ≤ j → j ≤ length (text_of s) → LiesIn size (located s i j)
+  located_lies : (i j : ℕ) → i ≤ j → j ≤ length (text_of s) → LiesIn size (span_in_file s i j)
   located_lies i j o h = located_at (nat_eq i j) i j refl o h
 
-  moved_lie : (by n : ℕ) (fs : List Fault) → AllLie n fs → by + n ≤ length (text_of s) → AllLie size (map (moved s by) fs)
+  moved_lie : (by n : ℕ) (fs : List Fault) → AllLie n fs → by + n ≤ length (text_of s) → AllLie size (map (fault_in_file s by) fs)
   moved_lie by n [] l h = tt
   moved_lie by n (f ∷ fs) l h =
       let o = (l.0).ordered in
@@ -155,15 +155,15 @@ module _ (size : ℕ) (sc : Scope) (only : Bool) (s : Scalar) (at : Span) (there
   chunked_lies =
       let all = chunks_lie (text_of s) in
       both_lie size (flat_map (chunk_faults sc only s) (chunks_of (text_of s)).chunks)
-      (map (moved s 0) (option_to_list (chunks_of (text_of s)).fault)) (each_chunk (chunks_of (text_of s)).chunks all.0)
+      (map (fault_in_file s 0) (option_to_list (chunks_of (text_of s)).fault)) (each_chunk (chunks_of (text_of s)).chunks all.0)
       (moved_lie size s at there p from 0 (length (text_of s)) (option_to_list (chunks_of (text_of s)).fault) all.1 (omega arith))
 
-  whole_lies : AllLie size (map (moved s 0) (content_faults sc true only (text_of s)))
+  whole_lies : AllLie size (map (fault_in_file s 0) (content_faults sc true only (text_of s)))
   whole_lies = moved_lie size s at there p from 0 (length (text_of s)) (content_faults sc true only (text_of s)) (content_lies sc true only (text_of s)) (omega arith)
 
 place_lies : (size : ℕ) (sc : Scope) (p : Place) → IsThere size p → AllLie size (place_faults sc p)
 place_lies size sc p is =
-    if_lie size (is_whole p) (map (moved p.word 0) (content_faults sc true p.is_scalar_only (text_of p.word))) (chunked_faults sc p.is_scalar_only p.word (chunks_of (text_of p.word)))
+    if_lie size (is_whole p) (map (fault_in_file p.word 0) (content_faults sc true p.is_scalar_only (text_of p.word))) (chunked_faults sc p.is_scalar_only p.word (chunks_of (text_of p.word)))
     (whole_lies size sc p.is_scalar_only p.word p.at is.span is.placed is.from) (chunked_lies size sc p.is_scalar_only p.word p.at is.span is.placed is.from)
 
 all_places : (size : ℕ) (f : Place → Scope) (ps : List Place) → AllByRecursion (IsThere size) ps → AllLie size (flat_map (λ p. place_faults (f p) p) ps)

@@ -8,7 +8,7 @@ use Rattle.al_scalar.specs.Scalar.{text_of}
 use Rattle.al_tree.specs.Faults.{has_chunk}
 use Rattle.al_types.specs.Scopes.{Scope}
 use Rattle.al_check_places.specs.Places.{Place}
-use Rattle.al_check_expressions.specs.Contents.{chunked_faults, content_faults, moved, place_faults}
+use Rattle.al_check_expressions.specs.Contents.{chunked_faults, content_faults, fault_in_file, place_faults}
 
 closed_or : (a b : Bool) → (a || b) ≡ false → a ≡ false
 closed_or false b h = refl
@@ -35,6 +35,6 @@ without_chunks (b ∷ bs) h = ap (with_opening (chunks_within (length bs)) 0 (b 
 
 pub plain : (sc : Scope) (p : Place) → p.is_condition ≡ false → has_chunk (text_of p.word) ≡ false → place_faults sc p ≡ []
 plain sc p none without =
-    ap (λ t. cond (t && not (has_chunk (text_of p.word))) (map (moved p.word 0) (content_faults sc true p.is_scalar_only (text_of p.word)))
+    ap (λ t. cond (t && not (has_chunk (text_of p.word))) (map (fault_in_file p.word 0) (content_faults sc true p.is_scalar_only (text_of p.word)))
     (chunked_faults sc p.is_scalar_only p.word (chunks_of (text_of p.word)))) none
     ∙ ap (chunked_faults sc p.is_scalar_only p.word) (without_chunks (text_of p.word) without)

@@ -31,14 +31,14 @@ abbrev pub HasRoom : Scalar → Type 0
 HasRoom s = (i : ℕ) → offset_of s i + 1 < 2 ^ 32
 
 -- the span in the file of the bytes of a scalar's text from one index up to another; an empty one is at the first
-abbrev pub located : Scalar → ℕ → ℕ → Span
-located s i j =
+abbrev pub span_in_file : Scalar → ℕ → ℕ → Span
+span_in_file s i j =
     if i == j then record { start = offset_of s i; end = offset_of s i }
     else record { start = offset_of s i; end = offset_of s (j - 1) + 1 }
 
 -- a fault of a content that begins at an index
-abbrev pub moved : Scalar → ℕ → Fault → Fault
-moved s by f = record f { span = located s (by + f.span.start) (by + f.span.end) }
+abbrev pub fault_in_file : Scalar → ℕ → Fault → Fault
+fault_in_file s by f = record f { span = span_in_file s (by + f.span.start) (by + f.span.end) }
 
 -- X18: an object or array, beside other text or where only a scalar is taken
 abbrev pub collection_faults : Bool → Bool → Type' → Tree → List Fault
@@ -56,10 +56,12 @@ content_faults sc is_alone is_scalar_only bytes =
 
 abbrev pub chunk_faults : Scope → Bool → Scalar → Span → List Fault
 chunk_faults sc is_scalar_only s c =
-    map (moved s c.start) (content_faults sc (is_one_chunk (text_of s)) is_scalar_only (slice_range (text_of s) c.start c.end))
+    map (fault_in_file s c.start)
+    (content_faults sc (is_one_chunk (text_of s)) is_scalar_only (slice_range (text_of s) c.start c.end))
 
 abbrev pub chunked_faults : Scope → Bool → Scalar → Chunked → List Fault
-chunked_faults sc is_scalar_only s cs = flat_map (chunk_faults sc is_scalar_only s) cs.chunks ++ map (moved s 0) (option_to_list cs.fault)
+chunked_faults sc is_scalar_only s cs =
+    flat_map (chunk_faults sc is_scalar_only s) cs.chunks ++ map (fault_in_file s 0) (option_to_list cs.fault)
 
 -- a condition without `${{` is one expression
 abbrev pub is_whole : Place → Bool
@@ -67,5 +69,6 @@ is_whole p = p.is_condition && not (has_chunk (text_of p.word))
 
 abbrev pub place_faults : Scope → Place → List Fault
 place_faults sc p =
-    if is_whole p then map (moved p.word 0) (content_faults sc true p.is_scalar_only (text_of p.word))
+    if is_whole p
+    then map (fault_in_file p.word 0) (content_faults sc true p.is_scalar_only (text_of p.word))
     else chunked_faults sc p.is_scalar_only p.word (chunks_of (text_of p.word))

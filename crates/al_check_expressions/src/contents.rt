@@ -11,7 +11,7 @@ ghost use Rattle.al_expr_types.specs.Types.{type_in};
 ghost use Rattle.al_expr_typing.specs.Scopes.{IsShown, scope_at};
 ghost use Rattle.al_check_expressions.specs.Contents as contents;
 ghost use Rattle.al_check_expressions.specs.Contents.{chunk_faults, chunked_faults, content_faults, is_one_chunk};
-ghost use Rattle.al_check_expressions.specs.Contents.{is_whole_span, moved, place_faults, tree_faults, HasRoom};
+ghost use Rattle.al_check_expressions.specs.Contents.{is_whole_span, fault_in_file, place_faults, tree_faults, HasRoom};
 ghost use Rattle.al_check_expressions.specs.Inside.{IsReadable};
 ghost use Rattle.al_expr_grammar.specs.Chunks.{chunks_of, span_of_chunk, IsCutFrom};
 ghost use Rattle.al_check_places.specs.Places.{place_of};
@@ -43,7 +43,7 @@ fn offset(scalar: &Scalar, i: usize) -> u32
 /// The span in the file of the bytes of a scalar's text from one index up to another.
 fn span_in_file(scalar: &Scalar, i: usize, j: usize) -> Span
     requires { HasRoom scalar.now }
-    ensures { result ≡ contents.located scalar.now i j }
+    ensures { result ≡ contents.span_in_file scalar.now i j }
 {
     let start = offset(scalar, i);
     if i == j {
@@ -125,7 +125,7 @@ fn check_content(
 fn move_fault(scalar: &Scalar, by: usize, fault: Fault) -> Fault
     requires room { HasRoom scalar.now }
     requires fits { by < 2 ^ 32 }
-    ensures { result ≡ moved scalar.now by fault }
+    ensures { result ≡ fault_in_file scalar.now by fault }
 {
     Fault {
         span: span_in_file(
@@ -147,7 +147,7 @@ fn move_faults(
 ) -> Result<(), AllocError>
     requires room { HasRoom scalar.now }
     requires fits { by < 2 ^ 32 }
-    ensures { OnOk result (faults.new ≡ faults.old ++ map (moved scalar.now by) found.items) }
+    ensures { OnOk result (faults.new ≡ faults.old ++ map (fault_in_file scalar.now by) found.items) }
 {
     for fault in found {
         faults.push(move_fault(scalar, by, fault))?;
@@ -252,7 +252,7 @@ fn check_whole(
     requires shown { IsShown types.old scope.now }
     requires readable { IsReadable (place_of place.now) }
     ensures ok { OnOk result
-        (faults.new ≡ faults.old ++ map (moved place.now.scalar.now 0) (content_faults
+        (faults.new ≡ faults.old ++ map (fault_in_file place.now.scalar.now 0) (content_faults
         (scope_at types.old scope.now) true place.now.is_scalar_only
         (text_of place.now.scalar.now))) }
     ensures kept { BeginsWith (objects_of types.new) (objects_of types.old) }

@@ -8,8 +8,8 @@ use Rattle.std.proofs.lemmas.Option.{slice_get-get_or, slice_get-map}
 use Rattle.al_base.specs.declared.codes.CallCode.TheVariants as code
 use Rattle.al_base.specs.declared.faults.Fault.{Fault}
 use Rattle.al_session_folder.specs.declared.lint.Target.{Target}
-use Rattle.al_check_interfaces.specs.Kept.{Kept, kept, seen}
-use Rattle.al_check_interfaces.specs.Uses.{Call, Site, loop_fault, loop_faults, target_in, targets_of, that_uses}
+use Rattle.al_check_interfaces.specs.FolderCalls.{FolderCall, as_folder_call, folder_call}
+use Rattle.al_check_interfaces.specs.Uses.{Call, Site, loop_faults, target_in, targets_of, that_uses}
 use Rattle.al_check_interfaces.specs.declared.calls.Call as code_calls
 use Rattle.al_check_interfaces.specs.declared.forms.Form.TheVariants.{Local}
 
@@ -54,36 +54,39 @@ at_number v xs i x room is = slice_get-map v xs i ∙ ap (option_map v) (slice_g
 
 -- a call that is kept
 pub local_added : (c : Call) (t : Target) (number : ℕ) (fault : Fault) (all : List Site) (old new : List code_calls.Call) → c.form ≡ Local t → slice_get all number ≡ Some c.site →
-    fault ≡ that_uses code.LeadsBack c → new ≡ old ++ record { site = number; target = t; fault = fault } ∷ [] → map (seen all) new ≡ map (seen all) old ++ cons_option (kept c) []
+    fault ≡ that_uses code.LeadsBack c → new ≡ old ++ record { site = number; target = t; fault = fault } ∷ [] →
+    map (folder_call all) new ≡ map (folder_call all) old ++ cons_option (as_folder_call c) []
 local_added c t number fault all old new form at said more =
-    ap (map (seen all)) more ∙ map-append (seen all) old (record { site = number; target = t; fault = fault } ∷ []) ∙ (λ i. map (seen all) old ++ (at i, t, said i) ∷ [])
-    ∙ ap (λ f. map (seen all) old ++ cons_option (option_map (λ x. (Some c.site, x, that_uses code.LeadsBack c)) (target_in f)) []) (sym form)
+    ap (map (folder_call all)) more ∙ map-append (folder_call all) old (record { site = number; target = t; fault = fault } ∷ []) ∙ (λ i. map (folder_call all) old ++ (at i, t, said i) ∷ [])
+    ∙ ap (λ f. map (folder_call all) old ++ cons_option (option_map (λ x. (Some c.site, x, that_uses code.LeadsBack c)) (target_in f)) []) (sym form)
 
 -- what kept calls call, and what is said of them
-of_kept : {X : Type 0} (f : Kept → X) (g : Call → Option X) → ((c : Call) → option_map f (kept c) ≡ g c) → (cs : List Call) → map f (filter_map kept cs) ≡ filter_map g cs
+of_kept : {X : Type 0} (f : FolderCall → X) (g : Call → Option X) → ((c : Call) → option_map f (as_folder_call c) ≡ g c) → (cs : List Call) → map f (filter_map as_folder_call cs) ≡ filter_map g cs
 of_kept f g h [] = refl
-of_kept f g h (c ∷ cs) = put (kept c) (of_kept f g h cs) ∙ ap (λ o. cons_option o (filter_map g cs)) (h c)
+of_kept f g h (c ∷ cs) = put (as_folder_call c) (of_kept f g h cs) ∙ ap (λ o. cons_option o (filter_map g cs)) (h c)
   where
-    put : (o : Option Kept) → map f (filter_map kept cs) ≡ filter_map g cs → map f (cons_option o (filter_map kept cs)) ≡ cons_option (option_map f o) (filter_map g cs)
+    put : (o : Option FolderCall) → map f (filter_map as_folder_call cs) ≡ filter_map g cs → map f (cons_option o (filter_map as_folder_call cs)) ≡ cons_option (option_map f o) (filter_map g cs)
     put None rest = rest
     put (Some k) rest = ap (λ l. f k ∷ l) rest
 
-map_seen : {X : Type 0} (f : Kept → X) (all : List Site) (calls : List code_calls.Call) → map f (map (seen all) calls) ≡ map (λ c. f (seen all c)) calls
+map_seen : {X : Type 0} (f : FolderCall → X) (all : List Site) (calls : List code_calls.Call) → map f (map (folder_call all) calls) ≡ map (λ c. f (folder_call all c)) calls
 map_seen f all [] = refl
-map_seen f all (c ∷ calls) = ap (λ l. f (seen all c) ∷ l) (map_seen f all calls)
+map_seen f all (c ∷ calls) = ap (λ l. f (folder_call all c) ∷ l) (map_seen f all calls)
 
-module _ (all : List Site) (cs : List Call) (calls : List code_calls.Call) (are : map (seen all) calls ≡ filter_map kept cs) where
+module _ (all : List Site) (cs : List Call) (calls : List code_calls.Call) (are : map (folder_call all) calls ≡ filter_map as_folder_call cs) where
   pub kept_targets : map (λ c. c.target) calls ≡ targets_of cs
   kept_targets = sym (map_seen (λ k. k.1) all calls) ∙ ap (map (λ k. k.1)) are ∙ of_kept (λ k. k.1) (λ c. target_in c.form) (λ c. by (target_in c.form) c) cs
     where
-      by : (o : Option Target) (c : Call) → option_map (λ (k : Kept). k.1) (option_map (λ t. (Some c.site, t, that_uses code.LeadsBack c)) o) ≡ o
+      by : (o : Option Target) (c : Call) → option_map (λ (k : FolderCall). k.1) (option_map (λ t. (Some c.site, t, that_uses code.LeadsBack c)) o) ≡ o
       by None c = refl
       by (Some t) c = refl
 
   pub kept_faults : map (λ c. c.fault) calls ≡ loop_faults cs
-  kept_faults = sym (map_seen (λ k. k.2) all calls) ∙ ap (map (λ k. k.2)) are ∙ of_kept (λ k. k.2) loop_fault (λ c. by (target_in c.form) c) cs
+  kept_faults =
+      sym (map_seen (λ k. k.2) all calls) ∙ ap (map (λ k. k.2)) are
+      ∙ of_kept (λ k. k.2) (λ c. option_map (λ t. that_uses code.LeadsBack c) (target_in c.form)) (λ c. by (target_in c.form) c) cs
     where
-      by : (o : Option Target) (c : Call) → option_map (λ (k : Kept). k.2) (option_map (λ t. (Some c.site, t, that_uses code.LeadsBack c)) o)
+      by : (o : Option Target) (c : Call) → option_map (λ (k : FolderCall). k.2) (option_map (λ t. (Some c.site, t, that_uses code.LeadsBack c)) o)
           ≡ option_map (λ t. that_uses code.LeadsBack c) o
       by None c = refl
       by (Some t) c = refl

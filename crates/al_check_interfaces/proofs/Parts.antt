@@ -15,7 +15,7 @@ use Rattle.al_tree.specs.Files.{jobs_of}
 use Rattle.al_tree.specs.declared.files.FileKind.{FileKind}
 use Rattle.al_tree.specs.declared.files.FileKind.TheVariants as kind
 use Rattle.al_tree_declarations.specs.Declarations.{action_steps, is_composite}
-use Rattle.al_check_interfaces.specs.Uses.{Call, Site, call_at, call_by, calls_in, job_sites, sites_in, step_site, step_sites}
+use Rattle.al_check_interfaces.specs.Uses.{Call, Site, call_at, call_by, calls_in, job_sites, sites_in, step_sites}
 
 numbered : {X : Type 0} (P : X → Type 0) (i : ℕ) (xs : List X) → AllByRecursion P xs → AllByRecursion (λ s. P s.1) (enumerate_from i xs)
 numbered P i [] p = tt
@@ -86,7 +86,7 @@ module _ (P : Node → Type 0) (Q : Scalar × Span → Type 0) (kept : IsKept P)
   IsSiteKept s = P s.node
 
   steps_kept : (job : Option (List ℕ)) (steps : List Node) → AllByRecursion P steps → AllByRecursion IsSiteKept (step_sites job steps)
-  steps_kept job steps p = each_as (λ s. P s.1) IsSiteKept (step_site job) (λ s q. q) (enumerate_from 0 steps) (numbered P 0 steps p)
+  steps_kept job steps p = each_as (λ s. P s.1) IsSiteKept (λ s. record { job = job; step = Some s.0; node = s.1 }) (λ s q. q) (enumerate_from 0 steps) (numbered P 0 steps p)
 
   job_kept : (j : Node × Node) → Pair j → AllByRecursion IsSiteKept (job_sites j)
   job_kept j p = (p.1, steps_kept (Some (key_of j)) (items_at (codes "steps") j.1) (items_kept (codes "steps") j.1 p.1))

@@ -19,8 +19,8 @@ use Rattle.al_tree.specs.declared.files.FileKind.TheVariants as kind
 use Rattle.al_tree_declarations.specs.Declarations.{declared_below, declared_in, first_named, has_value, named_among, names_of, says}
 use Rattle.al_tree_declarations.specs.Inputs.{input_named, input_of}
 use Rattle.al_tree_declarations.specs.declared.inputs.InputType.TheVariants as input
-use Rattle.al_check_interfaces.specs.Interfaces.{action_role, has_default, is_required, is_true, name_of}
-use Rattle.al_check_interfaces.specs.Interfaces.{names_call, parameter, parameters, says_call, signature_of, type_taken, workflow_role}
+use Rattle.al_check_interfaces.specs.Interfaces.{has_default, is_required, is_true, name_of}
+use Rattle.al_check_interfaces.specs.Interfaces.{names_call, parameter, parameters, says_call, signature_of, type_taken}
 use Rattle.al_check_interfaces.specs.Placeless.{ShowsNoPlaces, ShowsNothingElse, placeless, placeless_entries, placeless_items, placeless_scalar}
 use Rattle.al_check_interfaces.specs.declared.interfaces.Interface.TheVariants.{Readable}
 use Rattle.al_check_interfaces.specs.declared.interfaces.Role.TheVariants as role
@@ -288,7 +288,7 @@ call_same n =
     ∙ ap (λ b. b || has_value (codes "workflow_call") (placeless n)) (any_call (texts_in n))
     ∙ ap (λ b. list_any says_call (texts_in n) || b) (has_same (codes "workflow_call") n)
 
-workflow_role_same : (n : Node) → workflow_role (placeless n) ≡ workflow_role n
+workflow_role_same : (n : Node) → (signature_of kind.Workflow (placeless n)).role ≡ (signature_of kind.Workflow n).role
 workflow_role_same n =
     ap (λ b. if b then role.Callable else role.Workflow)
     (ap (λ o. option_map_or names_call o false) (value_same (codes "on") n) ∙ tested names_call false call_same (value_at (codes "on") n))
@@ -305,7 +305,7 @@ says_same : (ks : List (List ℕ)) (text : List ℕ) (n : Node) → says ks text
 says_same ks text n =
     ap (λ o. option_map_or (says_text text) o false) (below_same ks n) ∙ tested (says_text text) false (says_text_same text) (value_below ks n)
 
-action_role_same : (n : Node) → action_role (placeless n) ≡ action_role n
+action_role_same : (n : Node) → (signature_of kind.Action (placeless n)).role ≡ (signature_of kind.Action n).role
 action_role_same n =
     ap (λ b. if b then role.Composite else role.Action) (says_same (codes "runs" ∷ codes "using" ∷ []) (codes "composite") n)
 

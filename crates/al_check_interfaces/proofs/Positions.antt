@@ -1,49 +1,42 @@
 -- Where inputs and secrets stand by their names, and which of them has a name.
-use Rattle.std.proofs.Common.{◌≡◌, ℕ, ◌+◌, ◌<◌, List, [], ◌∷◌, ◌++◌, Bool, true, false, ◌||◌, Option, Some, None, map, take, length, get_or, option_map, is_some, refl, ap, arith, sym, ◌∙◌}
-use Rattle.std.proofs.lemmas.List.{length-take, take_more}
+use Rattle.std.proofs.Common.{◌≡◌, ℕ, ◌+◌, ◌<◌, List, [], ◌∷◌, Bool, true, false, ◌||◌, Option, Some, None, map, length, get_or, option_map, is_some, refl, ap, sym, ◌∙◌}
 use Rattle.std.specs.Prelude.{find, if◌then◌else◌}
-use Rattle.std.specs.Option.{option_or}
 use Rattle.al_base.specs.Names.{same_name}
-use Rattle.al_base.specs.NamePlaces.{first_at}
-use Rattle.al_base.specs.NamePlaces.{and_name_at}
-use Rattle.al_base.proofs.NamePlaces.{find_first, first_more, first_within, found_nowhere}
+use Rattle.al_base.specs.NamePlaces.{first_at, name_place}
+use Rattle.al_base.proofs.NamePlaces.{find_first, found_nowhere, found_within}
 use Rattle.al_tree_declarations.specs.Declarations.{named_among}
-use Rattle.al_check_interfaces.specs.Private.Names.{has_name, positions_by}
+use Rattle.al_check_interfaces.specs.Parameters.{is_parameter}
+use Rattle.al_check_interfaces.specs.declared.interfaces.Parameter.{Parameter}
 
-there_step : (here : Bool) (o : Option ℕ) (more : Bool) → is_some o ≡ more → is_some (if here then Some 0 else option_map (λ i. i + 1) o) ≡ (here || more)
-there_step true o more h = refl
-there_step false None more h = h
-there_step false (Some i) more h = h
+place_step : (here : Bool) (o : Option ℕ) (more : Bool) → is_some o ≡ more → is_some (if here then Some 0 else option_map (λ i. i + 1) o) ≡ (here || more)
+place_step true o more h = refl
+place_step false None more h = h
+place_step false (Some i) more h = h
 
-module _ {A : Type 0} (name_of : A → List ℕ) where
-  -- the positions of elements, one further
-  pub positions_more : (xs : List A) (i : ℕ) (x : A) (old new : List ℕ → Option ℕ) → i < length xs → x ≡ get_or xs i x →
-      old ≡ positions_by name_of (take i xs) → new ≡ and_name_at old (name_of x) i → new ≡ positions_by name_of (take (i + 1) xs)
-  positions_more xs i x old new room is o n =
-      let len : i ≡ length (take i xs) = omega (arith, length-take i xs, room) in
-      let more : and_name_at (positions_by name_of (take i xs)) (name_of x) i ≡ positions_by name_of (take i xs ++ x ∷ []) =
-      λ d name.
-      (ap (λ m. option_or (first_at (has_name name_of name) (take i xs)) (if same_name (name_of x) name then Some m else None)) len
-      ∙ sym (first_more (has_name name_of name) (take i xs) x)) d
-      in
-      n ∙ ap (λ (f : List ℕ → Option ℕ). and_name_at f (name_of x) i) o ∙ more
-      ∙ ap (λ (l : List A). positions_by name_of l) (ap (λ y. take i xs ++ y ∷ []) is ∙ sym (take_more xs i x room))
+-- a name has a place among names where one of them is the name
+pub has_place : (ns : List (List ℕ)) (name : List ℕ) → is_some (name_place ns name) ≡ named_among ns name
+has_place [] name = refl
+has_place (n ∷ ns) name = place_step (same_name n name) (name_place ns name) (named_among ns name) (has_place ns name)
 
+abbrev names_of : List Parameter → List (List ℕ)
+names_of = map (λ p. p.name)
+
+place_of : (ps : List Parameter) (name : List ℕ) → name_place (names_of ps) name ≡ first_at (is_parameter name) ps
+place_of [] name = refl
+place_of (p ∷ ps) name = ap (λ o. if same_name p.name name then Some 0 else option_map (λ i. i + 1) o) (place_of ps name)
+
+module _ (ps : List Parameter) (positions : List ℕ → Option ℕ) (name : List ℕ) (are : positions ≡ name_place (names_of ps)) where
   -- what stands at the position of a name
-  pub position_within : (xs : List A) (positions : List ℕ → Option ℕ) (name : List ℕ) (i : ℕ) → positions ≡ positions_by name_of xs → Some i ≡ positions name → i < length xs
-  position_within xs positions name i p e = first_within (has_name name_of name) xs i (sym (e ∙ ap (λ f. f name) p))
+  pub position_within : (i : ℕ) → Some i ≡ positions name → i < length ps
+  position_within i e = found_within (λ (p : Parameter). p.name) (λ n. same_name n name) ps i (sym (e ∙ ap (λ f. f name) are))
 
-  pub named_at : (xs : List A) (positions : List ℕ → Option ℕ) (name : List ℕ) (i : ℕ) (d : A) → positions ≡ positions_by name_of xs → Some i ≡ positions name →
-      Some (get_or xs i d) ≡ find (has_name name_of name) xs
-  named_at xs positions name i d p e = ap (option_map (λ j. get_or xs j d)) (e ∙ ap (λ f. f name) p) ∙ sym (find_first (has_name name_of name) xs d)
+  pub named_at : (i : ℕ) (d : Parameter) → Some i ≡ positions name → Some (get_or ps i d) ≡ find (is_parameter name) ps
+  named_at i d e =
+      ap (option_map (λ j. get_or ps j d)) (e ∙ ap (λ f. f name) are ∙ place_of ps name) ∙ sym (find_first (is_parameter name) ps d)
 
-  pub not_named : (xs : List A) (positions : List ℕ → Option ℕ) (name : List ℕ) → positions ≡ positions_by name_of xs → None ≡ positions name → None ≡ find (has_name name_of name) xs
-  not_named xs positions name p e = found_nowhere (has_name name_of name) xs (sym (e ∙ ap (λ f. f name) p))
+  pub not_named : None ≡ positions name → None ≡ find (is_parameter name) ps
+  not_named e = found_nowhere (is_parameter name) ps (sym (e ∙ ap (λ f. f name) are ∙ place_of ps name))
 
-  has_position : (xs : List A) (name : List ℕ) → is_some (positions_by name_of xs name) ≡ named_among (map name_of xs) name
-  has_position [] name = refl
-  has_position (x ∷ xs) name = there_step (same_name (name_of x) name) (positions_by name_of xs name) (named_among (map name_of xs) name) (has_position xs name)
-
-  -- a name has a position where one of the elements has it
-  pub is_named : (xs : List A) (positions : List ℕ → Option ℕ) (name : List ℕ) → positions ≡ positions_by name_of xs → is_some (positions name) ≡ named_among (map name_of xs) name
-  is_named xs positions name p = ap (λ f. is_some (f name)) p ∙ has_position xs name
+  -- a name has a position where one of the parameters has it
+  pub is_named : is_some (positions name) ≡ named_among (names_of ps) name
+  is_named = ap (λ f. is_some (f name)) are ∙ has_place (names_of ps) name

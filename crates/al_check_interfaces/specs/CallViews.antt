@@ -3,7 +3,7 @@ use Rattle.std.specs.Prelude.{ℕ, List, Option, option_and_then, option_map}
 use Rattle.std.specs.Borrow.{Bor}
 use Rattle.al_tree.specs.Values.{scalar_node_of}
 use Rattle.al_yaml_tree.specs.View.{view}
-use Rattle.al_check_interfaces.specs.Kept.{Kept, kept}
+use Rattle.al_check_interfaces.specs.FolderCalls.{FolderCall, as_folder_call}
 use Rattle.al_check_interfaces.specs.Uses.{Call, Site, call_at, call_by}
 use Rattle.al_check_interfaces.specs.declared.calls.Uses as code_uses
 use Rattle.al_check_interfaces.specs.declared.sites.Site as code_sites
@@ -17,6 +17,6 @@ site_of s = record { job = bytes_of s.job; step = s.step; node = view s.node.now
 abbrev pub uses_of : code_uses.Uses → Call
 uses_of u = call_by (site_of u.site) (scalar_node_of u.text)
 
--- what is kept of a site
-abbrev pub kept_at : Site → Option Kept
-kept_at s = option_and_then kept (call_at s)
+-- the call of a site, if it is of a file of the folder
+abbrev pub folder_call_at : Site → Option FolderCall
+folder_call_at s = option_and_then as_folder_call (call_at s)

@@ -2,6 +2,7 @@
 use Rattle.std.specs.Prelude.{ℕ, List, [], ◌∷◌, ◌++◌, ◌+◌, ◌-◌, ◌==◌, nat_lt, nat_eq, Bool, false, ◌&&◌, codes, drop, take, length}
 use Rattle.std.specs.Prelude.{slice_index, Option, Some, None, is_none, if◌then◌else◌}
 use Rattle.std.specs.List.{list_all, list_any, range_with_len, starts_with, ends_with}
+use Rattle.std.specs.Option.{option_map_or}
 use Rattle.std.specs.Str.{bytes_eq, is_utf8}
 use Rattle.al_base.specs.Ascii as ascii
 use Rattle.al_base.specs.Paths.{parts, path_fault_of}
@@ -13,18 +14,8 @@ use Rattle.al_tree.specs.Kinds.{is_workflow_name}
 use Rattle.al_check_interfaces.specs.declared.forms.Form.{Form}
 use Rattle.al_check_interfaces.specs.declared.forms.Form.TheVariants.{Local, Other, Wrong}
 
-abbrev pub begins_text : List ℕ → List ℕ → Bool
-begins_text part bs = starts_with nat_eq bs part
-
-abbrev pub ends_text : List ℕ → List ℕ → Bool
-ends_text part bs = ends_with nat_eq bs part
-
 abbrev pub is_some_text : List ℕ → Bool
 is_some_text bs = nat_lt 0 (length bs)
-
--- bytes that aren't UTF-8 are no path; no text of a file is so
-abbrev pub is_path : List ℕ → Bool
-is_path bs = is_utf8 bs && is_none (path_fault_of bs)
 
 -- What cuts a REF off from the parts before it, which have to pass a test: an `@` with something behind it.
 abbrev pub is_cut : (List (List ℕ) → Bool) → List (List ℕ) → ℕ → List ℕ → Bool
@@ -38,30 +29,23 @@ is_cut_at test bs place = is_cut test (parts (take place bs)) (slice_index bs pl
 abbrev pub is_some_cut : (List (List ℕ) → Bool) → List ℕ → Bool
 is_some_cut test bs = list_any (is_cut_at test bs) (range_with_len 0 (length bs))
 
-abbrev pub is_remote_action : List (List ℕ) → Bool
-is_remote_action ps = nat_lt 1 (length ps) && list_all is_some_text ps
-
-abbrev pub is_workflow_path : List ℕ → List ℕ → List ℕ → Bool
-is_workflow_path a b f = bytes_eq a (codes ".github") && bytes_eq b (codes "workflows") && is_workflow_name f
-
 abbrev pub is_workflow_parts : List (List ℕ) → Bool
-is_workflow_parts (a ∷ b ∷ f ∷ []) = is_workflow_path a b f
+is_workflow_parts (a ∷ b ∷ f ∷ []) =
+    bytes_eq a (codes ".github") && bytes_eq b (codes "workflows") && is_workflow_name f
 is_workflow_parts _ = false
-
-abbrev pub is_remote_workflow : List (List ℕ) → Bool
-is_remote_workflow ps = list_all is_some_text ps && is_workflow_parts (drop 2 ps)
 
 -- which parts before a REF a step may name, and which a job
 abbrev pub is_remote : Caller → List (List ℕ) → Bool
-is_remote caller.Step = is_remote_action
-is_remote caller.Job = is_remote_workflow
+is_remote caller.Step ps = nat_lt 1 (length ps) && list_all is_some_text ps
+is_remote caller.Job ps = list_all is_some_text ps && is_workflow_parts (drop 2 ps)
 
+-- bytes that aren't UTF-8 are no path; no text of a file is so
 abbrev pub path_in : List ℕ → Option (List ℕ)
-path_in bs = if is_path bs then Some bs else None
+path_in bs = if is_utf8 bs && is_none (path_fault_of bs) then Some bs else None
 
 -- `./DIR`, a trailing slash dropped
 abbrev pub folder_of : List ℕ → List ℕ
-folder_of rest = if ends_text (codes "/") rest then take (length rest - 1) rest else rest
+folder_of rest = if ends_with nat_eq rest (codes "/") then take (length rest - 1) rest else rest
 
 abbrev pub in_folder : List ℕ → List ℕ → List ℕ
 in_folder dir file = if is_some_text dir then dir ++ codes "/" ++ file else file
@@ -77,32 +61,23 @@ file_in dir file = path_in (in_folder dir file)
 abbrev pub local_step : List ℕ → Form
 local_step dir = first_of (file_in dir (codes "action.yml")) (file_in dir (codes "action.yaml"))
 
+abbrev pub local_job : List ℕ → Form
+local_job rest =
+    if is_workflow_parts (parts rest) then option_map_or (λ p. Local (Only p)) (path_in rest) Wrong else Wrong
+
 abbrev pub remote : Caller → List ℕ → Form
 remote c bs = if is_some_cut (is_remote c) bs then Other else Wrong
 
 abbrev pub is_image : List ℕ → Bool
-is_image bs = begins_text (codes "docker://") bs && nat_lt 9 (length bs)
-
-abbrev pub step_form : List ℕ → Form
-step_form bs =
-    if has_chunk bs then Wrong
-    else if begins_text (codes "./") bs then local_step (folder_of (drop 2 bs))
-    else if is_image bs then Other
-    else remote caller.Step bs
-
-abbrev pub only : Option (List ℕ) → Form
-only (Some p) = Local (Only p)
-only None = Wrong
-
-abbrev pub local_job : List ℕ → Form
-local_job rest = if is_workflow_parts (parts rest) then only (path_in rest) else Wrong
-
-abbrev pub job_form : List ℕ → Form
-job_form bs =
-    if has_chunk bs then Wrong
-    else if begins_text (codes "./") bs then local_job (drop 2 bs)
-    else remote caller.Job bs
+is_image bs = starts_with nat_eq bs (codes "docker://") && nat_lt 9 (length bs)
 
 abbrev pub form_by : Caller → List ℕ → Form
-form_by caller.Step = step_form
-form_by caller.Job = job_form
+form_by caller.Step bs =
+    if has_chunk bs then Wrong
+    else if starts_with nat_eq bs (codes "./") then local_step (folder_of (drop 2 bs))
+    else if is_image bs then Other
+    else remote caller.Step bs
+form_by caller.Job bs =
+    if has_chunk bs then Wrong
+    else if starts_with nat_eq bs (codes "./") then local_job (drop 2 bs)
+    else remote caller.Job bs

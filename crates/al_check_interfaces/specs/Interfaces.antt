@@ -8,7 +8,7 @@ use Rattle.al_base.specs.declared.faults.Span.{Span}
 use Rattle.al_scalar.specs.Scalar.{Scalar, text_of}
 use Rattle.al_base.specs.Names.{same_name}
 use Rattle.al_yaml_tree.specs.Access.{scalar_in}
-use Rattle.al_yaml_tree.specs.Node.{Node, scalar, sequence, mapping}
+use Rattle.al_yaml_tree.specs.Node.{Node, mapping}
 use Rattle.al_tree.specs.Keys.{key_of}
 use Rattle.al_tree.specs.Values.{text_at, texts_in, value_at}
 use Rattle.al_tree.specs.declared.files.FileKind.{FileKind}
@@ -20,7 +20,6 @@ use Rattle.al_tree_declarations.specs.declared.inputs.InputType.TheVariants as i
 use Rattle.al_check_interfaces.specs.declared.interfaces.Interface.{Interface}
 use Rattle.al_check_interfaces.specs.declared.interfaces.Interface.TheVariants.{Readable, Unreadable}
 use Rattle.al_check_interfaces.specs.declared.interfaces.Parameter.{Parameter}
-use Rattle.al_check_interfaces.specs.declared.interfaces.Role.{Role}
 use Rattle.al_check_interfaces.specs.declared.interfaces.Role.TheVariants as role
 use Rattle.al_check_interfaces.specs.declared.interfaces.Signature.{Signature}
 use Rattle.al_check_interfaces.specs.declared.signatures.Declaring.{Declaring}
@@ -35,15 +34,13 @@ is_required n = option_map_or is_true (value_at (codes "required") n) false
 
 -- a secret has no default
 abbrev pub has_default : Declaring → Node → Bool
-has_default declared.CallInputs n = has_value (codes "default") n
-has_default declared.ActionInputs n = has_value (codes "default") n
 has_default declared.Secrets n = false
+has_default by n = has_value (codes "default") n
 
 -- inputs of actions are strings, and so are secrets
 abbrev pub type_taken : Declaring → Node → InputType
 type_taken declared.CallInputs n = input_of n
-type_taken declared.ActionInputs n = input.String
-type_taken declared.Secrets n = input.String
+type_taken by n = input.String
 
 abbrev pub parameter : Declaring → Node × Node → Parameter
 parameter by e = record { name = key_of e; required = is_required e.1; has_default = has_default by e.1; takes = type_taken by e.1 }
@@ -64,36 +61,25 @@ names_call on = list_any says_call (texts_in on) || has_value (codes "workflow_c
 abbrev pub of_call : List ℕ → List (List ℕ)
 of_call k = codes "on" ∷ codes "workflow_call" ∷ k ∷ []
 
-abbrev pub workflow_role : Node → Role
-workflow_role n = if option_map_or names_call (value_at (codes "on") n) false then role.Callable else role.Workflow
-
-abbrev pub action_role : Node → Role
-action_role n = if is_composite n then role.Composite else role.Action
-
-abbrev pub workflow_signature : Node → Signature
-workflow_signature n = record {
+abbrev pub signature_of : FileKind → Node → Signature
+signature_of kind.Workflow n = record {
   name = name_of n;
-  role = workflow_role n;
+  role =
+      if option_map_or names_call (value_at (codes "on") n) false then role.Callable
+      else role.Workflow;
   inputs = parameters declared.CallInputs (of_call (codes "inputs")) n;
   secrets = parameters declared.Secrets (of_call (codes "secrets")) n;
   outputs = names_of (declared_below (of_call (codes "outputs")) n);
 }
-
-abbrev pub action_signature : Node → Signature
-action_signature n = record {
+signature_of kind.Action n = record {
   name = name_of n;
-  role = action_role n;
+  role = if is_composite n then role.Composite else role.Action;
   inputs = parameters declared.ActionInputs (codes "inputs" ∷ []) n;
   secrets = [];
   outputs = names_of (declared_below (codes "outputs" ∷ []) n);
 }
 
-abbrev pub signature_of : FileKind → Node → Signature
-signature_of kind.Workflow n = workflow_signature n
-signature_of kind.Action n = action_signature n
-
 -- of a file with this root
 abbrev pub interface_of : FileKind → Node → Interface
 interface_of k (mapping es at) = Readable (signature_of k (mapping es at))
-interface_of k (scalar s at) = Unreadable
-interface_of k (sequence ns at) = Unreadable
+interface_of k n = Unreadable

@@ -1,6 +1,6 @@
 pub mod Forms
 pub mod Uses
-pub mod Kept
+pub mod FolderCalls
 pub mod Laws
 pub mod Placeless
 pub mod CallViews

@@ -20,7 +20,7 @@ use Rattle.al_tree.specs.declared.files.FileKind.TheVariants as kind
 use Rattle.al_tree_declarations.specs.Declarations.{action_steps, is_composite}
 use Rattle.al_check_interfaces.specs.Forms.{form_by}
 use Rattle.al_check_interfaces.specs.declared.forms.Form.{Form}
-use Rattle.al_check_interfaces.specs.declared.forms.Form.TheVariants.{Local, Other, Wrong}
+use Rattle.al_check_interfaces.specs.declared.forms.Form.TheVariants.{Local, Wrong}
 
 -- a job, by the text of its key, or a step, by its number and by its job, none in an action
 pub record Site : Type 0 where
@@ -31,17 +31,14 @@ pub record Site : Type 0 where
 abbrev pub caller_of : Site → Caller
 caller_of s = if is_some s.step then caller.Step else caller.Job
 
-abbrev pub step_site : Option (List ℕ) → ℕ × Node → Site
-step_site job s = record { job = job; step = Some s.0; node = s.1 }
-
 abbrev pub step_sites : Option (List ℕ) → List Node → List Site
-step_sites job steps = map (step_site job) (enumerate_from 0 steps)
-
-abbrev pub job_site : Node × Node → Site
-job_site j = record { job = Some (key_of j); step = None; node = j.1 }
+step_sites job steps =
+    map (λ s. record { job = job; step = Some s.0; node = s.1 }) (enumerate_from 0 steps)
 
 abbrev pub job_sites : Node × Node → List Site
-job_sites j = job_site j ∷ step_sites (Some (key_of j)) (items_at (codes "steps") j.1)
+job_sites j =
+    record { job = Some (key_of j); step = None; node = j.1 }
+    ∷ step_sites (Some (key_of j)) (items_at (codes "steps") j.1)
 
 -- the jobs of a workflow, each before its steps, or the steps of a composite action
 abbrev pub sites_in : FileKind → Node → List Site
@@ -71,24 +68,19 @@ that_uses f c = record { span = c.at; code = kind_of_code.Call f (caller_of c.si
 -- C7
 abbrev pub wrong_by : Form → Call → List Fault
 wrong_by Wrong c = that_uses code.WrongUses c ∷ []
-wrong_by Other c = []
-wrong_by (Local t) c = []
+wrong_by form c = []
 
 abbrev pub wrong_uses : Call → List Fault
 wrong_uses c = wrong_by c.form c
 
 abbrev pub target_in : Form → Option Target
 target_in (Local t) = Some t
-target_in Other = None
-target_in Wrong = None
+target_in form = None
 
 -- the targets of the calls of files of the folder, in order
 abbrev pub targets_of : List Call → List Target
 targets_of = filter_map (λ c. target_in c.form)
 
--- what is said of such a call where it is on a call cycle, C9, and of all in order
-abbrev pub loop_fault : Call → Option Fault
-loop_fault c = option_map (λ t. that_uses code.LeadsBack c) (target_in c.form)
-
+-- what is said of each such call where it is on a call cycle, C9
 abbrev pub loop_faults : List Call → List Fault
-loop_faults = filter_map loop_fault
+loop_faults = filter_map (λ c. option_map (λ t. that_uses code.LeadsBack c) (target_in c.form))

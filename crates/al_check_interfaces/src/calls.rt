@@ -3,8 +3,8 @@ ghost use Rattle.std.specs.Prelude.{◌≡◌, ◌++◌, [], map, slice_get, IfO
 ghost use Rattle.std.specs.List.{cons_option, filter_map, flat_map};
 ghost use Rattle.std.specs.Option.{option_map_or};
 ghost use Rattle.al_check_interfaces.specs.Forms as forms;
-ghost use Rattle.al_check_interfaces.specs.Kept.{kept, seen};
-ghost use Rattle.al_check_interfaces.specs.CallViews.{kept_at, site_of, uses_of};
+ghost use Rattle.al_check_interfaces.specs.FolderCalls.{as_folder_call, folder_call};
+ghost use Rattle.al_check_interfaces.specs.CallViews.{folder_call_at, site_of, uses_of};
 ghost use Rattle.al_check_interfaces.specs.Uses as calling;
 
 use crate::forms::{Form, job_form, step_form};
@@ -59,8 +59,8 @@ fn that_uses(alloc: Global, code: CallCode, uses: Uses<'_>) -> Result<Fault, All
 fn add_uses(uses: Uses<'_>, calls: &mut Vec<Call>, faults: &mut FaultSink) -> Result<(), AllocError>
     ensures calls { OnOk result ((all : List calling.Site) → slice_get all (uses.entry).number
         ≡ Some (site_of (uses.entry).site)
-        → map (seen all) calls.new.items ≡ map (seen all) calls.old.items
-        ++ cons_option (kept (uses_of uses.entry)) []) }
+        → map (folder_call all) calls.new.items ≡ map (folder_call all) calls.old.items
+        ++ cons_option (as_folder_call (uses_of uses.entry)) []) }
     ensures faults { OnOk result (faults.new ≡ faults.old
         ++ calling.wrong_uses (uses_of uses.entry)) }
 {
@@ -93,8 +93,8 @@ fn add_call(
 ) -> Result<(), AllocError>
     ensures calls { OnOk result ((all : List calling.Site) → slice_get all number
         ≡ Some (site_of site.entry)
-        → map (seen all) calls.new.items ≡ map (seen all) calls.old.items
-        ++ cons_option (kept_at (site_of site.entry)) []) }
+        → map (folder_call all) calls.new.items ≡ map (folder_call all) calls.old.items
+        ++ cons_option (folder_call_at (site_of site.entry)) []) }
     ensures faults { OnOk result (faults.new ≡ faults.old
         ++ option_map_or calling.wrong_uses (calling.call_at (site_of site.entry)) []) }
 {
@@ -112,8 +112,8 @@ fn add_call(
 ///
 /// Fails with `AllocError` when out of memory.
 pub fn calls_by(sites: &[Site<'_>], faults: &mut FaultSink) -> Result<Vec<Call>, AllocError>
-    ensures calls { IfOk result (λ v. map (seen (map site_of sites.now)) v.items
-        ≡ filter_map kept (filter_map calling.call_at (map site_of sites.now))) }
+    ensures calls { IfOk result (λ v. map (folder_call (map site_of sites.now)) v.items
+        ≡ filter_map as_folder_call (filter_map calling.call_at (map site_of sites.now))) }
     ensures faults { OnOk result
         (faults.new ≡ faults.old
         ++ flat_map calling.wrong_uses (filter_map calling.call_at (map site_of sites.now))) }

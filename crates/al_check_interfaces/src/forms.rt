@@ -2,6 +2,7 @@
 ghost use Rattle.std.specs.Prelude.{◌≡◌, [], ◌∷◌, ◌++◌, ◌&&◌, drop, map, IfOk};
 ghost use Rattle.std.specs.List.{list_all};
 ghost use Rattle.al_base.specs.Paths.{parts};
+ghost use Rattle.al_base.specs.declared.codes.Caller.TheVariants as by;
 ghost use Rattle.al_check_interfaces.specs.Forms as forms;
 
 use al_base::{Caller, Path, PathFault};
@@ -28,7 +29,7 @@ fn parts_of(alloc: Global, text: &[u8]) -> Result<Vec<&[u8]>, AllocError>
 }
 
 fn is_workflow_path(first: &[u8], second: &[u8], file: &[u8]) -> bool
-    ensures { result ≡ forms.is_workflow_path first.now second.now file.now }
+    ensures { result ≡ forms.is_workflow_parts (first.now ∷ second.now ∷ file.now ∷ []) }
 {
     first == b".github".as_slice() && second == b"workflows".as_slice() && is_workflow_name(file)
 }
@@ -67,7 +68,7 @@ struct Before<'d, 'a> {
 #[tactic(auto, using(crate::proofs::Cuts::all_more))]
 fn is_remote_workflow(before: Before<'_, '_>) -> bool
     ensures { result
-        ≡ forms.is_remote_workflow (map (λ p. p.now) (before.entry).done.now
+        ≡ forms.is_remote by.Job (map (λ p. p.now) (before.entry).done.now
         ++ (before.entry).last.now ∷ []) }
 {
     are_texts(before.whole, before.last) && is_workflow_behind(before.done, before.last)
@@ -75,7 +76,7 @@ fn is_remote_workflow(before: Before<'_, '_>) -> bool
 
 fn is_remote_action(before: Before<'_, '_>) -> bool
     ensures { result
-        ≡ forms.is_remote_action (map (λ p. p.now) (before.entry).done.now
+        ≡ forms.is_remote by.Step (map (λ p. p.now) (before.entry).done.now
         ++ (before.entry).last.now ∷ []) }
 {
     before.whole && !before.last.is_empty() && !before.done.is_empty()
@@ -228,7 +229,7 @@ fn is_image(text: &[u8]) -> bool
 
 /// What a step's `uses` is.
 pub(crate) fn step_form(alloc: Global, text: &[u8]) -> Result<Form, AllocError>
-    ensures { IfOk result (λ f. f ≡ forms.step_form text.now) }
+    ensures { IfOk result (λ f. f ≡ forms.form_by by.Step text.now) }
 {
     if contains_chunk(text) {
         return Ok(Form::Wrong);
@@ -242,29 +243,22 @@ pub(crate) fn step_form(alloc: Global, text: &[u8]) -> Result<Form, AllocError>
     remote(alloc, Caller::Step, text)
 }
 
-fn only(path: Option<Path>) -> Form
-    ensures { result ≡ forms.only path }
-{
-    match path {
-        Some(path) => Form::Local(Target::Only(path)),
-        None => Form::Wrong,
-    }
-}
-
 fn local_job(alloc: Global, rest: &[u8]) -> Result<Form, AllocError>
     ensures { IfOk result (λ f. f ≡ forms.local_job rest.now) }
 {
     let parts = parts_of(alloc, rest)?;
-    if is_workflow_parts(parts.as_slice()) {
-        Ok(only(path_in(alloc, rest)?))
-    } else {
-        Ok(Form::Wrong)
+    if !is_workflow_parts(parts.as_slice()) {
+        return Ok(Form::Wrong);
+    }
+    match path_in(alloc, rest)? {
+        Some(path) => Ok(Form::Local(Target::Only(path))),
+        None => Ok(Form::Wrong),
     }
 }
 
 /// What a job's `uses` is.
 pub(crate) fn job_form(alloc: Global, text: &[u8]) -> Result<Form, AllocError>
-    ensures { IfOk result (λ f. f ≡ forms.job_form text.now) }
+    ensures { IfOk result (λ f. f ≡ forms.form_by by.Job text.now) }
 {
     if contains_chunk(text) {
         return Ok(Form::Wrong);

@@ -1,9 +1,8 @@
 //! The parameters of an interface. Where their names stand, and which of them each call has to give, is made ready once for all calls.
 ghost use Rattle.std.specs.Prelude.{◌≡◌, ◌<◌, find, length, map, slice_index_or, IfOk};
 ghost use Rattle.std.specs.Option.{option_copied};
-ghost use Rattle.al_base.specs.NamePlaces.{name_position};
+ghost use Rattle.al_base.specs.NamePlaces.{name_place, name_position};
 ghost use Rattle.al_check_interfaces.specs.Parameters.{has_parameter, is_mandatory, is_parameter, mandatory_of};
-ghost use Rattle.al_check_interfaces.specs.Private.Names.{positions_by};
 ghost use Rattle.al_check_interfaces.specs.Private.Places.{StandAt};
 
 use crate::interfaces::Parameter;
@@ -21,29 +20,37 @@ pub struct Parameters {
 }
 
 impl Model for Parameters {
-    ghost use Rattle.std.specs.Prelude.{◌≡◌, List};
-    ghost use Rattle.al_base.specs.NamePlaces.{name_position};
+    ghost use Rattle.std.specs.Prelude.{◌≡◌, List, map};
+    ghost use Rattle.al_base.specs.NamePlaces.{name_place, name_position};
     ghost use Rattle.al_check_interfaces.specs.declared.interfaces.Parameter.{Parameter};
     ghost use Rattle.al_check_interfaces.specs.Parameters.{mandatory_of};
-    ghost use Rattle.al_check_interfaces.specs.Private.Names.{positions_by};
     ghost use Rattle.al_check_interfaces.specs.Private.Places.{StandAt};
 
     ghost Value = { List Parameter };
 
     ghost view = { λ a. a.parameters.items };
 
-    ghost invariant = { λ a. (name_position a.positions ≡ positions_by (λ p. p.name) a.parameters.items)
+    ghost invariant = { λ a. (name_position a.positions ≡ name_place (map (λ p. p.name) a.parameters.items))
         × StandAt a.mandatory.items (mandatory_of a.parameters.items) a.parameters.items };
+}
+
+fn names_of(alloc: Global, parameters: &[Parameter]) -> Result<Vec<&[u8]>, AllocError>
+    ensures { IfOk result (λ v. map (λ n. n.now) v.items ≡ map (λ p. p.name) parameters.now) }
+{
+    let mut names = Vec::with_capacity(alloc, parameters.len())?;
+    for parameter in parameters {
+        names.push(parameter.name.as_bytes())?;
+    }
+    Ok(names)
 }
 
 /// Where the first parameter with each name stands.
 fn positions_of(alloc: Global, parameters: &[Parameter]) -> Result<NamePositions, AllocError>
-    ensures { IfOk result (λ p. name_position p ≡ positions_by (λ x. x.name) parameters.now) }
+    ensures { IfOk result
+        (λ p. name_position p ≡ name_place (map (λ x. x.name) parameters.now)) }
 {
-    let mut positions = NamePositions::new(alloc);
-    for (i, parameter) in parameters.iter().enumerate() {
-        let _ = positions.insert(alloc, parameter.name.as_bytes(), i)?;
-    }
+    let names = names_of(alloc, parameters)?;
+    let positions = NamePositions::of(alloc, names.as_slice())?;
     Ok(positions)
 }
 

@@ -5,6 +5,7 @@ ghost use Rattle.std.specs.Option.{option_map_or};
 ghost use Rattle.al_tree_declarations.specs.Declarations.{declared_in, names_of};
 ghost use Rattle.al_scalar.specs.Scalar.{text_of};
 ghost use Rattle.al_tree.specs.Values.{member_of, scalar_node_of};
+ghost use Rattle.al_tree.specs.declared.files.FileKind.TheVariants as kind;
 ghost use Rattle.al_yaml_tree.specs.View.{view};
 ghost use Rattle.al_check_interfaces.specs.Interfaces as interfaces;
 
@@ -178,7 +179,8 @@ fn names_call(alloc: Global, on: &Node) -> Result<bool, AllocError>
 
 /// What a workflow is to its callers.
 fn workflow_role(alloc: Global, root: &Node) -> Result<Role, AllocError>
-    ensures { IfOk result (λ r. r ≡ interfaces.workflow_role (view root.now)) }
+    ensures { IfOk result (λ r. r
+        ≡ (interfaces.signature_of kind.Workflow (view root.now)).role) }
 {
     match value(root, "on") {
         None => Ok(Role::Workflow),
@@ -194,7 +196,7 @@ fn workflow_role(alloc: Global, root: &Node) -> Result<Role, AllocError>
 
 /// What a workflow shows.
 fn workflow_signature(alloc: Global, root: &Node) -> Result<Signature, AllocError>
-    ensures { IfOk result (λ s. s ≡ interfaces.workflow_signature (view root.now)) }
+    ensures { IfOk result (λ s. s ≡ interfaces.signature_of kind.Workflow (view root.now)) }
 {
     let name = name_of(alloc, root)?;
     let role = workflow_role(alloc, root)?;
@@ -223,7 +225,7 @@ fn workflow_signature(alloc: Global, root: &Node) -> Result<Signature, AllocErro
 
 /// What an action is to its callers.
 fn action_role(root: &Node) -> Role
-    ensures { result ≡ interfaces.action_role (view root.now) }
+    ensures { result ≡ (interfaces.signature_of kind.Action (view root.now)).role }
 {
     if is_composite(root) {
         Role::Composite
@@ -234,7 +236,7 @@ fn action_role(root: &Node) -> Role
 
 /// What an action shows.
 fn action_signature(alloc: Global, root: &Node) -> Result<Signature, AllocError>
-    ensures { IfOk result (λ s. s ≡ interfaces.action_signature (view root.now)) }
+    ensures { IfOk result (λ s. s ≡ interfaces.signature_of kind.Action (view root.now)) }
 {
     let name = name_of(alloc, root)?;
     let inputs = parameters(alloc, Declaring::ActionInputs, value(root, "inputs"))?;

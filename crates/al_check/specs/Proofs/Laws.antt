@@ -1,6 +1,8 @@
 -- What holds of every file: each of its faults lies in it, and they are in the order of reports, each once.
 use Rattle.std.specs.Prelude.{◌≡◌, suc, Option, Some, None, option_map, ◌≤◌, ℕ, List, [], ◌∷◌, ◌++◌, length, map, Ok, Err, Result, IfOk}
-use Rattle.std.specs.List.{AllByRecursion, cons_option}
+use Rattle.std.specs.List.{AllByRecursion, cons_option, flat_map}
+use Rattle.std.specs.Option.{option_map_or}
+use Rattle.std.specs.Result.{result_ok}
 use Rattle.std.proofs.Common.{ap, refl}
 use Rattle.std.proofs.lemmas.List.Elements.{recursion_from_All}
 use Rattle.al_scalar.specs.Taken as yaml
@@ -24,22 +26,22 @@ use Rattle.al_base.specs.declared.codes.CallCode.TheVariants.{LeadsBack}
 use Rattle.al_check_interfaces.specs.Uses.{Call, calls_in, loop_faults, target_in, targets_of, that_uses}
 use Rattle.al_check_interfaces.proofs.Inside.{calls_lie, wrong_uses_lie}
 use Rattle.al_session_folder.specs.declared.lint.Target.{Target}
-use Rattle.al_check.specs.Calling.{file_targets, targets_given}
-use Rattle.al_check.specs.Sites.{file_sites, sites_given}
+use Rattle.al_check.specs.Calling.{file_targets}
+use Rattle.al_check.specs.Sites.{file_sites}
 use Rattle.al_check_calls.proofs.Inside.{call_faults_lie}
-use Rattle.al_check_calls.specs.Answers.{Answered, answered}
-use Rattle.al_check_calls.specs.FileCalls.{behind_faults, call_faults, known_by, typing}
+use Rattle.al_check_calls.specs.Answers.{Answered, calls_with_answers, answered_faults}
+use Rattle.al_check_calls.specs.FileCalls.{behind_faults, known_by, typing}
 use Rattle.al_expr_typing.proofs.Inside.{both_lie}
 use Rattle.al_rules.proofs.Lying.{rules_lie}
 use Rattle.al_tree.specs.Faults.{root_faults}
-use Rattle.al_check.specs.FileFaults.{Answers, document_faults, faults_given, file_faults, found_in, own_faults, printed, wrong_uses_in}
+use Rattle.al_check.specs.FileFaults.{Answers, document_faults, faults_given, file_faults, own_faults, printed_fault, wrong_uses_in}
 use Rattle.al_check.specs.RuleFaults.{rule_faults}
 use Rattle.al_check.specs.Proofs.RuleSets.{rules_hold}
 
 abbrev AllLie : ℕ → List Fault → Type 0
 AllLie size faults = AllByRecursion (λ (f : Fault). LiesIn size f.span) faults
 
-printed_lie : (size : ℕ) (faults : List Fault) → AllLie size faults → AllLie size (map printed faults)
+printed_lie : (size : ℕ) (faults : List Fault) → AllLie size faults → AllLie size (map printed_fault faults)
 printed_lie size [] l = tt
 printed_lie size (f ∷ fs) l = (l.0, printed_lie size fs l.1)
 
@@ -48,16 +50,19 @@ CallLies size c = LiesIn size c.at × IsInside size c.site.node
 
 module _ (size : ℕ) (kind : FileKind) (root : Node) (i : IsInside size root) (w : IsLaid size root) (f : AreFrom size root)
     (answers : Answers) where
-  abbrev asked : List Answered
-  asked = answered (calls_in kind root) answers
+  abbrev calls : List Answered
+  calls = calls_with_answers (calls_in kind root) answers
 
   behind_lie : AllLie size (behind_faults kind root answers)
   behind_lie =
-      both_lie size (expression_faults kind (known_by asked) root) (call_faults kind (known_by asked) root asked)
-      (expression_faults_lie size kind (known_by asked) root w f)
-      (call_faults_lie size kind (typing kind (known_by asked) root) root answers i)
+      both_lie size (expression_faults kind (known_by calls) root) (flat_map (answered_faults (typing kind (known_by calls) root)) calls)
+      (expression_faults_lie size kind (known_by calls) root w f)
+      (call_faults_lie size kind (typing kind (known_by calls) root) root answers i)
 
-  found_lie : AllLie size (found_in kind root answers)
+  abbrev all_faults : List Fault
+  all_faults = own_faults kind root ++ behind_faults kind root answers
+
+  found_lie : AllLie size all_faults
   found_lie =
       both_lie size (own_faults kind root) (behind_faults kind root answers)
       (both_lie size (root_faults (shape_of kind) root ++ rule_faults kind root) (wrong_uses_in kind root)
@@ -70,8 +75,8 @@ module _ (size : ℕ) (kind : FileKind) (root : Node) (i : IsInside size root) (
 
   document_lies : AllLie size (document_faults kind root answers)
   document_lies =
-      AllByRecursion-fault_list (λ (x : Fault). LiesIn size x.span) (map printed (found_in kind root answers))
-      (printed_lie size (found_in kind root answers) found_lie)
+      AllByRecursion-fault_list (λ (x : Fault). LiesIn size x.span) (map printed_fault all_faults)
+      (printed_lie size all_faults found_lie)
 
 given_lies : (kind : FileKind) (bytes : List ℕ) (answers : Answers) (read : Result Node yaml.Fault) → IsTreeLaid bytes read →
     IfOk read (IsInside (length bytes)) → IfOk read (IsLaid (length bytes)) → IfOk read (AreFrom (length bytes)) →
@@ -90,7 +95,8 @@ one_sorted f = (tt, tt)
 
 given_ordered : (kind : FileKind) (bytes : List ℕ) (answers : Answers) (read : Result Node yaml.Fault) →
     IsStrictlySortedBy fault_cmp (faults_given kind bytes answers read)
-given_ordered kind bytes answers (Ok root) = IsStrictlySortedBy-fault_list (map printed (found_in kind root answers))
+given_ordered kind bytes answers (Ok root) =
+    IsStrictlySortedBy-fault_list (map printed_fault (own_faults kind root ++ behind_faults kind root answers))
 given_ordered kind bytes answers (Err fault) = one_sorted _
 
 pub faults_ordered : (kind : FileKind) (bytes : List ℕ) (answers : Answers) →
@@ -108,7 +114,9 @@ sited_calls (c ∷ cs) = put (target_in c.form) (sited_calls cs)
     put None h = h
     put (Some t) h = ap suc h
 
-given_sited : (kind : FileKind) (read : Result Node yaml.Fault) → length (sites_given kind read) ≡ length (targets_given kind read)
+given_sited : (kind : FileKind) (read : Result Node yaml.Fault) →
+    length (option_map_or (λ root. loop_faults (calls_in kind root)) (result_ok read) [])
+    ≡ length (option_map_or (λ root. targets_of (calls_in kind root)) (result_ok read) [])
 given_sited kind (Ok root) = sited_calls (calls_in kind root)
 given_sited kind (Err fault) = refl
 
@@ -127,7 +135,7 @@ loops_lie size (c ∷ cs) h = put (target_in c.form) (loops_lie size cs h.1)
     put (Some t) rest = (h.0.0, rest)
 
 given_sites_lie : (kind : FileKind) (bytes : List ℕ) (read : Result Node yaml.Fault) → IfOk read (IsInside (length bytes)) →
-    AllLie (length bytes) (sites_given kind read)
+    AllLie (length bytes) (option_map_or (λ root. loop_faults (calls_in kind root)) (result_ok read) [])
 given_sites_lie kind bytes (Ok root) i = loops_lie (length bytes) (calls_in kind root) (calls_lie (length bytes) kind root i)
 given_sites_lie kind bytes (Err fault) i = tt
 

@@ -9,6 +9,7 @@ use Rattle.al_base.specs.declared.codes.Caller.{Caller}
 use Rattle.al_base.specs.declared.faults.Fault.{Fault}
 use Rattle.al_yaml_tree.specs.Node.{Node, span_of}
 use Rattle.al_tree.specs.Keys.{key_of}
+use Rattle.al_tree_declarations.specs.Declarations.{named_among, names_of}
 use Rattle.al_check_interfaces.specs.Kinds.{parameters_of}
 use Rattle.al_check_interfaces.specs.Parameters.{mandatory_of}
 use Rattle.al_check_interfaces.specs.contracts.interfaces.ParameterKindPartialEq.TheImpl as kinds
@@ -19,7 +20,7 @@ use Rattle.al_check_interfaces.specs.declared.interfaces.ParameterKind.TheVarian
 use Rattle.al_check_interfaces.specs.declared.interfaces.Signature.{Signature}
 use Rattle.al_check_interfaces.specs.Uses.{Call}
 use Rattle.al_check_calls.specs.Answers.{Answered, Typing, values_in}
-use Rattle.al_check_calls.specs.CallFaults.{called_name, caller_of, fault, given_by, given_names, missing_code, missing_names, name_faults}
+use Rattle.al_check_calls.specs.CallFaults.{called_name, caller_of, fault, given_by, missing_code, missing_name, missing_names, name_faults}
 use Rattle.al_check_calls.specs.CallFaults.{names_against, signature_for, undefined_name, undefined_names, uses_faults, value_faults}
 
 -- all but those of names
@@ -112,13 +113,13 @@ abbrev pub is_by_same_uses : Comparison → Comparison → Bool
 is_by_same_uses q r = call_alike q r && span.ghosts.eq q.call.at r.call.at
 
 abbrev pub gives : Comparison → Parameter → Bool
-gives q p = given_names (given_by q.kind q.call.site.node) p.name
+gives q p = named_among (names_of (given_by q.kind q.call.site.node)) p.name
 
 abbrev pub missing_fault : Comparison → Parameter → Fault
 missing_fault q p = fault (missing_code q.kind) q.call q.call.at (p.name ∷ called_name q.call q.signature ∷ [])
 
 abbrev pub fault_unless_given : Comparison → Parameter → List Fault
-fault_unless_given q p = if gives q p then [] else missing_fault q p ∷ []
+fault_unless_given q = missing_name q.kind q.call q.signature
 
 abbrev pub parameter_if_given : Comparison → Parameter → List Parameter
 parameter_if_given q p = if gives q p then p ∷ [] else []

@@ -15,7 +15,7 @@ abbrev pub lists_of : Lists → List (List (List ℕ))
 lists_of ls = map (λ l. l.now) ls.lists.items
 
 -- the position that is known for the calls by a text, if one is
-unfoldable pub position_of : Lists → Bool → List ℕ → Option (Option ℕ)
+unfoldable pub position_of : Lists → Bool → List ℕ → Option ℕ
 position_of ls of_step text = get_by (λ k. ordering_then (bool_cmp of_step k.0) (slice_cmp nat_cmp text k.1.now)) ls.positions
 
 -- at a position stand these names, whichever lists are put behind
@@ -24,8 +24,8 @@ StandsAt lists position names = (more : List (List (List ℕ))) → option_and_t
 
 -- at each position that is known stand the names that are told
 pub record ArePlaced (naming : Naming) (ls : Lists) : Type 0 where
-  pub at : (of_step : Bool) (text : List ℕ) (position : Option ℕ) → position_of ls of_step text ≡ Some position
-      → StandsAt (lists_of ls) position (naming of_step text)
+  pub at : (of_step : Bool) (text : List ℕ) (position : ℕ) → position_of ls of_step text ≡ Some position
+      → StandsAt (lists_of ls) (Some position) (naming of_step text)
 
 -- The names behind the calls by a text have this position from now on, behind all lists that were there unless it was known; so wherever
 -- names are told, they still are at the positions that are known.

@@ -1,7 +1,7 @@
 use Rattle.std.proofs.Common.{◌≡◌, ◌++◌, ap, ◌∙◌, map, subst, sym}
 use Rattle.std.specs.Option.{option_copied}
 use Rattle.al_base.specs.Growth.{SameSet}
-use Rattle.al_check_calls.specs.Answers.{answered}
+use Rattle.al_check_calls.specs.Answers.{calls_with_answers}
 use Rattle.al_check_calls.specs.Private.AnswerViews.{answered_of}
 use Rattle.al_check_calls.specs.Private.Comparing.{AreToldByUses}
 use Rattle.al_check_interfaces.specs.CallViews.{site_of}
@@ -24,7 +24,7 @@ pub check_with_answers-requires-clause-answers : goal.check_with_answers-require
 check_with_answers-requires-clause-answers c =
     let root = view c.args.file.root.now in
     let answers = map (λ a. option_copied a) c.args.answers.now in
-    let found : map answered_of c.as_slice-2.result.now ≡ answered (calls_in c.args.file.kind root) answers =
+    let found : map answered_of c.as_slice-2.result.now ≡ calls_with_answers (calls_in c.args.file.kind root) answers =
     ap (map answered_of) c.as_slice-2.ensures.value
     ∙ c.in_ok-answered.ensures c.args.file.kind root (ap (map site_of) c.as_slice.ensures.value ∙ c.in_ok-sites.ensures) c.requires.calls in
     subst AreToldByUses (sym found) (told_by_uses c.args.file.kind root answers c.requires.answers)
@@ -33,7 +33,7 @@ pub returns : goal.returns
 returns c =
     let root = view c.args.file.root.now in
     let answers = map (λ a. option_copied a) c.args.answers.now in
-    let found : map answered_of c.as_slice-2.result.now ≡ answered (calls_in c.args.file.kind root) answers =
+    let found : map answered_of c.as_slice-2.result.now ≡ calls_with_answers (calls_in c.args.file.kind root) answers =
     ap (map answered_of) c.as_slice-2.ensures.value
     ∙ c.in_ok-answered.ensures c.args.file.kind root (ap (map site_of) c.as_slice.ensures.value ∙ c.in_ok-sites.ensures) c.requires.calls in
     subst (λ l. SameSet c.check_with_answers.new.faults (c.args.faults.now ++ faults_by c.args.file.kind root l)) found c.in_ok-check_with_answers.ensures

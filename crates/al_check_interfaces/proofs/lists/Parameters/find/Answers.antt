@@ -7,20 +7,20 @@ use Rattle.al_check_interfaces.proofs.lists.Parameters.find.Goals as goal
 
 pub index-requires : goal.index-requires
 index-requires c =
-    let within = position_within (λ (p : Parameter). p.name) c.self.inside.parameters.items (name_position c.self.inside.positions) c.args.name.now c.in-Some.i
-    c.self.invariant.0 (sym c.in-Some.is ∙ c.in_ok-i.ensures) in
+    let within = position_within c.self.inside.parameters.items (name_position c.self.inside.positions) c.args.name.now c.self.invariant.0 c.in-Some.i
+    (sym c.in-Some.is ∙ c.in_ok-i.ensures) in
     omega (arith, within, c.self.inside.parameters.ok.0)
 
 pub returns-in-Some : goal.returns-in-Some
 returns-in-Some c =
     let name = c.args.name.now in
     ap Some c.index.ensures
-    ∙ named_at (λ (p : Parameter). p.name) c.self.inside.parameters.items (name_position c.self.inside.positions) name c.in-Some.i c.index.result.now
-    c.self.invariant.0 (sym c.in-Some.is ∙ c.in_ok-i.ensures)
+    ∙ named_at c.self.inside.parameters.items (name_position c.self.inside.positions) name c.self.invariant.0 c.in-Some.i c.index.result.now
+    (sym c.in-Some.is ∙ c.in_ok-i.ensures)
     ∙ ap (λ (l : List Parameter). find (is_parameter name) l) c.self.view_is
 
 pub returns-in-None : goal.returns-in-None
 returns-in-None c =
     let name = c.args.name.now in
-    not_named (λ (p : Parameter). p.name) c.self.inside.parameters.items (name_position c.self.inside.positions) name c.self.invariant.0 (sym c.in-None.is ∙ c.in_ok-i.ensures)
+    not_named c.self.inside.parameters.items (name_position c.self.inside.positions) name c.self.invariant.0 (sym c.in-None.is ∙ c.in_ok-i.ensures)
     ∙ ap (λ (l : List Parameter). find (is_parameter name) l) c.self.view_is

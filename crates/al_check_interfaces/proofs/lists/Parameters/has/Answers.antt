@@ -9,5 +9,5 @@ pub returns : goal.returns
 returns c =
     let name = c.args.name.now in
     c.is_some.ensures ∙ ap is_some c.in_ok-position.ensures
-    ∙ is_named (λ (p : Parameter). p.name) c.self.inside.parameters.items (name_position c.self.inside.positions) name c.self.invariant.0
+    ∙ is_named c.self.inside.parameters.items (name_position c.self.inside.positions) name c.self.invariant.0
     ∙ ap (λ (l : List Parameter). has_parameter l name) c.self.view_is

@@ -10,16 +10,17 @@ use Rattle.al_check_interfaces.specs.Uses.{Call, Site, calls_in, sites_in, targe
 use Rattle.al_check_interfaces.specs.declared.calls.Call as code_calls
 
 -- who calls, what, and what is said of it where it is on a call cycle
-abbrev pub Kept : Type 0
-Kept = Option Site × Target × Fault
+abbrev pub FolderCall : Type 0
+FolderCall = Option Site × Target × Fault
 
--- a call that is kept, by the sites of its file
-abbrev pub seen : List Site → code_calls.Call → Kept
-seen sites k = (slice_get sites k.site, k.target, k.fault)
+-- a call of the code, by the sites of its file
+abbrev pub folder_call : List Site → code_calls.Call → FolderCall
+folder_call sites k = (slice_get sites k.site, k.target, k.fault)
 
-abbrev pub kept : Call → Option Kept
-kept c = option_map (λ t. (Some c.site, t, that_uses code.LeadsBack c)) (target_in c.form)
+abbrev pub as_folder_call : Call → Option FolderCall
+as_folder_call c = option_map (λ t. (Some c.site, t, that_uses code.LeadsBack c)) (target_in c.form)
 
 -- these are the calls of files of the folder that a file's sites make, in order
 abbrev pub AreCallsOf : FileKind → Node → List code_calls.Call → Type 0
-AreCallsOf kind root calls = map (seen (sites_in kind root)) calls ≡ filter_map kept (calls_in kind root)
+AreCallsOf kind root calls =
+    map (folder_call (sites_in kind root)) calls ≡ filter_map as_folder_call (calls_in kind root)

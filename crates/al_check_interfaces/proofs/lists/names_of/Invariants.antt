@@ -1,0 +1,6 @@
+use Rattle.std.proofs.Common.{◌≡◌, ◌++◌, drop, map}
+use Rattle.al_check_interfaces.proofs.lists.names_of.Given as goal
+
+abbrev pub invariant-loop-parameter : goal.invariant-loop-parameter
+invariant-loop-parameter l =
+    map (λ n. n.now) l.names.items ++ map (λ p. p.name) (drop l.parameter-index l.parameters) ≡ map (λ p. p.name) l.parameters
