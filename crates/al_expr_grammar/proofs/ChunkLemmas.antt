@@ -13,7 +13,7 @@ use Rattle.al_expr_grammar.specs.Tokens.{add_to, is_quote, last_quote, span}
 use Rattle.al_expr_grammar.specs.Chunks.{Chunked, opens, closes, is_outside_quotes, before_opening, before_closing, no_chunks}
 use Rattle.al_expr_grammar.specs.Chunks.{then_chunk, open_fault, with_content, with_opening, chunks_within, chunks_of}
 use Rattle.al_expr_grammar.specs.Refusal.{open_text}
-use Rattle.al_expr_grammar.specs.Private.ChunkStates.{before_closing_on, chunks_from, end_fault, moved}
+use Rattle.al_expr_grammar.specs.Private.ChunkStates.{before_closing_on, chunks_from, end_fault, after_move}
 use Rattle.al_expr_grammar.proofs.Chunking.{skipped, third_is}
 use Rattle.al_expr_grammar.proofs.Closings.{closing_is}
 use Rattle.al_expr_grammar.proofs.LastQuote.{last_next}
@@ -42,7 +42,7 @@ opened_later at b bs (Some n) =
     inside_at (at + 1 + n + 3) (at + suc n + 3) (drop (n + 3) bs) (drop (suc n + 3) (b ∷ bs)) e (dropped n 3 b bs)
 
 opened_at : (at b : ℕ) (bs : List ℕ) (here : Bool) → opens (b ∷ bs) ≡ here → chunks_from 0 Outside (at + 1) bs ≡ opened (at + 1) bs (before_opening bs)
-    → moved (cond here (On 2 (Inside (at + 3))) (On 0 Outside)) at (λ skip w. chunks_from skip w (at + 1) bs)
+    → after_move (cond here (On 2 (Inside (at + 3))) (On 0 Outside)) at (λ skip w. chunks_from skip w (at + 1) bs)
     ≡ opened at (b ∷ bs) (cond here (Some 0) (option_map suc (before_opening bs)))
 opened_at at b bs true e f =
     let t = (third_is (b ∷ bs) e).0 in
@@ -138,7 +138,7 @@ is_shut front bs b shut o s = ap (λ t. t && closes (b ∷ bs)) o ∙ s
 
 outside_at : (b : ℕ) (bs front : List ℕ) (start at : ℕ) (here shut : Bool) → is_quote b ≡ here → closes (b ∷ bs) ≡ shut → at ≡ start + length front
     → is_outside_quotes front ≡ true → IsReadOutside bs → IsReadInside bs
-    → moved (cond here (On 0 (Quoted start at)) (cond shut (End start) (On 0 (Inside start)))) at (λ skip w. chunks_from skip w (at + 1) bs)
+    → after_move (cond here (On 0 (Quoted start at)) (cond shut (End start) (On 0 (Inside start)))) at (λ skip w. chunks_from skip w (at + 1) bs)
     ≡ closed start front (b ∷ bs) (before_closing_on front (b ∷ bs))
 outside_at b bs front start at true shut q s e o f g =
     g (front ++ b ∷ []) start at (at + 1) (one_more front b start at e) (quotes_are front b true true q o) (last_is front b start true q ∙ ap Some (sym e))
@@ -158,7 +158,7 @@ outside_at b bs front start at false false q s e o f g =
 
 inside_quotes : (b : ℕ) (bs front : List ℕ) (start quote at : ℕ) (here : Bool) → is_quote b ≡ here → at ≡ start + length front → is_outside_quotes front ≡ false
     → last_at start front ≡ Some quote → IsReadOutside bs → IsReadInside bs
-    → moved (cond here (On 0 (Inside start)) (On 0 (Quoted start quote))) at (λ skip w. chunks_from skip w (at + 1) bs)
+    → after_move (cond here (On 0 (Inside start)) (On 0 (Quoted start quote))) at (λ skip w. chunks_from skip w (at + 1) bs)
     ≡ closed start front (b ∷ bs) (before_closing_on front (b ∷ bs))
 inside_quotes b bs front start quote at true q e o l f g =
     f (front ++ b ∷ []) start (at + 1) (one_more front b start at e) (quotes_are front b true false q o)

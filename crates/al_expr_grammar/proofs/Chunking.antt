@@ -17,7 +17,7 @@ use Rattle.al_base.specs.Ascii as ascii
 use Rattle.al_base.specs.FirstBytes.{first_is}
 use Rattle.al_expr_grammar.specs.Tokens.{is_quote, span}
 use Rattle.al_expr_grammar.specs.Chunks.{Chunked, opens, closes, then_chunk, IsCutFrom}
-use Rattle.al_expr_grammar.specs.Private.ChunkStates.{move, moved, chunks_from, behind_chunks, Opens, StandsIn}
+use Rattle.al_expr_grammar.specs.Private.ChunkStates.{move, after_move, chunks_from, behind_chunks, Opens, StandsIn}
 
 pub skipped : (n at : ℕ) (w : ChunkState) (bs : List ℕ) → n ≤ length bs → chunks_from n w at bs ≡ chunks_from 0 w (at + n) (drop n bs)
 skipped zero at w bs h = sym (ap (λ a. chunks_from 0 w a bs) (add-zero at))
@@ -28,7 +28,7 @@ step_on : (state w : ChunkState) (at skip b : ℕ) (bs : List ℕ) → On skip w
     chunks_from 0 state at (b ∷ bs) ≡ chunks_from 0 w (at + suc skip) (drop skip bs)
 step_on state w at skip b bs m f =
     let e : (at + 1) + skip ≡ at + suc skip = omega arith in
-    ap (λ x. moved x at (λ n v. chunks_from n v (at + 1) bs)) (sym m) ∙ skipped skip (at + 1) w bs f ∙ ap (λ a. chunks_from 0 w a (drop skip bs)) e
+    ap (λ x. after_move x at (λ n v. chunks_from n v (at + 1) bs)) (sym m) ∙ skipped skip (at + 1) w bs f ∙ ap (λ a. chunks_from 0 w a (drop skip bs)) e
 
 pub goes_on : (state w : ChunkState) (at skip n : ℕ) (bs : List ℕ) → On skip w ≡ move state at bs → n ≡ suc skip → n ≤ length bs →
     chunks_from 0 state at bs ≡ chunks_from 0 w (at + n) (drop n bs)
@@ -39,7 +39,7 @@ step_end : (state : ChunkState) (at start b : ℕ) (bs : List ℕ) → End start
     chunks_from 0 state at (b ∷ bs) ≡ then_chunk (span start at) (chunks_from 0 Outside (at + 2) (drop 1 bs))
 step_end state at start b bs m f =
     let e : (at + 1) + 1 ≡ at + 2 = omega arith in
-    ap (λ x. moved x at (λ n v. chunks_from n v (at + 1) bs)) (sym m) ∙ ap (then_chunk (span start at)) (skipped 1 (at + 1) Outside bs f ∙ ap (λ a. chunks_from 0 Outside a (drop 1 bs)) e)
+    ap (λ x. after_move x at (λ n v. chunks_from n v (at + 1) bs)) (sym m) ∙ ap (then_chunk (span start at)) (skipped 1 (at + 1) Outside bs f ∙ ap (λ a. chunks_from 0 Outside a (drop 1 bs)) e)
 
 pub ends : (state : ChunkState) (at start : ℕ) (bs : List ℕ) → End start ≡ move state at bs → 2 ≤ length bs →
     chunks_from 0 state at bs ≡ then_chunk (span start at) (chunks_from 0 Outside (at + 2) (drop 2 bs))

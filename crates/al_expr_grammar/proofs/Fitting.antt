@@ -5,10 +5,10 @@ use Rattle.std.proofs.lemmas.Bool.Decides.{nat_tests}
 use Rattle.std.proofs.lemmas.List.{get_or-drop}
 use Rattle.std.proofs.lemmas.List.Sums.{prefix_len_passes, prefix_len-le-length}
 use Rattle.std.specs.Prelude.{slice_index}
-use Rattle.std.specs.Char.{is_ascii_hexdigit}
+use Rattle.std.specs.Char.{is_ascii_digit, is_ascii_hexdigit}
 use Rattle.std.specs.List.{prefix_len}
 use Rattle.al_base.specs.FirstBytes.{begins_with, first_is}
-use Rattle.al_expr_grammar.specs.Tokens.{is_digit, is_sign, begins_name, goes_on_name, with_digits, hex_len, fraction_len}
+use Rattle.al_expr_grammar.specs.Tokens.{is_sign, begins_name, goes_on_name, with_digits, hex_len, fraction_len}
 use Rattle.al_expr_grammar.specs.Tokens.{exponent_len, decimal_tail, decimal_len, unsigned_len, number_len, add_to, text_tail}
 use Rattle.al_expr_grammar.specs.Private.TextTails.{after_byte, tail_from}
 use Rattle.al_expr_grammar.proofs.TextTails.{tail_is}
@@ -36,7 +36,7 @@ further bs k (suc m) a b =
     let far : k ≤ length bs = a.within in
     record { within = omega (arith, length-drop k bs); last = λ h. rw (e, ← get_or-drop k bs (suc m - 1) 0) last }
 
-digit_ascii : (b : ℕ) → is_digit b ≡ true → b < 128
+digit_ascii : (b : ℕ) → is_ascii_digit b ≡ true → b < 128
 digit_ascii b h = grind (arith, nat_tests)
 
 hex_ascii : (b : ℕ) → is_ascii_hexdigit b ≡ true → b < 128
@@ -81,12 +81,13 @@ two_begun c d (b ∷ []) h = absurd (grind arith)
 two_begun c d (b ∷ e ∷ bs) h = omega arith
 
 fraction_ends : (bs : List ℕ) → Ends bs (fraction_len bs)
-fraction_ends bs = either bs _ _ _ (λ h. with_ends bs 1 _ (begun _ bs h) (run_ends is_digit (drop 1 bs) digit_ascii)) (nothing bs)
+fraction_ends bs = either bs _ _ _ (λ h. with_ends bs 1 _ (begun _ bs h) (run_ends is_ascii_digit (drop 1 bs) digit_ascii)) (nothing bs)
 
-signed_ends : (bs : List ℕ) → 1 ≤ length bs → Ends bs (cond (first_is is_sign (drop 1 bs)) (with_digits 2 (prefix_len is_digit (drop 2 bs))) (with_digits 1 (prefix_len is_digit (drop 1 bs))))
+signed_ends : (bs : List ℕ) → 1 ≤ length bs
+    → Ends bs (cond (first_is is_sign (drop 1 bs)) (with_digits 2 (prefix_len is_ascii_digit (drop 2 bs))) (with_digits 1 (prefix_len is_ascii_digit (drop 1 bs))))
 signed_ends bs h = either bs _ _ _
     (λ s. with_ends bs 2 _ (let n = one_byte _ (drop 1 bs) s in omega (arith, n, length-drop 1 bs))
-    (run_ends is_digit (drop 2 bs) digit_ascii)) (with_ends bs 1 _ h (run_ends is_digit (drop 1 bs) digit_ascii))
+    (run_ends is_ascii_digit (drop 2 bs) digit_ascii)) (with_ends bs 1 _ h (run_ends is_ascii_digit (drop 1 bs) digit_ascii))
 
 exponent_ends : (bs : List ℕ) → Ends bs (exponent_len bs)
 exponent_ends bs = either bs _ _ _ (λ h. signed_ends bs (one_byte _ bs h)) (nothing bs)
@@ -98,7 +99,7 @@ tail_ends : (bs : List ℕ) → Ends bs (decimal_tail bs)
 tail_ends bs = further bs (fraction_len bs) _ (fraction_ends bs) (exponent_ends (drop (fraction_len bs) bs))
 
 decimal_ends : (bs : List ℕ) → Ends bs (decimal_len bs)
-decimal_ends bs = either bs _ _ _ (λ h. further bs (prefix_len is_digit bs) _ (run_ends is_digit bs digit_ascii) (tail_ends (drop (prefix_len is_digit bs) bs))) (nothing bs)
+decimal_ends bs = either bs _ _ _ (λ h. further bs (prefix_len is_ascii_digit bs) _ (run_ends is_ascii_digit bs digit_ascii) (tail_ends (drop (prefix_len is_ascii_digit bs) bs))) (nothing bs)
 
 greater : (bs : List ℕ) (x y : ℕ) → Ends bs x → Ends bs y → Ends bs (max x y)
 greater bs x y a b = elim (max_is x y) [ inl e ↦ rw e a | inr e ↦ rw e b ]

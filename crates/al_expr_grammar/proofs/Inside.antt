@@ -1,5 +1,6 @@
 -- Chunks, tokens, trees and faults lie in the text or content that they were found in.
-use Rattle.std.proofs.Common.{◌≡◌, ◌<◌, ◌≤◌, ◌+◌, ◌-◌, ℕ, zero, suc, List, [], ◌∷◌, length, drop, refl, sym, subst, arith, Bool, true, false, cond, nat_lt, Option, Some, None}
+use Rattle.std.proofs.Common.{◌≡◌, ◌<◌, ◌≤◌, ◌+◌, ◌-◌, ℕ, zero, suc, List, [], ◌∷◌, length, drop, refl, sym, ◌∙◌, subst, arith, Bool, true, false, cond, nat_lt, Option, Some, None}
+use Rattle.std.specs.Int.{is_in_range}
 use Rattle.std.specs.List.{AllByRecursion}
 use Rattle.std.specs.Option.{option_map, option_to_list}
 use Rattle.std.proofs.lemmas.Bool.Decides.{nat_tests}
@@ -17,10 +18,10 @@ use Rattle.al_expr_grammar.specs.declared.lexer.Read.TheVariants.{Blank, Token, 
 use Rattle.al_expr_grammar.specs.declared.token.TokenKind.{TokenKind}
 use Rattle.al_expr_grammar.specs.Chunks.{Chunked, chunks_of, closes, opens}
 use Rattle.al_expr_grammar.specs.Private.TokenStates.{continue_with, tokens_from}
-use Rattle.al_expr_grammar.specs.Private.ChunkStates.{chunks_from, end_fault, move, moved}
+use Rattle.al_expr_grammar.specs.Private.ChunkStates.{chunks_from, end_fault, move, after_move}
 use Rattle.al_expr_grammar.proofs.ChunkLemmas.{states_give}
 use Rattle.al_expr_grammar.proofs.Chunking.{third_is}
-use Rattle.al_expr_grammar.specs.Extents.{start_of, end_of, end_of_steps, end_of_operands}
+use Rattle.al_expr_grammar.specs.Extents.{across, extent, with_operands, with_steps}
 use Rattle.al_expr_grammar.specs.Grammar.{Nonterminal, Derives, single, chain, positive, negated, bare, path, constant, number, text, name}
 use Rattle.al_expr_grammar.specs.Grammar.{call_empty, call, group, Operators, no_more, one_more, Walks, arrived, to_property, to_keyword, to_all}
 use Rattle.al_expr_grammar.specs.Grammar.{to_each, to_index, Lists, listed, and_next}
@@ -30,7 +31,7 @@ use Rattle.al_expr_grammar.specs.Refusal.{fault_at, fault_of_content, fault_of_l
 use Rattle.al_expr_grammar.specs.Table.{Verdict, Fine, Early, Unexpected, TooDeep, verdict_of}
 use Rattle.al_base.specs.FirstBytes.{first_is}
 use Rattle.al_expr_grammar.specs.Tokens.{Lexed, AllRead, Bad, Unclosed}
-use Rattle.al_expr_grammar.specs.Tokens.{is_inside, is_quote, last_quote, read}
+use Rattle.al_expr_grammar.specs.Tokens.{is_quote, last_quote, read}
 use Rattle.al_expr_grammar.specs.Tokens.{span, then_token, tokens_of}
 use Rattle.al_expr_grammar.specs.Tree as tree
 use Rattle.al_expr_grammar.specs.Tree.{Sign, sign, Tree, Constant, Named, Call, Group, Negated, Path, Chain, Steps, NoStep, PropertyThen}
@@ -38,6 +39,40 @@ use Rattle.al_expr_grammar.specs.Tree.{AllThen, IndexThen, StepTree, Operands, N
 use Rattle.al_expr_grammar.specs.Tree.{steps_of, operands_of, arguments_of}
 use Rattle.al_expr_grammar.proofs.Reading.{Short, read_short}
 use Rattle.al_expr_grammar.proofs.Splitting.{tokens_are}
+
+-- ---- where a tree begins
+
+abbrev pub start_of : Tree → ℕ
+start_of (Constant w s) = s.start
+start_of (tree.Number b s) = s.start
+start_of (tree.Text b s) = s.start
+start_of (Named b s) = s.start
+start_of (Call b s as' e) = s.start
+start_of (Group t s e) = s.start
+start_of (Negated s t) = s.start
+start_of (Path t ss) = start_of t
+start_of (Chain t os) = start_of t
+
+steps_start : (ss : Steps) (x : Span) → (with_steps x ss).start ≡ x.start
+steps_start NoStep x = refl
+steps_start (PropertyThen d b s ss) x = steps_start ss (across x s)
+steps_start (AllThen a b ss) x = steps_start ss (across x b)
+steps_start (IndexThen a t b ss) x = steps_start ss (across x b)
+
+operands_start : (os : Operands) (x : Span) → (with_operands x os).start ≡ x.start
+operands_start NoOperand x = refl
+operands_start (OperandThen o t os) x = operands_start os (across x (extent t))
+
+extent_start : (t : Tree) → (extent t).start ≡ start_of t
+extent_start (Constant w s) = refl
+extent_start (tree.Number b s) = refl
+extent_start (tree.Text b s) = refl
+extent_start (Named b s) = refl
+extent_start (Call b s as' e) = refl
+extent_start (Group t s e) = refl
+extent_start (Negated s t) = refl
+extent_start (Path t ss) = steps_start ss (extent t) ∙ extent_start t
+extent_start (Chain t os) = operands_start os (extent t) ∙ extent_start t
 
 -- ---- tokens lie in their content, one behind another
 
@@ -69,7 +104,7 @@ module _ (size : ℕ) where
       ((skip : ℕ) → LexedLies (at + 1) (go skip)) → LexedLies at (continue_with r at (b ∷ bs) go)
   continued Blank at b bs go room short ih = weaker_lexed at (at + 1) (go 0) (omega arith) (ih 0)
   continued BadCharacter at b bs go room short ih =
-      let within = prefix_len-le-length is_inside bs in
+      let within = prefix_len-le-length (is_in_range 128 191) bs in
       record { ordered = omega arith; inside = omega (arith, within, room) }
   continued OpenText at b bs go room short ih = tt
   continued (Token k n) at b bs go room short ih =
@@ -123,7 +158,7 @@ module _ (size : ℕ) where
   up_to low s e from between l = let o : e.start ≤ e.end = l.ordered in record { from = from; ordered = omega (arith, between, o); inside = l.inside }
 
   mutual
-    pub tree_extent : (t : Tree) (low : ℕ) → TreeLies low t → Extends low (start_of t) (end_of t)
+    pub tree_extent : (t : Tree) (low : ℕ) → TreeLies low t → Extends low (start_of t) (extent t).end
     tree_extent (Constant w s) low l = at_span low s l
     tree_extent (tree.Number b s) low l = at_span low s l
     tree_extent (tree.Text b s) low l = at_span low s l
@@ -133,26 +168,27 @@ module _ (size : ℕ) where
     tree_extent (Negated s t) low l = let x = tree_extent t s.start l.2 in let a = x.from in let b = x.ordered in record { from = l.0; ordered = omega (arith, a, b); inside = x.inside }
     tree_extent (Path t ss) low l =
         let x = tree_extent t low l.0 in
-        let y = steps_extent ss (start_of t) (end_of t) x.ordered x.inside l.1 in
+        let y = steps_extent ss (start_of t) (extent t) x.ordered x.inside l.1 in
         record { from = x.from; ordered = y.0; inside = y.1 }
     tree_extent (Chain t os) low l =
         let x = tree_extent t low l.0 in
-        let y = operands_extent os (start_of t) (end_of t) x.ordered x.inside l.1 in
+        let y = operands_extent os (start_of t) (extent t) x.ordered x.inside l.1 in
         record { from = x.from; ordered = y.0; inside = y.1 }
 
-    steps_extent : (ss : Steps) (low n : ℕ) → low ≤ n → n ≤ size → StepsLie low ss → (low ≤ end_of_steps n ss) × (end_of_steps n ss ≤ size)
-    steps_extent NoStep low n h i l = (h, i)
-    steps_extent (PropertyThen d b s ss) low n h i l =
-        let a = l.0 in let c = l.2 in let e : s.start ≤ s.end = (l.3).ordered in steps_extent ss low s.end (omega (arith, a, c, e)) (l.3).inside l.4
-    steps_extent (AllThen a b ss) low n h i l =
-        let f = l.0 in let c = l.2 in let e : b.start ≤ b.end = (l.3).ordered in steps_extent ss low b.end (omega (arith, f, c, e)) (l.3).inside l.4
-    steps_extent (IndexThen a t b ss) low n h i l =
-        let f = l.0 in let c = l.3 in let e : b.start ≤ b.end = (l.4).ordered in steps_extent ss low b.end (omega (arith, f, c, e)) (l.4).inside l.5
+    steps_extent : (ss : Steps) (low : ℕ) (x : Span) → low ≤ x.end → x.end ≤ size → StepsLie low ss → (low ≤ (with_steps x ss).end) × ((with_steps x ss).end ≤ size)
+    steps_extent NoStep low x h i l = (h, i)
+    steps_extent (PropertyThen d b s ss) low x h i l =
+        let a = l.0 in let c = l.2 in let e : s.start ≤ s.end = (l.3).ordered in steps_extent ss low (across x s) (omega (arith, a, c, e)) (l.3).inside l.4
+    steps_extent (AllThen a b ss) low x h i l =
+        let f = l.0 in let c = l.2 in let e : b.start ≤ b.end = (l.3).ordered in steps_extent ss low (across x b) (omega (arith, f, c, e)) (l.3).inside l.4
+    steps_extent (IndexThen a t b ss) low x h i l =
+        let f = l.0 in let c = l.3 in let e : b.start ≤ b.end = (l.4).ordered in steps_extent ss low (across x b) (omega (arith, f, c, e)) (l.4).inside l.5
 
-    operands_extent : (os : Operands) (low n : ℕ) → low ≤ n → n ≤ size → OperandsLie low os → (low ≤ end_of_operands n os) × (end_of_operands n os ≤ size)
-    operands_extent NoOperand low n h i l = (h, i)
-    operands_extent (OperandThen (sign o s) t os) low n h i l =
-        let x = tree_extent t low l.1 in let a = x.from in let b = x.ordered in operands_extent os low (end_of t) (omega (arith, a, b)) x.inside l.2
+    operands_extent : (os : Operands) (low : ℕ) (x : Span) → low ≤ x.end → x.end ≤ size → OperandsLie low os
+        → (low ≤ (with_operands x os).end) × ((with_operands x os).end ≤ size)
+    operands_extent NoOperand low x h i l = (h, i)
+    operands_extent (OperandThen (sign o s) t os) low x h i l =
+        let y = tree_extent t low l.1 in let a = y.from in let b = y.ordered in operands_extent os low (across x (extent t)) (omega (arith, a, b)) y.inside l.2
 
   -- The tokens of a tree are followed by tokens behind where the tree begins.
   mutual
@@ -309,8 +345,15 @@ tokens_lie content ts e = subst (LexedLies (length content) 0) e (content_lexed 
 pub tree_lies : {p : Nonterminal} {rest : List Lexeme} (content : List ℕ) (ts : List Lexeme) (t : Tree) → tokens_of content ≡ AllRead ts → Derives p ts t rest → TreeLies (length content) 0 t
 tree_lies content ts t e d = (derives_lie (length content) d 0 (tokens_lie content ts e)).0
 
-pub extent_lies : (size : ℕ) (t : Tree) → TreeLies size 0 t → LiesIn size (span (start_of t) (end_of t))
-extent_lies size t l = let x = tree_extent size t 0 l in record { ordered = x.ordered; inside = x.inside }
+pub whole_lies : (size low : ℕ) (t : Tree) → TreeLies size low t → LiesIn size (extent t)
+whole_lies size low t l =
+    let x = tree_extent size t low l in
+    let ordered = x.ordered in
+    let start = extent_start t in
+    record { ordered = omega (arith, ordered, start); inside = x.inside }
+
+pub extent_lies : (size : ℕ) (t : Tree) → TreeLies size 0 t → LiesIn size (extent t)
+extent_lies size t l = whole_lies size 0 t l
 
 -- ---- chunks
 
@@ -348,7 +391,7 @@ module _ (size : ℕ) where
       if_leads at (first_is is_quote (b ∷ bs)) (On 0 (Inside start)) (On 0 (Quoted start quote)) (λ e. (omega (arith, h), s.1)) (omega (arith, h), s.1, s.2)
 
   moved_lies : (m : Move) (at : ℕ) (go : ℕ → ChunkState → Chunked) → at ≤ size → Leads at m →
-      ((skip : ℕ) (w : ChunkState) → Stands (at + 1 + skip) w → ChunkedLies (go skip w)) → ChunkedLies (moved m at go)
+      ((skip : ℕ) (w : ChunkState) → Stands (at + 1 + skip) w → ChunkedLies (go skip w)) → ChunkedLies (after_move m at go)
   moved_lies (On skip w) at go room l ih = ih skip w l
   moved_lies (End start) at go room l ih = let x = ih 1 Outside tt in ((record { ordered = l; inside = room }, x.0), x.1)
 

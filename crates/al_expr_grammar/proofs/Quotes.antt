@@ -6,7 +6,7 @@ use Rattle.al_expr_grammar.specs.declared.lexer.Read.{Read}
 use Rattle.al_expr_grammar.specs.declared.lexer.Read.TheVariants.{Blank, Token, BadCharacter, OpenText}
 use Rattle.al_expr_grammar.specs.declared.token.TokenKind.{TokenKind}
 use Rattle.al_expr_grammar.specs.Lexeme.{Lexeme}
-use Rattle.al_expr_grammar.specs.Tokens.{Lexed, AllRead, Bad, Unclosed, read, mark, number_read, number_len, or_equal, doubled, tokens_of}
+use Rattle.al_expr_grammar.specs.Tokens.{Lexed, AllRead, Bad, Unclosed, read, mark, number_read, number_len, or_equal, double_mark, tokens_of}
 use Rattle.al_expr_grammar.specs.Tokens.{is_quote, last_quote, then_token}
 use Rattle.al_expr_grammar.specs.Private.TokenStates.{continue_with, tokens_from}
 use Rattle.al_expr_grammar.proofs.Splitting.{tokens_are}
@@ -22,7 +22,7 @@ equal_apart : (t : Bool) (k j : TokenKind) → or_equal t k j ≢ OpenText
 equal_apart true k j e = cc
 equal_apart false k j e = cc
 
-doubled_apart : (t : Bool) (k : TokenKind) → doubled t k ≢ OpenText
+doubled_apart : (t : Bool) (k : TokenKind) → double_mark t k ≢ OpenText
 doubled_apart true k e = cc
 doubled_apart false k e = cc
 

@@ -1,12 +1,13 @@
 -- What is read at a place has a byte and lies in the bytes.
 use Rattle.std.proofs.Common.{◌≡◌, ◌<◌, ◌≤◌, ℕ, List, [], ◌∷◌, length, refl, sym, subst, arith, Bool, true, false, cond, nat_eq, ◌||◌}
 use Rattle.std.proofs.lemmas.Bool.Decides.{nat_tests}
+use Rattle.std.specs.Char.{is_ascii_digit}
 use Rattle.al_expr_grammar.specs.declared.lexer.Read.{Read}
 use Rattle.al_expr_grammar.specs.declared.lexer.Read.TheVariants.{Blank, Token, BadCharacter, OpenText}
 use Rattle.al_expr_grammar.specs.declared.token.TokenKind.{TokenKind}
 use Rattle.al_expr_grammar.specs.declared.token.TokenKind.TheVariants.{Open, Close, OpenIndex, CloseIndex, Dot, Comma, Star}
 use Rattle.al_base.specs.FirstBytes.{begins_with}
-use Rattle.al_expr_grammar.specs.Tokens.{begins_name, doubled, is_blank, is_digit, is_sign, mark, name_read, number_len, number_read, or_equal}
+use Rattle.al_expr_grammar.specs.Tokens.{begins_name, double_mark, is_blank, is_sign, mark, name_read, number_len, number_read, or_equal}
 use Rattle.al_expr_grammar.specs.Tokens.{read, text_read, text_tail}
 use Rattle.al_expr_grammar.specs.Private.TokenStates.{Fits}
 use Rattle.al_expr_grammar.proofs.Fitting.{name_fits, number_fits, text_fits}
@@ -43,11 +44,11 @@ equal_short_at b bs false j k f = (omega arith, omega arith)
 equal_short : (b : ℕ) (bs : List ℕ) (j k : TokenKind) → Short (b ∷ bs) (or_equal (begins_with 61 bs) j k)
 equal_short b bs j k = equal_short_at b bs (begins_with 61 bs) j k (some_first 61 bs)
 
-doubled_short_at : (b : ℕ) (bs : List ℕ) (t : Bool) (k : TokenKind) → (t ≡ true → 1 ≤ length bs) → Short (b ∷ bs) (doubled t k)
+doubled_short_at : (b : ℕ) (bs : List ℕ) (t : Bool) (k : TokenKind) → (t ≡ true → 1 ≤ length bs) → Short (b ∷ bs) (double_mark t k)
 doubled_short_at b bs true k f = let h = f refl in (omega arith, omega (arith, h))
 doubled_short_at b bs false k f = tt
 
-doubled_short : (b c : ℕ) (bs : List ℕ) (k : TokenKind) → Short (b ∷ bs) (doubled (begins_with c bs) k)
+doubled_short : (b c : ℕ) (bs : List ℕ) (k : TokenKind) → Short (b ∷ bs) (double_mark (begins_with c bs) k)
 doubled_short b c bs k = doubled_short_at b bs (begins_with c bs) k (some_first c bs)
 
 mark_short : (b : ℕ) (bs : List ℕ) → Short (b ∷ bs) (mark b bs)
@@ -79,5 +80,5 @@ read_short b bs =
     if_short (b ∷ bs) (is_blank b) Blank _ tt
     (if_given (b ∷ bs) (begins_name b) (name_read (b ∷ bs)) _ (λ e. fits_short (b ∷ bs) (name_read (b ∷ bs)) (name_fits b bs e))
     (if_given (b ∷ bs) (nat_eq b 39) (text_read (text_tail bs)) _ (text_short b bs)
-    (if_short (b ∷ bs) (is_digit b || is_sign b) (number_read (number_len (b ∷ bs))) (mark b bs)
+    (if_short (b ∷ bs) (is_ascii_digit b || is_sign b) (number_read (number_len (b ∷ bs))) (mark b bs)
     (fits_short (b ∷ bs) (number_read (number_len (b ∷ bs))) (number_fits (b ∷ bs))) (mark_short b bs))))

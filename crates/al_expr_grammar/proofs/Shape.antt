@@ -8,7 +8,7 @@ use Rattle.al_expr_grammar.specs.Grammar.{Nonterminal, Derives, single, chain, p
 use Rattle.al_expr_grammar.specs.Grammar.{call_empty, call, group, Operators, no_more, one_more, Walks, arrived, to_property, to_keyword, to_all}
 use Rattle.al_expr_grammar.specs.Grammar.{to_each, to_index, Lists, listed, and_next}
 use Rattle.al_expr_grammar.specs.Table.{Verdict, Fine, Early, Unexpected, TooDeep, Mode, E, A, I, S, D, O, N, Frame, Group, Call, Index}
-use Rattle.al_expr_grammar.specs.Table.{Transition, Stuck, Go, Deeper, operand, after_operand, close, close_index, comma, step, finish, outside}
+use Rattle.al_expr_grammar.specs.Table.{Transition, Stuck, Go, Deeper, operand, after_operand, step, finish, outside}
 use Rattle.al_expr_grammar.specs.Table.{onward, scan}
 
 abbrev pub forget : List Frame → List Frame
@@ -46,40 +46,40 @@ module _ (room : Bool) (left : ℕ) (go : Mode → ℕ → List Frame → Verdic
   operand_same k st Bang = deeper_same E (suc k) 1 st
   operand_same k st _ = refl
 
-  close_same : (st : List Frame) → Same (close st) (close (forget st))
-  close_same [] = refl
-  close_same (Group k ∷ st) = ih O k st
-  close_same (Call k ∷ st) = ih O k st
-  close_same (Index k ∷ st) = refl
+  close_same : (k : ℕ) (st : List Frame) → Same (after_operand k st Close) (after_operand 0 (forget st) Close)
+  close_same k [] = refl
+  close_same k (Group j ∷ st) = ih O j st
+  close_same k (Call j ∷ st) = ih O j st
+  close_same k (Index j ∷ st) = refl
 
-  close_index_same : (st : List Frame) → Same (close_index st) (close_index (forget st))
-  close_index_same [] = refl
-  close_index_same (Group k ∷ st) = refl
-  close_index_same (Call k ∷ st) = refl
-  close_index_same (Index k ∷ st) = ih O k st
+  close_index_same : (k : ℕ) (st : List Frame) → Same (after_operand k st CloseIndex) (after_operand 0 (forget st) CloseIndex)
+  close_index_same k [] = refl
+  close_index_same k (Group j ∷ st) = refl
+  close_index_same k (Call j ∷ st) = refl
+  close_index_same k (Index j ∷ st) = ih O j st
 
-  comma_same : (st : List Frame) → Same (comma st) (comma (forget st))
-  comma_same [] = refl
-  comma_same (Group k ∷ st) = refl
-  comma_same (Call k ∷ st) = ih E 0 (Call k ∷ st)
-  comma_same (Index k ∷ st) = refl
+  comma_same : (k : ℕ) (st : List Frame) → Same (after_operand k st Comma) (after_operand 0 (forget st) Comma)
+  comma_same k [] = refl
+  comma_same k (Group j ∷ st) = refl
+  comma_same k (Call j ∷ st) = ih E 0 (Call j ∷ st)
+  comma_same k (Index j ∷ st) = refl
 
   after_same : (k : ℕ) (st : List Frame) (t : TokenKind) → Same (after_operand k st t) (after_operand 0 (forget st) t)
   after_same k st (Infix o) = ih E 0 st
   after_same k st Dot = ih D k st
   after_same k st OpenIndex = deeper_same I 0 0 (Index k ∷ st)
-  after_same k st Close = close_same st
-  after_same k st CloseIndex = close_index_same st
-  after_same k st Comma = comma_same st
+  after_same k st Close = close_same k st
+  after_same k st CloseIndex = close_index_same k st
+  after_same k st Comma = comma_same k st
   after_same k st _ = refl
 
   step_same : (m : Mode) (k : ℕ) (st : List Frame) (t : TokenKind) → Same (step m k st t) (step m 0 (forget st) t)
   step_same E k st t = operand_same k st t
-  step_same A k st Close = close_same st
+  step_same A k st Close = close_same k st
   step_same A k st t = operand_same k st t
   step_same I k st Star = ih S k st
   step_same I k st t = operand_same k st t
-  step_same S k st CloseIndex = close_index_same st
+  step_same S k st CloseIndex = close_index_same k st
   step_same S k st _ = refl
   step_same D k st Name = ih O k st
   step_same D k st (Keyword w) = ih O k st

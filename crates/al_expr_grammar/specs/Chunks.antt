@@ -38,13 +38,10 @@ abbrev pub before_opening : List ℕ → Option ℕ
 before_opening [] = None
 before_opening (b ∷ bs) = let later = option_map suc (before_opening bs) in if opens (b ∷ bs) then Some 0 else later
 
--- a `}}` outside quotes stands behind so many bytes of a content
-abbrev pub closes_behind : List ℕ → ℕ → Bool
-closes_behind bs n = is_outside_quotes (take n bs) && closes (drop n bs)
-
--- how many bytes stand before the first one
+-- how many bytes of a content stand before the first `}}` outside quotes
 abbrev pub before_closing : List ℕ → Option ℕ
-before_closing bs = find (closes_behind bs) (range_with_len 0 (length bs))
+before_closing bs =
+    find (λ n. is_outside_quotes (take n bs) && closes (drop n bs)) (range_with_len 0 (length bs))
 
 abbrev pub no_chunks : Option Fault → Chunked
 no_chunks f = record { chunks = []; fault = f }

@@ -1,5 +1,5 @@
 -- The fault of a content that is no expression.
-use Rattle.std.specs.Prelude.{◌≡◌, ℕ, ◌+◌, ◌-◌, List, [], ◌∷◌, nat_lt, if◌then◌else◌, length, drop, Option, Some, None}
+use Rattle.std.specs.Prelude.{◌≡◌, ℕ, ◌+◌, ◌-◌, List, [], ◌∷◌, nat_lt, if◌then◌else◌, length, drop, Option, Some, None, option_map}
 use Rattle.al_base.specs.declared.codes.Code.TheVariants.{Expression}
 use Rattle.al_base.specs.declared.codes.ExpressionCode as codes
 use Rattle.al_base.specs.declared.codes.ExpressionCode.TheVariants as code
@@ -29,8 +29,7 @@ fault_of_verdict len ts (Unexpected left) = fault_at (λ s b. fault code.Unexpec
 fault_of_verdict len ts (TooDeep left) = fault_at (λ s b. fault code.TooDeep s []) (drop (length ts - left) ts)
 
 abbrev pub open_text : Option ℕ → Option Fault
-open_text None = None
-open_text (Some quote) = Some (fault code.UnclosedText (span quote (quote + 1)) [])
+open_text = option_map (λ quote. fault code.UnclosedText (span quote (quote + 1)) [])
 
 -- X1 or X2, where the tokens are not all read
 abbrev pub fault_of_lexed : List ℕ → Lexed → Option Fault

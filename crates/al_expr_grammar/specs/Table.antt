@@ -38,36 +38,23 @@ operand k st Open = Deeper E 0 (Group k ∷ st)
 operand k st Bang = Deeper E (suc k) st
 operand k st _ = Stuck
 
--- what a closing bracket leads to
-abbrev pub close : List Frame → Transition
-close (Group k ∷ st) = Go O k st
-close (Call k ∷ st) = Go O k st
-close _ = Stuck
-
-abbrev pub close_index : List Frame → Transition
-close_index (Index k ∷ st) = Go O k st
-close_index _ = Stuck
-
-abbrev pub comma : List Frame → Transition
-comma (Call k ∷ st) = Go E 0 (Call k ∷ st)
-comma _ = Stuck
-
 abbrev pub after_operand : ℕ → List Frame → TokenKind → Transition
 after_operand k st (Infix o) = Go E 0 st
 after_operand k st Dot = Go D k st
 after_operand k st OpenIndex = Deeper I 0 (Index k ∷ st)
-after_operand k st Close = close st
-after_operand k st CloseIndex = close_index st
-after_operand k st Comma = comma st
+after_operand k (Group j ∷ st) Close = Go O j st
+after_operand k (Call j ∷ st) Close = Go O j st
+after_operand k (Call j ∷ st) Comma = Go E 0 (Call j ∷ st)
+after_operand k (Index j ∷ st) CloseIndex = Go O j st
 after_operand k st _ = Stuck
 
 abbrev pub step : Mode → ℕ → List Frame → TokenKind → Transition
 step E k st t = operand k st t
-step A k st Close = close st
+step A k st Close = after_operand k st Close
 step A k st t = operand k st t
 step I k st Star = Go S k st
 step I k st t = operand k st t
-step S k st CloseIndex = close_index st
+step S k st CloseIndex = after_operand k st CloseIndex
 step S k st t = Stuck
 step D k st Name = Go O k st
 step D k st (Keyword w) = Go O k st

@@ -21,14 +21,11 @@ use Rattle.std.specs.Str.{bytes_eq}
 use Rattle.std.specs.Prelude.{codes, ℕ, zero, suc, ◌+◌, List, [], ◌∷◌, Bool, ◌&&◌, ◌||◌, ◌==◌, if◌then◌else◌, max}
 use Rattle.std.specs.Prelude.{take, drop, Option, Some, None, option_map, length}
 
-abbrev pub is_digit : ℕ → Bool
-is_digit b = is_ascii_digit b
-
 abbrev pub begins_name : ℕ → Bool
 begins_name b = is_ascii_alphabetic b || b == ascii.underscore
 
 abbrev pub goes_on_name : ℕ → Bool
-goes_on_name b = begins_name b || is_digit b || b == ascii.dash
+goes_on_name b = begins_name b || is_ascii_digit b || b == ascii.dash
 
 abbrev pub is_blank : ℕ → Bool
 is_blank b = b == ascii.space || b == ascii.tab || b == ascii.line_feed || b == ascii.carriage_return
@@ -52,14 +49,14 @@ hex_len bs =
 
 -- a dot and digits
 abbrev pub fraction_len : List ℕ → ℕ
-fraction_len bs = if begins_with ascii.dot bs then with_digits 1 (prefix_len is_digit (drop 1 bs)) else 0
+fraction_len bs = if begins_with ascii.dot bs then with_digits 1 (prefix_len is_ascii_digit (drop 1 bs)) else 0
 
 -- an `e`, a sign or none, and digits
 abbrev pub exponent_len : List ℕ → ℕ
 exponent_len bs =
     if first_is (λ b. b == ascii.capital_e || b == ascii.small_e) bs
-    then (if first_is is_sign (drop 1 bs) then with_digits 2 (prefix_len is_digit (drop 2 bs))
-    else with_digits 1 (prefix_len is_digit (drop 1 bs)))
+    then (if first_is is_sign (drop 1 bs) then with_digits 2 (prefix_len is_ascii_digit (drop 2 bs))
+    else with_digits 1 (prefix_len is_ascii_digit (drop 1 bs)))
     else 0
 
 -- what follows the digits of a decimal number
@@ -67,7 +64,9 @@ abbrev pub decimal_tail : List ℕ → ℕ
 decimal_tail bs = fraction_len bs + exponent_len (drop (fraction_len bs) bs)
 
 abbrev pub decimal_len : List ℕ → ℕ
-decimal_len bs = if first_is is_digit bs then prefix_len is_digit bs + decimal_tail (drop (prefix_len is_digit bs) bs) else 0
+decimal_len bs =
+    if first_is is_ascii_digit bs
+    then prefix_len is_ascii_digit bs + decimal_tail (drop (prefix_len is_ascii_digit bs) bs) else 0
 
 -- a number's length without its sign, the longest that fits, or 0 where there is none
 abbrev pub unsigned_len : List ℕ → ℕ
@@ -99,8 +98,8 @@ abbrev pub or_equal : Bool → TokenKind → TokenKind → Read
 or_equal is_before_equal alone equal = if is_before_equal then Token equal 2 else Token alone 1
 
 -- a mark that stands doubled
-abbrev pub doubled : Bool → TokenKind → Read
-doubled is_doubled k = if is_doubled then Token k 2 else BadCharacter
+abbrev pub double_mark : Bool → TokenKind → Read
+double_mark is_double k = if is_double then Token k 2 else BadCharacter
 
 abbrev pub mark : ℕ → List ℕ → Read
 mark b bs =
@@ -114,9 +113,9 @@ mark b bs =
     else if b == ascii.exclamation then or_equal (begins_with ascii.equals bs) Bang (Infix NotEqual)
     else if b == ascii.less then or_equal (begins_with ascii.equals bs) (Infix Less) (Infix LessEqual)
     else if b == ascii.greater then or_equal (begins_with ascii.equals bs) (Infix Greater) (Infix GreaterEqual)
-    else if b == ascii.equals then doubled (begins_with ascii.equals bs) (Infix Equal)
-    else if b == ascii.ampersand then doubled (begins_with ascii.ampersand bs) (Infix And)
-    else if b == ascii.bar then doubled (begins_with ascii.bar bs) (Infix Or)
+    else if b == ascii.equals then double_mark (begins_with ascii.equals bs) (Infix Equal)
+    else if b == ascii.ampersand then double_mark (begins_with ascii.ampersand bs) (Infix And)
+    else if b == ascii.bar then double_mark (begins_with ascii.bar bs) (Infix Or)
     else BadCharacter
 
 abbrev pub text_read : Option ℕ → Read
@@ -137,7 +136,7 @@ read (b ∷ bs) =
     if is_blank b then Blank
     else if begins_name b then name_read (b ∷ bs)
     else if is_quote b then text_read (text_tail bs)
-    else if is_digit b || is_sign b then number_read (number_len (b ∷ bs))
+    else if is_ascii_digit b || is_sign b then number_read (number_len (b ∷ bs))
     else mark b bs
 
 pub data Lexed : Type 0 where
@@ -154,13 +153,9 @@ then_token t other = other
 abbrev pub span : ℕ → ℕ → Span
 span a b = record { start = a; end = b }
 
--- the bytes that continue a character
-abbrev pub is_inside : ℕ → Bool
-is_inside b = is_in_range 0x80 0xBF b
-
--- the character that bytes begin with which stand at a place
+-- the character that bytes begin with which stand at a place: bytes from 128 to 191 continue it
 abbrev pub character_at : ℕ → List ℕ → Span
-character_at at bs = span at (at + 1 + prefix_len is_inside (drop 1 bs))
+character_at at bs = span at (at + 1 + prefix_len (is_in_range 128 191) (drop 1 bs))
 
 -- what bytes begin with, and the rest behind it
 abbrev pub with_first : (ℕ → List ℕ → Lexed) → Read → ℕ → List ℕ → Lexed

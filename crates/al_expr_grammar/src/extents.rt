@@ -1,21 +1,31 @@
 //! The bytes of a content that a part of its tree covers.
 
-ghost use Rattle.std.specs.Prelude.{◌≡◌, map};
+ghost use Rattle.std.specs.Prelude.{◌≡◌, ◌∷◌, List, map};
+ghost use Rattle.al_base.specs.declared.faults.Span.{Span};
 ghost use Rattle.al_expr_grammar.specs.Extents as extents;
-ghost use Rattle.al_expr_grammar.specs.Extents.{extent, end_of_step};
-ghost use Rattle.al_expr_grammar.specs.Tree.{Path, steps_of, operands_of};
+ghost use Rattle.al_expr_grammar.specs.Extents.{extent, with_operands, with_steps};
+ghost use Rattle.al_expr_grammar.specs.Tree.{Path, StepTree, steps_of, operands_of};
 ghost use Rattle.al_expr_grammar.specs.View.{tree_of, step_of, operand_of};
 
 use crate::ast::{Expr, Operand, PathStep};
 use al_base::Span;
 
 /// Where an expression stands, its outer brackets included.
+#[tactic(auto, using(crate::proofs::TreeViews::tree_views))]
+#[cycle(extents)]
 pub fn extent(expr: &Expr) -> Span
     ensures { result ≡ extent (tree_of expr.now) }
 {
-    Span {
-        start: start_of(expr),
-        end: end_of(expr),
+    match expr {
+        Expr::Keyword(_, span) => *span,
+        Expr::Number(word) => word.span,
+        Expr::Text(word) => word.span,
+        Expr::Name(word) => word.span,
+        Expr::Call(name, _, close) => across(name.span, *close),
+        Expr::Group(_, open, close) => across(*open, *close),
+        Expr::Not(at, operand) => across(*at, extent(operand)),
+        Expr::Path(base, steps) => with_steps(extent(base), steps),
+        Expr::Chain(first, operands) => with_operands(extent(first), operands),
     }
 }
 
@@ -23,10 +33,7 @@ pub fn extent(expr: &Expr) -> Span
 pub fn path_extent(base: &Expr, steps: &[PathStep]) -> Span
     ensures { result ≡ extent (Path (tree_of base.now) (steps_of (map step_of steps.now))) }
 {
-    Span {
-        start: start_of(base),
-        end: end_of_steps(end_of(base), steps),
-    }
+    with_steps(extent(base), steps)
 }
 
 /// From the start of one place to the end of another.
@@ -39,70 +46,37 @@ pub fn across(first: Span, last: Span) -> Span
     }
 }
 
-#[tactic(auto, using(crate::proofs::TreeViews::tree_views))]
-fn start_of(expr: &Expr) -> u32
-    ensures { result ≡ extents.start_of (tree_of expr.now) }
+fn with_steps(base: Span, steps: &[PathStep]) -> Span
+    ensures { result ≡ with_steps base (steps_of (map step_of steps.now)) }
 {
-    match expr {
-        Expr::Keyword(_, span) => span.start,
-        Expr::Number(word) => word.span.start,
-        Expr::Text(word) => word.span.start,
-        Expr::Name(word) => word.span.start,
-        Expr::Call(word, _, _) => word.span.start,
-        Expr::Group(_, open, _) => open.start,
-        Expr::Not(at, _) => at.start,
-        Expr::Path(base, _) => start_of(base),
-        Expr::Chain(first, _) => start_of(first),
-    }
-}
-
-#[tactic(auto, using(crate::proofs::TreeViews::tree_views))]
-#[cycle(ends)]
-fn end_of(expr: &Expr) -> u32
-    ensures { result ≡ extents.end_of (tree_of expr.now) }
-{
-    match expr {
-        Expr::Keyword(_, span) => span.end,
-        Expr::Number(word) => word.span.end,
-        Expr::Text(word) => word.span.end,
-        Expr::Name(word) => word.span.end,
-        Expr::Call(_, _, close) => close.end,
-        Expr::Group(_, _, close) => close.end,
-        Expr::Not(_, operand) => end_of(operand),
-        Expr::Path(base, steps) => end_of_steps(end_of(base), steps),
-        Expr::Chain(first, operands) => end_of_operands(end_of(first), operands),
-    }
-}
-
-fn end_of_steps(before: u32, steps: &[PathStep]) -> u32
-    ensures { result ≡ extents.end_of_steps before (steps_of (map step_of steps.now)) }
-{
-    let mut end = before;
+    let mut whole = base;
     for step in steps {
-        end = end_of_step(step);
+        whole = across(whole, step_end(step));
     }
-    end
+    whole
 }
 
+/// The last token of a step.
 #[tactic(auto, using(crate::proofs::TreeViews::step_views))]
-fn end_of_step(step: &PathStep) -> u32
-    ensures { result ≡ end_of_step (step_of step.now) }
+fn step_end(step: &PathStep) -> Span
+    ensures { (x : Span) (ss : List StepTree) → with_steps x (steps_of (step_of step.now ∷ ss))
+        ≡ with_steps (extents.across x result) (steps_of ss) }
 {
     match step {
-        PathStep::Property(_, word) => word.span.end,
-        PathStep::All(_, last) => last.end,
-        PathStep::Index(_, _, close) => close.end,
+        PathStep::Property(_, name) => name.span,
+        PathStep::All(_, last) => *last,
+        PathStep::Index(_, _, close) => *close,
     }
 }
 
 #[tactic(auto, using(crate::proofs::TreeViews::operand_view))]
-#[cycle(ends)]
-fn end_of_operands(before: u32, operands: &[Operand]) -> u32
-    ensures { result ≡ extents.end_of_operands before (operands_of (map operand_of operands.now)) }
+#[cycle(extents)]
+fn with_operands(first: Span, operands: &[Operand]) -> Span
+    ensures { result ≡ with_operands first (operands_of (map operand_of operands.now)) }
 {
-    let mut end = before;
+    let mut whole = first;
     for operand in operands {
-        end = end_of(&operand.expr);
+        whole = across(whole, extent(&operand.expr));
     }
-    end
+    whole
 }

@@ -1,9 +1,10 @@
 //! The tokens of a content, or the character at which they break off.
 
 ghost use Rattle.std.specs.Prelude.{map, ℕ, IfOk, IfSome, MatchOption, MatchResult, ◌≡◌, ◌≤◌, ◌<◌, ◌+◌, ◌^◌, Some, [], ◌∷◌, length, false};
+ghost use Rattle.std.specs.Int.{is_in_range};
 ghost use Rattle.std.specs.List.{prefix_len};
 ghost use Rattle.al_expr_grammar.specs.Lexeme.{seen};
-ghost use Rattle.al_expr_grammar.specs.Tokens.{begins_name, goes_on_name, is_blank, is_sign, is_inside, or_equal, doubled, mark};
+ghost use Rattle.al_expr_grammar.specs.Tokens.{begins_name, goes_on_name, is_blank, is_sign, or_equal, double_mark, mark};
 ghost use Rattle.al_base.specs.Ascii as ascii;
 ghost use Rattle.al_base.specs.FirstBytes.{begins_with};
 ghost use Rattle.al_base.specs.Limits.{longest_text};
@@ -76,7 +77,7 @@ fn name_len(bytes: &[u8]) -> usize
 
 /// How many bytes at the front continue a character.
 fn inside_len(bytes: &[u8]) -> usize
-    ensures value { result ≡ prefix_len is_inside bytes.now }
+    ensures value { result ≡ prefix_len (is_in_range 128 191) bytes.now }
     ensures within { result ≤ length bytes.now }
 {
     bytes
@@ -141,7 +142,7 @@ fn alone_or_equal(rest: &[u8], alone: TokenKind, equal: TokenKind) -> Read
 /// A mark that stands doubled only.
 fn twice(b: u8, rest: &[u8], kind: TokenKind) -> Read
     requires { b < 128 }
-    ensures value { result ≡ doubled (begins_with b rest.now) kind }
+    ensures value { result ≡ double_mark (begins_with b rest.now) kind }
     ensures fits { Fits (b ∷ rest.now) result }
 {
     if starts_with(rest, b) {

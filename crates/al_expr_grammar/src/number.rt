@@ -1,14 +1,14 @@
 //! How far a number reaches.
 
 ghost use Rattle.std.specs.Prelude.{◌≡◌, ◌≤◌, ◌<◌, ◌+◌, ◌^◌, length};
-ghost use Rattle.std.specs.Char.{is_ascii_hexdigit};
+ghost use Rattle.std.specs.Char.{is_ascii_digit, is_ascii_hexdigit};
 ghost use Rattle.std.specs.List.{prefix_len};
-ghost use Rattle.al_expr_grammar.specs.Tokens.{is_digit, with_digits, fraction_len, exponent_len, hex_len, decimal_len};
+ghost use Rattle.al_expr_grammar.specs.Tokens.{with_digits, fraction_len, exponent_len, hex_len, decimal_len};
 ghost use Rattle.al_expr_grammar.specs.Tokens.{unsigned_len, number_len};
 
 /// Whether a byte is a decimal digit.
 pub fn digit(b: u8) -> bool
-    ensures { result ≡ is_digit b }
+    ensures { result ≡ is_ascii_digit b }
 {
     b'0' <= b && b <= b'9'
 }
@@ -22,7 +22,7 @@ fn hex_digit(b: u8) -> bool
 
 /// How many digits stand at the front.
 fn digits(bytes: &[u8]) -> usize
-    ensures value { result ≡ prefix_len is_digit bytes.now }
+    ensures value { result ≡ prefix_len is_ascii_digit bytes.now }
     ensures within { result ≤ length bytes.now }
 {
     bytes.iter().take_while(|b| digit(**b)).count()

@@ -6,14 +6,14 @@ use Rattle.al_base.specs.Spans.{LiesIn}
 use Rattle.al_base.specs.declared.codes.ExpressionCode.TheVariants as code
 use Rattle.al_base.specs.declared.faults.Fault.{Fault}
 use Rattle.al_base.specs.declared.faults.Span.{Span}
-use Rattle.al_expr_grammar.specs.Extents.{across, extent, start_of}
+use Rattle.al_expr_grammar.specs.Extents.{across, extent}
 use Rattle.al_expr_grammar.specs.Inside.{AllLie}
 use Rattle.al_expr_grammar.specs.Refusal.{fault}
 use Rattle.al_expr_grammar.specs.Tree as tree
 use Rattle.al_expr_grammar.specs.Tree.{Tree, sign, Constant, Named, Call, Group, Negated, Path, Chain, Steps, NoStep, PropertyThen, AllThen}
 use Rattle.al_expr_grammar.specs.Tree.{IndexThen, Operands, NoOperand, OperandThen, Arguments, NoArgument, ArgumentThen}
 use Rattle.al_expr_grammar.specs.declared.token.Operator.{Operator}
-use Rattle.al_expr_grammar.proofs.Inside.{TreeLies, StepsLie, OperandsLie, ArgumentsLie, tree_extent}
+use Rattle.al_expr_grammar.proofs.Inside.{TreeLies, StepsLie, OperandsLie, ArgumentsLie, start_of, whole_lies}
 use Rattle.al_types.specs.Names.{context_of, function_of}
 use Rattle.al_types.specs.Scopes.{Scope}
 use Rattle.al_types.specs.Signatures.{accepts, signature, takes, wanted}
@@ -24,13 +24,13 @@ use Rattle.al_types.specs.declared.names.Function.TheVariants.{Format}
 use Rattle.al_types.specs.declared.signatures.Parameters.{Parameters}
 use Rattle.al_expr_typing.specs.Comparison.{comparable_types}
 use Rattle.al_expr_typing.specs.Literals.{literal_text}
-use Rattle.al_expr_typing.specs.Meaning.{AllTyped, all_typed, Typed, typed, all_of, and_then, argument_faults, array_of, before}
-use Rattle.al_expr_typing.specs.Meaning.{begins_logic, behind, called, called_with, chained, faults_in, format_faults, format_text}
-use Rattle.al_expr_typing.specs.Meaning.{give, index_of, indexed, is_logic, is_test, meaning, meanings, named, operated, or_fault, parts_of}
-use Rattle.al_expr_typing.specs.Meaning.{placeholder_faults, property_of, typed_then, untrusted, untrusted_fault}
-use Rattle.al_expr_typing.specs.Meaning.{unused, walked, wrong_arguments}
+use Rattle.al_expr_typing.specs.Meaning.{AllTyped, all_typed, Typed, typed, all_of, and_then, argument_faults}
+use Rattle.al_expr_typing.specs.Meaning.{begins_logic, behind, call, call_from, operations, faults_in, format_faults, format_text}
+use Rattle.al_expr_typing.specs.Meaning.{give, index_of, index_from, is_logic, is_test, meaning, meanings, name_type, operation, or_fault, parts_of}
+use Rattle.al_expr_typing.specs.Meaning.{placeholder_faults, property_of, typed_then, untrusted_faults, chain_faults}
+use Rattle.al_expr_typing.specs.Meaning.{unused_arguments, walk, wrong_arguments}
 use Rattle.al_expr_typing.specs.Placeholders.{used_arguments}
-use Rattle.al_expr_typing.specs.Untrusted.{chain_among, untrusted_chains}
+use Rattle.al_expr_typing.specs.Untrusted.{untrusted_chain}
 
 module _ (size : ℕ) where
   abbrev TypedLies : Typed → Type 0
@@ -61,9 +61,6 @@ module _ (size : ℕ) where
   behind_lies : (fs : List Fault) (x : Typed) → AllLie size fs → TypedLies x → TypedLies (behind fs x)
   behind_lies fs (typed t gs) a b = both_lie fs gs a b
 
-  before_lies : (gs : List Fault) (x : Typed) → AllLie size gs → TypedLies x → TypedLies (before gs x)
-  before_lies gs (typed t fs) a b = both_lie fs gs b a
-
   then_lies : (x : Typed) (go : Type' → Typed) → TypedLies x → ((u : Type') → TypedLies (go u)) → TypedLies (and_then x go)
   then_lies (typed t fs) go a b = behind_lies fs (go t) a (b t)
 
@@ -71,12 +68,9 @@ module _ (size : ℕ) where
   give_lies true f i = (i, tt)
   give_lies false f i = tt
 
-  named_lies : (sc : Scope) (b : List ℕ) (s : Span) (o : Option Context) → LiesIn size s → TypedLies (named sc b s o)
+  named_lies : (sc : Scope) (b : List ℕ) (s : Span) (o : Option Context) → LiesIn size s → TypedLies (name_type sc b s o)
   named_lies sc b s None i = (i, tt)
   named_lies sc b s (Some c) i = if_typed (sc.available.contexts c) (typed (sc.types c) []) (typed Any (fault code.UnavailableContext s (b ∷ []) ∷ [])) tt (i, tt)
-
-  array_lies : (x : Typed) → TypedLies x → TypedLies (array_of x)
-  array_lies (typed t fs) a = a
 
   or_lies : (f : Fault) (o : Option Type') → LiesIn size f.span → TypedLies (or_fault f o)
   or_lies f None i = (i, tt)
@@ -85,7 +79,7 @@ module _ (size : ℕ) where
   property_lies : (n : List ℕ) (at whole : Span) (u : Type') → LiesIn size at → LiesIn size whole → TypedLies (property_of n at whole u)
   property_lies n at whole Any i j = tt
   property_lies n at whole (ObjectOf fields rest all) i j = or_lies (fault code.UndefinedProperty at (n ∷ [])) (option_of (or_else (fields n) rest)) i
-  property_lies n at whole (ArrayOf t) i j = array_lies (property_of n at whole t) (property_lies n at whole t i j)
+  property_lies n at whole (ArrayOf t) i j = then_lies (property_of n at whole t) (λ u. typed (ArrayOf u) []) (property_lies n at whole t i j) (λ u. tt)
   property_lies n at whole _ i j = (j, tt)
 
   all_lies : (whole : Span) (u : Type') → LiesIn size whole → TypedLies (all_of whole u)
@@ -101,7 +95,7 @@ module _ (size : ℕ) where
   index_lies whole (ArrayOf t) Number j = tt
   index_lies whole _ i j = (j, tt)
 
-  indexed_lies : (o : Option (List ℕ × Span)) (whole : Span) (u : Type') (i : Typed) → LiteralLies o → LiesIn size whole → TypedLies i → TypedLies (indexed o whole u i)
+  indexed_lies : (o : Option (List ℕ × Span)) (whole : Span) (u : Type') (i : Typed) → LiteralLies o → LiesIn size whole → TypedLies i → TypedLies (index_from o whole u i)
   indexed_lies (Some x) whole u i l j h = property_lies x.0 x.1 whole u l j
   indexed_lies None whole u i l j h = then_lies i (λ v. index_of whole u v) h (λ v. index_lies whole u v j)
 
@@ -119,18 +113,15 @@ module _ (size : ℕ) where
   across_lies : (a b : Span) → a.start ≤ b.start → LiesIn size b → LiesIn size (across a b)
   across_lies a b h i = let o : b.start ≤ b.end = i.ordered in record { ordered = omega (arith, h, o); inside = i.inside }
 
-  whole_lies : (t : Tree) (low : ℕ) → TreeLies size low t → LiesIn size (extent t)
-  whole_lies t low l = let x = tree_extent size t low l in record { ordered = x.ordered; inside = x.inside }
-
-  chain_lies : (whole : Span) (o : Option (List (List ℕ))) → LiesIn size whole → AllLie size (untrusted_fault whole o)
+  chain_lies : (whole : Span) (o : Option (List (List ℕ))) → LiesIn size whole → AllLie size (chain_faults whole o)
   chain_lies whole None i = tt
   chain_lies whole (Some c) i = (i, tt)
 
-  untrusted_lies : (exposed : Bool) (t : Tree) (ss : Steps) → LiesIn size (extent (Path t ss)) → AllLie size (untrusted exposed t ss)
-  untrusted_lies true (Named b s) ss i = chain_lies (extent (Path (Named b s) ss)) (chain_among untrusted_chains (b ∷ parts_of ss)) i
+  untrusted_lies : (exposed : Bool) (t : Tree) (ss : Steps) → LiesIn size (extent (Path t ss)) → AllLie size (untrusted_faults exposed t ss)
+  untrusted_lies true (Named b s) ss i = chain_lies (extent (Path (Named b s) ss)) (untrusted_chain (b ∷ parts_of ss)) i
   untrusted_lies _ t ss i = tt
 
-  operated_lies : (o : Operator) (s : Span) (t u : Type') → LiesIn size s → TypedLies (operated o s t u)
+  operated_lies : (o : Operator) (s : Span) (t u : Type') → LiesIn size s → TypedLies (operation o s t u)
   operated_lies o s t u i =
       if_typed (is_logic o) _ (typed Bool' (give (not (comparable_types o t u)) (fault code.NotComparable s []))) tt
       (give_lies (not (comparable_types o t u)) (fault code.NotComparable s []) i)
@@ -146,11 +137,11 @@ module _ (size : ℕ) where
   arguments_lie : (name : List ℕ) (at : Span) (ps : Parameters) (as' : List (Type' × Span)) → LiesIn size at → ArgsLie as' → AllLie size (argument_faults name at ps as')
   arguments_lie name at ps as' i l = if_lie (takes ps (length as')) (wrong_arguments name ps 0 as') (fault code.ArgumentCount at (name ∷ []) ∷ []) (wrong_lie name ps 0 as' l) (i, tt)
 
-  unused_lie : (n : ℕ) (us : List Bool) (as' : List (Type' × Span)) → ArgsLie as' → AllLie size (unused n us as')
+  unused_lie : (n : ℕ) (us : List Bool) (as' : List (Type' × Span)) → ArgsLie as' → AllLie size (unused_arguments n us as')
   unused_lie n [] as' l = tt
   unused_lie n (u ∷ us) [] l = tt
   unused_lie n (u ∷ us) (a ∷ as') l =
-      both_lie (give (not u) (fault code.UnusedArgument a.1 (decimal (n + 2) ∷ []))) (unused (n + 1) us as')
+      both_lie (give (not u) (fault code.UnusedArgument a.1 (decimal (n + 2) ∷ []))) (unused_arguments (n + 1) us as')
       (give_lies (not u) (fault code.UnusedArgument a.1 (decimal (n + 2) ∷ [])) l.0) (unused_lie (n + 1) us as' l.1)
 
   placeholders_lie : (at : Span) (o : Option (List Bool)) (as' : List (Type' × Span)) → LiesIn size at → ArgsLie as' → AllLie size (placeholder_faults at o as')
@@ -171,7 +162,7 @@ module _ (size : ℕ) where
   format_lie _ ts low as' h l = tt
 
   with_lies : (sc : Scope) (b : List ℕ) (s : Span) (o : Option Function) (ts : Arguments) (low : ℕ) (as' : List (Type' × Span)) →
-      LiesIn size s → ArgumentsLie size low ts → ArgsLie as' → TypedLies (called_with sc b s o ts as')
+      LiesIn size s → ArgumentsLie size low ts → ArgsLie as' → TypedLies (call_from sc b s o ts as')
   with_lies sc b s None ts low as' i h l = (i, tt)
   with_lies sc b s (Some f) ts low as' i h l =
       both_lie (give (not (sc.available.functions f)) (fault code.UnavailableFunction s (b ∷ [])) ++ argument_faults b s (signature f).parameters as') (format_faults f ts as')
@@ -180,8 +171,8 @@ module _ (size : ℕ) where
       (format_lie f ts low as' h l)
 
   called_lies : (sc : Scope) (b : List ℕ) (s : Span) (o : Option Function) (ts : Arguments) (low : ℕ) (all : AllTyped) →
-      LiesIn size s → ArgumentsLie size low ts → AllTypedLies all → TypedLies (called sc b s o ts all)
-  called_lies sc b s o ts low (all_typed as' fs) i h l = behind_lies fs (called_with sc b s o ts as') l.1 (with_lies sc b s o ts low as' i h l.0)
+      LiesIn size s → ArgumentsLie size low ts → AllTypedLies all → TypedLies (call sc b s o ts all)
+  called_lies sc b s o ts low (all_typed as' fs) i h l = behind_lies fs (call_from sc b s o ts as') l.1 (with_lies sc b s o ts low as' i h l.0)
 
   argument_then : (x : Typed) (s : Span) (all : AllTyped) → TypedLies x → LiesIn size s → AllTypedLies all → AllTypedLies (typed_then x s all)
   argument_then (typed t fs) s (all_typed as' gs) a i l = ((i, l.0), both_lie fs gs a l.1)
@@ -200,33 +191,33 @@ module _ (size : ℕ) where
     meaning_lies (Group t s e) sc safe low l = meaning_lies t sc safe s.start l.2
     meaning_lies (Negated s t) sc safe low l = then_lies (meaning sc true t) (λ u. typed Bool' []) (meaning_lies t sc true s.start l.2) (λ u. tt)
     meaning_lies (Path t ss) sc safe low l =
-        before_lies (untrusted (sc.in_run && not safe) t ss) (and_then (meaning sc safe t) (λ u. walked sc safe ss u))
-        (untrusted_lies (sc.in_run && not safe) t ss (whole_lies (Path t ss) low l))
-        (then_lies (meaning sc safe t) (λ u. walked sc safe ss u) (meaning_lies t sc safe low l.0) (λ u. walked_lies ss sc safe (start_of t) u l.1))
+        then_lies (and_then (meaning sc safe t) (λ u. walk sc safe ss u)) (λ u. typed u (untrusted_faults (sc.in_run && not safe) t ss))
+        (then_lies (meaning sc safe t) (λ u. walk sc safe ss u) (meaning_lies t sc safe low l.0) (λ u. walked_lies ss sc safe (start_of t) u l.1))
+        (λ u. untrusted_lies (sc.in_run && not safe) t ss (whole_lies size low (Path t ss) l))
     meaning_lies (Chain t os) sc safe low l =
-        then_lies (meaning sc (safe || not (begins_logic os)) t) (λ u. chained sc (safe || not (begins_logic os)) os u)
+        then_lies (meaning sc (safe || not (begins_logic os)) t) (λ u. operations sc (safe || not (begins_logic os)) os u)
         (meaning_lies t sc (safe || not (begins_logic os)) low l.0) (λ u. chained_lies os sc (safe || not (begins_logic os)) (start_of t) u l.1)
 
-    walked_lies : (ss : Steps) (sc : Scope) (safe : Bool) (low : ℕ) (u : Type') → StepsLie size low ss → TypedLies (walked sc safe ss u)
+    walked_lies : (ss : Steps) (sc : Scope) (safe : Bool) (low : ℕ) (u : Type') → StepsLie size low ss → TypedLies (walk sc safe ss u)
     walked_lies NoStep sc safe low u l = tt
     walked_lies (PropertyThen d b s ss) sc safe low u l =
-        then_lies (property_of b s (across d s) u) (λ v. walked sc safe ss v) (property_lies b s (across d s) u l.3 (across_lies d s l.2 l.3))
+        then_lies (property_of b s (across d s) u) (λ v. walk sc safe ss v) (property_lies b s (across d s) u l.3 (across_lies d s l.2 l.3))
         (λ v. walked_lies ss sc safe low v l.4)
     walked_lies (AllThen a b ss) sc safe low u l =
-        then_lies (all_of (across a b) u) (λ v. walked sc safe ss v) (all_lies (across a b) u (across_lies a b l.2 l.3))
+        then_lies (all_of (across a b) u) (λ v. walk sc safe ss v) (all_lies (across a b) u (across_lies a b l.2 l.3))
         (λ v. walked_lies ss sc safe low v l.4)
     walked_lies (IndexThen a t b ss) sc safe low u l =
-        then_lies (indexed (literal_text t) (across a b) u (meaning sc safe t)) (λ v. walked sc safe ss v)
+        then_lies (index_from (literal_text t) (across a b) u (meaning sc safe t)) (λ v. walk sc safe ss v)
         (indexed_lies (literal_text t) (across a b) u (meaning sc safe t) (literal_lies t low l.2) (across_lies a b l.3 l.4) (meaning_lies t sc safe low l.2))
         (λ v. walked_lies ss sc safe low v l.5)
 
-    chained_lies : (os : Operands) (sc : Scope) (safe : Bool) (low : ℕ) (u : Type') → OperandsLie size low os → TypedLies (chained sc safe os u)
+    chained_lies : (os : Operands) (sc : Scope) (safe : Bool) (low : ℕ) (u : Type') → OperandsLie size low os → TypedLies (operations sc safe os u)
     chained_lies NoOperand sc safe low u l = tt
     chained_lies (OperandThen (sign o s) t os) sc safe low u l =
-        then_lies (meaning sc safe t) (λ v. and_then (operated o s u v) (λ w. chained sc safe os w)) (meaning_lies t sc safe low l.1)
-        (λ v. then_lies (operated o s u v) (λ w. chained sc safe os w) (operated_lies o s u v l.0) (λ w. chained_lies os sc safe low w l.2))
+        then_lies (meaning sc safe t) (λ v. and_then (operation o s u v) (λ w. operations sc safe os w)) (meaning_lies t sc safe low l.1)
+        (λ v. then_lies (operation o s u v) (λ w. operations sc safe os w) (operated_lies o s u v l.0) (λ w. chained_lies os sc safe low w l.2))
 
     meanings_lie : (ts : Arguments) (sc : Scope) (safe : Bool) (low : ℕ) → ArgumentsLie size low ts → AllTypedLies (meanings sc safe ts)
     meanings_lie NoArgument sc safe low l = (tt, tt)
     meanings_lie (ArgumentThen t ts) sc safe low l =
-        argument_then (meaning sc safe t) (extent t) (meanings sc safe ts) (meaning_lies t sc safe low l.0) (whole_lies t low l.0) (meanings_lie ts sc safe low l.1)
+        argument_then (meaning sc safe t) (extent t) (meanings sc safe ts) (meaning_lies t sc safe low l.0) (whole_lies size low t l.0) (meanings_lie ts sc safe low l.1)

@@ -1,22 +1,24 @@
 -- The states of the code that reads a text literal give its value.
-use Rattle.std.proofs.Common.{◌≡◌, ℕ, List, [], ◌∷◌, ◌++◌, refl, ap, Bool, true, false, cond, drop, take}
+use Rattle.std.proofs.Common.{◌≡◌, ℕ, List, [], ◌∷◌, ◌++◌, refl, ap, Bool, true, false, cond, drop}
+use Rattle.al_expr_grammar.specs.Tokens.{is_quote}
 use Rattle.al_expr_typing.specs.declared.literals.Quoting.TheVariants.{Opening, Inside, BehindQuote}
-use Rattle.al_expr_typing.specs.Literals.{is_quote, unquoted}
+use Rattle.al_expr_typing.specs.Literals.{inside_quotes}
 use Rattle.al_expr_typing.specs.Private.QuotingStates.{unquoted_from}
 
--- what is left, inside and behind a quote
-abbrev IsRead : List ℕ → Type 0
-IsRead cs = (unquoted_from Inside cs ≡ unquoted 0 cs) × (unquoted_from BehindQuote cs ≡ take 1 cs ++ unquoted 1 cs)
+one_left : (c : ℕ) (quote : Bool) → cond quote [] (c ∷ []) ++ unquoted_from (cond quote BehindQuote Inside) [] ≡ cond quote [] (c ∷ [])
+one_left c true = refl
+one_left c false = refl
 
-inside_at : (c : ℕ) (cs : List ℕ) (quote : Bool) → IsRead cs
-    → cond quote [] (c ∷ []) ++ unquoted_from (cond quote BehindQuote Inside) cs ≡ cond quote (take 1 cs ++ unquoted 1 cs) (c ∷ unquoted 0 cs)
-inside_at c cs true h = h.1
-inside_at c cs false h = ap (λ l. c ∷ l) h.0
+two_left : (c d : ℕ) (cs : List ℕ) (quote : Bool) → unquoted_from Inside cs ≡ inside_quotes cs → unquoted_from Inside (d ∷ cs) ≡ inside_quotes (d ∷ cs)
+    → cond quote [] (c ∷ []) ++ unquoted_from (cond quote BehindQuote Inside) (d ∷ cs) ≡ cond quote (d ∷ inside_quotes cs) (c ∷ inside_quotes (d ∷ cs))
+two_left c d cs true e f = ap (λ l. d ∷ l) e
+two_left c d cs false e f = ap (λ l. c ∷ l) f
 
-is_read : (cs : List ℕ) → IsRead cs
-is_read [] = (refl, refl)
-is_read (c ∷ cs) = let h = is_read cs in (inside_at c cs (is_quote c) h, ap (λ l. c ∷ l) h.0)
+is_read : (cs : List ℕ) → unquoted_from Inside cs ≡ inside_quotes cs
+is_read [] = refl
+is_read (c ∷ []) = one_left c (is_quote c)
+is_read (c ∷ d ∷ cs) = two_left c d cs (is_quote c) (is_read cs) (is_read (d ∷ cs))
 
-pub states_give : (cs : List ℕ) → unquoted_from Opening cs ≡ unquoted 0 (drop 1 cs)
+pub states_give : (cs : List ℕ) → unquoted_from Opening cs ≡ inside_quotes (drop 1 cs)
 states_give [] = refl
-states_give (c ∷ cs) = (is_read cs).0
+states_give (c ∷ cs) = is_read cs

@@ -12,12 +12,12 @@ use Rattle.al_types.specs.Types.{Type', Any}
 use Rattle.al_expr_grammar.specs.Tree.{Tree, Named, Path, Steps, Sign, sign, Arguments, StepTree, Property, All, Index, steps_of, operands_of, arguments_of}
 use Rattle.al_types.specs.Scopes.{Scope}
 use Rattle.al_expr_grammar.specs.Extents.{extent}
-use Rattle.al_expr_typing.specs.Untrusted.{part_of, chain_among, untrusted_chains, with_dots}
-use Rattle.al_expr_typing.specs.Meaning.{Typed, typed, behind, before, named, called, called_with, untrusted}
-use Rattle.al_expr_typing.specs.Meaning.{untrusted_fault, and_then, AllTyped, all_typed, typed_then, all_behind, parts_of, stepped, indexed}
-use Rattle.al_expr_typing.specs.Meaning.{index_of, operated, meaning, walked, chained, meanings}
+use Rattle.al_expr_typing.specs.Untrusted.{part_of, untrusted_chain, with_dots}
+use Rattle.al_expr_typing.specs.Meaning.{Typed, typed, behind, name_type, call, call_from, untrusted_faults}
+use Rattle.al_expr_typing.specs.Meaning.{chain_faults, and_then, AllTyped, all_typed, typed_then, all_behind, parts_of, step_from, index_from}
+use Rattle.al_expr_typing.specs.Meaning.{index_of, operation, meaning, walk, operations, meanings}
 use Rattle.al_expr_typing.specs.Steps.{base_name}
-use Rattle.al_expr_typing.proofs.TypedSteps.{follows, behind-behind, behind-before}
+use Rattle.al_expr_typing.proofs.TypedSteps.{follows, behind-behind}
 
 pub parts_of-steps : (ss : List StepTree) → parts_of (steps_of ss) ≡ map part_of ss
 parts_of-steps [] = refl
@@ -27,26 +27,26 @@ parts_of-steps (Index a t b ∷ ss) = ap (λ ps. part_of (Index a t b) ∷ ps) (
 
 pub ruleset parts = (parts_of-steps)
 
-walked-cons : (sc : Scope) (safe : Bool) (s : StepTree) (ss : List StepTree) (u : Type') → walked sc safe (steps_of (s ∷ ss)) u ≡ and_then (stepped sc safe s u) (λ v. walked sc safe (steps_of ss) v)
+walked-cons : (sc : Scope) (safe : Bool) (s : StepTree) (ss : List StepTree) (u : Type') → walk sc safe (steps_of (s ∷ ss)) u ≡ and_then (step_from sc safe s u) (λ v. walk sc safe (steps_of ss) v)
 walked-cons sc safe (Property d b s) ss u = refl
 walked-cons sc safe (All a b) ss u = refl
 walked-cons sc safe (Index a t b) ss u = refl
 
 -- one more step
 pub walked_on : (sc : Scope) (safe : Bool) (s : StepTree) (ss : List StepTree) (u v : Type') (old mid : List Fault) → typed v mid
-    ≡ behind old (stepped sc safe s u) → behind mid (walked sc safe (steps_of ss) v) ≡ behind old (walked sc safe (steps_of (s ∷ ss)) u)
-walked_on sc safe s ss u v old mid e = follows old mid v (stepped sc safe s u) (λ w. walked sc safe (steps_of ss) w) e ∙ ap (behind old) (sym (walked-cons sc safe s ss u))
+    ≡ behind old (step_from sc safe s u) → behind mid (walk sc safe (steps_of ss) v) ≡ behind old (walk sc safe (steps_of (s ∷ ss)) u)
+walked_on sc safe s ss u v old mid e = follows old mid v (step_from sc safe s u) (λ w. walk sc safe (steps_of ss) w) e ∙ ap (behind old) (sym (walked-cons sc safe s ss u))
 
-abbrev operated' : Sign → Type' → Type' → Typed
-operated' (sign op at) t u = operated op at t u
+abbrev operation' : Sign → Type' → Type' → Typed
+operation' (sign op at) t u = operation op at t u
 
 -- one more operand
 pub chained_on : (sc : Scope) (safe : Bool) (o : Sign × Tree) (os : List (Sign × Tree)) (t u v : Type') (old mid new : List Fault)
-    → typed u mid ≡ behind old (meaning sc safe o.1) → typed v new ≡ behind mid (operated' o.0 t u)
-    → behind new (chained sc safe (operands_of os) v) ≡ behind old (chained sc safe (operands_of (o ∷ os)) t)
+    → typed u mid ≡ behind old (meaning sc safe o.1) → typed v new ≡ behind mid (operation' o.0 t u)
+    → behind new (operations sc safe (operands_of os) v) ≡ behind old (operations sc safe (operands_of (o ∷ os)) t)
 chained_on sc safe (sign op at, x) os t u v old mid new e f =
-    follows mid new v (operated op at t u) (λ w. chained sc safe (operands_of os) w) f
-    ∙ follows old mid u (meaning sc safe x) (λ w. and_then (operated op at t w) (λ y. chained sc safe (operands_of os) y)) e
+    follows mid new v (operation op at t u) (λ w. operations sc safe (operands_of os) w) f
+    ∙ follows old mid u (meaning sc safe x) (λ w. and_then (operation op at t w) (λ y. operations sc safe (operands_of os) y)) e
 
 joined_typed : (given : List (Type' × Span)) (old fs : List Fault) (t : Type') (s : Span) (rest : AllTyped)
     → all_behind (given ++ (t, s) ∷ []) (old ++ fs) rest ≡ all_behind given old (typed_then (typed t fs) s rest)
@@ -67,60 +67,60 @@ meanings_on sc safe x xs t given old mid e = joined_on given old (meaning sc saf
 
 -- a call's arguments, then the call
 pub called_on : (sc : Scope) (b : List ℕ) (s : Span) (f : Option Function) (ts : Arguments) (given : List (Type' × Span))
-    (old mid : List Fault) (m : AllTyped) → all_typed given mid ≡ all_behind [] old m → behind mid (called_with sc b s f ts given)
-    ≡ behind old (called sc b s f ts m)
+    (old mid : List Fault) (m : AllTyped) → all_typed given mid ≡ all_behind [] old m → behind mid (call_from sc b s f ts given)
+    ≡ behind old (call sc b s f ts m)
 called_on sc b s f ts given old mid (all_typed as' fs) e =
     let p : given ≡ as' = cc in
     let q : mid ≡ old ++ fs = cc in
-    rw (p, q) (behind-behind old fs (called_with sc b s f ts as'))
+    rw (p, q) (behind-behind old fs (call_from sc b s f ts as'))
 
 -- a path's base, then its steps, then what is wrong with the whole
 pub path_on : (old m1 m2 new gs : List Fault) (u v : Type') (x : Typed) (go : Type' → Typed) → typed u m1 ≡ behind old x → typed v m2
-    ≡ behind m1 (go u) → new ≡ m2 ++ gs → typed v new ≡ behind old (before gs (and_then x go))
+    ≡ behind m1 (go u) → new ≡ m2 ++ gs → typed v new ≡ behind old (and_then (and_then x go) (λ w. typed w gs))
 path_on old m1 m2 new gs u v x go e f h =
-    ap (typed v) h ∙ ap (before gs) (f ∙ follows old m1 u x go e) ∙ sym (behind-before old gs (and_then x go))
+    ap (typed v) h ∙ follows old m2 v (and_then x go) (λ w. typed w gs) (f ∙ follows old m1 u x go e)
 
 -- no chain, so no fault
-fault_none : (whole : Span) (o : Option (List (List ℕ))) → None ≡ option_map with_dots o → untrusted_fault whole o ≡ []
+fault_none : (whole : Span) (o : Option (List (List ℕ))) → None ≡ option_map with_dots o → chain_faults whole o ≡ []
 fault_none whole None h = refl
 fault_none whole (Some c) h = absurd cc
 
 -- of a path that begins with a name
-chain_of : (name : List ℕ) (t : Tree) (ss : Steps) → Some name ≡ base_name t → untrusted true t ss
-    ≡ untrusted_fault (extent (Path t ss)) (chain_among untrusted_chains (name ∷ parts_of ss))
+chain_of : (name : List ℕ) (t : Tree) (ss : Steps) → Some name ≡ base_name t → untrusted_faults true t ss
+    ≡ chain_faults (extent (Path t ss)) (untrusted_chain (name ∷ parts_of ss))
 chain_of name (Named b s) ss h = cc
 chain_of name t ss h = absurd cc
 
-pub nameless : (t : Tree) (ss : Steps) → None ≡ base_name t → untrusted true t ss ≡ []
+pub nameless : (t : Tree) (ss : Steps) → None ≡ base_name t → untrusted_faults true t ss ≡ []
 nameless (Named b s) ss h = absurd cc
 nameless t ss h = refl
 
 pub untrusted_none : (name : List ℕ) (t : Tree) (ss : List StepTree) → Some name ≡ base_name t → None
-    ≡ option_map with_dots (chain_among untrusted_chains (name ∷ map part_of ss)) → untrusted true t (steps_of ss) ≡ []
+    ≡ option_map with_dots (untrusted_chain (name ∷ map part_of ss)) → untrusted_faults true t (steps_of ss) ≡ []
 untrusted_none name t ss h k =
     chain_of name t (steps_of ss) h
-    ∙ ap (λ ps. untrusted_fault (extent (Path t (steps_of ss))) (chain_among untrusted_chains (name ∷ ps))) (parts_of-steps ss)
-    ∙ fault_none (extent (Path t (steps_of ss))) (chain_among untrusted_chains (name ∷ map part_of ss)) k
+    ∙ ap (λ ps. chain_faults (extent (Path t (steps_of ss))) (untrusted_chain (name ∷ ps))) (parts_of-steps ss)
+    ∙ fault_none (extent (Path t (steps_of ss))) (untrusted_chain (name ∷ map part_of ss)) k
 
 fault_some : (whole : Span) (o : Option (List (List ℕ))) (text : List ℕ) → Some text ≡ option_map with_dots o →
-    untrusted_fault whole o ≡ fault code.Untrusted whole (text ∷ []) ∷ []
+    chain_faults whole o ≡ fault code.Untrusted whole (text ∷ []) ∷ []
 fault_some whole None text h = absurd cc
 fault_some whole (Some c) text h = cc
 
 pub untrusted_some : (name : List ℕ) (t : Tree) (ss : List StepTree) (text : List ℕ) → Some name ≡ base_name t → Some text
-    ≡ option_map with_dots (chain_among untrusted_chains (name ∷ map part_of ss)) → untrusted true t (steps_of ss)
+    ≡ option_map with_dots (untrusted_chain (name ∷ map part_of ss)) → untrusted_faults true t (steps_of ss)
     ≡ fault code.Untrusted (extent (Path t (steps_of ss))) (text ∷ []) ∷ []
 untrusted_some name t ss text h k =
     chain_of name t (steps_of ss) h
-    ∙ ap (λ ps. untrusted_fault (extent (Path t (steps_of ss))) (chain_among untrusted_chains (name ∷ ps))) (parts_of-steps ss)
-    ∙ fault_some (extent (Path t (steps_of ss))) (chain_among untrusted_chains (name ∷ map part_of ss)) text k
+    ∙ ap (λ ps. chain_faults (extent (Path t (steps_of ss))) (untrusted_chain (name ∷ ps))) (parts_of-steps ss)
+    ∙ fault_some (extent (Path t (steps_of ss))) (untrusted_chain (name ∷ map part_of ss)) text k
 
 -- an index that is no text literal
 pub indexed_on : (o : Option (List ℕ × Span)) (whole : Span) (u by v : Type') (old mid new : List Fault) (x : Typed) → None ≡ o
-    → typed by mid ≡ behind old x → typed v new ≡ behind mid (index_of whole u by) → typed v new ≡ behind old (indexed o whole u x)
+    → typed by mid ≡ behind old x → typed v new ≡ behind mid (index_of whole u by) → typed v new ≡ behind old (index_from o whole u x)
 indexed_on None whole u by v old mid new x h e f = f ∙ follows old mid by x (λ w. index_of whole u w) e
 indexed_on (Some n) whole u by v old mid new x h e f = absurd cc
 
 -- a name of a context that is available
 pub named_available : (sc : Scope) (b : List ℕ) (s : Span) (k : Context) → Some k ≡ context_of b → sc.available.contexts k ≡ true → (safe : Bool) → meaning sc safe (Named b s) ≡ typed (sc.types k) []
-named_available sc b s k h a safe = ap (named sc b s) (sym h) ∙ ap (λ y. if y then typed (sc.types k) [] else typed Any (fault code.UnavailableContext s (b ∷ []) ∷ [])) a
+named_available sc b s k h a safe = ap (name_type sc b s) (sym h) ∙ ap (λ y. if y then typed (sc.types k) [] else typed Any (fault code.UnavailableContext s (b ∷ []) ∷ [])) a

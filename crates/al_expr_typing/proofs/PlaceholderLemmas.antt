@@ -1,16 +1,52 @@
 -- The states of the code that reads a format text tell which arguments it names.
-use Rattle.std.proofs.Common.{◌≡◌, ◌≤◌, ℕ, zero, suc, ◌+◌, ◌*◌, ◌-◌, List, [], ◌∷◌, length, drop, refl, sym, ap, ◌∙◌, arith, Bool, true, false, cond, nat_lt, ◌==◌, Option, None}
+use Rattle.std.proofs.Common.{◌≡◌, ◌≤◌, ℕ, zero, suc, ◌+◌, ◌*◌, ◌-◌, List, [], ◌∷◌, length, take, drop, refl, sym, ap, ◌∙◌, arith, Bool, true, false, cond, nat_lt, ◌==◌, Option, None}
+use Rattle.std.specs.List.{prefix_len}
+use Rattle.std.proofs.lemmas.List.{length-drop}
 use Rattle.std.specs.Int.Digits.{number_from_digits_after}
 use Rattle.std.specs.Prelude.{map, slice_set}
 use Rattle.al_base.specs.Ascii as ascii
 use Rattle.al_base.specs.Digits.{decimal, digit_of}
 use Rattle.al_base.specs.FirstBytes.{begins_with}
-use Rattle.al_expr_grammar.specs.Tokens.{is_digit}
+use Rattle.std.specs.Char.{is_ascii_digit}
 use Rattle.al_expr_typing.specs.declared.placeholders.PlaceholderState.TheVariants.{Outside, BehindOpening, InIndex, BehindClosing}
 use Rattle.al_expr_typing.specs.declared.placeholders.Turn.{Turn}
 use Rattle.al_expr_typing.specs.declared.placeholders.Turn.TheVariants.{To, Names, Wrong}
-use Rattle.al_expr_typing.specs.Placeholders.{Piece, Plain, Argument, NoPiece, digits_of, behind_digits, index_of, piece_of, used_with, used_within}
-use Rattle.al_expr_typing.specs.Private.PlaceholderStates.{turned, used_from}
+use Rattle.al_expr_typing.specs.Placeholders.{Piece, Plain, Argument, NoPiece, index_of, piece_of, used_with, used_within}
+use Rattle.al_expr_typing.specs.Private.PlaceholderStates.{after_turn, used_from}
+
+-- ---- the digits at the start, byte by byte
+
+abbrev digits_of : List ℕ → List ℕ
+digits_of [] = []
+digits_of (b ∷ bs) = cond (is_ascii_digit b) (b ∷ digits_of bs) []
+
+abbrev behind_digits : List ℕ → List ℕ
+behind_digits [] = []
+behind_digits (b ∷ bs) = cond (is_ascii_digit b) (behind_digits bs) (b ∷ bs)
+
+taken_if : (digit : Bool) (b n : ℕ) (bs ds : List ℕ) → ds ≡ take n bs → cond digit (b ∷ ds) [] ≡ take (cond digit (1 + n) 0) (b ∷ bs)
+taken_if true b n bs ds e = let same : suc n ≡ 1 + n = omega arith in ap (λ l. b ∷ l) e ∙ ap (λ m. take m (b ∷ bs)) same
+taken_if false b n bs ds e = refl
+
+dropped_if : (digit : Bool) (b n : ℕ) (bs rest : List ℕ) → rest ≡ drop n bs → cond digit rest (b ∷ bs) ≡ drop (cond digit (1 + n) 0) (b ∷ bs)
+dropped_if true b n bs rest e = let same : suc n ≡ 1 + n = omega arith in e ∙ ap (λ m. drop m (b ∷ bs)) same
+dropped_if false b n bs rest e = refl
+
+digits_taken : (bs : List ℕ) → digits_of bs ≡ take (prefix_len is_ascii_digit bs) bs
+digits_taken [] = refl
+digits_taken (b ∷ bs) = taken_if (is_ascii_digit b) b (prefix_len is_ascii_digit bs) bs (digits_of bs) (digits_taken bs)
+
+digits_dropped : (bs : List ℕ) → behind_digits bs ≡ drop (prefix_len is_ascii_digit bs) bs
+digits_dropped [] = refl
+digits_dropped (b ∷ bs) = dropped_if (is_ascii_digit b) b (prefix_len is_ascii_digit bs) bs (behind_digits bs) (digits_dropped bs)
+
+abbrev index_front : List ℕ → Piece
+index_front bs = index_of (take (prefix_len is_ascii_digit bs) bs) (drop (prefix_len is_ascii_digit bs) bs)
+
+index_is : (bs : List ℕ) → index_of (digits_of bs) (behind_digits bs) ≡ index_front bs
+index_is bs = ap (λ ds. index_of ds (behind_digits bs)) (digits_taken bs) ∙ ap (index_of (take (prefix_len is_ascii_digit bs) bs)) (digits_dropped bs)
+
+-- ---- states
 
 -- what is read behind a piece
 abbrev behind : List Bool → Piece → Option (List Bool)
@@ -18,7 +54,7 @@ behind used p = used_with (used_from Outside) used p
 
 -- one more byte leads to a turn
 abbrev goes : List Bool → List ℕ → Turn → Option (List Bool)
-goes used bs t = turned t used (λ p now. used_from p now bs)
+goes used bs t = after_turn t used (λ p now. used_from p now bs)
 
 -- the number that digits write behind those that wrote n
 abbrev number_on : ℕ → List ℕ → ℕ
@@ -40,7 +76,7 @@ index_at used n b bs false false e f = sym (ap (λ t. behind used (cond t (Argum
 
 index : (used : List Bool) (n : ℕ) (bs : List ℕ) → used_from (InIndex n) used bs ≡ behind used (index_behind n (digits_of bs) (behind_digits bs))
 index used n [] = refl
-index used n (b ∷ bs) = index_at used n b bs (is_digit b) (b == ascii.close_brace) refl (index used (10 * n + (b - ascii.digit_zero)) bs)
+index used n (b ∷ bs) = index_at used n b bs (is_ascii_digit b) (b == ascii.close_brace) refl (index used (10 * n + (b - ascii.digit_zero)) bs)
 
 opening_at : (used : List Bool) (b : ℕ) (bs : List ℕ) (opens digit : Bool)
     → goes used bs (cond opens (To Outside) (cond digit (To (InIndex (b - ascii.digit_zero))) Wrong))
@@ -53,9 +89,11 @@ opening_at used b bs false false = refl
 
 -- behind a `{`
 opening : (used : List Bool) (bs : List ℕ) → used_from BehindOpening used bs
-    ≡ behind used (cond (begins_with ascii.open_brace bs) (Plain (drop 1 bs)) (index_of (digits_of bs) (behind_digits bs)))
+    ≡ behind used (cond (begins_with ascii.open_brace bs) (Plain (drop 1 bs)) (index_front bs))
 opening used [] = refl
-opening used (b ∷ bs) = opening_at used b bs (b == ascii.open_brace) (is_digit b)
+opening used (b ∷ bs) =
+    opening_at used b bs (b == ascii.open_brace) (is_ascii_digit b)
+    ∙ ap (λ p. behind used (cond (b == ascii.open_brace) (Plain bs) p)) (index_is (b ∷ bs))
 
 closing_at : (used : List Bool) (bs : List ℕ) (closes : Bool) → goes used bs (cond closes (To Outside) Wrong) ≡ behind used (cond closes (Plain bs) NoPiece)
 closing_at used bs true = refl
@@ -68,7 +106,7 @@ closing used (b ∷ bs) = closing_at used bs (b == ascii.close_brace)
 
 piece_at : (used : List Bool) (bs : List ℕ) (opens closes : Bool)
     → goes used bs (cond opens (To BehindOpening) (cond closes (To BehindClosing) (To Outside)))
-    ≡ behind used (cond opens (cond (begins_with ascii.open_brace bs) (Plain (drop 1 bs)) (index_of (digits_of bs) (behind_digits bs)))
+    ≡ behind used (cond opens (cond (begins_with ascii.open_brace bs) (Plain (drop 1 bs)) (index_front bs))
     (cond closes (cond (begins_with ascii.close_brace bs) (Plain (drop 1 bs)) NoPiece) (Plain bs)))
 piece_at used bs true closes = opening used bs
 piece_at used bs false true = closing used bs
@@ -92,14 +130,6 @@ drop_within : (bs : List ℕ) (n : ℕ) → length bs ≤ n → length (drop 1 b
 drop_within [] n h = h
 drop_within (b ∷ bs) n h = omega arith
 
-later_within : (digit : Bool) (b : ℕ) (bs : List ℕ) (n : ℕ) → length (behind_digits bs) ≤ n → suc (length bs) ≤ n → length (cond digit (behind_digits bs) (b ∷ bs)) ≤ n
-later_within true b bs n f h = f
-later_within false b bs n f h = h
-
-digits_within : (bs : List ℕ) (n : ℕ) → length bs ≤ n → length (behind_digits bs) ≤ n
-digits_within [] n h = h
-digits_within (b ∷ bs) n h = later_within (is_digit b) b bs n (digits_within bs n (omega arith)) h
-
 index_within : (ds rest : List ℕ) (n : ℕ) → length rest ≤ n → IsWithin n (index_of ds rest)
 index_within [] rest n h = tt
 index_within (d ∷ ds) rest n h = within_cond (begins_with ascii.close_brace rest) (Argument (decimal (d ∷ ds)) (drop 1 rest)) NoPiece n (drop_within rest n h) tt
@@ -107,7 +137,8 @@ index_within (d ∷ ds) rest n h = within_cond (begins_with ascii.close_brace re
 piece_within : (b : ℕ) (bs : List ℕ) (n : ℕ) → length bs ≤ n → IsWithin n (piece_of (b ∷ bs))
 piece_within b bs n h =
     within_cond (b == ascii.open_brace) _ _ n
-    (within_cond (begins_with ascii.open_brace bs) _ _ n (drop_within bs n h) (index_within (digits_of bs) (behind_digits bs) n (digits_within bs n h)))
+    (within_cond (begins_with ascii.open_brace bs) _ _ n (drop_within bs n h) 
+    (index_within _ (drop (prefix_len is_ascii_digit bs) bs) n (omega (arith, h, length-drop (prefix_len is_ascii_digit bs) bs))))
     (within_cond (b == ascii.close_brace) _ _ n (within_cond (begins_with ascii.close_brace bs) _ _ n (drop_within bs n h) tt) h)
 
 -- ---- piece after piece

@@ -1,8 +1,8 @@
 -- A type with its faults, step by step.
-use Rattle.std.proofs.Common.{◌≡◌, List, [], ◌++◌, refl, sym, ap, ◌∙◌, append_assoc, append-nil}
+use Rattle.std.proofs.Common.{◌≡◌, List, [], ◌++◌, sym, ap, ◌∙◌, append_assoc, append-nil}
 use Rattle.al_base.specs.declared.faults.Fault.{Fault}
 use Rattle.al_types.specs.Types.{Type'}
-use Rattle.al_expr_typing.specs.Meaning.{Typed, typed, behind, before, and_then, array_of}
+use Rattle.al_expr_typing.specs.Meaning.{Typed, typed, behind, and_then}
 
 pub unchanged : (t : Type') (old : List Fault) → typed t old ≡ behind old (typed t [])
 unchanged t old = ap (typed t) (sym (append-nil old))
@@ -17,10 +17,4 @@ behind-and_then fs (typed t gs) go = behind-behind fs gs (go t)
 pub follows : (old mid : List Fault) (t : Type') (x : Typed) (go : Type' → Typed) → typed t mid ≡ behind old x → behind mid (go t) ≡ behind old (and_then x go)
 follows old mid t x go e = ap (λ y. and_then y go) e ∙ behind-and_then old x go
 
-pub behind-array_of : (fs : List Fault) (x : Typed) → behind fs (array_of x) ≡ array_of (behind fs x)
-behind-array_of fs (typed t gs) = refl
-
-pub behind-before : (fs gs : List Fault) (x : Typed) → behind fs (before gs x) ≡ before gs (behind fs x)
-behind-before fs gs (typed t hs) = ap (typed t) (sym (append_assoc fs hs gs))
-
-pub ruleset typing = (unchanged, behind-array_of)
+pub ruleset typing = (unchanged)

@@ -2,6 +2,7 @@
 use Rattle.std.specs.Prelude.{ℕ, ◌+◌, List, [], ◌∷◌, ◌++◌, Bool, true, false, ◌&&◌, ◌||◌, not, if◌then◌else◌, Option, Some}
 use Rattle.std.specs.Prelude.{None, drop, length}
 use Rattle.std.specs.Fmt.{decimal}
+use Rattle.std.specs.Option.{option_map_or}
 use Rattle.al_base.specs.declared.codes.ExpressionCode.TheVariants as code
 use Rattle.al_base.specs.declared.faults.Fault.{Fault}
 use Rattle.al_base.specs.declared.faults.Span.{Span}
@@ -20,7 +21,7 @@ use Rattle.al_types.specs.Signatures.{signature, takes, wanted, accepts, returne
 use Rattle.al_types.specs.Scopes.{Scope}
 use Rattle.al_expr_grammar.specs.Extents.{extent, across}
 use Rattle.al_expr_typing.specs.Literals.{literal_text, type_of_keyword}
-use Rattle.al_expr_typing.specs.Untrusted.{untrusted_chains, chain_among, part_of_index, with_dots}
+use Rattle.al_expr_typing.specs.Untrusted.{untrusted_chain, part_of_index, with_dots}
 use Rattle.al_expr_grammar.specs.Tree as tree
 use Rattle.al_expr_grammar.specs.Tree.{Tree, sign, Constant, Named, Call, Group, Negated, Path, Chain, StepTree, Steps, NoStep}
 use Rattle.al_expr_grammar.specs.Tree.{PropertyThen, AllThen, IndexThen, Operands, NoOperand}
@@ -40,28 +41,20 @@ faults_in (typed t fs) = fs
 abbrev pub behind : List Fault → Typed → Typed
 behind fs (typed t gs) = typed t (fs ++ gs)
 
--- the same with these faults after the others
-abbrev pub before : List Fault → Typed → Typed
-before gs (typed t fs) = typed t (fs ++ gs)
-
 abbrev pub and_then : Typed → (Type' → Typed) → Typed
 and_then (typed t fs) go = behind fs (go t)
 
 abbrev pub give : Bool → Fault → List Fault
-give true f = f ∷ []
-give false f = []
+give b f = if b then f ∷ [] else []
 
 -- A name is a context: X7 where there is none of it, X8 where it isn't available here.
-abbrev pub named : Scope → List ℕ → Span → Option Context → Typed
-named sc b s None = typed Any (fault code.UndefinedContext s (b ∷ []) ∷ [])
-named sc b s (Some c) = if sc.available.contexts c then typed (sc.types c) [] else typed Any (fault code.UnavailableContext s (b ∷ []) ∷ [])
+abbrev pub name_type : Scope → List ℕ → Span → Option Context → Typed
+name_type sc b s None = typed Any (fault code.UndefinedContext s (b ∷ []) ∷ [])
+name_type sc b s (Some c) =
+    if sc.available.contexts c then typed (sc.types c) [] else typed Any (fault code.UnavailableContext s (b ∷ []) ∷ [])
 
 abbrev pub or_fault : Fault → Option Type' → Typed
-or_fault f None = typed Any (f ∷ [])
-or_fault f (Some t) = typed t []
-
-abbrev pub array_of : Typed → Typed
-array_of (typed t fs) = typed (ArrayOf t) fs
+or_fault f found = option_map_or (λ t. typed t []) found (typed Any (f ∷ []))
 
 -- X14
 abbrev pub not_indexable : Span → Typed
@@ -73,7 +66,7 @@ abbrev pub property_of : List ℕ → Span → Span → Type' → Typed
 property_of n at whole Any = typed Any []
 property_of n at whole (ObjectOf fields rest all) =
     or_fault (fault code.UndefinedProperty at (n ∷ [])) (option_of (or_else (fields n) rest))
-property_of n at whole (ArrayOf t) = array_of (property_of n at whole t)
+property_of n at whole (ArrayOf t) = and_then (property_of n at whole t) (λ u. typed (ArrayOf u) [])
 property_of n at whole _ = not_indexable whole
 
 -- `.*` and `[*]`: of an object, an array of what all its fields and the type of others have in common, of any where there is neither
@@ -92,9 +85,9 @@ index_of whole (ArrayOf t) Number = typed t []
 index_of whole _ i = not_indexable whole
 
 -- `['p']` is a property, any other index an element.
-abbrev pub indexed : Option (List ℕ × Span) → Span → Type' → Typed → Typed
-indexed (Some text) whole t i = property_of text.0 text.1 whole t
-indexed None whole t i = and_then i (λ u. index_of whole t u)
+abbrev pub index_from : Option (List ℕ × Span) → Span → Type' → Typed → Typed
+index_from (Some text) whole t i = property_of text.0 text.1 whole t
+index_from None whole t i = and_then i (λ u. index_of whole t u)
 
 abbrev pub parts_of : Steps → List (List ℕ)
 parts_of NoStep = []
@@ -102,14 +95,13 @@ parts_of (PropertyThen d b s ss) = b ∷ parts_of ss
 parts_of (AllThen a b ss) = part_of_index None ∷ parts_of ss
 parts_of (IndexThen a t b ss) = part_of_index (literal_text t) ∷ parts_of ss
 
-abbrev pub untrusted_fault : Span → Option (List (List ℕ)) → List Fault
-untrusted_fault whole None = []
-untrusted_fault whole (Some chain) = fault code.Untrusted whole (with_dots chain ∷ []) ∷ []
+abbrev pub chain_faults : Span → Option (List (List ℕ)) → List Fault
+chain_faults at found = option_map_or (λ c. fault code.Untrusted at (with_dots c ∷ []) ∷ []) found []
 
 -- X19: a whole path that is an untrusted chain, where a text could do harm. It begins with a name: a bracket ends a chain.
-abbrev pub untrusted : Bool → Tree → Steps → List Fault
-untrusted true (Named b s) ss = untrusted_fault (extent (Path (Named b s) ss)) (chain_among untrusted_chains (b ∷ parts_of ss))
-untrusted _ t ss = []
+abbrev pub untrusted_faults : Bool → Tree → Steps → List Fault
+untrusted_faults true (Named b s) ss = chain_faults (extent (Path (Named b s) ss)) (untrusted_chain (b ∷ parts_of ss))
+untrusted_faults _ t ss = []
 
 abbrev pub is_logic : Operator → Bool
 is_logic operator.Or = true
@@ -121,8 +113,8 @@ begins_logic NoOperand = false
 begins_logic (OperandThen (sign o s) t os) = is_logic o
 
 -- One more operand: `&&` and `||` fuse, the others compare, X15 where the two can't be compared.
-abbrev pub operated : Operator → Span → Type' → Type' → Typed
-operated o s t u =
+abbrev pub operation : Operator → Span → Type' → Type' → Typed
+operation o s t u =
     if is_logic o then typed (fuse_type t u) [] else typed Bool' (give (not (comparable_types o t u)) (fault code.NotComparable s []))
 
 -- functions that only test their arguments, so that no text of theirs gets into a script
@@ -152,14 +144,15 @@ argument_faults name at ps as' =
     if takes ps (length as') then wrong_arguments name ps 0 as' else fault code.ArgumentCount at (name ∷ []) ∷ []
 
 -- X17 at each argument that no placeholder names. The first behind the text has index 0 and number 2.
-abbrev pub unused : ℕ → List Bool → List (Type' × Span) → List Fault
-unused n (u ∷ us) (a ∷ as') = give (not u) (fault code.UnusedArgument a.1 (decimal (n + 2) ∷ [])) ++ unused (n + 1) us as'
-unused n _ _ = []
+abbrev pub unused_arguments : ℕ → List Bool → List (Type' × Span) → List Fault
+unused_arguments n (u ∷ us) (a ∷ as') =
+    give (not u) (fault code.UnusedArgument a.1 (decimal (n + 2) ∷ [])) ++ unused_arguments (n + 1) us as'
+unused_arguments n _ _ = []
 
 -- X16 where a placeholder is wrong, else X17
 abbrev pub placeholder_faults : Span → Option (List Bool) → List (Type' × Span) → List Fault
 placeholder_faults at None as' = fault code.WrongPlaceholder at [] ∷ []
-placeholder_faults at (Some used) as' = unused 0 used as'
+placeholder_faults at (Some used) as' = unused_arguments 0 used as'
 
 abbrev pub format_text : Option (List ℕ × Span) → List (Type' × Span) → List Fault
 format_text None as' = []
@@ -171,15 +164,15 @@ format_faults function.Format (ArgumentThen t ts) as' = format_text (literal_tex
 format_faults _ ts as' = []
 
 -- A call: X9 where there is no such function, X10 where it isn't available here.
-abbrev pub called_with : Scope → List ℕ → Span → Option Function → Arguments → List (Type' × Span) → Typed
-called_with sc b s None ts as' = typed Any (fault code.UndefinedFunction s (b ∷ []) ∷ [])
-called_with sc b s (Some f) ts as' =
+abbrev pub call_from : Scope → List ℕ → Span → Option Function → Arguments → List (Type' × Span) → Typed
+call_from sc b s None ts as' = typed Any (fault code.UndefinedFunction s (b ∷ []) ∷ [])
+call_from sc b s (Some f) ts as' =
     typed (returned_type (signature f).returned)
     (give (not (sc.available.functions f)) (fault code.UnavailableFunction s (b ∷ []))
     ++ argument_faults b s (signature f).parameters as' ++ format_faults f ts as')
 
-abbrev pub called : Scope → List ℕ → Span → Option Function → Arguments → AllTyped → Typed
-called sc b s f ts (all_typed as' fs) = behind fs (called_with sc b s f ts as')
+abbrev pub call : Scope → List ℕ → Span → Option Function → Arguments → AllTyped → Typed
+call sc b s f ts (all_typed as' fs) = behind fs (call_from sc b s f ts as')
 
 -- The type of an expression, with its faults. The flag: whether it stands where X19 isn't given, in an argument of a
 -- function that only tests it, or in an operand of a comparison or of `!`.
@@ -188,37 +181,38 @@ abbrev mutual
   meaning sc safe (Constant w s) = typed (type_of_keyword w) []
   meaning sc safe (tree.Number b s) = typed Number []
   meaning sc safe (tree.Text b s) = typed String []
-  meaning sc safe (Named b s) = named sc b s (context_of b)
-  meaning sc safe (Call b s ts e) = called sc b s (function_of b) ts (meanings sc (safe || is_test (function_of b)) ts)
+  meaning sc safe (Named b s) = name_type sc b s (context_of b)
+  meaning sc safe (Call b s ts e) = call sc b s (function_of b) ts (meanings sc (safe || is_test (function_of b)) ts)
   meaning sc safe (Group t s e) = meaning sc safe t
   meaning sc safe (Negated s t) = and_then (meaning sc true t) (λ u. typed Bool' [])
   meaning sc safe (Path t ss) =
-      before (untrusted (sc.in_run && not safe) t ss) (and_then (meaning sc safe t) (λ u. walked sc safe ss u))
+      and_then (and_then (meaning sc safe t) (λ u. walk sc safe ss u))
+      (λ u. typed u (untrusted_faults (sc.in_run && not safe) t ss))
   meaning sc safe (Chain t os) =
-      and_then (meaning sc (safe || not (begins_logic os)) t) (λ u. chained sc (safe || not (begins_logic os)) os u)
+      and_then (meaning sc (safe || not (begins_logic os)) t) (λ u. operations sc (safe || not (begins_logic os)) os u)
 
   -- the steps of a path from a type on
-  pub walked : Scope → Bool → Steps → Type' → Typed
-  walked sc safe NoStep u = typed u []
-  walked sc safe (PropertyThen d b s ss) u = and_then (property_of b s (across d s) u) (λ v. walked sc safe ss v)
-  walked sc safe (AllThen a b ss) u = and_then (all_of (across a b) u) (λ v. walked sc safe ss v)
-  walked sc safe (IndexThen a t b ss) u = and_then (indexed (literal_text t) (across a b) u (meaning sc safe t)) (λ v. walked sc safe ss v)
+  pub walk : Scope → Bool → Steps → Type' → Typed
+  walk sc safe NoStep u = typed u []
+  walk sc safe (PropertyThen d b s ss) u = and_then (property_of b s (across d s) u) (λ v. walk sc safe ss v)
+  walk sc safe (AllThen a b ss) u = and_then (all_of (across a b) u) (λ v. walk sc safe ss v)
+  walk sc safe (IndexThen a t b ss) u = and_then (index_from (literal_text t) (across a b) u (meaning sc safe t)) (λ v. walk sc safe ss v)
 
   -- the operators of one level from a type on
-  pub chained : Scope → Bool → Operands → Type' → Typed
-  chained sc safe NoOperand u = typed u []
-  chained sc safe (OperandThen (sign o s) t os) u =
-      and_then (meaning sc safe t) (λ v. and_then (operated o s u v) (λ w. chained sc safe os w))
+  pub operations : Scope → Bool → Operands → Type' → Typed
+  operations sc safe NoOperand u = typed u []
+  operations sc safe (OperandThen (sign o s) t os) u =
+      and_then (meaning sc safe t) (λ v. and_then (operation o s u v) (λ w. operations sc safe os w))
 
   pub meanings : Scope → Bool → Arguments → AllTyped
   meanings sc safe NoArgument = all_typed [] []
   meanings sc safe (ArgumentThen t ts) = typed_then (meaning sc safe t) (extent t) (meanings sc safe ts)
 
 -- one step of a path
-abbrev pub stepped : Scope → Bool → StepTree → Type' → Typed
-stepped sc safe (tree.Property d b s) u = property_of b s (across d s) u
-stepped sc safe (tree.All a b) u = all_of (across a b) u
-stepped sc safe (tree.Index a t b) u = indexed (literal_text t) (across a b) u (meaning sc safe t)
+abbrev pub step_from : Scope → Bool → StepTree → Type' → Typed
+step_from sc safe (tree.Property d b s) u = property_of b s (across d s) u
+step_from sc safe (tree.All a b) u = all_of (across a b) u
+step_from sc safe (tree.Index a t b) u = index_from (literal_text t) (across a b) u (meaning sc safe t)
 
 -- the same with these arguments and faults before the others
 abbrev pub all_behind : List (Type' × Span) → List Fault → AllTyped → AllTyped

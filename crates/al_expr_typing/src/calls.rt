@@ -1,8 +1,8 @@
 //! Calls of functions: whether one is known and may stand here, and what is wrong with its arguments.
 
 ghost use Rattle.std.specs.Prelude.{◌≡◌, ◌++◌, ◌+◌, ◌^◌, ◌<◌, IfOk, OnOk, List, not, map, length, string_bytes, drop, true, ◌∷◌, [], ℕ};
-ghost use Rattle.al_expr_typing.specs.Meaning.{typed, behind, give, is_test, called_with, argument_faults, wrong_arguments, format_faults};
-ghost use Rattle.al_expr_typing.specs.Meaning.{placeholder_faults, unused};
+ghost use Rattle.al_expr_typing.specs.Meaning.{typed, behind, give, is_test, call_from, argument_faults, wrong_arguments, format_faults};
+ghost use Rattle.al_expr_typing.specs.Meaning.{placeholder_faults, unused_arguments};
 ghost use Rattle.al_expr_typing.specs.Placeholders.{used_arguments};
 ghost use Rattle.al_expr_grammar.specs.Refusal.{fault};
 ghost use Rattle.al_expr_typing.specs.Arguments.{argument_in};
@@ -76,7 +76,7 @@ pub(crate) fn is_test(function: Option<Function>) -> bool
 }
 
 /// The type of a call whose arguments have these types.
-pub(crate) fn called(
+pub(crate) fn call_from(
     scope: &Scope,
     call: CallExpr<'_>,
     arguments: &[Argument],
@@ -84,7 +84,7 @@ pub(crate) fn called(
 ) -> Result<Ty, AllocError>
     ensures ok { IfOk result
         (λ t. (ms : List Parts) → typed (type_in ms t) faults.new ≡ behind faults.old
-        (called_with (scope_in ms scope.now) (string_bytes (call.entry).name.now.text)
+        (call_from (scope_in ms scope.now) (string_bytes (call.entry).name.now.text)
         (call.entry).name.now.span
         (call.entry).function
         (arguments_of (map tree_of (call.entry).arguments.now))
@@ -250,7 +250,7 @@ fn check_used(
     faults: &mut FaultSink,
 ) -> Result<(), AllocError>
     ensures { OnOk result ((ms : List Parts) → faults.new ≡ faults.old
-        ++ unused 0 used.now (map (argument_in ms) arguments.now)) }
+        ++ unused_arguments 0 used.now (map (argument_in ms) arguments.now)) }
 {
     for (index, argument) in arguments.iter().enumerate() {
         if index < used.len() {

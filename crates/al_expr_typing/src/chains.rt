@@ -7,7 +7,7 @@ ghost use Rattle.al_expr_grammar.specs.Refusal.{fault};
 ghost use Rattle.al_expr_grammar.specs.Tree.{operands_of};
 ghost use Rattle.al_expr_grammar.specs.View.{operand_of};
 ghost use Rattle.al_expr_typing.specs.Comparison.{comparable_types};
-ghost use Rattle.al_expr_typing.specs.Meaning.{begins_logic, behind, give, is_logic, operated, typed};
+ghost use Rattle.al_expr_typing.specs.Meaning.{begins_logic, behind, give, is_logic, operation, typed};
 ghost use Rattle.al_expr_types.specs.Tables.{is_known, objects_of, type_at};
 ghost use Rattle.al_expr_types.specs.Types.{type_in};
 ghost use Rattle.al_types.specs.Types.{Parts};
@@ -41,7 +41,7 @@ pub(crate) fn operation(
     requires present { has_operand types.old sofar ≡ true }
     requires other { is_known types.old operand.ty ≡ true }
     ensures ok { IfOk result (λ j. typed (type_so_far types.new j) faults.new ≡ behind faults.old
-        (operated operand.operator operand.at (type_so_far types.old sofar)
+        (operation operand.operator operand.at (type_so_far types.old sofar)
         (type_at types.old operand.ty))) }
     ensures below { IfOk result (λ j. is_join_known types.new j ≡ true) }
     ensures present { IfOk result (λ j. has_operand types.new j ≡ true) }

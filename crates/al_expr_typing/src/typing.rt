@@ -8,8 +8,8 @@ ghost use Rattle.al_expr_types.specs.Types.{is_below, scalar_type};
 ghost use Rattle.al_expr_types.specs.Types as numbers;
 ghost use Rattle.al_expr_types.specs.Tables.{is_known, objects_of, type_at};
 ghost use Rattle.al_base.specs.Growth.{BeginsWith};
-ghost use Rattle.al_expr_typing.specs.Meaning.{typed, type_in, faults_in, behind, meaning_of, walked, chained, meanings};
-ghost use Rattle.al_expr_typing.specs.Meaning.{begins_logic, untrusted, all_typed, all_behind, stepped, indexed};
+ghost use Rattle.al_expr_typing.specs.Meaning.{typed, type_in, faults_in, behind, meaning_of, walk, operations, meanings};
+ghost use Rattle.al_expr_typing.specs.Meaning.{begins_logic, untrusted_faults, all_typed, all_behind, step_from, index_from};
 ghost use Rattle.al_expr_typing.specs.Steps.{base_name};
 ghost use Rattle.al_expr_typing.specs.Meaning as meaning;
 ghost use Rattle.al_expr_typing.specs.Literals.{literal_text};
@@ -17,7 +17,7 @@ ghost use Rattle.al_types.specs.Names.{context_of, function_of};
 ghost use Rattle.al_expr_grammar.specs.Tree.{steps_of, operands_of, arguments_of};
 ghost use Rattle.al_expr_grammar.specs.View.{tree_of, step_of, operand_of};
 
-use crate::calls::{Argument, CallExpr, called, is_test};
+use crate::calls::{Argument, CallExpr, call_from, is_test};
 use crate::chains::{TypedOperand, begins_logic, operation};
 use crate::literals::{literal_text, type_of_keyword};
 use crate::reports::report_text;
@@ -89,7 +89,7 @@ fn expression(
         Expr::Number(_) => Ok(scalar(Scalar::Number)),
         Expr::Text(_) => Ok(Ty::STRING),
         Expr::Name(word) => {
-            let ty = named(around.scope, word, faults)?;
+            let ty = name_type(around.scope, word, faults)?;
             Ok(ty)
         }
         Expr::Group(inner, _, _) => expression(types, around, inner, faults),
@@ -148,7 +148,7 @@ fn call(
 ) -> Result<Ty, AllocError>
     requires shown { IsShown types.old around.scope.now }
     ensures ok { IfOk result (λ t. typed (type_at types.new t) faults.new ≡ behind faults.old
-        (meaning.called (scope_at types.old (around.entry).scope.now)
+        (meaning.call (scope_at types.old (around.entry).scope.now)
         (string_bytes name.now.text) name.now.span
         (function_of (string_bytes name.now.text)) (arguments_of (map tree_of arguments.now))
         (meanings (scope_at types.old (around.entry).scope.now)
@@ -169,7 +169,7 @@ fn call(
         function,
         arguments,
     };
-    let ty = called(around.scope, written, &given, faults)?;
+    let ty = call_from(around.scope, written, &given, faults)?;
     Ok(ty)
 }
 
@@ -192,10 +192,10 @@ fn is_exposed(around: Surroundings<'_>) -> bool
 }
 
 #[tactic(auto, using(crate::proofs::TypedSteps::typing))]
-fn named(scope: &Scope, word: &Word, faults: &mut FaultSink) -> Result<Ty, AllocError>
+fn name_type(scope: &Scope, word: &Word, faults: &mut FaultSink) -> Result<Ty, AllocError>
     ensures ok { IfOk result
         (λ t. (ms : List Parts) → typed (numbers.type_in ms t) faults.new ≡ behind faults.old
-        (meaning.named (scope_in ms scope.now) (string_bytes word.now.text) word.now.span
+        (meaning.name_type (scope_in ms scope.now) (string_bytes word.now.text) word.now.span
         (context_of (string_bytes word.now.text)))) }
     ensures known { IfOk result
         (λ t. (types : Types) → IsShown types scope.now → is_known types t ≡ true) }
@@ -226,7 +226,7 @@ fn walk(
     requires shown { IsShown types.old left.around.scope.now }
     requires known { is_known types.old left.ty ≡ true }
     ensures ok { IfOk result (λ t. typed (type_at types.new t) faults.new ≡ behind faults.old
-        (walked (scope_at types.old (left.entry).around.scope.now) (left.entry).around.safe
+        (walk (scope_at types.old (left.entry).around.scope.now) (left.entry).around.safe
         (steps_of (map step_of steps.now))
         (type_at types.old (left.entry).ty))) }
     ensures known { IfOk result (λ t. is_known types.new t ≡ true) }
@@ -257,7 +257,7 @@ fn step_from(
     requires shown { IsShown types.old left.around.scope.now }
     requires known { is_known types.old left.ty ≡ true }
     ensures ok { IfOk result (λ t. typed (type_at types.new t) faults.new ≡ behind faults.old
-        (stepped (scope_at types.old (left.entry).around.scope.now) (left.entry).around.safe
+        (step_from (scope_at types.old (left.entry).around.scope.now) (left.entry).around.safe
         (step_of step.now) (type_at types.old (left.entry).ty))) }
     ensures known { IfOk result (λ t. is_known types.new t ≡ true) }
     ensures shown { IsShown types.new (left.entry).around.scope.now }
@@ -293,7 +293,7 @@ fn index_from(
     requires shown { IsShown types.old left.around.scope.now }
     requires known { is_known types.old left.ty ≡ true }
     ensures ok { IfOk result (λ t. typed (type_at types.new t) faults.new ≡ behind faults.old
-        (indexed (literal_text (tree_of index.now)) whole (type_at types.old (left.entry).ty)
+        (index_from (literal_text (tree_of index.now)) whole (type_at types.old (left.entry).ty)
         (meaning.meaning (scope_at types.old (left.entry).around.scope.now) (left.entry).around.safe
         (tree_of index.now)))) }
     ensures known { IfOk result (λ t. is_known types.new t ≡ true) }
@@ -330,7 +330,7 @@ fn operations(
     requires shown { IsShown types.old left.around.scope.now }
     requires known { is_known types.old left.ty ≡ true }
     ensures ok { IfOk result (λ t. typed (type_at types.new t) faults.new ≡ behind faults.old
-        (chained (scope_at types.old (left.entry).around.scope.now) (left.entry).around.safe
+        (operations (scope_at types.old (left.entry).around.scope.now) (left.entry).around.safe
         (operands_of (map operand_of operands.now))
         (type_at types.old (left.entry).ty))) }
     ensures known { IfOk result (λ t. is_known types.new t ≡ true) }
@@ -391,7 +391,7 @@ fn check_untrusted(
 ) -> Result<(), AllocError>
     ensures { OnOk result
         (faults.new
-        ≡ faults.old ++ untrusted exposed (tree_of base.now) (steps_of (map step_of steps.now))) }
+        ≡ faults.old ++ untrusted_faults exposed (tree_of base.now) (steps_of (map step_of steps.now))) }
 {
     if !exposed {
         return Ok(());

@@ -1,7 +1,8 @@
 //! Paths to what an outsider can write, which must not go into a script.
 
-ghost use Rattle.std.specs.Prelude.{◌≡◌, ◌∷◌, IfOk, length, map, option_map, string_bytes};
-ghost use Rattle.al_expr_typing.specs.Untrusted.{untrusted_chains, part_of, same_parts, chain_among, with_dots};
+ghost use Rattle.std.specs.Prelude.{◌≡◌, ◌∷◌, IfOk, find, length, map, option_map, string_bytes};
+ghost use Rattle.std.specs.Cmp.Lexicographic.{pointwise};
+ghost use Rattle.al_expr_typing.specs.Untrusted.{untrusted_chain, part_of, with_dots};
 ghost use Rattle.al_base.specs.Names.{same_name};
 ghost use Rattle.al_expr_grammar.specs.View.{step_of};
 
@@ -41,7 +42,7 @@ pub(crate) fn untrusted_chain(
     steps: &[PathStep],
 ) -> Result<Option<String>, AllocError>
     ensures { IfOk result (λ c. option_map string_bytes c ≡ option_map with_dots
-        (chain_among untrusted_chains (name.now ∷ map part_of (map step_of steps.now)))) }
+        (untrusted_chain (name.now ∷ map part_of (map step_of steps.now)))) }
 {
     let found = find_chain(alloc, &UNTRUSTED, name, steps)?;
     let text = chain_text(alloc, found)?;
@@ -50,8 +51,8 @@ pub(crate) fn untrusted_chain(
 
 fn chain_text(alloc: Global, chain: Option<Parts>) -> Result<Option<String>, AllocError>
     ensures { IfOk result
-        (λ c. option_map string_bytes c
-        ≡ option_map with_dots (option_map (λ p. map (λ q. q.now) p.now) chain.entry)) }
+        (λ c. option_map string_bytes c ≡ option_map with_dots
+        (option_map (λ p. map (λ q. q.now) p.now) chain.entry)) }
 {
     match chain {
         Some(parts) => Ok(Some(with_dots(alloc, parts)?)),
@@ -66,8 +67,8 @@ fn find_chain<'c>(
     steps: &[PathStep],
 ) -> Result<Option<Parts>, AllocError>
     ensures { IfOk result (λ c. option_map (λ p. map (λ q. q.now) p.now) c
-        ≡ chain_among (map (λ p. map (λ q. q.now) p.now) chains.now)
-        (name.now ∷ map part_of (map step_of steps.now))) }
+        ≡ find (λ p. pointwise same_name p (name.now ∷ map part_of (map step_of steps.now)))
+        (map (λ p. map (λ q. q.now) p.now) chains.now)) }
 {
     for chain in chains {
         if is_chain(alloc, chain, name, steps)? {
@@ -84,7 +85,7 @@ fn is_chain(
     steps: &[PathStep],
 ) -> Result<bool, AllocError>
     ensures { IfOk result
-        (λ b. b ≡ same_parts (map (λ p. p.now) chain.now)
+        (λ b. b ≡ pointwise same_name (map (λ p. p.now) chain.now)
         (name.now ∷ map part_of (map step_of steps.now))) }
 {
     let [first, rest @ ..] = chain else {
@@ -102,7 +103,7 @@ fn is_chain(
 fn are_parts(alloc: Global, parts: &[&str], steps: &[PathStep]) -> Result<bool, AllocError>
     requires { length parts.now ≡ length steps.now }
     ensures { IfOk result
-        (λ b. b ≡ same_parts (map (λ p. p.now) parts.now) (map part_of (map step_of steps.now))) }
+        (λ b. b ≡ pointwise same_name (map (λ p. p.now) parts.now) (map part_of (map step_of steps.now))) }
 {
     for (index, step) in steps.iter().enumerate() {
         if !is_part(alloc, parts[index], step)? {

@@ -35,15 +35,15 @@ move (Inside start) at bs =
     if first_is is_quote bs then On 0 (Quoted start at) else if closes bs then End start else On 0 (Inside start)
 move (Quoted start quote) at bs = if first_is is_quote bs then On 0 (Inside start) else On 0 (Quoted start quote)
 
-abbrev pub moved : Move → ℕ → (ℕ → ChunkState → Chunked) → Chunked
-moved (On skip w) at go = go skip w
-moved (End start) at go = then_chunk (span start at) (go 1 Outside)
+abbrev pub after_move : Move → ℕ → (ℕ → ChunkState → Chunked) → Chunked
+after_move (On skip w) at go = go skip w
+after_move (End start) at go = then_chunk (span start at) (go 1 Outside)
 
 -- the chunks from a state on, of which so many bytes were read already
 abbrev pub chunks_from : ℕ → ChunkState → ℕ → List ℕ → Chunked
 chunks_from skip w at [] = no_chunks (end_fault w)
 chunks_from (suc skip) w at (b ∷ bs) = chunks_from skip w (at + 1) bs
-chunks_from zero w at (b ∷ bs) = moved (move w at (b ∷ bs)) at (λ skip w'. chunks_from skip w' (at + 1) bs)
+chunks_from zero w at (b ∷ bs) = after_move (move w at (b ∷ bs)) at (λ skip w'. chunks_from skip w' (at + 1) bs)
 
 -- chunks read so far, before those of the rest
 abbrev pub behind_chunks : List Span → Chunked → Chunked

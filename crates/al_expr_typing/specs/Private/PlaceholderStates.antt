@@ -3,7 +3,7 @@
 use Rattle.std.specs.Prelude.{ℕ, ◌+◌, ◌*◌, ◌-◌, List, [], ◌∷◌, Bool, true, ◌==◌, nat_lt, if◌then◌else◌, Option, Some, None, length}
 use Rattle.std.specs.Prelude.{slice_set}
 use Rattle.al_base.specs.Ascii as ascii
-use Rattle.al_expr_grammar.specs.Tokens.{is_digit}
+use Rattle.std.specs.Char.{is_ascii_digit}
 use Rattle.al_expr_typing.specs.declared.placeholders.PlaceholderState.{PlaceholderState}
 use Rattle.al_expr_typing.specs.declared.placeholders.PlaceholderState.TheVariants.{Outside, BehindOpening, InIndex, BehindClosing}
 use Rattle.al_expr_typing.specs.declared.placeholders.Turn.{Turn}
@@ -12,17 +12,17 @@ use Rattle.al_expr_typing.specs.declared.placeholders.Turn.TheVariants.{To, Name
 -- where a byte leads
 abbrev pub turn : PlaceholderState → ℕ → Turn
 turn Outside b = if b == ascii.open_brace then To BehindOpening else if b == ascii.close_brace then To BehindClosing else To Outside
-turn BehindOpening b = if b == ascii.open_brace then To Outside else if is_digit b then To (InIndex (b - ascii.digit_zero)) else Wrong
+turn BehindOpening b = if b == ascii.open_brace then To Outside else if is_ascii_digit b then To (InIndex (b - ascii.digit_zero)) else Wrong
 turn (InIndex n) b =
-    if is_digit b then To (InIndex (10 * n + (b - ascii.digit_zero))) else if b == ascii.close_brace then Names n else Wrong
+    if is_ascii_digit b then To (InIndex (10 * n + (b - ascii.digit_zero))) else if b == ascii.close_brace then Names n else Wrong
 turn BehindClosing b = if b == ascii.close_brace then To Outside else Wrong
 
-abbrev pub turned : Turn → List Bool → (PlaceholderState → List Bool → Option (List Bool)) → Option (List Bool)
-turned (To p) used go = go p used
-turned (Names n) used go = if nat_lt n (length used) then go Outside (slice_set used n true) else None
-turned Wrong used go = None
+abbrev pub after_turn : Turn → List Bool → (PlaceholderState → List Bool → Option (List Bool)) → Option (List Bool)
+after_turn (To p) used go = go p used
+after_turn (Names n) used go = if nat_lt n (length used) then go Outside (slice_set used n true) else None
+after_turn Wrong used go = None
 
 abbrev pub used_from : PlaceholderState → List Bool → List ℕ → Option (List Bool)
 used_from Outside used [] = Some used
 used_from _ used [] = None
-used_from p used (b ∷ bs) = turned (turn p b) used (λ q now. used_from q now bs)
+used_from p used (b ∷ bs) = after_turn (turn p b) used (λ q now. used_from q now bs)

@@ -1,7 +1,7 @@
 -- Words of private contracts: the states of the code that reads a text literal. What its value is, `Literals` says; that the two agree,
 -- `proofs/LiteralLemmas`.
 use Rattle.std.specs.Prelude.{ℕ, List, [], ◌∷◌, ◌++◌, if◌then◌else◌}
-use Rattle.al_expr_typing.specs.Literals.{is_quote}
+use Rattle.al_expr_grammar.specs.Tokens.{is_quote}
 use Rattle.al_expr_typing.specs.declared.literals.Quoting.{Quoting}
 use Rattle.al_expr_typing.specs.declared.literals.Quoting.TheVariants.{Opening, Inside, BehindQuote}
 

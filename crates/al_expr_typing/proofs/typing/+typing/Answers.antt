@@ -16,7 +16,7 @@ use Rattle.al_expr_types.specs.Tables.{is_known, objects_of, type_at}
 use Rattle.al_expr_types.proofs.Below.{all_more}
 use Rattle.al_expr_typing.specs.Arguments.{are_known, argument_at}
 use Rattle.al_expr_typing.specs.Scopes.{scope_at}
-use Rattle.al_expr_typing.specs.Meaning.{typed, behind, all_behind, walked, chained, begins_logic, called_with, index_of, meaning, meanings, operated, stepped}
+use Rattle.al_expr_typing.specs.Meaning.{typed, behind, all_behind, walk, operations, begins_logic, call_from, index_of, meaning, meanings, operation, step_from}
 use Rattle.al_expr_typing.specs.Chains.{type_so_far}
 use Rattle.al_expr_typing.proofs.ChainLemmas.{join_stays, operand_stays, so_far_stays}
 use Rattle.al_expr_typing.proofs.Shown.{arguments_known, arguments_stay, known_stays, scope_stays, shown_stays, type_stays}
@@ -77,10 +77,10 @@ expression-returns-in_ok-check_untrusted-in-Path-clause-ok t c =
     let e = ap tree_of c.in-Path.is ∙ tree_of-Path c.in-Path.base c.in-Path.steps in
     let f = rw c.deref-in-Path.ensures at c.in_ok-start-in-Path.ensures.ok in
     let g = rw c.deref-in-Path-2.ensures.value at c.in_ok-ty-in-Path.ensures.ok in
-    let s = ap (λ sc. behind c.expression-in-Path.new.faults (walked sc c.args.around.safe ss (type_at mid c.in_ok-start-in-Path.start)))
+    let s = ap (λ sc. behind c.expression-in-Path.new.faults (walk sc c.args.around.safe ss (type_at mid c.in_ok-start-in-Path.start)))
     (scope_stays mid before c.args.around.scope.now c.in_ok-start-in-Path.ensures.kept c.requires.shown) in
     let h = rw (c.is_exposed.ensures, c.deref-in-Path-3.ensures, c.deref-in-Path-4.ensures.value) at c.in_ok-check_untrusted-in-Path.ensures in
-    rw e (path_on _ _ _ _ _ _ _ _ (λ u. walked (scope_at before c.args.around.scope.now) c.args.around.safe ss u) f (g ∙ s) h)
+    rw e (path_on _ _ _ _ _ _ _ _ (λ u. walk (scope_at before c.args.around.scope.now) c.args.around.safe ss u) f (g ∙ s) h)
 
 pub expression-returns-in_ok-ty-in-Chain-clause-ok : goal.expression-returns-in_ok-ty-in-Chain-clause-ok
 expression-returns-in_ok-ty-in-Chain-clause-ok t c =
@@ -91,9 +91,9 @@ expression-returns-in_ok-ty-in-Chain-clause-ok t c =
     let safe = c.args.around.safe || not (begins_logic os) in
     let f = rw (c.is_compared.ensures, c.deref-in-Chain.ensures.value, c.deref-in-Chain-2.ensures) at c.in_ok-start-in-Chain.ensures.ok in
     let g = rw (c.is_compared.ensures, c.deref-in-Chain.ensures.value, c.deref-in-Chain-3.ensures.value) at c.in_ok-ty-in-Chain.ensures.ok in
-    let s = ap (λ sc. behind c.expression-in-Chain.new.faults (chained sc safe os (type_at mid c.in_ok-start-in-Chain.start)))
+    let s = ap (λ sc. behind c.expression-in-Chain.new.faults (operations sc safe os (type_at mid c.in_ok-start-in-Chain.start)))
     (scope_stays mid before c.args.around.scope.now c.in_ok-start-in-Chain.ensures.kept c.requires.shown) in
-    rw e (g ∙ s ∙ follows _ _ _ _ (λ u. chained (scope_at before c.args.around.scope.now) safe os u) f)
+    rw e (g ∙ s ∙ follows _ _ _ _ (λ u. operations (scope_at before c.args.around.scope.now) safe os u) f)
 
 pub call-returns-clause-ok : goal.call-returns-clause-ok
 call-returns-clause-ok t c =
@@ -104,7 +104,7 @@ call-returns-clause-ok t c =
     let h = rw (f, c.deref.ensures.value) at c.in_ok-ty.ensures.ok (objects_of mid) in
     let name = string_bytes c.args.name.now.text in
     let ts = arguments_of (map tree_of c.args.arguments.now) in
-    let s = ap (λ sc. behind c.typed_arguments.new.faults (called_with sc name c.args.name.now.span (function_of name) ts (map (argument_at mid) c.in_ok-given.given.items)))
+    let s = ap (λ sc. behind c.typed_arguments.new.faults (call_from sc name c.args.name.now.span (function_of name) ts (map (argument_at mid) c.in_ok-given.given.items)))
     (scope_stays mid before c.args.around.scope.now c.in_ok-given.ensures.kept c.requires.shown) in
     h ∙ s ∙ called_on (scope_at before c.args.around.scope.now) name c.args.name.now.span (function_of name) ts _ _ _ _ g
 
@@ -129,7 +129,7 @@ operations-loop-operand-preserved t c =
     let i = rw (r, operand_view x) at c.loop-operand.invariant.so_far in
     let e = c.in_ok-other.ensures.ok ∙ ap (λ sc. behind c.loop-operand.faults (meaning sc safe (tree_of x.expr)))
     (scope_stays now before c.args.left.around.scope.now c.loop-operand.invariant.kept c.requires.shown) in
-    let f = c.in_ok-more.ensures.ok ∙ ap (λ v. behind c.expression.new.faults (operated x.operator x.at v u))
+    let f = c.in_ok-more.ensures.ok ∙ ap (λ v. behind c.expression.new.faults (operation x.operator x.at v u))
     (so_far_stays mid now c.loop-operand.all c.in_ok-other.ensures.kept c.loop-operand.invariant.below) in
     record {
       kept = begins_trans _ _ _ c.loop-operand.invariant.kept (begins_trans _ _ _ c.in_ok-other.ensures.kept c.in_ok-more.ensures.kept);
@@ -147,7 +147,7 @@ operations-returns-clause-ok t c =
     let out = c.loop-operand.faults in
     let all = type_so_far now c.loop-operand.all in
     let sc = scope_at c.args.types.now c.args.left.around.scope.now in
-    let d = at_drop_all (λ l. behind out (chained sc c.args.left.around.safe (operands_of (map operand_of l)) all)) c.args.operands.now c.loop-operand.operand-index
+    let d = at_drop_all (λ l. behind out (operations sc c.args.left.around.safe (operands_of (map operand_of l)) all)) c.args.operands.now c.loop-operand.operand-index
     (omega (arith, c.loop-operand-test.false)) in
     ap (λ u. typed u out) c.in_ok-ty.ensures.ty ∙ unchanged all out ∙ sym d ∙ c.loop-operand.invariant.so_far
 
@@ -224,7 +224,7 @@ walk-loop-step-preserved t c =
     let here = type_at now c.loop-step.ty in
     let r = rest_item c.args.steps.now c.loop-step.step-index x c.loop-step-test.true c.step-item.is in
     let i = rw r at c.loop-step.invariant.so_far in
-    let e = c.in_ok-next.ensures.ok ∙ ap (λ sc. behind c.loop-step.faults (stepped sc c.args.left.around.safe (step_of x) here))
+    let e = c.in_ok-next.ensures.ok ∙ ap (λ sc. behind c.loop-step.faults (step_from sc c.args.left.around.safe (step_of x) here))
     (scope_stays now before c.args.left.around.scope.now c.loop-step.invariant.kept c.requires.shown) in
     record {
       kept = begins_trans _ _ _ c.loop-step.invariant.kept c.in_ok-next.ensures.kept;

@@ -6,7 +6,7 @@ use Rattle.al_expr_types.specs.Tables.{is_known, objects_of, type_at}
 use Rattle.al_expr_typing.specs.Arguments.{are_known, argument_at}
 use Rattle.al_expr_typing.specs.Chains.{has_operand, is_join_known, type_so_far}
 use Rattle.al_expr_typing.specs.Scopes.{IsShown, scope_at}
-use Rattle.al_expr_typing.specs.Meaning.{behind, walked, chained, meanings, all_behind}
+use Rattle.al_expr_typing.specs.Meaning.{behind, walk, operations, meanings, all_behind}
 use Rattle.al_expr_typing.proofs.typing.+typing.Given as goal
 
 abbrev pub invariant-walk-loop-step : goal.invariant-walk-loop-step
@@ -14,8 +14,8 @@ invariant-walk-loop-step l = record {
   kept : BeginsWith (objects_of l.types) (objects_of l.initial.types);
   shown : IsShown l.types l.left.around.scope.now;
   known : is_known l.types l.ty ≡ true;
-  so_far : behind l.faults (walked (scope_at l.initial.types l.left.around.scope.now) l.left.around.safe (steps_of (map step_of (drop l.step-index l.steps))) (type_at l.types l.ty))
-      ≡ behind l.initial.faults (walked (scope_at l.initial.types l.left.around.scope.now) l.left.around.safe (steps_of (map step_of l.steps)) (type_at l.initial.types l.left.ty));
+  so_far : behind l.faults (walk (scope_at l.initial.types l.left.around.scope.now) l.left.around.safe (steps_of (map step_of (drop l.step-index l.steps))) (type_at l.types l.ty))
+      ≡ behind l.initial.faults (walk (scope_at l.initial.types l.left.around.scope.now) l.left.around.safe (steps_of (map step_of l.steps)) (type_at l.initial.types l.left.ty));
 }
 
 abbrev pub invariant-operations-loop-operand : goal.invariant-operations-loop-operand
@@ -24,9 +24,9 @@ invariant-operations-loop-operand l = record {
   shown : IsShown l.types l.left.around.scope.now;
   below : is_join_known l.types l.all ≡ true;
   present : has_operand l.types l.all ≡ true;
-  so_far : behind l.faults (chained (scope_at l.initial.types l.left.around.scope.now) l.left.around.safe (operands_of (map operand_of (drop l.operand-index l.operands)))
+  so_far : behind l.faults (operations (scope_at l.initial.types l.left.around.scope.now) l.left.around.safe (operands_of (map operand_of (drop l.operand-index l.operands)))
       (type_so_far l.types l.all)) ≡ behind l.initial.faults
-      (chained (scope_at l.initial.types l.left.around.scope.now) l.left.around.safe (operands_of (map operand_of l.operands)) (type_at l.initial.types l.left.ty));
+      (operations (scope_at l.initial.types l.left.around.scope.now) l.left.around.safe (operands_of (map operand_of l.operands)) (type_at l.initial.types l.left.ty));
 }
 
 abbrev pub invariant-typed_arguments-loop-expr : goal.invariant-typed_arguments-loop-expr

@@ -4,7 +4,7 @@ use Rattle.al_base.specs.declared.codes.ExpressionCode.TheVariants as code
 use Rattle.al_expr_grammar.specs.Refusal.{fault}
 use Rattle.al_expr_grammar.specs.Tree.{steps_of}
 use Rattle.al_expr_grammar.specs.View.{tree_of, step_of}
-use Rattle.al_expr_typing.specs.Meaning.{untrusted}
+use Rattle.al_expr_typing.specs.Meaning.{untrusted_faults}
 use Rattle.al_expr_typing.specs.Steps.{base_name}
 use Rattle.al_expr_typing.proofs.Paths.{untrusted_none, untrusted_some}
 use Rattle.al_expr_typing.proofs.typing.check_untrusted.Goals as goal
@@ -20,7 +20,7 @@ returns-in-Some-chain c =
     let now = c.args.faults.now in
     on_ok_weaker c.report_text.result
     (λ e. e ∙ ap (λ s. now ++ fault code.Untrusted s (text ∷ []) ∷ []) c.path_extent-whole.ensures ∙ ap (λ l. now ++ l) (sym u)
-    ∙ ap (λ b. now ++ untrusted b t (steps_of (map step_of c.args.steps.now))) (sym h))
+    ∙ ap (λ b. now ++ untrusted_faults b t (steps_of (map step_of c.args.steps.now))) (sym h))
     c.report_text.ensures
 
 pub returns-in-None : goal.returns-in-None
@@ -30,4 +30,4 @@ returns-in-None c =
     let k = rw c.in-None.is at c.in_ok-chain.ensures in
     let u = untrusted_none c.in-Some.name.now (tree_of c.args.base.now) (map step_of c.args.steps.now) n k in
     let now = c.args.faults.now in
-    sym (append-nil now) ∙ ap (λ l. now ++ l) (sym u) ∙ ap (λ b. now ++ untrusted b (tree_of c.args.base.now) (steps_of (map step_of c.args.steps.now))) (sym h)
+    sym (append-nil now) ∙ ap (λ l. now ++ l) (sym u) ∙ ap (λ b. now ++ untrusted_faults b (tree_of c.args.base.now) (steps_of (map step_of c.args.steps.now))) (sym h)

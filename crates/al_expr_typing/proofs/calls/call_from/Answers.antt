@@ -1,6 +1,6 @@
 use Rattle.std.proofs.Common.{ap, ◌∙◌, append_assoc}
 use Rattle.al_expr_typing.specs.Meaning.{typed}
-use Rattle.al_expr_typing.proofs.calls.called.Goals as goal
+use Rattle.al_expr_typing.proofs.calls.call_from.Goals as goal
 
 pub returns-clause-ok : goal.returns-clause-ok
 returns-clause-ok c = λ ms.
