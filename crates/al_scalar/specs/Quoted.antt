@@ -102,14 +102,13 @@ abbrev mutual
   -- a digit of an escape behind those that make a value, and so many more
   pub escape_digits : ℕ → ℕ → ℕ → List Cell → Result QuotedLine Fault
   escape_digits at more value [] = Ok (record { text = []; stop = cut_short at })
-  escape_digits at more value (c ∷ cs) =
+  escape_digits at zero value (c ∷ cs) =
       elim (hex_digit c.0) [
         | None ↦ fault yaml.WrongEscape at
-        | Some d ↦ elim more [
-          | zero ↦ escape_character at (16 * value + d) (double_part cs)
-          | suc n ↦ escape_digits at n (16 * value + d) cs
-        ]
+        | Some d ↦ escape_character at (16 * value + d) (double_part cs)
       ]
+  escape_digits at (suc n) value (c ∷ cs) =
+      elim (hex_digit c.0) [ None ↦ fault yaml.WrongEscape at | Some d ↦ escape_digits at n (16 * value + d) cs ]
 
 -- The break after a line, which is folded unless it is escaped.
 abbrev pub break_after : QuotedEnd → Line → Option ℕ
