@@ -4,7 +4,9 @@ use Rattle.al_scalar.specs.Line.{Cell, Line, place}
 use Rattle.al_scalar.specs.Taken.{Fault, Taken, ◌>>=◌, with_text}
 use Rattle.al_scalar.specs.Places.{first_text, first_end, lines_at}
 use Rattle.al_scalar.specs.LineEnds.{broken_line, SameLine, first_last, later}
-use Rattle.al_scalar.specs.Block.{Chomping, Header, Rows, header, content_indent, rows_at, block_scalar}
+use Rattle.al_scalar.specs.Block.{Rows, header, content_indent, rows_at, block_scalar}
+use Rattle.al_scalar.specs.declared.header.Chomping.{Chomping}
+use Rattle.al_scalar.specs.declared.header.Header.{Header}
 use Rattle.al_scalar.specs.Private.BlockRead.{rest, is_said}
 use Rattle.al_scalar.proofs.SingleLemmas.{has_line, cell_at, lines-at_end, lines_at-some, IsInside}
 use Rattle.al_scalar.proofs.RowLemmas.{of_rows, chomped-none}

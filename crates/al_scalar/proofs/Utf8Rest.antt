@@ -6,7 +6,8 @@ use Rattle.std.specs.Prelude.{IsUtf8}
 use Rattle.std.specs.Option.{is_some}
 use Rattle.al_base.specs.Ascii as ascii
 use Rattle.al_scalar.specs.Line.{Cell, Line, place, is_blank, after_blanks, is_empty, is_all_blank}
-use Rattle.al_scalar.specs.Block.{Header, header, content_indent, Rows, row_of, at_end, with_row, rows_at, text_after, rows_end, block_scalar}
+use Rattle.al_scalar.specs.Block.{header, content_indent, Rows, row_of, at_end, with_row, rows_at, text_after, rows_end, block_scalar}
+use Rattle.al_scalar.specs.declared.header.Header.{Header}
 use Rattle.al_scalar.specs.Plain.{Context, is_flow, is_value_colon, ends_plain, plain_part, continues, ended_before, plain_lines, plain}
 use Rattle.al_scalar.specs.Quoted.{QuotedLine, QuotedEnd, closed, broken, escaped, cut_short, is_broken, with_own, single_part}
 use Rattle.al_scalar.specs.Quoted.{escape_table, digits_table, lookup, is_scalar_value, written, part_before, own_before}
