@@ -102,7 +102,8 @@ pending-more low mid high to to' last empties more a h k = record {
 
 text-from : (is_literal : Bool) (k : Chomping) (low mid next high : ℕ) (last : Option BlockLine) (empties : List ℕ) (rs : List BlockLine) → ArePending low mid next last empties → AreRows next high rs
     → IsFrom low high (text_after is_literal k last empties rs)
-text-from is_literal k low mid next high last empties [] h rows = from-wider low next low high (chomped k (own_break last) empties) (omega arith) rows (chomped-from k low mid next last empties h)
+text-from is_literal k low mid next high last empties [] h rows =
+    from-wider low next low high (chomped k (own_break last) empties) (omega arith) rows (chomped-from k low mid next last empties h)
 text-from is_literal k low mid next high last empties (r ∷ rs) h rows =
     let at = break_at high r.break in
     let behind = break_behind high r.break in

@@ -6,7 +6,8 @@ use Rattle.std.proofs.lemmas.Str.{length-encode, len_utf8_bounds}
 use Rattle.al_base.specs.declared.codes.YamlCode.TheVariants as yaml
 use Rattle.al_scalar.specs.Line.{Cell, is_empty}
 use Rattle.al_scalar.specs.Taken.{Fault, fault}
-use Rattle.al_scalar.specs.Quoted.{QuotedLine, closed, broken, part_before, own_before, written, lookup, escape_table}
+use Rattle.al_scalar.specs.Quoted.{QuotedLine, closed, broken, part_before, own_before, written, escape_table}
+use Rattle.std.specs.Map.{lookup}
 use Rattle.al_scalar.specs.Quoted.{digits_table, escape_character, escape_digits, hex_digit, is_scalar_value, escape, double_part}
 use Rattle.al_scalar.specs.LineEnds.{AreBlank, IsBlankByte}
 use Rattle.al_scalar.specs.Private.Double.{IsMarkByte}
@@ -111,8 +112,8 @@ digits-some at (suc n) v (c ∷ cs) = by-option GivesSome (hex_digit c.0) refl (
 escape-some : (at : ℕ) (cs : List Cell) → GivesSome (escape at cs)
 escape-some at [] = refl
 escape-some at (c ∷ cs) =
-    by-option GivesSome (lookup c.0 escape_table)
-    (by-option GivesSome (lookup c.0 digits_table) refl (λ width. digits-some at (width - 1) 0 cs))
+    by-option GivesSome (lookup (λ k. k == c.0) escape_table)
+    (by-option GivesSome (lookup (λ k. k == c.0) digits_table) refl (λ width. digits-some at (width - 1) 0 cs))
     (λ code. some-after (written at code) (double_part cs) (written-some at code))
 
 pub double-some : (c : Cell) (cs : List Cell) → (IsBlankByte c.0 → ⊥) → gives_nothing (double_part (c ∷ cs)) ≡ false

@@ -6,7 +6,8 @@ use Rattle.al_base.specs.Ascii as ascii
 use Rattle.al_scalar.specs.Line.{Cell, Line, place, is_blank, after_blanks, is_empty}
 use Rattle.al_scalar.specs.Offsets.{AreRising, AreClimbing, AreLines}
 use Rattle.al_scalar.specs.Quoted.{QuotedLine, QuotedEnd, closed, broken, escaped, cut_short, is_broken, with_own, single_part}
-use Rattle.al_scalar.specs.Quoted.{escape_table, digits_table, lookup, is_scalar_value, written, part_before, own_before}
+use Rattle.al_scalar.specs.Quoted.{escape_table, digits_table, is_scalar_value, written, part_before, own_before}
+use Rattle.std.specs.Map.{lookup}
 use Rattle.al_scalar.specs.Quoted.{escape_character, escape_digits, hex_digit, escape, double_part, line_given, is_empty_line, quoted_lines, quoted, single_quoted}
 use Rattle.al_scalar.specs.Quoted.{double_quoted}
 use Rattle.al_scalar.specs.Taken.{Fault, Taken, ◌>>=◌, before, folded}
@@ -105,8 +106,8 @@ mutual
   escape-from low end at [] a h = from-none low end (omega (arith, a, h))
   escape-from low end at (c ∷ cs) a h =
       let b = h.0 in
-      choose-option (GivesPart low end) (lookup c.0 escape_table)
-      (choose-option (GivesPart low end) (lookup c.0 digits_table) tt
+      choose-option (GivesPart low end) (lookup (λ k. k == c.0) escape_table)
+      (choose-option (GivesPart low end) (lookup (λ k. k == c.0) digits_table) tt
       (λ width. digits-from low end at (c.1 + 1) (width - 1) 0 cs a (omega (arith, b)) h.1))
       (λ code. part-behind low (at + 1) end (written at code) (double_part cs) (written-from low at code a)
       (gives-lower (c.1 + 1) (at + 1) end (double_part cs) (omega (arith, b)) (double-from (c.1 + 1) end cs h.1)))
@@ -152,7 +153,8 @@ not-last false false true h = cc
 abbrev LinesReader : (Option ℕ → Result Taken Fault) → List Line → Type 0
 LinesReader below ls = (low mid : ℕ) (b : Option ℕ) → IsFrom low mid (folded b) → AreLines mid ls → AreTaken low (below b)
 
-line-from : (quote low mid : ℕ) (break : Option ℕ) (l : Line) (ls : List Line) (below : Option ℕ → Result Taken Fault) → IsFrom low mid (folded break) → AreLines mid (l ∷ ls) → LinesReader below ls
+line-from : (quote low mid : ℕ) (break : Option ℕ) (l : Line) (ls : List Line) (below : Option ℕ → Result Taken Fault)
+    → IsFrom low mid (folded break) → AreLines mid (l ∷ ls) → LinesReader below ls
     → (r : Result QuotedLine Fault) → GivesPart mid l.end r
     → AreTaken low (r >>= (λ p. if is_empty_line p l then before ((ascii.line_feed, l.end) ∷ []) (below None) else line_given quote (folded break) p l ls below))
 line-from quote low mid break l ls below h k more (Err e) r = tt

@@ -10,7 +10,8 @@ use Rattle.al_scalar.specs.Block.{header, content_indent, Rows, row_of, at_end, 
 use Rattle.al_scalar.specs.declared.header.Header.{Header}
 use Rattle.al_scalar.specs.Plain.{Context, is_flow, is_value_colon, ends_plain, plain_part, continues, ended_before, plain_lines, plain}
 use Rattle.al_scalar.specs.Quoted.{QuotedLine, QuotedEnd, closed, broken, escaped, cut_short, is_broken, with_own, single_part}
-use Rattle.al_scalar.specs.Quoted.{escape_table, digits_table, lookup, is_scalar_value, written, part_before, own_before}
+use Rattle.al_scalar.specs.Quoted.{escape_table, digits_table, is_scalar_value, written, part_before, own_before}
+use Rattle.std.specs.Map.{lookup}
 use Rattle.al_scalar.specs.Quoted.{escape_character, escape_digits, hex_digit, escape, double_part, line_given, is_empty_line, quoted_lines, quoted, single_quoted}
 use Rattle.al_scalar.specs.Quoted.{double_quoted}
 use Rattle.al_scalar.specs.Taken.{Fault, Taken, ◌>>=◌, before, folded, folded_break}
@@ -85,8 +86,8 @@ mutual
   escape-leaves : (at : ℕ) (cs : List Cell) → GivesLeaves cs (escape at cs)
   escape-leaves at [] = λ p u. tt
   escape-leaves at (c ∷ cs) =
-      choose-option (GivesLeaves (c ∷ cs)) (lookup c.0 escape_table)
-      (choose-option (GivesLeaves (c ∷ cs)) (lookup c.0 digits_table) tt
+      choose-option (GivesLeaves (c ∷ cs)) (lookup (λ k. k == c.0) escape_table)
+      (choose-option (GivesLeaves (c ∷ cs)) (lookup (λ k. k == c.0) digits_table) tt
       (λ width _. gives-more c cs (escape_digits at (width - 1) 0 cs) (digits-leave at (width - 1) 0 cs)))
       (λ code _. part-leaves (c ∷ cs) (written at code) (double_part cs) (gives-more c cs (double_part cs) (double-leaves cs)))
 

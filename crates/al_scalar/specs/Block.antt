@@ -1,6 +1,7 @@
 -- Block scalars (8.1).
 use Rattle.std.specs.Prelude.{ℕ, ◌+◌, ◌-◌, List, [], ◌∷◌, ◌++◌, drop, Bool, true, not, ◌&&◌, ◌||◌, ◌==◌, nat_le, if◌then◌else◌}
 use Rattle.std.specs.Prelude.{Option, Some, None, is_some, Result, Ok}
+use Rattle.std.specs.Option.{option_map_or}
 use Rattle.al_base.specs.Ascii as ascii
 use Rattle.al_base.specs.declared.codes.YamlCode.TheVariants as yaml
 use Rattle.al_scalar.specs.Line.{Cell, Line, place, after_blanks, indent, is_empty, is_all_blank, begins_blank, is_comment}
@@ -98,8 +99,7 @@ chomped Clip own empties = feeds own
 chomped Keep own empties = feeds (own ++ empties)
 
 abbrev pub own_break : Option BlockLine → List ℕ
-own_break None = []
-own_break (Some r) = r.break
+own_break last = option_map_or (λ r. r.break) last []
 
 -- Between two lines that begin with no blank the break is folded (8.1.3).
 abbrev pub between_rows : List ℕ → List ℕ → List Cell

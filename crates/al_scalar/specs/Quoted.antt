@@ -1,6 +1,8 @@
 -- Quoted scalars (7.3.1 double-quoted, 7.3.2 single-quoted, 5.7 escaped characters, 6.5 line folding).
 use Rattle.std.specs.Prelude.{ℕ, zero, suc, ◌+◌, ◌*◌, ◌-◌, List, [], ◌∷◌, ◌++◌, map, Bool, true, false, not, ◌&&◌, ◌||◌}
 use Rattle.std.specs.Prelude.{◌==◌, nat_le, nat_lt, if◌then◌else◌, Option, Some, None, Result, Ok, encode_utf8}
+use Rattle.std.specs.Char.{digit_value}
+use Rattle.std.specs.Map.{lookup}
 use Rattle.al_base.specs.Ascii as ascii
 use Rattle.al_base.specs.declared.codes.YamlCode.TheVariants as yaml
 use Rattle.al_scalar.specs.Line.{Cell, Line, cut, is_blank, after_blanks, is_empty}
@@ -52,17 +54,8 @@ escape_table = (48, 0) ∷ (97, 7) ∷ (98, 8) ∷ (116, 9) ∷ (9, 9) ∷ (110,
 abbrev pub digits_table : List (ℕ × ℕ)
 digits_table = (120, 2) ∷ (117, 4) ∷ (85, 8) ∷ []
 
-abbrev pub lookup : ℕ → List (ℕ × ℕ) → Option ℕ
-lookup b [] = None
-lookup b (e ∷ es) =
-    let more = lookup b es in
-    if e.0 == b then Some e.1 else more
-
 abbrev pub hex_digit : ℕ → Option ℕ
-hex_digit b =
-    if nat_le 48 b && nat_le b 57 then Some (b - 48)
-    else (if nat_le 65 b && nat_le b 70 then Some (b - 55)
-    else (if nat_le 97 b && nat_le b 102 then Some (b - 87) else None))
+hex_digit b = if nat_lt (digit_value b) 16 then Some (digit_value b) else None
 
 abbrev pub is_scalar_value : ℕ → Bool
 is_scalar_value c = nat_lt c 0xd800 || (nat_le 0xe000 c && nat_lt c 0x110000)
@@ -94,9 +87,12 @@ abbrev mutual
   pub escape : ℕ → List Cell → Result QuotedLine Fault
   escape at [] = Ok (record { text = []; stop = escaped })
   escape at (c ∷ cs) =
-      elim (lookup c.0 escape_table) [
+      elim (lookup (λ letter. letter == c.0) escape_table) [
         | Some code ↦ part_before (written at code) (double_part cs)
-        | None ↦ elim (lookup c.0 digits_table) [ None ↦ fault yaml.WrongEscape at | Some width ↦ escape_digits at (width - 1) 0 cs ]
+        | None ↦ elim (lookup (λ letter. letter == c.0) digits_table) [
+          | None ↦ fault yaml.WrongEscape at
+          | Some width ↦ escape_digits at (width - 1) 0 cs
+        ]
       ]
 
   -- a digit of an escape behind those that make a value, and so many more

@@ -1,11 +1,13 @@
 //! What a plain scalar is taken for: null, a boolean, an integer, a float or a string (YAML 1.2.2, 10.3.2).
 
 ghost use Rattle.std.specs.Prelude.{◌≡◌};
+ghost use Rattle.std.specs.Char.{is_ascii_digit};
 ghost use Rattle.std.specs.List.{list_any};
 ghost use Rattle.std.specs.Str.{bytes_eq};
-ghost use Rattle.al_scalar.specs.Class.{is_null, is_boolean, is_integer, is_float, is_decimal, is_fraction, is_pure_fraction};
-ghost use Rattle.al_scalar.specs.Class.{is_exponent, after_digits, begins_digit, is_prefixed, unsigned, are_digits, is_digit_in};
+ghost use Rattle.al_scalar.specs.Class.{is_one_of, nulls, booleans, is_integer, is_float, is_decimal, is_fraction, is_pure_fraction};
+ghost use Rattle.al_scalar.specs.Class.{is_exponent, after_digits, is_prefixed, unsigned, are_digits, is_digit_in};
 ghost use Rattle.al_scalar.specs.Class.{class_of};
+ghost use Rattle.al_base.specs.FirstBytes.{first_is};
 
 use crate::styles::Class;
 
@@ -30,14 +32,14 @@ fn is_one_of(words: &[&str], text: &[u8]) -> bool
 
 /// Whether a text is a null.
 fn is_null(text: &[u8]) -> bool
-    ensures { result ≡ is_null text.now }
+    ensures { result ≡ is_one_of nulls text.now }
 {
     is_one_of(&NULLS, text)
 }
 
 /// Whether a text is true or false.
 fn is_boolean(text: &[u8]) -> bool
-    ensures { result ≡ is_boolean text.now }
+    ensures { result ≡ is_one_of booleans text.now }
 {
     is_one_of(&BOOLEANS, text)
 }
@@ -113,7 +115,7 @@ fn after_digits(text: &[u8]) -> &[u8]
 
 /// Whether a text begins with a decimal digit.
 fn begins_digit(text: &[u8]) -> bool
-    ensures { result ≡ begins_digit text.now }
+    ensures { result ≡ first_is is_ascii_digit text.now }
 {
     match text {
         [first, ..] => is_digit(Base::Decimal, *first),

@@ -3,7 +3,8 @@
 ghost use Rattle.std.specs.Prelude.{◌≡◌, ◌+◌, ◌<◌, ◌≤◌, ◌^◌, ◌++◌, suc, length, IfOk, IfSome, slice_index, IsTrue, ◌↔◌, Some, None};
 ghost use Rattle.al_scalar.specs.Places.{lines_at};
 ghost use Rattle.al_scalar.specs.LineEnds.{cells_between};
-ghost use Rattle.al_scalar.specs.Quoted.{double_quoted, written, lookup, escape_table, digits_table, hex_digit};
+ghost use Rattle.al_scalar.specs.Quoted.{double_quoted, written, escape_table, digits_table, hex_digit};
+ghost use Rattle.std.specs.Map.{lookup};
 ghost use Rattle.al_scalar.specs.Private.Reads.{Gives, StaysWithin};
 ghost use Rattle.al_scalar.specs.Private.Double.{IsMarkByte, ReadsOn, EndsRun, GivesMark, GivesDigits};
 
@@ -71,7 +72,7 @@ enum Mark {
 
 /// The character that a letter behind a backslash stands for (YAML 1.2.2, 5.7).
 fn escaped_character(letter: u8) -> Option<char>
-    ensures { result ≡ lookup letter escape_table }
+    ensures { result ≡ lookup (λ k. k == letter) escape_table }
 {
     match letter {
         b'0' => Some('\0'),
@@ -97,7 +98,7 @@ fn escaped_character(letter: u8) -> Option<char>
 
 /// How many hexadecimal digits follow a letter behind a backslash (YAML 1.2.2, 5.7).
 fn digit_count(letter: u8) -> Option<usize>
-    ensures value { result ≡ lookup letter digits_table }
+    ensures value { result ≡ lookup (λ k. k == letter) digits_table }
     ensures few { IfSome result (λ count. count ≤ 8) }
 {
     match letter {
@@ -156,8 +157,8 @@ fn numeric_escape(bytes: &[u8], backslash: usize, count: usize) -> Mark
     requires inside { backslash + 1 < length bytes.now }
     requires size { length bytes.now < 2 ^ 32 }
     requires escape { slice_index bytes.now backslash ≡ 92 }
-    requires other { lookup (slice_index bytes.now (backslash + 1)) escape_table ≡ None }
-    requires letter { lookup (slice_index bytes.now (backslash + 1)) digits_table ≡ Some count }
+    requires other { lookup (λ k. k == slice_index bytes.now (backslash + 1)) escape_table ≡ None }
+    requires letter { lookup (λ k. k == slice_index bytes.now (backslash + 1)) digits_table ≡ Some count }
     requires few { count ≤ 8 }
     ensures { GivesMark bytes.now backslash result }
 {

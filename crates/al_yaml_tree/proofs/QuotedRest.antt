@@ -5,7 +5,8 @@ use Rattle.al_base.specs.Ascii as ascii
 use Rattle.al_scalar.specs.Line.{Cell, Line, is_blank, after_blanks, is_empty}
 use Rattle.al_scalar.specs.Offsets.{AreClimbing}
 use Rattle.al_scalar.specs.Quoted.{QuotedLine, QuotedEnd, closed, broken, escaped, cut_short, is_broken, with_own}
-use Rattle.al_scalar.specs.Quoted.{single_part, escape_table, digits_table, lookup, is_scalar_value}
+use Rattle.al_scalar.specs.Quoted.{single_part, escape_table, digits_table, is_scalar_value}
+use Rattle.std.specs.Map.{lookup}
 use Rattle.al_scalar.specs.Quoted.{written, part_before, own_before, escape_character, escape_digits, hex_digit, escape, double_part, line_given}
 use Rattle.al_scalar.specs.Quoted.{is_empty_line, quoted_lines, quoted, single_quoted, double_quoted}
 use Rattle.al_scalar.specs.Taken.{Fault, Taken, ◌>>=◌, before, folded}
@@ -69,8 +70,8 @@ mutual
   escape-stops low end at [] a h = tt
   escape-stops low end at (c ∷ cs) a h =
       let k = climbing-behind low end c cs h in
-      choose-option (GivesStop low end) (lookup c.0 escape_table)
-      (choose-option (GivesStop low end) (lookup c.0 digits_table) a (λ width _. digits-stop low end at (width - 1) 0 cs a k))
+      choose-option (GivesStop low end) (lookup (λ k. k == c.0) escape_table)
+      (choose-option (GivesStop low end) (lookup (λ k. k == c.0) digits_table) a (λ width _. digits-stop low end at (width - 1) 0 cs a k))
       (λ code _. part-stops low end (written at code) (double_part cs) (double-stops low end cs k))
 
   digits-stop : (low end at n v : ℕ) (cs : List Cell) → at ≤ end → AreClimbing low end cs → GivesStop low end (escape_digits at n v cs)
