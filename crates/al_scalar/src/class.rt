@@ -1,12 +1,13 @@
 //! What a plain scalar is taken for: null, a boolean, an integer, a float or a string (YAML 1.2.2, 10.3.2).
 
-ghost use Rattle.std.specs.Prelude.{◌≡◌};
+ghost use Rattle.std.specs.Prelude.{◌≡◌, IsTrue};
 ghost use Rattle.std.specs.Char.{is_ascii_digit};
 ghost use Rattle.std.specs.List.{list_any};
 ghost use Rattle.std.specs.Str.{bytes_eq};
 ghost use Rattle.al_scalar.specs.Class.{is_one_of, nulls, booleans, is_integer, is_float, is_decimal, is_fraction, is_pure_fraction};
 ghost use Rattle.al_scalar.specs.Class.{is_exponent, after_digits, is_prefixed, unsigned, are_digits, is_digit_in};
 ghost use Rattle.al_scalar.specs.Class.{class_of};
+ghost use Rattle.al_scalar.specs.Private.Values.{begins_value};
 ghost use Rattle.al_base.specs.FirstBytes.{first_is};
 
 use crate::styles::Class;
@@ -169,11 +170,41 @@ fn is_float(text: &[u8]) -> bool
     is_decimal(number) || is_one_of(&INFINITIES, number) || is_one_of(&NOT_NUMBERS, text)
 }
 
+/// Whether a word or a number may begin with a byte.
+fn may_begin_value(byte: u8) -> bool
+    ensures { result ≡ begins_value byte }
+{
+    byte.is_ascii_digit()
+        || byte == b'+'
+        || byte == b'-'
+        || byte == b'.'
+        || byte == b'~'
+        || byte == b'n'
+        || byte == b'N'
+        || byte == b't'
+        || byte == b'T'
+        || byte == b'f'
+        || byte == b'F'
+}
+
+/// Whether the first byte of a text tells that it is a string, as that of most texts does.
+#[tactic(auto, using(crate::proofs::ClassLemmas::is_string))]
+fn begins_string(text: &[u8]) -> bool
+    ensures { IsTrue result → class_of text.now ≡ Class.Str }
+{
+    match text {
+        [first, ..] => !may_begin_value(*first),
+        [] => false,
+    }
+}
+
 /// The class of a plain scalar by its text: the core schema (YAML 1.2.2, 10.3.2).
 pub fn class_of(text: &[u8]) -> Class
     ensures { result ≡ class_of text.now }
 {
-    if is_null(text) {
+    if begins_string(text) {
+        Class::Str
+    } else if is_null(text) {
         Class::Null
     } else if is_boolean(text) {
         Class::Bool
