@@ -8,7 +8,7 @@ use Rattle.al_scalar.specs.Block.{header_end, after_digit, after_sign, header, i
 use Rattle.al_scalar.specs.declared.header.Chomping.{Chomping}
 use Rattle.al_scalar.specs.declared.header.Chomping.TheVariants.{Strip, Clip, Keep}
 use Rattle.al_scalar.specs.declared.header.Header.{Header}
-use Rattle.al_scalar.specs.Block.{chomping_of, content_indent, BlockLine, Rows, row_of, at_end, with_row, rows_at, chomped}
+use Rattle.al_scalar.specs.Block.{chomping_of, content_indent, BlockLine, Rows, row_of, at_end, with_row, rows_at, final_breaks}
 use Rattle.al_scalar.specs.Block.{own_break, between_rows, joint, text_after, last_end, rows_end, block_scalar}
 use Rattle.al_scalar.specs.Offsets.{AreBefore, AreClimbing, IsTail, AreLines}
 use Rattle.al_scalar.specs.Taken.{Fault, Taken, ◌>>=◌, feeds}
@@ -68,13 +68,13 @@ record ArePending (low mid high : ℕ) (last : Option BlockLine) (empties : List
   own : IsFrom low mid (feeds (own_break last))
   since : IsFrom mid high (feeds empties)
 
-chomped-from : (k : Chomping) (low mid high : ℕ) (last : Option BlockLine) (empties : List ℕ) → ArePending low mid high last empties → IsFrom low high (chomped k (own_break last) empties)
-chomped-from Strip low mid high last empties h =
+final_breaks-from : (k : Chomping) (low mid high : ℕ) (last : Option BlockLine) (empties : List ℕ) → ArePending low mid high last empties → IsFrom low high (final_breaks k (own_break last) empties)
+final_breaks-from Strip low mid high last empties h =
     let a = from-order low mid (feeds (own_break last)) h.own in
     let b = from-order mid high (feeds empties) h.since in
     from-none low high (omega (arith, a, b))
-chomped-from Clip low mid high last empties h = from-wider low mid low high (feeds (own_break last)) (omega arith) (from-order mid high (feeds empties) h.since) h.own
-chomped-from Keep low mid high last empties h = subst (IsFrom low high) (sym (feeds-join (own_break last) empties)) (from-join low mid high (feeds (own_break last)) (feeds empties) h.own h.since)
+final_breaks-from Clip low mid high last empties h = from-wider low mid low high (feeds (own_break last)) (omega arith) (from-order mid high (feeds empties) h.since) h.own
+final_breaks-from Keep low mid high last empties h = subst (IsFrom low high) (sym (feeds-join (own_break last) empties)) (from-join low mid high (feeds (own_break last)) (feeds empties) h.own h.since)
 
 between-from : (low mid high : ℕ) (own empties : List ℕ) → IsFrom low mid (feeds own) → IsFrom mid high (feeds empties) → IsFrom low high (between_rows own empties)
 between-from low mid high [] empties h k = from-wider mid high low high (feeds empties) (from-order low mid [] h) (omega arith) k
@@ -103,7 +103,7 @@ pending-more low mid high to to' last empties more a h k = record {
 text-from : (is_literal : Bool) (k : Chomping) (low mid next high : ℕ) (last : Option BlockLine) (empties : List ℕ) (rs : List BlockLine) → ArePending low mid next last empties → AreRows next high rs
     → IsFrom low high (text_after is_literal k last empties rs)
 text-from is_literal k low mid next high last empties [] h rows =
-    from-wider low next low high (chomped k (own_break last) empties) (omega arith) rows (chomped-from k low mid next last empties h)
+    from-wider low next low high (final_breaks k (own_break last) empties) (omega arith) rows (final_breaks-from k low mid next last empties h)
 text-from is_literal k low mid next high last empties (r ∷ rs) h rows =
     let at = break_at high r.break in
     let behind = break_behind high r.break in
@@ -123,10 +123,10 @@ before-feeds : (end : ℕ) (ats : List ℕ) → AreBefore end (feeds ats)
 before-feeds end [] = tt
 before-feeds end (a ∷ ats) = ((λ n. absurd (n refl)), before-feeds end ats)
 
-before-chomped : (end : ℕ) (k : Chomping) (own empties : List ℕ) → AreBefore end (chomped k own empties)
-before-chomped end Strip own empties = tt
-before-chomped end Clip own empties = before-feeds end own
-before-chomped end Keep own empties = before-feeds end (own ++ empties)
+before-final_breaks : (end : ℕ) (k : Chomping) (own empties : List ℕ) → AreBefore end (final_breaks k own empties)
+before-final_breaks end Strip own empties = tt
+before-final_breaks end Clip own empties = before-feeds end own
+before-final_breaks end Keep own empties = before-feeds end (own ++ empties)
 
 last-order : (low high at : ℕ) (cs : List Cell) → AreClimbing low high cs → at ≤ low → at ≤ last_end cs at
 last-order low high at [] h a = omega arith
@@ -169,7 +169,7 @@ before-joint is_literal low mid high end (Some r) empties next h a =
 text-before : (is_literal : Bool) (k : Chomping) (low mid next high : ℕ) (last : Option BlockLine) (empties : List ℕ) (at : ℕ)
     (rs : List BlockLine) → ArePending low mid next last empties → AreRows next high rs → at ≤ next
     → AreBefore (rows_end at rs) (text_after is_literal k last empties rs)
-text-before is_literal k low mid next high last empties at [] h rows a = before-chomped at k (own_break last) empties
+text-before is_literal k low mid next high last empties at [] h rows a = before-final_breaks at k (own_break last) empties
 text-before is_literal k low mid next high last empties at (r ∷ rs) h rows a =
     let break = break_at high r.break in
     let behind = break_behind high r.break in

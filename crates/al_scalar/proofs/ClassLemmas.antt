@@ -4,7 +4,7 @@ use Rattle.std.proofs.lemmas.Grind.{common_steps}
 use Rattle.std.specs.Char.{is_ascii_digit}
 use Rattle.std.specs.List.{list_all}
 use Rattle.al_base.specs.FirstBytes.{first_is}
-use Rattle.al_scalar.specs.Class.{is_one_of, nulls, booleans, infinities, not_numbers, is_digit_in, are_digits, after_digits, unsigned}
+use Rattle.al_scalar.specs.Class.{is_one_of, nulls, booleans, infinities, not_numbers, is_digit_in, are_digits, after_digits, without_sign}
 use Rattle.al_scalar.specs.Class.{is_prefixed, is_integer, is_exponent, is_fraction, is_pure_fraction, is_decimal, is_float, class_of}
 use Rattle.al_scalar.specs.Private.Values.{begins_value}
 use Rattle.al_scalar.specs.declared.class.Base.{Base}
@@ -76,7 +76,7 @@ module _ (b : ℕ) (bs : List ℕ) (h : begins_value b ≡ false) where
       let f = turned b 70 o.capital_f in
       no-word b bs booleans (turned b 116 o.small_t, (t, (t, (turned b 102 o.small_f, (f, (f, tt))))))
 
-  no-sign : unsigned (b ∷ bs) ≡ b ∷ bs
+  no-sign : without_sign (b ∷ bs) ≡ b ∷ bs
   no-sign = rw (o.plus, o.dash) refl
 
   no-zero : (b == 48) ≡ false
@@ -89,8 +89,8 @@ module _ (b : ℕ) (bs : List ℕ) (h : begins_value b ≡ false) where
   integer-no : is_integer (b ∷ bs) ≡ false
   integer-no =
       let digits : are_digits base.Decimal (b ∷ bs) ≡ false = ap (λ x. x && list_all (is_digit_in base.Decimal) bs) o.digit in
-      neither (are_digits base.Decimal (unsigned (b ∷ bs)) || is_prefixed 111 base.Octal (b ∷ bs)) (is_prefixed 120 base.Hexadecimal (b ∷ bs))
-      (neither (are_digits base.Decimal (unsigned (b ∷ bs))) (is_prefixed 111 base.Octal (b ∷ bs)) (ap (are_digits base.Decimal) no-sign ∙ digits)
+      neither (are_digits base.Decimal (without_sign (b ∷ bs)) || is_prefixed 111 base.Octal (b ∷ bs)) (is_prefixed 120 base.Hexadecimal (b ∷ bs))
+      (neither (are_digits base.Decimal (without_sign (b ∷ bs))) (is_prefixed 111 base.Octal (b ∷ bs)) (ap (are_digits base.Decimal) no-sign ∙ digits)
       (no-prefix 111 base.Octal bs))
       (no-prefix 120 base.Hexadecimal bs)
 
@@ -104,8 +104,8 @@ module _ (b : ℕ) (bs : List ℕ) (h : begins_value b ≡ false) where
   float-no =
       let d = turned b 46 o.dot in
       let word = no-word b bs infinities (d, (d, (d, tt))) in
-      neither (is_decimal (unsigned (b ∷ bs)) || is_one_of infinities (unsigned (b ∷ bs))) (is_one_of not_numbers (b ∷ bs))
-      (neither (is_decimal (unsigned (b ∷ bs))) (is_one_of infinities (unsigned (b ∷ bs))) (ap is_decimal no-sign ∙ decimal-no)
+      neither (is_decimal (without_sign (b ∷ bs)) || is_one_of infinities (without_sign (b ∷ bs))) (is_one_of not_numbers (b ∷ bs))
+      (neither (is_decimal (without_sign (b ∷ bs))) (is_one_of infinities (without_sign (b ∷ bs))) (ap is_decimal no-sign ∙ decimal-no)
       (ap (is_one_of infinities) no-sign ∙ word))
       (no-word b bs not_numbers (d, (d, (d, tt))))
 

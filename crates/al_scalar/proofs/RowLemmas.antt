@@ -3,7 +3,7 @@ use Rattle.std.proofs.Common.{◌≡◌, ℕ, zero, suc, ◌+◌, ◌-◌, ◌<�
 use Rattle.std.proofs.Common.{append_assoc, append-nil, Bool, true, false, not, ◌||◌, cond, IsTrue, ◌↔◌, Option, Some, None}
 use Rattle.al_scalar.specs.Line.{Cell, Line, is_empty, is_all_blank, begins_blank, is_blank}
 use Rattle.al_scalar.specs.Taken.{Taken, feeds, with_text}
-use Rattle.al_scalar.specs.Block.{last_end, BlockLine, Rows, with_row, at_end, row_of, rows_at, rows_end, between_rows, joint, chomped, text_after}
+use Rattle.al_scalar.specs.Block.{last_end, BlockLine, Rows, with_row, at_end, row_of, rows_at, rows_end, between_rows, joint, final_breaks, text_after}
 use Rattle.al_scalar.specs.declared.header.Chomping.{Chomping}
 use Rattle.al_scalar.specs.declared.header.Chomping.TheVariants.{Strip, Clip, Keep}
 use Rattle.al_scalar.specs.Places.{first_text, first_end, lines_at}
@@ -24,7 +24,7 @@ joint-last lit r s es x e f =
 
 pub text_after-like : (lit : Bool) (k : Chomping) (r s : BlockLine) (es : List ℕ) (rs : List BlockLine) → begins_blank r.text ≡ begins_blank s.text → r.break ≡ s.break
     → text_after lit k (Some r) es rs ≡ text_after lit k (Some s) es rs
-text_after-like lit k r s es [] e f = ap (λ b. chomped k b es) f
+text_after-like lit k r s es [] e f = ap (λ b. final_breaks k b es) f
 text_after-like lit k r s es (x ∷ xs) e f =
     ap (λ w. cond (is_empty x.text) w (joint lit (Some r) es x ++ x.text ++ text_after lit k (Some x) [] xs)) (text_after-like lit k r s (es ++ x.break) xs e f)
     ∙ ap (λ j. cond (is_empty x.text) (text_after lit k (Some s) (es ++ x.break) xs) (j ++ x.text ++ text_after lit k (Some x) [] xs)) (joint-last lit r s es x e f)
@@ -55,17 +55,17 @@ row-text new mid lit k last es text break rs old b e s f g =
     ∙ ap (λ n. n ++ below) (sym g)
     ∙ ap (λ t. new ++ t) (text_after-like lit k r (row_like b break) [] rs like refl)
 
-pub chomped-none : (k : Chomping) → chomped k [] [] ≡ []
-chomped-none Strip = refl
-chomped-none Clip = refl
-chomped-none Keep = refl
+pub final_breaks-none : (k : Chomping) → final_breaks k [] [] ≡ []
+final_breaks-none Strip = refl
+final_breaks-none Clip = refl
+final_breaks-none Keep = refl
 
 -- the file's last line, with text
 pub row-final : (new mid : List Cell) (lit : Bool) (k : Chomping) (last : Option BlockLine) (es : List ℕ) (text old : List Cell) (b : Bool)
     → is_empty text ≡ false → begins_blank text ≡ b → mid ≡ old ++ joint lit last es (row_like b []) → new ≡ mid ++ text
     → new ≡ old ++ text_after lit k last es (record { text = text; break = [] } ∷ [])
 row-final new mid lit k last es text old b e s f g =
-    sym (row-text new mid lit k last es text [] [] old b e s f g ∙ ap (λ t. new ++ t) (chomped-none k) ∙ append-nil new)
+    sym (row-text new mid lit k last es text [] [] old b e s f g ∙ ap (λ t. new ++ t) (final_breaks-none k) ∙ append-nil new)
 
 -- ---- cells between offsets
 

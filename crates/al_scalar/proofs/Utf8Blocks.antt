@@ -9,7 +9,7 @@ use Rattle.al_scalar.specs.Block.{header, content_indent, BlockLine, Rows, row_o
 use Rattle.al_scalar.specs.declared.header.Chomping.{Chomping}
 use Rattle.al_scalar.specs.declared.header.Chomping.TheVariants.{Strip, Clip, Keep}
 use Rattle.al_scalar.specs.declared.header.Header.{Header}
-use Rattle.al_scalar.specs.Block.{rows_at, chomped, own_break, between_rows, joint, text_after, rows_end, block_scalar}
+use Rattle.al_scalar.specs.Block.{rows_at, final_breaks, own_break, between_rows, joint, text_after, rows_end, block_scalar}
 use Rattle.al_scalar.specs.Taken.{Fault, ◌>>=◌}
 use Rattle.al_scalar.proofs.OffsetLemmas.{choose}
 use Rattle.al_scalar.proofs.Utf8Lemmas.{AreUtf8, bytes_of, split-behind, equal-ascii}
@@ -66,13 +66,13 @@ text-joint : (is_literal : Bool) (last : Option BlockLine) (empties : List ℕ) 
 text-joint is_literal None empties next = text-feeds empties
 text-joint is_literal (Some r) empties next = choose IsText (is_literal || begins_blank r.text || begins_blank next.text) (λ _. text-feeds (r.break ++ empties)) (λ _. text-between r.break empties)
 
-text-chomped : (k : Chomping) (own empties : List ℕ) → IsText (chomped k own empties)
-text-chomped Strip own empties = IsUtf8-nil
-text-chomped Clip own empties = text-feeds own
-text-chomped Keep own empties = text-feeds (own ++ empties)
+text-final_breaks : (k : Chomping) (own empties : List ℕ) → IsText (final_breaks k own empties)
+text-final_breaks Strip own empties = IsUtf8-nil
+text-final_breaks Clip own empties = text-feeds own
+text-final_breaks Keep own empties = text-feeds (own ++ empties)
 
 rows-text : (is_literal : Bool) (k : Chomping) (last : Option BlockLine) (empties : List ℕ) (rs : List BlockLine) → AreTexts rs → IsText (text_after is_literal k last empties rs)
-rows-text is_literal k last empties [] u = text-chomped k (own_break last) empties
+rows-text is_literal k last empties [] u = text-final_breaks k (own_break last) empties
 rows-text is_literal k last empties (r ∷ rs) u =
     choose IsText (is_empty r.text) (λ _. rows-text is_literal k last (empties ++ r.break) rs u.1)
     (λ _. text-join (joint is_literal last empties r ++ r.text) (text_after is_literal k (Some r) [] rs)

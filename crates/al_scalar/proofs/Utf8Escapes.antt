@@ -10,7 +10,7 @@ use Rattle.al_base.specs.Ascii as ascii
 use Rattle.al_scalar.specs.Line.{Cell, Line}
 use Rattle.al_scalar.specs.Quoted.{QuotedLine, own_before, part_before, escape_table, digits_table}
 use Rattle.std.specs.Map.{lookup}
-use Rattle.al_scalar.specs.Quoted.{is_scalar_value, written, escape_character, escape_digits, hex_digit, escape, double_part, double_quoted}
+use Rattle.al_scalar.specs.Quoted.{is_scalar_value, character_cells, escape_character, escape_digits, hex_digit, escape, double_part, double_quoted}
 use Rattle.al_scalar.specs.Taken.{Fault}
 use Rattle.al_scalar.proofs.OffsetLemmas.{choose}
 use Rattle.al_scalar.proofs.Utf8Lemmas.{Keeps, AreUtf8, bytes_of, split-before, split-behind, keeps-all, keeps-none, keeps-drop, equal-ascii, own-keeps}
@@ -102,7 +102,7 @@ written-bytes : (at : ℕ) (bs : List ℕ) → bytes_of (map (λ b. (b, at)) bs)
 written-bytes at [] = refl
 written-bytes at (b ∷ bs) = ap (λ l. b ∷ l) (written-bytes at bs)
 
-written-text : (at code : ℕ) → IsScalar code → IsText (written at code)
+written-text : (at code : ℕ) → IsScalar code → IsText (character_cells at code)
 written-text at code s = subst IsUtf8 (sym (written-bytes at (encode_utf8 code))) (IsUtf8-encode code s)
 
 part-keeps : (c : Cell) (cs ws : List Cell) (r : Result QuotedLine Fault) → c.0 < 128 → IsText ws → PartKeeps cs r → PartKeeps (c ∷ cs) (part_before ws r)
@@ -127,7 +127,7 @@ character-keeps : (c : Cell) (cs : List Cell) (at code : ℕ) (behind : Result Q
     → PartKeeps (c ∷ cs) (escape_character at code behind)
 character-keeps c cs at code behind l k =
     choose (PartKeeps (c ∷ cs)) (is_scalar_value code)
-    (λ e. part-keeps c cs (written at code) behind l
+    (λ e. part-keeps c cs (character_cells at code) behind l
     (written-text at code (scalar-of (nat_lt code 0xd800) (nat_le 0xe000 code && nat_lt code 0x110000) e)) k) (λ _. tt)
 
 skipped : (c : Cell) (cs : List Cell) (r : Result QuotedLine Fault) → c.0 < 128 → PartKeeps cs r → PartKeeps (c ∷ cs) r
@@ -149,7 +149,7 @@ mutual
       choose-option (PartKeeps (c ∷ cs)) (lookup (λ k. k == c.0) escape_table)
       (choose-option (PartKeeps (c ∷ cs)) (lookup (λ k. k == c.0) digits_table) tt
       (λ width e. skipped c cs (escape_digits at (width - 1) 0 cs) (found-ascii c.0 digits_table digits-ascii width e) (digits-keep at (width - 1) 0 cs)))
-      (λ code e. part-keeps c cs (written at code) (double_part cs) (found-ascii c.0 escape_table escapes-ascii code e)
+      (λ code e. part-keeps c cs (character_cells at code) (double_part cs) (found-ascii c.0 escape_table escapes-ascii code e)
       (written-text at code (found-scalar c.0 escape_table escapes-scalar code e)) (double-keeps cs))
 
   digits-keep : (at n v : ℕ) (cs : List Cell) → PartKeeps cs (escape_digits at n v cs)

@@ -93,10 +93,10 @@ rows_at m found (l ∷ ls) =
     ]
 
 -- The breaks that stay at the end (8.1.1.2): of the last line with text, and of the empty lines behind it.
-abbrev pub chomped : Chomping → List ℕ → List ℕ → List Cell
-chomped Strip own empties = []
-chomped Clip own empties = feeds own
-chomped Keep own empties = feeds (own ++ empties)
+abbrev pub final_breaks : Chomping → List ℕ → List ℕ → List Cell
+final_breaks Strip own empties = []
+final_breaks Clip own empties = feeds own
+final_breaks Keep own empties = feeds (own ++ empties)
 
 abbrev pub own_break : Option BlockLine → List ℕ
 own_break last = option_map_or (λ r. r.break) last []
@@ -116,7 +116,7 @@ joint is_literal (Some r) empties next =
 
 -- The text of rows behind the last line with text; empties are the breaks of the empty lines since.
 abbrev pub text_after : Bool → Chomping → Option BlockLine → List ℕ → List BlockLine → List Cell
-text_after is_literal k last empties [] = chomped k (own_break last) empties
+text_after is_literal k last empties [] = final_breaks k (own_break last) empties
 text_after is_literal k last empties (r ∷ rs) =
     let with_empty = text_after is_literal k last (empties ++ r.break) rs in
     let below = text_after is_literal k (Some r) [] rs in

@@ -49,9 +49,9 @@ after_digits (b ∷ bs) =
     if is_digit_in base.Decimal b then more else b ∷ bs
 
 -- behind [-+]?
-abbrev pub unsigned : List ℕ → List ℕ
-unsigned [] = []
-unsigned (b ∷ bs) = if (b == ascii.plus) || (b == ascii.dash) then bs else b ∷ bs
+abbrev pub without_sign : List ℕ → List ℕ
+without_sign [] = []
+without_sign (b ∷ bs) = if (b == ascii.plus) || (b == ascii.dash) then bs else b ∷ bs
 
 -- ---- numbers
 
@@ -62,12 +62,12 @@ is_prefixed letter base _ = false
 
 -- [-+]?[0-9]+, 0o[0-7]+ or 0x[0-9a-fA-F]+
 abbrev pub is_integer : List ℕ → Bool
-is_integer bs = are_digits base.Decimal (unsigned bs) || is_prefixed 111 base.Octal bs || is_prefixed 120 base.Hexadecimal bs
+is_integer bs = are_digits base.Decimal (without_sign bs) || is_prefixed 111 base.Octal bs || is_prefixed 120 base.Hexadecimal bs
 
 -- ([eE][-+]?[0-9]+)?
 abbrev pub is_exponent : List ℕ → Bool
 is_exponent [] = true
-is_exponent (b ∷ bs) = ((b == 101) || (b == ascii.capital_e)) && are_digits base.Decimal (unsigned bs)
+is_exponent (b ∷ bs) = ((b == 101) || (b == ascii.capital_e)) && are_digits base.Decimal (without_sign bs)
 
 -- (\.[0-9]*)? and the exponent
 abbrev pub is_fraction : List ℕ → Bool
@@ -84,7 +84,7 @@ abbrev pub is_decimal : List ℕ → Bool
 is_decimal bs = is_pure_fraction bs || (first_is is_ascii_digit bs && is_fraction (after_digits bs))
 
 abbrev pub is_float : List ℕ → Bool
-is_float bs = is_decimal (unsigned bs) || is_one_of infinities (unsigned bs) || is_one_of not_numbers bs
+is_float bs = is_decimal (without_sign bs) || is_one_of infinities (without_sign bs) || is_one_of not_numbers bs
 
 -- the class of a plain scalar
 abbrev pub class_of : List ℕ → Class

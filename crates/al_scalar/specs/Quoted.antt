@@ -6,7 +6,7 @@ use Rattle.std.specs.Map.{lookup}
 use Rattle.al_base.specs.Ascii as ascii
 use Rattle.al_base.specs.declared.codes.YamlCode.TheVariants as yaml
 use Rattle.al_scalar.specs.Line.{Cell, Line, cut, is_blank, after_blanks, is_empty}
-use Rattle.al_scalar.specs.Taken.{Fault, Taken, ◌>>=◌, before, fault, folded}
+use Rattle.al_scalar.specs.Taken.{Fault, Taken, ◌>>=◌, before, fault, folding_space}
 
 -- How a quoted scalar leaves a line: it is closed, with the cells behind the quote; it goes on after the break;
 -- it goes on after an escaped break; or the line ends within the escape at a place.
@@ -61,8 +61,8 @@ abbrev pub is_scalar_value : ℕ → Bool
 is_scalar_value c = nat_lt c 0xd800 || (nat_le 0xe000 c && nat_lt c 0x110000)
 
 -- the bytes of a character, all from one offset
-abbrev pub written : ℕ → ℕ → List Cell
-written at code = map (λ b. (b, at)) (encode_utf8 code)
+abbrev pub character_cells : ℕ → ℕ → List Cell
+character_cells at code = map (λ b. (b, at)) (encode_utf8 code)
 
 abbrev pub part_before : List Cell → Result QuotedLine Fault → Result QuotedLine Fault
 part_before cs part = part >>= (λ p. Ok (with_cells cs p))
@@ -72,7 +72,7 @@ own_before c part = part >>= (λ p. Ok (with_own c p))
 
 -- the character that an escape gives by its number, and what stands behind it
 abbrev pub escape_character : ℕ → ℕ → Result QuotedLine Fault → Result QuotedLine Fault
-escape_character at code behind = if is_scalar_value code then part_before (written at code) behind else fault yaml.WrongEscape at
+escape_character at code behind = if is_scalar_value code then part_before (character_cells at code) behind else fault yaml.WrongEscape at
 
 abbrev mutual
   -- Double quotes.
@@ -88,7 +88,7 @@ abbrev mutual
   escape at [] = Ok (record { text = []; stop = escaped })
   escape at (c ∷ cs) =
       elim (lookup (λ letter. letter == c.0) escape_table) [
-        | Some code ↦ part_before (written at code) (double_part cs)
+        | Some code ↦ part_before (character_cells at code) (double_part cs)
         | None ↦ elim (lookup (λ letter. letter == c.0) digits_table) [
           | None ↦ fault yaml.WrongEscape at
           | Some width ↦ escape_digits at (width - 1) 0 cs
@@ -131,15 +131,15 @@ quoted_lines part quote break (l ∷ ls) =
     let below = (λ (b : Option ℕ). quoted_lines part quote b ls) in
     part (after_blanks l.text) >>= (λ p.
     if is_empty_line p l then before ((ascii.line_feed, l.end) ∷ []) (below None)
-    else line_given quote (folded break) p l ls below)
+    else line_given quote (folding_space break) p l ls below)
 
 -- a quoted scalar, from behind its opening quote
-abbrev pub quoted : (List Cell → Result QuotedLine Fault) → ℕ → List Line → Result Taken Fault
-quoted part quote [] = fault yaml.UnclosedQuote quote
-quoted part quote (l ∷ ls) = part l.text >>= (λ p. line_given quote [] p l ls (λ b. quoted_lines part quote b ls))
+abbrev pub quoted_scalar : (List Cell → Result QuotedLine Fault) → ℕ → List Line → Result Taken Fault
+quoted_scalar part quote [] = fault yaml.UnclosedQuote quote
+quoted_scalar part quote (l ∷ ls) = part l.text >>= (λ p. line_given quote [] p l ls (λ b. quoted_lines part quote b ls))
 
 abbrev pub single_quoted : ℕ → List Line → Result Taken Fault
-single_quoted quote ls = quoted (λ text. Ok (single_part text)) quote ls
+single_quoted quote ls = quoted_scalar (λ text. Ok (single_part text)) quote ls
 
 abbrev pub double_quoted : ℕ → List Line → Result Taken Fault
-double_quoted quote ls = quoted (double_part) quote ls
+double_quoted quote ls = quoted_scalar (double_part) quote ls

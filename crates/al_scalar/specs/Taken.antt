@@ -32,13 +32,13 @@ abbrev pub fault : {A : Type 0} → YamlCode → ℕ → Result A Fault
 fault code at = Err (record { code = code; at = at })
 
 -- A break is folded to a space, unless empty lines follow it, which give an LF each (6.5).
-abbrev pub folded : Option ℕ → List Cell
-folded at = option_to_list (option_map (λ offset. (ascii.space, offset)) at)
+abbrev pub folding_space : Option ℕ → List Cell
+folding_space at = option_to_list (option_map (λ offset. (ascii.space, offset)) at)
 
 abbrev pub feeds : List ℕ → List Cell
 feeds ats = map (λ at. (ascii.line_feed, at)) ats
 
 -- a break with the breaks of the empty lines behind it, folded
 abbrev pub folded_break : ℕ → List ℕ → List Cell
-folded_break at [] = folded (Some at)
+folded_break at [] = folding_space (Some at)
 folded_break at (e ∷ es) = feeds (e ∷ es)

@@ -2,7 +2,7 @@
 
 ghost use Rattle.std.specs.Prelude.{◌≡◌, ◌+◌, ◌<◌, ◌≤◌, ◌^◌, ◌++◌, ◌∷◌, [], ◌||◌, true, not, cond, Some, None, length, IfOk};
 ghost use Rattle.al_scalar.specs.Block.{block_scalar, found_indent, content_indent, row_of};
-ghost use Rattle.al_scalar.specs.Block.{own_break, chomped, joint, text_after, rows_end};
+ghost use Rattle.al_scalar.specs.Block.{own_break, final_breaks, joint, text_after, rows_end};
 ghost use Rattle.al_scalar.specs.Private.BlockRead.{RowStarts, ReadsRows, last_row, row_like, RowTo, indent_from};
 ghost use Rattle.al_scalar.specs.Private.BlockRead.{AddsRow, EndsRow, last_line, is_said};
 ghost use Rattle.al_scalar.specs.Places.{lines_at, text_at};
@@ -164,7 +164,7 @@ fn chomp(
 ) -> Result<(), AllocError>
     ensures { IfOk result
         (λ _. text.new
-        ≡ text.old ++ chomped chomping (own_break (last_row last)) empties.now) }
+        ≡ text.old ++ final_breaks chomping (own_break (last_row last)) empties.now) }
 {
     match chomping {
         Chomping::Strip => Ok(()),

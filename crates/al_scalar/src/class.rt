@@ -5,7 +5,7 @@ ghost use Rattle.std.specs.Char.{is_ascii_digit};
 ghost use Rattle.std.specs.List.{list_any};
 ghost use Rattle.std.specs.Str.{bytes_eq};
 ghost use Rattle.al_scalar.specs.Class.{is_one_of, nulls, booleans, is_integer, is_float, is_decimal, is_fraction, is_pure_fraction};
-ghost use Rattle.al_scalar.specs.Class.{is_exponent, after_digits, is_prefixed, unsigned, are_digits, is_digit_in};
+ghost use Rattle.al_scalar.specs.Class.{is_exponent, after_digits, is_prefixed, without_sign, are_digits, is_digit_in};
 ghost use Rattle.al_scalar.specs.Class.{class_of};
 ghost use Rattle.al_scalar.specs.Private.Values.{begins_value};
 ghost use Rattle.al_base.specs.FirstBytes.{first_is};
@@ -72,8 +72,8 @@ fn are_digits(base: Base, text: &[u8]) -> bool
 }
 
 /// A text without its sign.
-fn unsigned(text: &[u8]) -> &[u8]
-    ensures { result.now ≡ unsigned text.now }
+fn without_sign(text: &[u8]) -> &[u8]
+    ensures { result.now ≡ without_sign text.now }
 {
     match text {
         [b'+' | b'-', rest @ ..] => rest,
@@ -95,7 +95,7 @@ fn is_prefixed(letter: u8, base: Base, text: &[u8]) -> bool
 fn is_integer(text: &[u8]) -> bool
     ensures { result ≡ is_integer text.now }
 {
-    are_digits(Base::Decimal, unsigned(text))
+    are_digits(Base::Decimal, without_sign(text))
         || is_prefixed(b'o', Base::Octal, text)
         || is_prefixed(b'x', Base::Hexadecimal, text)
 }
@@ -130,7 +130,7 @@ fn is_exponent(text: &[u8]) -> bool
 {
     match text {
         [] => true,
-        [b'e' | b'E', power @ ..] => are_digits(Base::Decimal, unsigned(power)),
+        [b'e' | b'E', power @ ..] => are_digits(Base::Decimal, without_sign(power)),
         _ => false,
     }
 }
@@ -166,7 +166,7 @@ fn is_decimal(text: &[u8]) -> bool
 fn is_float(text: &[u8]) -> bool
     ensures { result ≡ is_float text.now }
 {
-    let number = unsigned(text);
+    let number = without_sign(text);
     is_decimal(number) || is_one_of(&INFINITIES, number) || is_one_of(&NOT_NUMBERS, text)
 }
 

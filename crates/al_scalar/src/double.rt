@@ -3,7 +3,7 @@
 ghost use Rattle.std.specs.Prelude.{◌≡◌, ◌+◌, ◌<◌, ◌≤◌, ◌^◌, ◌++◌, suc, length, IfOk, IfSome, slice_index, IsTrue, ◌↔◌, Some, None};
 ghost use Rattle.al_scalar.specs.Places.{lines_at};
 ghost use Rattle.al_scalar.specs.LineEnds.{cells_between};
-ghost use Rattle.al_scalar.specs.Quoted.{double_quoted, written, escape_table, digits_table, hex_digit};
+ghost use Rattle.al_scalar.specs.Quoted.{double_quoted, character_cells, escape_table, digits_table, hex_digit};
 ghost use Rattle.std.specs.Map.{lookup};
 ghost use Rattle.al_scalar.specs.Private.Reads.{Gives, StaysWithin};
 ghost use Rattle.al_scalar.specs.Private.Double.{IsMarkByte, ReadsOn, EndsRun, GivesMark, GivesDigits};
@@ -234,7 +234,7 @@ fn mark_at(bytes: &[u8], at: usize) -> Mark
 /// Adds an escaped character, by the offset of its backslash.
 fn push_character(text: &mut Text, character: char, at: usize) -> Result<(), AllocError>
     requires { at < 2 ^ 32 }
-    ensures { IfOk result (λ _. text.new ≡ text.old ++ written at character) }
+    ensures { IfOk result (λ _. text.new ≡ text.old ++ character_cells at character) }
 {
     let mut buffer = [0; 4];
     text.push_escape(character.encode_utf8(&mut buffer).as_bytes(), at)
