@@ -4,7 +4,7 @@ use Rattle.std.proofs.lemmas.Bool.Decides.{nat_tests}
 use Rattle.std.proofs.lemmas.Str.{IsUtf8-nil}
 use Rattle.std.specs.Option.{is_some}
 use Rattle.al_base.specs.Ascii as ascii
-use Rattle.al_scalar.specs.Line.{Cell, Line, place, is_empty, indent, is_all_blank}
+use Rattle.al_scalar.specs.Line.{Cell, Line, place, is_empty, indent, is_all_blank, begins_blank}
 use Rattle.al_scalar.specs.Block.{header, content_indent, BlockLine, Rows, row_of, at_end, with_row}
 use Rattle.al_scalar.specs.declared.header.Chomping.{Chomping}
 use Rattle.al_scalar.specs.declared.header.Chomping.TheVariants.{Strip, Clip, Keep}

@@ -26,7 +26,8 @@ abbrev pub ◌>>=◌ : {A B : Type 0} → Result A Fault → (A → Result B Fau
 (Err e) >>= f = Err e
 
 abbrev pub before : List Cell → Result Taken Fault → Result Taken Fault
-before cs taken = taken >>= (λ t. Ok (with_text cs t))
+before cs (Ok t) = Ok (with_text cs t)
+before cs (Err e) = Err e
 
 abbrev pub fault : {A : Type 0} → YamlCode → ℕ → Result A Fault
 fault code at = Err (record { code = code; at = at })

@@ -1,6 +1,6 @@
 //! Double-quoted scalars and their escapes (YAML 1.2.2, 5.7 and 7.3.1).
 
-ghost use Rattle.std.specs.Prelude.{◌≡◌, ◌+◌, ◌<◌, ◌≤◌, ◌^◌, ◌++◌, suc, length, IfOk, IfSome, slice_index, IsTrue, ◌↔◌, Some, None};
+ghost use Rattle.std.specs.Prelude.{◌≡◌, ◌==◌, ◌+◌, ◌<◌, ◌≤◌, ◌^◌, ◌++◌, suc, length, IfOk, IfSome, slice_index, IsTrue, ◌↔◌, Some, None};
 ghost use Rattle.al_scalar.specs.Places.{lines_at};
 ghost use Rattle.al_scalar.specs.LineEnds.{cells_between};
 ghost use Rattle.al_scalar.specs.Quoted.{double_quoted, character_cells, escape_table, digits_table, hex_digit};

@@ -1,4 +1,4 @@
-use Rattle.std.proofs.Common.{◌≡◌, ◌+◌, ◌≢◌, None, slice_index, ◌<◌, length, refl, arith, sym, inl, inr, rules}
+use Rattle.std.proofs.Common.{◌≡◌, ◌==◌, ◌+◌, ◌≢◌, None, slice_index, ◌<◌, length, refl, arith, sym, inl, inr, rules}
 use Rattle.al_scalar.specs.Quoted.{escape_table}
 use Rattle.std.specs.Map.{lookup}
 use Rattle.al_scalar.proofs.SingleLemmas.{never}
