@@ -4,8 +4,11 @@ use Rattle.std.proofs.Common.{if◌then◌else◌, ◌&&◌, ◌||◌, nat_le, O
 use Rattle.std.specs.Option.{is_some}
 use Rattle.al_base.specs.Ascii as ascii
 use Rattle.al_scalar.specs.Line.{Cell, Line, place, start, is_empty, begins, after_blanks, begins_blank, is_comment, indent, is_all_blank}
-use Rattle.al_scalar.specs.Block.{Chomping, strip, clip, keep, Header, header_end, after_digit, after_sign, header, is_digit, is_sign}
-use Rattle.al_scalar.specs.Block.{chomping_of, content_indent, BlockLine, Rows, row_of, at_end, with_row, rows_at, chomped, is_spaced}
+use Rattle.al_scalar.specs.Block.{header_end, after_digit, after_sign, header, is_digit, is_sign}
+use Rattle.al_scalar.specs.declared.header.Chomping.{Chomping}
+use Rattle.al_scalar.specs.declared.header.Chomping.TheVariants.{Strip, Clip, Keep}
+use Rattle.al_scalar.specs.declared.header.Header.{Header}
+use Rattle.al_scalar.specs.Block.{chomping_of, content_indent, BlockLine, Rows, row_of, at_end, with_row, rows_at, final_breaks}
 use Rattle.al_scalar.specs.Block.{own_break, between_rows, joint, text_after, last_end, rows_end, block_scalar}
 use Rattle.al_scalar.specs.Offsets.{AreBefore, AreClimbing, IsTail, AreLines}
 use Rattle.al_scalar.specs.Taken.{Fault, Taken, ◌>>=◌, feeds}
@@ -65,13 +68,13 @@ record ArePending (low mid high : ℕ) (last : Option BlockLine) (empties : List
   own : IsFrom low mid (feeds (own_break last))
   since : IsFrom mid high (feeds empties)
 
-chomped-from : (k : Chomping) (low mid high : ℕ) (last : Option BlockLine) (empties : List ℕ) → ArePending low mid high last empties → IsFrom low high (chomped k (own_break last) empties)
-chomped-from strip low mid high last empties h =
+final_breaks-from : (k : Chomping) (low mid high : ℕ) (last : Option BlockLine) (empties : List ℕ) → ArePending low mid high last empties → IsFrom low high (final_breaks k (own_break last) empties)
+final_breaks-from Strip low mid high last empties h =
     let a = from-order low mid (feeds (own_break last)) h.own in
     let b = from-order mid high (feeds empties) h.since in
     from-none low high (omega (arith, a, b))
-chomped-from clip low mid high last empties h = from-wider low mid low high (feeds (own_break last)) (omega arith) (from-order mid high (feeds empties) h.since) h.own
-chomped-from keep low mid high last empties h = subst (IsFrom low high) (sym (feeds-join (own_break last) empties)) (from-join low mid high (feeds (own_break last)) (feeds empties) h.own h.since)
+final_breaks-from Clip low mid high last empties h = from-wider low mid low high (feeds (own_break last)) (omega arith) (from-order mid high (feeds empties) h.since) h.own
+final_breaks-from Keep low mid high last empties h = subst (IsFrom low high) (sym (feeds-join (own_break last) empties)) (from-join low mid high (feeds (own_break last)) (feeds empties) h.own h.since)
 
 between-from : (low mid high : ℕ) (own empties : List ℕ) → IsFrom low mid (feeds own) → IsFrom mid high (feeds empties) → IsFrom low high (between_rows own empties)
 between-from low mid high [] empties h k = from-wider mid high low high (feeds empties) (from-order low mid [] h) (omega arith) k
@@ -86,7 +89,7 @@ joint-from : (is_literal : Bool) (low mid high : ℕ) (last : Option BlockLine) 
     → ArePending low mid high last empties → IsFrom low high (joint is_literal last empties next)
 joint-from is_literal low mid high None empties next h = from-wider mid high low high (feeds empties) (from-order low mid [] h.own) (omega arith) h.since
 joint-from is_literal low mid high (Some r) empties next h =
-    choose (IsFrom low high) (is_literal || is_spaced r || is_spaced next)
+    choose (IsFrom low high) (is_literal || begins_blank r.text || begins_blank next.text)
     (λ _. subst (IsFrom low high) (sym (feeds-join r.break empties)) (from-join low mid high (feeds r.break) (feeds empties) h.own h.since))
     (λ _. between-from low mid high r.break empties h.own h.since)
 
@@ -99,7 +102,8 @@ pending-more low mid high to to' last empties more a h k = record {
 
 text-from : (is_literal : Bool) (k : Chomping) (low mid next high : ℕ) (last : Option BlockLine) (empties : List ℕ) (rs : List BlockLine) → ArePending low mid next last empties → AreRows next high rs
     → IsFrom low high (text_after is_literal k last empties rs)
-text-from is_literal k low mid next high last empties [] h rows = from-wider low next low high (chomped k (own_break last) empties) (omega arith) rows (chomped-from k low mid next last empties h)
+text-from is_literal k low mid next high last empties [] h rows =
+    from-wider low next low high (final_breaks k (own_break last) empties) (omega arith) rows (final_breaks-from k low mid next last empties h)
 text-from is_literal k low mid next high last empties (r ∷ rs) h rows =
     let at = break_at high r.break in
     let behind = break_behind high r.break in
@@ -119,10 +123,10 @@ before-feeds : (end : ℕ) (ats : List ℕ) → AreBefore end (feeds ats)
 before-feeds end [] = tt
 before-feeds end (a ∷ ats) = ((λ n. absurd (n refl)), before-feeds end ats)
 
-before-chomped : (end : ℕ) (k : Chomping) (own empties : List ℕ) → AreBefore end (chomped k own empties)
-before-chomped end strip own empties = tt
-before-chomped end clip own empties = before-feeds end own
-before-chomped end keep own empties = before-feeds end (own ++ empties)
+before-final_breaks : (end : ℕ) (k : Chomping) (own empties : List ℕ) → AreBefore end (final_breaks k own empties)
+before-final_breaks end Strip own empties = tt
+before-final_breaks end Clip own empties = before-feeds end own
+before-final_breaks end Keep own empties = before-feeds end (own ++ empties)
 
 last-order : (low high at : ℕ) (cs : List Cell) → AreClimbing low high cs → at ≤ low → at ≤ last_end cs at
 last-order low high at [] h a = omega arith
@@ -159,13 +163,13 @@ before-joint : (is_literal : Bool) (low mid high end : ℕ) (last : Option Block
 before-joint is_literal low mid high end None empties next h a = before-feeds end empties
 before-joint is_literal low mid high end (Some r) empties next h a =
     let b = from-order mid high (feeds empties) h.since in
-    choose (AreBefore end) (is_literal || is_spaced r || is_spaced next) (λ _. before-feeds end (r.break ++ empties))
+    choose (AreBefore end) (is_literal || begins_blank r.text || begins_blank next.text) (λ _. before-feeds end (r.break ++ empties))
     (λ _. before-between low mid high end r.break empties h.own (omega (arith, a, b)))
 
 text-before : (is_literal : Bool) (k : Chomping) (low mid next high : ℕ) (last : Option BlockLine) (empties : List ℕ) (at : ℕ)
     (rs : List BlockLine) → ArePending low mid next last empties → AreRows next high rs → at ≤ next
     → AreBefore (rows_end at rs) (text_after is_literal k last empties rs)
-text-before is_literal k low mid next high last empties at [] h rows a = before-chomped at k (own_break last) empties
+text-before is_literal k low mid next high last empties at [] h rows a = before-final_breaks at k (own_break last) empties
 text-before is_literal k low mid next high last empties at (r ∷ rs) h rows a =
     let break = break_at high r.break in
     let behind = break_behind high r.break in
@@ -194,12 +198,12 @@ header_end-from : (end : ℕ) (h : Header) (cs : List Cell) → h.end ≤ end �
 header_end-from end h cs a = choose (EndsBefore end) (is_empty (after_blanks cs) || (begins_blank cs && is_comment cs)) (λ _. a) (λ _. tt)
 
 after_digit-from : (d at end : ℕ) (cs : List Cell) → AreClimbing at end cs → EndsBefore end (after_digit d at cs)
-after_digit-from d at end [] h = header_end-from end (record { digit = Some d; chomping = clip; end = at }) [] h
+after_digit-from d at end [] h = header_end-from end (record { digit = Some d; chomping = Clip; end = at }) [] h
 after_digit-from d at end (c ∷ cs) h =
     let a = climbing-order (c.1 + 1) end cs h.1 in
     let b = h.0 in
     choose (EndsBefore end) (is_sign c.0) (λ _. header_end-from end (record { digit = Some d; chomping = chomping_of c.0; end = at + 1 }) cs (omega (arith, a, b)))
-    (λ _. header_end-from end (record { digit = Some d; chomping = clip; end = at }) (c ∷ cs) (omega (arith, a, b)))
+    (λ _. header_end-from end (record { digit = Some d; chomping = Clip; end = at }) (c ∷ cs) (omega (arith, a, b)))
 
 after_sign-from : (k : Chomping) (at end : ℕ) (cs : List Cell) → AreClimbing at end cs → EndsBefore end (after_sign k at cs)
 after_sign-from k at end [] h = header_end-from end (record { digit = None; chomping = k; end = at }) [] h
@@ -210,14 +214,14 @@ after_sign-from k at end (c ∷ cs) h =
     (λ _. header_end-from end (record { digit = None; chomping = k; end = at }) (c ∷ cs) (omega (arith, a, b)))
 
 header-from : (at end : ℕ) (cs : List Cell) → AreClimbing at end cs → EndsBefore end (header at cs)
-header-from at end [] h = header_end-from end (record { digit = None; chomping = clip; end = at }) [] h
+header-from at end [] h = header_end-from end (record { digit = None; chomping = Clip; end = at }) [] h
 header-from at end (c ∷ cs) h =
     let a = climbing-order (c.1 + 1) end cs h.1 in
     let b = h.0 in
     let more = climbing-lower (c.1 + 1) (at + 1) end cs (omega (arith, b)) h.1 in
     choose (EndsBefore end) (is_digit c.0) (λ _. after_digit-from (c.0 - 48) (at + 1) end cs more)
     (λ _. choose (EndsBefore end) (is_sign c.0) (λ _. after_sign-from (chomping_of c.0) (at + 1) end cs more)
-    (λ _. header_end-from end (record { digit = None; chomping = clip; end = at }) (c ∷ cs) (omega (arith, a, b))))
+    (λ _. header_end-from end (record { digit = None; chomping = Clip; end = at }) (c ∷ cs) (omega (arith, a, b))))
 
 pub behind-indicator : (q low end : ℕ) (cs : List Cell) → begins q cs ≡ true → AreClimbing low end cs → AreClimbing (place cs end + 1) end (drop 1 cs)
 behind-indicator q low end [] e h = absurd cc

@@ -4,10 +4,12 @@ use Rattle.al_scalar.specs.Line.{Cell, Line, place}
 use Rattle.al_scalar.specs.Taken.{Fault, Taken, ◌>>=◌, with_text}
 use Rattle.al_scalar.specs.Places.{first_text, first_end, lines_at}
 use Rattle.al_scalar.specs.LineEnds.{broken_line, SameLine, first_last, later}
-use Rattle.al_scalar.specs.Block.{Chomping, Header, Rows, header, content_indent, rows_at, block_scalar}
+use Rattle.al_scalar.specs.Block.{Rows, header, content_indent, rows_at, block_scalar}
+use Rattle.al_scalar.specs.declared.header.Chomping.{Chomping}
+use Rattle.al_scalar.specs.declared.header.Header.{Header}
 use Rattle.al_scalar.specs.Private.BlockRead.{rest, is_said}
 use Rattle.al_scalar.proofs.SingleLemmas.{has_line, cell_at, lines-at_end, lines_at-some, IsInside}
-use Rattle.al_scalar.proofs.RowLemmas.{of_rows, chomped-none}
+use Rattle.al_scalar.proofs.RowLemmas.{of_rows, final_breaks-none}
 
 -- behind the header h of the first line
 abbrev pub rows_behind : ℕ → List Line → Header → Rows
@@ -50,7 +52,7 @@ module _ (lit : Bool) (within : ℕ) (bytes : List ℕ) (at : ℕ) (here : IsIns
       ∙ ap (λ b. Ok (of_rows lit h.chomping None [] h.end
       (cond b (record { rows = []; left = record { text = []; end = first_end xs; last = true } ∷ [] })
       (rows_at (content_indent h.digit within (later xs)) (is_said h.digit) (later xs))))) is_last
-      ∙ ap (λ t. Ok (record { text = t; end = h.end; left = record { text = []; end = first_end xs; last = true } ∷ [] })) (chomped-none h.chomping ∙ sym n)
+      ∙ ap (λ t. Ok (record { text = t; end = h.end; left = record { text = []; end = first_end xs; last = true } ∷ [] })) (final_breaks-none h.chomping ∙ sym n)
       ∙ ap (λ m. Ok (record { text = new; end = h.end; left = record { text = []; end = m; last = true } ∷ [] })) ended
       ∙ ap (λ ls. Ok (record { text = new; end = h.end; left = ls })) (sym at_stop)
 

@@ -6,7 +6,8 @@ use Rattle.std.proofs.lemmas.Str.{length-encode, len_utf8_bounds}
 use Rattle.al_base.specs.declared.codes.YamlCode.TheVariants as yaml
 use Rattle.al_scalar.specs.Line.{Cell, is_empty}
 use Rattle.al_scalar.specs.Taken.{Fault, fault}
-use Rattle.al_scalar.specs.Quoted.{QuotedLine, closed, broken, part_before, own_before, written, lookup, escape_table}
+use Rattle.al_scalar.specs.Quoted.{QuotedLine, closed, broken, part_before, own_before, character_cells, escape_table}
+use Rattle.std.specs.Map.{lookup}
 use Rattle.al_scalar.specs.Quoted.{digits_table, escape_character, escape_digits, hex_digit, is_scalar_value, escape, double_part}
 use Rattle.al_scalar.specs.LineEnds.{AreBlank, IsBlankByte}
 use Rattle.al_scalar.specs.Private.Double.{IsMarkByte}
@@ -81,7 +82,7 @@ map-some : (at : ℕ) (bs : List ℕ) → 1 ≤ length bs → is_empty (map (λ 
 map-some at [] h = absurd (omega (arith, h))
 map-some at (b ∷ bs) h = refl
 
-written-some : (at code : ℕ) → is_empty (written at code) ≡ false
+written-some : (at code : ℕ) → is_empty (character_cells at code) ≡ false
 written-some at code = map-some at (encode_utf8 code) (omega (arith, length-encode code, len_utf8_bounds code))
 
 some-after : (cs : List Cell) (r : Result QuotedLine Fault) → is_empty cs ≡ false → gives_nothing (part_before cs r) ≡ false
@@ -99,8 +100,8 @@ GivesSome r = gives_nothing r ≡ false
 character-some : (at code : ℕ) (rest : Result QuotedLine Fault) → GivesSome (escape_character at code rest)
 character-some at code rest = kind (is_scalar_value code)
   where
-    kind : (x : Bool) → GivesSome (cond x (part_before (written at code) rest) (fault yaml.WrongEscape at))
-    kind true = some-after (written at code) rest (written-some at code)
+    kind : (x : Bool) → GivesSome (cond x (part_before (character_cells at code) rest) (fault yaml.WrongEscape at))
+    kind true = some-after (character_cells at code) rest (written-some at code)
     kind false = refl
 
 digits-some : (at n v : ℕ) (cs : List Cell) → GivesSome (escape_digits at n v cs)
@@ -111,9 +112,9 @@ digits-some at (suc n) v (c ∷ cs) = by-option GivesSome (hex_digit c.0) refl (
 escape-some : (at : ℕ) (cs : List Cell) → GivesSome (escape at cs)
 escape-some at [] = refl
 escape-some at (c ∷ cs) =
-    by-option GivesSome (lookup c.0 escape_table)
-    (by-option GivesSome (lookup c.0 digits_table) refl (λ width. digits-some at (width - 1) 0 cs))
-    (λ code. some-after (written at code) (double_part cs) (written-some at code))
+    by-option GivesSome (lookup (λ k. k == c.0) escape_table)
+    (by-option GivesSome (lookup (λ k. k == c.0) digits_table) refl (λ width. digits-some at (width - 1) 0 cs))
+    (λ code. some-after (character_cells at code) (double_part cs) (written-some at code))
 
 pub double-some : (c : Cell) (cs : List Cell) → (IsBlankByte c.0 → ⊥) → gives_nothing (double_part (c ∷ cs)) ≡ false
 double-some c cs h = kind (c.0 == 34) (c.0 == 92) refl refl

@@ -4,7 +4,8 @@ use Rattle.std.proofs.Common.{◌≡◌, ◌≢◌, ℕ, suc, ◌+◌, ◌<◌, 
 use Rattle.std.proofs.lemmas.Grind.{common_steps}
 use Rattle.al_scalar.specs.Line.{Cell, place, after_blanks, is_empty, begins_blank, begins}
 use Rattle.al_scalar.specs.Taken.{fault}
-use Rattle.al_scalar.specs.Block.{Header, header_end}
+use Rattle.al_scalar.specs.Block.{header_end}
+use Rattle.al_scalar.specs.declared.header.Header.{Header}
 use Rattle.al_scalar.specs.Places.{first_text, lines_at}
 use Rattle.al_scalar.specs.LineEnds.{cells_between, with_cells_before, AreBlank, IsBlankByte, IsLineEnd}
 use Rattle.al_scalar.proofs.LineLemmas.{cells_between-front}

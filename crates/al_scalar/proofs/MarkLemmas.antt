@@ -10,7 +10,8 @@ use Rattle.al_scalar.specs.Private.Double.{hex_value}
 use Rattle.al_base.specs.declared.codes.YamlCode.TheVariants as yaml
 use Rattle.al_scalar.specs.Line.{Cell}
 use Rattle.al_scalar.specs.Taken.{Fault, fault}
-use Rattle.al_scalar.specs.Quoted.{QuotedLine, closed, escaped, cut_short, part_before, written, lookup, escape_table, digits_table}
+use Rattle.al_scalar.specs.Quoted.{QuotedLine, closed, escaped, cut_short, part_before, character_cells, escape_table, digits_table}
+use Rattle.std.specs.Map.{lookup}
 use Rattle.al_scalar.specs.Quoted.{escape_character, escape_digits, hex_digit, is_scalar_value, escape, double_part, quoted_lines, double_quoted}
 use Rattle.al_scalar.specs.Places.{lines_at, text_at}
 use Rattle.al_scalar.specs.LineEnds.{first_last, later, cells_between, IsLineEnd}
@@ -67,7 +68,7 @@ digits-are at (suc n) v (c ∷ cs) = next_digit (hex_digit c.0) (λ d. digits-ar
 -- what a letter gives behind a backslash, by the two tables
 abbrev letter_given : ℕ → List Cell → Option ℕ → Option ℕ → Result QuotedLine Fault
 letter_given at cs x y = elim x [
-  | Some code ↦ part_before (written at code) (double_part cs)
+  | Some code ↦ part_before (character_cells at code) (double_part cs)
   | None ↦ elim y [ None ↦ fault yaml.WrongEscape at | Some width ↦ escape_digits at (width - 1) 0 cs ]
 ]
 
@@ -78,15 +79,15 @@ has_digit false true z count e = let same : 4 ≡ count = cc in omega (arith, sa
 has_digit false false true count e = let same : 8 ≡ count = cc in omega (arith, same)
 has_digit false false false count e = absurd cc
 
-has_digits : (b count : ℕ) → lookup b digits_table ≡ Some count → suc (count - 1) ≡ count
+has_digits : (b count : ℕ) → lookup (λ k. k == b) digits_table ≡ Some count → suc (count - 1) ≡ count
 has_digits b count e = let some = has_digit (120 == b) (117 == b) (85 == b) count e in omega (arith, some)
 
 -- a letter that digits follow is no break
-pub letter_kind : (b count : ℕ) → lookup b digits_table ≡ Some count → (b ≢ 10) × (b ≢ 13)
+pub letter_kind : (b count : ℕ) → lookup (λ k. k == b) digits_table ≡ Some count → (b ≢ 10) × (b ≢ 13)
 letter_kind b count e = (
-  λ f. let no : lookup 10 digits_table ≡ Some count = subst (λ x. lookup x digits_table ≡ Some count) f e in
+  λ f. let no : lookup (λ k. k == 10) digits_table ≡ Some count = subst (λ x. lookup (λ k. k == x) digits_table ≡ Some count) f e in
       cc,
-  λ f. let no : lookup 13 digits_table ≡ Some count = subst (λ x. lookup x digits_table ≡ Some count) f e in cc,
+  λ f. let no : lookup (λ k. k == 13) digits_table ≡ Some count = subst (λ x. lookup (λ k. k == x) digits_table ≡ Some count) f e in cc,
 )
 
 -- what the part of a line gives
@@ -150,22 +151,22 @@ module _ (bytes : List ℕ) (at : ℕ) (h : at < length bytes) (e : slice_index 
     both : RunBefore (((slice_index bytes at, at) ∷ []) ++ (slice_index bytes (at + 1), at + 1) ∷ []) (lines_at bytes at) (lines_at bytes (at + 1 + 1))
     both = run_then ((slice_index bytes at, at) ∷ []) ((slice_index bytes (at + 1), at + 1) ∷ []) slash letter_at
 
-    letter-part : (x y : Option ℕ) → lookup (slice_index bytes (at + 1)) escape_table ≡ x → lookup (slice_index bytes (at + 1)) digits_table ≡ y
+    letter-part : (x y : Option ℕ) → lookup (λ k. k == slice_index bytes (at + 1)) escape_table ≡ x → lookup (λ k. k == slice_index bytes (at + 1)) digits_table ≡ y
         → double_part (text_at bytes at) ≡ letter_given at (text_at bytes (at + 1 + 1)) x y
     letter-part x y f g =
         escape-part ((slice_index bytes (at + 1), at + 1) ∷ text_at bytes (at + 1 + 1)) letter_at.text
-        ∙ ap (λ x. letter_given at (text_at bytes (at + 1 + 1)) x (lookup (slice_index bytes (at + 1)) digits_table)) f
+        ∙ ap (λ x. letter_given at (text_at bytes (at + 1 + 1)) x (lookup (λ k. k == slice_index bytes (at + 1)) digits_table)) f
         ∙ ap (letter_given at (text_at bytes (at + 1 + 1)) x) g
 
-    pub one_letter : (code : ℕ) → lookup (slice_index bytes (at + 1)) escape_table ≡ Some code → ReadsOn bytes at (written at code) (at + 1 + 1)
-    one_letter code f = reads_on bytes at (at + 1 + 1) (written at code) both.same (letter-part (Some code) (lookup (slice_index bytes (at + 1)) digits_table) f refl)
+    pub one_letter : (code : ℕ) → lookup (λ k. k == slice_index bytes (at + 1)) escape_table ≡ Some code → ReadsOn bytes at (character_cells at code) (at + 1 + 1)
+    one_letter code f = reads_on bytes at (at + 1 + 1) (character_cells at code) both.same (letter-part (Some code) (lookup (λ k. k == slice_index bytes (at + 1)) digits_table) f refl)
 
-    pub no_letter : (q : ℕ) → lookup (slice_index bytes (at + 1)) escape_table ≡ None → lookup (slice_index bytes (at + 1)) digits_table ≡ None
+    pub no_letter : (q : ℕ) → lookup (λ k. k == slice_index bytes (at + 1)) escape_table ≡ None → lookup (λ k. k == slice_index bytes (at + 1)) digits_table ≡ None
         → double_quoted q (lines_at bytes at) ≡ Err (record { code = yaml.WrongEscape; at = at })
     no_letter q f g = given_at bytes at q (Err (record { code = yaml.WrongEscape; at = at })) (letter-part None None f g)
 
     -- digits behind the letter
-    module _ (count : ℕ) (f : lookup (slice_index bytes (at + 1)) escape_table ≡ None) (g : lookup (slice_index bytes (at + 1)) digits_table ≡ Some count) where
+    module _ (count : ℕ) (f : lookup (λ k. k == slice_index bytes (at + 1)) escape_table ≡ None) (g : lookup (λ k. k == slice_index bytes (at + 1)) digits_table ≡ Some count) where
       number-part : double_part (text_at bytes at) ≡ hex_escape at count (take count (text_at bytes (at + 1 + 1)))
           (hex_value 0 (take count (text_at bytes (at + 1 + 1))))
           (double_part (drop count (text_at bytes (at + 1 + 1))))
@@ -187,7 +188,7 @@ module _ (bytes : List ℕ) (at : ℕ) (h : at < length bytes) (e : slice_index 
             let size : count ≡ length ds = omega (arith, length-cells_between bytes (at + 1 + 1) (at + 1 + 1 + count)) in
             ap (take count) b.1 ∙ ap (λ n. take n (ds ++ text_at bytes (at + 1 + 1 + count))) size ∙ take-append_seam ds (text_at bytes (at + 1 + 1 + count))
 
-        code-part : double_part (text_at bytes at) ≡ cond (is_scalar_value code) (part_before (written at code) (double_part (text_at bytes (at + 1 + 1 + count)))) (fault yaml.WrongEscape at)
+        code-part : double_part (text_at bytes at) ≡ cond (is_scalar_value code) (part_before (character_cells at code) (double_part (text_at bytes (at + 1 + 1 + count)))) (fault yaml.WrongEscape at)
         code-part =
             let ds = cells_between bytes (at + 1 + 1) (at + 1 + 1 + count) in
             let rest = text_at bytes (at + 1 + 1 + count) in
@@ -199,19 +200,19 @@ module _ (bytes : List ℕ) (at : ℕ) (h : at < length bytes) (e : slice_index 
             ∙ ap (λ t. hex_escape at count t (hex_value 0 t) (double_part (drop count (text_at bytes (at + 1 + 1))))) digits-taken
             ∙ ap (λ o. hex_escape at count ds o (double_part (drop count (text_at bytes (at + 1 + 1))))) v
             ∙ ap (λ x. cond x (Ok (record { text = []; stop = cut_short at }))
-            (cond (is_scalar_value code) (part_before (written at code)
+            (cond (is_scalar_value code) (part_before (character_cells at code)
             (double_part (drop count (text_at bytes (at + 1 + 1))))) (fault yaml.WrongEscape at)))
             long
-            ∙ ap (λ r. cond (is_scalar_value code) (part_before (written at code) r) (fault yaml.WrongEscape at)) behind
+            ∙ ap (λ r. cond (is_scalar_value code) (part_before (character_cells at code) r) (fault yaml.WrongEscape at)) behind
 
-        pub number : is_scalar_value code ≡ true → ReadsOn bytes at (written at code) (at + 1 + 1 + count)
-        number e = reads_on bytes at (at + 1 + 1 + count) (written at code) (same_then both.same b.0.same)
-            (code-part ∙ ap (λ z. cond z (part_before (written at code) (double_part (text_at bytes (at + 1 + 1 + count))))
+        pub number : is_scalar_value code ≡ true → ReadsOn bytes at (character_cells at code) (at + 1 + 1 + count)
+        number e = reads_on bytes at (at + 1 + 1 + count) (character_cells at code) (same_then both.same b.0.same)
+            (code-part ∙ ap (λ z. cond z (part_before (character_cells at code) (double_part (text_at bytes (at + 1 + 1 + count))))
             (fault yaml.WrongEscape at)) e)
 
         pub no_character : (q : ℕ) → is_scalar_value code ≡ false → double_quoted q (lines_at bytes at) ≡ Err (record { code = yaml.WrongEscape; at = at })
         no_character q e = given_at bytes at q (Err (record { code = yaml.WrongEscape; at = at }))
-            (code-part ∙ ap (λ z. cond z (part_before (written at code) (double_part (text_at bytes (at + 1 + 1 + count))))
+            (code-part ∙ ap (λ z. cond z (part_before (character_cells at code) (double_part (text_at bytes (at + 1 + 1 + count))))
             (fault yaml.WrongEscape at)) e)
 
       -- too few digits
@@ -229,7 +230,7 @@ module _ (bytes : List ℕ) (at : ℕ) (h : at < length bytes) (e : slice_index 
             number-part
             ∙ ap (λ t. hex_escape at count t (hex_value 0 t) more) taken
             ∙ ap (λ o. hex_escape at count ds o more) v
-            ∙ ap (λ x. cond x (Ok (record { text = []; stop = cut_short at })) (cond (is_scalar_value value) (part_before (written at value) more) (fault yaml.WrongEscape at))) short
+            ∙ ap (λ x. cond x (Ok (record { text = []; stop = cut_short at })) (cond (is_scalar_value value) (part_before (character_cells at value) more) (fault yaml.WrongEscape at))) short
 
         short-given : (q : ℕ) (last : Bool) → first_last (lines_at bytes end) ≡ last → double_quoted q (lines_at bytes at) ≡ cond last (fault yaml.UnclosedQuote q) (fault yaml.WrongEscape at)
         short-given q last e =

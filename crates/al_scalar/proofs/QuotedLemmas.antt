@@ -2,8 +2,8 @@
 use Rattle.std.proofs.Common.{◌≡◌, ℕ, List, [], ◌∷◌, refl, sym, ap, ◌∙◌, Bool, true, false, not, ◌&&◌, cond, inl, inr, ◌⊎◌, Option, Some, None, Result, Ok, Err}
 use Rattle.al_base.specs.declared.codes.YamlCode.TheVariants as yaml
 use Rattle.al_scalar.specs.Line.{Cell, Line, cut, is_blank, after_blanks, is_empty}
-use Rattle.al_scalar.specs.Taken.{Fault, Taken, ◌>>=◌, before, folded, feeds, fault}
-use Rattle.al_scalar.specs.Quoted.{QuotedLine, QuotedEnd, closed, broken, escaped, cut_short, with_cells, part_before, line_given, is_empty_line, quoted_lines, quoted}
+use Rattle.al_scalar.specs.Taken.{Fault, Taken, ◌>>=◌, before, folding_space, feeds, fault}
+use Rattle.al_scalar.specs.Quoted.{QuotedLine, QuotedEnd, closed, broken, escaped, cut_short, with_cells, part_before, line_given, is_empty_line, quoted_lines, quoted_scalar}
 use Rattle.al_scalar.specs.Places.{first_text, first_end}
 use Rattle.al_scalar.specs.LineEnds.{IsBlankByte, SameLine, first_last, later}
 use Rattle.al_scalar.specs.Private.PlainLines.{is_blank_line, empty_ends, break_left}
@@ -40,13 +40,13 @@ given-part : (part : List Cell → Result QuotedLine Fault) (q : ℕ) (run : Lis
 given-part part q run (Ok p) xs ys h k s = given-run part q run p xs h ∙ ap (before run) (given-same part q p xs ys h k s)
 given-part part q run (Err e) xs ys h k s = refl
 
-quoted-given : (part : List Cell → Result QuotedLine Fault) (q : ℕ) (xs : List Line) → has_line xs ≡ true → quoted part q xs ≡ (part (first_text xs) >>= (λ p. given part q p xs))
+quoted-given : (part : List Cell → Result QuotedLine Fault) (q : ℕ) (xs : List Line) → has_line xs ≡ true → quoted_scalar part q xs ≡ (part (first_text xs) >>= (λ p. given part q p xs))
 quoted-given part q [] h = cc
 quoted-given part q (x ∷ xs) h = refl
 
 -- cells in front of what is left of the line
 pub quoted-run : (part : List Cell → Result QuotedLine Fault) (q : ℕ) (run : List Cell) (xs ys : List Line) → has_line xs ≡ true → has_line ys ≡ true → SameLine xs ys
-    → part (first_text xs) ≡ part_before run (part (first_text ys)) → quoted part q xs ≡ before run (quoted part q ys)
+    → part (first_text xs) ≡ part_before run (part (first_text ys)) → quoted_scalar part q xs ≡ before run (quoted_scalar part q ys)
 quoted-run part q run xs ys h k s e =
     quoted-given part q xs h
     ∙ ap (λ r. r >>= (λ p. given part q p xs)) e
@@ -55,7 +55,7 @@ quoted-run part q run xs ys h k s e =
 
 -- what the part of the first line gives
 pub quoted-part : (part : List Cell → Result QuotedLine Fault) (q : ℕ) (xs : List Line) (r : Result QuotedLine Fault) → has_line xs ≡ true → part (first_text xs) ≡ r
-    → quoted part q xs ≡ (r >>= (λ p. given part q p xs))
+    → quoted_scalar part q xs ≡ (r >>= (λ p. given part q p xs))
 quoted-part part q xs r h e = quoted-given part q xs h ∙ ap (λ r. r >>= (λ p. given part q p xs)) e
 
 pub given-closed : (part : List Cell → Result QuotedLine Fault) (q next : ℕ) (xs ys : List Line) → has_line xs ≡ true → has_line ys ≡ true → SameLine xs ys
@@ -125,7 +125,7 @@ after_blanks-kind (c ∷ cs) = kind (is_blank c) refl (after_blanks-kind cs)
 
 -- a break or a space that is to come, with the breaks of empty lines
 abbrev pub pending_given : Option ℕ → List ℕ → List Cell
-pending_given b [] = folded b
+pending_given b [] = folding_space b
 pending_given b (e ∷ es) = feeds (e ∷ es)
 
 pending-none : (es : List ℕ) → pending_given None es ≡ feeds es
@@ -140,28 +140,28 @@ pending-break false end (e ∷ es) = refl
 module _ (part : List Cell → Result QuotedLine Fault) (q : ℕ) where
   -- a line that isn't empty, behind a space that may come before it
   line-solid : (b : Option ℕ) (t : List Cell) (l : Line) (ls : List Line) (r : Result QuotedLine Fault) (x : QuotedLine → Result Taken Fault) → (gives_nothing r && not l.last) ≡ false
-      → (r >>= (λ p. cond (is_empty_line p l) (x p) (line_given q (folded b) p l ls (λ o. quoted_lines part q o ls))))
-      ≡ before (folded b) (r >>= (λ p. given part q p (cut t l ls)))
+      → (r >>= (λ p. cond (is_empty_line p l) (x p) (line_given q (folding_space b) p l ls (λ o. quoted_lines part q o ls))))
+      ≡ before (folding_space b) (r >>= (λ p. given part q p (cut t l ls)))
   line-solid b t l ls (Ok p) x e =
-      ap (λ z. cond z (x p) (line_given q (folded b) p l ls (λ o. quoted_lines part q o ls))) e
-      ∙ line_given-before q (folded b) p l ls (λ o. quoted_lines part q o ls)
-      ∙ ap (before (folded b)) (sym (given-line p.stop q [] p.text t l ls (λ o. quoted_lines part q o ls)))
+      ap (λ z. cond z (x p) (line_given q (folding_space b) p l ls (λ o. quoted_lines part q o ls))) e
+      ∙ line_given-before q (folding_space b) p l ls (λ o. quoted_lines part q o ls)
+      ∙ ap (before (folding_space b)) (sym (given-line p.stop q [] p.text t l ls (λ o. quoted_lines part q o ls)))
   line-solid b t l ls (Err e) x h = refl
 
   lines-solid : (b : Option ℕ) (l : Line) (ls : List Line) → (gives_nothing (part (after_blanks l.text)) && not l.last) ≡ false
-      → quoted_lines part q b (l ∷ ls) ≡ before (folded b) (quoted part q (cut (after_blanks l.text) l ls))
+      → quoted_lines part q b (l ∷ ls) ≡ before (folding_space b) (quoted_scalar part q (cut (after_blanks l.text) l ls))
   lines-solid b l ls e = line-solid b (after_blanks l.text) l ls (part (after_blanks l.text)) (λ p. before ((10, l.end) ∷ []) (quoted_lines part q None ls)) e
 
   module _ (ok : IsReader part) where
     lines-blank : (b : Option ℕ) (l : Line) (ls : List Line) → after_blanks l.text ≡ [] → l.last ≡ false
         → quoted_lines part q b (l ∷ ls) ≡ before ((10, l.end) ∷ []) (quoted_lines part q None ls)
     lines-blank b l ls e f =
-        ap (λ t. part t >>= (λ p. cond (is_empty_line p l) (before ((10, l.end) ∷ []) (quoted_lines part q None ls)) (line_given q (folded b) p l ls (λ o. quoted_lines part q o ls)))) e
-        ∙ ap (λ r. r >>= (λ p. cond (is_empty_line p l) (before ((10, l.end) ∷ []) (quoted_lines part q None ls)) (line_given q (folded b) p l ls (λ o. quoted_lines part q o ls)))) ok.none
-        ∙ ap (λ z. cond (not z) (before ((10, l.end) ∷ []) (quoted_lines part q None ls)) (line_given q (folded b) (record { text = []; stop = broken }) l ls (λ o. quoted_lines part q o ls))) f
+        ap (λ t. part t >>= (λ p. cond (is_empty_line p l) (before ((10, l.end) ∷ []) (quoted_lines part q None ls)) (line_given q (folding_space b) p l ls (λ o. quoted_lines part q o ls)))) e
+        ∙ ap (λ r. r >>= (λ p. cond (is_empty_line p l) (before ((10, l.end) ∷ []) (quoted_lines part q None ls)) (line_given q (folding_space b) p l ls (λ o. quoted_lines part q o ls)))) ok.none
+        ∙ ap (λ z. cond (not z) (before ((10, l.end) ∷ []) (quoted_lines part q None ls)) (line_given q (folding_space b) (record { text = []; stop = broken }) l ls (λ o. quoted_lines part q o ls))) f
 
     -- the text of the next line that isn't blank, behind what the break and the empty lines before it give
-    pub lines-fold : (b : Option ℕ) (ls : List Line) → quoted_lines part q b ls ≡ before (pending_given b (empty_ends ls)) (quoted part q (solid_lines ls))
+    pub lines-fold : (b : Option ℕ) (ls : List Line) → quoted_lines part q b ls ≡ before (pending_given b (empty_ends ls)) (quoted_scalar part q (solid_lines ls))
     lines-fold b [] = refl
     lines-fold b (l ∷ ls) = by_text (lines-fold None ls) (after_blanks-kind l.text) l.last refl
       where
@@ -172,23 +172,23 @@ module _ (part : List Cell → Result QuotedLine Fault) (q : ℕ) where
         text-some h = ap (λ t. gives_nothing (part t) && not l.last) h.are ∙ ap (λ z. z && not l.last) (ok.some h.first h.rest h.solid)
 
         stops : is_blank_line l ≡ false → (gives_nothing (part (after_blanks l.text)) && not l.last) ≡ false
-            → quoted_lines part q b (l ∷ ls) ≡ before (pending_given b (empty_ends (l ∷ ls))) (quoted part q (solid_lines (l ∷ ls)))
+            → quoted_lines part q b (l ∷ ls) ≡ before (pending_given b (empty_ends (l ∷ ls))) (quoted_scalar part q (solid_lines (l ∷ ls)))
         stops e f = rw e (lines-solid b l ls f)
 
-        by_text : quoted_lines part q None ls ≡ before (pending_given None (empty_ends ls)) (quoted part q (solid_lines ls))
+        by_text : quoted_lines part q None ls ≡ before (pending_given None (empty_ends ls)) (quoted_scalar part q (solid_lines ls))
             → (after_blanks l.text ≡ []) ⊎ HasCell (after_blanks l.text) → (z : Bool) → l.last ≡ z
-            → quoted_lines part q b (l ∷ ls) ≡ before (pending_given b (empty_ends (l ∷ ls))) (quoted part q (solid_lines (l ∷ ls)))
+            → quoted_lines part q b (l ∷ ls) ≡ before (pending_given b (empty_ends (l ∷ ls))) (quoted_scalar part q (solid_lines (l ∷ ls)))
         by_text below (inl e) true f =
             let blank : is_blank_line l ≡ false = rw (e, f) refl in
             stops blank (text-none e f)
         by_text below (inl e) false f =
             let blank : is_blank_line l ≡ true = rw (e, f) refl in
             rw blank (lines-blank b l ls e f
-            ∙ ap (before ((10, l.end) ∷ [])) (below ∙ ap (λ cs. before cs (quoted part q (solid_lines ls))) (pending-none (empty_ends ls)))
-            ∙ before-two ((10, l.end) ∷ []) (feeds (empty_ends ls)) (quoted part q (solid_lines ls)))
+            ∙ ap (before ((10, l.end) ∷ [])) (below ∙ ap (λ cs. before cs (quoted_scalar part q (solid_lines ls))) (pending-none (empty_ends ls)))
+            ∙ before-two ((10, l.end) ∷ []) (feeds (empty_ends ls)) (quoted_scalar part q (solid_lines ls)))
         by_text below (inr h) z f =
             let blank : is_blank_line l ≡ false = ap (λ t. is_empty t && not l.last) h.are in
             stops blank (text-some h)
 
-    pub break-fold : (e : Bool) (end : ℕ) (ls : List Line) → quoted_lines part q (break_of e end) ls ≡ before (break_left e end (empty_ends ls)) (quoted part q (solid_lines ls))
-    break-fold e end ls = lines-fold (break_of e end) ls ∙ ap (λ cs. before cs (quoted part q (solid_lines ls))) (pending-break e end (empty_ends ls))
+    pub break-fold : (e : Bool) (end : ℕ) (ls : List Line) → quoted_lines part q (break_of e end) ls ≡ before (break_left e end (empty_ends ls)) (quoted_scalar part q (solid_lines ls))
+    break-fold e end ls = lines-fold (break_of e end) ls ∙ ap (λ cs. before cs (quoted_scalar part q (solid_lines ls))) (pending-break e end (empty_ends ls))

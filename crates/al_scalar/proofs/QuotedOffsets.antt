@@ -6,10 +6,11 @@ use Rattle.al_base.specs.Ascii as ascii
 use Rattle.al_scalar.specs.Line.{Cell, Line, place, is_blank, after_blanks, is_empty}
 use Rattle.al_scalar.specs.Offsets.{AreRising, AreClimbing, AreLines}
 use Rattle.al_scalar.specs.Quoted.{QuotedLine, QuotedEnd, closed, broken, escaped, cut_short, is_broken, with_own, single_part}
-use Rattle.al_scalar.specs.Quoted.{escape_table, digits_table, lookup, is_scalar_value, written, part_before, own_before}
-use Rattle.al_scalar.specs.Quoted.{escape_character, escape_digits, hex_digit, escape, double_part, line_given, is_empty_line, quoted_lines, quoted, single_quoted}
+use Rattle.al_scalar.specs.Quoted.{escape_table, digits_table, is_scalar_value, character_cells, part_before, own_before}
+use Rattle.std.specs.Map.{lookup}
+use Rattle.al_scalar.specs.Quoted.{escape_character, escape_digits, hex_digit, escape, double_part, line_given, is_empty_line, quoted_lines, quoted_scalar, single_quoted}
 use Rattle.al_scalar.specs.Quoted.{double_quoted}
-use Rattle.al_scalar.specs.Taken.{Fault, Taken, ◌>>=◌, before, folded}
+use Rattle.al_scalar.specs.Taken.{Fault, Taken, ◌>>=◌, before, folding_space}
 use Rattle.al_scalar.proofs.OffsetLemmas.{IsFrom, AreTaken, choose, from-none, from-one, from-join, from-wider, from-order, climbing-order, climbing-place, climbing-blanks, tail-lines, taken-behind}
 
 -- what a line gives, by how the scalar leaves it
@@ -66,9 +67,9 @@ length-at : (at : ℕ) (bs : List ℕ) → length {A = Cell} (map (λ b. (b, at)
 length-at at [] = refl
 length-at at (b ∷ bs) = ap suc (length-at at bs)
 
-written-from : (low at code : ℕ) → low ≤ at → IsFrom low (at + 1) (written at code)
+written-from : (low at code : ℕ) → low ≤ at → IsFrom low (at + 1) (character_cells at code)
 written-from low at code a =
-    from-wider at (at + 1) low (at + 1) (written at code) a (omega arith)
+    from-wider at (at + 1) low (at + 1) (character_cells at code) a (omega arith)
     (record { rising = at-one at (encode_utf8 code); size = omega (arith, length-at at (encode_utf8 code), length-encode code, len_utf8_bounds code) })
 
 part-behind : (low mid end : ℕ) (cs : List Cell) (r : Result QuotedLine Fault) → IsFrom low mid cs → GivesPart mid end r → GivesPart low end (part_before cs r)
@@ -82,7 +83,7 @@ own-behind low end c (Err e) a k = tt
 character-from : (low end at code : ℕ) (behind : Result QuotedLine Fault) → low ≤ at → GivesPart (at + 1) end behind
     → GivesPart low end (escape_character at code behind)
 character-from low end at code behind a h =
-    choose (GivesPart low end) (is_scalar_value code) (λ _. part-behind low (at + 1) end (written at code) behind (written-from low at code a) h) (λ _. tt)
+    choose (GivesPart low end) (is_scalar_value code) (λ _. part-behind low (at + 1) end (character_cells at code) behind (written-from low at code a) h) (λ _. tt)
 
 choose-option : {A : Type 0} (P : A → Type 0) (o : Option ℕ) {x : A} {f : ℕ → A} → P x → ((n : ℕ) → P (f n)) → P (elim o [ None ↦ x | Some n ↦ f n ])
 choose-option P None h k = h
@@ -105,10 +106,10 @@ mutual
   escape-from low end at [] a h = from-none low end (omega (arith, a, h))
   escape-from low end at (c ∷ cs) a h =
       let b = h.0 in
-      choose-option (GivesPart low end) (lookup c.0 escape_table)
-      (choose-option (GivesPart low end) (lookup c.0 digits_table) tt
+      choose-option (GivesPart low end) (lookup (λ k. k == c.0) escape_table)
+      (choose-option (GivesPart low end) (lookup (λ k. k == c.0) digits_table) tt
       (λ width. digits-from low end at (c.1 + 1) (width - 1) 0 cs a (omega (arith, b)) h.1))
-      (λ code. part-behind low (at + 1) end (written at code) (double_part cs) (written-from low at code a)
+      (λ code. part-behind low (at + 1) end (character_cells at code) (double_part cs) (written-from low at code a)
       (gives-lower (c.1 + 1) (at + 1) end (double_part cs) (omega (arith, b)) (double-from (c.1 + 1) end cs h.1)))
 
   digits-from : (low end at from n v : ℕ) (cs : List Cell) → low ≤ at → at < from → AreClimbing from end cs → GivesPart low end (escape_digits at n v cs)
@@ -130,7 +131,7 @@ PartReader part = (low end : ℕ) (cs : List Cell) → AreClimbing low end cs �
 
 -- what a line takes, and the lines behind it
 given-from : (quote low mid : ℕ) (space : List Cell) (p : QuotedLine) (l : Line) (ls : List Line) (below : Option ℕ → Result Taken Fault) → IsFrom low mid space → IsPart mid l.end p
-    → (l.last ≡ false → (b : Option ℕ) → IsFrom l.end (l.end + 1) (folded b) → AreTaken l.end (below b)) → AreTaken low (line_given quote space p l ls below)
+    → (l.last ≡ false → (b : Option ℕ) → IsFrom l.end (l.end + 1) (folding_space b) → AreTaken l.end (below b)) → AreTaken low (line_given quote space p l ls below)
 given-from quote low mid space p l ls below h k more = by-stop p.stop k
   where
     by-stop : (s : QuotedEnd) → IsStop mid l.end p.text s → AreTaken low (line_given quote space (record { text = p.text; stop = s }) l ls below)
@@ -150,28 +151,29 @@ not-last false false true h = cc
 
 -- what is taken behind a line
 abbrev LinesReader : (Option ℕ → Result Taken Fault) → List Line → Type 0
-LinesReader below ls = (low mid : ℕ) (b : Option ℕ) → IsFrom low mid (folded b) → AreLines mid ls → AreTaken low (below b)
+LinesReader below ls = (low mid : ℕ) (b : Option ℕ) → IsFrom low mid (folding_space b) → AreLines mid ls → AreTaken low (below b)
 
-line-from : (quote low mid : ℕ) (break : Option ℕ) (l : Line) (ls : List Line) (below : Option ℕ → Result Taken Fault) → IsFrom low mid (folded break) → AreLines mid (l ∷ ls) → LinesReader below ls
+line-from : (quote low mid : ℕ) (break : Option ℕ) (l : Line) (ls : List Line) (below : Option ℕ → Result Taken Fault)
+    → IsFrom low mid (folding_space break) → AreLines mid (l ∷ ls) → LinesReader below ls
     → (r : Result QuotedLine Fault) → GivesPart mid l.end r
-    → AreTaken low (r >>= (λ p. if is_empty_line p l then before ((ascii.line_feed, l.end) ∷ []) (below None) else line_given quote (folded break) p l ls below))
+    → AreTaken low (r >>= (λ p. if is_empty_line p l then before ((ascii.line_feed, l.end) ∷ []) (below None) else line_given quote (folding_space break) p l ls below))
 line-from quote low mid break l ls below h k more (Err e) r = tt
 line-from quote low mid break l ls below h k more (Ok p) r =
-    let order = from-order low mid (folded break) h in
+    let order = from-order low mid (folding_space break) h in
     let line = climbing-order mid l.end l.text k.0 in
     choose (AreTaken low) (is_empty_line p l)
     (λ e. taken-behind low (l.end + 1) ((ascii.line_feed, l.end) ∷ []) (below None) (from-one low (l.end + 1) ascii.line_feed l.end (omega (arith, order, line)) (omega arith))
     (more (l.end + 1) (l.end + 1) None (from-none (l.end + 1) (l.end + 1) (omega arith)) (tail-lines l.end l.last ls (not-last (is_empty p.text) (is_broken p.stop) l.last e) k.1)))
-    (λ _. given-from quote low mid (folded break) p l ls below h r (λ e b f. more l.end (l.end + 1) b f (tail-lines l.end l.last ls e k.1)))
+    (λ _. given-from quote low mid (folding_space break) p l ls below h r (λ e b f. more l.end (l.end + 1) b f (tail-lines l.end l.last ls e k.1)))
 
 lines-from : (part : List Cell → Result QuotedLine Fault) → PartReader part → (quote low mid : ℕ) (break : Option ℕ) (ls : List Line)
-    → IsFrom low mid (folded break) → AreLines mid ls → AreTaken low (quoted_lines part quote break ls)
+    → IsFrom low mid (folding_space break) → AreLines mid ls → AreTaken low (quoted_lines part quote break ls)
 lines-from part q quote low mid break [] h k = tt
 lines-from part q quote low mid break (l ∷ ls) h k =
     line-from quote low mid break l ls (λ b. quoted_lines part quote b ls) h k (λ low mid b f g. lines-from part q quote low mid b ls f g)
     (part (after_blanks l.text)) (q mid l.end (after_blanks l.text) (climbing-blanks mid l.end l.text k.0))
 
-quoted-from : (part : List Cell → Result QuotedLine Fault) → PartReader part → (quote low : ℕ) (ls : List Line) → AreLines low ls → AreTaken low (quoted part quote ls)
+quoted-from : (part : List Cell → Result QuotedLine Fault) → PartReader part → (quote low : ℕ) (ls : List Line) → AreLines low ls → AreTaken low (quoted_scalar part quote ls)
 quoted-from part q quote low [] k = tt
 quoted-from part q quote low (l ∷ ls) k = by-part (part l.text) (q low l.end l.text k.0)
   where

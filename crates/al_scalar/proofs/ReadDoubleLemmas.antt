@@ -2,7 +2,7 @@
 use Rattle.std.proofs.Common.{◌≡◌, ℕ, List, ◌++◌, refl, sym, ap, ◌∙◌, Bool, Result}
 use Rattle.al_scalar.specs.Line.{Cell}
 use Rattle.al_scalar.specs.Taken.{Fault, Taken, before}
-use Rattle.al_scalar.specs.Quoted.{double_part, quoted, double_quoted}
+use Rattle.al_scalar.specs.Quoted.{double_part, quoted_scalar, double_quoted}
 use Rattle.al_scalar.specs.Places.{lines_at}
 use Rattle.al_scalar.specs.LineEnds.{later}
 use Rattle.al_scalar.specs.Private.PlainLines.{empty_ends, break_left}
@@ -26,5 +26,5 @@ pub read_break : {x : Result Taken Fault} {new : List Cell} (bytes : List ℕ) (
     → new ≡ text ++ break_left escaped end (empty_ends (later (lines_at bytes end))) → x ≡ before new (double_quoted q (lines_at bytes next))
 read_break bytes i end next q escaped text e r s f =
     let run = break_left escaped end (empty_ends (later (lines_at bytes end))) in
-    e ∙ ap (before text) (r ∙ break-fold (double_part) q is_reader escaped end (later (lines_at bytes end)) ∙ ap (λ ls. before run (quoted (double_part) q ls)) s)
+    e ∙ ap (before text) (r ∙ break-fold (double_part) q is_reader escaped end (later (lines_at bytes end)) ∙ ap (λ ls. before run (quoted_scalar (double_part) q ls)) s)
     ∙ before-two text run (double_quoted q (lines_at bytes next)) ∙ ap (λ t. before t (double_quoted q (lines_at bytes next))) (sym f)

@@ -3,7 +3,9 @@ use Rattle.std.proofs.Common.{◌≡◌, ℕ, zero, suc, ◌+◌, ◌-◌, ◌<�
 use Rattle.std.proofs.Common.{append_assoc, append-nil, Bool, true, false, not, ◌||◌, cond, IsTrue, ◌↔◌, Option, Some, None}
 use Rattle.al_scalar.specs.Line.{Cell, Line, is_empty, is_all_blank, begins_blank, is_blank}
 use Rattle.al_scalar.specs.Taken.{Taken, feeds, with_text}
-use Rattle.al_scalar.specs.Block.{last_end, Chomping, strip, clip, keep, BlockLine, Rows, with_row, at_end, row_of, rows_at, rows_end, is_spaced, between_rows, joint, chomped, text_after}
+use Rattle.al_scalar.specs.Block.{last_end, BlockLine, Rows, with_row, at_end, row_of, rows_at, rows_end, between_rows, joint, final_breaks, text_after}
+use Rattle.al_scalar.specs.declared.header.Chomping.{Chomping}
+use Rattle.al_scalar.specs.declared.header.Chomping.TheVariants.{Strip, Clip, Keep}
 use Rattle.al_scalar.specs.Places.{first_text, first_end, lines_at}
 use Rattle.al_scalar.specs.LineEnds.{cells_at, cells_between, IsBlankByte, broken_line, SameLine, first_last, later}
 use Rattle.al_scalar.specs.Private.BlockRead.{row_like, rest, last_line}
@@ -11,23 +13,23 @@ use Rattle.al_scalar.proofs.LineLemmas.{cells_between-front}
 use Rattle.al_scalar.proofs.SingleLemmas.{has_line, is_blank-yes, is_blank-no, lines-at_end, lines_at-some, never}
 
 -- of a row only that matters whether it begins with a blank, and its break
-pub joint-like : (lit : Bool) (last : Option BlockLine) (es : List ℕ) (r s : BlockLine) → is_spaced r ≡ is_spaced s → joint lit last es r ≡ joint lit last es s
+pub joint-like : (lit : Bool) (last : Option BlockLine) (es : List ℕ) (r s : BlockLine) → begins_blank r.text ≡ begins_blank s.text → joint lit last es r ≡ joint lit last es s
 joint-like lit None es r s e = refl
-joint-like lit (Some l) es r s e = ap (λ b. cond (lit || is_spaced l || b) (feeds (l.break ++ es)) (between_rows l.break es)) e
+joint-like lit (Some l) es r s e = ap (λ b. cond (lit || begins_blank l.text || b) (feeds (l.break ++ es)) (between_rows l.break es)) e
 
-joint-last : (lit : Bool) (r s : BlockLine) (es : List ℕ) (x : BlockLine) → is_spaced r ≡ is_spaced s → r.break ≡ s.break → joint lit (Some r) es x ≡ joint lit (Some s) es x
+joint-last : (lit : Bool) (r s : BlockLine) (es : List ℕ) (x : BlockLine) → begins_blank r.text ≡ begins_blank s.text → r.break ≡ s.break → joint lit (Some r) es x ≡ joint lit (Some s) es x
 joint-last lit r s es x e f =
-    ap (λ b. cond (lit || b || is_spaced x) (feeds (r.break ++ es)) (between_rows r.break es)) e
-    ∙ ap (λ br. cond (lit || is_spaced s || is_spaced x) (feeds (br ++ es)) (between_rows br es)) f
+    ap (λ b. cond (lit || b || begins_blank x.text) (feeds (r.break ++ es)) (between_rows r.break es)) e
+    ∙ ap (λ br. cond (lit || begins_blank s.text || begins_blank x.text) (feeds (br ++ es)) (between_rows br es)) f
 
-pub text_after-like : (lit : Bool) (k : Chomping) (r s : BlockLine) (es : List ℕ) (rs : List BlockLine) → is_spaced r ≡ is_spaced s → r.break ≡ s.break
+pub text_after-like : (lit : Bool) (k : Chomping) (r s : BlockLine) (es : List ℕ) (rs : List BlockLine) → begins_blank r.text ≡ begins_blank s.text → r.break ≡ s.break
     → text_after lit k (Some r) es rs ≡ text_after lit k (Some s) es rs
-text_after-like lit k r s es [] e f = ap (λ b. chomped k b es) f
+text_after-like lit k r s es [] e f = ap (λ b. final_breaks k b es) f
 text_after-like lit k r s es (x ∷ xs) e f =
     ap (λ w. cond (is_empty x.text) w (joint lit (Some r) es x ++ x.text ++ text_after lit k (Some x) [] xs)) (text_after-like lit k r s (es ++ x.break) xs e f)
     ∙ ap (λ j. cond (is_empty x.text) (text_after lit k (Some s) (es ++ x.break) xs) (j ++ x.text ++ text_after lit k (Some x) [] xs)) (joint-last lit r s es x e f)
 
-spaced-like : (b : Bool) (break : List ℕ) → is_spaced (row_like b break) ≡ b
+spaced-like : (b : Bool) (break : List ℕ) → begins_blank (row_like b break).text ≡ b
 spaced-like true break = refl
 spaced-like false break = refl
 
@@ -41,8 +43,8 @@ row-text new mid lit k last es text break rs old b e s f g =
     let r : BlockLine = record { text = text; break = break } in
     let below = text_after lit k (Some r) [] rs in
     let j = joint lit last es r in
-    let like : is_spaced r ≡ is_spaced (row_like b break) = s ∙ sym (spaced-like b break) in
-    let like_none : is_spaced r ≡ is_spaced (row_like b []) = s ∙ sym (spaced-like b []) in
+    let like : begins_blank r.text ≡ begins_blank (row_like b break).text = s ∙ sym (spaced-like b break) in
+    let like_none : begins_blank r.text ≡ begins_blank (row_like b []).text = s ∙ sym (spaced-like b []) in
     let like_joint = row_like b [] in
     let j' = joint lit last es like_joint in
     ap (λ c. old ++ cond c (text_after lit k last (es ++ break) rs) ((j ++ text) ++ below)) e
@@ -53,17 +55,17 @@ row-text new mid lit k last es text break rs old b e s f g =
     ∙ ap (λ n. n ++ below) (sym g)
     ∙ ap (λ t. new ++ t) (text_after-like lit k r (row_like b break) [] rs like refl)
 
-pub chomped-none : (k : Chomping) → chomped k [] [] ≡ []
-chomped-none strip = refl
-chomped-none clip = refl
-chomped-none keep = refl
+pub final_breaks-none : (k : Chomping) → final_breaks k [] [] ≡ []
+final_breaks-none Strip = refl
+final_breaks-none Clip = refl
+final_breaks-none Keep = refl
 
 -- the file's last line, with text
 pub row-final : (new mid : List Cell) (lit : Bool) (k : Chomping) (last : Option BlockLine) (es : List ℕ) (text old : List Cell) (b : Bool)
     → is_empty text ≡ false → begins_blank text ≡ b → mid ≡ old ++ joint lit last es (row_like b []) → new ≡ mid ++ text
     → new ≡ old ++ text_after lit k last es (record { text = text; break = [] } ∷ [])
 row-final new mid lit k last es text old b e s f g =
-    sym (row-text new mid lit k last es text [] [] old b e s f g ∙ ap (λ t. new ++ t) (chomped-none k) ∙ append-nil new)
+    sym (row-text new mid lit k last es text [] [] old b e s f g ∙ ap (λ t. new ++ t) (final_breaks-none k) ∙ append-nil new)
 
 -- ---- cells between offsets
 

@@ -4,9 +4,12 @@ use Rattle.std.proofs.lemmas.Bool.Decides.{nat_tests}
 use Rattle.std.proofs.lemmas.Str.{IsUtf8-nil}
 use Rattle.std.specs.Option.{is_some}
 use Rattle.al_base.specs.Ascii as ascii
-use Rattle.al_scalar.specs.Line.{Cell, Line, place, is_empty, indent, is_all_blank}
-use Rattle.al_scalar.specs.Block.{Chomping, strip, clip, keep, Header, header, content_indent, BlockLine, Rows, row_of, at_end, with_row}
-use Rattle.al_scalar.specs.Block.{rows_at, chomped, is_spaced, own_break, between_rows, joint, text_after, rows_end, block_scalar}
+use Rattle.al_scalar.specs.Line.{Cell, Line, place, is_empty, indent, is_all_blank, begins_blank}
+use Rattle.al_scalar.specs.Block.{header, content_indent, BlockLine, Rows, row_of, at_end, with_row}
+use Rattle.al_scalar.specs.declared.header.Chomping.{Chomping}
+use Rattle.al_scalar.specs.declared.header.Chomping.TheVariants.{Strip, Clip, Keep}
+use Rattle.al_scalar.specs.declared.header.Header.{Header}
+use Rattle.al_scalar.specs.Block.{rows_at, final_breaks, own_break, between_rows, joint, text_after, rows_end, block_scalar}
 use Rattle.al_scalar.specs.Taken.{Fault, ◌>>=◌}
 use Rattle.al_scalar.proofs.OffsetLemmas.{choose}
 use Rattle.al_scalar.proofs.Utf8Lemmas.{AreUtf8, bytes_of, split-behind, equal-ascii}
@@ -61,15 +64,15 @@ text-between (e ∷ es) empties = text-break e empties
 
 text-joint : (is_literal : Bool) (last : Option BlockLine) (empties : List ℕ) (next : BlockLine) → IsText (joint is_literal last empties next)
 text-joint is_literal None empties next = text-feeds empties
-text-joint is_literal (Some r) empties next = choose IsText (is_literal || is_spaced r || is_spaced next) (λ _. text-feeds (r.break ++ empties)) (λ _. text-between r.break empties)
+text-joint is_literal (Some r) empties next = choose IsText (is_literal || begins_blank r.text || begins_blank next.text) (λ _. text-feeds (r.break ++ empties)) (λ _. text-between r.break empties)
 
-text-chomped : (k : Chomping) (own empties : List ℕ) → IsText (chomped k own empties)
-text-chomped strip own empties = IsUtf8-nil
-text-chomped clip own empties = text-feeds own
-text-chomped keep own empties = text-feeds (own ++ empties)
+text-final_breaks : (k : Chomping) (own empties : List ℕ) → IsText (final_breaks k own empties)
+text-final_breaks Strip own empties = IsUtf8-nil
+text-final_breaks Clip own empties = text-feeds own
+text-final_breaks Keep own empties = text-feeds (own ++ empties)
 
 rows-text : (is_literal : Bool) (k : Chomping) (last : Option BlockLine) (empties : List ℕ) (rs : List BlockLine) → AreTexts rs → IsText (text_after is_literal k last empties rs)
-rows-text is_literal k last empties [] u = text-chomped k (own_break last) empties
+rows-text is_literal k last empties [] u = text-final_breaks k (own_break last) empties
 rows-text is_literal k last empties (r ∷ rs) u =
     choose IsText (is_empty r.text) (λ _. rows-text is_literal k last (empties ++ r.break) rs u.1)
     (λ _. text-join (joint is_literal last empties r ++ r.text) (text_after is_literal k (Some r) [] rs)

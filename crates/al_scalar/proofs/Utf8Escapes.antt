@@ -3,14 +3,14 @@ use Rattle.std.proofs.Common.{◌≡◌, ℕ, zero, suc, ◌+◌, ◌*◌, ◌-�
 use Rattle.std.proofs.Common.{Bool, true, false, if◌then◌else◌, ◌&&◌, ◌||◌, ◌==◌, nat_le, nat_lt, cond, Option, Some, None, Result, Ok, Err}
 use Rattle.std.proofs.Common.{encode_utf8}
 use Rattle.std.proofs.lemmas.Grind.{common_steps}
-use Rattle.std.proofs.lemmas.Bool.Decides.{nat_tests}
 use Rattle.std.specs.Prelude.{IsUtf8}
 use Rattle.std.specs.Char.{IsScalar}
 use Rattle.std.proofs.lemmas.Str.{IsUtf8-append, IsUtf8-encode}
 use Rattle.al_base.specs.Ascii as ascii
 use Rattle.al_scalar.specs.Line.{Cell, Line}
-use Rattle.al_scalar.specs.Quoted.{QuotedLine, own_before, part_before, escape_table, digits_table, lookup}
-use Rattle.al_scalar.specs.Quoted.{is_scalar_value, written, escape_character, escape_digits, hex_digit, escape, double_part, double_quoted}
+use Rattle.al_scalar.specs.Quoted.{QuotedLine, own_before, part_before, escape_table, digits_table}
+use Rattle.std.specs.Map.{lookup}
+use Rattle.al_scalar.specs.Quoted.{is_scalar_value, character_cells, escape_character, escape_digits, hex_digit, escape, double_part, double_quoted}
 use Rattle.al_scalar.specs.Taken.{Fault}
 use Rattle.al_scalar.proofs.OffsetLemmas.{choose}
 use Rattle.al_scalar.proofs.Utf8Lemmas.{Keeps, AreUtf8, bytes_of, split-before, split-behind, keeps-all, keeps-none, keeps-drop, equal-ascii, own-keeps}
@@ -33,17 +33,17 @@ found-by : (b : ℕ) (e : ℕ × ℕ) (more : Option ℕ) (k : Bool) (x : ℕ) �
 found-by b e more true x k l h f = let same = equal e.0 b k in omega (arith, same, l)
 found-by b e more false x k l h f = h f
 
-found-ascii : (b : ℕ) (es : List (ℕ × ℕ)) → AreAscii es → (x : ℕ) → lookup b es ≡ Some x → b < 128
+found-ascii : (b : ℕ) (es : List (ℕ × ℕ)) → AreAscii es → (x : ℕ) → lookup (λ k. k == b) es ≡ Some x → b < 128
 found-ascii b [] h x f = absurd cc
-found-ascii b (e ∷ es) h x f = found-by b e (lookup b es) (e.0 == b) x refl h.0 (λ k. found-ascii b es h.1 x k) f
+found-ascii b (e ∷ es) h x f = found-by b e (lookup (λ k. k == b) es) (e.0 == b) x refl h.0 (λ k. found-ascii b es h.1 x k) f
 
 scalar-by : (e : ℕ × ℕ) (more : Option ℕ) (k : Bool) (x : ℕ) → IsScalar e.1 → (more ≡ Some x → IsScalar x) → (if k then Some e.1 else more) ≡ Some x → IsScalar x
 scalar-by e more true x l h f = let same : e.1 ≡ x = cc in subst IsScalar same l
 scalar-by e more false x l h f = h f
 
-found-scalar : (b : ℕ) (es : List (ℕ × ℕ)) → AreScalars es → (x : ℕ) → lookup b es ≡ Some x → IsScalar x
+found-scalar : (b : ℕ) (es : List (ℕ × ℕ)) → AreScalars es → (x : ℕ) → lookup (λ k. k == b) es ≡ Some x → IsScalar x
 found-scalar b [] h x f = absurd cc
-found-scalar b (e ∷ es) h x f = scalar-by e (lookup b es) (e.0 == b) x h.0 (λ k. found-scalar b es h.1 x k) f
+found-scalar b (e ∷ es) h x f = scalar-by e (lookup (λ k. k == b) es) (e.0 == b) x h.0 (λ k. found-scalar b es h.1 x k) f
 
 escapes-ascii : AreAscii escape_table
 escapes-ascii = (
@@ -89,20 +89,8 @@ digits-ascii = (omega arith, (omega arith, (omega arith, tt)))
 
 -- ---- digits
 
-digit-by : (b : ℕ) (p q r : Bool) (x y z : ℕ) (d : ℕ) → (p ≡ true → b < 128) → (q ≡ true → b < 128) → (r ≡ true → b < 128)
-    → (if p then Some x else (if q then Some y else (if r then Some z else None))) ≡ Some d → b < 128
-digit-by b true q r x y z d f g h e = f refl
-digit-by b false true r x y z d f g h e = g refl
-digit-by b false false true x y z d f g h e = h refl
-digit-by b false false false x y z d f g h e = absurd cc
-
-below-128 : (low high b : ℕ) → high < 128 → (nat_le low b && nat_le b high) ≡ true → b < 128
-below-128 low high b l h = grind (arith, nat_tests, h, l)
-
 digit-ascii : (b d : ℕ) → hex_digit b ≡ Some d → b < 128
-digit-ascii b d e =
-    digit-by b (nat_le 48 b && nat_le b 57) (nat_le 65 b && nat_le b 70) (nat_le 97 b && nat_le b 102) (b - 48) (b - 55) (b - 87) d
-    (λ h. below-128 48 57 b (omega arith) h) (λ h. below-128 65 70 b (omega arith) h) (λ h. below-128 97 102 b (omega arith) h) e
+digit-ascii b d e = grind (arith, common_steps, e)
 
 -- ---- escapes
 
@@ -114,7 +102,7 @@ written-bytes : (at : ℕ) (bs : List ℕ) → bytes_of (map (λ b. (b, at)) bs)
 written-bytes at [] = refl
 written-bytes at (b ∷ bs) = ap (λ l. b ∷ l) (written-bytes at bs)
 
-written-text : (at code : ℕ) → IsScalar code → IsText (written at code)
+written-text : (at code : ℕ) → IsScalar code → IsText (character_cells at code)
 written-text at code s = subst IsUtf8 (sym (written-bytes at (encode_utf8 code))) (IsUtf8-encode code s)
 
 part-keeps : (c : Cell) (cs ws : List Cell) (r : Result QuotedLine Fault) → c.0 < 128 → IsText ws → PartKeeps cs r → PartKeeps (c ∷ cs) (part_before ws r)
@@ -139,7 +127,7 @@ character-keeps : (c : Cell) (cs : List Cell) (at code : ℕ) (behind : Result Q
     → PartKeeps (c ∷ cs) (escape_character at code behind)
 character-keeps c cs at code behind l k =
     choose (PartKeeps (c ∷ cs)) (is_scalar_value code)
-    (λ e. part-keeps c cs (written at code) behind l
+    (λ e. part-keeps c cs (character_cells at code) behind l
     (written-text at code (scalar-of (nat_lt code 0xd800) (nat_le 0xe000 code && nat_lt code 0x110000) e)) k) (λ _. tt)
 
 skipped : (c : Cell) (cs : List Cell) (r : Result QuotedLine Fault) → c.0 < 128 → PartKeeps cs r → PartKeeps (c ∷ cs) r
@@ -158,10 +146,10 @@ mutual
   escape-keeps : (at : ℕ) (cs : List Cell) → PartKeeps cs (escape at cs)
   escape-keeps at [] = keeps-all []
   escape-keeps at (c ∷ cs) =
-      choose-option (PartKeeps (c ∷ cs)) (lookup c.0 escape_table)
-      (choose-option (PartKeeps (c ∷ cs)) (lookup c.0 digits_table) tt
+      choose-option (PartKeeps (c ∷ cs)) (lookup (λ k. k == c.0) escape_table)
+      (choose-option (PartKeeps (c ∷ cs)) (lookup (λ k. k == c.0) digits_table) tt
       (λ width e. skipped c cs (escape_digits at (width - 1) 0 cs) (found-ascii c.0 digits_table digits-ascii width e) (digits-keep at (width - 1) 0 cs)))
-      (λ code e. part-keeps c cs (written at code) (double_part cs) (found-ascii c.0 escape_table escapes-ascii code e)
+      (λ code e. part-keeps c cs (character_cells at code) (double_part cs) (found-ascii c.0 escape_table escapes-ascii code e)
       (written-text at code (found-scalar c.0 escape_table escapes-scalar code e)) (double-keeps cs))
 
   digits-keep : (at n v : ℕ) (cs : List Cell) → PartKeeps cs (escape_digits at n v cs)

@@ -6,13 +6,15 @@ use Rattle.std.specs.Prelude.{IsUtf8}
 use Rattle.std.specs.Option.{is_some}
 use Rattle.al_base.specs.Ascii as ascii
 use Rattle.al_scalar.specs.Line.{Cell, Line, place, is_blank, after_blanks, is_empty, is_all_blank}
-use Rattle.al_scalar.specs.Block.{Header, header, content_indent, Rows, row_of, at_end, with_row, rows_at, text_after, rows_end, block_scalar}
+use Rattle.al_scalar.specs.Block.{header, content_indent, Rows, row_of, at_end, with_row, rows_at, text_after, rows_end, block_scalar}
+use Rattle.al_scalar.specs.declared.header.Header.{Header}
 use Rattle.al_scalar.specs.Plain.{Context, is_flow, is_value_colon, ends_plain, plain_part, continues, ended_before, plain_lines, plain}
 use Rattle.al_scalar.specs.Quoted.{QuotedLine, QuotedEnd, closed, broken, escaped, cut_short, is_broken, with_own, single_part}
-use Rattle.al_scalar.specs.Quoted.{escape_table, digits_table, lookup, is_scalar_value, written, part_before, own_before}
-use Rattle.al_scalar.specs.Quoted.{escape_character, escape_digits, hex_digit, escape, double_part, line_given, is_empty_line, quoted_lines, quoted, single_quoted}
+use Rattle.al_scalar.specs.Quoted.{escape_table, digits_table, is_scalar_value, character_cells, part_before, own_before}
+use Rattle.std.specs.Map.{lookup}
+use Rattle.al_scalar.specs.Quoted.{escape_character, escape_digits, hex_digit, escape, double_part, line_given, is_empty_line, quoted_lines, quoted_scalar, single_quoted}
 use Rattle.al_scalar.specs.Quoted.{double_quoted}
-use Rattle.al_scalar.specs.Taken.{Fault, Taken, ◌>>=◌, before, folded, folded_break}
+use Rattle.al_scalar.specs.Taken.{Fault, Taken, ◌>>=◌, before, folding_space, folded_break}
 use Rattle.al_scalar.proofs.OffsetLemmas.{choose}
 use Rattle.al_scalar.proofs.Utf8Lemmas.{AreUtf8, bytes_of, split-before, split-behind, keeps-blanks, equal-ascii, both-left, not-false, blank-ascii}
 use Rattle.al_scalar.proofs.Utf8Texts.{IsText, ends-ascii}
@@ -71,7 +73,7 @@ own-gives c cs (Ok p) k = own-leaves c cs p k
 own-gives c cs (Err e) k = tt
 
 character-leaves : (all : List Cell) (at code : ℕ) (behind : Result QuotedLine Fault) → GivesLeaves all behind → GivesLeaves all (escape_character at code behind)
-character-leaves all at code behind k = choose (GivesLeaves all) (is_scalar_value code) (λ _. part-leaves all (written at code) behind k) (λ _. tt)
+character-leaves all at code behind k = choose (GivesLeaves all) (is_scalar_value code) (λ _. part-leaves all (character_cells at code) behind k) (λ _. tt)
 
 mutual
   double-leaves : (cs : List Cell) → GivesLeaves cs (double_part cs)
@@ -84,10 +86,10 @@ mutual
   escape-leaves : (at : ℕ) (cs : List Cell) → GivesLeaves cs (escape at cs)
   escape-leaves at [] = λ p u. tt
   escape-leaves at (c ∷ cs) =
-      choose-option (GivesLeaves (c ∷ cs)) (lookup c.0 escape_table)
-      (choose-option (GivesLeaves (c ∷ cs)) (lookup c.0 digits_table) tt
+      choose-option (GivesLeaves (c ∷ cs)) (lookup (λ k. k == c.0) escape_table)
+      (choose-option (GivesLeaves (c ∷ cs)) (lookup (λ k. k == c.0) digits_table) tt
       (λ width _. gives-more c cs (escape_digits at (width - 1) 0 cs) (digits-leave at (width - 1) 0 cs)))
-      (λ code _. part-leaves (c ∷ cs) (written at code) (double_part cs) (gives-more c cs (double_part cs) (double-leaves cs)))
+      (λ code _. part-leaves (c ∷ cs) (character_cells at code) (double_part cs) (gives-more c cs (double_part cs) (double-leaves cs)))
 
   digits-leave : (at n v : ℕ) (cs : List Cell) → GivesLeaves cs (escape_digits at n v cs)
   digits-leave at n v [] = λ p u. tt
@@ -128,11 +130,11 @@ given-left quote space p l ls below u h more = by-stop p.stop h
 
 line-left : (quote : ℕ) (break : Option ℕ) (l : Line) (ls : List Line) (below : Option ℕ → Result Taken Fault) → AreUtf8 ls
     → ((b : Option ℕ) → LeavesText (below b)) → (r : Result QuotedLine Fault) → GivesStop r
-    → LeavesText (r >>= (λ p. if is_empty_line p l then before ((ascii.line_feed, l.end) ∷ []) (below None) else line_given quote (folded break) p l ls below))
+    → LeavesText (r >>= (λ p. if is_empty_line p l then before ((ascii.line_feed, l.end) ∷ []) (below None) else line_given quote (folding_space break) p l ls below))
 line-left quote break l ls below u more (Err e) r = tt
 line-left quote break l ls below u more (Ok p) r =
     choose LeavesText (is_empty_line p l) (λ _. left-before ((ascii.line_feed, l.end) ∷ []) (below None) (more None))
-    (λ _. given-left quote (folded break) p l ls below u r more)
+    (λ _. given-left quote (folding_space break) p l ls below u r more)
 
 lines-left : (part : List Cell → Result QuotedLine Fault) → PartReader part → (quote : ℕ) (break : Option ℕ) (ls : List Line) → AreUtf8 ls → LeavesText (quoted_lines part quote break ls)
 lines-left part q quote break [] u = tt
@@ -144,7 +146,7 @@ quoted-by : (part : List Cell → Result QuotedLine Fault) → PartReader part �
 quoted-by part q quote l ls u (Err e) r = tt
 quoted-by part q quote l ls u (Ok p) r = given-left quote [] p l ls (λ b. quoted_lines part quote b ls) u r (λ b. lines-left part q quote b ls u)
 
-quoted-left : (part : List Cell → Result QuotedLine Fault) → PartReader part → (quote : ℕ) (ls : List Line) → AreUtf8 ls → LeavesText (quoted part quote ls)
+quoted-left : (part : List Cell → Result QuotedLine Fault) → PartReader part → (quote : ℕ) (ls : List Line) → AreUtf8 ls → LeavesText (quoted_scalar part quote ls)
 quoted-left part q quote [] u = tt
 quoted-left part q quote (l ∷ ls) u = quoted-by part q quote l ls u.1 (part l.text) (q l.text u.0)
 

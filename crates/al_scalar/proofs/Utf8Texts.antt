@@ -6,9 +6,9 @@ use Rattle.std.proofs.lemmas.Str.{IsUtf8-append, IsUtf8-nil, IsUtf8-from_ascii}
 use Rattle.al_base.specs.Ascii as ascii
 use Rattle.al_scalar.specs.Line.{Cell, Line, is_blank, after_blanks, begins, is_empty}
 use Rattle.al_scalar.specs.Plain.{Context, is_flow, is_flow_indicator, begins_flow_indicator, ends_key, is_value_colon, ends_plain, plain_part, continues, ended_before, plain_lines, plain}
-use Rattle.al_scalar.specs.Quoted.{QuotedLine, QuotedEnd, closed, broken, escaped, cut_short, single_part, line_given, is_empty_line, quoted_lines, quoted, single_quoted}
+use Rattle.al_scalar.specs.Quoted.{QuotedLine, QuotedEnd, closed, broken, escaped, cut_short, single_part, line_given, is_empty_line, quoted_lines, quoted_scalar, single_quoted}
 use Rattle.al_scalar.specs.Scalar.{after_first}
-use Rattle.al_scalar.specs.Taken.{Fault, Taken, ◌>>=◌, before, folded, feeds, folded_break}
+use Rattle.al_scalar.specs.Taken.{Fault, Taken, ◌>>=◌, before, folding_space, feeds, folded_break}
 use Rattle.al_scalar.proofs.OffsetLemmas.{choose}
 use Rattle.al_scalar.proofs.Utf8Lemmas.{Keeps, AreUtf8, bytes_of, split-behind, keeps-all, keeps-none, keeps-own, keeps-blanks, equal-ascii, either, both-left, blank-ascii, single-keeps}
 
@@ -38,9 +38,9 @@ pub text-feeds : (ats : List ℕ) → IsText (feeds ats)
 text-feeds [] = IsUtf8-nil
 text-feeds (a ∷ ats) = text-join ((ascii.line_feed, a) ∷ []) (feeds ats) (text-one 10 a (omega arith)) (text-feeds ats)
 
-pub text-folded : (b : Option ℕ) → IsText (folded b)
-text-folded None = IsUtf8-nil
-text-folded (Some at) = text-one 32 at (omega arith)
+pub text-folding_space : (b : Option ℕ) → IsText (folding_space b)
+text-folding_space None = IsUtf8-nil
+text-folding_space (Some at) = text-one 32 at (omega arith)
 
 pub text-break : (at : ℕ) (es : List ℕ) → IsText (folded_break at es)
 text-break at [] = text-one 32 at (omega arith)
@@ -75,11 +75,11 @@ given-text quote space p l ls below h k more = by-stop p.stop
     by-stop escaped = choose TakesText l.last (λ _. tt) (λ _. text-before (space ++ p.text) _ (text-join space p.text h k) (more None))
 
 line-text : (quote : ℕ) (break : Option ℕ) (l : Line) (ls : List Line) (below : Option ℕ → Result Taken Fault) → ((b : Option ℕ) → TakesText (below b)) → (r : Result QuotedLine Fault) → GivesText r
-    → TakesText (r >>= (λ p. if is_empty_line p l then before ((ascii.line_feed, l.end) ∷ []) (below None) else line_given quote (folded break) p l ls below))
+    → TakesText (r >>= (λ p. if is_empty_line p l then before ((ascii.line_feed, l.end) ∷ []) (below None) else line_given quote (folding_space break) p l ls below))
 line-text quote break l ls below more (Err e) r = tt
 line-text quote break l ls below more (Ok p) r =
     choose TakesText (is_empty_line p l) (λ _. text-before ((ascii.line_feed, l.end) ∷ []) (below None) (text-one 10 l.end (omega arith)) (more None))
-    (λ _. given-text quote (folded break) p l ls below (text-folded break) r more)
+    (λ _. given-text quote (folding_space break) p l ls below (text-folding_space break) r more)
 
 lines-text : (part : List Cell → Result QuotedLine Fault) → PartReader part → (quote : ℕ) (break : Option ℕ) (ls : List Line) → AreUtf8 ls → TakesText (quoted_lines part quote break ls)
 lines-text part q quote break [] u = tt
@@ -91,7 +91,7 @@ quoted-by : (part : List Cell → Result QuotedLine Fault) → PartReader part �
 quoted-by part q quote l ls u (Err e) r = tt
 quoted-by part q quote l ls u (Ok p) r = given-text quote [] p l ls (λ b. quoted_lines part quote b ls) IsUtf8-nil r (λ b. lines-text part q quote b ls u)
 
-pub quoted-text : (part : List Cell → Result QuotedLine Fault) → PartReader part → (quote : ℕ) (ls : List Line) → AreUtf8 ls → TakesText (quoted part quote ls)
+pub quoted-text : (part : List Cell → Result QuotedLine Fault) → PartReader part → (quote : ℕ) (ls : List Line) → AreUtf8 ls → TakesText (quoted_scalar part quote ls)
 quoted-text part q quote [] u = tt
 quoted-text part q quote (l ∷ ls) u = quoted-by part q quote l ls u.1 (part l.text) (q l.text u.0)
 

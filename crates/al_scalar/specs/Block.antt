@@ -1,22 +1,14 @@
 -- Block scalars (8.1).
 use Rattle.std.specs.Prelude.{ℕ, ◌+◌, ◌-◌, List, [], ◌∷◌, ◌++◌, drop, Bool, true, not, ◌&&◌, ◌||◌, ◌==◌, nat_le, if◌then◌else◌}
 use Rattle.std.specs.Prelude.{Option, Some, None, is_some, Result, Ok}
+use Rattle.std.specs.Option.{option_map_or}
 use Rattle.al_base.specs.Ascii as ascii
 use Rattle.al_base.specs.declared.codes.YamlCode.TheVariants as yaml
 use Rattle.al_scalar.specs.Line.{Cell, Line, place, after_blanks, indent, is_empty, is_all_blank, begins_blank, is_comment}
 use Rattle.al_scalar.specs.Taken.{Fault, Taken, ◌>>=◌, fault, feeds, folded_break}
-
--- What becomes of the final breaks (8.1.1.2).
-pub data Chomping : Type 0 where
-  strip : Chomping
-  clip : Chomping
-  keep : Chomping
-
--- The header (8.1.1): the digit if there is one, the chomping, and the end of the indicators.
-pub record Header : Type 0 where
-  pub digit : Option ℕ
-  pub chomping : Chomping
-  pub end : ℕ
+use Rattle.al_scalar.specs.declared.header.Chomping.{Chomping}
+use Rattle.al_scalar.specs.declared.header.Chomping.TheVariants.{Strip, Clip, Keep}
+use Rattle.al_scalar.specs.declared.header.Header.{Header}
 
 abbrev pub is_digit : ℕ → Bool
 is_digit b = nat_le 49 b && nat_le b 57
@@ -25,7 +17,7 @@ abbrev pub is_sign : ℕ → Bool
 is_sign b = (b == ascii.plus) || (b == ascii.dash)
 
 abbrev pub chomping_of : ℕ → Chomping
-chomping_of b = if b == ascii.plus then keep else strip
+chomping_of b = if b == ascii.plus then Keep else Strip
 
 -- Behind the indicators only blanks, and a comment after a blank.
 abbrev pub header_end : Header → List Cell → Result Header Fault
@@ -35,10 +27,10 @@ header_end h cs =
 
 -- The header from behind the indicator, whose end is at: a digit and a sign in either order.
 abbrev pub after_digit : ℕ → ℕ → List Cell → Result Header Fault
-after_digit d at [] = header_end (record { digit = Some d; chomping = clip; end = at }) []
+after_digit d at [] = header_end (record { digit = Some d; chomping = Clip; end = at }) []
 after_digit d at (c ∷ cs) =
     if is_sign c.0 then header_end (record { digit = Some d; chomping = chomping_of c.0; end = at + 1 }) cs
-    else header_end (record { digit = Some d; chomping = clip; end = at }) (c ∷ cs)
+    else header_end (record { digit = Some d; chomping = Clip; end = at }) (c ∷ cs)
 
 abbrev pub after_sign : Chomping → ℕ → List Cell → Result Header Fault
 after_sign k at [] = header_end (record { digit = None; chomping = k; end = at }) []
@@ -47,11 +39,11 @@ after_sign k at (c ∷ cs) =
     else header_end (record { digit = None; chomping = k; end = at }) (c ∷ cs)
 
 abbrev pub header : ℕ → List Cell → Result Header Fault
-header at [] = header_end (record { digit = None; chomping = clip; end = at }) []
+header at [] = header_end (record { digit = None; chomping = Clip; end = at }) []
 header at (c ∷ cs) =
     if is_digit c.0 then after_digit (c.0 - 48) (at + 1) cs
     else (if is_sign c.0 then after_sign (chomping_of c.0) (at + 1) cs
-    else header_end (record { digit = None; chomping = clip; end = at }) (c ∷ cs))
+    else header_end (record { digit = None; chomping = Clip; end = at }) (c ∷ cs))
 
 -- The content indent (8.1.1.1): what the digit says, or the indent of the first line that isn't all blanks, if it
 -- is at least within; None where there is no content.
@@ -101,17 +93,13 @@ rows_at m found (l ∷ ls) =
     ]
 
 -- The breaks that stay at the end (8.1.1.2): of the last line with text, and of the empty lines behind it.
-abbrev pub chomped : Chomping → List ℕ → List ℕ → List Cell
-chomped strip own empties = []
-chomped clip own empties = feeds own
-chomped keep own empties = feeds (own ++ empties)
-
-abbrev pub is_spaced : BlockLine → Bool
-is_spaced r = begins_blank r.text
+abbrev pub final_breaks : Chomping → List ℕ → List ℕ → List Cell
+final_breaks Strip own empties = []
+final_breaks Clip own empties = feeds own
+final_breaks Keep own empties = feeds (own ++ empties)
 
 abbrev pub own_break : Option BlockLine → List ℕ
-own_break None = []
-own_break (Some r) = r.break
+own_break last = option_map_or (λ r. r.break) last []
 
 -- Between two lines that begin with no blank the break is folded (8.1.3).
 abbrev pub between_rows : List ℕ → List ℕ → List Cell
@@ -123,11 +111,12 @@ between_rows (at ∷ ats) empties = folded_break at empties
 abbrev pub joint : Bool → Option BlockLine → List ℕ → BlockLine → List Cell
 joint is_literal None empties next = feeds empties
 joint is_literal (Some r) empties next =
-    if is_literal || is_spaced r || is_spaced next then feeds (r.break ++ empties) else between_rows r.break empties
+    if is_literal || begins_blank r.text || begins_blank next.text then feeds (r.break ++ empties)
+    else between_rows r.break empties
 
 -- The text of rows behind the last line with text; empties are the breaks of the empty lines since.
 abbrev pub text_after : Bool → Chomping → Option BlockLine → List ℕ → List BlockLine → List Cell
-text_after is_literal k last empties [] = chomped k (own_break last) empties
+text_after is_literal k last empties [] = final_breaks k (own_break last) empties
 text_after is_literal k last empties (r ∷ rs) =
     let with_empty = text_after is_literal k last (empties ++ r.break) rs in
     let below = text_after is_literal k (Some r) [] rs in

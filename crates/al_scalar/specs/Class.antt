@@ -1,8 +1,11 @@
 -- Classes of plain scalars by their text: the core schema (10.3.2).
-use Rattle.std.specs.Prelude.{ℕ, List, [], ◌∷◌, Bool, true, false, ◌&&◌, ◌||◌, ◌==◌, nat_le, if◌then◌else◌, codes}
+use Rattle.std.specs.Prelude.{ℕ, List, [], ◌∷◌, Bool, true, false, ◌&&◌, ◌||◌, ◌==◌, if◌then◌else◌, codes}
+use Rattle.std.specs.Char.{is_ascii_digit, is_ascii_hexdigit}
+use Rattle.std.specs.Int.{is_in_range}
 use Rattle.std.specs.Str.{bytes_eq}
 use Rattle.std.specs.List.{list_all, list_any}
 use Rattle.al_base.specs.Ascii as ascii
+use Rattle.al_base.specs.FirstBytes.{first_is}
 use Rattle.al_scalar.specs.declared.class.Base.{Base}
 use Rattle.al_scalar.specs.declared.class.Base.TheVariants as base
 use Rattle.al_scalar.specs.declared.styles.Class.{Class}
@@ -25,26 +28,13 @@ infinities = codes ".inf" ∷ codes ".Inf" ∷ codes ".INF" ∷ []
 abbrev pub not_numbers : List (List ℕ)
 not_numbers = codes ".nan" ∷ codes ".NaN" ∷ codes ".NAN" ∷ []
 
-abbrev pub is_null : List ℕ → Bool
-is_null bs = is_one_of nulls bs
-
-abbrev pub is_boolean : List ℕ → Bool
-is_boolean bs = is_one_of booleans bs
-
 -- ---- digits
-
-abbrev pub is_between : ℕ → ℕ → ℕ → Bool
-is_between low high b = nat_le low b && nat_le b high
 
 -- [0-7], [0-9] and [0-9a-fA-F]
 abbrev pub is_digit_in : Base → ℕ → Bool
-is_digit_in base.Octal b = is_between 48 55 b
-is_digit_in base.Decimal b = is_between 48 57 b
-is_digit_in base.Hexadecimal b = is_between 48 57 b || is_between 65 70 b || is_between 97 102 b
-
-abbrev pub begins_digit : List ℕ → Bool
-begins_digit [] = false
-begins_digit (b ∷ bs) = is_digit_in base.Decimal b
+is_digit_in base.Octal b = is_in_range 48 55 b
+is_digit_in base.Decimal b = is_ascii_digit b
+is_digit_in base.Hexadecimal b = is_ascii_hexdigit b
 
 -- one or more
 abbrev pub are_digits : Base → List ℕ → Bool
@@ -59,47 +49,47 @@ after_digits (b ∷ bs) =
     if is_digit_in base.Decimal b then more else b ∷ bs
 
 -- behind [-+]?
-abbrev pub unsigned : List ℕ → List ℕ
-unsigned [] = []
-unsigned (b ∷ bs) = if (b == 43) || (b == ascii.dash) then bs else b ∷ bs
+abbrev pub without_sign : List ℕ → List ℕ
+without_sign [] = []
+without_sign (b ∷ bs) = if (b == ascii.plus) || (b == ascii.dash) then bs else b ∷ bs
 
 -- ---- numbers
 
 -- a zero, the letter of a base and digits
 abbrev pub is_prefixed : ℕ → Base → List ℕ → Bool
-is_prefixed letter base (a ∷ b ∷ bs) = (a == 48) && (b == letter) && are_digits base bs
+is_prefixed letter base (a ∷ b ∷ bs) = (a == ascii.digit_zero) && (b == letter) && are_digits base bs
 is_prefixed letter base _ = false
 
 -- [-+]?[0-9]+, 0o[0-7]+ or 0x[0-9a-fA-F]+
 abbrev pub is_integer : List ℕ → Bool
-is_integer bs = are_digits base.Decimal (unsigned bs) || is_prefixed 111 base.Octal bs || is_prefixed 120 base.Hexadecimal bs
+is_integer bs = are_digits base.Decimal (without_sign bs) || is_prefixed 111 base.Octal bs || is_prefixed 120 base.Hexadecimal bs
 
 -- ([eE][-+]?[0-9]+)?
 abbrev pub is_exponent : List ℕ → Bool
 is_exponent [] = true
-is_exponent (b ∷ bs) = ((b == 101) || (b == 69)) && are_digits base.Decimal (unsigned bs)
+is_exponent (b ∷ bs) = ((b == 101) || (b == ascii.capital_e)) && are_digits base.Decimal (without_sign bs)
 
 -- (\.[0-9]*)? and the exponent
 abbrev pub is_fraction : List ℕ → Bool
 is_fraction [] = true
-is_fraction (b ∷ bs) = if b == 46 then is_exponent (after_digits bs) else is_exponent (b ∷ bs)
+is_fraction (b ∷ bs) = if b == ascii.dot then is_exponent (after_digits bs) else is_exponent (b ∷ bs)
 
 -- \.[0-9]+ and the exponent
 abbrev pub is_pure_fraction : List ℕ → Bool
 is_pure_fraction [] = false
-is_pure_fraction (b ∷ bs) = (b == 46) && begins_digit bs && is_exponent (after_digits bs)
+is_pure_fraction (b ∷ bs) = (b == ascii.dot) && first_is is_ascii_digit bs && is_exponent (after_digits bs)
 
 -- (\.[0-9]+|[0-9]+(\.[0-9]*)?)([eE][-+]?[0-9]+)?
 abbrev pub is_decimal : List ℕ → Bool
-is_decimal bs = is_pure_fraction bs || (begins_digit bs && is_fraction (after_digits bs))
+is_decimal bs = is_pure_fraction bs || (first_is is_ascii_digit bs && is_fraction (after_digits bs))
 
 abbrev pub is_float : List ℕ → Bool
-is_float bs = is_decimal (unsigned bs) || is_one_of infinities (unsigned bs) || is_one_of not_numbers bs
+is_float bs = is_decimal (without_sign bs) || is_one_of infinities (without_sign bs) || is_one_of not_numbers bs
 
 -- the class of a plain scalar
 abbrev pub class_of : List ℕ → Class
 class_of bs =
-    if is_null bs then class.Null
-    else (if is_boolean bs then class.Bool
+    if is_one_of nulls bs then class.Null
+    else (if is_one_of booleans bs then class.Bool
     else (if is_integer bs then class.Int
     else (if is_float bs then class.Float else class.Str)))

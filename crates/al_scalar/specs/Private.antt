@@ -8,3 +8,4 @@ pub mod PlainLines
 pub mod Reads
 pub mod Segments
 pub mod Single
+pub mod Values

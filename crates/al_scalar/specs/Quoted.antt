@@ -1,10 +1,12 @@
 -- Quoted scalars (7.3.1 double-quoted, 7.3.2 single-quoted, 5.7 escaped characters, 6.5 line folding).
 use Rattle.std.specs.Prelude.{ℕ, zero, suc, ◌+◌, ◌*◌, ◌-◌, List, [], ◌∷◌, ◌++◌, map, Bool, true, false, not, ◌&&◌, ◌||◌}
 use Rattle.std.specs.Prelude.{◌==◌, nat_le, nat_lt, if◌then◌else◌, Option, Some, None, Result, Ok, encode_utf8}
+use Rattle.std.specs.Char.{digit_value}
+use Rattle.std.specs.Map.{lookup}
 use Rattle.al_base.specs.Ascii as ascii
 use Rattle.al_base.specs.declared.codes.YamlCode.TheVariants as yaml
 use Rattle.al_scalar.specs.Line.{Cell, Line, cut, is_blank, after_blanks, is_empty}
-use Rattle.al_scalar.specs.Taken.{Fault, Taken, ◌>>=◌, before, fault, folded}
+use Rattle.al_scalar.specs.Taken.{Fault, Taken, ◌>>=◌, before, fault, folding_space}
 
 -- How a quoted scalar leaves a line: it is closed, with the cells behind the quote; it goes on after the break;
 -- it goes on after an escaped break; or the line ends within the escape at a place.
@@ -52,24 +54,15 @@ escape_table = (48, 0) ∷ (97, 7) ∷ (98, 8) ∷ (116, 9) ∷ (9, 9) ∷ (110,
 abbrev pub digits_table : List (ℕ × ℕ)
 digits_table = (120, 2) ∷ (117, 4) ∷ (85, 8) ∷ []
 
-abbrev pub lookup : ℕ → List (ℕ × ℕ) → Option ℕ
-lookup b [] = None
-lookup b (e ∷ es) =
-    let more = lookup b es in
-    if e.0 == b then Some e.1 else more
-
 abbrev pub hex_digit : ℕ → Option ℕ
-hex_digit b =
-    if nat_le 48 b && nat_le b 57 then Some (b - 48)
-    else (if nat_le 65 b && nat_le b 70 then Some (b - 55)
-    else (if nat_le 97 b && nat_le b 102 then Some (b - 87) else None))
+hex_digit b = if nat_lt (digit_value b) 16 then Some (digit_value b) else None
 
 abbrev pub is_scalar_value : ℕ → Bool
 is_scalar_value c = nat_lt c 0xd800 || (nat_le 0xe000 c && nat_lt c 0x110000)
 
 -- the bytes of a character, all from one offset
-abbrev pub written : ℕ → ℕ → List Cell
-written at code = map (λ b. (b, at)) (encode_utf8 code)
+abbrev pub character_cells : ℕ → ℕ → List Cell
+character_cells at code = map (λ b. (b, at)) (encode_utf8 code)
 
 abbrev pub part_before : List Cell → Result QuotedLine Fault → Result QuotedLine Fault
 part_before cs part = part >>= (λ p. Ok (with_cells cs p))
@@ -79,7 +72,7 @@ own_before c part = part >>= (λ p. Ok (with_own c p))
 
 -- the character that an escape gives by its number, and what stands behind it
 abbrev pub escape_character : ℕ → ℕ → Result QuotedLine Fault → Result QuotedLine Fault
-escape_character at code behind = if is_scalar_value code then part_before (written at code) behind else fault yaml.WrongEscape at
+escape_character at code behind = if is_scalar_value code then part_before (character_cells at code) behind else fault yaml.WrongEscape at
 
 abbrev mutual
   -- Double quotes.
@@ -94,22 +87,24 @@ abbrev mutual
   pub escape : ℕ → List Cell → Result QuotedLine Fault
   escape at [] = Ok (record { text = []; stop = escaped })
   escape at (c ∷ cs) =
-      elim (lookup c.0 escape_table) [
-        | Some code ↦ part_before (written at code) (double_part cs)
-        | None ↦ elim (lookup c.0 digits_table) [ None ↦ fault yaml.WrongEscape at | Some width ↦ escape_digits at (width - 1) 0 cs ]
+      elim (lookup (λ letter. letter == c.0) escape_table) [
+        | Some code ↦ part_before (character_cells at code) (double_part cs)
+        | None ↦ elim (lookup (λ letter. letter == c.0) digits_table) [
+          | None ↦ fault yaml.WrongEscape at
+          | Some width ↦ escape_digits at (width - 1) 0 cs
+        ]
       ]
 
   -- a digit of an escape behind those that make a value, and so many more
   pub escape_digits : ℕ → ℕ → ℕ → List Cell → Result QuotedLine Fault
   escape_digits at more value [] = Ok (record { text = []; stop = cut_short at })
-  escape_digits at more value (c ∷ cs) =
+  escape_digits at zero value (c ∷ cs) =
       elim (hex_digit c.0) [
         | None ↦ fault yaml.WrongEscape at
-        | Some d ↦ elim more [
-          | zero ↦ escape_character at (16 * value + d) (double_part cs)
-          | suc n ↦ escape_digits at n (16 * value + d) cs
-        ]
+        | Some d ↦ escape_character at (16 * value + d) (double_part cs)
       ]
+  escape_digits at (suc n) value (c ∷ cs) =
+      elim (hex_digit c.0) [ None ↦ fault yaml.WrongEscape at | Some d ↦ escape_digits at n (16 * value + d) cs ]
 
 -- The break after a line, which is folded unless it is escaped.
 abbrev pub break_after : QuotedEnd → Line → Option ℕ
@@ -136,15 +131,15 @@ quoted_lines part quote break (l ∷ ls) =
     let below = (λ (b : Option ℕ). quoted_lines part quote b ls) in
     part (after_blanks l.text) >>= (λ p.
     if is_empty_line p l then before ((ascii.line_feed, l.end) ∷ []) (below None)
-    else line_given quote (folded break) p l ls below)
+    else line_given quote (folding_space break) p l ls below)
 
 -- a quoted scalar, from behind its opening quote
-abbrev pub quoted : (List Cell → Result QuotedLine Fault) → ℕ → List Line → Result Taken Fault
-quoted part quote [] = fault yaml.UnclosedQuote quote
-quoted part quote (l ∷ ls) = part l.text >>= (λ p. line_given quote [] p l ls (λ b. quoted_lines part quote b ls))
+abbrev pub quoted_scalar : (List Cell → Result QuotedLine Fault) → ℕ → List Line → Result Taken Fault
+quoted_scalar part quote [] = fault yaml.UnclosedQuote quote
+quoted_scalar part quote (l ∷ ls) = part l.text >>= (λ p. line_given quote [] p l ls (λ b. quoted_lines part quote b ls))
 
 abbrev pub single_quoted : ℕ → List Line → Result Taken Fault
-single_quoted quote ls = quoted (λ text. Ok (single_part text)) quote ls
+single_quoted quote ls = quoted_scalar (λ text. Ok (single_part text)) quote ls
 
 abbrev pub double_quoted : ℕ → List Line → Result Taken Fault
-double_quoted quote ls = quoted (double_part) quote ls
+double_quoted quote ls = quoted_scalar (double_part) quote ls

@@ -1,9 +1,9 @@
 -- One scalar: its style, its class and its decoded bytes with their offsets (7.3, 8.1, 7.2 for the empty node).
-use Rattle.std.specs.Prelude.{ℕ, zero, suc, List, [], ◌∷◌, map, drop, true, false, if◌then◌else◌, Result, Ok, Err}
+use Rattle.std.specs.Prelude.{ℕ, zero, suc, List, [], ◌∷◌, map, drop, true, false, if◌then◌else◌, Result, Ok}
 use Rattle.al_base.specs.Ascii as ascii
 use Rattle.al_base.specs.declared.codes.YamlCode.TheVariants as yaml
 use Rattle.al_scalar.specs.Line.{Cell, Line, start, begins, cut}
-use Rattle.al_scalar.specs.Taken.{Fault, Taken, fault}
+use Rattle.al_scalar.specs.Taken.{Fault, Taken, ◌>>=◌, fault}
 use Rattle.al_scalar.specs.Plain.{Context, flow, block, is_flow, plain}
 use Rattle.al_scalar.specs.Quoted.{single_quoted, double_quoted}
 use Rattle.al_scalar.specs.Block.{block_scalar}
@@ -36,12 +36,11 @@ class_in style.Plain cs = class_of (map (λ (c : Cell). c.0) cs)
 class_in _ cs = class.Str
 
 abbrev pub read_as : Style → ℕ → Result Taken Fault → Result ScalarRead Fault
-read_as style at (Err e) = Err e
-read_as style at (Ok t) = Ok (record {
+read_as style at taken = taken >>= (λ t. Ok (record {
   scalar = record { style = style; class = class_in style t.text; cells = t.text; end = t.end };
   span = span at t.end;
   left = t.left;
-})
+}))
 
 -- The first character says the style (7.3.1, 7.3.2, 8.1); block scalars stand in no flow collection.
 abbrev pub style_at : Context → List Cell → Style

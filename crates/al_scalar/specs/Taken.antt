@@ -1,5 +1,6 @@
 -- What reading a scalar takes from the lines that are left.
-use Rattle.std.specs.Prelude.{ℕ, List, [], ◌∷◌, ◌++◌, Option, Some, None, Result, Ok, Err}
+use Rattle.std.specs.Prelude.{ℕ, List, [], ◌∷◌, ◌++◌, map, Option, Some, Result, Ok, Err}
+use Rattle.std.specs.Option.{option_map, option_to_list}
 use Rattle.al_base.specs.Ascii as ascii
 use Rattle.al_scalar.specs.Line.{Cell, Line}
 use Rattle.al_base.specs.declared.codes.YamlCode.{YamlCode}
@@ -32,15 +33,13 @@ abbrev pub fault : {A : Type 0} → YamlCode → ℕ → Result A Fault
 fault code at = Err (record { code = code; at = at })
 
 -- A break is folded to a space, unless empty lines follow it, which give an LF each (6.5).
-abbrev pub folded : Option ℕ → List Cell
-folded None = []
-folded (Some at) = (ascii.space, at) ∷ []
+abbrev pub folding_space : Option ℕ → List Cell
+folding_space at = option_to_list (option_map (λ offset. (ascii.space, offset)) at)
 
 abbrev pub feeds : List ℕ → List Cell
-feeds [] = []
-feeds (at ∷ ats) = (ascii.line_feed, at) ∷ feeds ats
+feeds ats = map (λ at. (ascii.line_feed, at)) ats
 
 -- a break with the breaks of the empty lines behind it, folded
 abbrev pub folded_break : ℕ → List ℕ → List Cell
-folded_break at [] = folded (Some at)
+folded_break at [] = folding_space (Some at)
 folded_break at (e ∷ es) = feeds (e ∷ es)

@@ -2,16 +2,16 @@
 
 ghost use Rattle.std.specs.Prelude.{◌≡◌, ◌+◌, ◌<◌, ◌≤◌, ◌^◌, ◌++◌, ◌∷◌, [], ◌||◌, true, not, cond, Some, None, length, IfOk};
 ghost use Rattle.al_scalar.specs.Block.{block_scalar, found_indent, content_indent, row_of};
-ghost use Rattle.al_scalar.specs.Block.{own_break, chomped, joint, text_after, rows_end};
+ghost use Rattle.al_scalar.specs.Block.{own_break, final_breaks, joint, text_after, rows_end};
 ghost use Rattle.al_scalar.specs.Private.BlockRead.{RowStarts, ReadsRows, last_row, row_like, RowTo, indent_from};
-ghost use Rattle.al_scalar.specs.Private.BlockRead.{kind, AddsRow, EndsRow, last_line, is_said};
+ghost use Rattle.al_scalar.specs.Private.BlockRead.{AddsRow, EndsRow, last_line, is_said};
 ghost use Rattle.al_scalar.specs.Places.{lines_at, text_at};
 ghost use Rattle.al_scalar.specs.LineEnds.{cells_between, IsLineEnd, BlankTo};
 ghost use Rattle.al_scalar.specs.Private.Reads.{Gives, StaysWithin};
 ghost use Rattle.al_scalar.specs.Taken.{feeds, folded_break};
 
 use crate::faults::FaultAt;
-use crate::header::{Chomping, HeaderRead, header_fault, indicators};
+use crate::header::{Chomping, Header, header_fault, indicators};
 use crate::lines::{after_break, blank_line_end, indent, is_blank, line_end, spaces_end};
 use crate::reads::Taken;
 use crate::texts::Text;
@@ -164,7 +164,7 @@ fn chomp(
 ) -> Result<(), AllocError>
     ensures { IfOk result
         (λ _. text.new
-        ≡ text.old ++ chomped (kind chomping) (own_break (last_row last)) empties.now) }
+        ≡ text.old ++ final_breaks chomping (own_break (last_row last)) empties.now) }
 {
     match chomping {
         Chomping::Strip => Ok(()),
@@ -269,7 +269,7 @@ fn end_row(
     ensures text { IfOk result
         (λ _. text.new
         ≡ text.old
-        ++ text_after style.literal (kind style.chomping)
+        ++ text_after style.literal style.chomping
         (last_row state.now.last) state.now.empties.items
         (last_line bytes.now from)) }
     ensures end { IfOk result (λ end. end ≡ rows_end state.now.end (last_line bytes.now from)) }
@@ -338,13 +338,7 @@ fn read_rows(
 }
 
 /// How the lines behind a header are read, of which the first begins at an offset.
-fn block_style(
-    bytes: &[u8],
-    first: usize,
-    header: HeaderRead,
-    literal: bool,
-    within: u32,
-) -> BlockStyle
+fn block_style(bytes: &[u8], first: usize, header: Header, literal: bool, within: u32) -> BlockStyle
     requires { first ≤ length bytes.now }
     ensures literal { result.literal ≡ literal }
     ensures chomping { result.chomping ≡ header.chomping }

@@ -1,11 +1,14 @@
 //! What a plain scalar is taken for: null, a boolean, an integer, a float or a string (YAML 1.2.2, 10.3.2).
 
-ghost use Rattle.std.specs.Prelude.{◌≡◌};
+ghost use Rattle.std.specs.Prelude.{◌≡◌, IsTrue};
+ghost use Rattle.std.specs.Char.{is_ascii_digit};
 ghost use Rattle.std.specs.List.{list_any};
 ghost use Rattle.std.specs.Str.{bytes_eq};
-ghost use Rattle.al_scalar.specs.Class.{is_null, is_boolean, is_integer, is_float, is_decimal, is_fraction, is_pure_fraction};
-ghost use Rattle.al_scalar.specs.Class.{is_exponent, after_digits, begins_digit, is_prefixed, unsigned, are_digits, is_digit_in};
+ghost use Rattle.al_scalar.specs.Class.{is_one_of, nulls, booleans, is_integer, is_float, is_decimal, is_fraction, is_pure_fraction};
+ghost use Rattle.al_scalar.specs.Class.{is_exponent, after_digits, is_prefixed, without_sign, are_digits, is_digit_in};
 ghost use Rattle.al_scalar.specs.Class.{class_of};
+ghost use Rattle.al_scalar.specs.Private.Values.{begins_value};
+ghost use Rattle.al_base.specs.FirstBytes.{first_is};
 
 use crate::styles::Class;
 
@@ -30,14 +33,14 @@ fn is_one_of(words: &[&str], text: &[u8]) -> bool
 
 /// Whether a text is a null.
 fn is_null(text: &[u8]) -> bool
-    ensures { result ≡ is_null text.now }
+    ensures { result ≡ is_one_of nulls text.now }
 {
     is_one_of(&NULLS, text)
 }
 
 /// Whether a text is true or false.
 fn is_boolean(text: &[u8]) -> bool
-    ensures { result ≡ is_boolean text.now }
+    ensures { result ≡ is_one_of booleans text.now }
 {
     is_one_of(&BOOLEANS, text)
 }
@@ -69,8 +72,8 @@ fn are_digits(base: Base, text: &[u8]) -> bool
 }
 
 /// A text without its sign.
-fn unsigned(text: &[u8]) -> &[u8]
-    ensures { result.now ≡ unsigned text.now }
+fn without_sign(text: &[u8]) -> &[u8]
+    ensures { result.now ≡ without_sign text.now }
 {
     match text {
         [b'+' | b'-', rest @ ..] => rest,
@@ -92,7 +95,7 @@ fn is_prefixed(letter: u8, base: Base, text: &[u8]) -> bool
 fn is_integer(text: &[u8]) -> bool
     ensures { result ≡ is_integer text.now }
 {
-    are_digits(Base::Decimal, unsigned(text))
+    are_digits(Base::Decimal, without_sign(text))
         || is_prefixed(b'o', Base::Octal, text)
         || is_prefixed(b'x', Base::Hexadecimal, text)
 }
@@ -113,7 +116,7 @@ fn after_digits(text: &[u8]) -> &[u8]
 
 /// Whether a text begins with a decimal digit.
 fn begins_digit(text: &[u8]) -> bool
-    ensures { result ≡ begins_digit text.now }
+    ensures { result ≡ first_is is_ascii_digit text.now }
 {
     match text {
         [first, ..] => is_digit(Base::Decimal, *first),
@@ -127,7 +130,7 @@ fn is_exponent(text: &[u8]) -> bool
 {
     match text {
         [] => true,
-        [b'e' | b'E', power @ ..] => are_digits(Base::Decimal, unsigned(power)),
+        [b'e' | b'E', power @ ..] => are_digits(Base::Decimal, without_sign(power)),
         _ => false,
     }
 }
@@ -163,15 +166,45 @@ fn is_decimal(text: &[u8]) -> bool
 fn is_float(text: &[u8]) -> bool
     ensures { result ≡ is_float text.now }
 {
-    let number = unsigned(text);
+    let number = without_sign(text);
     is_decimal(number) || is_one_of(&INFINITIES, number) || is_one_of(&NOT_NUMBERS, text)
+}
+
+/// Whether a word or a number may begin with a byte.
+fn may_begin_value(byte: u8) -> bool
+    ensures { result ≡ begins_value byte }
+{
+    byte.is_ascii_digit()
+        || byte == b'+'
+        || byte == b'-'
+        || byte == b'.'
+        || byte == b'~'
+        || byte == b'n'
+        || byte == b'N'
+        || byte == b't'
+        || byte == b'T'
+        || byte == b'f'
+        || byte == b'F'
+}
+
+/// Whether the first byte of a text tells that it is a string, as that of most texts does.
+#[tactic(auto, using(crate::proofs::ClassLemmas::is_string))]
+fn begins_string(text: &[u8]) -> bool
+    ensures { IsTrue result → class_of text.now ≡ Class.Str }
+{
+    match text {
+        [first, ..] => !may_begin_value(*first),
+        [] => false,
+    }
 }
 
 /// The class of a plain scalar by its text: the core schema (YAML 1.2.2, 10.3.2).
 pub fn class_of(text: &[u8]) -> Class
     ensures { result ≡ class_of text.now }
 {
-    if is_null(text) {
+    if begins_string(text) {
+        Class::Str
+    } else if is_null(text) {
         Class::Null
     } else if is_boolean(text) {
         Class::Bool

@@ -1,9 +1,10 @@
 //! Double-quoted scalars and their escapes (YAML 1.2.2, 5.7 and 7.3.1).
 
-ghost use Rattle.std.specs.Prelude.{◌≡◌, ◌+◌, ◌<◌, ◌≤◌, ◌^◌, ◌++◌, suc, length, IfOk, IfSome, slice_index, IsTrue, ◌↔◌, Some, None};
+ghost use Rattle.std.specs.Prelude.{◌≡◌, ◌==◌, ◌+◌, ◌<◌, ◌≤◌, ◌^◌, ◌++◌, suc, length, IfOk, IfSome, slice_index, IsTrue, ◌↔◌, Some, None};
 ghost use Rattle.al_scalar.specs.Places.{lines_at};
 ghost use Rattle.al_scalar.specs.LineEnds.{cells_between};
-ghost use Rattle.al_scalar.specs.Quoted.{double_quoted, written, lookup, escape_table, digits_table, hex_digit};
+ghost use Rattle.al_scalar.specs.Quoted.{double_quoted, character_cells, escape_table, digits_table, hex_digit};
+ghost use Rattle.std.specs.Map.{lookup};
 ghost use Rattle.al_scalar.specs.Private.Reads.{Gives, StaysWithin};
 ghost use Rattle.al_scalar.specs.Private.Double.{IsMarkByte, ReadsOn, EndsRun, GivesMark, GivesDigits};
 
@@ -71,7 +72,7 @@ enum Mark {
 
 /// The character that a letter behind a backslash stands for (YAML 1.2.2, 5.7).
 fn escaped_character(letter: u8) -> Option<char>
-    ensures { result ≡ lookup letter escape_table }
+    ensures { result ≡ lookup (λ k. k == letter) escape_table }
 {
     match letter {
         b'0' => Some('\0'),
@@ -97,7 +98,7 @@ fn escaped_character(letter: u8) -> Option<char>
 
 /// How many hexadecimal digits follow a letter behind a backslash (YAML 1.2.2, 5.7).
 fn digit_count(letter: u8) -> Option<usize>
-    ensures value { result ≡ lookup letter digits_table }
+    ensures value { result ≡ lookup (λ k. k == letter) digits_table }
     ensures few { IfSome result (λ count. count ≤ 8) }
 {
     match letter {
@@ -156,8 +157,8 @@ fn numeric_escape(bytes: &[u8], backslash: usize, count: usize) -> Mark
     requires inside { backslash + 1 < length bytes.now }
     requires size { length bytes.now < 2 ^ 32 }
     requires escape { slice_index bytes.now backslash ≡ 92 }
-    requires other { lookup (slice_index bytes.now (backslash + 1)) escape_table ≡ None }
-    requires letter { lookup (slice_index bytes.now (backslash + 1)) digits_table ≡ Some count }
+    requires other { lookup (λ k. k == slice_index bytes.now (backslash + 1)) escape_table ≡ None }
+    requires letter { lookup (λ k. k == slice_index bytes.now (backslash + 1)) digits_table ≡ Some count }
     requires few { count ≤ 8 }
     ensures { GivesMark bytes.now backslash result }
 {
@@ -233,7 +234,7 @@ fn mark_at(bytes: &[u8], at: usize) -> Mark
 /// Adds an escaped character, by the offset of its backslash.
 fn push_character(text: &mut Text, character: char, at: usize) -> Result<(), AllocError>
     requires { at < 2 ^ 32 }
-    ensures { IfOk result (λ _. text.new ≡ text.old ++ written at character) }
+    ensures { IfOk result (λ _. text.new ≡ text.old ++ character_cells at character) }
 {
     let mut buffer = [0; 4];
     text.push_escape(character.encode_utf8(&mut buffer).as_bytes(), at)

@@ -3,7 +3,7 @@
 ghost use Rattle.std.specs.Prelude.{◌≡◌, ◌≤◌, IfSome, length};
 ghost use Rattle.al_scalar.specs.Block.{after_digit, after_sign, header, is_digit as block_digit};
 ghost use Rattle.al_scalar.specs.Block.{is_sign as block_sign, chomping_of as chomping_by};
-ghost use Rattle.al_scalar.specs.Private.BlockRead.{Indicates, EndsHeader, kind};
+ghost use Rattle.al_scalar.specs.Private.BlockRead.{Indicates, EndsHeader};
 ghost use Rattle.al_scalar.specs.Places.{text_at};
 
 use crate::lines::{blanks_end, first_byte, is_line_end};
@@ -18,7 +18,7 @@ pub enum Chomping {
 
 /// The indicators of a block scalar's header, and the offset behind them.
 #[derive(Clone, Copy)]
-pub struct HeaderRead {
+pub struct Header {
     pub digit: Option<u8>,
     pub chomping: Chomping,
     pub end: usize,
@@ -56,7 +56,7 @@ fn is_sign(byte: u8) -> bool
 }
 
 fn chomping_of(byte: u8) -> Chomping
-    ensures { kind result ≡ chomping_by byte }
+    ensures { result ≡ chomping_by byte }
 {
     if byte == b'+' {
         Chomping::Keep
@@ -66,27 +66,27 @@ fn chomping_of(byte: u8) -> Chomping
 }
 
 /// The header behind its digit.
-fn behind_digit(bytes: &[u8], at: usize, digit: u8) -> HeaderRead
+fn behind_digit(bytes: &[u8], at: usize, digit: u8) -> Header
     requires { at ≤ length bytes.now }
     ensures { Indicates bytes.now at (after_digit digit at (text_at bytes.now at)) result }
 {
     match first_byte(bytes, at) {
         Some(b) => {
             if is_sign(b) {
-                HeaderRead {
+                Header {
                     digit: Some(digit),
                     chomping: chomping_of(b),
                     end: at + 1,
                 }
             } else {
-                HeaderRead {
+                Header {
                     digit: Some(digit),
                     chomping: Chomping::Clip,
                     end: at,
                 }
             }
         }
-        None => HeaderRead {
+        None => Header {
             digit: Some(digit),
             chomping: Chomping::Clip,
             end: at,
@@ -95,27 +95,27 @@ fn behind_digit(bytes: &[u8], at: usize, digit: u8) -> HeaderRead
 }
 
 /// The header behind its sign.
-fn behind_sign(bytes: &[u8], at: usize, chomping: Chomping) -> HeaderRead
+fn behind_sign(bytes: &[u8], at: usize, chomping: Chomping) -> Header
     requires { at ≤ length bytes.now }
-    ensures { Indicates bytes.now at (after_sign (kind chomping) at (text_at bytes.now at)) result }
+    ensures { Indicates bytes.now at (after_sign chomping at (text_at bytes.now at)) result }
 {
     match first_byte(bytes, at) {
         Some(b) => {
             if is_digit(b) {
-                HeaderRead {
+                Header {
                     digit: Some(b - b'0'),
                     chomping,
                     end: at + 1,
                 }
             } else {
-                HeaderRead {
+                Header {
                     digit: None,
                     chomping,
                     end: at,
                 }
             }
         }
-        None => HeaderRead {
+        None => Header {
             digit: None,
             chomping,
             end: at,
@@ -124,7 +124,7 @@ fn behind_sign(bytes: &[u8], at: usize, chomping: Chomping) -> HeaderRead
 }
 
 /// The header behind the indicator that begins the scalar.
-pub fn indicators(bytes: &[u8], at: usize) -> HeaderRead
+pub fn indicators(bytes: &[u8], at: usize) -> Header
     requires { at ≤ length bytes.now }
     ensures { Indicates bytes.now at (header at (text_at bytes.now at)) result }
 {
@@ -135,14 +135,14 @@ pub fn indicators(bytes: &[u8], at: usize) -> HeaderRead
             } else if is_sign(b) {
                 behind_sign(bytes, at + 1, chomping_of(b))
             } else {
-                HeaderRead {
+                Header {
                     digit: None,
                     chomping: Chomping::Clip,
                     end: at,
                 }
             }
         }
-        None => HeaderRead {
+        None => Header {
             digit: None,
             chomping: Chomping::Clip,
             end: at,

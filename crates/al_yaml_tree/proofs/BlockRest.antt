@@ -2,7 +2,10 @@
 use Rattle.std.proofs.Common.{◌≡◌, ℕ, ◌+◌, ◌-◌, ◌≤◌, List, [], ◌∷◌, drop, arith, Bool, true, false, not}
 use Rattle.std.proofs.Common.{if◌then◌else◌, ◌&&◌, ◌||◌, nat_le, Option, Some, None, Result, Ok, Err}
 use Rattle.std.specs.Option.{is_some}
-use Rattle.al_scalar.specs.Block.{Chomping, clip, Header, header_end, after_digit, after_sign, header, is_digit, is_sign, chomping_of}
+use Rattle.al_scalar.specs.declared.header.Chomping.{Chomping}
+use Rattle.al_scalar.specs.declared.header.Chomping.TheVariants.{Clip}
+use Rattle.al_scalar.specs.declared.header.Header.{Header}
+use Rattle.al_scalar.specs.Block.{header_end, after_digit, after_sign, header, is_digit, is_sign, chomping_of}
 use Rattle.al_scalar.specs.Block.{content_indent, Rows, row_of, at_end, with_row, rows_at, text_after, last_end, rows_end, block_scalar}
 use Rattle.al_scalar.specs.Line.{Cell, Line, place, start, is_empty, begins, after_blanks, begins_blank, is_comment, indent, is_all_blank}
 use Rattle.al_scalar.specs.Offsets.{AreClimbing}
@@ -23,14 +26,14 @@ header_end-in low at end h cs a b k =
     (λ _. place-first at end (after_blanks cs) (climbing-blanks at end cs k))
 
 after_digit-in : (d low at end : ℕ) (cs : List Cell) → low ≤ at → AreClimbing at end cs → HeaderIn low end (after_digit d at cs)
-after_digit-in d low at end [] a h = header_end-in low at end (record { digit = Some d; chomping = clip; end = at }) [] a h h
+after_digit-in d low at end [] a h = header_end-in low at end (record { digit = Some d; chomping = Clip; end = at }) [] a h h
 after_digit-in d low at end (c ∷ cs) a h =
     let b = climbing-order (c.1 + 1) end cs h.1 in
     let f = h.0 in
     choose (HeaderIn low end) (is_sign c.0)
     (λ _. header_end-in low (c.1 + 1) end (record { digit = Some d; chomping = chomping_of c.0; end = at + 1 }) cs (omega (arith, a))
     (omega (arith, b, f)) h.1)
-    (λ _. header_end-in low at end (record { digit = Some d; chomping = clip; end = at }) (c ∷ cs) a (omega (arith, b, f)) h)
+    (λ _. header_end-in low at end (record { digit = Some d; chomping = Clip; end = at }) (c ∷ cs) a (omega (arith, b, f)) h)
 
 after_sign-in : (k : Chomping) (low at end : ℕ) (cs : List Cell) → low ≤ at → AreClimbing at end cs → HeaderIn low end (after_sign k at cs)
 after_sign-in k low at end [] a h = header_end-in low at end (record { digit = None; chomping = k; end = at }) [] a h h
@@ -43,14 +46,14 @@ after_sign-in k low at end (c ∷ cs) a h =
     (λ _. header_end-in low at end (record { digit = None; chomping = k; end = at }) (c ∷ cs) a (omega (arith, b, f)) h)
 
 header-in : (at end : ℕ) (cs : List Cell) → AreClimbing at end cs → HeaderIn at end (header at cs)
-header-in at end [] h = header_end-in at at end (record { digit = None; chomping = clip; end = at }) [] (omega arith) h h
+header-in at end [] h = header_end-in at at end (record { digit = None; chomping = Clip; end = at }) [] (omega arith) h h
 header-in at end (c ∷ cs) h =
     let b = climbing-order (c.1 + 1) end cs h.1 in
     let f = h.0 in
     let more = climbing-lower (c.1 + 1) (at + 1) end cs (omega (arith, f)) h.1 in
     choose (HeaderIn at end) (is_digit c.0) (λ _. after_digit-in (c.0 - 48) at (at + 1) end cs (omega arith) more)
     (λ _. choose (HeaderIn at end) (is_sign c.0) (λ _. after_sign-in (chomping_of c.0) at (at + 1) end cs (omega arith) more)
-    (λ _. header_end-in at at end (record { digit = None; chomping = clip; end = at }) (c ∷ cs) (omega arith) (omega (arith, b, f)) h))
+    (λ _. header_end-in at at end (record { digit = None; chomping = Clip; end = at }) (c ∷ cs) (omega arith) (omega (arith, b, f)) h))
 
 header-lower : (low low' end : ℕ) (r : Result Header Fault) → low' ≤ low → HeaderIn low end r → HeaderIn low' end r
 header-lower low low' end (Ok h) a k = let b = k.0 in (omega (arith, a, b), k.1)

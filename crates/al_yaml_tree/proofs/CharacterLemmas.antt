@@ -1,20 +1,13 @@
 -- A character at an offset of a file lies in it.
-use Rattle.std.proofs.Common.{ℕ, suc, ◌+◌, ◌≤◌, List, [], ◌∷◌, length, drop, arith, length-drop, Bool, true, false, cond}
+use Rattle.std.proofs.Common.{ℕ, ◌≤◌, List, [], ◌∷◌, length, drop, arith, length-drop, not}
+use Rattle.std.proofs.lemmas.List.Sums.{prefix_len-le-length}
 use Rattle.al_base.specs.Positions.{begins_char}
 use Rattle.al_base.specs.Spans.{LiesIn}
-use Rattle.al_scalar.specs.Characters.{more_of_character, character_length, character_at}
-
-more-short : (b : Bool) (more : ℕ) (n : ℕ) → more ≤ n → cond b 0 (more + 1) ≤ suc n
-more-short true more n h = omega arith
-more-short false more n h = omega arith
-
-more-inside : (bytes : List ℕ) → more_of_character bytes ≤ length bytes
-more-inside [] = omega arith
-more-inside (b ∷ bs) = more-short (begins_char b) (more_of_character bs) (length bs) (more-inside bs)
+use Rattle.al_scalar.specs.Characters.{character_length, character_at}
 
 length-inside : (bytes : List ℕ) → character_length bytes ≤ length bytes
 length-inside [] = omega arith
-length-inside (b ∷ bs) = omega (arith, more-inside bs)
+length-inside (b ∷ bs) = omega (arith, prefix_len-le-length (λ byte. not (begins_char byte)) bs)
 
 pub character-inside : (bytes : List ℕ) (at : ℕ) → at ≤ length bytes → LiesIn (length bytes) (character_at bytes at)
 character-inside bytes at h = record {

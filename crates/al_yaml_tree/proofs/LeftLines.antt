@@ -5,7 +5,7 @@ use Rattle.std.proofs.lemmas.Str.{IsUtf8-nil}
 use Rattle.std.specs.Prelude.{IsUtf8}
 use Rattle.al_base.specs.Ascii as ascii
 use Rattle.al_scalar.specs.Block.{at_end}
-use Rattle.al_scalar.specs.Line.{Line, start, begins, is_marker, dot, is_document_marker, blanks_dropped, spaces_dropped}
+use Rattle.al_scalar.specs.Line.{Line, start, begins, is_marker, is_document_marker, blanks_dropped, spaces_dropped}
 use Rattle.al_scalar.specs.Places.{first_text}
 use Rattle.al_scalar.specs.Plain.{Context}
 use Rattle.al_scalar.specs.Scalar.{ScalarRead, text_of, scalar_at}
@@ -170,7 +170,7 @@ module _ (size : ℕ) where
   last_line-in low ls h =
       let left = start-in size low (spaces_dropped ls) (stand-spaces size low ls h) in
       choose (Answers size Anything) (is_marker ascii.dash (first_text ls)) (λ _. start-in size low ls h)
-      (λ _. choose (Answers size Anything) (is_marker dot (first_text ls))
+      (λ _. choose (Answers size Anything) (is_marker ascii.dot (first_text ls))
       (λ _. ended_behind-in low (behind 3 ls) (stand-behind size 3 low ls h))
       (λ _. choose (Answers size Anything) (begins ascii.tab (first_text (spaces_dropped ls))) (λ _. left) (λ _. left)))
 

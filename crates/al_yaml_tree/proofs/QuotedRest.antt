@@ -5,10 +5,11 @@ use Rattle.al_base.specs.Ascii as ascii
 use Rattle.al_scalar.specs.Line.{Cell, Line, is_blank, after_blanks, is_empty}
 use Rattle.al_scalar.specs.Offsets.{AreClimbing}
 use Rattle.al_scalar.specs.Quoted.{QuotedLine, QuotedEnd, closed, broken, escaped, cut_short, is_broken, with_own}
-use Rattle.al_scalar.specs.Quoted.{single_part, escape_table, digits_table, lookup, is_scalar_value}
-use Rattle.al_scalar.specs.Quoted.{written, part_before, own_before, escape_character, escape_digits, hex_digit, escape, double_part, line_given}
-use Rattle.al_scalar.specs.Quoted.{is_empty_line, quoted_lines, quoted, single_quoted, double_quoted}
-use Rattle.al_scalar.specs.Taken.{Fault, Taken, ◌>>=◌, before, folded}
+use Rattle.al_scalar.specs.Quoted.{single_part, escape_table, digits_table, is_scalar_value}
+use Rattle.std.specs.Map.{lookup}
+use Rattle.al_scalar.specs.Quoted.{character_cells, part_before, own_before, escape_character, escape_digits, hex_digit, escape, double_part, line_given}
+use Rattle.al_scalar.specs.Quoted.{is_empty_line, quoted_lines, quoted_scalar, single_quoted, double_quoted}
+use Rattle.al_scalar.specs.Taken.{Fault, Taken, ◌>>=◌, before, folding_space}
 use Rattle.al_scalar.proofs.OffsetLemmas.{choose, climbing-order, climbing-behind, climbing-blanks}
 use Rattle.al_scalar.proofs.Utf8Escapes.{choose-option}
 use Rattle.al_yaml_tree.proofs.Standing.{Stand, Follow, stand-follow, follow-stand, stand-cut}
@@ -52,7 +53,7 @@ own-gives low end c (Err e) h = h
 character-stops : (low end at code : ℕ) (behind : Result QuotedLine Fault) → at ≤ end → GivesStop low end behind
     → GivesStop low end (escape_character at code behind)
 character-stops low end at code behind a h =
-    choose (GivesStop low end) (is_scalar_value code) (λ _. part-stops low end (written at code) behind h) (λ _. a)
+    choose (GivesStop low end) (is_scalar_value code) (λ _. part-stops low end (character_cells at code) behind h) (λ _. a)
 
 mutual
   double-stops : (low end : ℕ) (cs : List Cell) → AreClimbing low end cs → GivesStop low end (double_part cs)
@@ -69,9 +70,9 @@ mutual
   escape-stops low end at [] a h = tt
   escape-stops low end at (c ∷ cs) a h =
       let k = climbing-behind low end c cs h in
-      choose-option (GivesStop low end) (lookup c.0 escape_table)
-      (choose-option (GivesStop low end) (lookup c.0 digits_table) a (λ width _. digits-stop low end at (width - 1) 0 cs a k))
-      (λ code _. part-stops low end (written at code) (double_part cs) (double-stops low end cs k))
+      choose-option (GivesStop low end) (lookup (λ k. k == c.0) escape_table)
+      (choose-option (GivesStop low end) (lookup (λ k. k == c.0) digits_table) a (λ width _. digits-stop low end at (width - 1) 0 cs a k))
+      (λ code _. part-stops low end (character_cells at code) (double_part cs) (double-stops low end cs k))
 
   digits-stop : (low end at n v : ℕ) (cs : List Cell) → at ≤ end → AreClimbing low end cs → GivesStop low end (escape_digits at n v cs)
   digits-stop low end at n v [] a h = a
@@ -104,11 +105,11 @@ module _ (size quote : ℕ) (q : quote ≤ size) where
   line-left : (low : ℕ) (break : Option ℕ) (l : Line) (ls : List Line) (below : Option ℕ → Result Taken Fault) → Stand size low (l ∷ ls)
       → ((b : Option ℕ) → Leaves size low (below b)) → (r : Result QuotedLine Fault) → GivesStop low l.end r
       → Leaves size low (r >>= (λ p. if is_empty_line p l then before ((ascii.line_feed, l.end) ∷ []) (below None) else line_given quote
-      (folded break) p l ls below))
+      (folding_space break) p l ls below))
   line-left low break l ls below h more (Err e) k = let a = h.1.0 in omega (arith, k, a)
   line-left low break l ls below h more (Ok p) k =
       choose (Leaves size low) (is_empty_line p l) (λ _. left-before size low ((ascii.line_feed, l.end) ∷ []) (below None) (more None))
-      (λ _. given-left low (folded break) p l ls below h k more)
+      (λ _. given-left low (folding_space break) p l ls below h k more)
 
   lines-left : (part : List Cell → Result QuotedLine Fault) → PartReader part
       → (break : Option ℕ) (low end : ℕ) (last : Bool) (ls : List Line) → Follow size low end last ls
@@ -128,7 +129,7 @@ module _ (size quote : ℕ) (q : quote ≤ size) where
       (λ b. lines-left part r b low l.end l.last ls (stand-follow size low l ls h))
 
   quoted-left : (part : List Cell → Result QuotedLine Fault) → PartReader part → (low : ℕ) (ls : List Line) → Stand size low ls
-      → Leaves size low (quoted part quote ls)
+      → Leaves size low (quoted_scalar part quote ls)
   quoted-left part r low [] h = q
   quoted-left part r low (l ∷ ls) h = quoted-by part r low l ls h (part l.text) (r low l.end l.text h.0.0)
 

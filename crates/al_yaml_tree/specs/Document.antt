@@ -2,7 +2,7 @@
 use Rattle.std.specs.Prelude.{ℕ, suc, List, [], ◌∷◌, length, false, if◌then◌else◌, Some, None, Result, Ok, Err}
 use Rattle.al_base.specs.declared.codes.YamlCode.TheVariants as yaml
 use Rattle.al_base.specs.Ascii as ascii
-use Rattle.al_scalar.specs.Line.{Line, start, begins, is_marker, dot, blanks_dropped, spaces_dropped}
+use Rattle.al_scalar.specs.Line.{Line, start, begins, is_marker, blanks_dropped, spaces_dropped}
 use Rattle.al_scalar.specs.Places.{first_text}
 use Rattle.al_scalar.specs.Taken.{Fault, fault}
 use Rattle.al_scalar.specs.Block.{at_end}
@@ -39,7 +39,7 @@ abbrev pub last_line : List Line → Result (Unit {0}) Fault
 last_line ls =
     let left = spaces_dropped ls in
     if is_marker ascii.dash (first_text ls) then fault yaml.SecondDocument (start ls)
-    else (if is_marker dot (first_text ls) then ended_behind (behind 3 ls)
+    else (if is_marker ascii.dot (first_text ls) then ended_behind (behind 3 ls)
     else (if begins ascii.tab (first_text left) then fault yaml.TabInIndentation (start left)
     else fault yaml.WrongIndentation (start left)))
 

@@ -8,23 +8,14 @@ use Rattle.al_base.specs.declared.codes.YamlCode.TheVariants.{WrongBlockHeader}
 use Rattle.al_scalar.specs.Places.{lines_at, text_at}
 use Rattle.al_scalar.specs.LineEnds.{cells_between, OnLine}
 use Rattle.al_scalar.specs.Block as block
-use Rattle.al_scalar.specs.Block.{Header, BlockLine, last_end}
+use Rattle.al_scalar.specs.Block.{BlockLine, last_end}
 use Rattle.al_scalar.specs.declared.header.Chomping.{Chomping}
-use Rattle.al_scalar.specs.declared.header.Chomping.TheVariants.{Strip, Clip, Keep}
-use Rattle.al_scalar.specs.declared.header.HeaderRead.{HeaderRead}
+use Rattle.al_scalar.specs.declared.header.Header.{Header}
 use Rattle.al_scalar.specs.declared.block.LastLine.{LastLine}
 use Rattle.al_scalar.specs.declared.block.RowStart.{RowStart}
 use Rattle.al_scalar.specs.declared.block.BlockStyle.{BlockStyle}
 use Rattle.al_scalar.specs.declared.block.RowState.{RowState}
 use Rattle.al_scalar.specs.declared.block.RowsRead.{RowsRead}
-
-abbrev pub kind : Chomping → block.Chomping
-kind Strip = block.strip
-kind Clip = block.clip
-kind Keep = block.keep
-
-abbrev pub header_of : HeaderRead → Header
-header_of h = record { digit = h.digit; chomping = kind h.chomping; end = h.end }
 
 -- a row of which only that matters which the next row asks for
 abbrev pub row_like : Bool → List ℕ → BlockLine
@@ -35,8 +26,8 @@ last_row None = None
 last_row (Some l) = Some (row_like l.spaced (l.at ∷ []))
 
 -- the indicators of a header read, and what comes behind them left
-pub record Indicates (bytes : List ℕ) (at : ℕ) (asked : Result Header Fault) (h : HeaderRead) : Type 0 where
-  pub given : asked ≡ block.header_end (header_of h) (text_at bytes h.end)
+pub record Indicates (bytes : List ℕ) (at : ℕ) (asked : Result Header Fault) (h : Header) : Type 0 where
+  pub given : asked ≡ block.header_end h (text_at bytes h.end)
   pub on_line : OnLine bytes at h.end
 
 -- whether a header may end there: None, or the place of what stands there
@@ -63,18 +54,18 @@ abbrev pub indent_from : ℕ → List Cell → Option ℕ
 indent_from within text = if nat_le within (indent text) then Some (indent text) else None
 
 -- the scalar from a row on: found as in `rows_at`, last and empties as in `text_after`, end as in `rows_end`
-abbrev pub rest : Bool → block.Chomping → Option ℕ → Bool → Option BlockLine → List ℕ → ℕ → List Line → Taken
+abbrev pub rest : Bool → Chomping → Option ℕ → Bool → Option BlockLine → List ℕ → ℕ → List Line → Taken
 rest is_literal k m found last empties end ls =
     let rs = block.rows_at m found ls in
     record { text = block.text_after is_literal k last empties rs.rows; end = block.rows_end end rs.rows; left = rs.left }
 
 abbrev pub rest_of : BlockStyle → Bool → Option BlockLine → List ℕ → ℕ → List Line → Taken
-rest_of style found last empties end ls = rest style.literal (kind style.chomping) style.indent found last empties end ls
+rest_of style found last empties end ls = rest style.literal style.chomping style.indent found last empties end ls
 
 -- text read, with the rows from r on, as text read with the rows behind it
 abbrev pub AddsRow : Bool → List Cell → RowState → List Cell → List ℕ → List Cell → RowState → Type 0
 AddsRow is_literal old was text break new is =
-    (k : block.Chomping) (rs : List BlockLine) →
+    (k : Chomping) (rs : List BlockLine) →
     old ++ block.text_after is_literal k (last_row was.last) was.empties.items (record { text = text; break = break } ∷ rs)
     ≡ new ++ block.text_after is_literal k (last_row is.last) is.empties.items rs
 

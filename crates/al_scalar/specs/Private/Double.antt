@@ -7,7 +7,7 @@ use Rattle.al_scalar.specs.Line.{Cell}
 use Rattle.al_scalar.specs.Places.{lines_at, text_at}
 use Rattle.al_scalar.specs.LineEnds.{later, cells_between, OnLine, IsBreakByte, IsLineEnd}
 use Rattle.al_scalar.specs.Taken.{Fault, Taken, before}
-use Rattle.al_scalar.specs.Quoted.{double_part, quoted_lines, double_quoted, written, hex_digit}
+use Rattle.al_scalar.specs.Quoted.{double_part, quoted_lines, double_quoted, character_cells, hex_digit}
 use Rattle.al_scalar.specs.Private.Folding.{break_of}
 use Rattle.al_scalar.specs.declared.double.Mark.{Mark}
 use Rattle.al_scalar.specs.declared.double.Mark.TheVariants as mark
@@ -33,7 +33,7 @@ read_behind bytes end escaped quote = quoted_lines (double_part) quote (break_of
 abbrev pub GivesMark : List ℕ → ℕ → Mark → Type 0
 GivesMark bytes at mark.Quote = (at < length bytes)
     × ((quote : ℕ) → double_quoted quote (lines_at bytes at) ≡ Ok (record { text = []; end = at + 1; left = lines_at bytes (at + 1) }))
-GivesMark bytes at (mark.Character c next) = (at < next) × (next ≤ length bytes) × ReadsOn bytes at (written at c) next
+GivesMark bytes at (mark.Character c next) = (at < next) × (next ≤ length bytes) × ReadsOn bytes at (character_cells at c) next
 GivesMark bytes at (mark.Break end escaped) = (at ≤ end) × (end < length bytes) × IsLineEnd bytes end
     × ((quote : ℕ) → double_quoted quote (lines_at bytes at) ≡ read_behind bytes end escaped quote)
 GivesMark bytes at mark.WrongEscape = (quote : ℕ) → double_quoted quote (lines_at bytes at)

@@ -3,7 +3,7 @@ use Rattle.std.proofs.Common.{◌∙◌, ◌≤◌, Some, None, IfSome, Ok, leng
 use Rattle.al_scalar.specs.Taken.{Taken}
 use Rattle.al_scalar.specs.Places.{first_text, lines_at}
 use Rattle.al_scalar.specs.Block.{header_end, content_indent}
-use Rattle.al_scalar.specs.Private.BlockRead.{EndsHeader, header_of, kind, is_said}
+use Rattle.al_scalar.specs.Private.BlockRead.{EndsHeader, is_said}
 use Rattle.al_scalar.proofs.SingleLemmas.{is_inside}
 use Rattle.al_scalar.proofs.BlockSteps.{block-fault, block-last, block-more, rest-style}
 use Rattle.al_scalar.proofs.block.read_block.Goals as goal
@@ -15,8 +15,8 @@ returns-in-Some-clause-gives c =
     let here = is_inside bytes at (omega (arith, c.requires.inside)) c.requires.begins in
     let h = c.indicators-header.result in
     let ends : EndsHeader bytes h.end (Some c.in-Some.place) = subst (λ r. EndsHeader bytes h.end r) c.in-Some.is c.header_fault.ensures.ends in
-    block-fault c.args.literal c.args.within bytes at here h.end (header_end (header_of h) (first_text (lines_at bytes h.end))) c.indicators-header.ensures.given
-    (record { code = WrongBlockHeader; at = c.in-Some.place }) (ends (header_of h))
+    block-fault c.args.literal c.args.within bytes at here h.end (header_end h (first_text (lines_at bytes h.end))) c.indicators-header.ensures.given
+    (record { code = WrongBlockHeader; at = c.in-Some.place }) (ends h)
 
 pub returns-then-end-bytes-clause-gives : goal.returns-then-end-bytes-clause-gives
 returns-then-end-bytes-clause-gives c =
@@ -25,8 +25,8 @@ returns-then-end-bytes-clause-gives c =
     let here = is_inside bytes at (omega (arith, c.requires.inside)) c.requires.begins in
     let h = c.indicators-header.result in
     let ends : EndsHeader bytes h.end None = subst (λ r. EndsHeader bytes h.end r) c.in-None.is c.header_fault.ensures.ends in
-    block-last c.args.literal c.args.within bytes at here h.end (header_end (header_of h) (first_text (lines_at bytes h.end))) c.indicators-header.ensures.given
-    (header_of h) c.new-text.result c.line_end-end.result (ends (header_of h)) c.indicators-header.ensures.on_line.same c.line_end-end.ensures.on_line.same c.if-end-bytes.true c.new-text.ensures
+    block-last c.args.literal c.args.within bytes at here h.end (header_end h (first_text (lines_at bytes h.end))) c.indicators-header.ensures.given
+    h c.new-text.result c.line_end-end.result (ends h) c.indicators-header.ensures.on_line.same c.line_end-end.ensures.on_line.same c.if-end-bytes.true c.new-text.ensures
 
 pub returns-clause-gives : goal.returns-clause-gives
 returns-clause-gives c =
@@ -37,11 +37,11 @@ returns-clause-gives c =
     let first = c.after_break-first.result in
     let style = c.block_style-style.result in
     let ends : EndsHeader bytes h.end None = subst (λ r. EndsHeader bytes h.end r) c.in-None.is c.header_fault.ensures.ends in
-    block-more c.args.literal c.args.within bytes at here h.end (header_end (header_of h) (first_text (lines_at bytes h.end))) c.indicators-header.ensures.given
-    (header_of h) c.line_end-end.result first (ends (header_of h)) c.indicators-header.ensures.on_line.same c.line_end-end.ensures.on_line.same c.after_break-first.ensures.lines
-    ∙ ap (λ (t : Taken). Ok t) (rest-style c.args.literal style.literal (kind h.chomping) (kind style.chomping) (content_indent h.digit c.args.within (lines_at bytes first)) style.indent
+    block-more c.args.literal c.args.within bytes at here h.end (header_end h (first_text (lines_at bytes h.end))) c.indicators-header.ensures.given
+    h c.line_end-end.result first (ends h) c.indicators-header.ensures.on_line.same c.line_end-end.ensures.on_line.same c.after_break-first.ensures.lines
+    ∙ ap (λ (t : Taken). Ok t) (rest-style c.args.literal style.literal h.chomping style.chomping (content_indent h.digit c.args.within (lines_at bytes first)) style.indent
     (is_said h.digit) style.explicit h.end c.new-text.result (lines_at bytes first)
-    c.block_style-style.ensures.literal (ap kind c.block_style-style.ensures.chomping) c.block_style-style.ensures.indent c.block_style-style.ensures.explicit c.new-text.ensures
+    c.block_style-style.ensures.literal c.block_style-style.ensures.chomping c.block_style-style.ensures.indent c.block_style-style.ensures.explicit c.new-text.ensures
     ∙ c.in_ok-rows.ensures.rows)
 
 pub returns-in-Some-clause-within : goal.returns-in-Some-clause-within

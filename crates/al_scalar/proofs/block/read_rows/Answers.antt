@@ -1,7 +1,7 @@
 use Rattle.std.proofs.Common.{◌-◌, ◌<◌, Some, None, ap, sym, subst, arith, length}
 use Rattle.al_scalar.specs.Taken.{with_text}
 use Rattle.al_scalar.specs.Places.{lines_at}
-use Rattle.al_scalar.specs.Private.BlockRead.{RowStarts, rest_of, last_row, kind}
+use Rattle.al_scalar.specs.Private.BlockRead.{RowStarts, rest_of, last_row}
 use Rattle.al_scalar.proofs.RowLemmas.{rows-last, rows-more}
 use Rattle.al_scalar.proofs.block.read_rows.Goals as goal
 
@@ -34,10 +34,10 @@ rows-preserved c =
       from = omega (arith, c.rows.invariant.from, c.in_ok-add_row.ensures.within.0);
       behind = omega (arith, c.in_ok-add_row.ensures.within.1, c.after_break-i.ensures.after);
       inside = c.after_break-i.ensures.inside;
-      rows = rows-more c.add_row.new.text c.rows.text style.literal (kind style.chomping) style.indent c.rows.found c.is_found-found.result c.in-Some.row.is_blank
+      rows = rows-more c.add_row.new.text c.rows.text style.literal style.chomping style.indent c.rows.found c.is_found-found.result c.in-Some.row.is_blank
           (last_row was.last) (last_row is.last) was.empties.items is.empties.items was.end is.end bytes i c.in-Some.row.from c.line_end-stop.result c.after_break-i.result
           c.rows.invariant.rows start.row start.on_line.same c.line_end-stop.ensures.on_line.same c.line_end-stop.ensures.text c.after_break-i.ensures.lines start.blank c.is_found-found.ensures
-          (c.in_ok-add_row.ensures.text (kind style.chomping)) c.in_ok-add_row.ensures.end;
+          (c.in_ok-add_row.ensures.text style.chomping) c.in_ok-add_row.ensures.end;
     }
 
 pub returns-then-stop-bytes-clause-rows : goal.returns-then-stop-bytes-clause-rows
@@ -47,6 +47,6 @@ returns-then-stop-bytes-clause-rows c =
     let i = c.rows.i in
     let was = c.rows.state in
     let start : RowStarts bytes i style.indent c.rows.found (Some c.in-Some.row) = subst (λ r. RowStarts bytes i style.indent c.rows.found r) c.in-Some.is c.row_start.ensures in
-    rows-last c.end_row.new.text c.rows.text style.literal (kind style.chomping) style.indent c.rows.found (last_row was.last)
+    rows-last c.end_row.new.text c.rows.text style.literal style.chomping style.indent c.rows.found (last_row was.last)
     was.empties.items was.end c.in_ok-end.end bytes i c.in-Some.row.from c.line_end-stop.result
     c.rows.invariant.rows start.row start.on_line.same c.line_end-stop.ensures.on_line.same c.line_end-stop.ensures.text c.if-stop-bytes.true c.in_ok-end.ensures.text c.in_ok-end.ensures.end

@@ -1,5 +1,6 @@
-use Rattle.std.proofs.Common.{◌≡◌, ◌+◌, ◌≢◌, None, slice_index, ◌<◌, length, refl, arith, sym, inl, inr, rules}
-use Rattle.al_scalar.specs.Quoted.{lookup, escape_table}
+use Rattle.std.proofs.Common.{◌≡◌, ◌==◌, ◌+◌, ◌≢◌, None, slice_index, ◌<◌, length, refl, arith, sym, inl, inr, rules}
+use Rattle.al_scalar.specs.Quoted.{escape_table}
+use Rattle.std.specs.Map.{lookup}
 use Rattle.al_scalar.proofs.SingleLemmas.{never}
 use Rattle.al_scalar.proofs.MarkLemmas.{escape_cut, escaped_break, one_letter, no_letter}
 use Rattle.al_scalar.proofs.double.escape_at.Goals as goal
@@ -28,5 +29,5 @@ returns-in-None c = λ q.
     let l : at + 1 < length bytes = omega (arith, c.requires.inside) in
     let n : slice_index bytes (at + 1) ≢ 10 = λ e. never (c.if-is_break_at.ensures.1 (l, inl e)) in
     let m : slice_index bytes (at + 1) ≢ 13 = λ e. never (c.if-is_break_at.ensures.1 (l, inr e)) in
-    let other : lookup (slice_index bytes (at + 1)) escape_table ≡ None = search rules in
+    let other : lookup (λ k. k == slice_index bytes (at + 1)) escape_table ≡ None = search rules in
     no_letter bytes at c.requires.inside c.requires.escape l n m q other (sym c.in-None.ensures.value)

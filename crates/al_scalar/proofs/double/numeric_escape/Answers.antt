@@ -1,5 +1,5 @@
 use Rattle.std.proofs.Common.{◌+◌, slice_index, subst, sym, arith}
-use Rattle.al_scalar.specs.Quoted.{written}
+use Rattle.al_scalar.specs.Quoted.{character_cells}
 use Rattle.al_scalar.specs.Private.Double.{ReadsOn}
 use Rattle.al_scalar.proofs.MarkLemmas.{letter_kind, wrong_digit, number, no_character, scalar_value, no_scalar_value, short_file, short_line}
 use Rattle.al_scalar.proofs.double.numeric_escape.Goals as goal
@@ -34,7 +34,7 @@ returns-in-Some c =
     let read = c.in-Code.ensures in
     let reads = number bytes at (omega arith) c.requires.escape c.requires.inside kind.0 kind.1 c.args.count c.requires.other
     c.requires.letter read.0 c.in-Code.code read.1 (scalar_value c.in-Code.code c.in-Some.ensures.value.0) in
-    (omega arith, read.0.0.inside, subst (λ x. ReadsOn bytes at (written at x) (at + 1 + 1 + c.args.count)) (sym c.in-Some.ensures.value.1) reads)
+    (omega arith, read.0.0.inside, subst (λ x. ReadsOn bytes at (character_cells at x) (at + 1 + 1 + c.args.count)) (sym c.in-Some.ensures.value.1) reads)
 
 pub returns-in-None : goal.returns-in-None
 returns-in-None c = λ q.

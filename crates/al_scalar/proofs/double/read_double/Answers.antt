@@ -1,6 +1,6 @@
 use Rattle.std.proofs.Common.{arith}
 use Rattle.al_scalar.specs.LineEnds.{cells_between}
-use Rattle.al_scalar.specs.Quoted.{written}
+use Rattle.al_scalar.specs.Quoted.{character_cells}
 use Rattle.al_scalar.proofs.ReadDoubleLemmas.{read_more, read_break}
 use Rattle.al_scalar.proofs.double.read_double.Goals as goal
 
@@ -15,7 +15,7 @@ runs-preserved-in_ok-push_character-in-Character c =
     record {
       from = omega (arith, mark.0, c.literal_run-run.ensures.order);
       inside = mark.1;
-      read = read_more bytes run.next c.in-Character.next q c.push_run.new.self (written run.next c.in-Character.character) read mark.2 c.in_ok-push_character-in-Character.ensures;
+      read = read_more bytes run.next c.in-Character.next q c.push_run.new.self (character_cells run.next c.in-Character.character) read mark.2 c.in_ok-push_character-in-Character.ensures;
     }
 
 pub runs-preserved : goal.runs-preserved
