@@ -16,7 +16,7 @@ ghost use Rattle.al_yaml_parts.specs.Places.{Shows};
 ghost use Rattle.al_yaml_tree.specs.Reading.{start_of};
 ghost use Rattle.al_yaml_parts.specs.declared.frames.FlowFrame as frame_code;
 ghost use Rattle.al_yaml_parts.specs.Reads as reads;
-ghost use Rattle.al_yaml_parts.specs.Reads.{IsBehind, IsRead, IsStopInside, counted, part_of, state_of};
+ghost use Rattle.al_yaml_parts.specs.Reads.{IsBehind, IsRead, IsStopInside, with_nodes, part_of, state_of};
 ghost use Rattle.al_yaml_tree.specs.View.{entries_of, entry_view, nodes_of, view};
 ghost use Rattle.al_yaml_parts.specs.declared.frames.Open.TheVariants as open_code;
 ghost use Rattle.std.specs.Prelude.{IfErr, IfOk, List, None, [], false, length, map, true, ℕ, ◌+◌, ◌<◌, ◌^◌, ◌∷◌, ◌≡◌, ◌≤◌};
@@ -336,7 +336,7 @@ fn open_at(file: &File, at: usize) -> OpenFlow
     requires inside { at < size file.now }
     requires bracket { content.is_flow_start (text_at file.now.bytes.now at) ≡ true }
     ensures is { (depth : ℕ) (s t : reads.State)
-        → broken_limit s.nodes s.text (start_of at 1 depth ∷ []) ≡ None → t ≡ counted 1 s →
+        → broken_limit s.nodes s.text (start_of at 1 depth ∷ []) ≡ None → t ≡ with_nodes 1 s →
         Opens file.now.bytes.now depth at s (open_of result.has) result.next t }
     ensures opening { result.opening ≡ at }
     ensures from { at < after_at result.next }

@@ -13,7 +13,7 @@ use Rattle.al_scalar.specs.Scalar.{scalar_at}
 use Rattle.al_scalar.specs.Taken.{Fault}
 use Rattle.al_scalar.specs.declared.scalars.ScalarRead.{ScalarRead}
 use Rattle.al_yaml_tree.specs.Node as tree
-use Rattle.al_yaml_tree.specs.Reading.{Reading, Part, part, gives, given, listed, start_of, ◌>>=◌}
+use Rattle.al_yaml_tree.specs.Reading.{Reading, Part, part, gives, of_result, with_start, start_of, ◌>>=◌}
 use Rattle.al_yaml_tree.specs.Limits.{broken_limit}
 use Rattle.al_yaml_tree.specs.Content.{is_quote}
 use Rattle.al_yaml_tree.specs.Blocks.{scalar_left, scalar_node_at}
@@ -21,7 +21,7 @@ use Rattle.al_yaml_tree.specs.View.{view}
 use Rattle.al_yaml_parts.specs.declared.part.Part as code
 use Rattle.al_yaml_tree.specs.Keys.{Key, one_line, with_lines, read_with_lines, plain_on_line, key_scalar, behind_colon, key_from}
 use Rattle.al_yaml_parts.specs.Places.{IsReadInside}
-use Rattle.al_yaml_parts.specs.Reads.{State, run, counted, Stops, Refuses, Answers, part_of}
+use Rattle.al_yaml_parts.specs.Reads.{State, run, with_nodes, Stops, Refuses, Answers, part_of}
 use Rattle.al_yaml_parts.specs.declared.faults.ReadError.{ReadError}
 use Rattle.al_yaml_parts.specs.declared.faults.ReadError.TheVariants as stop
 use Rattle.al_scalar.proofs.SingleLemmas.{has_line, lines_at-some, lines-at_end, text-line_end, is_inside}
@@ -170,18 +170,18 @@ key-plain ls h = if-false (is_quote (first_text ls)) _ _ h
 
 module _ (within : ℕ) (n : State) (at : ℕ) (bytes : List ℕ) (inside : at ≤ length bytes) where
   abbrev pub left_of : value.ScalarRead → Reading (Part tree.Node)
-  left_of r = given (scalar_left (lines_at bytes at) r.left) >>= (λ left. gives (part (tree.scalar_node r) r.span.end left))
+  left_of r = of_result (scalar_left (lines_at bytes at) r.left) >>= (λ left. gives (part (tree.scalar_node r) r.span.end left))
 
   abbrev pub line_scalar : Reading (Part tree.Node)
-  line_scalar = given (scalar_at (block within) (lines_at bytes at)) >>= left_of
+  line_scalar = of_result (scalar_at (block within) (lines_at bytes at)) >>= left_of
 
-  line-first : scalar_node_at within (lines_at bytes at) ≡ listed (start_of at 1 0) line_scalar
-  line-first = ap (λ i. listed (start_of i 1 0) line_scalar) (start-at bytes at inside)
+  line-first : scalar_node_at within (lines_at bytes at) ≡ with_start (start_of at 1 0) line_scalar
+  line-first = ap (λ i. with_start (start_of i 1 0) line_scalar) (start-at bytes at inside)
 
   pub line-broken : (f : Fault) → broken_limit n.nodes n.text (start_of at 1 0 ∷ []) ≡ Some f → run n (scalar_node_at within (lines_at bytes at)) ≡ Err f
   line-broken f h = ap (run n) line-first ∙ run-broken n 1 at 0 line_scalar f h
 
-  module _ (m : State) (fits : broken_limit n.nodes n.text (start_of at 1 0 ∷ []) ≡ None) (more : m ≡ counted 1 n) where
+  module _ (m : State) (fits : broken_limit n.nodes n.text (start_of at 1 0 ∷ []) ≡ None) (more : m ≡ with_nodes 1 n) where
     line-starts : run n (scalar_node_at within (lines_at bytes at)) ≡ run m line_scalar
     line-starts = ap (run n) line-first ∙ run-start n 1 at 0 line_scalar fits ∙ ap (λ i. run i line_scalar) (sym more)
 
@@ -194,7 +194,7 @@ module _ (within : ℕ) (n : State) (at : ℕ) (bytes : List ℕ) (inside : at �
 
       pub line-wrong : (f : Fault) → scalar_left (lines_at bytes at) (lines_at bytes r.next) ≡ Err f → run n (scalar_node_at within (lines_at bytes at)) ≡ Err f
       line-wrong f h =
-          line-read ∙ run-stop m (given (scalar_left (lines_at bytes at) (lines_at bytes r.next))) (λ left. gives (part (tree.scalar_node (read_of bytes r)) r.span.end left)) f
+          line-read ∙ run-stop m (of_result (scalar_left (lines_at bytes at) (lines_at bytes r.next))) (λ left. gives (part (tree.scalar_node (read_of bytes r)) r.span.end left)) f
           (run-refused m (scalar_left (lines_at bytes at) (lines_at bytes r.next)) f h)
 
       pub line-ok : (next : ℕ) (p : code.Part) → scalar_left (lines_at bytes at) (lines_at bytes r.next) ≡ Ok (lines_at bytes next)

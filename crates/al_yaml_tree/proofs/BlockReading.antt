@@ -20,7 +20,7 @@ use Rattle.al_yaml_tree.specs.Content.{anchor_name, behind_name, has_no_name}
 use Rattle.al_yaml_tree.specs.Flow.{CollectionReader, flow_collection}
 use Rattle.al_yaml_tree.specs.Keys.{Key, key_at, has_colon, is_block_start, is_on_key}
 use Rattle.al_yaml_tree.specs.Node.{Node, Nodes, Entries, sequence, mapping, no_nodes, with_item, no_entries, with_entry, scalar_node}
-use Rattle.al_yaml_tree.specs.Reading.{Reading, gives, anchored, Part, part}
+use Rattle.al_yaml_tree.specs.Reading.{Reading, gives, gives_with_anchor, Part, part}
 use Rattle.al_yaml_tree.proofs.FlowReading.{CollectionIn, flow_collection-in}
 use Rattle.al_yaml_tree.proofs.KeyReading.{KeyIn, OptionKeyIn, key_at-in, no_entry-in, entry_key-in}
 use Rattle.al_yaml_tree.proofs.LeftLines.{File, AreLeft, IsRead, NextLeft, OptionLeft, left-lower, left-start, starts-behind, starts-in}
@@ -139,7 +139,7 @@ module _ {f : File} where
         (reads-given (AreLeft f (start rest)) (line_ended rest) (line_ended-in (start rest) rest (left-start v)))
         (λ left w. reads-value (part-back back (s.back_to (start rest))
         (whole-part (record { ordered = starts-behind v; lies = k low (start rest) }) w)))))
-        (λ _. reads-then {g = λ (x : Part Node). anchored (record { name = anchor_name ls; at = start ls; node = x.value }) x}
+        (λ _. reads-then {g = λ (x : Part Node). gives_with_anchor (record { name = anchor_name ls; at = start ls; node = x.value }) x}
         (rest-in back slot depth column low ls rest s v)
         (λ x k. anchored-reads (record { name = anchor_name ls; at = start ls; node = x.value }) k.done.lies k))))
 

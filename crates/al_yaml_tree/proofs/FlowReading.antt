@@ -17,7 +17,7 @@ use Rattle.al_yaml_tree.specs.Flow.{after_item, flow_items, is_key_colon, behind
 use Rattle.al_yaml_tree.specs.Flow.{is_late_colon, unless_late, key_colon, flow_key_of, flow_key, flow_entry_value}
 use Rattle.al_yaml_tree.specs.Flow.{flow_entries, flow_collection_over, flow_content, flow_property, flow_node_over, flow_collection}
 use Rattle.al_yaml_tree.specs.Node.{Node, Nodes, Entries, sequence, mapping, no_nodes, with_item, no_entries, with_entry, scalar_node}
-use Rattle.al_yaml_tree.specs.Reading.{Reading, gives, fails, given, starting_scalar, anchored, Part, part, ◌>>=◌}
+use Rattle.al_yaml_tree.specs.Reading.{Reading, gives, fails, of_result, starting_scalar, gives_with_anchor, Part, part, ◌>>=◌}
 use Rattle.al_yaml_tree.proofs.LeftLines.{File, AreLeft, IsRead, OptionLeft, left-lower, left-start, starts-behind, starts-in, is-inside}
 use Rattle.al_yaml_tree.proofs.LeftLines.{left-gap, left-first, left-bracket, left-name, left-colon, scalar-read}
 use Rattle.al_yaml_tree.proofs.NodeReading.{IsDone, Grows, no-items, no-entries, items-grow, entries-grow, IsPart, same, IsNode, AreItems}
@@ -93,7 +93,7 @@ module _ {f : File} where
 
     rest-reads : (more : List Line → Reading (Part A)) (opening close : ℕ) (left : List Line) → opening ≤ f.size → close < 128
         → ((ls : List Line) → AreLeft f low ls → Reads f (IsPart f g same from) (more ls)) → AreLeft f low left
-        → Reads f (IsPart f g same from) (given (after_item opening close (gap false left))
+        → Reads f (IsPart f g same from) (of_result (after_item opening close (gap false left))
         >>= (λ (found : After). elim found [ goes_on next ↦ more next | closes end next ↦ gives (part done end next) ]))
     rest-reads more opening close left o a m h =
         reads-then (reads-given (AfterIn f low) (after_item opening close (gap false left))
@@ -228,7 +228,7 @@ module _ {f : File} where
         (λ _. reads-by (begins ascii.asterisk (first_text ls))
         (λ _. reads-then {g = λ (n : Node). gives (part n (start rest) rest)} (alias-reads (anchor_name ls) (start ls) depth a)
         (λ n k. reads-value (whole-part (record { ordered = starts-behind v; lies = k low (start rest) }) (left-start v))))
-        (λ _. reads-then {g = λ (x : Part Node). anchored (record { name = anchor_name ls; at = start ls; node = x.value }) x}
+        (λ _. reads-then {g = λ (x : Part Node). gives_with_anchor (record { name = anchor_name ls; at = start ls; node = x.value }) x}
         (flow_value-in (flow_content collection) content-in slot depth low (gap false rest) s (left-gap v))
         (λ x k. anchored-reads (record { name = anchor_name ls; at = start ls; node = x.value }) k.done.lies k)))
 

@@ -15,8 +15,8 @@ use Rattle.al_yaml_tree.specs.Content.{unless}
 use Rattle.al_yaml_tree.specs.Flow.{empty_node}
 use Rattle.al_yaml_tree.specs.Node.{Node, Nodes, Entries, scalar, sequence, mapping, no_nodes, item, no_entries, entry}
 use Rattle.al_yaml_tree.specs.Node.{with_item, with_entry, scalar_node}
-use Rattle.al_yaml_tree.specs.Reading.{Start, HaveNoAlias, Anchor, Known, Outcome, Reading, gives, fails, given, next, later_of, alias_of, alias}
-use Rattle.al_yaml_tree.specs.Reading.{◌>>=◌, listed, start_of, anchored, Part, part, spanned}
+use Rattle.al_yaml_tree.specs.Reading.{Start, HaveNoAlias, Anchor, Known, Outcome, Reading, gives, fails, of_result, next, later_of, alias_of, alias}
+use Rattle.al_yaml_tree.specs.Reading.{◌>>=◌, with_start, start_of, gives_with_anchor, Part, part, with_span}
 use Rattle.al_yaml_tree.specs.Spans.{IsPlacedIn, IsLaidIn}
 use Rattle.al_yaml_tree.specs.Texts.{HasTexts, HaveTexts, EntriesHaveTexts}
 use Rattle.al_yaml_tree.proofs.LaidLemmas.{laid-item, laid-entry}
@@ -269,7 +269,7 @@ module _ {f : File} where
   pub reads-fault : {A : Type 0} {P : A → Type 0} {code : YamlCode} {at : ℕ} → at ≤ f.size → Reads f P (fails code at)
   reads-fault a = record { run = λ known k u. record { answers = a; starts = tt; knows = k } }
 
-  pub reads-given : {A : Type 0} (P : A → Type 0) (r : Result A Fault) → Answers f.size P r → Reads f P (given r)
+  pub reads-given : {A : Type 0} (P : A → Type 0) (r : Result A Fault) → Answers f.size P r → Reads f P (of_result r)
   reads-given P r h = record { run = λ known k u. record { answers = h; starts = tt; knows = k } }
 
   next-keeps : {A B : Type 0} (P : A → Type 0) (Q : B → Type 0) (o : Outcome A) (g : A → Reading B)
@@ -291,13 +291,13 @@ module _ {f : File} where
   reads-then {P = P} {Q = Q} {r = r} {g = g} h k = record { run = λ known u v. next-keeps P Q (r known) g (λ w. h.run known u w) k v }
 
   pub reads-start : {A : Type 0} {P : A → Type 0} {at nodes depth : ℕ} {r : Reading A} → at ≤ f.size → Reads f P r
-      → Reads f P (listed (start_of at nodes depth) r)
+      → Reads f P (with_start (start_of at nodes depth) r)
   reads-start a h = record {
     run = λ known u v. let m = h.run known u (λ p. (v p).1) in record { answers = m.answers; starts = (a, m.starts); knows = m.knows };
   }
 
   pub reads-one : {A : Type 0} {P : A → Type 0} {at nodes depth : ℕ} {x : A} → at ≤ f.size → P x
-      → Reads f P (listed (start_of at nodes depth) (gives x))
+      → Reads f P (with_start (start_of at nodes depth) (gives x))
   reads-one a h = record { run = λ known u v. record { answers = h; starts = (a, tt); knows = u } }
 
   pub reads-unless : {A : Type 0} {P : A → Type 0} (o : Option YamlCode) (at : ℕ) {r : Reading A} → at ≤ f.size → Reads f P r
@@ -327,7 +327,7 @@ module _ {f : File} where
   })
 
   pub collected : {A : Type 0} {g : A → Span → Node} {low at : ℕ} {r : Reading (Part A)} → low ≤ at → Reads f (IsPart f g same at) r
-      → Reads f (IsNode f low) (spanned g at r)
+      → Reads f (IsNode f low) (with_span g at r)
   collected {A} {g} {low} {at} a h = reads-then {g = λ (p : Part A). gives (part (g p.value (span at p.end)) p.end p.left)} h (λ p k. reads-value (record {
     done = record { ordered = omega (arith, a, k.done.ordered); lies = lies-lower a k.done.lies };
     inside = k.inside;
@@ -349,7 +349,7 @@ module _ {f : File} where
   alias-reads name at depth a = record { run = λ known u v. found-in at depth known a u (known name) (u name) v }
 
   pub anchored-reads : {A : Type 0} {P : A → Type 0} (a : Anchor) {x : A} {low end : ℕ} → Lies f low end a.node → P x
-      → Reads f P (anchored a x)
+      → Reads f P (gives_with_anchor a x)
   anchored-reads a n h = record {
     run = λ known u v. record {
       answers = h;

@@ -9,8 +9,8 @@ use Rattle.al_scalar.specs.Taken.{Fault, fault}
 use Rattle.al_scalar.specs.Plain.{block}
 use Rattle.al_scalar.specs.Scalar.{scalar_at}
 use Rattle.al_yaml_tree.specs.Node.{Node, Nodes, Entries, sequence, mapping, no_nodes, with_item, no_entries, with_entry, scalar_node}
-use Rattle.al_yaml_tree.specs.Reading.{Reading, gives, fails, given, starting_scalar, starting_mapping}
-use Rattle.al_yaml_tree.specs.Reading.{starting_collection, anchored, alias, Part, part, spanned, ◌>>=◌}
+use Rattle.al_yaml_tree.specs.Reading.{Reading, gives, fails, of_result, starting_scalar, starting_mapping}
+use Rattle.al_yaml_tree.specs.Reading.{starting_collection, gives_with_anchor, alias, Part, part, with_span, ◌>>=◌}
 use Rattle.al_yaml_tree.specs.Content.{Next, ended, at_line, is_skipped, content, line_ended, whole_lines, behind, is_dash, tab_among}
 use Rattle.al_yaml_tree.specs.Content.{block_fault, unless, is_flow_start, is_property, anchor_name, behind_name, has_no_name, same_line}
 use Rattle.al_yaml_tree.specs.Content.{characters, is_short_key}
@@ -74,7 +74,7 @@ node_found node slot depth ls (at_line i left) = if is_deeper slot i left then n
 
 abbrev pub node_below : BlockReader → Slot → ℕ → List Line → Reading (Part Node)
 node_below node slot depth ls = do
-  found ← given (content ls)
+  found ← of_result (content ls)
   node_found node slot depth ls found
 
 -- The node behind a dash, a colon or an anchor; the column is that of ls, of which rest is left.
@@ -114,7 +114,7 @@ sequence_next collection more in_mapping depth closed (Some left) =
 
 abbrev pub sequence_rest : CollectionReader → (List Line → Reading (Part Nodes)) → Bool → ℕ → ℕ → Part Nodes → Reading (Part Nodes)
 sequence_rest collection more in_mapping column depth done = do
-  found ← given (next_at column done.left)
+  found ← of_result (next_at column done.left)
   sequence_next collection more in_mapping depth done found
 
 -- The entries of a sequence behind those done, from a dash on. turns bounds their number.
@@ -141,7 +141,7 @@ mapping_next collection more depth closed (Some left) = entry_key collection dep
 
 abbrev pub mapping_rest : CollectionReader → (Key → Reading (Part Entries)) → ℕ → ℕ → Part Entries → Reading (Part Entries)
 mapping_rest collection more column depth done = do
-  found ← given (next_at column done.left)
+  found ← of_result (next_at column done.left)
   mapping_next collection more depth done found
 
 -- The entries of a mapping behind those done, from behind a key on.
@@ -161,8 +161,8 @@ scalar_left ls left = if is_block_start (first_text ls) then Ok left else line_e
 abbrev pub scalar_node_at : ℕ → List Line → Reading (Part Node)
 scalar_node_at within ls =
     starting_scalar (start ls) (do
-      r ← given (scalar_at (block within) ls)
-      left ← given (scalar_left ls r.left)
+      r ← of_result (scalar_at (block within) ls)
+      left ← of_result (scalar_left ls r.left)
       gives (part (scalar_node r) r.span.end left))
 
 -- The rest of a line, given the flow collection just read on it: no colon may stand there that would make it a key.
@@ -170,7 +170,7 @@ abbrev pub flow_rest : Spot → ℕ → Part Node → Reading (Part Node)
 flow_rest spot at x =
     if not (is_behind_key spot) && has_colon x.left then fails yaml.WrongKey at
     else (do
-      left ← given (line_ended x.left)
+      left ← of_result (line_ended x.left)
       gives (part x.value x.end left))
 
 -- a flow collection in block context
@@ -184,7 +184,7 @@ block_sequence node collection turns slot depth column ls =
     let at = start ls in
     if is_behind_key slot.spot then fails yaml.UnexpectedCharacter at
     else unless_tab slot.spot (starting_collection at depth (
-    spanned sequence at (sequence_entries node collection turns slot.in_mapping column (depth + 1) no_nodes ls)))
+    with_span sequence at (sequence_entries node collection turns slot.in_mapping column (depth + 1) no_nodes ls)))
 
 -- a mapping whose first key was read
 abbrev pub block_mapping : BlockReader → CollectionReader → ℕ → Spot → ℕ → ℕ → List Line → Key → Reading (Part Node)
@@ -194,7 +194,7 @@ block_mapping node collection turns spot depth column ls key =
     else unless_tab spot (
     if not (is_short_key ls key.scalar) then fails yaml.WrongKey at
     else starting_mapping at depth (
-    spanned mapping at (mapping_entries node collection turns column (depth + 1) no_entries key)))
+    with_span mapping at (mapping_entries node collection turns column (depth + 1) no_entries key)))
 
 -- a mapping if a key was found, or else a scalar
 abbrev pub keyed_node : BlockReader → CollectionReader → ℕ → Slot → ℕ → ℕ → List Line → Option Key → Reading (Part Node)
@@ -211,7 +211,7 @@ block_content node collection turns slot depth column ls =
     else (if is_flow_start (first_text ls) then flow_at collection slot.spot depth ls
     else (if is_block_start (first_text ls) || is_behind_key slot.spot then scalar_node_at slot.within ls
     else (do
-      found ← given (key_at ls)
+      found ← of_result (key_at ls)
       keyed_node node collection turns slot depth column ls found))))
 
 -- an alias, or an anchor and its node (6.9.2, 7.1)
@@ -225,11 +225,11 @@ block_property content slot depth column ls =
     else (if begins ascii.asterisk (first_text ls)
     then (do
       n ← alias name at depth
-      left ← given (line_ended rest)
+      left ← of_result (line_ended rest)
       gives (part n (start rest) left))
     else (do
       x ← rest_node content slot depth column ls rest
-      anchored (record { name = name; at = at; node = x.value }) x)))
+      gives_with_anchor (record { name = name; at = at; node = x.value }) x)))
 
 abbrev pub block_node_over : BlockReader → CollectionReader → ℕ → BlockReader
 block_node_over node collection turns slot depth column ls =

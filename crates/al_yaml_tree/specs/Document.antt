@@ -7,9 +7,9 @@ use Rattle.al_scalar.specs.Places.{first_text}
 use Rattle.al_scalar.specs.Taken.{Fault, fault}
 use Rattle.al_scalar.specs.Block.{at_end}
 use Rattle.al_yaml_tree.specs.Node.{Node}
-use Rattle.al_yaml_tree.specs.Limits.{limited}
+use Rattle.al_yaml_tree.specs.Limits.{within_limits}
 use Rattle.al_yaml_tree.specs.Bytes.{byte_fault, file_lines}
-use Rattle.al_yaml_tree.specs.Reading.{Start, HaveNoAlias, Reading, nothing_known, gives, given, Part, ◌>>=◌}
+use Rattle.al_yaml_tree.specs.Reading.{Start, HaveNoAlias, Reading, nothing_known, gives, of_result, Part, ◌>>=◌}
 use Rattle.al_yaml_tree.specs.Content.{Next, ended, at_line, is_skipped, content, line_ended, behind}
 use Rattle.al_yaml_tree.specs.Flow.{empty_node}
 use Rattle.al_yaml_tree.specs.Blocks.{Slot, own_line, block_node}
@@ -59,19 +59,19 @@ root_found size ls (at_line i left) = block_node (suc size) (root_slot size) 1 i
 
 abbrev pub root : ℕ → List Line → Reading (Part Node)
 root size ls = do
-  found ← given (content ls)
+  found ← of_result (content ls)
   root_found size ls found
 
 abbrev pub document : ℕ → List Line → Reading Node
 document size ls = do
-  left ← given (document_start ls)
+  left ← of_result (document_start ls)
   x ← root size left
-  rest ← given (document_end x.left)
+  rest ← of_result (document_end x.left)
   gives x.value
 
 -- The tree that a file is whose bytes have no fault, or its first fault.
 abbrev pub document_of : List ℕ → Result Node Fault
-document_of bs = limited (document (length bs) (file_lines bs) nothing_known)
+document_of bs = within_limits (document (length bs) (file_lines bs) nothing_known)
 
 -- The tree that a file is, or its first fault.
 abbrev pub tree_of : List ℕ → Result Node Fault

@@ -11,8 +11,8 @@ use Rattle.al_scalar.specs.Block.{at_end}
 use Rattle.al_scalar.specs.Scalar.{ScalarRead, scalar_at, empty_scalar, span}
 use Rattle.al_yaml_tree.specs.Node.{Node, Nodes, Entries, scalar, sequence, mapping}
 use Rattle.al_yaml_tree.specs.Node.{no_nodes, with_item, no_entries, with_entry, scalar_node}
-use Rattle.al_yaml_tree.specs.Reading.{Reading, gives, fails, given, starting_scalar, starting_collection}
-use Rattle.al_yaml_tree.specs.Reading.{anchored, alias, Part, part, spanned, ◌>>=◌}
+use Rattle.al_yaml_tree.specs.Reading.{Reading, gives, fails, of_result, starting_scalar, starting_collection}
+use Rattle.al_yaml_tree.specs.Reading.{gives_with_anchor, alias, Part, part, with_span, ◌>>=◌}
 use Rattle.al_yaml_tree.specs.Content.{behind, flow_fault, unless, is_flow_start, is_quote, is_property}
 use Rattle.al_yaml_tree.specs.Content.{anchor_name, behind_name, has_no_name, same_line, is_simple_key}
 
@@ -64,7 +64,7 @@ after_item opening close ls =
 -- The rest of a sequence, given all its items so far and the lines behind the last one; more reads further items.
 abbrev pub flow_items_rest : (List Line → Reading (Part Nodes)) → ℕ → Nodes → List Line → Reading (Part Nodes)
 flow_items_rest more opening done left = do
-  found ← given (after_item opening ascii.close_bracket (gap false left))
+  found ← of_result (after_item opening ascii.close_bracket (gap false left))
   elim found [ goes_on next ↦ more next | closes end next ↦ gives (part done end next) ]
 
 -- Items behind those done, from the first character of an item or the closer. turns bounds their number.
@@ -113,7 +113,7 @@ key_colon ls r = if not (is_simple_key ls r) then fault yaml.WrongKey (start ls)
 
 abbrev pub flow_key_of : List Line → ScalarRead → Reading FlowKey
 flow_key_of ls r = do
-  colon ← given (key_colon ls r)
+  colon ← of_result (key_colon ls r)
   starting_scalar (start ls) (gives (record { scalar = r; behind = colon }))
 
 unfoldable pub flow_key : CollectionReader → ℕ → List Line → Reading FlowKey
@@ -125,7 +125,7 @@ flow_key collection depth ls =
       x ← collection depth ls
       fails yaml.WrongKey at)
     else (do
-      r ← given (scalar_at flow ls)
+      r ← of_result (scalar_at flow ls)
       flow_key_of ls r)))
 
 -- The value of an entry, given its key; without a colon it is empty.
@@ -139,7 +139,7 @@ flow_entry_value node opening depth key =
 -- The rest of a mapping, given all its entries so far and the lines behind the last one; more reads further entries.
 abbrev pub flow_entries_rest : (List Line → Reading (Part Entries)) → ℕ → Entries → List Line → Reading (Part Entries)
 flow_entries_rest more opening done left = do
-  found ← given (after_item opening ascii.close_brace (gap false left))
+  found ← of_result (after_item opening ascii.close_brace (gap false left))
   elim found [ goes_on next ↦ more next | closes end next ↦ gives (part done end next) ]
 
 -- Entries behind those done, from the first character of an entry or the closer.
@@ -162,8 +162,8 @@ flow_collection_over node collection turns depth ls =
     let inside = gap false (behind 1 ls) in
     starting_collection at depth (
     if begins ascii.open_bracket (first_text ls)
-    then spanned sequence at (flow_items node turns at (depth + 1) no_nodes inside)
-    else spanned mapping at (flow_entries node collection turns at (depth + 1) no_entries inside))
+    then with_span sequence at (flow_items node turns at (depth + 1) no_nodes inside)
+    else with_span mapping at (flow_entries node collection turns at (depth + 1) no_entries inside))
 
 -- a node without properties
 unfoldable pub flow_content : CollectionReader → FlowSlot → ℕ → List Line → Reading (Part Node)
@@ -172,7 +172,7 @@ flow_content collection slot depth ls =
     if is_property (first_text ls) then fails yaml.UnexpectedCharacter (start ls)
     else (if is_flow_start (first_text ls) then collection depth ls
     else starting_scalar (start ls) (do
-      r ← given (scalar_at flow ls)
+      r ← of_result (scalar_at flow ls)
       gives (part (scalar_node r) r.span.end r.left))))
 
 -- an alias, or an anchor and its node (6.9.2, 7.1)
@@ -188,7 +188,7 @@ flow_property collection slot depth ls =
       gives (part n (start rest) rest))
     else (do
       x ← flow_value (flow_content collection) slot depth (gap false rest)
-      anchored (record { name = name; at = at; node = x.value }) x))
+      gives_with_anchor (record { name = name; at = at; node = x.value }) x))
 
 -- a node in a flow collection
 abbrev pub flow_node_over : CollectionReader → FlowReader

@@ -9,7 +9,7 @@ use Rattle.al_scalar.specs.Plain.{block, is_value_colon}
 use Rattle.al_scalar.specs.Scalar.{ScalarRead, scalar_at}
 use Rattle.al_scalar.specs.Taken.{Fault}
 use Rattle.al_yaml_tree.specs.Node.{Node}
-use Rattle.al_yaml_tree.specs.Reading.{Reading, gives, fails, given, starting_scalar, Part, ◌>>=◌}
+use Rattle.al_yaml_tree.specs.Reading.{Reading, gives, fails, of_result, starting_scalar, Part, ◌>>=◌}
 use Rattle.al_yaml_tree.specs.Content.{is_skipped, behind, is_dash, block_fault, unless, is_flow_start, is_quote}
 use Rattle.al_yaml_tree.specs.Content.{is_property, behind_name, has_no_name, same_line, is_simple_key}
 use Rattle.al_yaml_tree.specs.Flow.{CollectionReader}
@@ -109,7 +109,7 @@ no_entry collection depth ls =
       x ← collection depth ls
       flow_refused false at x)
     else (if is_quote (first_text ls) then (do
-      r ← given (scalar_at (block 0) ls)
+      r ← of_result (scalar_at (block 0) ls)
       fails yaml.UnexpectedCharacter at)
     else fails yaml.UnexpectedCharacter at)))
 
@@ -129,5 +129,5 @@ entry_key collection depth ls =
       x ← collection depth ls
       flow_refused true at x)
     else (do
-      found ← given (key_at ls)
+      found ← of_result (key_at ls)
       found_key ls found))))

@@ -32,8 +32,8 @@ abbrev pub unless_broken : {A : Type 0} → Option Fault → Result A Fault → 
 unless_broken None r = r
 unless_broken (Some f) r = Err f
 
-abbrev pub limited_from : {A : Type 0} → ℕ → ℕ → Outcome A → Result A Fault
-limited_from nodes text o = unless_broken (broken_limit nodes text o.starts) o.answer
+abbrev pub within_limits_from : {A : Type 0} → ℕ → ℕ → Outcome A → Result A Fault
+within_limits_from nodes text o = unless_broken (broken_limit nodes text o.starts) o.answer
 
-abbrev pub limited : {A : Type 0} → Outcome A → Result A Fault
-limited o = limited_from 0 0 o
+abbrev pub within_limits : {A : Type 0} → Outcome A → Result A Fault
+within_limits o = within_limits_from 0 0 o
