@@ -12,8 +12,8 @@ use Rattle.al_yaml_tree.specs.Reading.{Reading, Part, part, gives, of_result, fa
 use Rattle.al_yaml_tree.specs.Limits.{broken_limit}
 use Rattle.al_scalar.specs.Plain.{flow}
 use Rattle.al_scalar.specs.Scalar.{scalar_at}
-use Rattle.al_yaml_tree.specs.Content.{is_quote, is_simple_key, is_property, is_flow_start, has_no_name, anchor_name, behind_name, flow_fault, unless}
-use Rattle.al_yaml_tree.specs.Flow.{gap, is_file_end, FlowReader, CollectionReader, FlowSlot}
+use Rattle.al_yaml_tree.specs.Content.{is_file_end, is_quote, is_simple_key, is_property, is_flow_start, has_no_name, anchor_name, behind_name, flow_fault, unless}
+use Rattle.al_yaml_tree.specs.Flow.{gap, FlowReader, CollectionReader, FlowSlot}
 use Rattle.al_yaml_tree.specs.Flow.{flow_key, flow_value, flow_entry_value, flow_content}
 use Rattle.al_yaml_tree.specs.Flow.{flow_property, flow_node_over, empty_node, FlowKey, flow_key_of, key_colon, unless_late}
 use Rattle.al_yaml_tree.specs.Flow.{behind_colon, is_late_colon}

@@ -5,7 +5,7 @@ use Rattle.al_base.specs.declared.codes.YamlCode.{YamlCode}
 use Rattle.al_scalar.specs.Taken.{Fault}
 use Rattle.al_yaml_tree.specs.Reading.{Start, start_of, start_with, Anchor, gives_with_anchor, with_anchor, nothing_known, with_start}
 use Rattle.al_yaml_tree.specs.Reading.{Known, Outcome, Reading, gives, fails, of_result, after, next, ◌>>=◌}
-use Rattle.al_yaml_tree.specs.Limits.{broken_limit, unless_broken, within_limits, nodes_listed, text_listed}
+use Rattle.al_yaml_tree.specs.Limits.{broken_limit, unless_fault, within_limits, nodes_listed, text_listed}
 use Rattle.al_base.specs.Limits.{deepest_collection, most_alias_text, most_nodes}
 use Rattle.al_yaml_parts.specs.Reads.{State, with_state, state_after, run_outcome, run, with_nodes, state_with_anchor, at_start}
 
@@ -51,24 +51,24 @@ text_listed-append (s ∷ ss) ys = omega (arith, text_listed-append ss ys)
 -- ---- what is read next
 
 goes-state : {A : Type 0} (n t : ℕ) (xs ys : List Start) (k : Known) (r : Result A Fault) (b : Option Fault)
-    → with_state (record { nodes = n + nodes_listed (xs ++ ys); text = t + text_listed (xs ++ ys); known = k }) (unless_broken b r)
-    ≡ with_state (record { nodes = (n + nodes_listed xs) + nodes_listed ys; text = (t + text_listed xs) + text_listed ys; known = k }) (unless_broken b r)
+    → with_state (record { nodes = n + nodes_listed (xs ++ ys); text = t + text_listed (xs ++ ys); known = k }) (unless_fault b r)
+    ≡ with_state (record { nodes = (n + nodes_listed xs) + nodes_listed ys; text = (t + text_listed xs) + text_listed ys; known = k }) (unless_fault b r)
 goes-state n t xs ys k r b =
     let e : n + nodes_listed (xs ++ ys) ≡ (n + nodes_listed xs) + nodes_listed ys = omega (arith, nodes_listed-append xs ys) in
     let d : t + text_listed (xs ++ ys) ≡ (t + text_listed xs) + text_listed ys = omega (arith, text_listed-append xs ys) in
-    ap (λ m. with_state (record { nodes = m; text = t + text_listed (xs ++ ys); known = k }) (unless_broken b r)) e
-    ∙ ap (λ m. with_state (record { nodes = (n + nodes_listed xs) + nodes_listed ys; text = m; known = k }) (unless_broken b r)) d
+    ap (λ m. with_state (record { nodes = m; text = t + text_listed (xs ++ ys); known = k }) (unless_fault b r)) e
+    ∙ ap (λ m. with_state (record { nodes = (n + nodes_listed xs) + nodes_listed ys; text = m; known = k }) (unless_fault b r)) d
 
 -- reading that ended with an answer, and what is read behind it
 goes-after : {B : Type 0} (n t : ℕ) (xs : List Start) (o : Outcome B) → broken_limit n t xs ≡ None
     → run_outcome (record { nodes = n; text = t; known = o.known }) (after xs o) ≡ run_outcome (record { nodes = n + nodes_listed xs; text = t + text_listed xs; known = o.known }) o
 goes-after n t xs o h =
     ap (λ b. with_state (record { nodes = n + nodes_listed (xs ++ o.starts); text = t + text_listed (xs ++ o.starts); known = o.known })
-    (unless_broken b o.answer)) (broken_limit-append n t xs o.starts h)
+    (unless_fault b o.answer)) (broken_limit-append n t xs o.starts h)
     ∙ goes-state n t xs o.starts o.known o.answer (broken_limit (n + nodes_listed xs) (t + text_listed xs) o.starts)
 
 bind-cases : {A B : Type 0} (n t : ℕ) (ss : List Start) (r : Result A Fault) (k : Known) (f : A → Reading B) (x : A) (u : State) (broken : Option Fault) → broken_limit n t ss ≡ broken
-    → with_state (record { nodes = n + nodes_listed ss; text = t + text_listed ss; known = k }) (unless_broken broken r) ≡ Ok (x, u)
+    → with_state (record { nodes = n + nodes_listed ss; text = t + text_listed ss; known = k }) (unless_fault broken r) ≡ Ok (x, u)
     → run_outcome (record { nodes = n; text = t; known = k }) (next (record { starts = ss; answer = r; known = k }) f) ≡ run_outcome u (f x u.known)
 bind-cases {A = A} n t ss (Err d) k f x u None is h = cc
 bind-cases {A = A} n t ss (Err d) k f x u (Some b) is h = cc
@@ -83,14 +83,14 @@ unfolding run
 run-bind s r f x t h = bind-cases s.nodes s.text (r s.known).starts (r s.known).answer (r s.known).known f x t (broken_limit s.nodes s.text (r s.known).starts) refl h
 
 stays-cases : {A B : Type 0} (n t : ℕ) (ss : List Start) (r : Result A Fault) (k : Known) (f : A → Reading B) (e : Fault) (broken : Option Fault) → broken_limit n t ss ≡ broken
-    → with_state (record { nodes = n + nodes_listed ss; text = t + text_listed ss; known = k }) (unless_broken broken r) ≡ Err e
+    → with_state (record { nodes = n + nodes_listed ss; text = t + text_listed ss; known = k }) (unless_fault broken r) ≡ Err e
     → run_outcome (record { nodes = n; text = t; known = k }) (next (record { starts = ss; answer = r; known = k }) f) ≡ Err e
-stays-cases n t ss (Err d) k f e None is h = ap (λ b. with_state (record { nodes = n + nodes_listed ss; text = t + text_listed ss; known = k }) (unless_broken b (Err d))) is ∙ cc
+stays-cases n t ss (Err d) k f e None is h = ap (λ b. with_state (record { nodes = n + nodes_listed ss; text = t + text_listed ss; known = k }) (unless_fault b (Err d))) is ∙ cc
 stays-cases n t ss (Ok x) k f e None is h = cc
-stays-cases n t ss (Err d) k f e (Some b) is h = ap (λ b. with_state (record { nodes = n + nodes_listed ss; text = t + text_listed ss; known = k }) (unless_broken b (Err d))) is ∙ cc
+stays-cases n t ss (Err d) k f e (Some b) is h = ap (λ b. with_state (record { nodes = n + nodes_listed ss; text = t + text_listed ss; known = k }) (unless_fault b (Err d))) is ∙ cc
 stays-cases n t ss (Ok x) k f e (Some b) is h =
     let o = after ss (f x k) in
-    ap (λ b. with_state (state_after (record { nodes = n; text = t; known = k }) o) (unless_broken b (f x k).answer)) (broken_limit-stays n t ss (f x k).starts b is) ∙ cc
+    ap (λ b. with_state (state_after (record { nodes = n; text = t; known = k }) o) (unless_fault b (f x k).answer)) (broken_limit-stays n t ss (f x k).starts b is) ∙ cc
 
 pub run-stop : {A B : Type 0} (s : State) (r : Reading A) (f : A → Reading B) (e : Fault) → run s r ≡ Err e → run s (r >>= f) ≡ Err e
 unfolding run
@@ -157,7 +157,7 @@ run-start s more at depth r h =
 broken-cases : {A : Type 0} (s : State) (start : Start) (o : Outcome A) (e : Fault) → broken_limit s.nodes s.text (start ∷ []) ≡ Some e
     → run_outcome s (after (start ∷ []) o) ≡ Err e
 broken-cases s start o e h =
-    ap (λ b. with_state (state_after s (after (start ∷ []) o)) (unless_broken b o.answer)) (broken_limit-stays s.nodes s.text (start ∷ []) o.starts e h)
+    ap (λ b. with_state (state_after s (after (start ∷ []) o)) (unless_fault b o.answer)) (broken_limit-stays s.nodes s.text (start ∷ []) o.starts e h)
 
 pub run-broken_start : {A : Type 0} (s : State) (start : Start) (r : Reading A) (e : Fault) → broken_limit s.nodes s.text (start ∷ []) ≡ Some e
     → run s (with_start start r) ≡ Err e

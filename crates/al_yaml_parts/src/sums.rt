@@ -1,11 +1,10 @@
 //! What an alias counts of its node (YAML 1.2.2, 7.1): a loop over the nodes in it, with a stack of its own.
 
 ghost use Rattle.al_yaml_tree.specs.Limits.{most_counted};
-ghost use Rattle.al_yaml_tree.specs.Node as tree;
 ghost use Rattle.al_yaml_tree.specs.Reading as reading;
 ghost use Rattle.al_yaml_parts.specs.Private.Sums.{IsOwn, IsSums, inside, members, uncounted_view, within};
 ghost use Rattle.al_yaml_tree.specs.View.{entry_view, view};
-ghost use Rattle.std.specs.Prelude.{IfOk, map, ◌++◌, ◌+◌, ◌≡◌};
+ghost use Rattle.std.specs.Prelude.{IfOk, map, max, ◌++◌, ◌+◌, ◌≡◌};
 
 use al_yaml_tree::{Entry, Kind, Node};
 use std::alloc::{AllocError, Global};
@@ -48,17 +47,12 @@ impl Sums {
     fn plus(self, more: Sums) -> Sums
         ensures nodes { result.nodes ≡ most_counted (self.nodes + more.nodes) }
         ensures text { result.text ≡ most_counted (self.text + more.text) }
-        ensures levels { result.levels ≡ tree.greater_of self.levels more.levels }
+        ensures levels { result.levels ≡ max self.levels more.levels }
     {
-        let levels = if self.levels <= more.levels {
-            more.levels
-        } else {
-            self.levels
-        };
         Sums {
             nodes: self.nodes.saturating_add(more.nodes),
             text: self.text.saturating_add(more.text),
-            levels,
+            levels: self.levels.max(more.levels),
         }
     }
 }

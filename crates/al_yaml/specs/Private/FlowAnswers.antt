@@ -13,8 +13,8 @@ use Rattle.al_yaml_parts.specs.declared.faults.ReadError.{ReadError}
 use Rattle.al_yaml_parts.specs.declared.faults.ReadError.TheVariants as stop
 use Rattle.al_yaml_parts.specs.declared.frames.FlowFrame.{FlowFrame}
 use Rattle.al_yaml_parts.specs.declared.part.Part as code
-use Rattle.al_yaml.specs.declared.flow.After.{After}
-use Rattle.al_yaml.specs.declared.flow.After.TheVariants as after
+use Rattle.al_yaml.specs.declared.flow_items.After.{After}
+use Rattle.al_yaml.specs.declared.flow_items.After.TheVariants as after
 use Rattle.al_yaml.specs.declared.flow.OpenFlow.{OpenFlow}
 use Rattle.al_yaml_tree.specs.View.{view}
 

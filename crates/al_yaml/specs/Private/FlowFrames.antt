@@ -20,13 +20,13 @@ use Rattle.al_yaml_parts.specs.declared.faults.ReadError.{ReadError}
 use Rattle.al_yaml_parts.specs.declared.frames.Open.{Open}
 use Rattle.al_yaml_parts.specs.declared.frames.Open.TheVariants as open_code
 use Rattle.al_yaml_parts.specs.declared.frames.FlowFrame.{FlowFrame}
-use Rattle.al_yaml.specs.declared.flow.After.{After}
-use Rattle.al_yaml.specs.declared.flow.After.TheVariants as after
-use Rattle.al_yaml.specs.declared.flow.FlowPlace.{FlowPlace}
-use Rattle.al_yaml.specs.declared.flow.FlowStep.{FlowStep}
+use Rattle.al_yaml.specs.declared.flow_items.After.{After}
+use Rattle.al_yaml.specs.declared.flow_items.After.TheVariants as after
+use Rattle.al_yaml.specs.declared.flow_items.FlowPlace.{FlowPlace}
+use Rattle.al_yaml.specs.declared.flow_items.FlowStep.{FlowStep}
 use Rattle.al_yaml.specs.declared.flow.OpenFlow.{OpenFlow}
 use Rattle.al_yaml_parts.specs.Stacks.{OpenCollections}
-use Rattle.al_yaml.specs.declared.flow.FlowStep.TheVariants as step
+use Rattle.al_yaml.specs.declared.flow_items.FlowStep.TheVariants as step
 
 abbrev pub open_of : Open → frames.Open
 open_of (open_code.Items v) = frames.items (nodes_of (map view v.items))

@@ -10,7 +10,7 @@ use Rattle.al_yaml_tree.specs.View.{view, nodes_of}
 use Rattle.al_yaml_parts.proofs.FlowNodeLemmas.{node-property}
 use Rattle.al_yaml.proofs.FlowStepLemmas.{item-stop, item-answer, put-behind}
 use Rattle.al_yaml_parts.proofs.ReadLemmas.{stops-from, stops-same}
-use Rattle.al_yaml.proofs.flow.read_property_item.Goals as goal
+use Rattle.al_yaml.proofs.flow_items.read_property_item.Goals as goal
 
 pub returns-in_err-part-clause-is : goal.returns-in_err-part-clause-is
 returns-in_err-part-clause-is c =
