@@ -10,13 +10,13 @@ use Rattle.std.specs.Str.{bytes_eq}
 use Rattle.std.proofs.lemmas.Map.Text.{is_eq-slice_cmp}
 use Rattle.al_yaml_tree.specs.Reading.{is_later, later_of, with_anchor}
 use Rattle.al_yaml_parts.specs.Reads.{anchor_seen, found_in, known_of}
-use Rattle.al_yaml_parts.specs.declared.anchors.Anchored.{Anchored}
+use Rattle.al_yaml_parts.specs.declared.anchors.AnchoredNode.{AnchoredNode}
 use Rattle.al_yaml_parts.specs.declared.anchors.Anchors.{Anchors}
 
 abbrev at_text : List ℕ → Vec ℕ → Bool
 at_text text = is_at (λ k. slice_cmp nat_cmp text k.items)
 
-other_entries : (eq : Vec ℕ → Vec ℕ → Bool) (test : Vec ℕ → Bool) (old new : List (Vec ℕ × Anchored)) → KeepsOthers eq test old new →
+other_entries : (eq : Vec ℕ → Vec ℕ → Bool) (test : Vec ℕ → Bool) (old new : List (Vec ℕ × AnchoredNode)) → KeepsOthers eq test old new →
     (other : Vec ℕ → Bool) → IsKeyTest eq other → AreApart test other → lookup other new ≡ lookup other old
 unfolding KeepsOthers
 other_entries eq test old new h = h
@@ -30,7 +30,7 @@ here_or_before true old new put there apart = there refl
 here_or_before false old new put there apart = apart refl
 
 -- an anchor that is put, where none of its name stands behind it
-module _ (old new : Anchors) (key : Vec ℕ) (a : Anchored)
+module _ (old new : Anchors) (key : Vec ℕ) (a : AnchoredNode)
     (u : UpdatesBy (λ a b. slice_cmp nat_cmp a.items b.items) (λ k. slice_cmp nat_cmp key.items k.items) old.latest new.latest (Some a))
     (last : is_later a.at (known_of old key.items) ≡ false) where
   found-put : (name : List ℕ) → bytes_eq key.items name ≡ true → found_in new name ≡ Some a
@@ -57,7 +57,7 @@ module _ (old new : Anchors) (key : Vec ℕ) (a : Anchored)
       (seen-put name) (λ n. ap (option_map (anchor_seen name)) (found-other name n)) i
 
 -- an anchor behind which one of its name stands changes nothing
-module _ (old : Anchors) (key : List ℕ) (a : Anchored) (later : is_later a.at (known_of old key) ≡ true) where
+module _ (old : Anchors) (key : List ℕ) (a : AnchoredNode) (later : is_later a.at (known_of old key) ≡ true) where
   stays : (name : List ℕ) → bytes_eq key name ≡ true → known_of old name ≡ later_of (anchor_seen key a) (known_of old name)
   stays name y =
       let same = (bytes_decides key name).0 y in

@@ -1,17 +1,16 @@
 -- The lines round a document against offsets.
 use Rattle.std.proofs.Common.{◌≡◌, ℕ, ◌+◌, ◌<◌, ◌≤◌, List, [], ◌∷◌, length, drop, slice_index, refl, sym, ap, ◌∙◌, arith, Bool, true, false, cond, Some, Result, Ok}
 use Rattle.al_base.specs.declared.codes.YamlCode.TheVariants as yaml
-use Rattle.al_scalar.specs.Line.{Cell, Line, start, cut, is_empty, begins, is_marker, blanks_dropped, spaces_dropped}
+use Rattle.al_scalar.specs.Line.{Cell, Line, start, cut, is_empty, begins, is_marker, spaces_dropped}
 use Rattle.al_scalar.specs.Places.{first_text, lines_at, text_at}
 use Rattle.al_scalar.specs.LineEnds.{IsLineEnd}
-use Rattle.al_scalar.specs.Block.{at_end}
 use Rattle.al_scalar.specs.Taken.{Fault, fault}
-use Rattle.al_yaml_tree.specs.Content.{behind, is_skipped, line_ended}
-use Rattle.al_yaml_tree.specs.Document.{first_line, document_start, ended_behind, last_line, document_end}
-use Rattle.al_yaml_parts.specs.Private.DocumentLines.{text_line, IsBehindMarker}
+use Rattle.al_yaml_tree.specs.Content.{behind, line_ended}
+use Rattle.al_yaml_tree.specs.Document.{first_line, ended_behind, last_line}
+use Rattle.al_yaml_parts.specs.Private.DocumentLines.{IsBehindMarker}
 use Rattle.al_yaml_parts.proofs.LineLemmas.{behind-one}
 use Rattle.al_scalar.proofs.RestLemmas.{start-at}
-use Rattle.al_scalar.proofs.SingleLemmas.{lines-at_end, text-line_end, never, IsInside, is_inside}
+use Rattle.al_scalar.proofs.SingleLemmas.{text-line_end, never, IsInside, is_inside}
 use Rattle.al_scalar.proofs.PlainLemmas.{text_at-cell}
 
 -- ---- markers
@@ -68,73 +67,6 @@ module _ (bytes : List ℕ) (i b : ℕ) (h : i ≤ length bytes) (m : true ≡ i
 
   pub marker-found : IsBehindMarker bytes i b (Some (i + 3))
   marker-found = let found = marker-behind in (m, found.0, omega arith, found.1)
-
--- ---- the definitions by their first text line
-
-abbrev pub start_from : List Line → Result (List Line) Fault
-start_from ls = cond (is_skipped (first_text ls)) (Ok ls) (first_line ls)
-
-start-step : (b last : Bool) (l : Line) (ls : List Line) → is_skipped l.text ≡ b → document_start ls ≡ start_from (text_line ls)
-    → cond b (cond last (Ok (at_end l)) (document_start ls)) (first_line (l ∷ ls)) ≡ start_from (cond b (cond last (at_end l) (text_line ls)) (l ∷ ls))
-start-step true true l ls e i = refl
-start-step true false l ls e i = i
-start-step false last l ls e i = sym (ap (λ b. cond b (Ok (l ∷ ls)) (first_line (l ∷ ls))) e)
-
-start-text_line : (ls : List Line) → document_start ls ≡ start_from (text_line ls)
-start-text_line [] = refl
-start-text_line (l ∷ ls) = start-step (is_skipped l.text) l.last l ls refl (start-text_line ls)
-
-abbrev pub misplaced : List Line → Result (Unit {0}) Fault
-misplaced ls = fault yaml.SecondDocument (start (blanks_dropped ls))
-
-abbrev pub ended_from : List Line → Result (Unit {0}) Fault
-ended_from ls = cond (is_skipped (first_text ls)) (Ok tt) (misplaced ls)
-
-ended-step : (b last : Bool) (l : Line) (ls : List Line) → is_skipped l.text ≡ b → ended_behind ls ≡ ended_from (text_line ls)
-    → cond b (cond last (Ok tt) (ended_behind ls)) (misplaced (l ∷ ls)) ≡ ended_from (cond b (cond last (at_end l) (text_line ls)) (l ∷ ls))
-ended-step true true l ls e i = refl
-ended-step true false l ls e i = i
-ended-step false last l ls e i = sym (ap (λ b. cond b (Ok tt) (misplaced (l ∷ ls))) e)
-
-ended-text_line : (ls : List Line) → ended_behind ls ≡ ended_from (text_line ls)
-ended-text_line [] = refl
-ended-text_line (l ∷ ls) = ended-step (is_skipped l.text) l.last l ls refl (ended-text_line ls)
-
-abbrev pub end_from : List Line → Result (Unit {0}) Fault
-end_from ls = cond (is_skipped (first_text ls)) (Ok tt) (last_line ls)
-
-end-step : (b last : Bool) (l : Line) (ls : List Line) → is_skipped l.text ≡ b → document_end ls ≡ end_from (text_line ls)
-    → cond b (cond last (Ok tt) (document_end ls)) (last_line (l ∷ ls)) ≡ end_from (cond b (cond last (at_end l) (text_line ls)) (l ∷ ls))
-end-step true true l ls e i = refl
-end-step true false l ls e i = i
-end-step false last l ls e i = sym (ap (λ b. cond b (Ok tt) (last_line (l ∷ ls))) e)
-
-end-text_line : (ls : List Line) → document_end ls ≡ end_from (text_line ls)
-end-text_line [] = refl
-end-text_line (l ∷ ls) = end-step (is_skipped l.text) l.last l ls refl (end-text_line ls)
-
-module _ (bytes : List ℕ) (at line : ℕ) (e : text_line (lines_at bytes at) ≡ lines_at bytes line) where
-  pub start-here : false ≡ is_skipped (text_at bytes line) → document_start (lines_at bytes at) ≡ first_line (lines_at bytes line)
-  start-here h = start-text_line (lines_at bytes at) ∙ ap start_from e ∙ ap (λ b. cond b (Ok (lines_at bytes line)) (first_line (lines_at bytes line))) (sym h)
-
-  pub ended-here : line ≤ length bytes → (solid : ℕ) → solid ≤ length bytes → blanks_dropped (lines_at bytes line) ≡ lines_at bytes solid → false ≡ is_skipped (text_at bytes line)
-      → ended_behind (lines_at bytes at) ≡ fault yaml.SecondDocument solid
-  ended-here k solid inside w h =
-      ended-text_line (lines_at bytes at) ∙ ap ended_from e ∙ ap (λ b. cond b (Ok tt) (misplaced (lines_at bytes line))) (sym h)
-      ∙ ap (λ ls. fault yaml.SecondDocument (start ls)) w ∙ ap (fault yaml.SecondDocument) (start-at bytes solid inside)
-
-  pub end-here : false ≡ is_skipped (text_at bytes line) → document_end (lines_at bytes at) ≡ last_line (lines_at bytes line)
-  end-here h = end-text_line (lines_at bytes at) ∙ ap end_from e ∙ ap (λ b. cond b (Ok tt) (last_line (lines_at bytes line))) (sym h)
-
-  module _ (l : line ≡ length bytes) where
-    pub start-file_end : document_start (lines_at bytes at) ≡ Ok (lines_at bytes line)
-    start-file_end = start-text_line (lines_at bytes at) ∙ ap start_from e ∙ ap start_from (lines-at_end bytes line l) ∙ sym (ap Ok (lines-at_end bytes line l))
-
-    pub ended-file_end : ended_behind (lines_at bytes at) ≡ Ok tt
-    ended-file_end = ended-text_line (lines_at bytes at) ∙ ap ended_from e ∙ ap ended_from (lines-at_end bytes line l)
-
-    pub end-file_end : document_end (lines_at bytes at) ≡ Ok tt
-    end-file_end = end-text_line (lines_at bytes at) ∙ ap end_from e ∙ ap end_from (lines-at_end bytes line l)
 
 -- ---- the first line
 

@@ -8,16 +8,16 @@ use Rattle.al_scalar.specs.Places.{lines_at, text_at}
 use Rattle.al_scalar.specs.Taken.{Fault, fault}
 use Rattle.al_scalar.specs.Scalar.{ScalarRead}
 use Rattle.al_yaml_tree.specs.Node as tree
-use Rattle.al_yaml_tree.specs.Reading.{Reading, Part, part, gives, given, fails, starting_scalar, start_of, listed, anchored, alias, ◌>>=◌}
+use Rattle.al_yaml_tree.specs.Reading.{Reading, Part, part, gives, of_result, fails, starting_scalar, start_of, with_start, gives_with_anchor, alias, ◌>>=◌}
 use Rattle.al_yaml_tree.specs.Limits.{broken_limit}
 use Rattle.al_scalar.specs.Plain.{flow}
 use Rattle.al_scalar.specs.Scalar.{scalar_at}
-use Rattle.al_yaml_tree.specs.Content.{is_quote, is_simple_key, is_property, is_flow_start, has_no_name, anchor_name, behind_name, flow_fault, unless}
-use Rattle.al_yaml_tree.specs.Flow.{gap, is_file_end, FlowReader, CollectionReader, FlowSlot}
+use Rattle.al_yaml_tree.specs.Content.{is_file_end, is_quote, is_simple_key, is_property, is_flow_start, has_no_name, anchor_name, behind_name, flow_fault, unless}
+use Rattle.al_yaml_tree.specs.Flow.{gap, FlowReader, CollectionReader, FlowSlot}
 use Rattle.al_yaml_tree.specs.Flow.{flow_key, flow_value, flow_entry_value, flow_content}
 use Rattle.al_yaml_tree.specs.Flow.{flow_property, flow_node_over, empty_node, FlowKey, flow_key_of, key_colon, unless_late}
 use Rattle.al_yaml_tree.specs.Flow.{behind_colon, is_late_colon}
-use Rattle.al_yaml_parts.specs.Reads.{State, run, counted, Stops, Refuses}
+use Rattle.al_yaml_parts.specs.Reads.{State, run, with_nodes, Stops, Refuses}
 use Rattle.al_yaml_parts.specs.Answers.{completing}
 use Rattle.al_yaml_parts.specs.Reads.{alias_part}
 use Rattle.al_yaml_parts.specs.declared.faults.ReadError.{ReadError}
@@ -99,10 +99,10 @@ module _ (collection : CollectionReader) (slot : FlowSlot) (depth : ℕ) (n : St
       content-collection h = content-right ∙ if-false (is_property (text_at bytes at)) _ _ plain ∙ if-true (is_flow_start (text_at bytes at)) _ _ h
 
       pub content-scalar : false ≡ is_flow_start (text_at bytes at) → flow_content collection slot depth (lines_at bytes at)
-          ≡ listed (start_of at 1 0) (scalar_reading (scalar_at flow (lines_at bytes at)))
+          ≡ with_start (start_of at 1 0) (scalar_reading (scalar_at flow (lines_at bytes at)))
       content-scalar h =
           content-right ∙ if-false (is_property (text_at bytes at)) _ _ plain ∙ if-false (is_flow_start (text_at bytes at)) _ _ h
-          ∙ ap (λ i. listed (start_of i 1 0) (scalar_reading (scalar_at flow (lines_at bytes at)))) (start-at bytes at inside)
+          ∙ ap (λ i. with_start (start_of i 1 0) (scalar_reading (scalar_at flow (lines_at bytes at)))) (start-at bytes at inside)
 
 -- ---- anchors and aliases
 
@@ -110,7 +110,7 @@ module _ (collection : CollectionReader) (slot : FlowSlot) (depth : ℕ) (n : St
   abbrev property_inside : ℕ → List Line → Reading (Part tree.Node)
   property_inside i rest =
       cond (begins 42 (text_at bytes at)) (alias (anchor_name (lines_at bytes at)) i depth >>= (λ n. gives (part n (start rest) rest)))
-      (flow_value (flow_content collection) slot depth (gap false rest) >>= (λ x. anchored (record { name = anchor_name (lines_at bytes at); at = i; node = x.value }) x))
+      (flow_value (flow_content collection) slot depth (gap false rest) >>= (λ x. gives_with_anchor (record { name = anchor_name (lines_at bytes at); at = i; node = x.value }) x))
 
   property-cases : flow_property collection slot depth (lines_at bytes at)
       ≡ cond (has_no_name (lines_at bytes at)) (fails yaml.UnexpectedCharacter (start (lines_at bytes at))) (property_inside (start (lines_at bytes at)) (behind_name (lines_at bytes at)))
@@ -136,7 +136,7 @@ module _ (collection : CollectionReader) (slot : FlowSlot) (depth : ℕ) (n : St
       property-anchor =
           property-named ∙ if-false (begins 42 (text_at bytes at)) _ _ anchor
           ∙ ap (λ i. flow_value (flow_content collection) slot depth (gap false (behind_name (lines_at bytes at)))
-          >>= (λ x. anchored (record { name = anchor_name (lines_at bytes at); at = i; node = x.value }) x)) (start-at bytes at inside)
+          >>= (λ x. gives_with_anchor (record { name = anchor_name (lines_at bytes at); at = i; node = x.value }) x)) (start-at bytes at inside)
           ∙ ap (λ ls. completing bytes (Some at) (flow_value (flow_content collection) slot depth (gap false ls))) behind-is
           ∙ ap (λ ls. completing bytes (Some at) (flow_value (flow_content collection) slot depth ls)) gapped
 
@@ -171,7 +171,7 @@ module _ (collection : CollectionReader) (depth : ℕ) (n : State) (bytes : List
   key_inside =
       cond (is_property (text_at bytes at)) (fails (cond (has_no_name (lines_at bytes at)) yaml.UnexpectedCharacter yaml.AnchorOrAlias) (start (lines_at bytes at)))
       (cond (is_flow_start (text_at bytes at)) (collection depth (lines_at bytes at) >>= (λ x. fails yaml.WrongKey (start (lines_at bytes at))))
-      (given (scalar_at flow (lines_at bytes at)) >>= (λ r. flow_key_of (lines_at bytes at) r)))
+      (of_result (scalar_at flow (lines_at bytes at)) >>= (λ r. flow_key_of (lines_at bytes at) r)))
 
   key-unless : flow_key collection depth (lines_at bytes at) ≡ unless (flow_fault (text_at bytes at)) (start (lines_at bytes at)) key_inside
   unfolding flow_key
@@ -202,7 +202,7 @@ module _ (collection : CollectionReader) (depth : ℕ) (n : State) (bytes : List
       key-opens h = ap (run n) (key-step h) ∙ ap (λ i. run n (collection depth (lines_at bytes at) >>= (λ _. fails yaml.WrongKey i))) (start-at bytes at inside)
 
       module _ (scalar : false ≡ is_flow_start (text_at bytes at)) where
-        key-scalar : flow_key collection depth (lines_at bytes at) ≡ (given (scalar_at flow (lines_at bytes at)) >>= (λ r. flow_key_of (lines_at bytes at) r))
+        key-scalar : flow_key collection depth (lines_at bytes at) ≡ (of_result (scalar_at flow (lines_at bytes at)) >>= (λ r. flow_key_of (lines_at bytes at) r))
         key-scalar = key-right ∙ if-false (is_property (text_at bytes at)) _ _ plain ∙ if-false (is_flow_start (text_at bytes at)) _ _ scalar
 
         pub key-unread : (e : ReadError) → Refuses (scalar_at flow (lines_at bytes at)) e → Stops (flow_key collection depth (lines_at bytes at)) n e
@@ -212,26 +212,26 @@ module _ (collection : CollectionReader) (depth : ℕ) (n : State) (bytes : List
           abbrev pub with_colon : Option (List Line) → Reading FlowKey
           with_colon colon = starting_scalar (start (lines_at bytes at)) (gives (record { scalar = r; behind = colon }))
 
-          scalar-read : run n (flow_key collection depth (lines_at bytes at)) ≡ run n (given (key_colon (lines_at bytes at) r) >>= with_colon)
+          scalar-read : run n (flow_key collection depth (lines_at bytes at)) ≡ run n (of_result (key_colon (lines_at bytes at) r) >>= with_colon)
           scalar-read = ap (run n) key-scalar ∙ given-ok (scalar_at flow (lines_at bytes at)) (λ r. flow_key_of (lines_at bytes at) r) n r read
 
           pub key-wrong : (f : Fault) → key_colon (lines_at bytes at) r ≡ Err f → run n (flow_key collection depth (lines_at bytes at)) ≡ Err f
-          key-wrong f h = scalar-read ∙ run-stop n (given (key_colon (lines_at bytes at) r)) with_colon f (run-refused n (key_colon (lines_at bytes at) r) f h)
+          key-wrong f h = scalar-read ∙ run-stop n (of_result (key_colon (lines_at bytes at) r)) with_colon f (run-refused n (key_colon (lines_at bytes at) r) f h)
 
           module _ (colon : Option (List Line)) (found : key_colon (lines_at bytes at) r ≡ Ok colon) where
-            key-found : run n (flow_key collection depth (lines_at bytes at)) ≡ run n (listed (start_of at 1 0) (gives (record { scalar = r; behind = colon })))
+            key-found : run n (flow_key collection depth (lines_at bytes at)) ≡ run n (with_start (start_of at 1 0) (gives (record { scalar = r; behind = colon })))
             key-found =
                 scalar-read ∙ given-ok (key_colon (lines_at bytes at) r) with_colon n colon found
-                ∙ ap (λ i. run n (listed (start_of i 1 0) (gives (record { scalar = r; behind = colon })))) (start-at bytes at inside)
+                ∙ ap (λ i. run n (with_start (start_of i 1 0) (gives (record { scalar = r; behind = colon })))) (start-at bytes at inside)
 
             pub key-broken : (f : Fault) → broken_limit n.nodes n.text (start_of at 1 0 ∷ []) ≡ Some f → run n (flow_key collection depth (lines_at bytes at)) ≡ Err f
             key-broken f h = key-found ∙ run-broken n 1 at 0 (gives (record { scalar = r; behind = colon })) f h
 
-            pub key-ok : (m : State) → broken_limit n.nodes n.text (start_of at 1 0 ∷ []) ≡ None → m ≡ counted 1 n
+            pub key-ok : (m : State) → broken_limit n.nodes n.text (start_of at 1 0 ∷ []) ≡ None → m ≡ with_nodes 1 n
                 → run n (flow_key collection depth (lines_at bytes at)) ≡ Ok (record { scalar = r; behind = colon }, m)
             key-ok m h e =
                 let x : FlowKey = record { scalar = r; behind = colon } in
-                key-found ∙ run-start n 1 at 0 (gives x) h ∙ run-gives (counted 1 n) x ∙ ap (λ i. Ok (x, i)) (sym e)
+                key-found ∙ run-start n 1 at 0 (gives x) h ∙ run-gives (with_nodes 1 n) x ∙ ap (λ i. Ok (x, i)) (sym e)
 
 -- ---- values
 

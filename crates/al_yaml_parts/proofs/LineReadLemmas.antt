@@ -13,15 +13,15 @@ use Rattle.al_scalar.specs.Scalar.{scalar_at}
 use Rattle.al_scalar.specs.Taken.{Fault}
 use Rattle.al_scalar.specs.declared.scalars.ScalarRead.{ScalarRead}
 use Rattle.al_yaml_tree.specs.Node as tree
-use Rattle.al_yaml_tree.specs.Reading.{Reading, Part, part, gives, given, listed, start_of, ◌>>=◌}
+use Rattle.al_yaml_tree.specs.Reading.{Reading, Part, part, and_then, gives, of_result, with_start, start_of, ◌>>=◌}
 use Rattle.al_yaml_tree.specs.Limits.{broken_limit}
 use Rattle.al_yaml_tree.specs.Content.{is_quote}
 use Rattle.al_yaml_tree.specs.Blocks.{scalar_left, scalar_node_at}
 use Rattle.al_yaml_tree.specs.View.{view}
 use Rattle.al_yaml_parts.specs.declared.part.Part as code
-use Rattle.al_yaml_tree.specs.Keys.{Key, one_line, with_lines, read_with_lines, plain_on_line, key_scalar, behind_colon, key_from}
+use Rattle.al_yaml_tree.specs.Keys.{Key, one_line, with_lines, plain_on_line, key_scalar, behind_colon, key_of}
 use Rattle.al_yaml_parts.specs.Places.{IsReadInside}
-use Rattle.al_yaml_parts.specs.Reads.{State, run, counted, Stops, Refuses, Answers, part_of}
+use Rattle.al_yaml_parts.specs.Reads.{State, run, with_nodes, Stops, Refuses, Answers, part_of}
 use Rattle.al_yaml_parts.specs.declared.faults.ReadError.{ReadError}
 use Rattle.al_yaml_parts.specs.declared.faults.ReadError.TheVariants as stop
 use Rattle.al_scalar.proofs.SingleLemmas.{has_line, lines_at-some, lines-at_end, text-line_end, is_inside}
@@ -51,6 +51,9 @@ with_lines-with_cell rest c (l ∷ ls) = refl
 with_lines-own : (ls : List Line) → with_lines (one_line ls) ls ≡ ls
 with_lines-own [] = refl
 with_lines-own (l ∷ ls) = refl
+
+abbrev read_with_lines : List Line → Result value.ScalarRead Fault → Result value.ScalarRead Fault
+read_with_lines ls r = and_then r (λ r. Ok (record { scalar = r.scalar; span = r.span; left = with_lines r.left ls }))
 
 module _ (bytes : List ℕ) (e : ℕ) (inside : e ≤ length bytes) (ended : IsLineEnd bytes e) where
   short_length : length (take e bytes) ≡ e
@@ -144,15 +147,16 @@ module _ (bytes : List ℕ) (e : ℕ) (inside : e ≤ length bytes) (ended : IsL
 
 -- ---- keys
 
-pub key-stops : (asked : Result value.ScalarRead Fault) (e : ReadError) → Refuses asked e → Refuses (key_from asked) e
-key-stops asked (stop.Fault f) h = ap key_from h
+pub key-stops : (asked : Result value.ScalarRead Fault) (e : ReadError) → Refuses asked e → Refuses (and_then asked (λ r. Ok (key_of r))) e
+key-stops asked (stop.Fault f) h = ap (λ a. and_then a (λ r. Ok (key_of r))) h
 key-stops asked stop.Memory h = tt
 
 abbrev pub key_with : value.ScalarRead → Option (List Line) → Option Key
 key_with r o = elim o [ None ↦ None | Some left ↦ Some (record { scalar = r; behind = left }) ]
 
-pub key-given : (asked : Result value.ScalarRead Fault) (r : value.ScalarRead) (o : Option (List Line)) → asked ≡ Ok r → behind_colon r.left ≡ o → key_from asked ≡ Ok (key_with r o)
-key-given asked r o h k = ap key_from h ∙ ap (λ x. Ok (key_with r x)) k
+pub key-given : (asked : Result value.ScalarRead Fault) (r : value.ScalarRead) (o : Option (List Line)) → asked ≡ Ok r → behind_colon r.left ≡ o
+    → and_then asked (λ r. Ok (key_of r)) ≡ Ok (key_with r o)
+key-given asked r o h k = ap (λ a. and_then a (λ r. Ok (key_of r))) h ∙ ap (λ x. Ok (key_with r x)) k
 
 pub answers-same : (bytes : List ℕ) (asked other : Result value.ScalarRead Fault) (result : Result ScalarRead ReadError) → asked ≡ other
     → Answers (read_of bytes) other result → Answers (read_of bytes) asked result
@@ -170,18 +174,18 @@ key-plain ls h = if-false (is_quote (first_text ls)) _ _ h
 
 module _ (within : ℕ) (n : State) (at : ℕ) (bytes : List ℕ) (inside : at ≤ length bytes) where
   abbrev pub left_of : value.ScalarRead → Reading (Part tree.Node)
-  left_of r = given (scalar_left (lines_at bytes at) r.left) >>= (λ left. gives (part (tree.scalar_node r) r.span.end left))
+  left_of r = of_result (scalar_left (lines_at bytes at) r.left) >>= (λ left. gives (part (tree.scalar_node r) r.span.end left))
 
   abbrev pub line_scalar : Reading (Part tree.Node)
-  line_scalar = given (scalar_at (block within) (lines_at bytes at)) >>= left_of
+  line_scalar = of_result (scalar_at (block within) (lines_at bytes at)) >>= left_of
 
-  line-first : scalar_node_at within (lines_at bytes at) ≡ listed (start_of at 1 0) line_scalar
-  line-first = ap (λ i. listed (start_of i 1 0) line_scalar) (start-at bytes at inside)
+  line-first : scalar_node_at within (lines_at bytes at) ≡ with_start (start_of at 1 0) line_scalar
+  line-first = ap (λ i. with_start (start_of i 1 0) line_scalar) (start-at bytes at inside)
 
   pub line-broken : (f : Fault) → broken_limit n.nodes n.text (start_of at 1 0 ∷ []) ≡ Some f → run n (scalar_node_at within (lines_at bytes at)) ≡ Err f
   line-broken f h = ap (run n) line-first ∙ run-broken n 1 at 0 line_scalar f h
 
-  module _ (m : State) (fits : broken_limit n.nodes n.text (start_of at 1 0 ∷ []) ≡ None) (more : m ≡ counted 1 n) where
+  module _ (m : State) (fits : broken_limit n.nodes n.text (start_of at 1 0 ∷ []) ≡ None) (more : m ≡ with_nodes 1 n) where
     line-starts : run n (scalar_node_at within (lines_at bytes at)) ≡ run m line_scalar
     line-starts = ap (run n) line-first ∙ run-start n 1 at 0 line_scalar fits ∙ ap (λ i. run i line_scalar) (sym more)
 
@@ -194,7 +198,7 @@ module _ (within : ℕ) (n : State) (at : ℕ) (bytes : List ℕ) (inside : at �
 
       pub line-wrong : (f : Fault) → scalar_left (lines_at bytes at) (lines_at bytes r.next) ≡ Err f → run n (scalar_node_at within (lines_at bytes at)) ≡ Err f
       line-wrong f h =
-          line-read ∙ run-stop m (given (scalar_left (lines_at bytes at) (lines_at bytes r.next))) (λ left. gives (part (tree.scalar_node (read_of bytes r)) r.span.end left)) f
+          line-read ∙ run-stop m (of_result (scalar_left (lines_at bytes at) (lines_at bytes r.next))) (λ left. gives (part (tree.scalar_node (read_of bytes r)) r.span.end left)) f
           (run-refused m (scalar_left (lines_at bytes at) (lines_at bytes r.next)) f h)
 
       pub line-ok : (next : ℕ) (p : code.Part) → scalar_left (lines_at bytes at) (lines_at bytes r.next) ≡ Ok (lines_at bytes next)

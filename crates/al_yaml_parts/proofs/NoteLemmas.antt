@@ -2,11 +2,11 @@
 use Rattle.std.proofs.Common.{◌≡◌, ℕ, List, refl, sym, ap, ◌∙◌, Option, Some, None, Ok, Err}
 use Rattle.al_yaml_tree.specs.Node as tree
 use Rattle.al_yaml_tree.specs.Node.{Node}
-use Rattle.al_yaml_tree.specs.Reading.{Reading, Part, part, anchored, gives, fails, spanned, ◌>>=◌}
-use Rattle.al_yaml_parts.specs.Answers.{Answer, Mark, answered, noting}
+use Rattle.al_yaml_tree.specs.Reading.{Reading, Part, part, gives_with_anchor, gives, fails, with_span, ◌>>=◌}
+use Rattle.al_yaml_parts.specs.Answers.{Answer, Mark, then_read, noting}
 use Rattle.al_yaml_parts.specs.Answers.{completing, mark_of}
 use Rattle.al_scalar.specs.Taken.{Fault}
-use Rattle.al_yaml_parts.specs.Reads.{State, run, Stops, anchor_at, noted_at, part_of}
+use Rattle.al_yaml_parts.specs.Reads.{State, run, Stops, anchor_at, state_with_anchor_at, part_of}
 use Rattle.al_yaml_tree.specs.View.{view}
 use Rattle.al_yaml_parts.specs.declared.faults.ReadError.{ReadError}
 use Rattle.al_yaml_parts.specs.declared.part.Part as code
@@ -18,14 +18,14 @@ use Rattle.al_scalar.specs.Scalar.{span}
 
 -- ---- what is read behind an answer
 
-bind-cases : {A B : Type 0} (s : State) (r : Reading A) (f : A → Reading B) (o : Answer A) → run s r ≡ o → run s (r >>= f) ≡ answered o f
+bind-cases : {A B : Type 0} (s : State) (r : Reading A) (f : A → Reading B) (o : Answer A) → run s r ≡ o → run s (r >>= f) ≡ then_read o f
 bind-cases s r f (Err e) h = run-stop s r f e h
 bind-cases s r f (Ok p) h = run-bind s r f p.0 p.1 h
 
-pub bind-answer : {A B : Type 0} (s : State) (r : Reading A) (f : A → Reading B) → run s (r >>= f) ≡ answered (run s r) f
+pub bind-answer : {A B : Type 0} (s : State) (r : Reading A) (f : A → Reading B) → run s (r >>= f) ≡ then_read (run s r) f
 bind-answer s r f = bind-cases s r f (run s r) refl
 
-pub answered-bind : {A B C : Type 0} (o : Answer A) (g : A → Reading B) (h : B → Reading C) → answered (answered o g) h ≡ answered o (λ x. g x >>= h)
+pub answered-bind : {A B C : Type 0} (o : Answer A) (g : A → Reading B) (h : B → Reading C) → then_read (then_read o g) h ≡ then_read o (λ x. g x >>= h)
 answered-bind (Err e) g h = refl
 answered-bind (Ok p) g h = sym (bind-answer p.1 (g p.0) h)
 
@@ -34,12 +34,12 @@ span_part f at p = gives (part (f p.value (span at p.end)) p.end p.left)
 
 -- what is read of a collection behind a part of it
 pub spanned-answer : {A B : Type 0} (f : B → Span → Node) (at : ℕ) (s : State) (r : Reading A) (g : A → Reading (Part B))
-    → run s (spanned f at (r >>= g)) ≡ answered (run s r) (λ x. spanned f at (g x))
+    → run s (with_span f at (r >>= g)) ≡ then_read (run s r) (λ x. with_span f at (g x))
 spanned-answer f at s r g =
-    bind-answer s (r >>= g) (span_part f at) ∙ ap (λ o. answered o (span_part f at)) (bind-answer s r g) ∙ answered-bind (run s r) g (span_part f at)
+    bind-answer s (r >>= g) (span_part f at) ∙ ap (λ o. then_read o (span_part f at)) (bind-answer s r g) ∙ answered-bind (run s r) g (span_part f at)
 
 -- a fault behind an answer
-pub answered-fails : {A B C : Type 0} (o : Answer A) (code : YamlCode) (at : ℕ) (f : B → Reading C) → answered (answered o (λ _. fails code at)) f ≡ answered o (λ _. fails code at)
+pub answered-fails : {A B C : Type 0} (o : Answer A) (code : YamlCode) (at : ℕ) (f : B → Reading C) → then_read (then_read o (λ _. fails code at)) f ≡ then_read o (λ _. fails code at)
 unfolding run
 answered-fails (Err e) code at f = refl
 answered-fails (Ok p) code at f = refl
@@ -51,28 +51,28 @@ noting-err None e = refl
 noting-err (Some m) e = refl
 
 noting-answer : (bytes : List ℕ) (at : ℕ) (o : Answer (Part tree.Node))
-    → answered o (λ x. anchored (anchor_at bytes at x.value) x) ≡ noting (mark_of bytes (Some at)) o
+    → then_read o (λ x. gives_with_anchor (anchor_at bytes at x.value) x) ≡ noting (mark_of bytes (Some at)) o
 noting-answer bytes at (Err e) = refl
 noting-answer bytes at (Ok p) = run-anchored p.1 (anchor_at bytes at p.0.value) p.0
 
 pub completing-noted : (bytes : List ℕ) (anchor : Option ℕ) (s : State) (r : Reading (Part tree.Node)) → run s (completing bytes anchor r) ≡ noting (mark_of bytes anchor) (run s r)
 completing-noted bytes None s r = refl
-completing-noted bytes (Some at) s r = bind-answer s r (λ x. anchored (anchor_at bytes at x.value) x) ∙ noting-answer bytes at (run s r)
+completing-noted bytes (Some at) s r = bind-answer s r (λ x. gives_with_anchor (anchor_at bytes at x.value) x) ∙ noting-answer bytes at (run s r)
 
 -- what completing a part makes of it
-pub noted-part : (bytes : List ℕ) (anchor : Option ℕ) (p q : code.Part) (s t : State) → part_of bytes q ≡ part_of bytes p → t ≡ noted_at bytes anchor (view p.node) s
+pub noted-part : (bytes : List ℕ) (anchor : Option ℕ) (p q : code.Part) (s t : State) → part_of bytes q ≡ part_of bytes p → t ≡ state_with_anchor_at bytes anchor (view p.node) s
     → noting (mark_of bytes anchor) (Ok (part_of bytes p, s)) ≡ Ok (part_of bytes q, t)
 noted-part bytes None p q s t a b = ap (λ x. Ok (x, s)) (sym a) ∙ ap (λ u. Ok (part_of bytes q, u)) (sym b)
-noted-part bytes (Some at) p q s t a b = ap (λ x. Ok (x, noted_at bytes (Some at) (view p.node) s)) (sym a) ∙ ap (λ u. Ok (part_of bytes q, u)) (sym b)
+noted-part bytes (Some at) p q s t a b = ap (λ x. Ok (x, state_with_anchor_at bytes (Some at) (view p.node) s)) (sym a) ∙ ap (λ u. Ok (part_of bytes q, u)) (sym b)
 
 -- what a fault, and what is read from a state on, make of an answer with its anchor
 pub completing-err : (bytes : List ℕ) (anchor : Option ℕ) (s : State) (r : Reading (Part tree.Node)) (f : Fault) → run s r ≡ Err f → run s (completing bytes anchor r) ≡ Err f
 completing-err bytes None s r f h = h
-completing-err bytes (Some at) s r f h = run-stop s r (λ x. anchored (anchor_at bytes at x.value) x) f h
+completing-err bytes (Some at) s r f h = run-stop s r (λ x. gives_with_anchor (anchor_at bytes at x.value) x) f h
 
 pub completing-stops : (bytes : List ℕ) (anchor : Option ℕ) (s : State) (r : Reading (Part tree.Node)) (e : ReadError) → Stops r s e → Stops (completing bytes anchor r) s e
 completing-stops bytes None s r e h = h
-completing-stops bytes (Some at) s r e h = stops-bind r (λ x. anchored (anchor_at bytes at x.value) x) s e h
+completing-stops bytes (Some at) s r e h = stops-bind r (λ x. gives_with_anchor (anchor_at bytes at x.value) x) s e h
 
 pub completing-runs : (bytes : List ℕ) (anchor : Option ℕ) (s t : State) (r q : Reading (Part tree.Node)) → run s r ≡ run t q
     → run s (completing bytes anchor r) ≡ noting (mark_of bytes anchor) (run t q)
@@ -80,7 +80,7 @@ completing-runs bytes anchor s t r q h = completing-noted bytes anchor s r ∙ a
 
 -- a part that was read, and then completed
 pub completing-part : (bytes : List ℕ) (anchor : Option ℕ) (p q : code.Part) (n s t : State) (r : Reading (Part tree.Node)) → run n r ≡ Ok (part_of bytes p, s)
-    → part_of bytes q ≡ part_of bytes p → t ≡ noted_at bytes anchor (view p.node) s → run n (completing bytes anchor r) ≡ Ok (part_of bytes q, t)
+    → part_of bytes q ≡ part_of bytes p → t ≡ state_with_anchor_at bytes anchor (view p.node) s → run n (completing bytes anchor r) ≡ Ok (part_of bytes q, t)
 completing-part bytes anchor p q n s t r h a b = completing-noted bytes anchor n r ∙ ap (noting (mark_of bytes anchor)) h ∙ noted-part bytes anchor p q s t a b
 
 pub completing-same : (bytes : List ℕ) (anchor : Option ℕ) (s : State) (r q : Reading (Part tree.Node)) → run s r ≡ run s q → run s (completing bytes anchor r) ≡ run s (completing bytes anchor q)

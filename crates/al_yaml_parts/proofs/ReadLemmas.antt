@@ -12,10 +12,10 @@ use Rattle.al_yaml_parts.specs.declared.part.Part as code
 use Rattle.al_scalar.proofs.RestLemmas.{start-at}
 use Rattle.al_scalar.specs.Taken.{Fault}
 use Rattle.al_yaml_tree.specs.Node as tree
-use Rattle.al_yaml_tree.specs.Reading.{Reading, Part, part, given, gives, listed, start_of, spanned, ◌>>=◌}
+use Rattle.al_yaml_tree.specs.Reading.{Reading, Part, part, of_result, gives, with_start, start_of, with_span, ◌>>=◌}
 use Rattle.al_yaml_tree.specs.Limits.{broken_limit}
 use Rattle.al_yaml_parts.specs.Places.{fault_of}
-use Rattle.al_yaml_parts.specs.Reads.{State, run, counted, Stops, Refuses, IsRead, part_of}
+use Rattle.al_yaml_parts.specs.Reads.{State, run, with_nodes, Stops, Refuses, IsRead, part_of}
 use Rattle.al_yaml_tree.specs.View.{view, entry_view, nodes_of, entries_of}
 use Rattle.al_yaml_parts.specs.declared.faults.ReadError.{ReadError}
 use Rattle.al_yaml_parts.specs.declared.faults.ReadError.TheVariants as stop
@@ -36,8 +36,8 @@ stops-from r q n m stop.Memory g h = tt
 pub stops-same : {A : Type 0} (r q : Reading A) (n : State) (e : ReadError) → r ≡ q → Stops q n e → Stops r n e
 stops-same r q n e g h = stops-from r q n n e (ap (run n) g) h
 
-pub stops-given : {A B : Type 0} (asked : Result A Fault) (f : A → Reading B) (n : State) (e : ReadError) → Refuses asked e → Stops (given asked >>= f) n e
-stops-given asked f n (stop.Fault x) h = run-stop n (given asked) f (fault_of x) (run-refused n asked (fault_of x) h)
+pub stops-given : {A B : Type 0} (asked : Result A Fault) (f : A → Reading B) (n : State) (e : ReadError) → Refuses asked e → Stops (of_result asked >>= f) n e
+stops-given asked f n (stop.Fault x) h = run-stop n (of_result asked) f (fault_of x) (run-refused n asked (fault_of x) h)
 stops-given asked f n stop.Memory h = tt
 
 -- ---- what is read next
@@ -45,15 +45,15 @@ stops-given asked f n stop.Memory h = tt
 pub bind-ok : {A B : Type 0} (r : Reading A) (f : A → Reading B) (n m : State) (x : A) → run n r ≡ Ok (x, m) → run n (r >>= f) ≡ run m (f x)
 bind-ok r f n m x h = run-bind n r f x m h
 
-pub given-ok : {A B : Type 0} (asked : Result A Fault) (f : A → Reading B) (n : State) (x : A) → asked ≡ Ok x → run n (given asked >>= f) ≡ run n (f x)
-given-ok asked f n x h = bind-ok (given asked) f n n x (run-given n asked x h)
+pub given-ok : {A B : Type 0} (asked : Result A Fault) (f : A → Reading B) (n : State) (x : A) → asked ≡ Ok x → run n (of_result asked >>= f) ≡ run n (f x)
+given-ok asked f n x h = bind-ok (of_result asked) f n n x (run-given n asked x h)
 
 pub spanned-ok : {A : Type 0} (f : A → Span → tree.Node) (at : ℕ) (r : Reading (Part A)) (n m : State) (x : A) (end : ℕ) (left : List Line) → run n r ≡ Ok (part x end left, m)
-    → run n (spanned f at r) ≡ Ok (part (f x (span at end)) end left, m)
+    → run n (with_span f at r) ≡ Ok (part (f x (span at end)) end left, m)
 spanned-ok f at r n m x end left h =
     bind-ok r (λ p. gives (part (f p.value (span at p.end)) p.end p.left)) n m (part x end left) h ∙ run-gives m (part (f x (span at end)) end left)
 
-pub spanned-stops : {A : Type 0} (f : A → Span → tree.Node) (at : ℕ) (r : Reading (Part A)) (n : State) (e : ReadError) → Stops r n e → Stops (spanned f at r) n e
+pub spanned-stops : {A : Type 0} (f : A → Span → tree.Node) (at : ℕ) (r : Reading (Part A)) (n : State) (e : ReadError) → Stops r n e → Stops (with_span f at r) n e
 spanned-stops f at r n e h = stops-bind r (λ p. gives (part (f p.value (span at p.end)) p.end p.left)) n e h
 
 -- ---- what was read so far
@@ -85,18 +85,18 @@ same_part {A = A} v w end end' left left' m m' a b c d =
 -- ---- scalars
 
 abbrev pub scalar_reading : Result value.ScalarRead Fault → Reading (Part tree.Node)
-scalar_reading asked = given asked >>= (λ r. gives (part (tree.scalar_node r) r.span.end r.left))
+scalar_reading asked = of_result asked >>= (λ r. gives (part (tree.scalar_node r) r.span.end r.left))
 
-module _ (asked : Result value.ScalarRead Fault) (n m : State) (at : ℕ) (fits : broken_limit n.nodes n.text (start_of at 1 0 ∷ []) ≡ None) (more : m ≡ counted 1 n) where
-  scalar-starts : run n (listed (start_of at 1 0) (scalar_reading asked)) ≡ run m (scalar_reading asked)
+module _ (asked : Result value.ScalarRead Fault) (n m : State) (at : ℕ) (fits : broken_limit n.nodes n.text (start_of at 1 0 ∷ []) ≡ None) (more : m ≡ with_nodes 1 n) where
+  scalar-starts : run n (with_start (start_of at 1 0) (scalar_reading asked)) ≡ run m (scalar_reading asked)
   scalar-starts = run-start n 1 at 0 (scalar_reading asked) fits ∙ ap (λ i. run i (scalar_reading asked)) (sym more)
 
-  pub scalar-stops : (e : ReadError) → Refuses asked e → Stops (listed (start_of at 1 0) (scalar_reading asked)) n e
-  scalar-stops e h = stops-from (listed (start_of at 1 0) (scalar_reading asked)) (scalar_reading asked) n m e scalar-starts
+  pub scalar-stops : (e : ReadError) → Refuses asked e → Stops (with_start (start_of at 1 0) (scalar_reading asked)) n e
+  scalar-stops e h = stops-from (with_start (start_of at 1 0) (scalar_reading asked)) (scalar_reading asked) n m e scalar-starts
       (stops-given asked (λ r. gives (part (tree.scalar_node r) r.span.end r.left)) m e h)
 
   pub scalar-ok : (bytes : List ℕ) (r : ScalarRead) (p : code.Part) → asked ≡ Ok (read_of bytes r) → view p.node ≡ tree.scalar r.scalar r.span → p.end ≡ r.span.end → p.next ≡ r.next
-      → run n (listed (start_of at 1 0) (scalar_reading asked)) ≡ Ok (part_of bytes p, m)
+      → run n (with_start (start_of at 1 0) (scalar_reading asked)) ≡ Ok (part_of bytes p, m)
   scalar-ok bytes r p h a b c =
       scalar-starts ∙ given-ok asked (λ r. gives (part (tree.scalar_node r) r.span.end r.left)) m (read_of bytes r) h
       ∙ run-gives m (part (tree.scalar r.scalar r.span) r.span.end (lines_at bytes r.next))
@@ -112,7 +112,7 @@ pub empty-stops : (n : State) (at : ℕ) (left : List Line) (x : value.ScalarRea
 empty-stops n at left x (stop.Fault f) h = cc
 empty-stops n at left x stop.Memory h = tt
 
-pub empty-ok : (bytes : List ℕ) (n m : State) (at next : ℕ) (r : ScalarRead) (p : code.Part) → broken_limit n.nodes n.text (start_of at 1 0 ∷ []) ≡ None → m ≡ counted 1 n → at ≤ length bytes
+pub empty-ok : (bytes : List ℕ) (n m : State) (at next : ℕ) (r : ScalarRead) (p : code.Part) → broken_limit n.nodes n.text (start_of at 1 0 ∷ []) ≡ None → m ≡ with_nodes 1 n → at ≤ length bytes
     → ◌≡◌ {A = Result value.ScalarRead Fault} (Ok (value.empty_at (lines_at bytes at))) (Ok (read_of bytes r)) → view p.node ≡ tree.scalar r.scalar r.span → p.end ≡ r.span.end → p.next ≡ next
     → run n (empty_node at (lines_at bytes next)) ≡ Ok (part_of bytes p, m)
 empty-ok bytes n m at next r p fits more inside h a b c =
@@ -121,6 +121,6 @@ empty-ok bytes n m at next r p fits more inside h a b c =
     let s : value.empty_scalar at ≡ r.scalar = ap value.empty_scalar (sym here) ∙ ap (λ x. x.scalar) same in
     let t : span at at ≡ r.span = ap (λ i. span i i) (sym here) ∙ ap (λ x. x.span) same in
     let end : at ≡ r.span.end = ap (λ x. x.end) t in
-    run-start n 1 at 0 (gives (part (empty_tree at) at (lines_at bytes next))) fits ∙ run-gives (counted 1 n) (part (empty_tree at) at (lines_at bytes next))
-    ∙ same_part (empty_tree at) (view p.node) at p.end (lines_at bytes next) (lines_at bytes p.next) (counted 1 n) m
+    run-start n 1 at 0 (gives (part (empty_tree at) at (lines_at bytes next))) fits ∙ run-gives (with_nodes 1 n) (part (empty_tree at) at (lines_at bytes next))
+    ∙ same_part (empty_tree at) (view p.node) at p.end (lines_at bytes next) (lines_at bytes p.next) (with_nodes 1 n) m
     (ap (λ x. tree.scalar x (span at at)) s ∙ ap (λ x. tree.scalar r.scalar x) t ∙ sym a) (end ∙ sym b) (ap (lines_at bytes) (sym c)) (sym more)

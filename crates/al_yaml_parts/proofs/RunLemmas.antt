@@ -3,10 +3,11 @@ use Rattle.std.proofs.Common.{◌≡◌, ℕ, ◌+◌, List, [], ◌∷◌, ◌+
 use Rattle.std.specs.Prelude.{nat_lt}
 use Rattle.al_base.specs.declared.codes.YamlCode.{YamlCode}
 use Rattle.al_scalar.specs.Taken.{Fault}
-use Rattle.al_yaml_tree.specs.Reading.{Start, start_of, start_with, Anchor, anchored, with_anchor, nothing_known, listed, Known, Outcome, Reading, gives, fails, given, after, next, ◌>>=◌}
-use Rattle.al_yaml_tree.specs.Limits.{broken_limit, unless_broken, limited, nodes_listed, text_listed}
+use Rattle.al_yaml_tree.specs.Reading.{Start, start_of, start_with, Anchor, gives_with_anchor, with_anchor, nothing_known, with_start}
+use Rattle.al_yaml_tree.specs.Reading.{Known, Outcome, Reading, gives, fails, of_result, after, next, ◌>>=◌}
+use Rattle.al_yaml_tree.specs.Limits.{broken_limit, unless_fault, within_limits, nodes_listed, text_listed}
 use Rattle.al_base.specs.Limits.{deepest_collection, most_alias_text, most_nodes}
-use Rattle.al_yaml_parts.specs.Reads.{State, finished, state_after, run_outcome, run, counted, noted, at_start}
+use Rattle.al_yaml_parts.specs.Reads.{State, with_state, state_after, run_outcome, run, with_nodes, state_with_anchor, at_start}
 
 limit-none : (a d : Bool) (e f : Fault) (below below' rest : Option Fault) → cond a (Some e) (cond d (Some f) below) ≡ None
     → (below ≡ None → below' ≡ rest) → cond a (Some e) (cond d (Some f) below') ≡ rest
@@ -50,24 +51,24 @@ text_listed-append (s ∷ ss) ys = omega (arith, text_listed-append ss ys)
 -- ---- what is read next
 
 goes-state : {A : Type 0} (n t : ℕ) (xs ys : List Start) (k : Known) (r : Result A Fault) (b : Option Fault)
-    → finished (record { nodes = n + nodes_listed (xs ++ ys); text = t + text_listed (xs ++ ys); known = k }) (unless_broken b r)
-    ≡ finished (record { nodes = (n + nodes_listed xs) + nodes_listed ys; text = (t + text_listed xs) + text_listed ys; known = k }) (unless_broken b r)
+    → with_state (record { nodes = n + nodes_listed (xs ++ ys); text = t + text_listed (xs ++ ys); known = k }) (unless_fault b r)
+    ≡ with_state (record { nodes = (n + nodes_listed xs) + nodes_listed ys; text = (t + text_listed xs) + text_listed ys; known = k }) (unless_fault b r)
 goes-state n t xs ys k r b =
     let e : n + nodes_listed (xs ++ ys) ≡ (n + nodes_listed xs) + nodes_listed ys = omega (arith, nodes_listed-append xs ys) in
     let d : t + text_listed (xs ++ ys) ≡ (t + text_listed xs) + text_listed ys = omega (arith, text_listed-append xs ys) in
-    ap (λ m. finished (record { nodes = m; text = t + text_listed (xs ++ ys); known = k }) (unless_broken b r)) e
-    ∙ ap (λ m. finished (record { nodes = (n + nodes_listed xs) + nodes_listed ys; text = m; known = k }) (unless_broken b r)) d
+    ap (λ m. with_state (record { nodes = m; text = t + text_listed (xs ++ ys); known = k }) (unless_fault b r)) e
+    ∙ ap (λ m. with_state (record { nodes = (n + nodes_listed xs) + nodes_listed ys; text = m; known = k }) (unless_fault b r)) d
 
 -- reading that ended with an answer, and what is read behind it
 goes-after : {B : Type 0} (n t : ℕ) (xs : List Start) (o : Outcome B) → broken_limit n t xs ≡ None
     → run_outcome (record { nodes = n; text = t; known = o.known }) (after xs o) ≡ run_outcome (record { nodes = n + nodes_listed xs; text = t + text_listed xs; known = o.known }) o
 goes-after n t xs o h =
-    ap (λ b. finished (record { nodes = n + nodes_listed (xs ++ o.starts); text = t + text_listed (xs ++ o.starts); known = o.known })
-    (unless_broken b o.answer)) (broken_limit-append n t xs o.starts h)
+    ap (λ b. with_state (record { nodes = n + nodes_listed (xs ++ o.starts); text = t + text_listed (xs ++ o.starts); known = o.known })
+    (unless_fault b o.answer)) (broken_limit-append n t xs o.starts h)
     ∙ goes-state n t xs o.starts o.known o.answer (broken_limit (n + nodes_listed xs) (t + text_listed xs) o.starts)
 
 bind-cases : {A B : Type 0} (n t : ℕ) (ss : List Start) (r : Result A Fault) (k : Known) (f : A → Reading B) (x : A) (u : State) (broken : Option Fault) → broken_limit n t ss ≡ broken
-    → finished (record { nodes = n + nodes_listed ss; text = t + text_listed ss; known = k }) (unless_broken broken r) ≡ Ok (x, u)
+    → with_state (record { nodes = n + nodes_listed ss; text = t + text_listed ss; known = k }) (unless_fault broken r) ≡ Ok (x, u)
     → run_outcome (record { nodes = n; text = t; known = k }) (next (record { starts = ss; answer = r; known = k }) f) ≡ run_outcome u (f x u.known)
 bind-cases {A = A} n t ss (Err d) k f x u None is h = cc
 bind-cases {A = A} n t ss (Err d) k f x u (Some b) is h = cc
@@ -82,14 +83,14 @@ unfolding run
 run-bind s r f x t h = bind-cases s.nodes s.text (r s.known).starts (r s.known).answer (r s.known).known f x t (broken_limit s.nodes s.text (r s.known).starts) refl h
 
 stays-cases : {A B : Type 0} (n t : ℕ) (ss : List Start) (r : Result A Fault) (k : Known) (f : A → Reading B) (e : Fault) (broken : Option Fault) → broken_limit n t ss ≡ broken
-    → finished (record { nodes = n + nodes_listed ss; text = t + text_listed ss; known = k }) (unless_broken broken r) ≡ Err e
+    → with_state (record { nodes = n + nodes_listed ss; text = t + text_listed ss; known = k }) (unless_fault broken r) ≡ Err e
     → run_outcome (record { nodes = n; text = t; known = k }) (next (record { starts = ss; answer = r; known = k }) f) ≡ Err e
-stays-cases n t ss (Err d) k f e None is h = ap (λ b. finished (record { nodes = n + nodes_listed ss; text = t + text_listed ss; known = k }) (unless_broken b (Err d))) is ∙ cc
+stays-cases n t ss (Err d) k f e None is h = ap (λ b. with_state (record { nodes = n + nodes_listed ss; text = t + text_listed ss; known = k }) (unless_fault b (Err d))) is ∙ cc
 stays-cases n t ss (Ok x) k f e None is h = cc
-stays-cases n t ss (Err d) k f e (Some b) is h = ap (λ b. finished (record { nodes = n + nodes_listed ss; text = t + text_listed ss; known = k }) (unless_broken b (Err d))) is ∙ cc
+stays-cases n t ss (Err d) k f e (Some b) is h = ap (λ b. with_state (record { nodes = n + nodes_listed ss; text = t + text_listed ss; known = k }) (unless_fault b (Err d))) is ∙ cc
 stays-cases n t ss (Ok x) k f e (Some b) is h =
     let o = after ss (f x k) in
-    ap (λ b. finished (state_after (record { nodes = n; text = t; known = k }) o) (unless_broken b (f x k).answer)) (broken_limit-stays n t ss (f x k).starts b is) ∙ cc
+    ap (λ b. with_state (state_after (record { nodes = n; text = t; known = k }) o) (unless_fault b (f x k).answer)) (broken_limit-stays n t ss (f x k).starts b is) ∙ cc
 
 pub run-stop : {A B : Type 0} (s : State) (r : Reading A) (f : A → Reading B) (e : Fault) → run s r ≡ Err e → run s (r >>= f) ≡ Err e
 unfolding run
@@ -104,7 +105,7 @@ run-gives s x =
     let d : s.text + 0 ≡ s.text = omega arith in
     ap (λ m. Ok (x, record { nodes = m; text = s.text + 0; known = s.known })) e ∙ ap (λ m. Ok (x, record { nodes = s.nodes; text = m; known = s.known })) d
 
-pub run-anchored : {A : Type 0} (s : State) (a : Anchor) (x : A) → run s (anchored a x) ≡ Ok (x, noted a s)
+pub run-anchored : {A : Type 0} (s : State) (a : Anchor) (x : A) → run s (gives_with_anchor a x) ≡ Ok (x, state_with_anchor a s)
 unfolding run
 run-anchored s a x =
     let e : s.nodes + 0 ≡ s.nodes = omega arith in
@@ -116,15 +117,15 @@ pub run-fails : {A : Type 0} (s : State) (code : YamlCode) (at : ℕ) → run s 
 unfolding run
 run-fails s code at = refl
 
-pub run-given : {A : Type 0} (s : State) (r : Result A Fault) (x : A) → r ≡ Ok x → run s (given r) ≡ Ok (x, s)
-run-given s r x h = ap (λ q. run s (given q)) h ∙ run-gives s x
+pub run-given : {A : Type 0} (s : State) (r : Result A Fault) (x : A) → r ≡ Ok x → run s (of_result r) ≡ Ok (x, s)
+run-given s r x h = ap (λ q. run s (of_result q)) h ∙ run-gives s x
 
-refused : {A : Type 0} (s : State) (e : Fault) → run s (given {A = A} (Err e)) ≡ Err e
+refused : {A : Type 0} (s : State) (e : Fault) → run s (of_result {A = A} (Err e)) ≡ Err e
 unfolding run
 refused s e = refl
 
-pub run-refused : {A : Type 0} (s : State) (r : Result A Fault) (e : Fault) → r ≡ Err e → run s (given r) ≡ Err e
-run-refused s r e h = ap (λ q. run s (given q)) h ∙ refused s e
+pub run-refused : {A : Type 0} (s : State) (r : Result A Fault) (e : Fault) → r ≡ Err e → run s (of_result r) ≡ Err e
+run-refused s r e h = ap (λ q. run s (of_result q)) h ∙ refused s e
 
 -- ---- starts
 
@@ -139,16 +140,16 @@ start-cases s start o h =
     ∙ ap (λ m. run_outcome (record { nodes = s.nodes + start.nodes; text = m; known = o.known }) o) d
 
 pub run-any_start : {A : Type 0} (s : State) (start : Start) (r : Reading A) → broken_limit s.nodes s.text (start ∷ []) ≡ None
-    → run s (listed start r) ≡ run (record { nodes = s.nodes + start.nodes; text = s.text + start.text; known = s.known }) r
+    → run s (with_start start r) ≡ run (record { nodes = s.nodes + start.nodes; text = s.text + start.text; known = s.known }) r
 unfolding run
 run-any_start s start r h = start-cases s start (r s.known) h
 
 pub run-start_with : {A : Type 0} (s : State) (more text at depth : ℕ) (r : Reading A) → broken_limit s.nodes s.text (start_with at more text depth ∷ []) ≡ None
-    → run s (listed (start_with at more text depth) r) ≡ run (record { nodes = s.nodes + more; text = s.text + text; known = s.known }) r
+    → run s (with_start (start_with at more text depth) r) ≡ run (record { nodes = s.nodes + more; text = s.text + text; known = s.known }) r
 run-start_with s more text at depth r h = run-any_start s (start_with at more text depth) r h
 
 pub run-start : {A : Type 0} (s : State) (more at depth : ℕ) (r : Reading A) → broken_limit s.nodes s.text (start_of at more depth ∷ []) ≡ None
-    → run s (listed (start_of at more depth) r) ≡ run (counted more s) r
+    → run s (with_start (start_of at more depth) r) ≡ run (with_nodes more s) r
 run-start s more at depth r h =
     let d : s.text + 0 ≡ s.text = omega arith in
     run-start_with s more 0 at depth r h ∙ ap (λ m. run (record { nodes = s.nodes + more; text = m; known = s.known }) r) d
@@ -156,31 +157,31 @@ run-start s more at depth r h =
 broken-cases : {A : Type 0} (s : State) (start : Start) (o : Outcome A) (e : Fault) → broken_limit s.nodes s.text (start ∷ []) ≡ Some e
     → run_outcome s (after (start ∷ []) o) ≡ Err e
 broken-cases s start o e h =
-    ap (λ b. finished (state_after s (after (start ∷ []) o)) (unless_broken b o.answer)) (broken_limit-stays s.nodes s.text (start ∷ []) o.starts e h)
+    ap (λ b. with_state (state_after s (after (start ∷ []) o)) (unless_fault b o.answer)) (broken_limit-stays s.nodes s.text (start ∷ []) o.starts e h)
 
 pub run-broken_start : {A : Type 0} (s : State) (start : Start) (r : Reading A) (e : Fault) → broken_limit s.nodes s.text (start ∷ []) ≡ Some e
-    → run s (listed start r) ≡ Err e
+    → run s (with_start start r) ≡ Err e
 unfolding run
 run-broken_start s start r e h = broken-cases s start (r s.known) e h
 
 pub run-broken : {A : Type 0} (s : State) (more at depth : ℕ) (r : Reading A) (e : Fault) → broken_limit s.nodes s.text (start_of at more depth ∷ []) ≡ Some e
-    → run s (listed (start_of at more depth) r) ≡ Err e
+    → run s (with_start (start_of at more depth) r) ≡ Err e
 run-broken s more at depth r e h = run-broken_start s (start_of at more depth) r e h
 
 -- ---- the whole
 
-limited-ok : {A : Type 0} (s t : State) (r : Result A Fault) (x : A) → finished s r ≡ Ok (x, t) → r ≡ Ok x
+limited-ok : {A : Type 0} (s t : State) (r : Result A Fault) (x : A) → with_state s r ≡ Ok (x, t) → r ≡ Ok x
 limited-ok {A = A} s t (Err e) x h = cc
 limited-ok {A = A} s t (Ok y) x h = let same : ◌≡◌ {A = A × State} (y, s) (x, t) = cc in ap (λ p. Ok p.0) same
 
-limited-err : {A : Type 0} (s : State) (r : Result A Fault) (e : Fault) → finished s r ≡ Err e → r ≡ Err e
+limited-err : {A : Type 0} (s : State) (r : Result A Fault) (e : Fault) → with_state s r ≡ Err e → r ≡ Err e
 limited-err s (Err d) e h = cc
 limited-err s (Ok y) e h = cc
 
-pub run-limited : {A : Type 0} (r : Reading A) (x : A) (t : State) → run at_start r ≡ Ok (x, t) → limited (r nothing_known) ≡ Ok x
+pub run-limited : {A : Type 0} (r : Reading A) (x : A) (t : State) → run at_start r ≡ Ok (x, t) → within_limits (r nothing_known) ≡ Ok x
 unfolding run
-run-limited r x t h = limited-ok (state_after at_start (r nothing_known)) t (limited (r nothing_known)) x h
+run-limited r x t h = limited-ok (state_after at_start (r nothing_known)) t (within_limits (r nothing_known)) x h
 
-pub run-limited_fault : {A : Type 0} (r : Reading A) (e : Fault) → run at_start r ≡ Err e → limited (r nothing_known) ≡ Err e
+pub run-limited_fault : {A : Type 0} (r : Reading A) (e : Fault) → run at_start r ≡ Err e → within_limits (r nothing_known) ≡ Err e
 unfolding run
-run-limited_fault r e h = limited-err (state_after at_start (r nothing_known)) (limited (r nothing_known)) e h
+run-limited_fault r e h = limited-err (state_after at_start (r nothing_known)) (within_limits (r nothing_known)) e h

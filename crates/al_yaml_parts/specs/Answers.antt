@@ -4,17 +4,17 @@ use Rattle.al_scalar.specs.Places.{lines_at}
 use Rattle.al_scalar.specs.Taken.{Fault}
 use Rattle.al_yaml_tree.specs.Content.{anchor_name}
 use Rattle.al_yaml_tree.specs.Node.{Node}
-use Rattle.al_yaml_tree.specs.Reading.{Anchor, Reading, Part, anchored, ◌>>=◌}
-use Rattle.al_yaml_parts.specs.Reads.{State, anchor_at, noted, run}
+use Rattle.al_yaml_tree.specs.Reading.{Anchor, Reading, Part, gives_with_anchor, ◌>>=◌}
+use Rattle.al_yaml_parts.specs.Reads.{State, anchor_at, state_with_anchor, run}
 
 -- what reading ends with, under the limits
 abbrev pub Answer : Type 0 → Type 0
 Answer A = Result (A × State) Fault
 
 -- what is read behind it, if there was no fault
-abbrev pub answered : {A B : Type 0} → Answer A → (A → Reading B) → Answer B
-answered (Err e) f = Err e
-answered (Ok p) f = run p.1 (f p.0)
+abbrev pub then_read : {A B : Type 0} → Answer A → (A → Reading B) → Answer B
+then_read (Err e) f = Err e
+then_read (Ok p) f = run p.1 (f p.0)
 
 -- An anchor that was read, before its node.
 pub record Mark : Type 0 where
@@ -28,7 +28,7 @@ anchor_with m n = record { name = m.name; at = m.at; node = n }
 abbrev pub noting : Option Mark → Answer (Part Node) → Answer (Part Node)
 noting None o = o
 noting (Some m) (Err e) = Err e
-noting (Some m) (Ok p) = Ok (p.0, noted (anchor_with m p.0.value) p.1)
+noting (Some m) (Ok p) = Ok (p.0, state_with_anchor (anchor_with m p.0.value) p.1)
 
 -- the anchor whose indicator stands at an offset
 abbrev pub mark_at : List ℕ → ℕ → Mark
@@ -40,4 +40,4 @@ mark_of bytes anchor = option_map (mark_at bytes) anchor
 -- a node that is read, and then is complete with the anchor whose indicator stands at an offset, if there is one
 abbrev pub completing : List ℕ → Option ℕ → Reading (Part Node) → Reading (Part Node)
 completing bytes None r = r
-completing bytes (Some at) r = r >>= (λ x. anchored (anchor_at bytes at x.value) x)
+completing bytes (Some at) r = r >>= (λ x. gives_with_anchor (anchor_at bytes at x.value) x)

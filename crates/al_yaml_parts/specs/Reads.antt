@@ -9,10 +9,10 @@ use Rattle.al_yaml_tree.specs.Node as tree
 use Rattle.al_scalar.specs.Line.{Line, start}
 use Rattle.al_yaml_tree.specs.Content.{anchor_name, behind_name}
 use Rattle.al_yaml_tree.specs.Reading.{Anchor, Known, nothing_known, with_anchor, Outcome, Reading, Part, part, gives, alias, ◌>>=◌}
-use Rattle.al_yaml_tree.specs.Limits.{limited_from, nodes_listed, text_listed}
+use Rattle.al_yaml_tree.specs.Limits.{within_limits_from, nodes_listed, text_listed}
 use Rattle.al_yaml_tree.specs.View.{view}
 use Rattle.al_yaml_parts.specs.Places.{fault_of}
-use Rattle.al_yaml_parts.specs.declared.anchors.Anchored.{Anchored}
+use Rattle.al_yaml_parts.specs.declared.anchors.AnchoredNode.{AnchoredNode}
 use Rattle.al_yaml_parts.specs.declared.anchors.Anchors.{Anchors}
 use Rattle.al_yaml_parts.specs.declared.faults.ReadError.{ReadError}
 use Rattle.al_yaml_parts.specs.declared.faults.ReadError.TheVariants as stop
@@ -25,15 +25,15 @@ pub record State : Type 0 where
   pub text : ℕ
   pub known : Known
 
-abbrev pub finished : {A : Type 0} → State → Result A Fault → Result (A × State) Fault
-finished s (Err e) = Err e
-finished s (Ok x) = Ok (x, s)
+abbrev pub with_state : {A : Type 0} → State → Result A Fault → Result (A × State) Fault
+with_state s (Err e) = Err e
+with_state s (Ok x) = Ok (x, s)
 
 abbrev pub state_after : {A : Type 0} → State → Outcome A → State
 state_after s o = record { nodes = s.nodes + nodes_listed o.starts; text = s.text + text_listed o.starts; known = o.known }
 
 abbrev pub run_outcome : {A : Type 0} → State → Outcome A → Result (A × State) Fault
-run_outcome s o = finished (state_after s o) (limited_from s.nodes s.text o)
+run_outcome s o = with_state (state_after s o) (within_limits_from s.nodes s.text o)
 
 -- What is read from a state on, with the state behind it, or the fault or broken limit that is met first.
 unfoldable pub run : {A : Type 0} → State → Reading A → Result (A × State) Fault
@@ -44,17 +44,17 @@ abbrev pub at_start : State
 at_start = record { nodes = 0; text = 0; known = nothing_known }
 
 -- with so many nodes more
-abbrev pub counted : ℕ → State → State
-counted more s = record { nodes = s.nodes + more; text = s.text; known = s.known }
+abbrev pub with_nodes : ℕ → State → State
+with_nodes more s = record { nodes = s.nodes + more; text = s.text; known = s.known }
 
 -- with one more anchor
-abbrev pub noted : Anchor → State → State
-noted a s = record { nodes = s.nodes; text = s.text; known = with_anchor a s.known }
+abbrev pub state_with_anchor : Anchor → State → State
+state_with_anchor a s = record { nodes = s.nodes; text = s.text; known = with_anchor a s.known }
 
-abbrev pub anchor_seen : List ℕ → Anchored → Anchor
+abbrev pub anchor_seen : List ℕ → AnchoredNode → Anchor
 anchor_seen name a = record { name = name; at = a.at; node = view a.node.value }
 
-unfoldable pub found_in : Anchors → List ℕ → Option Anchored
+unfoldable pub found_in : Anchors → List ℕ → Option AnchoredNode
 found_in anchors name = get_by (λ k. slice_cmp nat_cmp name k.items) anchors.latest
 
 -- what the code knows of anchors: of each name the one that stands last
@@ -68,9 +68,9 @@ state_of s = record { nodes = s.nodes; text = s.text; known = known_of s.anchors
 abbrev pub anchor_at : List ℕ → ℕ → tree.Node → Anchor
 anchor_at bytes at n = record { name = anchor_name (lines_at bytes at); at = at; node = n }
 
-abbrev pub noted_at : List ℕ → Option ℕ → tree.Node → State → State
-noted_at bytes None n s = s
-noted_at bytes (Some at) n s = noted (anchor_at bytes at n) s
+abbrev pub state_with_anchor_at : List ℕ → Option ℕ → tree.Node → State → State
+state_with_anchor_at bytes None n s = s
+state_with_anchor_at bytes (Some at) n s = state_with_anchor (anchor_at bytes at n) s
 
 -- reading ends with a fault, unless memory runs out
 abbrev pub Stops : {B : Type 0} → Reading B → State → ReadError → Type 0

@@ -5,16 +5,16 @@ use Rattle.al_yaml_parts.specs.declared.frames.FlowFrame.{FlowFrame}
 use Rattle.al_yaml_parts.specs.declared.stack.Frame.{Frame}
 use Rattle.al_yaml_parts.specs.declared.stack.Frame.TheVariants as frame
 
-pub record Opened : Type 0 where
+pub record OpenCollections : Type 0 where
   pub flows : List FlowFrame
   pub blocks : List BlockFrame
 
 -- the depth of a node inside the open block collections; the root's is 1
-abbrev pub depth_in : Opened → ℕ
+abbrev pub depth_in : OpenCollections → ℕ
 depth_in now = length now.blocks + 1
 
 -- what is open is block collections, and one more can be
-pub record HasRoom (now : Opened) : Type 0 where
+pub record HasRoom (now : OpenCollections) : Type 0 where
   pub outside : now.flows ≡ []
   pub room : length now.blocks < 64
 
@@ -28,7 +28,7 @@ blocks_of [] = []
 blocks_of (frame.Flow f ∷ fs) = blocks_of fs
 blocks_of (frame.Block f ∷ fs) = f ∷ blocks_of fs
 
-abbrev pub opened_of : List Frame → Opened
+abbrev pub opened_of : List Frame → OpenCollections
 opened_of fs = record { flows = flows_of fs; blocks = blocks_of fs }
 
 -- no block collection stands in a flow collection

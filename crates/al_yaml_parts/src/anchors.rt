@@ -6,7 +6,7 @@ ghost use Rattle.al_yaml_tree.specs.Content as content;
 ghost use Rattle.al_yaml_parts.specs.Files.{left_at, size};
 ghost use Rattle.al_yaml_tree.specs.Reading as reading;
 ghost use Rattle.al_yaml_tree.specs.Reading.{with_anchor, nothing_known};
-ghost use Rattle.al_yaml_parts.specs.Reads.{IsRead, IsStopInside, anchor_at, anchor_seen, known_of, noted_at, state_of};
+ghost use Rattle.al_yaml_parts.specs.Reads.{IsRead, IsStopInside, anchor_at, anchor_seen, known_of, state_with_anchor_at, state_of};
 ghost use Rattle.al_yaml_tree.specs.View.{view};
 ghost use Rattle.std.specs.Prelude.{IfErr, IfOk, length, true, ◌+◌, ◌<◌, ◌≡◌, ◌≤◌};
 
@@ -26,7 +26,7 @@ use std::rc::Rc;
 
 /// A node that an anchor names, and where the anchor stands.
 #[derive(Drop)]
-pub struct Anchored {
+pub struct AnchoredNode {
     pub at: usize,
     pub node: Rc<Node>,
 }
@@ -35,7 +35,7 @@ pub struct Anchored {
 /// that grows with the logarithm of their number, and with the name's length.
 #[derive(Drop)]
 pub struct Anchors {
-    pub latest: BTreeMap<Vec<u8>, Anchored>,
+    pub latest: BTreeMap<Vec<u8>, AnchoredNode>,
 }
 
 /// Whether a name ends at an offset: at a blank, the line's end or one of `,[]{}`.
@@ -119,12 +119,12 @@ impl Anchors {
         let node = sharable(file.alloc, node)?;
         let result = shared_node(&node)?;
         let name = Vec::from_slice(file.alloc, name_at(file.bytes, at))?;
-        self.note(name, Anchored { at, node })?;
+        self.note(name, AnchoredNode { at, node })?;
         Ok(result)
     }
 
     /// One more anchor.
-    fn note(&mut self, name: Vec<u8>, anchor: Anchored) -> Result<(), AllocError>
+    fn note(&mut self, name: Vec<u8>, anchor: AnchoredNode) -> Result<(), AllocError>
         ensures { IfOk result
             (λ _. known_of self.new
             ≡ with_anchor (anchor_seen name.items anchor) (known_of self.old)) }
@@ -159,7 +159,7 @@ impl State {
         ensures node { IfOk result (λ n. view n ≡ view node) }
         ensures state { IfOk result
             (λ _. state_of self.new
-            ≡ noted_at file.now.bytes.now anchor (view node) (state_of self.old)) }
+            ≡ state_with_anchor_at file.now.bytes.now anchor (view node) (state_of self.old)) }
     {
         match anchor {
             None => Ok(node),

@@ -32,6 +32,25 @@ pub fn is_skipped(bytes: &[u8], at: usize) -> bool
     begins(bytes, solid, b'#')
 }
 
+/// The first line from a line's start on that is no blank line and no comment, or else the file's end.
+pub fn next_text_line(bytes: &[u8], at: usize) -> usize
+    requires { at ≤ length bytes.now }
+    ensures from { at ≤ result }
+    ensures inside { result ≤ length bytes.now }
+    ensures lines { content.text_line (lines_at bytes.now at) ≡ lines_at bytes.now result }
+    ensures text { result < length bytes.now
+        → false ≡ content.is_skipped (text_at bytes.now result) }
+{
+    let mut line = at;
+    'lines: while line < bytes.len() {
+        if !is_skipped(bytes, line) {
+            return line;
+        }
+        line = next_line(bytes, line);
+    }
+    line
+}
+
 /// What a line that is no blank line and no comment begins.
 fn content_line(bytes: &[u8], at: usize) -> Result<Next, FaultAt>
     requires { at ≤ length bytes.now }
@@ -60,16 +79,11 @@ pub fn next_content(bytes: &[u8], at: usize) -> Result<Next, FaultAt>
     ensures is { Shows (next_of bytes.now) (content.content (lines_at bytes.now at)) result }
     ensures from { IfOk result (λ next. IsLineFrom at (length bytes.now) next) }
 {
-    let mut line = at;
-    'lines: loop {
-        if !is_skipped(bytes, line) {
-            return content_line(bytes, line);
-        }
-        if line == bytes.len() {
-            return Ok(Next::Ended);
-        }
-        line = next_line(bytes, line);
+    let line = next_text_line(bytes, at);
+    if line == bytes.len() {
+        return Ok(Next::Ended);
     }
+    content_line(bytes, line)
 }
 
 /// Whether only blanks, and a comment after a blank, stand on the line from an offset on.

@@ -1,36 +1,15 @@
 //! What stands round a document's root.
 
-ghost use Rattle.al_scalar.specs.Places.{lines_at, text_at};
-ghost use Rattle.al_yaml_tree.specs.Content as content;
+ghost use Rattle.al_scalar.specs.Places.{lines_at};
 ghost use Rattle.al_yaml_tree.specs.Document as document;
-ghost use Rattle.al_yaml_parts.specs.Private.DocumentLines.{IsBehindMarker, text_line};
+ghost use Rattle.al_yaml_parts.specs.Private.DocumentLines.{IsBehindMarker};
 ghost use Rattle.al_yaml_parts.specs.Places.{Shows};
-ghost use Rattle.std.specs.Prelude.{◌<◌, ◌≡◌, ◌≤◌, IfErr, IfOk, false, length};
+ghost use Rattle.std.specs.Prelude.{◌≤◌, IfErr, IfOk, length};
 
-use crate::content::{is_skipped, line_behind};
-use crate::lines::next_line;
+use crate::content::{line_behind, next_text_line};
 use al_base::YamlCode;
 use al_scalar::FaultAt;
 use al_scalar::lines::{begins, blanks_end, indent, is_marker};
-
-/// The first line from a line's start on that is no blank line and no comment, or else the file's end.
-fn next_text_line(bytes: &[u8], at: usize) -> usize
-    requires { at ≤ length bytes.now }
-    ensures from { at ≤ result }
-    ensures inside { result ≤ length bytes.now }
-    ensures lines { text_line (lines_at bytes.now at) ≡ lines_at bytes.now result }
-    ensures text { result < length bytes.now
-        → false ≡ content.is_skipped (text_at bytes.now result) }
-{
-    let mut line = at;
-    'lines: while line < bytes.len() {
-        if !is_skipped(bytes, line) {
-            return line;
-        }
-        line = next_line(bytes, line);
-    }
-    line
-}
 
 /// The start of the root's lines: the first content line from a line's start on, or the line behind a first `---`;
 /// the file's end if there is none (YAML 1.2.2, 9.1). Fails at a directive, and at a character behind `---` that
@@ -43,11 +22,7 @@ pub fn document_start(bytes: &[u8], at: usize) -> Result<usize, FaultAt>
     ensures inside { IfOk result (λ next. next ≤ length bytes.now) }
     ensures from { IfOk result (λ next. at ≤ next) }
 {
-    let line = next_text_line(bytes, at);
-    if line == bytes.len() {
-        return Ok(line);
-    }
-    first_line(bytes, line)
+    first_line(bytes, next_text_line(bytes, at))
 }
 
 /// The start of the root's lines on the first content line or behind it.

@@ -12,7 +12,7 @@ ghost use Rattle.al_yaml_parts.specs.Reads.{alias_part};
 ghost use Rattle.al_yaml_parts.specs.Places.{IsReadInside, Shows, option_lines};
 ghost use Rattle.al_yaml_parts.specs.Reads.{IsBehind, IsRead, IsStopInside};
 ghost use Rattle.al_yaml_parts.specs.FlowReads.{IsColonInside, IsKeyInside};
-ghost use Rattle.al_yaml_parts.specs.Reads.{noted_at, part_of, state_of};
+ghost use Rattle.al_yaml_parts.specs.Reads.{state_with_anchor_at, part_of, state_of};
 ghost use Rattle.al_yaml_parts.specs.FlowReads.{flow_key_of};
 ghost use Rattle.al_yaml_tree.specs.View.{view};
 ghost use Rattle.std.specs.Prelude.{IfErr, IfOk, IfSome, false, if◌then◌else◌, length, true, ℕ, ◌<◌, ◌||◌, ◌≡◌, ◌≤◌};
@@ -259,7 +259,7 @@ pub fn complete(
     ensures next { IfOk result (λ p. p.next ≡ part.next) }
     ensures state { IfOk result
         (λ _. state_of state.new
-        ≡ noted_at file.now.bytes.now anchor (view part.node) (state_of state.old)) }
+        ≡ state_with_anchor_at file.now.bytes.now anchor (view part.node) (state_of state.old)) }
 {
     Ok(Part {
         node: state.complete(file, anchor, part.node)?,

@@ -210,17 +210,7 @@ fn is_key_start(bytes: &[u8], at: usize) -> bool
         || is_property(bytes, at)
         || is_block_start(bytes, at)
         || is_flow_start(bytes, at)
-        || has_fault(block_fault(bytes, at)))
-}
-
-/// Whether there is a fault.
-fn has_fault(fault: Option<YamlCode>) -> bool
-    ensures { result ≡ keys.has_fault fault }
-{
-    match fault {
-        Some(_) => true,
-        None => false,
-    }
+        || block_fault(bytes, at).is_some())
 }
 
 /// Whether a scalar on one line begins at an offset and a colon follows it.

@@ -2,7 +2,7 @@
 
 ghost use Rattle.al_yaml_tree.specs.Limits.{broken_limit};
 ghost use Rattle.al_yaml_parts.specs.Places.{fault_of};
-ghost use Rattle.al_yaml_parts.specs.Reads.{counted, state_of};
+ghost use Rattle.al_yaml_parts.specs.Reads.{with_nodes, state_of};
 ghost use Rattle.al_yaml_tree.specs.Reading.{start_with, start_of};
 ghost use Rattle.std.specs.Prelude.{◌+◌, ◌≡◌, ◌≤◌, ◌∷◌, [], IfErr, IfOk, MatchResult};
 
@@ -30,7 +30,7 @@ impl State {
             (λ f. broken_limit self.old.nodes self.old.text (start_of at more depth ∷ [])
             ≡ Some (fault_of f)) }
         ensures depth { IfOk result (λ _. depth ≤ 64) }
-        ensures state { IfOk result (λ _. state_of self.new ≡ counted more (state_of self.old)) }
+        ensures state { IfOk result (λ _. state_of self.new ≡ with_nodes more (state_of self.old)) }
     {
         self.start_with(at, more, 0, depth)
     }

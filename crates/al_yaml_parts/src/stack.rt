@@ -1,6 +1,6 @@
 //! The stack of open collections.
 
-ghost use Rattle.al_yaml_parts.specs.Stacks.{Opened, depth_in};
+ghost use Rattle.al_yaml_parts.specs.Stacks.{OpenCollections, depth_in};
 ghost use Rattle.std.specs.Prelude.{◌≡◌, ◌+◌, ◌<◌, ◌≤◌, ◌∷◌, [], IfSome, MatchOption, Some, length, slice_index_or, slice_set};
 
 use crate::frames::{BlockFrame, FlowFrame};
@@ -122,12 +122,12 @@ impl Model for Stack {
     ghost use Rattle.std.specs.Prelude.{List, refl};
     ghost use Rattle.al_yaml_parts.specs.declared.frames.BlockFrame.{BlockFrame};
     ghost use Rattle.al_yaml_parts.specs.declared.frames.FlowFrame.{FlowFrame};
-    ghost use Rattle.al_yaml_parts.specs.Stacks.{AreOutside, Opened, opened_of};
+    ghost use Rattle.al_yaml_parts.specs.Stacks.{AreOutside, OpenCollections, opened_of};
     ghost use Rattle.std.specs.Coded.{codes, code_by};
     ghost use Rattle.al_yaml_parts.specs.contracts.frames.BlockFrame as block;
     ghost use Rattle.al_yaml_parts.specs.contracts.frames.FlowFrame as flow;
 
-    ghost Value = { Opened };
+    ghost Value = { OpenCollections };
 
     ghost coded = { code_by (List FlowFrame × List BlockFrame) (Prim.hlevel (codes, block.the_row.coded, flow.the_row.coded))
         (λ o. (o.flows, o.blocks)) (λ p. record { flows = p.0; blocks = p.1 }) (λ _. refl) };

@@ -1,11 +1,10 @@
 //! What an alias counts of its node (YAML 1.2.2, 7.1): a loop over the nodes in it, with a stack of its own.
 
 ghost use Rattle.al_yaml_tree.specs.Limits.{most_counted};
-ghost use Rattle.al_yaml_tree.specs.Node as tree;
 ghost use Rattle.al_yaml_tree.specs.Reading as reading;
 ghost use Rattle.al_yaml_parts.specs.Private.Sums.{IsOwn, IsSums, inside, members, uncounted_view, within};
 ghost use Rattle.al_yaml_tree.specs.View.{entry_view, view};
-ghost use Rattle.std.specs.Prelude.{IfOk, map, ◌++◌, ◌+◌, ◌≡◌};
+ghost use Rattle.std.specs.Prelude.{IfOk, map, max, ◌++◌, ◌+◌, ◌≡◌};
 
 use al_yaml_tree::{Entry, Kind, Node};
 use std::alloc::{AllocError, Global};
@@ -48,17 +47,12 @@ impl Sums {
     fn plus(self, more: Sums) -> Sums
         ensures nodes { result.nodes ≡ most_counted (self.nodes + more.nodes) }
         ensures text { result.text ≡ most_counted (self.text + more.text) }
-        ensures levels { result.levels ≡ tree.greater_of self.levels more.levels }
+        ensures levels { result.levels ≡ max self.levels more.levels }
     {
-        let levels = if self.levels <= more.levels {
-            more.levels
-        } else {
-            self.levels
-        };
         Sums {
             nodes: self.nodes.saturating_add(more.nodes),
             text: self.text.saturating_add(more.text),
-            levels,
+            levels: self.levels.max(more.levels),
         }
     }
 }
@@ -75,7 +69,7 @@ fn count_of(len: usize) -> u32
 
 /// A node that is still to be counted, and in how many of the collections that are counted it stands.
 #[derive(Clone, Copy)]
-pub struct Uncounted<'a> {
+pub struct UncountedNode<'a> {
     pub node: &'a Node,
     pub levels: u32,
 }
@@ -88,7 +82,7 @@ pub fn sums_of(alloc: Global, node: &Node) -> Result<Sums, AllocError>
 {
     let mut sums = Sums::none();
     let mut left = Vec::new(alloc);
-    left.push(Uncounted { node, levels: 0 })?;
+    left.push(UncountedNode { node, levels: 0 })?;
     'nodes: while let Some(next) = left.pop() {
         sums = sums.plus(count(next.node, next.levels, &mut left)?);
     }
@@ -97,7 +91,11 @@ pub fn sums_of(alloc: Global, node: &Node) -> Result<Sums, AllocError>
 
 /// Counts a node itself, which stands in so many collections, and leaves those in it to be counted. A node is
 /// shared at most once, as an alias has no anchor of its own (7.1), so no call of this goes further than into one more.
-fn count<'a>(node: &'a Node, levels: u32, left: &mut Vec<Uncounted<'a>>) -> Result<Sums, AllocError>
+fn count<'a>(
+    node: &'a Node,
+    levels: u32,
+    left: &mut Vec<UncountedNode<'a>>,
+) -> Result<Sums, AllocError>
     ensures own { IfOk result (IsOwn (view node.now, levels)) }
     ensures left { IfOk result (λ sums. map uncounted_view left.new.items
         ≡ map uncounted_view left.old.items ++ within sums.levels (inside (view node.now))) }
@@ -126,13 +124,13 @@ fn count<'a>(node: &'a Node, levels: u32, left: &mut Vec<Uncounted<'a>>) -> Resu
 fn leave_items<'a>(
     items: &'a [Node],
     levels: u32,
-    left: &mut Vec<Uncounted<'a>>,
+    left: &mut Vec<UncountedNode<'a>>,
 ) -> Result<(), AllocError>
     ensures { IfOk result (λ _. map uncounted_view left.new.items
         ≡ map uncounted_view left.old.items ++ within levels (map view items.now)) }
 {
     'items: for node in items {
-        left.push(Uncounted { node, levels })?;
+        left.push(UncountedNode { node, levels })?;
     }
     Ok(())
 }
@@ -141,18 +139,18 @@ fn leave_items<'a>(
 fn leave_entries<'a>(
     entries: &'a [Entry],
     levels: u32,
-    left: &mut Vec<Uncounted<'a>>,
+    left: &mut Vec<UncountedNode<'a>>,
 ) -> Result<(), AllocError>
     ensures { IfOk result (λ _. map uncounted_view left.new.items
         ≡ map uncounted_view left.old.items
         ++ within levels (members (map entry_view entries.now))) }
 {
     'entries: for entry in entries {
-        left.push(Uncounted {
+        left.push(UncountedNode {
             node: &entry.key,
             levels,
         })?;
-        left.push(Uncounted {
+        left.push(UncountedNode {
             node: &entry.value,
             levels,
         })?;

@@ -10,7 +10,7 @@ use Rattle.al_scalar.specs.Scalar.{scalar_at}
 use Rattle.al_scalar.specs.Taken.{Fault}
 use Rattle.al_scalar.proofs.OffsetLemmas.{choose, climbing-order}
 use Rattle.al_yaml_tree.specs.Blocks.{Spot, own_line, compact, behind_key, Slot, at_spot, BlockReader, is_behind_key, tab_before}
-use Rattle.al_yaml_tree.specs.Blocks.{unless_at, spot_behind, is_deeper, node_found, rest_node, next_found, next_from}
+use Rattle.al_yaml_tree.specs.Blocks.{unless_tab, spot_behind, is_deeper, node_found, rest_node, next_found}
 use Rattle.al_yaml_tree.specs.Blocks.{next_at, entry_slot, sequence_next, sequence_entries, value_slot}
 use Rattle.al_yaml_tree.specs.Blocks.{mapping_next, mapping_entries, scalar_left, scalar_node_at, flow_rest}
 use Rattle.al_yaml_tree.specs.Blocks.{block_sequence, keyed_node, block_content, block_property, block_node}
@@ -20,7 +20,7 @@ use Rattle.al_yaml_tree.specs.Content.{anchor_name, behind_name, has_no_name}
 use Rattle.al_yaml_tree.specs.Flow.{CollectionReader, flow_collection}
 use Rattle.al_yaml_tree.specs.Keys.{Key, key_at, has_colon, is_block_start, is_on_key}
 use Rattle.al_yaml_tree.specs.Node.{Node, Nodes, Entries, sequence, mapping, no_nodes, with_item, no_entries, with_entry, scalar_node}
-use Rattle.al_yaml_tree.specs.Reading.{Reading, gives, anchored, Part, part}
+use Rattle.al_yaml_tree.specs.Reading.{Reading, and_then, gives, gives_with_anchor, Part, part}
 use Rattle.al_yaml_tree.proofs.FlowReading.{CollectionIn, flow_collection-in}
 use Rattle.al_yaml_tree.proofs.KeyReading.{KeyIn, OptionKeyIn, key_at-in, no_entry-in, entry_key-in}
 use Rattle.al_yaml_tree.proofs.LeftLines.{File, AreLeft, IsRead, NextLeft, OptionLeft, left-lower, left-start, starts-behind, starts-in}
@@ -75,7 +75,7 @@ module _ (f : File) where
       (λ _. choose (Answers f.size (OptionLeft f low)) (nat_lt i column) (λ _. tt) (λ _. starts-in k))
 
   next_from-in : (column low : ℕ) (r : Result Next Fault) → Answers f.size (NextLeft f low) r
-      → Answers f.size (OptionLeft f low) (next_from column r)
+      → Answers f.size (OptionLeft f low) (and_then r (next_found column))
   next_from-in column low (Err e) k = k
   next_from-in column low (Ok found) k = next_found-in column low found k
 
@@ -139,7 +139,7 @@ module _ {f : File} where
         (reads-given (AreLeft f (start rest)) (line_ended rest) (line_ended-in (start rest) rest (left-start v)))
         (λ left w. reads-value (part-back back (s.back_to (start rest))
         (whole-part (record { ordered = starts-behind v; lies = k low (start rest) }) w)))))
-        (λ _. reads-then {g = λ (x : Part Node). anchored (record { name = anchor_name ls; at = start ls; node = x.value }) x}
+        (λ _. reads-then {g = λ (x : Part Node). gives_with_anchor (record { name = anchor_name ls; at = start ls; node = x.value }) x}
         (rest-in back slot depth column low ls rest s v)
         (λ x k. anchored-reads (record { name = anchor_name ls; at = start ls; node = x.value }) k.done.lies k))))
 
@@ -164,9 +164,9 @@ module _ {f : File} where
       (reads-given (AreLeft f x.end) (line_ended x.left) (line_ended-in x.end x.left h.left))
       (λ left v. reads-value (whole-part h.done v)))
 
-  unless_at-in : {P : Part Node → Type 0} (o : Option ℕ) {r : Reading (Part Node)} → IsIn f o → Reads f P r → Reads f P (unless_at o r)
-  unless_at-in (Some at) a h = reads-fault a
-  unless_at-in None a h = h
+  unless_tab-in : {P : Part Node → Type 0} (o : Option ℕ) {r : Reading (Part Node)} → IsIn f o → Reads f P r → Reads f P (unless_tab o r)
+  unless_tab-in (Some at) a h = reads-fault a
+  unless_tab-in None a h = h
 
   module _ (node : BlockReader) (n : BlockIn f node) (collection : CollectionReader) (c : CollectionIn f collection) where
     -- ---- sequences
@@ -226,7 +226,7 @@ module _ {f : File} where
         let at = start ls in
         let a = starts-in h in
         reads-by (is_behind_key slot.spot) (λ _. reads-fault a)
-        (λ _. unless_at-in (tab_before slot.spot) t (reads-start a (collected (starts-behind h)
+        (λ _. unless_tab-in (tab_before slot.spot) t (reads-start a (collected (starts-behind h)
         (items-in turns slot.in_mapping column (depth + 1) at at no_nodes ls (no-items at a) e (left-start h)))))
 
     keyed-in : (turns : ℕ) (slot : Slot) (depth column low : ℕ) (ls : List Line) → TabIn f slot.spot → AreLeft f low ls
@@ -236,7 +236,7 @@ module _ {f : File} where
         let at = start ls in
         let a = starts-in h in
         reads-by (not (same_line ls key.scalar.left)) (λ _. reads-fault a)
-        (λ _. unless_at-in (tab_before slot.spot) t
+        (λ _. unless_tab-in (tab_before slot.spot) t
         (reads-by (not (is_short_key ls key.scalar)) (λ _. reads-fault a)
         (λ _. reads-start a (collected (starts-behind h)
         (entries-in turns column (depth + 1) at at no_entries key (no-entries at a) k)))))

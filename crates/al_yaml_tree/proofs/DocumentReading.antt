@@ -13,7 +13,7 @@ use Rattle.al_scalar.proofs.Utf8Texts.{both-right}
 use Rattle.al_yaml_tree.specs.Bytes.{has_mark, file_lines}
 use Rattle.al_yaml_tree.specs.Content.{Next, ended, at_line, content}
 use Rattle.al_yaml_tree.specs.Document.{document_start, document_end, root_slot, root_found, root, document, document_of, HasNoAlias}
-use Rattle.al_yaml_tree.specs.Limits.{broken_limit, unless_broken}
+use Rattle.al_yaml_tree.specs.Limits.{broken_limit, unless_fault}
 use Rattle.al_yaml_tree.specs.Node.{Node}
 use Rattle.al_yaml_tree.specs.Reading.{Start, nothing_known, gives, Part}
 use Rattle.al_yaml_tree.proofs.BlockReading.{block_node-in}
@@ -92,7 +92,7 @@ module _ {f : File} where
       reads-then (reads-given (AreLeft f 0) (document_start ls) (document_start-in 0 ls h))
       (λ left v. reads-then (root-in left v)
       (λ x k. reads-then {g = λ (rest : Unit {0}). gives x.value}
-      (reads-given Anything (document_end x.left) (document_end-in f.size 0 x.left k.left.stand)) (λ rest i. reads-value (root-lies k))))
+      (reads-given Anything (document_end x.left) (document_end-in 0 x.left k.left)) (λ rest i. reads-value (root-lies k))))
 
 -- ---- limits
 
@@ -108,7 +108,7 @@ limit-in size nodes text (s ∷ ss) h =
     (λ _. limit-in size (nodes + s.nodes) (text + s.text) ss h.1))
 
 limited-in : (size : ℕ) (P : Node → Type 0) (o : Option Fault) (r : Result Node Fault) → FaultIn size o → Answers size P r
-    → Answers size P (unless_broken o r)
+    → Answers size P (unless_fault o r)
 limited-in size P None r a h = h
 limited-in size P (Some e) r a h = a
 

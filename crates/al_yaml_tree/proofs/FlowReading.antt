@@ -11,13 +11,13 @@ use Rattle.al_scalar.specs.Scalar.{ScalarRead, scalar_at}
 use Rattle.al_scalar.proofs.OffsetLemmas.{choose}
 use Rattle.al_scalar.proofs.Utf8Lemmas.{AreUtf8, either}
 use Rattle.al_scalar.proofs.Utf8Texts.{both-right}
-use Rattle.al_yaml_tree.specs.Content.{behind, flow_fault, is_flow_start, is_quote, is_property, is_simple_key, anchor_name, behind_name, has_no_name}
-use Rattle.al_yaml_tree.specs.Flow.{FlowSlot, FlowReader, CollectionReader, gap, is_file_end, empty_node, After, goes_on, closes}
+use Rattle.al_yaml_tree.specs.Content.{behind, is_file_end, flow_fault, is_flow_start, is_quote, is_property, is_simple_key, anchor_name, behind_name, has_no_name}
+use Rattle.al_yaml_tree.specs.Flow.{FlowSlot, FlowReader, CollectionReader, gap, empty_node, After, goes_on, closes}
 use Rattle.al_yaml_tree.specs.Flow.{after_item, flow_items, is_key_colon, behind_colon, flow_value, FlowKey}
 use Rattle.al_yaml_tree.specs.Flow.{is_late_colon, unless_late, key_colon, flow_key_of, flow_key, flow_entry_value}
-use Rattle.al_yaml_tree.specs.Flow.{flow_entries, flow_collection_over, flow_content, flow_property, flow_node_over, flow_collection}
+use Rattle.al_yaml_tree.specs.Flow.{flow_entries, flow_content, flow_property, flow_node_over, flow_collection}
 use Rattle.al_yaml_tree.specs.Node.{Node, Nodes, Entries, sequence, mapping, no_nodes, with_item, no_entries, with_entry, scalar_node}
-use Rattle.al_yaml_tree.specs.Reading.{Reading, gives, fails, given, starting_scalar, anchored, Part, part, ◌>>=◌}
+use Rattle.al_yaml_tree.specs.Reading.{Reading, gives, fails, of_result, starting_scalar, gives_with_anchor, Part, part, ◌>>=◌}
 use Rattle.al_yaml_tree.proofs.LeftLines.{File, AreLeft, IsRead, OptionLeft, left-lower, left-start, starts-behind, starts-in, is-inside}
 use Rattle.al_yaml_tree.proofs.LeftLines.{left-gap, left-first, left-bracket, left-name, left-colon, scalar-read}
 use Rattle.al_yaml_tree.proofs.NodeReading.{IsDone, Grows, no-items, no-entries, items-grow, entries-grow, IsPart, same, IsNode, AreItems}
@@ -93,7 +93,7 @@ module _ {f : File} where
 
     rest-reads : (more : List Line → Reading (Part A)) (opening close : ℕ) (left : List Line) → opening ≤ f.size → close < 128
         → ((ls : List Line) → AreLeft f low ls → Reads f (IsPart f g same from) (more ls)) → AreLeft f low left
-        → Reads f (IsPart f g same from) (given (after_item opening close (gap false left))
+        → Reads f (IsPart f g same from) (of_result (after_item opening close (gap false left))
         >>= (λ (found : After). elim found [ goes_on next ↦ more next | closes end next ↦ gives (part done end next) ]))
     rest-reads more opening close left o a m h =
         reads-then (reads-given (AfterIn f low) (after_item opening close (gap false left))
@@ -194,16 +194,6 @@ module _ {f : File} where
           opening ascii.close_brace x.left o (omega arith)
           (λ left w. entries-in turns opening depth from x.end (with_entry done (scalar_node key.scalar) x.value) left o i w) v.left))))
 
-      over-in : (turns : ℕ) → CollectionIn f (flow_collection_over node collection turns)
-      over-in turns depth low ls e h =
-          let at = start ls in
-          let a = starts-in h in
-          let v = left-gap (left-bracket e (left-start h)) in
-          reads-start a
-          (reads-by (begins ascii.open_bracket (first_text ls))
-          (λ _. collected (starts-behind h) (items-in turns at (depth + 1) at at no_nodes (gap false (behind 1 ls)) a (no-items at a) v))
-          (λ _. collected (starts-behind h) (entries-in turns at (depth + 1) at at no_entries (gap false (behind 1 ls)) a (no-entries at a) v)))
-
   -- ---- nodes and collections
 
   module _ (collection : CollectionReader) (c : CollectionIn f collection) where
@@ -228,7 +218,7 @@ module _ {f : File} where
         (λ _. reads-by (begins ascii.asterisk (first_text ls))
         (λ _. reads-then {g = λ (n : Node). gives (part n (start rest) rest)} (alias-reads (anchor_name ls) (start ls) depth a)
         (λ n k. reads-value (whole-part (record { ordered = starts-behind v; lies = k low (start rest) }) (left-start v))))
-        (λ _. reads-then {g = λ (x : Part Node). anchored (record { name = anchor_name ls; at = start ls; node = x.value }) x}
+        (λ _. reads-then {g = λ (x : Part Node). gives_with_anchor (record { name = anchor_name ls; at = start ls; node = x.value }) x}
         (flow_value-in (flow_content collection) content-in slot depth low (gap false rest) s (left-gap v))
         (λ x k. anchored-reads (record { name = anchor_name ls; at = start ls; node = x.value }) k.done.lies k)))
 
@@ -241,5 +231,14 @@ module _ {f : File} where
   flow_collection-in zero depth low ls e h = reads-fault (omega arith)
   flow_collection-in (suc bound) depth low ls e h =
       let c : CollectionIn f (flow_collection bound) = λ d l ms i v. flow_collection-in bound d l ms i v in
-      over-in (flow_node_over (flow_collection bound)) (node-in (flow_collection bound) c) (flow_collection bound) c
-      (suc bound) depth low ls e h
+      let k = flow_collection bound in
+      let n : FlowIn f (flow_node_over k) = node-in k c in
+      let at = start ls in
+      let a = starts-in h in
+      let v = left-gap (left-bracket e (left-start h)) in
+      let inside = gap false (behind 1 ls) in
+      reads-start a
+      (reads-by (begins ascii.open_bracket (first_text ls))
+      (λ _. collected (starts-behind h) (items-in (flow_node_over k) n (suc bound) at (depth + 1) at at no_nodes inside a (no-items at a) v))
+      (λ _. collected (starts-behind h)
+      (entries-in (flow_node_over k) n k c (suc bound) at (depth + 1) at at no_entries inside a (no-entries at a) v)))

@@ -1,6 +1,7 @@
 -- Keys of block mappings keep to what is said of scalars, and the lines behind their colon to what is said of lines.
-use Rattle.std.proofs.Common.{◌≡◌, ℕ, ◌≤◌, List, [], ◌∷◌, refl, arith, Bool, true, false, ◌||◌, Option, Some, None, Result, Ok, Err}
+use Rattle.std.proofs.Common.{◌≡◌, ℕ, ◌≤◌, List, [], ◌∷◌, refl, arith, true, ◌||◌, Option, Some, None, Result, Ok, Err}
 use Rattle.std.proofs.lemmas.Str.{IsUtf8-nil}
+use Rattle.al_base.specs.declared.codes.YamlCode.{YamlCode}
 use Rattle.al_base.specs.declared.codes.YamlCode.TheVariants as yaml
 use Rattle.al_scalar.specs.Line.{Line, start}
 use Rattle.al_scalar.specs.Offsets.{AreClimbing}
@@ -13,10 +14,10 @@ use Rattle.al_scalar.proofs.Utf8Lemmas.{AreUtf8}
 use Rattle.al_scalar.proofs.Utf8Texts.{IsText}
 use Rattle.al_yaml_tree.specs.Content.{is_dash, block_fault, is_flow_start, is_quote, is_property, is_simple_key}
 use Rattle.al_yaml_tree.specs.Flow.{CollectionReader}
-use Rattle.al_yaml_tree.specs.Keys.{Key, one_line, read_with_lines, key_scalar, has_colon, behind_colon, key_from, key_at}
-use Rattle.al_yaml_tree.specs.Keys.{is_block_start, flow_refused, no_entry, found_key, entry_key}
+use Rattle.al_yaml_tree.specs.Keys.{Key, one_line, with_lines, key_scalar, has_colon, behind_colon, key_of, key_at}
+use Rattle.al_yaml_tree.specs.Keys.{is_block_start, collection_fault, no_entry, found_key, entry_key}
 use Rattle.al_yaml_tree.specs.Node.{Node, scalar_node}
-use Rattle.al_yaml_tree.specs.Reading.{fails, Part, ◌>>=◌}
+use Rattle.al_yaml_tree.specs.Reading.{and_then, fails, Part, ◌>>=◌}
 use Rattle.al_yaml_tree.proofs.FlowReading.{CollectionIn}
 use Rattle.al_yaml_tree.proofs.LeftLines.{File, AreLeft, IsRead, OptionLeft, starts-in, left-colon, scalar-read}
 use Rattle.al_yaml_tree.proofs.NodeReading.{Reads, reads-fault, reads-given, reads-then, reads-one, reads-unless, reads-by}
@@ -45,6 +46,9 @@ OptionKeyIn f low (Some key) = KeyIn f low key
 -- the file as if the line were its last
 abbrev up_to : File → Line → File
 up_to f l = record { size = l.end; is_utf8 = f.is_utf8; is_plain = f.is_plain }
+
+abbrev read_with_lines : List Line → Result ScalarRead Fault → Result ScalarRead Fault
+read_with_lines ls r = and_then r (λ r. Ok (record { scalar = r.scalar; span = r.span; left = with_lines r.left ls }))
 
 module _ {f : File} where
   one_line-left : (low : ℕ) (l : Line) (ls : List Line) → AreLeft f low (l ∷ ls) → AreLeft (up_to f l) low (one_line (l ∷ ls))
@@ -83,7 +87,7 @@ module _ {f : File} where
   key_by low r h (Some left) k = (h, k)
 
 key_from-in : (f : File) (low : ℕ) (r : Result ScalarRead Fault) → Answers f.size (IsRead f low) r
-    → Answers f.size (OptionKeyIn f low) (key_from r)
+    → Answers f.size (OptionKeyIn f low) (and_then r (λ r. Ok (key_of r)))
 key_from-in f low (Err e) h = h
 key_from-in f low (Ok r) h = key_by low r h (behind_colon r.left) (behind_colon-in r.span.end r.left h.left)
 
@@ -93,11 +97,11 @@ module _ {f : File} where
 
   -- ---- lines that begin no entry
 
-  refused-in : {A : Type 0} {P : A → Type 0} (in_mapping : Bool) (collection : CollectionReader) → CollectionIn f collection
+  refused-in : {A : Type 0} {P : A → Type 0} (code : List Line → YamlCode) (collection : CollectionReader) → CollectionIn f collection
       → (depth low : ℕ) (ls : List Line) → is_flow_start (first_text ls) ≡ true → AreLeft f low ls
-      → Reads f P (collection depth ls >>= (λ (x : Part Node). flow_refused in_mapping (start ls) x))
-  refused-in in_mapping collection c depth low ls e h =
-      reads-then {g = λ (x : Part Node). flow_refused in_mapping (start ls) x} (c depth low ls e h) (λ x k. reads-fault (starts-in h))
+      → Reads f P (collection depth ls >>= (λ (x : Part Node). fails (code x.left) (start ls)))
+  refused-in code collection c depth low ls e h =
+      reads-then {g = λ (x : Part Node). fails (code x.left) (start ls)} (c depth low ls e h) (λ x k. reads-fault (starts-in h))
 
   pub no_entry-in : {A : Type 0} {P : A → Type 0} (collection : CollectionReader) → CollectionIn f collection
       → (depth low : ℕ) (ls : List Line) → AreLeft f low ls → Reads f P (no_entry collection depth ls)
@@ -106,7 +110,7 @@ module _ {f : File} where
       let a = starts-in h in
       reads-unless (block_fault (first_text ls)) (start ls) a
       (reads-by (is_property (first_text ls)) (λ _. reads-fault a)
-      (λ _. reads-by (is_flow_start (first_text ls)) (λ e. refused-in false collection c depth low ls e h)
+      (λ _. reads-by (is_flow_start (first_text ls)) (λ e. refused-in (λ left. yaml.UnexpectedCharacter) collection c depth low ls e h)
       (λ _. reads-by (is_quote (first_text ls))
       (λ _. reads-then {g = λ (r : ScalarRead). fails yaml.UnexpectedCharacter (start ls)}
       (reads-given (IsRead f low) (scalar_at (block 0) ls) (scalar-read (block 0) low ls h)) (λ r k. reads-fault a))
@@ -127,5 +131,5 @@ module _ {f : File} where
       reads-unless (block_fault (first_text ls)) (start ls) a
       (reads-by (is_property (first_text ls)) (λ _. reads-fault a)
       (λ _. reads-by (is_dash (first_text ls) || is_block_start (first_text ls)) (λ _. reads-fault a)
-      (λ _. reads-by (is_flow_start (first_text ls)) (λ e. refused-in true collection c depth low ls e h)
+      (λ _. reads-by (is_flow_start (first_text ls)) (λ e. refused-in collection_fault collection c depth low ls e h)
       (λ _. reads-then (reads-given (OptionKeyIn f low) (key_at ls) (key_at-in low ls h)) (λ found k. found_key-in low ls found a k)))))

@@ -1,13 +1,14 @@
 -- The tree of a file lies in it, and so does its first fault.
 use Rattle.std.proofs.Common.{◌≡◌, subst, ℕ, zero, suc, ◌+◌, ◌<◌, ◌≤◌, List, [], ◌∷◌, length, arith}
-use Rattle.std.proofs.Common.{Option, Some, None, Result, Ok, Err, IfOk}
+use Rattle.std.proofs.Common.{Option, Some, None, is_some, cond, Result, Ok, Err, IfOk}
 use Rattle.al_base.specs.Spans.{LiesIn}
 use Rattle.al_base.specs.declared.codes.YamlCode.TheVariants as yaml
 use Rattle.al_scalar.specs.Taken.{Fault}
 use Rattle.al_scalar.proofs.OffsetLemmas.{choose}
 use Rattle.al_yaml_tree.specs.Bytes.{following, is_well_formed, ill_formed_at, is_unprintable, unprintable_at}
-use Rattle.al_yaml_tree.specs.ByteFaults.{span_among}
+use Rattle.al_scalar.specs.Characters.{character_at}
 use Rattle.al_yaml_tree.specs.Document.{document_of, tree_of}
+use Rattle.al_yaml_tree.specs.Limits.{unless_fault}
 use Rattle.al_yaml_tree.specs.Node.{Node}
 use Rattle.al_yaml_tree.specs.Laws.{IsTreeLaid}
 use Rattle.al_yaml_tree.specs.Spans.{IsLaidIn, IsLaid, IsInside, AreFrom}
@@ -67,19 +68,13 @@ module _ (bytes : List ℕ) where
   -- a fault in the file, of which it isn't known whether it is UTF-8
   abbrev LiesAmong : Option ℕ → Result Node Fault → Type 0
   LiesAmong wrong (Ok root) = IsLaidIn (length bytes) (length bytes) root
-  LiesAmong wrong (Err f) = LiesIn (length bytes) (span_among wrong bytes f.at)
+  LiesAmong wrong (Err f) = LiesIn (length bytes) (cond (is_some wrong) (record { start = f.at; end = f.at + 1 }) (character_at bytes f.at))
 
   answer_lies : (r : Result Node Fault) → Answers (length bytes) ValueIn r → LiesAmong None r
   answer_lies (Ok root) h = h
   answer_lies (Err f) h = character-inside bytes f.at h
 
   -- the tree, unless the bytes have a fault
-
-  abbrev unless_fault : Option Fault → Result Node Fault
-  unless_fault o = elim o [
-    | Some f ↦ Err f
-    | None ↦ document_of bytes
-  ]
 
   abbrev unprintable : Option ℕ → Option Fault
   unprintable o = elim o [ None ↦ None | Some at ↦ Some (record { code = yaml.ControlCharacter; at = at }) ]
@@ -90,11 +85,11 @@ module _ (bytes : List ℕ) where
     | None ↦ unprintable (unprintable_at 0 bytes)
   ]
 
-  printed : (o : Option ℕ) → IsBelow (length bytes) o → LiesAmong None (unless_fault (unprintable o))
+  printed : (o : Option ℕ) → IsBelow (length bytes) o → LiesAmong None (unless_fault (unprintable o) (document_of bytes))
   printed None h = answer_lies (document_of bytes) document_of-in
   printed (Some at) h = character-inside bytes at (omega (arith, h))
 
-  formed : (o : Option ℕ) → IsBelow (length bytes) o → LiesAmong o (unless_fault (ill_formed o))
+  formed : (o : Option ℕ) → IsBelow (length bytes) o → LiesAmong o (unless_fault (ill_formed o) (document_of bytes))
   formed None h = printed (unprintable_at 0 bytes)
       (below-more (0 + length bytes) (length bytes) (unprintable_at 0 bytes) (omega arith) (unprintable-below 0 bytes))
   formed (Some at) h = record { ordered = omega arith; inside = omega (arith, h) }

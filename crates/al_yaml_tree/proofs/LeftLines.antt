@@ -13,7 +13,7 @@ use Rattle.al_scalar.specs.Taken.{Fault}
 use Rattle.al_scalar.proofs.OffsetLemmas.{choose}
 use Rattle.al_scalar.proofs.TextLemmas.{ReadsText, scalar-text}
 use Rattle.al_scalar.proofs.Utf8Lemmas.{AreUtf8}
-use Rattle.al_yaml_tree.specs.Content.{Next, ended, at_line, is_skipped, content_line, content, ends_line, line_ended, whole_lines, behind}
+use Rattle.al_yaml_tree.specs.Content.{Next, ended, at_line, is_skipped, text_line, is_file_end, content_line, content, ends_line, line_ended, whole_lines, behind}
 use Rattle.al_yaml_tree.specs.Content.{is_dash, is_flow_start, is_property, anchor_cells, behind_name}
 use Rattle.al_yaml_tree.specs.Document.{first_line, document_start, ended_behind, last_line, document_end}
 use Rattle.al_yaml_tree.specs.Flow.{gap}
@@ -132,12 +132,16 @@ module _ {f : File} where
       (λ _. choose (Answers f.size (NextLeft f low)) (begins ascii.tab (first_text (spaces_dropped ls)))
       (λ _. starts-in (left-spaces h)) (λ _. left-spaces h))
 
+  left-text_line : {low : ℕ} (ls : List Line) → AreLeft f low ls → AreLeft f low (text_line ls)
+  left-text_line [] h = h
+  left-text_line {low} (l ∷ ls) h =
+      choose (AreLeft f low) (is_skipped l.text)
+      (λ _. choose (AreLeft f low) l.last (λ _. left-at_end h) (λ e. left-text_line ls (left-below e h))) (λ _. h)
+
   pub content-in : (low : ℕ) (ls : List Line) → AreLeft f low ls → Answers f.size (NextLeft f low) (content ls)
-  content-in low [] h = tt
-  content-in low (l ∷ ls) h =
-      choose (Answers f.size (NextLeft f low)) (is_skipped l.text)
-      (λ _. choose (Answers f.size (NextLeft f low)) l.last (λ _. tt) (λ e. content-in low ls (left-below e h)))
-      (λ _. content_line-in low (l ∷ ls) h)
+  content-in low ls h =
+      choose (Answers f.size (NextLeft f low)) (is_file_end (text_line ls)) (λ _. tt)
+      (λ _. content_line-in low (text_line ls) (left-text_line ls h))
 
   pub line_ended-in : (low : ℕ) (ls : List Line) → AreLeft f low ls → Answers f.size (AreLeft f low) (line_ended ls)
   line_ended-in low ls h =
@@ -152,31 +156,21 @@ module _ {f : File} where
       (λ e. line_ended-in low (behind 3 ls) (left-behind 3 (marker-utf8 ascii.dash ls (omega arith) e) h)) (λ _. h))
 
   pub document_start-in : (low : ℕ) (ls : List Line) → AreLeft f low ls → Answers f.size (AreLeft f low) (document_start ls)
-  document_start-in low [] h = h
-  document_start-in low (l ∷ ls) h =
-      choose (Answers f.size (AreLeft f low)) (is_skipped l.text)
-      (λ _. choose (Answers f.size (AreLeft f low)) l.last (λ _. left-at_end h) (λ e. document_start-in low ls (left-below e h)))
-      (λ _. first_line-in low (l ∷ ls) h)
+  document_start-in low ls h = first_line-in low (text_line ls) (left-text_line ls h)
 
-module _ (size : ℕ) where
-  ended_behind-in : (low : ℕ) (ls : List Line) → Stand size low ls → Answers size Anything (ended_behind ls)
-  ended_behind-in low [] h = tt
-  ended_behind-in low (l ∷ ls) h =
-      choose (Answers size Anything) (is_skipped l.text)
-      (λ _. choose (Answers size Anything) l.last (λ _. tt) (λ e. ended_behind-in low ls (stand-below size low l ls e h)))
-      (λ _. start-in size low (blanks_dropped (l ∷ ls)) (stand-blanks size low (l ∷ ls) h))
+  ended_behind-in : (low : ℕ) (ls : List Line) → AreLeft f low ls → Answers f.size Anything (ended_behind ls)
+  ended_behind-in low ls h =
+      choose (Answers f.size Anything) (is_file_end (text_line ls)) (λ _. tt) (λ _. starts-in (left-blanks (left-text_line ls h)))
 
-  last_line-in : (low : ℕ) (ls : List Line) → Stand size low ls → Answers size Anything (last_line ls)
+  last_line-in : (low : ℕ) (ls : List Line) → AreLeft f low ls → Answers f.size Anything (last_line ls)
   last_line-in low ls h =
-      let left = start-in size low (spaces_dropped ls) (stand-spaces size low ls h) in
-      choose (Answers size Anything) (is_marker ascii.dash (first_text ls)) (λ _. start-in size low ls h)
-      (λ _. choose (Answers size Anything) (is_marker ascii.dot (first_text ls))
-      (λ _. ended_behind-in low (behind 3 ls) (stand-behind size 3 low ls h))
-      (λ _. choose (Answers size Anything) (begins ascii.tab (first_text (spaces_dropped ls))) (λ _. left) (λ _. left)))
+      choose (Answers f.size Anything) (is_marker ascii.dash (first_text ls)) (λ _. starts-in h)
+      (λ _. choose (Answers f.size Anything) (is_marker ascii.dot (first_text ls))
+      (λ e. ended_behind-in low (behind 3 ls) (left-behind 3 (marker-utf8 ascii.dot ls (omega arith) e) h))
+      (λ _. choose (Answers f.size Anything) (begins ascii.tab (first_text (spaces_dropped ls)))
+      (λ _. starts-in (left-spaces h)) (λ _. starts-in (left-spaces h))))
 
-  pub document_end-in : (low : ℕ) (ls : List Line) → Stand size low ls → Answers size Anything (document_end ls)
-  document_end-in low [] h = tt
-  document_end-in low (l ∷ ls) h =
-      choose (Answers size Anything) (is_skipped l.text)
-      (λ _. choose (Answers size Anything) l.last (λ _. tt) (λ e. document_end-in low ls (stand-below size low l ls e h)))
-      (λ _. last_line-in low (l ∷ ls) h)
+  pub document_end-in : (low : ℕ) (ls : List Line) → AreLeft f low ls → Answers f.size Anything (document_end ls)
+  document_end-in low ls h =
+      choose (Answers f.size Anything) (is_file_end (text_line ls)) (λ _. tt)
+      (λ _. last_line-in low (text_line ls) (left-text_line ls h))

@@ -1,39 +1,38 @@
 -- What is said of each value that a reading gives: nodes lie in the file, with texts that are UTF-8 where the file is, and in order where
 -- no alias is read; so do the nodes of anchors, but for the order. Its fault and its starts lie in the file.
 use Rattle.std.proofs.Common.{◌≡◌, ℕ, ◌≤◌, List, [], ◌∷◌, ◌++◌, refl, arith, Bool, true, false, nat_lt, if◌then◌else◌}
-use Rattle.std.proofs.Common.{Option, Some, None, Result, Ok, Err}
+use Rattle.std.proofs.Common.{Option, Some, None, Result, Ok, Err, IsUtf8}
 use Rattle.std.specs.Str.{bytes_eq}
 use Rattle.std.proofs.lemmas.Str.{IsUtf8-nil}
 use Rattle.al_base.specs.declared.codes.YamlCode.{YamlCode}
 use Rattle.al_base.specs.declared.faults.Span.{Span}
 use Rattle.al_scalar.specs.Line.{Line}
 use Rattle.al_scalar.specs.Offsets.{IsPlaced}
-use Rattle.al_scalar.specs.Scalar.{ScalarRead, empty_scalar, span}
+use Rattle.al_scalar.specs.Scalar.{Scalar, ScalarRead, empty_scalar, span, text_of}
 use Rattle.al_scalar.specs.Taken.{Fault}
 use Rattle.al_scalar.proofs.OffsetLemmas.{choose}
 use Rattle.al_yaml_tree.specs.Content.{unless}
 use Rattle.al_yaml_tree.specs.Flow.{empty_node}
-use Rattle.al_yaml_tree.specs.Node.{Node, Nodes, Entries, scalar, sequence, mapping, no_nodes, item, no_entries, entry}
+use Rattle.al_yaml_tree.specs.Node.{Node, Nodes, Entries, scalar, sequence, mapping, no_nodes, no_entries}
 use Rattle.al_yaml_tree.specs.Node.{with_item, with_entry, scalar_node}
-use Rattle.al_yaml_tree.specs.Reading.{Start, HaveNoAlias, Anchor, Known, Outcome, Reading, gives, fails, given, next, later_of, alias_of, alias}
-use Rattle.al_yaml_tree.specs.Reading.{◌>>=◌, listed, start_of, anchored, Part, part, spanned}
-use Rattle.al_yaml_tree.specs.Spans.{IsPlacedIn, IsLaidIn}
-use Rattle.al_yaml_tree.specs.Texts.{HasTexts, HaveTexts, EntriesHaveTexts}
-use Rattle.al_yaml_tree.proofs.LaidLemmas.{laid-item, laid-entry}
+use Rattle.al_yaml_tree.specs.Reading.{Start, HaveNoAlias, Anchor, Known, Outcome, Reading, gives, fails, of_result, next, later_of, alias_of, alias}
+use Rattle.al_yaml_tree.specs.Reading.{◌>>=◌, with_start, start_of, gives_with_anchor, Part, part, with_span}
+use Rattle.al_yaml_tree.specs.Spans.{IsPlacedIn, IsLaidIn, LiesAround}
+use Rattle.al_yaml_tree.specs.Texts.{HasTexts}
+use Rattle.al_yaml_tree.proofs.LaidLemmas.{Laid, each-item, each-entry}
 use Rattle.al_yaml_tree.proofs.LeftLines.{File, AreLeft, IsRead, left-lower, is-inside}
 use Rattle.al_yaml_tree.proofs.ScalarSpans.{Answers, answers-also}
 use Rattle.al_yaml_tree.proofs.SpanLemmas.{wider_in, items-wider, entries-wider, behind-item, behind-entry}
 
 -- ---- nodes
 
-item-texts : (ns : Nodes) (m : Node) → HaveTexts ns → HasTexts m → HaveTexts (with_item ns m)
-item-texts no_nodes m h k = (k, tt)
-item-texts (item n ns) m h k = (h.0, item-texts ns m h.1 k)
+-- the text of a scalar is UTF-8, and so is all in a collection
 
-entry-texts : (es : Entries) (key value : Node) → EntriesHaveTexts es → HasTexts key → HasTexts value
-    → EntriesHaveTexts (with_entry es key value)
-entry-texts no_entries key value h k v = (k, v, tt)
-entry-texts (entry x y es) key value h k v = (h.0, h.1, entry-texts es key value h.2 k v)
+abbrev pub Text : Scalar → Span → Type 0
+Text s at = IsUtf8 (text_of s)
+
+abbrev pub Inner : Span → Type 0 → Type 0
+Inner at inner = inner
 
 -- a node that was read from an offset to another
 pub record Lies (f : File) (low end : ℕ) (n : Node) : Type 0 where
@@ -134,8 +133,8 @@ module _ {f : File} where
       record {
         ordered = c;
         lies = record {
-          laid = (record { ordered = c; inside = b }, laid-item f.size f.size ns n h.lies.laid.1 k.laid);
-          texts = λ u. item-texts ns n (h.lies.texts u) (k.texts u);
+          laid = (record { ordered = c; inside = b }, each-item (Laid f.size f.size) (LiesAround f.size) ns n h.lies.laid.1 k.laid);
+          texts = λ u. each-item Text Inner ns n (h.lies.texts u) (k.texts u);
           placed = λ p. (
             record { from = omega arith; ordered = c; to = omega arith },
             behind-item f.size from low end ns n h.ordered a (h.lies.placed p).1 (k.placed p),
@@ -153,8 +152,8 @@ module _ {f : File} where
       record {
         ordered = c;
         lies = record {
-          laid = (record { ordered = c; inside = b }, laid-entry f.size f.size es (scalar_node r) v h.lies.laid.1 key.laid m.laid);
-          texts = λ u. entry-texts es (scalar_node r) v (h.lies.texts u) (key.texts u) (m.texts u);
+          laid = (record { ordered = c; inside = b }, each-entry (Laid f.size f.size) (LiesAround f.size) es (scalar_node r) v h.lies.laid.1 key.laid m.laid);
+          texts = λ u. each-entry Text Inner es (scalar_node r) v (h.lies.texts u) (key.texts u) (m.texts u);
           placed = λ p. (
             record { from = omega arith; ordered = c; to = omega arith },
             behind-entry f.size from low end es (scalar_node r) v h.ordered e (h.lies.placed p).1
@@ -269,7 +268,7 @@ module _ {f : File} where
   pub reads-fault : {A : Type 0} {P : A → Type 0} {code : YamlCode} {at : ℕ} → at ≤ f.size → Reads f P (fails code at)
   reads-fault a = record { run = λ known k u. record { answers = a; starts = tt; knows = k } }
 
-  pub reads-given : {A : Type 0} (P : A → Type 0) (r : Result A Fault) → Answers f.size P r → Reads f P (given r)
+  pub reads-given : {A : Type 0} (P : A → Type 0) (r : Result A Fault) → Answers f.size P r → Reads f P (of_result r)
   reads-given P r h = record { run = λ known k u. record { answers = h; starts = tt; knows = k } }
 
   next-keeps : {A B : Type 0} (P : A → Type 0) (Q : B → Type 0) (o : Outcome A) (g : A → Reading B)
@@ -291,13 +290,13 @@ module _ {f : File} where
   reads-then {P = P} {Q = Q} {r = r} {g = g} h k = record { run = λ known u v. next-keeps P Q (r known) g (λ w. h.run known u w) k v }
 
   pub reads-start : {A : Type 0} {P : A → Type 0} {at nodes depth : ℕ} {r : Reading A} → at ≤ f.size → Reads f P r
-      → Reads f P (listed (start_of at nodes depth) r)
+      → Reads f P (with_start (start_of at nodes depth) r)
   reads-start a h = record {
     run = λ known u v. let m = h.run known u (λ p. (v p).1) in record { answers = m.answers; starts = (a, m.starts); knows = m.knows };
   }
 
   pub reads-one : {A : Type 0} {P : A → Type 0} {at nodes depth : ℕ} {x : A} → at ≤ f.size → P x
-      → Reads f P (listed (start_of at nodes depth) (gives x))
+      → Reads f P (with_start (start_of at nodes depth) (gives x))
   reads-one a h = record { run = λ known u v. record { answers = h; starts = (a, tt); knows = u } }
 
   pub reads-unless : {A : Type 0} {P : A → Type 0} (o : Option YamlCode) (at : ℕ) {r : Reading A} → at ≤ f.size → Reads f P r
@@ -327,7 +326,7 @@ module _ {f : File} where
   })
 
   pub collected : {A : Type 0} {g : A → Span → Node} {low at : ℕ} {r : Reading (Part A)} → low ≤ at → Reads f (IsPart f g same at) r
-      → Reads f (IsNode f low) (spanned g at r)
+      → Reads f (IsNode f low) (with_span g at r)
   collected {A} {g} {low} {at} a h = reads-then {g = λ (p : Part A). gives (part (g p.value (span at p.end)) p.end p.left)} h (λ p k. reads-value (record {
     done = record { ordered = omega (arith, a, k.done.ordered); lies = lies-lower a k.done.lies };
     inside = k.inside;
@@ -349,7 +348,7 @@ module _ {f : File} where
   alias-reads name at depth a = record { run = λ known u v. found-in at depth known a u (known name) (u name) v }
 
   pub anchored-reads : {A : Type 0} {P : A → Type 0} (a : Anchor) {x : A} {low end : ℕ} → Lies f low end a.node → P x
-      → Reads f P (anchored a x)
+      → Reads f P (gives_with_anchor a x)
   anchored-reads a n h = record {
     run = λ known u v. record {
       answers = h;

@@ -3,8 +3,10 @@ use Rattle.std.proofs.Common.{◌≡◌, subst, ℕ, ◌≤◌, List, length, Op
 use Rattle.al_scalar.specs.Taken.{Fault}
 use Rattle.al_yaml_tree.specs.Bytes.{byte_fault}
 use Rattle.al_yaml_tree.specs.Document.{document_of, HasNoAlias, tree_of}
+use Rattle.al_yaml_tree.specs.Limits.{unless_fault}
 use Rattle.al_yaml_tree.specs.Node.{Node}
-use Rattle.al_yaml_tree.specs.Spans.{IsPlacedIn, IsWithin}
+use Rattle.al_yaml_tree.specs.Spans.{IsPlacedIn}
+use Rattle.al_base.specs.Limits.{largest_file}
 use Rattle.al_yaml_tree.proofs.DocumentReading.{file_of, document-lies, answered}
 use Rattle.al_yaml_tree.proofs.NodeReading.{Lies}
 use Rattle.al_yaml_tree.proofs.SpanLemmas.{placed-more}
@@ -19,12 +21,12 @@ module _ (bytes : List ℕ) where
       (document-lies bytes (Unit {0}) (λ _. u))
 
   -- where no alias is read each node lies in the one around it, and behind those before it
-  pub document-within : (root : Node) → document_of bytes ≡ Ok root → length bytes ≤ 1048576 → HasNoAlias bytes → IsWithin 0 (length bytes) root
+  pub document-within : (root : Node) → document_of bytes ≡ Ok root → length bytes ≤ 1048576 → HasNoAlias bytes → IsPlacedIn largest_file 0 (length bytes) root
   document-within root h a u =
       placed-more (length bytes) 1048576 a 0 (length bytes) root (subst (λ (r : Result Node Fault). IfOk r ValueIn) h (document_of-in u))
 
   by_fault : (o : Option Fault) → HasNoAlias bytes
-      → IfOk (elim o [ Some f ↦ Err f | None ↦ document_of bytes ]) ValueIn
+      → IfOk (unless_fault o (document_of bytes)) ValueIn
   by_fault None u = document_of-in u
   by_fault (Some f) u = tt
 
@@ -33,9 +35,9 @@ module _ (bytes : List ℕ) where
   tree-nested u = by_fault (byte_fault bytes) u
 
   more : (r : Result Node Fault) → length bytes ≤ 1048576 → IfOk r (IsPlacedIn (length bytes) 0 (length bytes))
-      → IfOk r (IsWithin 0 (length bytes))
+      → IfOk r (IsPlacedIn largest_file 0 (length bytes))
   more (Ok root) a h = placed-more (length bytes) 1048576 a 0 (length bytes) root h
   more (Err e) a h = tt
 
-  pub tree-within : length bytes ≤ 1048576 → HasNoAlias bytes → IfOk (tree_of bytes) (IsWithin 0 (length bytes))
+  pub tree-within : length bytes ≤ 1048576 → HasNoAlias bytes → IfOk (tree_of bytes) (IsPlacedIn largest_file 0 (length bytes))
   tree-within a u = more (tree_of bytes) a (tree-nested u)

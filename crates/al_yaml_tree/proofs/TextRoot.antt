@@ -1,11 +1,12 @@
 -- The texts of a document are UTF-8.
-use Rattle.std.proofs.Common.{◌≡◌, ℕ, List, length, refl, sym, subst, Option, Some, None, Result, Ok, Err, IfOk}
+use Rattle.std.proofs.Common.{◌≡◌, ℕ, List, length, refl, sym, subst, Option, Some, None, Result, Ok, IfOk}
 use Rattle.std.specs.Prelude.{IfNone, IsUtf8}
 use Rattle.al_base.specs.declared.codes.YamlCode.TheVariants as yaml
 use Rattle.al_scalar.specs.Taken.{Fault}
 use Rattle.al_scalar.specs.declared.faults.YamlFault.{YamlFault}
 use Rattle.al_yaml_tree.specs.Bytes.{ill_formed_at, unprintable_at, byte_fault}
 use Rattle.al_yaml_tree.specs.Document.{document_of, tree_of}
+use Rattle.al_yaml_tree.specs.Limits.{unless_fault}
 use Rattle.al_yaml_tree.specs.Node.{Node}
 use Rattle.al_yaml_tree.specs.Texts.{HasTexts}
 use Rattle.al_yaml_tree.proofs.ByteTexts.{bytes-utf8}
@@ -28,10 +29,7 @@ well-by : (more o : Option ℕ) → IsNo (elim o [
 well-by more (Some at) h = absurd h
 well-by more None h = refl
 
-tree-by : (bs : List ℕ) (o : Option Fault) → byte_fault bs ≡ o → IfOk (elim o [
-  | Some f ↦ Err f
-  | None ↦ document_of bs
-]) HasTexts
+tree-by : (bs : List ℕ) (o : Option Fault) → byte_fault bs ≡ o → IfOk (unless_fault o (document_of bs)) HasTexts
 tree-by bs (Some f) e = tt
 tree-by bs None e = document_of-text bs (bytes-utf8 bs (well-by (unprintable_at 0 bs) (ill_formed_at 0 0 bs) (subst IsNo (sym e) tt)))
 

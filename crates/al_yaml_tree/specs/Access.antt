@@ -14,15 +14,12 @@ entries (entry k v es) = (k, v) ∷ entries es
 
 abbrev pub scalar_in : Node → Option Scalar
 scalar_in (scalar s at) = Some s
-scalar_in (sequence ns at) = None
-scalar_in (mapping es at) = None
+scalar_in _ = None
 
 abbrev pub sequence_in : Node → Option (List Node)
 sequence_in (sequence ns at) = Some (nodes ns)
-sequence_in (scalar s at) = None
-sequence_in (mapping es at) = None
+sequence_in _ = None
 
 abbrev pub mapping_in : Node → Option (List (Node × Node))
 mapping_in (mapping es at) = Some (entries es)
-mapping_in (scalar s at) = None
-mapping_in (sequence ns at) = None
+mapping_in _ = None

@@ -1,6 +1,6 @@
 -- Block nodes (YAML 1.2.2, 8.2).
 use Rattle.std.specs.Prelude.{ℕ, zero, suc, ◌+◌, List, Bool, true, false, not, ◌&&◌, ◌||◌, ◌==◌, nat_le}
-use Rattle.std.specs.Prelude.{nat_lt, if◌then◌else◌, Option, Some, None, Result, Ok, Err}
+use Rattle.std.specs.Prelude.{nat_lt, if◌then◌else◌, Option, Some, None, Result, Ok}
 use Rattle.al_base.specs.declared.codes.YamlCode.TheVariants as yaml
 use Rattle.al_base.specs.Ascii as ascii
 use Rattle.al_scalar.specs.Line.{Cell, Line, start, begins, blanks_dropped}
@@ -9,8 +9,8 @@ use Rattle.al_scalar.specs.Taken.{Fault, fault}
 use Rattle.al_scalar.specs.Plain.{block}
 use Rattle.al_scalar.specs.Scalar.{scalar_at}
 use Rattle.al_yaml_tree.specs.Node.{Node, Nodes, Entries, sequence, mapping, no_nodes, with_item, no_entries, with_entry, scalar_node}
-use Rattle.al_yaml_tree.specs.Reading.{Reading, gives, fails, given, starting_scalar, starting_mapping}
-use Rattle.al_yaml_tree.specs.Reading.{starting_collection, anchored, alias, Part, part, spanned, ◌>>=◌}
+use Rattle.al_yaml_tree.specs.Reading.{Reading, gives, fails, of_result, and_then, starting_scalar, starting_mapping}
+use Rattle.al_yaml_tree.specs.Reading.{starting_collection, gives_with_anchor, alias, Part, part, with_span, ◌>>=◌}
 use Rattle.al_yaml_tree.specs.Content.{Next, ended, at_line, is_skipped, content, line_ended, whole_lines, behind, is_dash, tab_among}
 use Rattle.al_yaml_tree.specs.Content.{block_fault, unless, is_flow_start, is_property, anchor_name, behind_name, has_no_name, same_line}
 use Rattle.al_yaml_tree.specs.Content.{characters, is_short_key}
@@ -49,12 +49,9 @@ abbrev pub tab_before : Spot → Option ℕ
 tab_before (compact tab) = tab
 tab_before _ = None
 
-abbrev pub unless_at : {A : Type 0} → Option ℕ → Reading A → Reading A
-unless_at (Some at) r = fails yaml.TabInIndentation at
-unless_at None r = r
-
-abbrev pub unless_tab : {A : Type 0} → Spot → Reading A → Reading A
-unless_tab spot r = unless_at (tab_before spot) r
+abbrev pub unless_tab : {A : Type 0} → Option ℕ → Reading A → Reading A
+unless_tab (Some at) r = fails yaml.TabInIndentation at
+unless_tab None r = r
 
 -- the spot behind blanks on the line
 abbrev pub spot_behind : List Cell → Spot → Spot
@@ -74,7 +71,7 @@ node_found node slot depth ls (at_line i left) = if is_deeper slot i left then n
 
 abbrev pub node_below : BlockReader → Slot → ℕ → List Line → Reading (Part Node)
 node_below node slot depth ls = do
-  found ← given (content ls)
+  found ← of_result (content ls)
   node_found node slot depth ls found
 
 -- The node behind a dash, a colon or an anchor; the column is that of ls, of which rest is left.
@@ -90,19 +87,12 @@ next_found column ended = Ok None
 next_found column (at_line i left) =
     if i == column then Ok (Some left) else (if nat_lt i column then Ok None else fault yaml.WrongIndentation (start left))
 
-abbrev pub next_from : ℕ → Result Next Fault → Result (Option (List Line)) Fault
-next_from column (Err e) = Err e
-next_from column (Ok found) = next_found column found
-
 abbrev pub next_at : ℕ → List Line → Result (Option (List Line)) Fault
-next_at column ls = next_from column (content ls)
+next_at column ls = and_then (content ls) (next_found column)
 
 -- An entry of a sequence (8.2.1): what stands behind its dash.
 abbrev pub entry_slot : ℕ → ℕ → Slot
 entry_slot column at = record { spot = compact None; within = column + 1; in_mapping = false; empty = at }
-
-abbrev pub sequence_entry : BlockReader → ℕ → ℕ → List Line → Reading (Part Node)
-sequence_entry node column depth ls = rest_node node (entry_slot column (start (behind 1 ls))) depth column ls (behind 1 ls)
 
 -- The rest of a sequence, given all its items so far and the part that the last one was; more reads from the next dash
 -- on. A line at its indent that has no dash closes it if it is the value of a mapping's entry.
@@ -114,14 +104,14 @@ sequence_next collection more in_mapping depth closed (Some left) =
 
 abbrev pub sequence_rest : CollectionReader → (List Line → Reading (Part Nodes)) → Bool → ℕ → ℕ → Part Nodes → Reading (Part Nodes)
 sequence_rest collection more in_mapping column depth done = do
-  found ← given (next_at column done.left)
+  found ← of_result (next_at column done.left)
   sequence_next collection more in_mapping depth done found
 
 -- The entries of a sequence behind those done, from a dash on. turns bounds their number.
 unfoldable pub sequence_entries : BlockReader → CollectionReader → ℕ → Bool → ℕ → ℕ → Nodes → List Line → Reading (Part Nodes)
 sequence_entries node collection zero in_mapping column depth done ls = fails yaml.UnexpectedCharacter 0
 sequence_entries node collection (suc turns) in_mapping column depth done ls = do
-  x ← sequence_entry node column depth ls
+  x ← rest_node node (entry_slot column (start (behind 1 ls))) depth column ls (behind 1 ls)
   sequence_rest collection
       (λ left. sequence_entries node collection turns in_mapping column depth (with_item done x.value) left) in_mapping column depth
       (part (with_item done x.value) x.end x.left)
@@ -129,9 +119,6 @@ sequence_entries node collection (suc turns) in_mapping column depth done ls = d
 -- A value (8.2.2): what stands behind its key's colon.
 abbrev pub value_slot : ℕ → ℕ → Slot
 value_slot column at = record { spot = behind_key; within = column + 1; in_mapping = true; empty = at }
-
-abbrev pub mapping_value : BlockReader → ℕ → ℕ → Key → Reading (Part Node)
-mapping_value node column depth key = rest_node node (value_slot column (start key.behind)) depth 0 key.behind key.behind
 
 -- The rest of a mapping, given all its entries so far and the part that the last one was; more reads from behind the
 -- next key on.
@@ -141,14 +128,14 @@ mapping_next collection more depth closed (Some left) = entry_key collection dep
 
 abbrev pub mapping_rest : CollectionReader → (Key → Reading (Part Entries)) → ℕ → ℕ → Part Entries → Reading (Part Entries)
 mapping_rest collection more column depth done = do
-  found ← given (next_at column done.left)
+  found ← of_result (next_at column done.left)
   mapping_next collection more depth done found
 
 -- The entries of a mapping behind those done, from behind a key on.
 unfoldable pub mapping_entries : BlockReader → CollectionReader → ℕ → ℕ → ℕ → Entries → Key → Reading (Part Entries)
 mapping_entries node collection zero column depth done key = fails yaml.UnexpectedCharacter 0
 mapping_entries node collection (suc turns) column depth done key = do
-  x ← mapping_value node column depth key
+  x ← rest_node node (value_slot column (start key.behind)) depth 0 key.behind key.behind
   mapping_rest collection
       (λ k. mapping_entries node collection turns column depth (with_entry done (scalar_node key.scalar) x.value) k) column depth
       (part (with_entry done (scalar_node key.scalar) x.value) x.end x.left)
@@ -161,8 +148,8 @@ scalar_left ls left = if is_block_start (first_text ls) then Ok left else line_e
 abbrev pub scalar_node_at : ℕ → List Line → Reading (Part Node)
 scalar_node_at within ls =
     starting_scalar (start ls) (do
-      r ← given (scalar_at (block within) ls)
-      left ← given (scalar_left ls r.left)
+      r ← of_result (scalar_at (block within) ls)
+      left ← of_result (scalar_left ls r.left)
       gives (part (scalar_node r) r.span.end left))
 
 -- The rest of a line, given the flow collection just read on it: no colon may stand there that would make it a key.
@@ -170,7 +157,7 @@ abbrev pub flow_rest : Spot → ℕ → Part Node → Reading (Part Node)
 flow_rest spot at x =
     if not (is_behind_key spot) && has_colon x.left then fails yaml.WrongKey at
     else (do
-      left ← given (line_ended x.left)
+      left ← of_result (line_ended x.left)
       gives (part x.value x.end left))
 
 -- a flow collection in block context
@@ -183,18 +170,18 @@ abbrev pub block_sequence : BlockReader → CollectionReader → ℕ → BlockRe
 block_sequence node collection turns slot depth column ls =
     let at = start ls in
     if is_behind_key slot.spot then fails yaml.UnexpectedCharacter at
-    else unless_tab slot.spot (starting_collection at depth (
-    spanned sequence at (sequence_entries node collection turns slot.in_mapping column (depth + 1) no_nodes ls)))
+    else unless_tab (tab_before slot.spot) (starting_collection at depth (
+    with_span sequence at (sequence_entries node collection turns slot.in_mapping column (depth + 1) no_nodes ls)))
 
 -- a mapping whose first key was read
 abbrev pub block_mapping : BlockReader → CollectionReader → ℕ → Spot → ℕ → ℕ → List Line → Key → Reading (Part Node)
 block_mapping node collection turns spot depth column ls key =
     let at = start ls in
     if not (same_line ls key.scalar.left) then fails yaml.WrongKey at
-    else unless_tab spot (
+    else unless_tab (tab_before spot) (
     if not (is_short_key ls key.scalar) then fails yaml.WrongKey at
     else starting_mapping at depth (
-    spanned mapping at (mapping_entries node collection turns column (depth + 1) no_entries key)))
+    with_span mapping at (mapping_entries node collection turns column (depth + 1) no_entries key)))
 
 -- a mapping if a key was found, or else a scalar
 abbrev pub keyed_node : BlockReader → CollectionReader → ℕ → Slot → ℕ → ℕ → List Line → Option Key → Reading (Part Node)
@@ -211,7 +198,7 @@ block_content node collection turns slot depth column ls =
     else (if is_flow_start (first_text ls) then flow_at collection slot.spot depth ls
     else (if is_block_start (first_text ls) || is_behind_key slot.spot then scalar_node_at slot.within ls
     else (do
-      found ← given (key_at ls)
+      found ← of_result (key_at ls)
       keyed_node node collection turns slot depth column ls found))))
 
 -- an alias, or an anchor and its node (6.9.2, 7.1)
@@ -225,22 +212,18 @@ block_property content slot depth column ls =
     else (if begins ascii.asterisk (first_text ls)
     then (do
       n ← alias name at depth
-      left ← given (line_ended rest)
+      left ← of_result (line_ended rest)
       gives (part n (start rest) left))
     else (do
       x ← rest_node content slot depth column ls rest
-      anchored (record { name = name; at = at; node = x.value }) x)))
-
-abbrev pub block_node_over : BlockReader → CollectionReader → ℕ → BlockReader
-block_node_over node collection turns slot depth column ls =
-    if is_property (first_text ls) then block_property (block_content node collection turns) slot depth column ls
-    else block_content node collection turns slot depth column ls
+      gives_with_anchor (record { name = name; at = at; node = x.value }) x)))
 
 -- Nodes nested less deep than the bound, each with fewer parts; the file's length and one is always enough.
 unfoldable pub block_node : ℕ → BlockReader
 block_node zero slot depth column ls = fails yaml.UnexpectedCharacter 0
 block_node (suc bound) slot depth column ls =
-    block_node_over (block_node bound) (flow_collection (suc bound)) (suc bound) slot depth column ls
+    let content = block_content (block_node bound) (flow_collection (suc bound)) (suc bound) in
+    if is_property (first_text ls) then block_property content slot depth column ls else content slot depth column ls
 
 -- a node of such a bound without properties
 abbrev pub bare_node : ℕ → BlockReader

@@ -2,6 +2,7 @@
 -- first character forbids (5.3).
 use Rattle.std.specs.Prelude.{ℕ, ◌+◌, List, [], ◌∷◌, length, map, drop, Bool, true, false, ◌&&◌, ◌||◌, ◌==◌, nat_le, nat_lt}
 use Rattle.std.specs.Prelude.{if◌then◌else◌, Option, Some, None, Result, Ok}
+use Rattle.std.specs.Option.{option_or}
 use Rattle.al_base.specs.declared.codes.YamlCode.{YamlCode}
 use Rattle.al_base.specs.declared.codes.YamlCode.TheVariants as yaml
 use Rattle.al_base.specs.Ascii as ascii
@@ -15,14 +16,10 @@ use Rattle.al_scalar.specs.Block.{at_end}
 use Rattle.al_scalar.specs.Scalar.{ScalarRead}
 use Rattle.al_yaml_tree.specs.Reading.{Reading, fails}
 
--- What is left is never without a line: behind the file's last line stands its empty end.
-abbrev pub lines_behind : Line → List Line → List Line
-lines_behind l ls = if l.last then at_end l else ls
-
--- the whole lines behind the first one
+-- The whole lines behind the first one. What is left is never without a line: behind the file's last line stands its empty end.
 abbrev pub whole_lines : List Line → List Line
 whole_lines [] = []
-whole_lines (l ∷ ls) = lines_behind l ls
+whole_lines (l ∷ ls) = if l.last then at_end l else ls
 
 -- the lines behind k cells of the first
 abbrev pub behind : ℕ → List Line → List Line
@@ -38,6 +35,17 @@ pub data Next : Type 0 where
 abbrev pub is_skipped : List Cell → Bool
 is_skipped text = is_all_blank text || is_comment text
 
+-- the whole lines from the first one on that is neither, or else the file's end
+abbrev pub text_line : List Line → List Line
+text_line [] = []
+text_line (l ∷ ls) =
+    let below = text_line ls in
+    if is_skipped l.text then (if l.last then at_end l else below) else l ∷ ls
+
+-- whether the file ends behind such lines or a gap
+abbrev pub is_file_end : List Line → Bool
+is_file_end ls = is_empty (first_text ls)
+
 -- The first content line of whole lines. A document marker ends the document (9.1.2), and no tab stands between the
 -- indent and the content (6.1).
 abbrev pub content_line : List Line → Result Next Fault
@@ -48,10 +56,7 @@ content_line ls =
     else Ok (at_line (indent (first_text ls)) left))
 
 abbrev pub content : List Line → Result Next Fault
-content [] = Ok ended
-content (l ∷ ls) =
-    let below = content ls in
-    if is_skipped l.text then (if l.last then Ok ended else below) else content_line (l ∷ ls)
+content ls = let left = text_line ls in if is_file_end left then Ok ended else content_line left
 
 -- only blanks, and a comment after a blank
 abbrev pub ends_line : List Cell → Bool
@@ -97,14 +102,11 @@ is_flow_misplaced b alone closed =
     if (b == ascii.bar) || (b == ascii.greater) || (b == ascii.hash) then true
     else (if b == ascii.dash then alone || closed else ((b == ascii.question) || (b == ascii.colon)) && closed)
 
-abbrev pub or_misplaced : Option YamlCode → Bool → Option YamlCode
-or_misplaced (Some code) misplaced = Some code
-or_misplaced None misplaced = if misplaced then Some yaml.UnexpectedCharacter else None
-
 abbrev pub flow_fault : List Cell → Option YamlCode
 flow_fault [] = None
 flow_fault (c ∷ cs) =
-    or_misplaced (start_fault c.0 (is_blank_or_end cs)) (is_flow_misplaced c.0 (is_blank_or_end cs) (begins_flow_indicator cs))
+    let misplaced = is_flow_misplaced c.0 (is_blank_or_end cs) (begins_flow_indicator cs) in
+    option_or (start_fault c.0 (is_blank_or_end cs)) (if misplaced then Some yaml.UnexpectedCharacter else None)
 
 -- goes on where the first character is allowed
 abbrev pub unless : {A : Type 0} → Option YamlCode → ℕ → Reading A → Reading A

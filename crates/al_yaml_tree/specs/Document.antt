@@ -1,16 +1,15 @@
 -- A document (YAML 1.2.2, 9.1).
-use Rattle.std.specs.Prelude.{ℕ, suc, List, [], ◌∷◌, length, false, if◌then◌else◌, Some, None, Result, Ok, Err}
+use Rattle.std.specs.Prelude.{ℕ, suc, List, length, false, if◌then◌else◌, Result, Ok}
 use Rattle.al_base.specs.declared.codes.YamlCode.TheVariants as yaml
 use Rattle.al_base.specs.Ascii as ascii
 use Rattle.al_scalar.specs.Line.{Line, start, begins, is_marker, blanks_dropped, spaces_dropped}
 use Rattle.al_scalar.specs.Places.{first_text}
 use Rattle.al_scalar.specs.Taken.{Fault, fault}
-use Rattle.al_scalar.specs.Block.{at_end}
 use Rattle.al_yaml_tree.specs.Node.{Node}
-use Rattle.al_yaml_tree.specs.Limits.{limited}
+use Rattle.al_yaml_tree.specs.Limits.{unless_fault, within_limits}
 use Rattle.al_yaml_tree.specs.Bytes.{byte_fault, file_lines}
-use Rattle.al_yaml_tree.specs.Reading.{Start, HaveNoAlias, Reading, nothing_known, gives, given, Part, ◌>>=◌}
-use Rattle.al_yaml_tree.specs.Content.{Next, ended, at_line, is_skipped, content, line_ended, behind}
+use Rattle.al_yaml_tree.specs.Reading.{Start, HaveNoAlias, Reading, nothing_known, gives, of_result, Part, ◌>>=◌}
+use Rattle.al_yaml_tree.specs.Content.{Next, ended, at_line, text_line, is_file_end, content, line_ended, behind}
 use Rattle.al_yaml_tree.specs.Flow.{empty_node}
 use Rattle.al_yaml_tree.specs.Blocks.{Slot, own_line, block_node}
 
@@ -22,17 +21,13 @@ first_line ls =
     else (if is_marker ascii.dash (first_text ls) then line_ended (behind 3 ls) else Ok ls)
 
 abbrev pub document_start : List Line → Result (List Line) Fault
-document_start [] = Ok []
-document_start (l ∷ ls) =
-    let below = document_start ls in
-    if is_skipped l.text then (if l.last then Ok (at_end l) else below) else first_line (l ∷ ls)
+document_start ls = first_line (text_line ls)
 
 -- Behind `...` no content stands.
 abbrev pub ended_behind : List Line → Result (Unit {0}) Fault
-ended_behind [] = Ok tt
-ended_behind (l ∷ ls) =
-    let below = ended_behind ls in
-    if is_skipped l.text then (if l.last then Ok tt else below) else fault yaml.SecondDocument (start (blanks_dropped (l ∷ ls)))
+ended_behind ls =
+    let left = text_line ls in
+    if is_file_end left then Ok tt else fault yaml.SecondDocument (start (blanks_dropped left))
 
 -- Behind the root only `...` may stand.
 abbrev pub last_line : List Line → Result (Unit {0}) Fault
@@ -44,10 +39,7 @@ last_line ls =
     else fault yaml.WrongIndentation (start left)))
 
 abbrev pub document_end : List Line → Result (Unit {0}) Fault
-document_end [] = Ok tt
-document_end (l ∷ ls) =
-    let below = document_end ls in
-    if is_skipped l.text then (if l.last then Ok tt else below) else last_line (l ∷ ls)
+document_end ls = let left = text_line ls in if is_file_end left then Ok tt else last_line left
 
 abbrev pub root_slot : ℕ → Slot
 root_slot size = record { spot = own_line; within = 0; in_mapping = false; empty = size }
@@ -59,27 +51,23 @@ root_found size ls (at_line i left) = block_node (suc size) (root_slot size) 1 i
 
 abbrev pub root : ℕ → List Line → Reading (Part Node)
 root size ls = do
-  found ← given (content ls)
+  found ← of_result (content ls)
   root_found size ls found
 
 abbrev pub document : ℕ → List Line → Reading Node
 document size ls = do
-  left ← given (document_start ls)
+  left ← of_result (document_start ls)
   x ← root size left
-  rest ← given (document_end x.left)
+  rest ← of_result (document_end x.left)
   gives x.value
 
 -- The tree that a file is whose bytes have no fault, or its first fault.
 abbrev pub document_of : List ℕ → Result Node Fault
-document_of bs = limited (document (length bs) (file_lines bs) nothing_known)
+document_of bs = within_limits (document (length bs) (file_lines bs) nothing_known)
 
 -- The tree that a file is, or its first fault.
 abbrev pub tree_of : List ℕ → Result Node Fault
-tree_of bs =
-    elim (byte_fault bs) [
-      | Some f ↦ Err f
-      | None ↦ document_of bs
-    ]
+tree_of bs = unless_fault (byte_fault bs) (document_of bs)
 
 -- the starts of a file, and that none of them is an alias's
 abbrev pub starts_of : List ℕ → List Start

@@ -11,9 +11,9 @@ use Rattle.al_scalar.specs.Block.{at_end}
 use Rattle.al_scalar.specs.Scalar.{ScalarRead, scalar_at, empty_scalar, span}
 use Rattle.al_yaml_tree.specs.Node.{Node, Nodes, Entries, scalar, sequence, mapping}
 use Rattle.al_yaml_tree.specs.Node.{no_nodes, with_item, no_entries, with_entry, scalar_node}
-use Rattle.al_yaml_tree.specs.Reading.{Reading, gives, fails, given, starting_scalar, starting_collection}
-use Rattle.al_yaml_tree.specs.Reading.{anchored, alias, Part, part, spanned, ◌>>=◌}
-use Rattle.al_yaml_tree.specs.Content.{behind, flow_fault, unless, is_flow_start, is_quote, is_property}
+use Rattle.al_yaml_tree.specs.Reading.{Reading, gives, fails, of_result, starting_scalar, starting_collection}
+use Rattle.al_yaml_tree.specs.Reading.{gives_with_anchor, alias, Part, part, with_span, ◌>>=◌}
+use Rattle.al_yaml_tree.specs.Content.{behind, is_file_end, flow_fault, unless, is_flow_start, is_quote, is_property}
 use Rattle.al_yaml_tree.specs.Content.{anchor_name, behind_name, has_no_name, same_line, is_simple_key}
 
 -- What surrounds a node in a flow collection: the collection's opening bracket, and where an empty node would stand
@@ -41,10 +41,6 @@ gap at_start (l ∷ ls) =
     let below = gap true ls in
     if is_gap_line at_start l.text then (if l.last then at_end l else below) else cut (after_blanks l.text) l ls
 
--- whether the file ends behind a gap
-abbrev pub is_file_end : List Line → Bool
-is_file_end ls = is_empty (first_text ls)
-
 -- an empty node at a place
 abbrev pub empty_node : ℕ → List Line → Reading (Part Node)
 empty_node at left = starting_scalar at (gives (part (scalar (empty_scalar at) (span at at)) at left))
@@ -61,10 +57,10 @@ after_item opening close ls =
     else (if begins close (first_text ls) then Ok (closes (start ls + 1) (behind 1 ls))
     else fault yaml.UnexpectedCharacter (start ls)))
 
--- The rest of a sequence, given all its items so far and the lines behind the last one; more reads further items.
-abbrev pub flow_items_rest : (List Line → Reading (Part Nodes)) → ℕ → Nodes → List Line → Reading (Part Nodes)
-flow_items_rest more opening done left = do
-  found ← given (after_item opening ascii.close_bracket (gap false left))
+-- The rest of a collection, given all its items or entries so far and the lines behind the last one; more reads further ones.
+abbrev pub rest_behind : {A : Type 0} → ℕ → (List Line → Reading (Part A)) → ℕ → A → List Line → Reading (Part A)
+rest_behind close more opening done left = do
+  found ← of_result (after_item opening close (gap false left))
   elim found [ goes_on next ↦ more next | closes end next ↦ gives (part done end next) ]
 
 -- Items behind those done, from the first character of an item or the closer. turns bounds their number.
@@ -75,7 +71,8 @@ flow_items node (suc turns) opening depth done ls =
     else (if begins ascii.close_bracket (first_text ls) then gives (part done (start ls + 1) (behind 1 ls))
     else (do
       x ← node (record { opening = opening; empty = None }) depth ls
-      flow_items_rest (λ left. flow_items node turns opening depth (with_item done x.value) left) opening (with_item done x.value) x.left))
+      rest_behind ascii.close_bracket (λ left. flow_items node turns opening depth (with_item done x.value) left) opening
+          (with_item done x.value) x.left))
 
 -- The lines behind a key's colon, if one stands on its line. Behind a quoted key it needs nothing behind it.
 abbrev pub is_key_colon : Bool → List Line → Bool
@@ -113,7 +110,7 @@ key_colon ls r = if not (is_simple_key ls r) then fault yaml.WrongKey (start ls)
 
 abbrev pub flow_key_of : List Line → ScalarRead → Reading FlowKey
 flow_key_of ls r = do
-  colon ← given (key_colon ls r)
+  colon ← of_result (key_colon ls r)
   starting_scalar (start ls) (gives (record { scalar = r; behind = colon }))
 
 unfoldable pub flow_key : CollectionReader → ℕ → List Line → Reading FlowKey
@@ -125,7 +122,7 @@ flow_key collection depth ls =
       x ← collection depth ls
       fails yaml.WrongKey at)
     else (do
-      r ← given (scalar_at flow ls)
+      r ← of_result (scalar_at flow ls)
       flow_key_of ls r)))
 
 -- The value of an entry, given its key; without a colon it is empty.
@@ -136,12 +133,6 @@ flow_entry_value node opening depth key =
       | Some left ↦ flow_value node (record { opening = opening; empty = Some (start left) }) depth (gap false left)
     ]
 
--- The rest of a mapping, given all its entries so far and the lines behind the last one; more reads further entries.
-abbrev pub flow_entries_rest : (List Line → Reading (Part Entries)) → ℕ → Entries → List Line → Reading (Part Entries)
-flow_entries_rest more opening done left = do
-  found ← given (after_item opening ascii.close_brace (gap false left))
-  elim found [ goes_on next ↦ more next | closes end next ↦ gives (part done end next) ]
-
 -- Entries behind those done, from the first character of an entry or the closer.
 unfoldable pub flow_entries : FlowReader → CollectionReader → ℕ → ℕ → ℕ → Entries → List Line → Reading (Part Entries)
 flow_entries node collection zero opening depth done ls = fails yaml.UnexpectedCharacter 0
@@ -151,19 +142,9 @@ flow_entries node collection (suc turns) opening depth done ls =
     else (do
       key ← flow_key collection depth ls
       x ← flow_entry_value node opening depth key
-      flow_entries_rest (λ left. flow_entries node collection turns opening depth
+      rest_behind ascii.close_brace (λ left. flow_entries node collection turns opening depth
           (with_entry done (scalar_node key.scalar) x.value) left) opening
           (with_entry done (scalar_node key.scalar) x.value) x.left))
-
--- a flow collection, whose bracket begins the lines, with what reads nodes and collections in it
-abbrev pub flow_collection_over : FlowReader → CollectionReader → ℕ → ℕ → List Line → Reading (Part Node)
-flow_collection_over node collection turns depth ls =
-    let at = start ls in
-    let inside = gap false (behind 1 ls) in
-    starting_collection at depth (
-    if begins ascii.open_bracket (first_text ls)
-    then spanned sequence at (flow_items node turns at (depth + 1) no_nodes inside)
-    else spanned mapping at (flow_entries node collection turns at (depth + 1) no_entries inside))
 
 -- a node without properties
 unfoldable pub flow_content : CollectionReader → FlowSlot → ℕ → List Line → Reading (Part Node)
@@ -172,7 +153,7 @@ flow_content collection slot depth ls =
     if is_property (first_text ls) then fails yaml.UnexpectedCharacter (start ls)
     else (if is_flow_start (first_text ls) then collection depth ls
     else starting_scalar (start ls) (do
-      r ← given (scalar_at flow ls)
+      r ← of_result (scalar_at flow ls)
       gives (part (scalar_node r) r.span.end r.left))))
 
 -- an alias, or an anchor and its node (6.9.2, 7.1)
@@ -188,7 +169,7 @@ flow_property collection slot depth ls =
       gives (part n (start rest) rest))
     else (do
       x ← flow_value (flow_content collection) slot depth (gap false rest)
-      anchored (record { name = name; at = at; node = x.value }) x))
+      gives_with_anchor (record { name = name; at = at; node = x.value }) x))
 
 -- a node in a flow collection
 abbrev pub flow_node_over : CollectionReader → FlowReader
@@ -200,5 +181,11 @@ flow_node_over collection slot depth ls =
 unfoldable pub flow_collection : ℕ → CollectionReader
 flow_collection zero depth ls = fails yaml.UnexpectedCharacter 0
 flow_collection (suc bound) depth ls =
-    let inner = flow_collection bound in
-    flow_collection_over (flow_node_over inner) inner (suc bound) depth ls
+    let collection = flow_collection bound in
+    let node = flow_node_over collection in
+    let at = start ls in
+    let inside = gap false (behind 1 ls) in
+    starting_collection at depth (
+    if begins ascii.open_bracket (first_text ls)
+    then with_span sequence at (flow_items node (suc bound) at (depth + 1) no_nodes inside)
+    else with_span mapping at (flow_entries node collection (suc bound) at (depth + 1) no_entries inside))

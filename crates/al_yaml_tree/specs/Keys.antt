@@ -1,5 +1,6 @@
 -- Implicit keys of block mappings (YAML 1.2.2, 7.4, 8.2.2), and lines that begin no entry.
-use Rattle.std.specs.Prelude.{ℕ, List, [], ◌∷◌, Bool, true, false, not, ◌&&◌, ◌||◌, if◌then◌else◌, Option, Some, None, Result, Ok, Err}
+use Rattle.std.specs.Prelude.{ℕ, List, [], ◌∷◌, Bool, true, false, not, ◌&&◌, ◌||◌, if◌then◌else◌}
+use Rattle.std.specs.Prelude.{Option, Some, None, is_some, Result, Ok, Err}
 use Rattle.al_base.specs.declared.codes.YamlCode.{YamlCode}
 use Rattle.al_base.specs.declared.codes.YamlCode.TheVariants as yaml
 use Rattle.al_base.specs.Ascii as ascii
@@ -8,8 +9,7 @@ use Rattle.al_scalar.specs.Places.{first_text}
 use Rattle.al_scalar.specs.Plain.{block, is_value_colon}
 use Rattle.al_scalar.specs.Scalar.{ScalarRead, scalar_at}
 use Rattle.al_scalar.specs.Taken.{Fault}
-use Rattle.al_yaml_tree.specs.Node.{Node}
-use Rattle.al_yaml_tree.specs.Reading.{Reading, gives, fails, given, starting_scalar, Part, ◌>>=◌}
+use Rattle.al_yaml_tree.specs.Reading.{Reading, gives, fails, of_result, and_then, starting_scalar, ◌>>=◌}
 use Rattle.al_yaml_tree.specs.Content.{is_skipped, behind, is_dash, block_fault, unless, is_flow_start, is_quote}
 use Rattle.al_yaml_tree.specs.Content.{is_property, behind_name, has_no_name, same_line, is_simple_key}
 use Rattle.al_yaml_tree.specs.Flow.{CollectionReader}
@@ -29,13 +29,10 @@ abbrev pub with_lines : List Line → List Line → List Line
 with_lines rest [] = []
 with_lines rest (l ∷ ls) = cut (first_text rest) l ls
 
-abbrev pub read_with_lines : List Line → Result ScalarRead Fault → Result ScalarRead Fault
-read_with_lines ls (Err e) = Err e
-read_with_lines ls (Ok r) = Ok (record { scalar = r.scalar; span = r.span; left = with_lines r.left ls })
-
 -- a plain scalar as far as it stands on its line
 abbrev pub plain_on_line : List Line → Result ScalarRead Fault
-plain_on_line ls = read_with_lines ls (scalar_at (block 0) (one_line ls))
+plain_on_line ls =
+    and_then (scalar_at (block 0) (one_line ls)) (λ r. Ok (record { scalar = r.scalar; span = r.span; left = with_lines r.left ls }))
 
 -- a scalar as far as it tells whether a key begins here: a plain one on its line, a quoted one whole
 abbrev pub key_scalar : List Line → Result ScalarRead Fault
@@ -52,13 +49,9 @@ behind_colon ls = if has_colon ls then Some (behind 1 (blanks_dropped ls)) else 
 abbrev pub key_of : ScalarRead → Option Key
 key_of r = elim (behind_colon r.left) [ None ↦ None | Some left ↦ Some (record { scalar = r; behind = left }) ]
 
-abbrev pub key_from : Result ScalarRead Fault → Result (Option Key) Fault
-key_from (Err e) = Err e
-key_from (Ok r) = Ok (key_of r)
-
 -- The key that begins here, if one does: a scalar with a colon behind it. It may be too long or span lines yet.
 abbrev pub key_at : List Line → Result (Option Key) Fault
-key_at ls = key_from (key_scalar ls)
+key_at ls = and_then (key_scalar ls) (λ r. Ok (key_of r))
 
 abbrev pub is_block_start : List Cell → Bool
 is_block_start cs = begins ascii.bar cs || begins ascii.greater cs
@@ -73,12 +66,8 @@ is_key_on_line ls (Ok (Some key)) = same_line ls key.scalar.left
 abbrev pub is_key : List Line → Bool
 is_key ls = is_key_on_line ls (key_at ls)
 
-abbrev pub has_fault : Option YamlCode → Bool
-has_fault None = false
-has_fault (Some code) = true
-
 abbrev pub is_key_start : List Cell → Bool
-is_key_start cs = not (is_skipped cs || is_dash cs || is_property cs || is_block_start cs || is_flow_start cs || has_fault (block_fault cs))
+is_key_start cs = not (is_skipped cs || is_dash cs || is_property cs || is_block_start cs || is_flow_start cs || is_some (block_fault cs))
 
 -- Keys have no anchors and are no aliases here, though YAML allows both (6.9.2, 7.1). Whether an anchor or alias stands
 -- on a key: the alias itself, or what follows the anchor on its line.
@@ -92,12 +81,9 @@ is_on_key ls =
 abbrev pub property_fault : List Line → YamlCode
 property_fault ls = if not (has_no_name ls) && is_on_key ls then yaml.AnchorOrAlias else yaml.UnexpectedCharacter
 
--- the fault of a flow collection that begins a line but no entry; in a mapping it is a key if a colon stands behind it
-abbrev pub refused_code : Bool → List Line → YamlCode
-refused_code in_mapping left = if in_mapping && has_colon left then yaml.WrongKey else yaml.UnexpectedCharacter
-
-abbrev pub flow_refused : {A : Type 0} → Bool → ℕ → Part Node → Reading A
-flow_refused in_mapping at x = fails (refused_code in_mapping x.left) at
+-- the fault of a flow collection that begins a line but no entry of the open mapping: it is a key if a colon stands behind it
+abbrev pub collection_fault : List Line → YamlCode
+collection_fault left = if has_colon left then yaml.WrongKey else yaml.UnexpectedCharacter
 
 -- a line that begins no entry of the open sequence
 unfoldable pub no_entry : {A : Type 0} → CollectionReader → ℕ → List Line → Reading A
@@ -107,9 +93,9 @@ no_entry collection depth ls =
     if is_property (first_text ls) then fails yaml.UnexpectedCharacter at
     else (if is_flow_start (first_text ls) then (do
       x ← collection depth ls
-      flow_refused false at x)
+      fails yaml.UnexpectedCharacter at)
     else (if is_quote (first_text ls) then (do
-      r ← given (scalar_at (block 0) ls)
+      r ← of_result (scalar_at (block 0) ls)
       fails yaml.UnexpectedCharacter at)
     else fails yaml.UnexpectedCharacter at)))
 
@@ -127,7 +113,7 @@ entry_key collection depth ls =
     else (if is_dash (first_text ls) || is_block_start (first_text ls) then fails yaml.UnexpectedCharacter at
     else (if is_flow_start (first_text ls) then (do
       x ← collection depth ls
-      flow_refused true at x)
+      fails (collection_fault x.left) at)
     else (do
-      found ← given (key_at ls)
+      found ← of_result (key_at ls)
       found_key ls found))))

@@ -27,13 +27,13 @@ abbrev pub text_listed : List Start → ℕ
 text_listed [] = 0
 text_listed (s ∷ ss) = s.text + text_listed ss
 
--- the first broken limit, which stands before every later fault, or else the answer
-abbrev pub unless_broken : {A : Type 0} → Option Fault → Result A Fault → Result A Fault
-unless_broken None r = r
-unless_broken (Some f) r = Err f
+-- the fault that comes first, or else the answer: a broken limit stands before every later fault
+abbrev pub unless_fault : {A : Type 0} → Option Fault → Result A Fault → Result A Fault
+unless_fault None r = r
+unless_fault (Some f) r = Err f
 
-abbrev pub limited_from : {A : Type 0} → ℕ → ℕ → Outcome A → Result A Fault
-limited_from nodes text o = unless_broken (broken_limit nodes text o.starts) o.answer
+abbrev pub within_limits_from : {A : Type 0} → ℕ → ℕ → Outcome A → Result A Fault
+within_limits_from nodes text o = unless_fault (broken_limit nodes text o.starts) o.answer
 
-abbrev pub limited : {A : Type 0} → Outcome A → Result A Fault
-limited o = limited_from 0 0 o
+abbrev pub within_limits : {A : Type 0} → Outcome A → Result A Fault
+within_limits o = within_limits_from 0 0 o

@@ -53,8 +53,8 @@ gives x known = record { starts = []; answer = Ok x; known = known }
 abbrev pub fails : {A : Type 0} → YamlCode → ℕ → Reading A
 fails code at known = record { starts = []; answer = Err (record { code = code; at = at }); known = known }
 
-abbrev pub given : {A : Type 0} → Result A Fault → Reading A
-given r known = record { starts = []; answer = r; known = known }
+abbrev pub of_result : {A : Type 0} → Result A Fault → Reading A
+of_result r known = record { starts = []; answer = r; known = known }
 
 -- what is read after starts
 abbrev pub after : {A : Type 0} → List Start → Outcome A → Outcome A
@@ -71,9 +71,14 @@ infixl 10 ◌>>=◌
 abbrev pub ◌>>=◌ : {A B : Type 0} → Reading A → (A → Reading B) → Reading B
 ◌>>=◌ r f known = next (r known) f
 
+-- a further result, if there was no fault
+abbrev pub and_then : {A B : Type 0} → Result A Fault → (A → Result B Fault) → Result B Fault
+and_then (Err e) f = Err e
+and_then (Ok x) f = f x
+
 -- a start before what is read there
-abbrev pub listed : {A : Type 0} → Start → Reading A → Reading A
-listed s r known = after (s ∷ []) (r known)
+abbrev pub with_start : {A : Type 0} → Start → Reading A → Reading A
+with_start s r known = after (s ∷ []) (r known)
 
 abbrev pub start_with : ℕ → ℕ → ℕ → ℕ → Start
 start_with at nodes text depth = record { at = at; nodes = nodes; text = text; depth = depth; alias = false }
@@ -83,14 +88,14 @@ start_of at nodes depth = start_with at nodes 0 depth
 
 -- a scalar, or an empty node
 abbrev pub starting_scalar : {A : Type 0} → ℕ → Reading A → Reading A
-starting_scalar at r = listed (start_of at 1 0) r
+starting_scalar at r = with_start (start_of at 1 0) r
 
 abbrev pub starting_collection : {A : Type 0} → ℕ → ℕ → Reading A → Reading A
-starting_collection at depth r = listed (start_of at 1 depth) r
+starting_collection at depth r = with_start (start_of at 1 depth) r
 
 -- a block mapping with its first key
 abbrev pub starting_mapping : {A : Type 0} → ℕ → ℕ → Reading A → Reading A
-starting_mapping at depth r = listed (start_of at 2 depth) r
+starting_mapping at depth r = with_start (start_of at 2 depth) r
 
 -- whether an anchor stands behind an offset
 abbrev pub is_later : ℕ → Option Anchor → Bool
@@ -106,8 +111,8 @@ abbrev pub with_anchor : Anchor → Known → Known
 with_anchor a known name = if bytes_eq a.name name then later_of a (known name) else known name
 
 -- A node is complete with its anchor (6.9.2).
-abbrev pub anchored : {A : Type 0} → Anchor → A → Reading A
-anchored a x known = record { starts = []; answer = Ok x; known = with_anchor a known }
+abbrev pub gives_with_anchor : {A : Type 0} → Anchor → A → Reading A
+gives_with_anchor a x known = record { starts = []; answer = Ok x; known = with_anchor a known }
 
 -- the depth of the deepest collection in a node whose own depth is this, 0 if it is a scalar
 abbrev pub deepest : ℕ → ℕ → ℕ
@@ -122,7 +127,7 @@ alias_start at depth n =
 -- an alias of an anchor that was found, or of none (7.1)
 abbrev pub alias_of : Option Anchor → ℕ → ℕ → Reading Node
 alias_of None at depth = fails yaml.UnknownAlias at
-alias_of (Some a) at depth = listed (alias_start at depth a.node) (gives a.node)
+alias_of (Some a) at depth = with_start (alias_start at depth a.node) (gives a.node)
 
 -- An alias (7.1) stands for the node of its anchor, with the spans of that node.
 abbrev pub alias : List ℕ → ℕ → ℕ → Reading Node
@@ -138,5 +143,5 @@ abbrev pub part : {A : Type 0} → A → ℕ → List Line → Part A
 part value end left = record { value = value; end = end; left = left }
 
 -- a collection from its start to its end
-abbrev pub spanned : {A : Type 0} → (A → Span → Node) → ℕ → Reading (Part A) → Reading (Part Node)
-spanned f at r = r >>= (λ p. gives (part (f p.value (span at p.end)) p.end p.left))
+abbrev pub with_span : {A : Type 0} → (A → Span → Node) → ℕ → Reading (Part A) → Reading (Part Node)
+with_span f at r = r >>= (λ p. gives (part (f p.value (span at p.end)) p.end p.left))

@@ -5,6 +5,7 @@ use Rattle.al_base.specs.Spans.{LiesIn}
 use Rattle.al_base.specs.declared.faults.Span.{Span}
 use Rattle.al_base.specs.Limits.{largest_file}
 use Rattle.al_yaml_tree.specs.Node.{Node, Nodes, Entries, scalar, sequence, mapping, no_nodes, item, no_entries, entry, span_of}
+use Rattle.al_yaml_tree.specs.Node.{Each, EachItem, EachEntry}
 
 -- a span between two offsets
 pub record IsBetween (low high : ℕ) (at : Span) : Type 0 where
@@ -31,64 +32,43 @@ abbrev mutual
   EntriesPlacedIn size low high (entry k v es) = IsPlacedIn size low high k × IsPlacedIn size (span_of k).end high v
       × EntriesPlacedIn size (span_of v).end high es
 
--- the same of a file of the greatest size
-
-abbrev pub IsWithin : ℕ → ℕ → Node → Type 0
-IsWithin low high n = IsPlacedIn largest_file low high n
-
 -- each span of a node lies in a file of this many bytes
-abbrev mutual
-  pub IsInside : ℕ → Node → Type 0
-  IsInside size (scalar s at) = LiesIn size at
-  IsInside size (sequence ns at) = LiesIn size at × AreInside size ns
-  IsInside size (mapping es at) = LiesIn size at × EntriesInside size es
 
-  pub AreInside : ℕ → Nodes → Type 0
-  AreInside size no_nodes = Unit {0}
-  AreInside size (item n ns) = IsInside size n × AreInside size ns
+abbrev pub LiesAround : ℕ → Span → Type 0 → Type 0
+LiesAround size at inner = LiesIn size at × inner
 
-  pub EntriesInside : ℕ → Entries → Type 0
-  EntriesInside size no_entries = Unit {0}
-  EntriesInside size (entry k v es) = IsInside size k × IsInside size v × EntriesInside size es
+abbrev pub IsInside : ℕ → Node → Type 0
+IsInside size = Each (λ s at. LiesIn size at) (LiesAround size)
+
+abbrev pub AreInside : ℕ → Nodes → Type 0
+AreInside size = EachItem (λ s at. LiesIn size at) (LiesAround size)
+
+abbrev pub EntriesInside : ℕ → Entries → Type 0
+EntriesInside size = EachEntry (λ s at. LiesIn size at) (LiesAround size)
 
 -- each byte of each scalar's text, keys too, comes from a file of so many bytes
-abbrev mutual
-  pub AreFrom : ℕ → Node → Type 0
-  AreFrom size (scalar s at) = IsFrom size s
-  AreFrom size (sequence ns at) = ItemsFrom size ns
-  AreFrom size (mapping es at) = EntriesFrom size es
 
-  pub ItemsFrom : ℕ → Nodes → Type 0
-  ItemsFrom size no_nodes = Unit {0}
-  ItemsFrom size (item n ns) = AreFrom size n × ItemsFrom size ns
+abbrev pub AreFrom : ℕ → Node → Type 0
+AreFrom size = Each (λ s at. IsFrom size s) (λ at inner. inner)
 
-  pub EntriesFrom : ℕ → Entries → Type 0
-  EntriesFrom size no_entries = Unit {0}
-  EntriesFrom size (entry k v es) = AreFrom size k × AreFrom size v × EntriesFrom size es
+abbrev pub ItemsFrom : ℕ → Nodes → Type 0
+ItemsFrom size = EachItem (λ s at. IsFrom size s) (λ at inner. inner)
+
+abbrev pub EntriesFrom : ℕ → Entries → Type 0
+EntriesFrom size = EachEntry (λ s at. IsFrom size s) (λ at inner. inner)
 
 -- The same without an order, as an alias stands for a node elsewhere in the file: each span of a node lies in the first size bytes of a
 -- file of so many, and each scalar's text lies against its span as above.
-abbrev mutual
-  pub IsLaidIn : ℕ → ℕ → Node → Type 0
-  IsLaidIn most size (scalar s at) = LiesIn size at × IsPlaced most s at
-  IsLaidIn most size (sequence ns at) = LiesIn size at × AreLaidIn most size ns
-  IsLaidIn most size (mapping es at) = LiesIn size at × EntriesLaidIn most size es
-
-  pub AreLaidIn : ℕ → ℕ → Nodes → Type 0
-  AreLaidIn most size no_nodes = Unit {0}
-  AreLaidIn most size (item n ns) = IsLaidIn most size n × AreLaidIn most size ns
-
-  pub EntriesLaidIn : ℕ → ℕ → Entries → Type 0
-  EntriesLaidIn most size no_entries = Unit {0}
-  EntriesLaidIn most size (entry k v es) = IsLaidIn most size k × IsLaidIn most size v × EntriesLaidIn most size es
+abbrev pub IsLaidIn : ℕ → ℕ → Node → Type 0
+IsLaidIn most size = Each (λ s at. LiesIn size at × IsPlaced most s at) (LiesAround size)
 
 -- the same of a file of the greatest size
 
 abbrev pub IsLaid : ℕ → Node → Type 0
-IsLaid size n = IsLaidIn largest_file size n
+IsLaid size = IsLaidIn largest_file size
 
 abbrev pub AreLaid : ℕ → Nodes → Type 0
-AreLaid size ns = AreLaidIn largest_file size ns
+AreLaid size = EachItem (λ s at. LiesIn size at × IsPlaced largest_file s at) (LiesAround size)
 
 abbrev pub EntriesLaid : ℕ → Entries → Type 0
-EntriesLaid size es = EntriesLaidIn largest_file size es
+EntriesLaid size = EachEntry (λ s at. LiesIn size at × IsPlaced largest_file s at) (LiesAround size)

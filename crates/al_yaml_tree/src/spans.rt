@@ -1,7 +1,7 @@
 //! A law over the definitions: where the nodes of a tree and the first fault of a file lie.
 
 ghost use Rattle.al_yaml_tree.specs.Document.{HasNoAlias, tree_of};
-ghost use Rattle.al_yaml_tree.specs.Spans.{AreFrom, IsInside, IsLaid, IsPlacedIn, IsWithin};
+ghost use Rattle.al_yaml_tree.specs.Spans.{AreFrom, IsInside, IsLaid, IsPlacedIn};
 ghost use Rattle.al_yaml_tree.specs.Laws.{IsTreeLaid};
 ghost use Rattle.std.specs.Prelude.{◌≤◌, IfOk, List, length, ℕ};
 ghost use Rattle.al_base.specs.Limits.{largest_file};
@@ -18,5 +18,5 @@ pub fn tree_spans()
     ensures nested { (bytes : List ℕ) → HasNoAlias bytes
         → IfOk (tree_of bytes) (IsPlacedIn (length bytes) 0 (length bytes)) }
     ensures within { (bytes : List ℕ) → length bytes ≤ largest_file → HasNoAlias bytes
-        → IfOk (tree_of bytes) (IsWithin 0 (length bytes)) }
+        → IfOk (tree_of bytes) (IsPlacedIn largest_file 0 (length bytes)) }
 {}

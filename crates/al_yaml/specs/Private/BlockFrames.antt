@@ -5,13 +5,13 @@ use Rattle.al_scalar.specs.Places.{lines_at, text_at}
 use Rattle.al_scalar.specs.Scalar.{ScalarRead, span}
 use Rattle.al_scalar.specs.ReadScalar.{read_of}
 use Rattle.al_yaml_tree.specs.Node.{Node, Nodes, Entries, sequence, mapping, with_item, with_entry, scalar_node}
-use Rattle.al_yaml_tree.specs.Reading.{Reading, Part, part, spanned}
+use Rattle.al_yaml_tree.specs.Reading.{Reading, Part, part, with_span}
 use Rattle.al_yaml_tree.specs.Content as content
 use Rattle.al_yaml_tree.specs.Flow.{flow_collection}
 use Rattle.al_yaml_tree.specs.Keys.{Key}
 use Rattle.al_yaml_tree.specs.Blocks.{BlockReader, sequence_entries, sequence_rest, mapping_entries, mapping_rest, block_node, bare_node}
 use Rattle.al_yaml_parts.specs.BlockReads.{IsKeyBehind, IsTabInside, key_seen, slot_of}
-use Rattle.al_yaml_parts.specs.Answers.{Answer, Mark, answered, noting}
+use Rattle.al_yaml_parts.specs.Answers.{Answer, Mark, then_read, noting}
 use Rattle.al_yaml_parts.specs.Answers.{mark_of}
 use Rattle.al_yaml_parts.specs.Places.{next_of, IsLineFrom}
 use Rattle.al_yaml_parts.specs.Reads.{State, run, Stops, IsBehind, part_of}
@@ -51,9 +51,9 @@ pub record BlockFrame : Type 0 where
 -- An open collection from here on. bound is what the nodes in it are read with, turns bounds what is still read.
 abbrev pub block_rest : ℕ → ℕ → ℕ → ℕ → ℕ → BlockOpen → List Line → Reading (Part Node)
 block_rest turns bound depth start column (items in_mapping done) ls =
-    spanned sequence start (sequence_entries (block_node bound) (flow_collection (suc bound)) turns in_mapping column depth done ls)
+    with_span sequence start (sequence_entries (block_node bound) (flow_collection (suc bound)) turns in_mapping column depth done ls)
 block_rest turns bound depth start column (entries done key) ls =
-    spanned mapping start (mapping_entries (block_node bound) (flow_collection (suc bound)) turns column depth done key)
+    with_span mapping start (mapping_entries (block_node bound) (flow_collection (suc bound)) turns column depth done key)
 
 -- a sequence that ends behind its last item
 abbrev pub closed_sequence : ℕ → Nodes → Part Node → State → Answer (Part Node)
@@ -62,11 +62,11 @@ closed_sequence start done x s = Ok (part (sequence (with_item done x.value) (sp
 -- the same from behind the node that it waited for
 abbrev pub block_waits : ℕ → ℕ → ℕ → ℕ → ℕ → BlockWaiting → Part Node → Reading (Part Node)
 block_waits turns bound depth start column (item in_mapping done) x =
-    spanned sequence start (sequence_rest (flow_collection (suc bound))
+    with_span sequence start (sequence_rest (flow_collection (suc bound))
     (λ left. sequence_entries (block_node bound) (flow_collection (suc bound)) turns in_mapping column depth
     (with_item done x.value) left) in_mapping column depth (part (with_item done x.value) x.end x.left))
 block_waits turns bound depth start column (value done k) x =
-    spanned mapping start (mapping_rest (flow_collection (suc bound))
+    with_span mapping start (mapping_rest (flow_collection (suc bound))
     (λ key. mapping_entries (block_node bound) (flow_collection (suc bound)) turns column depth
     (with_entry done (scalar_node k) x.value) key) column depth
     (part (with_entry done (scalar_node k) x.value) x.end x.left))
@@ -186,7 +186,7 @@ abbrev pub EntersWith : List ℕ → ℕ → ℕ → ℕ → ℕ → ℕ → Rea
     → State → Type 0
 EntersWith bytes bound turns depth start column reading before w (task.Node x) after =
     (x.anchor ≡ None) × (run before reading
-    ≡ answered (run after (block_node bound (slot_of x.slot) depth x.start.column (lines_at bytes x.start.at)))
+    ≡ then_read (run after (block_node bound (slot_of x.slot) depth x.start.column (lines_at bytes x.start.at)))
     (block_waits turns bound depth start column (block_waiting_of bytes w)))
 EntersWith bytes bound turns depth start column reading before w (task.Found r) after =
     run before reading

@@ -6,15 +6,15 @@ use Rattle.al_yaml_tree.specs.Reading.{Part}
 use Rattle.al_yaml_tree.specs.Flow.{flow_collection}
 use Rattle.al_yaml.specs.Private.FlowFrames.{closed_of, frame_of, open_of}
 use Rattle.al_yaml.specs.Private.Frames.{Open, Frame, open_rest, frame_rest}
-use Rattle.al_yaml_parts.specs.Answers.{Answer, answered, noting}
+use Rattle.al_yaml_parts.specs.Answers.{Answer, then_read, noting}
 use Rattle.al_yaml_parts.specs.Places.{fault_of}
 use Rattle.al_yaml_parts.specs.Reads.{State, run, part_of}
 use Rattle.al_yaml_parts.specs.declared.faults.ReadError.{ReadError}
 use Rattle.al_yaml_parts.specs.declared.faults.ReadError.TheVariants as stop
 use Rattle.al_yaml_parts.specs.declared.frames.FlowFrame.{FlowFrame}
 use Rattle.al_yaml_parts.specs.declared.part.Part as code
-use Rattle.al_yaml.specs.declared.flow.After.{After}
-use Rattle.al_yaml.specs.declared.flow.After.TheVariants as after
+use Rattle.al_yaml.specs.declared.flow_items.After.{After}
+use Rattle.al_yaml.specs.declared.flow_items.After.TheVariants as after
 use Rattle.al_yaml.specs.declared.flow.OpenFlow.{OpenFlow}
 use Rattle.al_yaml_tree.specs.View.{view}
 
@@ -22,11 +22,11 @@ abbrev pub NodeAnswer : Type 0
 NodeAnswer = Answer (Part Node)
 
 -- What the whole answers if what is read in the innermost of these answers so. Each has a bound on what it still reads.
-abbrev pub resumed : ℕ → ℕ → List Frame → List ℕ → NodeAnswer → NodeAnswer
-resumed depth bound [] ts o = o
-resumed depth bound (f ∷ fs) [] o = o
-resumed depth bound (f ∷ fs) (t ∷ ts) o =
-    resumed depth (suc bound) fs ts (answered (noting f.mark o) (frame_rest (flow_collection bound) t (depth + length fs + 1) f))
+abbrev pub whole_answer : ℕ → ℕ → List Frame → List ℕ → NodeAnswer → NodeAnswer
+whole_answer depth bound [] ts o = o
+whole_answer depth bound (f ∷ fs) [] o = o
+whole_answer depth bound (f ∷ fs) (t ∷ ts) o =
+    whole_answer depth (suc bound) fs ts (then_read (noting f.mark o) (frame_rest (flow_collection bound) t (depth + length fs + 1) f))
 
 -- each bound is more than what is left of the file
 abbrev pub AreEnough : ℕ → ℕ → List Frame → List ℕ → Type 0
@@ -43,7 +43,7 @@ pub record Inside (bytes : List ℕ) (depth : ℕ) (whole : NodeAnswer) (fs : Li
   pub room : length bytes < bound + at
   pub many : length bytes < turns + at
   pub enough : AreEnough (length bytes) at fs rest
-  pub same : resumed depth (suc bound) fs rest
+  pub same : whole_answer depth (suc bound) fs rest
       (run n (open_rest (flow_collection bound) turns (depth + length fs + 1) opening has (lines_at bytes at))) ≡ whole
 
 -- A node was read in the innermost collection on the stack.
@@ -52,7 +52,7 @@ pub record Behind (bytes : List ℕ) (depth : ℕ) (whole : NodeAnswer) (fs : Li
   pub rest : List ℕ
   pub room : length bytes < bound + p.next
   pub enough : AreEnough (length bytes) p.next fs rest
-  pub same : resumed depth bound fs rest (Ok (part_of bytes p, n)) ≡ whole
+  pub same : whole_answer depth bound fs rest (Ok (part_of bytes p, n)) ≡ whole
 
 abbrev pub WholeStops : NodeAnswer → ReadError → Type 0
 WholeStops whole (stop.Fault f) = whole ≡ Err (fault_of f)

@@ -11,7 +11,7 @@ use Rattle.al_yaml_tree.specs.Flow.{CollectionReader}
 use Rattle.al_yaml_tree.specs.Flow as flow
 use Rattle.al_yaml.specs.Private.Frames as frames
 use Rattle.al_yaml.specs.Private.Frames.{open_rest, waiting_rest}
-use Rattle.al_yaml_parts.specs.Answers.{Answer, answered, noting}
+use Rattle.al_yaml_parts.specs.Answers.{Answer, then_read, noting}
 use Rattle.al_yaml_parts.specs.Reads.{State, run, Stops}
 use Rattle.al_yaml_tree.specs.View.{view, entry_view, nodes_of, entries_of}
 use Rattle.al_yaml_parts.specs.FlowReads.{IsBracket}
@@ -20,13 +20,13 @@ use Rattle.al_yaml_parts.specs.declared.faults.ReadError.{ReadError}
 use Rattle.al_yaml_parts.specs.declared.frames.Open.{Open}
 use Rattle.al_yaml_parts.specs.declared.frames.Open.TheVariants as open_code
 use Rattle.al_yaml_parts.specs.declared.frames.FlowFrame.{FlowFrame}
-use Rattle.al_yaml.specs.declared.flow.After.{After}
-use Rattle.al_yaml.specs.declared.flow.After.TheVariants as after
-use Rattle.al_yaml.specs.declared.flow.FlowPlace.{FlowPlace}
-use Rattle.al_yaml.specs.declared.flow.FlowStep.{FlowStep}
+use Rattle.al_yaml.specs.declared.flow_items.After.{After}
+use Rattle.al_yaml.specs.declared.flow_items.After.TheVariants as after
+use Rattle.al_yaml.specs.declared.flow_items.FlowPlace.{FlowPlace}
+use Rattle.al_yaml.specs.declared.flow_items.FlowStep.{FlowStep}
 use Rattle.al_yaml.specs.declared.flow.OpenFlow.{OpenFlow}
-use Rattle.al_yaml_parts.specs.Stacks.{Opened}
-use Rattle.al_yaml.specs.declared.flow.FlowStep.TheVariants as step
+use Rattle.al_yaml_parts.specs.Stacks.{OpenCollections}
+use Rattle.al_yaml.specs.declared.flow_items.FlowStep.TheVariants as step
 
 abbrev pub open_of : Open → frames.Open
 open_of (open_code.Items v) = frames.items (nodes_of (map view v.items))
@@ -92,7 +92,7 @@ Steps bytes depth opening reading before has (Ok (step.Behind next)) s =
     GoesOn bytes depth opening (λ c turns. run before (reading c (suc turns))) (open_of has) next s
 Steps bytes depth opening reading before has (Ok (step.Opens b)) s =
     (c : CollectionReader) (turns : ℕ) → run before (reading c (suc turns))
-    ≡ answered (noting (mark_of bytes b.anchor) (run s (c depth (lines_at bytes b.at))))
+    ≡ then_read (noting (mark_of bytes b.anchor) (run s (c depth (lines_at bytes b.at))))
     (waiting_rest c turns depth opening (waiting_of bytes b.at has))
 Steps bytes depth opening reading before has (Err e) s = (c : CollectionReader) (turns : ℕ) → Stops (reading c (suc turns)) before e
 
@@ -131,7 +131,7 @@ AreOpen size [] = Unit {0}
 AreOpen size (f ∷ fs) = (f.opening < size) × (f.inner.at < size) × AreOpen size fs
 
 -- where reading goes on in an open collection or in one that was opened in it, and what is open then
-pub record IsFurther (size at depth : ℕ) (old new : Opened) (now : OpenFlow) : Type 0 where
+pub record IsFurther (size at depth : ℕ) (old new : OpenCollections) (now : OpenFlow) : Type 0 where
   pub blocks : new.blocks ≡ old.blocks
   pub outer : AreOpen size new.flows
   pub room : length new.flows + depth ≤ length old.flows + 65

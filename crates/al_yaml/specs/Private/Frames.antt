@@ -1,11 +1,12 @@
 -- What a stack of open collections stands for: what is still to be read behind the node that is read now.
 use Rattle.std.specs.Prelude.{ℕ, List, Option}
 use Rattle.al_base.specs.declared.codes.YamlCode.TheVariants as yaml
+use Rattle.al_base.specs.Ascii as ascii
 use Rattle.al_scalar.specs.Line.{Line}
 use Rattle.al_scalar.specs.Scalar.{ScalarRead}
 use Rattle.al_yaml_tree.specs.Node.{Node, Nodes, Entries, sequence, mapping, with_item, with_entry, scalar_node}
-use Rattle.al_yaml_tree.specs.Reading.{Reading, fails, Part, spanned}
-use Rattle.al_yaml_tree.specs.Flow.{CollectionReader, flow_items, flow_items_rest, flow_entries, flow_entries_rest, flow_node_over}
+use Rattle.al_yaml_tree.specs.Reading.{Reading, fails, Part, with_span}
+use Rattle.al_yaml_tree.specs.Flow.{CollectionReader, flow_items, flow_entries, flow_node_over, rest_behind}
 use Rattle.al_yaml_parts.specs.Answers.{Mark}
 
 -- What was read of an open flow collection, up to an item, an entry or the closer.
@@ -29,19 +30,20 @@ pub record Frame : Type 0 where
 -- An open collection from here on; collection reads what begins with a bracket in it, turns bounds what is still read.
 abbrev pub open_rest : CollectionReader → ℕ → ℕ → ℕ → Open → List Line → Reading (Part Node)
 open_rest collection turns depth opening (items done) ls =
-    spanned sequence opening (flow_items (flow_node_over collection) turns opening depth done ls)
+    with_span sequence opening (flow_items (flow_node_over collection) turns opening depth done ls)
 open_rest collection turns depth opening (entries done) ls =
-    spanned mapping opening (flow_entries (flow_node_over collection) collection turns opening depth done ls)
+    with_span mapping opening (flow_entries (flow_node_over collection) collection turns opening depth done ls)
 
 -- the same from behind the node that it waited for
 abbrev pub waiting_rest : CollectionReader → ℕ → ℕ → ℕ → Waiting → Part Node → Reading (Part Node)
 waiting_rest collection turns depth opening (item done) x =
-    spanned sequence opening
-    (flow_items_rest (λ left. flow_items (flow_node_over collection) turns opening depth (with_item done x.value) left) opening
+    with_span sequence opening
+    (rest_behind ascii.close_bracket
+    (λ left. flow_items (flow_node_over collection) turns opening depth (with_item done x.value) left) opening
     (with_item done x.value) x.left)
 waiting_rest collection turns depth opening (value done k) x =
-    spanned mapping opening
-    (flow_entries_rest (λ left. flow_entries (flow_node_over collection) collection turns opening depth
+    with_span mapping opening
+    (rest_behind ascii.close_brace (λ left. flow_entries (flow_node_over collection) collection turns opening depth
     (with_entry done (scalar_node k) x.value) left) opening
     (with_entry done (scalar_node k) x.value) x.left)
 waiting_rest collection turns depth opening (key at) x = fails yaml.WrongKey at

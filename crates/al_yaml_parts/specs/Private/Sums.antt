@@ -5,7 +5,7 @@ use Rattle.al_yaml_tree.specs.Limits.{most_counted}
 use Rattle.al_yaml_tree.specs.Node.{Node, scalar, sequence, mapping, nodes_in, text_in, levels_in}
 use Rattle.al_yaml_tree.specs.View.{view}
 use Rattle.al_yaml_parts.specs.declared.sums.Sums.{Sums}
-use Rattle.al_yaml_parts.specs.declared.sums.Uncounted.{Uncounted}
+use Rattle.al_yaml_parts.specs.declared.sums.UncountedNode.{UncountedNode}
 
 pub record IsSums (n : Node) (s : Sums) : Type 0 where
   pub nodes : s.nodes ≡ most_counted (nodes_in n)
@@ -39,7 +39,7 @@ own_level (mapping es at) = 1
 abbrev pub within : ℕ → List Node → List (Node × ℕ)
 within levels ns = map (λ n. (n, levels)) ns
 
-abbrev pub uncounted_view : Uncounted → Node × ℕ
+abbrev pub uncounted_view : UncountedNode → Node × ℕ
 uncounted_view u = (view u.node.now, u.levels)
 
 -- what is counted of a node itself, which stands in so many collections

@@ -7,7 +7,7 @@ use Rattle.al_yaml_parts.specs.FlowReads.{flow_slot}
 use Rattle.al_yaml_parts.specs.Reads.{alias_part}
 use Rattle.al_yaml_parts.specs.Answers.{noting}
 use Rattle.al_yaml_tree.specs.Node as tree
-use Rattle.al_yaml_tree.specs.Reading.{Reading, Part, anchored}
+use Rattle.al_yaml_tree.specs.Reading.{Reading, Part, gives_with_anchor}
 use Rattle.al_yaml_parts.specs.Reads.{run, anchor_at, state_of}
 use Rattle.al_yaml_parts.proofs.FlowNodeLemmas.{property-unnamed, property-alias, property-anchor}
 use Rattle.al_yaml_parts.proofs.NoteLemmas.{completing-noted, noted-part}
@@ -43,7 +43,7 @@ returns-in_err-found-clause-is c =
     (property-anchor col (flow_slot c.args.slot) c.args.depth (state_of c.args.state.now) c.args.file.now.bytes.now
     c.args.at c.requires.inside c.if-has_no_name.ensures c.if-begins.ensures.value c.property_end.result c.gap_end.result
     c.property_end.ensures.lines c.gap_end.ensures.lines)
-    (stops-bind (value col) (λ x. anchored (anchor_at bytes c.args.at x.value) x) (state_of c.args.state.now) c.in_err-found.field-0.0 (c.in_err-found.ensures.is c.args.depth col)))
+    (stops-bind (value col) (λ x. gives_with_anchor (anchor_at bytes c.args.at x.value) x) (state_of c.args.state.now) c.in_err-found.field-0.0 (c.in_err-found.ensures.is c.args.depth col)))
 
 pub returns-in_ok-complete-in-Node-clause-is : goal.returns-in_ok-complete-in-Node-clause-is
 returns-in_ok-complete-in-Node-clause-is c = λ col.

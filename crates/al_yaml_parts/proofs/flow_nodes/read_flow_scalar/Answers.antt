@@ -4,7 +4,7 @@ use Rattle.al_scalar.specs.Places.{lines_at}
 use Rattle.al_scalar.specs.Plain.{flow}
 use Rattle.al_scalar.specs.Scalar.{scalar_at}
 use Rattle.al_yaml_tree.specs.Flow.{flow_content}
-use Rattle.al_yaml_tree.specs.Reading.{listed, start_of}
+use Rattle.al_yaml_tree.specs.Reading.{with_start, start_of}
 use Rattle.al_yaml_parts.specs.Reads.{run, state_of}
 use Rattle.al_yaml_parts.specs.Places.{fault_of}
 use Rattle.al_yaml_parts.proofs.RunLemmas.{run-broken}
@@ -29,7 +29,7 @@ pub returns-in_err-read-clause-is : goal.returns-in_err-read-clause-is
 returns-in_err-read-clause-is c = λ col slot depth.
     let p = err_from_is_err_and c.from_residual-in_err-read.result c.from_residual-in_err-read.ensures.1 in
     rw (p.1, p.2) (stops-same (flow_content col slot depth (lines_at c.args.file.now.bytes.now c.args.at))
-    (listed (start_of c.args.at 1 0) (scalar_reading (scalar_at flow (lines_at c.args.file.now.bytes.now c.args.at))))
+    (with_start (start_of c.args.at 1 0) (scalar_reading (scalar_at flow (lines_at c.args.file.now.bytes.now c.args.at))))
     (state_of c.args.state.now) c.in_err-read.field-0.0
     (content-scalar col slot depth (state_of c.args.state.now) c.args.file.now.bytes.now c.args.at c.requires.inside
     c.in_default.ensures c.requires.plain c.requires.scalar)

@@ -1,12 +1,16 @@
-use Rattle.std.proofs.Common.{◌≡◌, ◌∙◌, ◌+◌, ℕ, List, length, ◌≤◌, ap, sym, slice_index, Bool, true, false, cond, Some, None}
+use Rattle.std.proofs.Common.{◌≡◌, ◌∙◌, ◌+◌, ℕ, List, length, ◌≤◌, ap, sym, slice_index, Bool, true, false, cond, Option, Some, None}
 use Rattle.al_base.specs.declared.codes.YamlCode.{YamlCode}
 use Rattle.al_base.specs.declared.codes.YamlCode.TheVariants as yaml
 use Rattle.al_scalar.specs.Line.{is_empty, is_blank_or_end}
 use Rattle.al_scalar.specs.Places.{text_at}
 use Rattle.al_scalar.specs.Plain.{begins_flow_indicator}
-use Rattle.al_yaml_tree.specs.Content.{flow_fault, start_fault, is_flow_misplaced, or_misplaced}
+use Rattle.al_yaml_tree.specs.Content.{flow_fault, start_fault, is_flow_misplaced}
+use Rattle.std.specs.Option.{option_or}
 use Rattle.al_yaml_parts.proofs.LineLemmas.{first_cell}
 use Rattle.al_yaml_parts.proofs.starts.flow_fault.Goals as goal
+
+abbrev or_misplaced : Option YamlCode → Bool → Option YamlCode
+or_misplaced o m = option_or o (cond m (Some yaml.UnexpectedCharacter) None)
 
 module _ (bytes : List ℕ) (at : ℕ) (inside : at ≤ length bytes) (some : false ≡ is_empty (text_at bytes at)) (alone closed : Bool)
     (a : alone ≡ is_blank_or_end (text_at bytes (at + 1))) (b : closed ≡ begins_flow_indicator (text_at bytes (at + 1))) where

@@ -4,13 +4,13 @@ use Rattle.al_yaml_tree.specs.Flow.{flow_node_over, flow_property}
 use Rattle.al_yaml_parts.specs.Files.{left_at}
 use Rattle.al_yaml.specs.Private.FlowFrames.{item_slot}
 use Rattle.al_yaml.specs.Private.Frames.{open_rest, waiting_rest, item, items}
-use Rattle.al_yaml_parts.specs.Answers.{answered}
+use Rattle.al_yaml_parts.specs.Answers.{then_read}
 use Rattle.al_yaml_parts.specs.Reads.{part_of, run, state_of}
 use Rattle.al_yaml_tree.specs.View.{view, nodes_of}
 use Rattle.al_yaml_parts.proofs.FlowNodeLemmas.{node-property}
 use Rattle.al_yaml.proofs.FlowStepLemmas.{item-stop, item-answer, put-behind}
 use Rattle.al_yaml_parts.proofs.ReadLemmas.{stops-from, stops-same}
-use Rattle.al_yaml.proofs.flow.read_property_item.Goals as goal
+use Rattle.al_yaml.proofs.flow_items.read_property_item.Goals as goal
 
 pub returns-in_err-part-clause-is : goal.returns-in_err-part-clause-is
 returns-in_err-part-clause-is c =
@@ -38,7 +38,7 @@ returns-in_err-put_item-in-Node-clause-is c =
     c.in_err-put_item-in-Node.field-0.0
     (item-answer col turns c.args.place.opening depth (state_of c.args.state.now) (nodes_of (map view c.args.items.now.items))
     c.args.file.now.bytes.now c.args.place.at c.requires.place.inside c.requires.solid c.requires.other
-    ∙ ap (λ o. answered o (waiting_rest col turns depth c.args.place.opening (item (nodes_of (map view c.args.items.now.items)))))
+    ∙ ap (λ o. then_read o (waiting_rest col turns depth c.args.place.opening (item (nodes_of (map view c.args.items.now.items)))))
     (ap (run (state_of c.args.state.now)) (node-property col (item_slot c.args.place) depth (state_of c.args.state.now)
     c.args.file.now.bytes.now c.args.place.at c.requires.place.inside (sym c.requires.property)) ∙ found col))
     (c.in_err-put_item-in-Node.ensures.is depth (state_of c.read_flow_property.new.state) col turns))
@@ -54,7 +54,7 @@ returns-in_ok-put_item-in-Node-clause-is c =
     c.in_ok-put_item-in-Node.field-0
     (λ col turns. item-answer col turns c.args.place.opening depth (state_of c.args.state.now) (nodes_of (map view c.args.items.now.items))
     c.args.file.now.bytes.now c.args.place.at c.requires.place.inside c.requires.solid c.requires.other
-    ∙ ap (λ o. answered o (waiting_rest col turns depth c.args.place.opening (item (nodes_of (map view c.args.items.now.items)))))
+    ∙ ap (λ o. then_read o (waiting_rest col turns depth c.args.place.opening (item (nodes_of (map view c.args.items.now.items)))))
     (ap (run (state_of c.args.state.now)) (node-property col (item_slot c.args.place) depth (state_of c.args.state.now)
     c.args.file.now.bytes.now c.args.place.at c.requires.place.inside (sym c.requires.property)) ∙ found col))
     (c.in_ok-put_item-in-Node.ensures.is depth (state_of c.read_flow_property.new.state))
@@ -65,7 +65,7 @@ returns-in-Opens-clause-is c = λ col turns.
     let found = rw c.in-Opens.is at c.in_ok-part.ensures.is in
     item-answer col turns c.args.place.opening depth (state_of c.args.state.now) (nodes_of (map view c.args.items.now.items))
     c.args.file.now.bytes.now c.args.place.at c.requires.place.inside c.requires.solid c.requires.other
-    ∙ ap (λ o. answered o (waiting_rest col turns depth c.args.place.opening (item (nodes_of (map view c.args.items.now.items)))))
+    ∙ ap (λ o. then_read o (waiting_rest col turns depth c.args.place.opening (item (nodes_of (map view c.args.items.now.items)))))
     (ap (run (state_of c.args.state.now)) (node-property col (item_slot c.args.place) depth (state_of c.args.state.now)
     c.args.file.now.bytes.now c.args.place.at c.requires.place.inside (sym c.requires.property)) ∙ found col)
 

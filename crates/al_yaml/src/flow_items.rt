@@ -1,0 +1,306 @@
+//! One step in an open flow collection: the next item or entry, and what stands behind it.
+
+ghost use Rattle.al_scalar.specs.Line as line;
+ghost use Rattle.al_scalar.specs.ReadScalar.{read_of};
+ghost use Rattle.al_scalar.specs.Places.{lines_at, text_at};
+ghost use Rattle.al_yaml_tree.specs.Content as content;
+ghost use Rattle.al_yaml_parts.specs.Files.{left_at, size};
+ghost use Rattle.al_yaml_tree.specs.Flow as flow;
+ghost use Rattle.al_yaml.specs.Private.FlowFrames.{IsAfter, IsPlaceInside, IsPut, IsStep, Resumes};
+ghost use Rattle.al_yaml.specs.Private.FlowFrames.{Steps, after_of, closer_of, open_of, waiting_of};
+ghost use Rattle.al_yaml.specs.Private.Frames as frames;
+ghost use Rattle.al_yaml.specs.Private.Frames.{open_rest};
+ghost use Rattle.al_yaml_parts.specs.Places.{Shows};
+ghost use Rattle.al_yaml_parts.specs.Reads as reads;
+ghost use Rattle.al_yaml_parts.specs.Reads.{IsStopInside, part_of, state_of};
+ghost use Rattle.al_yaml_tree.specs.View.{entries_of, entry_view, nodes_of, view};
+ghost use Rattle.al_yaml_parts.specs.declared.frames.Open.TheVariants as open_code;
+ghost use Rattle.std.specs.Prelude.{IfErr, IfOk, false, length, map, true, ℕ, ◌+◌, ◌<◌, ◌≡◌, ◌≤◌};
+
+use al_base::YamlCode;
+use al_scalar::lines::begins;
+use al_scalar::{FaultAt, ScalarRead};
+use al_yaml_parts::content::gap_end;
+use al_yaml_parts::faults::ReadError;
+use al_yaml_parts::file::File;
+use al_yaml_parts::flow_nodes::{
+    Bracket, FlowSlot, FoundKey, FoundNode, read_flow_key, read_flow_property, read_flow_scalar,
+    read_flow_value,
+};
+use al_yaml_parts::frames::{Open, OpenMapping};
+use al_yaml_parts::limits::State;
+use al_yaml_parts::lines::is_text_end;
+use al_yaml_parts::part::Part;
+use al_yaml_parts::starts::{is_flow_start, is_property};
+use al_yaml_tree::{Entry, Node, entry_of, scalar_node};
+
+/// What stands behind an item: a comma, with the offset of what follows it, or the closer, with the offset behind it.
+#[derive(Clone, Copy)]
+pub enum After {
+    GoesOn(usize),
+    Closes(usize),
+}
+
+/// Where an open flow collection is read: where it begins, from where on, and the depth of a collection in it.
+#[derive(Clone, Copy)]
+pub struct FlowPlace {
+    pub opening: usize,
+    pub at: usize,
+    pub depth: u32,
+}
+
+/// How far one step reads: to what stands behind a node, or to the bracket of a collection inside.
+#[derive(Clone, Copy)]
+pub enum FlowStep {
+    Behind(After),
+    Opens(Bracket),
+}
+
+/// What stands behind an item or entry and the gap behind it.
+#[inline(always)]
+fn after_item(bytes: &[u8], opening: usize, close: u8, at: usize) -> Result<After, FaultAt>
+    requires inside { at ≤ length bytes.now }
+    requires opening { opening ≤ length bytes.now }
+    ensures fault { IfErr result (λ f. f.at ≤ length bytes.now) }
+    ensures is { Shows (after_of bytes.now)
+        (flow.after_item opening close (lines_at bytes.now at)) result }
+    ensures after { IfOk result (λ after. IsAfter at (length bytes.now) after) }
+{
+    if is_text_end(bytes, at) {
+        return Err(FaultAt {
+            code: YamlCode::UnclosedFlow,
+            at: opening,
+        });
+    }
+    if begins(bytes, at, b',') {
+        return Ok(After::GoesOn(gap_end(bytes, at + 1)));
+    }
+    if begins(bytes, at, close) {
+        return Ok(After::Closes(at + 1));
+    }
+    Err(FaultAt {
+        code: YamlCode::UnexpectedCharacter,
+        at,
+    })
+}
+
+/// Puts an item that was read into its sequence, and reads what stands behind it.
+#[inline(always)]
+fn put_item(
+    file: &File,
+    opening: usize,
+    items: &mut Vec<Node>,
+    part: Part,
+) -> Result<After, ReadError>
+    requires inside { part.next ≤ size file.now }
+    requires opening { opening ≤ size file.now }
+    ensures fault { IfErr result (IsStopInside (size file.now)) }
+    ensures is { (depth : ℕ) (s : reads.State) →
+        Resumes file.now.bytes.now depth opening (frames.item (nodes_of (map view items.old.items)))
+        (part_of file.now.bytes.now part) s
+        (frames.items (nodes_of (map view items.new.items))) result }
+    ensures within { IfOk result (IsPut (size file.now) part.next) }
+{
+    items.push(part.node)?;
+    Ok(after_item(file.bytes, opening, b']', gap_end(file.bytes, part.next))?)
+}
+
+/// Puts an entry whose value was read into its mapping, and reads what stands behind it.
+#[inline(always)]
+fn put_entry(
+    file: &File,
+    opening: usize,
+    entries: &mut Vec<Entry>,
+    key: ScalarRead,
+    part: Part,
+) -> Result<After, ReadError>
+    requires inside { part.next ≤ size file.now }
+    requires opening { opening ≤ size file.now }
+    ensures fault { IfErr result (IsStopInside (size file.now)) }
+    ensures is { (depth : ℕ) (s : reads.State) → Resumes file.now.bytes.now depth opening
+        (frames.value (entries_of (map entry_view entries.old.items))
+        (read_of file.now.bytes.now key))
+        (part_of file.now.bytes.now part) s
+        (frames.entries (entries_of (map entry_view entries.new.items))) result }
+    ensures within { IfOk result (IsPut (size file.now) part.next) }
+{
+    let key = scalar_node(key.scalar, key.span);
+    entries.push(entry_of(key, part.node))?;
+    Ok(after_item(file.bytes, opening, b'}', gap_end(file.bytes, part.next))?)
+}
+
+/// Reads an item that begins with an anchor or is an alias, to what stands behind it or to a bracket.
+fn read_property_item(
+    file: &File,
+    state: &mut State,
+    items: &mut Vec<Node>,
+    place: FlowPlace,
+) -> Result<FlowStep, ReadError>
+    requires place { IsPlaceInside (size file.now) place }
+    requires property { content.is_property (text_at file.now.bytes.now place.at) ≡ true }
+    requires solid { false ≡ line.is_empty (text_at file.now.bytes.now place.at) }
+    requires other { false ≡ line.begins 93 (text_at file.now.bytes.now place.at) }
+    ensures fault { IfErr result (IsStopInside (size file.now)) }
+    ensures is { Steps file.now.bytes.now place.depth place.opening
+        (λ c t. open_rest c t place.depth place.opening
+        (frames.items (nodes_of (map view items.old.items))) (left_at file.now place.at))
+        (state_of state.old) (open_code.Items items.new)
+        result (state_of state.new) }
+    ensures within { IfOk result (IsStep file.now.bytes.now place.at) }
+{
+    let slot = FlowSlot {
+        opening: place.opening,
+        empty: None,
+    };
+    match read_flow_property(file, state, slot, place.at, place.depth)? {
+        FoundNode::Node(part) => Ok(FlowStep::Behind(put_item(file, place.opening, items, part)?)),
+        FoundNode::Opens(bracket) => Ok(FlowStep::Opens(bracket)),
+    }
+}
+
+/// Reads an open sequence, where its closer doesn't stand, to what stands behind its next item or to a bracket in it.
+fn read_item(
+    file: &File,
+    state: &mut State,
+    items: &mut Vec<Node>,
+    place: FlowPlace,
+) -> Result<FlowStep, ReadError>
+    requires place { IsPlaceInside (size file.now) place }
+    requires solid { false ≡ line.is_empty (text_at file.now.bytes.now place.at) }
+    requires other { false ≡ line.begins 93 (text_at file.now.bytes.now place.at) }
+    ensures fault { IfErr result (IsStopInside (size file.now)) }
+    ensures is { Steps file.now.bytes.now place.depth place.opening
+        (λ c t. open_rest c t place.depth place.opening
+        (frames.items (nodes_of (map view items.old.items))) (left_at file.now place.at))
+        (state_of state.old) (open_code.Items items.new)
+        result (state_of state.new) }
+    ensures within { IfOk result (IsStep file.now.bytes.now place.at) }
+{
+    // a bracket has no fault, and is neither anchor nor alias
+    if is_flow_start(file.bytes, place.at) {
+        return Ok(FlowStep::Opens(Bracket {
+            at: place.at,
+            anchor: None,
+        }));
+    }
+    if is_property(file.bytes, place.at) {
+        return read_property_item(file, state, items, place);
+    }
+    let part = read_flow_scalar(file, state, place.at)?;
+    Ok(FlowStep::Behind(put_item(file, place.opening, items, part)?))
+}
+
+/// Reads an open mapping, where its closer doesn't stand, to what stands behind its next entry or to a bracket in it.
+#[inline(never)]
+fn read_entry(
+    file: &File,
+    state: &mut State,
+    mapping: &mut OpenMapping,
+    place: FlowPlace,
+) -> Result<FlowStep, ReadError>
+    requires place { IsPlaceInside (size file.now) place }
+    requires solid { false ≡ line.is_empty (text_at file.now.bytes.now place.at) }
+    requires other { false ≡ line.begins 125 (text_at file.now.bytes.now place.at) }
+    ensures fault { IfErr result (IsStopInside (size file.now)) }
+    ensures is { Steps file.now.bytes.now place.depth place.opening
+        (λ c t. open_rest c t place.depth place.opening
+        (frames.entries (entries_of (map entry_view mapping.old.entries.items)))
+        (left_at file.now place.at)) (state_of state.old)
+        (open_code.Entries mapping.new) result (state_of state.new) }
+    ensures within { IfOk result (IsStep file.now.bytes.now place.at) }
+{
+    let key = match read_flow_key(file, state, place.at)? {
+        FoundKey::Key(key) => key,
+        FoundKey::Opens => {
+            mapping.waits = None;
+            return Ok(FlowStep::Opens(Bracket {
+                at: place.at,
+                anchor: None,
+            }));
+        }
+    };
+    match read_flow_value(file, state, place.opening, &key, place.depth)? {
+        FoundNode::Node(part) => Ok(FlowStep::Behind(put_entry(
+            file,
+            place.opening,
+            &mut mapping.entries,
+            key.read,
+            part,
+        )?)),
+        FoundNode::Opens(bracket) => {
+            mapping.waits = Some(key.read);
+            Ok(FlowStep::Opens(bracket))
+        }
+    }
+}
+
+/// The character that closes a collection.
+#[inline(always)]
+fn closer(has: &Open) -> u8
+    ensures { result ≡ closer_of (open_of has.now) }
+{
+    match has {
+        Open::Items(_) => b']',
+        Open::Entries(_) => b'}',
+    }
+}
+
+/// Reads an open collection to what stands behind the next node in it, to its closer or to a bracket in it.
+pub fn read_inside(
+    file: &File,
+    state: &mut State,
+    has: &mut Open,
+    place: FlowPlace,
+) -> Result<FlowStep, ReadError>
+    requires place { IsPlaceInside (size file.now) place }
+    ensures fault { IfErr result (IsStopInside (size file.now)) }
+    ensures is { Steps file.now.bytes.now place.depth place.opening
+        (λ c t. open_rest c t place.depth place.opening (open_of has.old)
+        (left_at file.now place.at))
+        (state_of state.old) has.new result (state_of state.new) }
+    ensures within { IfOk result (IsStep file.now.bytes.now place.at) }
+{
+    if is_text_end(file.bytes, place.at) {
+        return Err(ReadError::Fault(FaultAt {
+            code: YamlCode::UnclosedFlow,
+            at: place.opening,
+        }));
+    }
+    if begins(file.bytes, place.at, closer(has)) {
+        return Ok(FlowStep::Behind(After::Closes(place.at + 1)));
+    }
+    match has {
+        Open::Items(items) => read_item(file, state, items, place),
+        Open::Entries(mapping) => read_entry(file, state, mapping, place),
+    }
+}
+
+/// Hands a collection that was read to the one that waited for it, and reads what stands behind it.
+#[inline(always)]
+pub fn resume(
+    file: &File,
+    opening: usize,
+    has: &mut Open,
+    at: usize,
+    part: Part,
+) -> Result<After, ReadError>
+    requires inside { part.next ≤ size file.now }
+    requires opening { opening ≤ size file.now }
+    requires at { at ≤ size file.now }
+    ensures fault { IfErr result (IsStopInside (size file.now)) }
+    ensures is { (depth : ℕ) (s : reads.State) →
+        Resumes file.now.bytes.now depth opening (waiting_of file.now.bytes.now at has.old)
+        (part_of file.now.bytes.now part) s (open_of has.new) result }
+    ensures within { IfOk result (IsPut (size file.now) part.next) }
+{
+    match has {
+        Open::Items(items) => put_item(file, opening, items, part),
+        Open::Entries(mapping) => match mapping.waits.take() {
+            Some(key) => put_entry(file, opening, &mut mapping.entries, key, part),
+            None => Err(ReadError::Fault(FaultAt {
+                code: YamlCode::WrongKey,
+                at,
+            })),
+        },
+    }
+}
