@@ -87,10 +87,7 @@ pub fn gather<R: Files + AllocGlobal + Clone + Drop>(
     ensures small { IfOk result (λ files.
         AllByRecursion (λ e. length e.1 ≤ largest_file) (map owned_entry files.items)) }
 {
-    let mut disk = SystemFolder {
-        rt,
-        root: words.root,
-    };
+    let mut disk = SystemFolder::new(rt, words.root);
     let gathering = gather_from(alloc, &mut disk, words)?;
     gathering.into_files()
 }
@@ -109,10 +106,7 @@ pub fn load<R: Files + AllocGlobal + Clone + Drop>(
         IsGathered (map (λ file. file.now) words.now.files.items) loaded.files.folder) }
     ensures unchecked { IfOk result (λ loaded. loaded.files.checks ≡ 0) }
 {
-    let mut disk = SystemFolder {
-        rt,
-        root: words.root,
-    };
+    let mut disk = SystemFolder::new(rt, words.root);
     load_from(alloc, &mut disk, words)
 }
 
