@@ -5,7 +5,7 @@ use Rattle.std.specs.Prelude.{bytes_eq}
 use Rattle.std.proofs.Common.{Result, Ok, Err, IfOk, Bor}
 use Rattle.std.specs.Option.{option_copied}
 use Rattle.al_session_folder.specs.declared.kept.KeptFile.{KeptFile}
-use Rattle.std.specs.Option.{option_map, option_map_or}
+use Rattle.std.specs.Option.{option_map, option_map_or, option_eq, option_or}
 use Rattle.std.specs.List.{AllByRecursion, list_all, list_any}
 use Rattle.std.specs.List.Sorted.{IsStrictlySortedBy}
 use Rattle.std.specs.Ordering.{nat_cmp, is_eq, match_ordering}
@@ -18,8 +18,8 @@ use Rattle.std.proofs.lemmas.Cmp.{nat_list_cmp_total}
 use Rattle.al_session_folder.specs.Meaning.{Meaning, candidates, is_candidate}
 use Rattle.std.proofs.lemmas.List.{take_more}
 use Rattle.al_session_folder.proofs.Missings.{with_one-sorted}
-use Rattle.al_session_folder.specs.Folder.{Folder, without_file, bytes_at, paths_of, interface_in, or_else, first_of, answer}
-use Rattle.al_session_folder.specs.Affected.{same_answer, is_same_text, is_untouched, affected, is_affected, is_among}
+use Rattle.al_session_folder.specs.Folder.{Folder, without_file, bytes_at, paths_of, interface_in, first_of, answer}
+use Rattle.al_session_folder.specs.Affected.{is_untouched, affected, is_affected, is_among}
 use Rattle.al_session_folder.specs.Kept.{changed}
 use Rattle.al_base.specs.InOrder.{with_one}
 use Rattle.al_session_folder.specs.declared.lint.Target.{Target}
@@ -55,8 +55,8 @@ module _ {I : Type 0} (m : Meaning I) (p : List ℕ) (f : Folder) (now : Option 
   among_changed (q ∷ ps) none =
       let far : bytes_eq q p ≡ false = eq_flipped p q false (or_left (bytes_eq p q) (list_any (bytes_eq p) ps) none) in
       let same : bytes_at (changed f p now) q ≡ bytes_at f q = bytes_changed p q f now ordered ∙ cond-false _ _ _ far in
-      ap (λ o. or_else (option_map (m.interface q) o) (first_of (interface_in m (changed f p now)) ps)) same
-      ∙ ap (or_else (interface_in m f q)) (among_changed ps (or_right (bytes_eq p q) (list_any (bytes_eq p) ps) none))
+      ap (λ o. option_or (option_map (m.interface q) o) (first_of (interface_in m (changed f p now)) ps)) same
+      ∙ ap (option_or (interface_in m f q)) (among_changed ps (or_right (bytes_eq p q) (list_any (bytes_eq p) ps) none))
 
   pub answer_changed : (t : Target) → list_any (bytes_eq p) (candidates t) ≡ false → answer m (changed f p now) t ≡ answer m f t
   unfolding answer
@@ -66,8 +66,8 @@ module _ {I : Type 0} (m : Meaning I) (p : List ℕ) (f : Folder) (now : Option 
   among_still : interface_in m f p ≡ interface_in m (changed f p now) p → (ps : List (List ℕ)) → first_of (interface_in m (changed f p now)) ps ≡ first_of (interface_in m f) ps
   among_still still [] = refl
   among_still still (q ∷ ps) =
-      ap (λ o. or_else o (first_of (interface_in m (changed f p now)) ps)) (by (bytes_eq q p) refl)
-      ∙ ap (or_else (interface_in m f q)) (among_still still ps)
+      ap (λ o. option_or o (first_of (interface_in m (changed f p now)) ps)) (by (bytes_eq q p) refl)
+      ∙ ap (option_or (interface_in m f q)) (among_still still ps)
     where
       by : (t : Bool) → bytes_eq q p ≡ t → interface_in m (changed f p now) q ≡ interface_in m f q
       by true a = subst (λ (x : List ℕ). interface_in m (changed f p now) x ≡ interface_in m f x) (sym (bytes_same q p a)) (sym still)
@@ -78,27 +78,27 @@ module _ {I : Type 0} (m : Meaning I) (p : List ℕ) (f : Folder) (now : Option 
   answer_still still t = among_still still (candidates t)
 
   module _ (eq : I → I → Bool) (itself : (x : I) → eq x x ≡ true) where
-    same_as_itself : (o : Option I) → same_answer eq o o ≡ true
+    same_as_itself : (o : Option I) → option_eq eq o o ≡ true
     same_as_itself None = refl
     same_as_itself (Some x) = itself x
 
-    pub same_answers : (ts : List Target) → is_candidate ts p ≡ false → list_all (λ t. same_answer eq (answer m f t) (answer m (changed f p now) t)) ts ≡ true
+    pub same_answers : (ts : List Target) → is_candidate ts p ≡ false → list_all (λ t. option_eq eq (answer m f t) (answer m (changed f p now) t)) ts ≡ true
     same_answers [] none = refl
     same_answers (t ∷ ts) none =
         let here : answer m (changed f p now) t ≡ answer m f t = answer_changed t (or_left (list_any (bytes_eq p) (candidates t)) (is_candidate ts p) none) in
-        let first : same_answer eq (answer m f t) (answer m (changed f p now) t) ≡ true = ap (same_answer eq (answer m f t)) here ∙ same_as_itself (answer m f t) in
-        ap (λ b. b && list_all (λ t. same_answer eq (answer m f t) (answer m (changed f p now) t)) ts) first
+        let first : option_eq eq (answer m f t) (answer m (changed f p now) t) ≡ true = ap (option_eq eq (answer m f t)) here ∙ same_as_itself (answer m f t) in
+        ap (λ b. b && list_all (λ t. option_eq eq (answer m f t) (answer m (changed f p now) t)) ts) first
         ∙ same_answers ts (or_right (list_any (bytes_eq p) (candidates t)) (is_candidate ts p) none)
 
     -- a file at another path is affected just where one of its calls has another answer
     pub affected_other : (q b : List ℕ) → bytes_eq q p ≡ false → bytes_at f q ≡ Some b
-        → is_affected eq m f (changed f p now) q ≡ not (list_all (λ t. same_answer eq (answer m f t) (answer m (changed f p now) t)) (m.calls q b))
+        → is_affected eq m f (changed f p now) q ≡ not (list_all (λ t. option_eq eq (answer m f t) (answer m (changed f p now) t)) (m.calls q b))
     unfolding is_untouched
     affected_other q b far there =
         let new : bytes_at (changed f p now) q ≡ Some b = bytes_changed p q f now ordered ∙ cond-false _ _ _ far ∙ there in
         ap (λ (o : Option (List ℕ)). option_map_or (λ x. not (is_untouched eq m f (changed f p now) q x)) o false) new
-        ∙ ap (λ (o : Option (List ℕ)). not (is_same_text o b && list_all (λ t. same_answer eq (answer m f t) (answer m (changed f p now) t)) (m.calls q b))) there
-        ∙ ap (λ s. not (s && list_all (λ t. same_answer eq (answer m f t) (answer m (changed f p now) t)) (m.calls q b))) (bytes_self b)
+        ∙ ap (λ (o : Option (List ℕ)). not (option_eq bytes_eq o (Some b) && list_all (λ t. option_eq eq (answer m f t) (answer m (changed f p now) t)) (m.calls q b))) there
+        ∙ ap (λ s. not (s && list_all (λ t. option_eq eq (answer m f t) (answer m (changed f p now) t)) (m.calls q b))) (bytes_self b)
 
     -- a file at another path that is in no folder is not affected
     pub affected_absent : (q : List ℕ) → bytes_eq q p ≡ false → bytes_at f q ≡ None → is_affected eq m f (changed f p now) q ≡ false
@@ -116,11 +116,11 @@ module _ {I : Type 0} (m : Meaning I) (p : List ℕ) (f : Folder) (now : Option 
             let s : is_candidate (m.calls q b) p ≡ false = sym (ap (λ (o : Option (List ℕ)). option_map_or (λ b. is_candidate (m.calls q b) p) o false) there) ∙ stranger in
             affected_other q b far there ∙ ap not (same_answers (m.calls q b) s)
 
-    still_answers : interface_in m f p ≡ interface_in m (changed f p now) p → (ts : List Target) → list_all (λ t. same_answer eq (answer m f t) (answer m (changed f p now) t)) ts ≡ true
+    still_answers : interface_in m f p ≡ interface_in m (changed f p now) p → (ts : List Target) → list_all (λ t. option_eq eq (answer m f t) (answer m (changed f p now) t)) ts ≡ true
     still_answers still [] = refl
     still_answers still (t ∷ ts) =
-        let first : same_answer eq (answer m f t) (answer m (changed f p now) t) ≡ true = ap (same_answer eq (answer m f t)) (answer_still still t) ∙ same_as_itself (answer m f t) in
-        ap (λ b. b && list_all (λ t. same_answer eq (answer m f t) (answer m (changed f p now) t)) ts) first ∙ still_answers still ts
+        let first : option_eq eq (answer m f t) (answer m (changed f p now) t) ≡ true = ap (option_eq eq (answer m f t)) (answer_still still t) ∙ same_as_itself (answer m f t) in
+        ap (λ b. b && list_all (λ t. option_eq eq (answer m f t) (answer m (changed f p now) t)) ts) first ∙ still_answers still ts
 
     -- no file at another path is affected where p offers what it offered
     pub none_affected : interface_in m f p ≡ interface_in m (changed f p now) p → (q : List ℕ) → not (bytes_eq q p) && is_affected eq m f (changed f p now) q ≡ false
@@ -132,7 +132,7 @@ module _ {I : Type 0} (m : Meaning I) (p : List ℕ) (f : Folder) (now : Option 
         by false a (Some b) there = ap (λ t. not t && is_affected eq m f (changed f p now) q) a ∙ affected_other q b a there ∙ ap not (still_answers still (m.calls q b))
 
     -- the same, where it is known whether the answers are the same
-    pub touched_is : (q b : List ℕ) (r : Bool) → bytes_eq q p ≡ false → bytes_at f q ≡ Some b → r ≡ list_all (λ t. same_answer eq (answer m f t) (answer m (changed f p now) t)) (m.calls q b)
+    pub touched_is : (q b : List ℕ) (r : Bool) → bytes_eq q p ≡ false → bytes_at f q ≡ Some b → r ≡ list_all (λ t. option_eq eq (answer m f t) (answer m (changed f p now) t)) (m.calls q b)
         → not (bytes_eq q p) && is_affected eq m f (changed f p now) q ≡ not r
     touched_is q b r far there h = ap (λ t. not t && is_affected eq m f (changed f p now) q) far ∙ affected_other q b far there ∙ ap not (sym h)
 
@@ -151,11 +151,11 @@ module _ {I : Type 0} (m : Meaning I) (p : List ℕ) (f : Folder) (now : Option 
         (bytes_changed p q f now ordered ∙ cond-true _ _ _ same ∙ sym e)
     affected_itself q (Some b) e same other =
         ap (λ (o : Option (List ℕ)). option_map_or (λ x. not (is_untouched eq m f (changed f p now) q x)) o false) (bytes_changed p q f now ordered ∙ cond-true _ _ _ same ∙ sym e)
-        ∙ ap (λ s. not (s && list_all (λ t. same_answer eq (answer m f t) (answer m (changed f p now) t)) (m.calls q b))) (text (bytes_at f q) refl)
+        ∙ ap (λ s. not (s && list_all (λ t. option_eq eq (answer m f t) (answer m (changed f p now) t)) (m.calls q b))) (text (bytes_at f q) refl)
       where
-        text : (o : Option (List ℕ)) → bytes_at f q ≡ o → is_same_text (bytes_at f q) b ≡ false
-        text None a = ap (λ o. is_same_text o b) a
-        text (Some a) h = ap (λ o. is_same_text o b) h ∙ by (bytes_eq a b) refl
+        text : (o : Option (List ℕ)) → bytes_at f q ≡ o → option_eq bytes_eq (bytes_at f q) (Some b) ≡ false
+        text None a = ap (λ o. option_eq bytes_eq o (Some b)) a
+        text (Some a) h = ap (λ o. option_eq bytes_eq o (Some b)) h ∙ by (bytes_eq a b) refl
           where
             by : (t : Bool) → bytes_eq a b ≡ t → bytes_eq a b ≡ false
             by false z = z
@@ -457,7 +457,7 @@ module _ {I : Type 0} (m : Meaning I) (eq : I → I → Bool) (itself : (x : I) 
   affected_still start e still = affected_found start start e (start_sorted (is_some now) p start e)
       (λ q. sym (ap (λ t. (t && any q) || is_among q start) (none_affected m p f now ordered eq itself still q)))
 
-pub same_answer_exact : {I : Type 0} (eq : I → I → Bool) → ((x y : I) → eq x y ≡ true → x ≡ y) → (a b : Option I) → same_answer eq a b ≡ true → a ≡ b
+pub same_answer_exact : {I : Type 0} (eq : I → I → Bool) → ((x y : I) → eq x y ≡ true → x ≡ y) → (a b : Option I) → option_eq eq a b ≡ true → a ≡ b
 same_answer_exact eq exact None None h = refl
 same_answer_exact eq exact (Some x) (Some y) h = ap Some (exact x y h)
 same_answer_exact eq exact None (Some y) h = absurd (wrong h)

@@ -6,7 +6,7 @@ use Rattle.std.specs.Prelude.{string_bytes, bytes_eq, Contains, IfSome, ◌↔�
 use Rattle.std.specs.Global.{Global}
 use Rattle.std.specs.Bool.{◌==◌}
 use Rattle.std.specs.List.{AllByRecursion, cons_option, enumerate_from, filter_map, flat_map, list_any, position, prefix_len, zip}
-use Rattle.std.specs.Option.{unwrap_or, option_map, option_eq}
+use Rattle.std.specs.Option.{unwrap_or, option_map, option_eq, option_or}
 use Rattle.std.proofs.lemmas.Bool.{cases_lt}
 use Rattle.std.proofs.lemmas.Bool.Decides.{nat_tests}
 use Rattle.std.proofs.lemmas.List.{drop_more, drop_all, get_or_past, length-map, take_more, map-append}
@@ -22,7 +22,7 @@ use Rattle.al_graph.proofs.Edges.{edges_at}
 use Rattle.al_graph.proofs.Lists.{none_in}
 use Rattle.al_graph.proofs.OneWay.{no_loop_before, no_loop_behind, part_tells}
 use Rattle.al_session_folder.specs.Meaning.{Meaning, candidates}
-use Rattle.al_session_folder.specs.Folder.{Folder, first_of, or_else, paths_of}
+use Rattle.al_session_folder.specs.Folder.{Folder, first_of, paths_of}
 use Rattle.al_session_folder.specs.Kept.{Files, folder_of, entry_of, AllKept, AreKept, IsKept}
 use Rattle.al_session_folder.specs.Loops.{called, calls_graph, leads_back, loop_faults, number_of}
 use Rattle.al_session_folder.specs.CallGraphs.{IsCallGraph, IsCalledBy, IsRow, NoneBackward, NoneForward, TellLoops, part_of}
@@ -85,8 +85,8 @@ among_below f [] k e = absurd (wrong e)
 among_below f (p ∷ ps) k e = by (number_of f p) refl (λ h. among_below f ps k h)
   where
     by : (o : Option ℕ) → number_of f p ≡ o → (first_of (number_of f) ps ≡ Some k → k < length f) → k < length f
-    by None a rest = rest (sym (ap (λ o. or_else o (first_of (number_of f) ps)) a) ∙ e)
-    by (Some n) a rest = number_below f p k (a ∙ (sym (ap (λ o. or_else o (first_of (number_of f) ps)) a) ∙ e))
+    by None a rest = rest (sym (ap (λ o. option_or o (first_of (number_of f) ps)) a) ∙ e)
+    by (Some n) a rest = number_below f p k (a ∙ (sym (ap (λ o. option_or o (first_of (number_of f) ps)) a) ∙ e))
 
 pub called_below : (f : Folder) (t : Target) (k : ℕ) → called f t ≡ Some k → k < length f
 called_below f t k e = among_below f (candidates t) k e

@@ -6,14 +6,14 @@ use Rattle.std.specs.Bool.{Decides}
 use Rattle.std.specs.Global.{Global}
 use Rattle.std.specs.List.{cons_option, filter_map, position}
 use Rattle.std.specs.List.Sorted.{IsStrictlySortedBy}
-use Rattle.std.specs.Option.{option_map, unwrap_or}
+use Rattle.std.specs.Option.{option_map, unwrap_or, option_or}
 use Rattle.std.specs.Ordering.{nat_cmp}
 use Rattle.std.specs.Cmp.Lexicographic.{slice_cmp}
 use Rattle.std.proofs.lemmas.List.{length-map, take_more_same}
 use Rattle.std.proofs.lemmas.Option.{slice_get-map}
 use Rattle.al_graph.specs.Graphs.{Edge, Walk, edges_of}
 use Rattle.al_session_folder.specs.Meaning.{Meaning, candidates}
-use Rattle.al_session_folder.specs.Folder.{Folder, bytes_at, first_of, or_else, paths_of, with_file}
+use Rattle.al_session_folder.specs.Folder.{Folder, bytes_at, first_of, paths_of, with_file}
 use Rattle.al_session_folder.specs.Kept.{AreKept, Files, IsKept, file_at, folder_of}
 use Rattle.al_session_folder.specs.Loops.{called, calls_graph, number_of}
 use Rattle.al_session_folder.specs.CallGraphs.{HasSameCalls, IsCallGraph, IsRow, TellLoops, is_same_target}
@@ -88,7 +88,7 @@ module _ {I : Type 0} (m : Meaning I) (f g : Folder) (same : HasSameCalls m f g)
 
   among_same : (ps : List (List ℕ)) → first_of (number_of g) ps ≡ first_of (number_of f) ps
   among_same [] = refl
-  among_same (p ∷ ps) = ap (λ l. or_else (position (bytes_eq p) l) (first_of (number_of g) ps)) same.paths ∙ ap (or_else (number_of f p)) (among_same ps)
+  among_same (p ∷ ps) = ap (λ l. option_or (position (bytes_eq p) l) (first_of (number_of g) ps)) same.paths ∙ ap (option_or (number_of f p)) (among_same ps)
 
   row_same : (ts : List Target) → filter_map (called g) ts ≡ filter_map (called f) ts
   row_same [] = refl
