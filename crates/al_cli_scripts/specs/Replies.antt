@@ -5,7 +5,7 @@ use Rattle.al_base.specs.Counted.{AppendsPrefix}
 use Rattle.al_base.specs.declared.stops.Stop.{Stop}
 use Rattle.al_base.specs.declared.stops.Stop.TheVariants as stops
 use Rattle.al_session.specs.declared.session.Edit.{Edit}
-use Rattle.al_session.specs.Affected.{affected}
+use Rattle.al_session.specs.Affected.{affected_paths}
 use Rattle.al_session.specs.Folder.{Folder, put_refusal, delete_refusal, with_file, without_file}
 use Rattle.al_session.specs.Report.{report_of, status_of}
 use Rattle.al_session.specs.declared.lint.Refused.{Refused}
@@ -37,7 +37,7 @@ edited (Some refused) old new = old
 
 -- an accepted edit is answered by the number of the files that it can change
 abbrev pub edit_reply : Option Refused → Folder → Folder → List ℕ
-edit_reply None old new = accepted_reply (length (affected interface.ghosts.eq linting old new))
+edit_reply None old new = accepted_reply (length (affected_paths interface.ghosts.eq linting old new))
 edit_reply (Some refused) old new = refused_reply refused
 
 abbrev pub after_command : Folder → Command → Folder

@@ -14,7 +14,7 @@ use Rattle.std.proofs.lemmas.Map.{NonePasses, lookup-none}
 use Rattle.std.proofs.lemmas.Map.Text.{is_eq-slice_cmp}
 use Rattle.std.proofs.lemmas.Slice.Eq.{bytes_eq-Decides}
 use Rattle.al_session_folder.specs.Meaning.{Meaning}
-use Rattle.al_session_folder.specs.Affected.{affected, is_affected, is_untouched}
+use Rattle.al_session_folder.specs.Affected.{affected_paths, is_affected, is_untouched}
 use Rattle.al_session_folder.specs.Folder.{Folder, answer, bytes_at, faults_in, paths_of, with_file}
 use Rattle.al_session_folder.proofs.Affecting.{affected_member}
 use Rattle.al_session_folder.proofs.Places.{by_ordering, exact_path, first_below, rest_sorted, sorted_put}
@@ -76,7 +76,7 @@ one_folder (x ∷ xs) (y ∷ ys) s t h =
 pub same_put : {I : Type 0} (eq : I → I → Bool) → ((x : I) → eq x x ≡ true) → (m : Meaning I) (f : Folder) → InOrder f → SamePutChangesNothing eq m f
 same_put eq itself m f s p b there =
     let same : with_file f p b ≡ f = put_same p b f s there in
-    (same, ap (affected eq m f) same ∙ affected_same eq itself m f s)
+    (same, ap (affected_paths eq m f) same ∙ affected_same eq itself m f s)
 
 pub any_order : (f : Folder) → InOrder f → PutsInAnyOrder f
 any_order f s p b q c apart =

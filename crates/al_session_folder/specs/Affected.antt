@@ -12,8 +12,9 @@ is_untouched eq m old new p b =
     && list_all (λ t. option_eq eq (answer m old t) (answer m new t)) (m.calls p b)
 
 -- the files of the new folder that are new, have other bytes, or have a call with another answer
-unfoldable pub affected : {I : Type 0} → (I → I → Bool) → Meaning I → Folder → Folder → List (List ℕ)
-affected eq m old new = paths_of (filter (λ e. not (is_untouched eq m old new e.0 e.1)) new)
+unfoldable pub affected_paths :
+    {I : Type 0} → (I → I → Bool) → Meaning I → Folder → Folder → List (List ℕ)
+affected_paths eq m old new = paths_of (filter (λ e. not (is_untouched eq m old new e.0 e.1)) new)
 
 -- whether the change from old to new affects the file at q
 abbrev pub is_affected : {I : Type 0} → (I → I → Bool) → Meaning I → Folder → Folder → List ℕ → Bool
