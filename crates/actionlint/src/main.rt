@@ -41,7 +41,7 @@ fn words_of(rt: &HostRuntime) -> io::Result<Vec<String>> {
 // Says why the words could not be read.
 fn say_unreadable(rt: &HostRuntime, kind: ErrorKind) -> u8 {
     if kind == ErrorKind::OutOfMemory {
-        return stopped(rt, Stop::Memory);
+        return say_stop(rt, Stop::Memory);
     }
     say(rt, "the words of the command line are not text");
     BAD_WORDS
@@ -52,7 +52,7 @@ fn say_usage(rt: &HostRuntime, usage: Usage) -> u8 {
     match usage {
         Usage::Help(text) => match WaitingOutput::new(rt.stdout(), rt).write_all(text.as_bytes()) {
             Ok(()) => 0,
-            Err(_) => stopped(rt, Stop::WriteFault),
+            Err(_) => say_stop(rt, Stop::WriteFault),
         },
         Usage::Clap(text) => {
             let _ = eprint!(rt; "{text}");
@@ -62,14 +62,14 @@ fn say_usage(rt: &HostRuntime, usage: Usage) -> u8 {
             say(rt, "--session takes no files");
             BAD_WORDS
         }
-        Usage::Memory => stopped(rt, Stop::Memory),
+        Usage::Memory => say_stop(rt, Stop::Memory),
     }
 }
 
 // Runs the script of standard input.
 fn run_script(rt: &HostRuntime, oneline: bool) -> u8 {
     let Ok(buffer) = BufWriter::new(rt.alloc(), WaitingOutput::new(rt.stdout(), rt)) else {
-        return stopped(rt, Stop::Memory);
+        return say_stop(rt, Stop::Memory);
     };
     let mut reader = Input::new(rt.stdin());
     let mut writer = Output::new(buffer);
@@ -78,8 +78,8 @@ fn run_script(rt: &HostRuntime, oneline: bool) -> u8 {
     let flushed = writer.flush();
     match (answer, flushed) {
         (Ok(status), Ok(())) => status,
-        (Ok(_), Err(stop)) => stopped(rt, stop),
-        (Err(stop), _) => stopped(rt, stop),
+        (Ok(_), Err(stop)) => say_stop(rt, stop),
+        (Err(stop), _) => say_stop(rt, stop),
     }
 }
 
@@ -94,7 +94,7 @@ fn lint_folder(rt: &HostRuntime, words: &Words) -> u8 {
     }
     match lint_files(rt, gathered.files, words.oneline) {
         Ok(status) => status,
-        Err(stop) => stopped(rt, stop),
+        Err(stop) => say_stop(rt, stop),
     }
 }
 
@@ -119,7 +119,7 @@ fn say_unread(rt: &HostRuntime, unread: Unread) -> u8 {
             say_refused(rt, path.as_str(), refused);
             FATAL
         }
-        Unread::Memory => stopped(rt, Stop::Memory),
+        Unread::Memory => say_stop(rt, Stop::Memory),
     }
 }
 
@@ -128,7 +128,7 @@ fn say_refused(rt: &HostRuntime, path: &str, refused: Refused) {
     let _ = eprintln!(rt; "actionlint: {path}: refused E{number}");
 }
 
-fn stopped(rt: &HostRuntime, stop: Stop) -> u8 {
+fn say_stop(rt: &HostRuntime, stop: Stop) -> u8 {
     let _ = eprintln!(rt; "actionlint: {stop}");
     FATAL
 }

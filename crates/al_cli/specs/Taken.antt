@@ -1,10 +1,11 @@
 -- Files that a run took, in the order in which it put them.
-use Rattle.std.specs.Prelude.{◌≡◌, ℕ, Bool, true, nat_eq, bytes_eq, codes, drop, fold, if◌then◌else◌, map, List, [], ◌∷◌, ◌++◌, None, Vec}
+use Rattle.std.specs.Prelude.{◌≡◌, ℕ, true, nat_eq, codes, drop, fold, if◌then◌else◌, map, List, [], ◌∷◌, ◌++◌, None, Vec}
 use Rattle.std.specs.Cmp.Lexicographic.{slice_cmp}
 use Rattle.std.specs.Global.{Global}
-use Rattle.std.specs.List.{flat_map, list_any, starts_with}
+use Rattle.std.specs.List.{flat_map, starts_with}
 use Rattle.std.specs.List.Sorted.{IsStrictlySortedBy}
 use Rattle.std.specs.Ordering.{nat_cmp}
+use Rattle.al_session.specs.Affected.{is_among}
 use Rattle.al_session.specs.Folder.{Folder, bytes_at, paths_of, with_file}
 use Rattle.al_session.specs.Meaning.{candidates}
 use Rattle.al_check.specs.Linting.{linting}
@@ -22,13 +23,9 @@ pub record AreGathered (files : List (List ℕ × List ℕ)) : Type 0 where
 
 -- Which files are taken, and in which order
 
--- whether a path stands among these
-abbrev pub has_path : List (List ℕ) → List ℕ → Bool
-has_path paths p = list_any (bytes_eq p) paths
-
 -- a path behind these, unless it stands among them
 abbrev pub with_path : List (List ℕ) → List ℕ → List (List ℕ)
-with_path paths p = if has_path paths p then paths else paths ++ p ∷ []
+with_path paths p = if is_among p paths then paths else paths ++ p ∷ []
 
 -- these in their order, each once
 abbrev pub each_once : List (List ℕ) → List (List ℕ)
@@ -50,7 +47,7 @@ called_by files = flat_map (λ e. flat_map candidates (linting.calls e.0 e.1)) f
 -- each of these files is called by one that stands before it; the first files stand before all of them
 abbrev pub AreCalled : List (List ℕ × List ℕ) → List (List ℕ × List ℕ) → Type 0
 AreCalled first [] = Unit {0}
-AreCalled first (e ∷ es) = (has_path (called_by first) e.0 ≡ true) × AreCalled (first ++ e ∷ []) es
+AreCalled first (e ∷ es) = (is_among e.0 (called_by first) ≡ true) × AreCalled (first ++ e ∷ []) es
 
 -- Files in order: first those that these FILEs ask for, and then others, each called by a file that stands before it.
 pub record AreInOrder (words : List (List ℕ)) (files : List (List ℕ × List ℕ)) : Type 0 where

@@ -1,5 +1,6 @@
 -- The command line: its options as clap's definitions take them, and what its words ask for.
-use Rattle.std.specs.Prelude.{◌≡◌, ◌≢◌, ◌⊎◌, Bool, true, false, List, [], Option, Some, None, map, unwrap_or, codes}
+use Rattle.std.specs.Prelude.{◌≡◌, ◌≢◌, ◌⊎◌, Bool, true, false, List, [], ◌∷◌, Option, Some, None, map, unwrap_or, codes}
+use Rattle.std.specs.List.{fold}
 use Rattle.clap.specs.Words.{App, IsAmong, Kinds, Row, Rule, Text, all_of, fault_of, first_of, one_of, matches_of, new_app, new_rule}
 use Rattle.clap.specs.Words.{with_rule}
 use Rattle.clap.specs.Simple.{on_top}
@@ -10,14 +11,12 @@ use Rattle.al_cli.specs.declared.words.Words.{Words}
 use Rattle.al_cli.specs.declared.words.Usage.{Usage}
 use Rattle.al_cli.specs.declared.words.Usage.TheVariants as usage
 
-abbrev pub oneline_rule : Rule
-oneline_rule = record (new_rule (codes "oneline")) { long = Some (codes "oneline"); action = Some SetTrue }
+-- an option without a value
+abbrev pub flag_rule : Text → Rule
+flag_rule name = record (new_rule name) { long = Some name; action = Some SetTrue }
 
 abbrev pub root_rule : Rule
 root_rule = record (new_rule (codes "root")) { long = Some (codes "root"); value_names = 1 }
-
-abbrev pub session_rule : Rule
-session_rule = record (new_rule (codes "session")) { long = Some (codes "session"); action = Some SetTrue }
 
 abbrev pub help_rule : Rule
 help_rule = record (new_rule (codes "help")) { long = Some (codes "help"); action = Some Help }
@@ -31,7 +30,9 @@ bare_app = on_top (λ s. record s { disable_help_flag = true }) (new_app (codes 
 
 -- `actionlint [--oneline] [--root DIR] [--session] [--help] [FILE]...`
 abbrev pub linter_app : App
-linter_app = with_rule (with_rule (with_rule (with_rule (with_rule bare_app oneline_rule) root_rule) session_rule) help_rule) file_rule
+linter_app = fold with_rule bare_app
+    (flag_rule (codes "oneline") ∷ root_rule ∷ flag_rule (codes "session")
+    ∷ help_rule ∷ file_rule ∷ [])
 
 -- what clap finds in these words, of which the first is the program's name
 unfoldable pub rows_in : List Text → List Row

@@ -6,12 +6,13 @@ ghost use Rattle.std.specs.List.Sorted.{IsStrictlySortedBy};
 ghost use Rattle.std.specs.Ordering.{nat_cmp};
 ghost use Rattle.std.specs.Cmp.Lexicographic.{slice_cmp};
 ghost use Rattle.al_base.specs.Limits.{largest_file};
+ghost use Rattle.al_session.specs.Affected.{is_among};
 ghost use Rattle.al_session.specs.Folder.{bytes_at, paths_of};
 ghost use Rattle.al_session.specs.Meaning.{candidates};
 ghost use Rattle.al_cli.specs.Linted.{folder_with};
 ghost use Rattle.al_cli.specs.Private.Turns.{AreAmong, IsCalling, IsTakenAs, IsTakenIfThere};
 ghost use Rattle.al_cli.specs.Taken.{AreGathered, AreInOrder, IsGathered, owned_entry};
-ghost use Rattle.al_cli.specs.Taken.{called_by, each_once, has_path, path_named, with_path};
+ghost use Rattle.al_cli.specs.Taken.{called_by, each_once, path_named, with_path};
 
 use crate::Words;
 use crate::disk::{Disk, DiskError, Entry, SystemFolder, WORKFLOWS};
@@ -87,10 +88,7 @@ pub fn gather<R: Files + AllocGlobal + Clone + Drop>(
     ensures small { IfOk result (λ files.
         AllByRecursion (λ e. length e.1 ≤ largest_file) (map owned_entry files.items)) }
 {
-    let mut disk = SystemFolder {
-        rt,
-        root: words.root,
-    };
+    let mut disk = SystemFolder::new(rt, words.root);
     let gathering = gather_from(alloc, &mut disk, words)?;
     gathering.into_files()
 }
@@ -109,10 +107,7 @@ pub fn load<R: Files + AllocGlobal + Clone + Drop>(
         IsGathered (map (λ file. file.now) words.now.files.items) loaded.files.folder) }
     ensures unchecked { IfOk result (λ loaded. loaded.files.checks ≡ 0) }
 {
-    let mut disk = SystemFolder {
-        rt,
-        root: words.root,
-    };
+    let mut disk = SystemFolder::new(rt, words.root);
     load_from(alloc, &mut disk, words)
 }
 
@@ -149,7 +144,7 @@ fn without_dot(file: &str) -> &str
 fn list_workflows<D: Disk>(alloc: Global, disk: &mut D) -> Result<BTreeSet<String>, Unread> {
     match disk.workflows(alloc) {
         Ok(listed) => Ok(listed),
-        Err(error) => Err(failed(alloc, WORKFLOWS, error)),
+        Err(error) => Err(disk_failure(alloc, WORKFLOWS, error)),
     }
 }
 
@@ -180,7 +175,7 @@ impl Candidates {
     // Lets a path wait, unless a file was taken there or it was tried.
     fn add(&mut self, alloc: Global, files: &TakenFiles, path: &Path) -> Result<(), Unread>
         requires waiting { AreAmong (called_by files.now) self.old.waiting.keys }
-        requires called { has_path (called_by files.now) path.now ≡ true }
+        requires called { is_among path.now (called_by files.now) ≡ true }
         ensures { OnOk result (AreAmong (called_by files.now) self.new.waiting.keys) }
     {
         let text = path.as_str();
@@ -205,7 +200,7 @@ impl Candidates {
     // Lets the candidates of a call wait.
     fn add_call(&mut self, alloc: Global, files: &TakenFiles, call: &Target) -> Result<(), Unread>
         requires waiting { AreAmong (called_by files.now) self.old.waiting.keys }
-        requires called { AllByRecursion (λ path. has_path (called_by files.now) path ≡ true)
+        requires called { AllByRecursion (λ path. is_among path (called_by files.now) ≡ true)
             (candidates call.now) }
         ensures { OnOk result (AreAmong (called_by files.now) self.new.waiting.keys) }
     {
@@ -288,7 +283,7 @@ impl Gathering {
             match self.take(disk, path)? {
                 Found::File => {}
                 Found::Outside => self.pass_over(path)?,
-                Found::Absent => return Err(failed(self.alloc, path, DiskError::Unreadable)),
+                Found::Absent => return Err(disk_failure(self.alloc, path, DiskError::Unreadable)),
             }
         }
         Ok(())
@@ -317,7 +312,7 @@ impl Gathering {
     {
         match self.take(disk, path)? {
             Found::File => Ok(()),
-            _ => Err(failed(self.alloc, path, DiskError::Unreadable)),
+            _ => Err(disk_failure(self.alloc, path, DiskError::Unreadable)),
         }
     }
 
@@ -341,7 +336,7 @@ impl Gathering {
     fn take_candidate<D: Disk>(&mut self, disk: &mut D, path: String) -> Result<(), Unread>
         requires waiting { AreAmong (called_by (self.old).files)
             (self.old).candidates.waiting.keys }
-        requires called { has_path (called_by (self.old).files) (string_bytes path) ≡ true }
+        requires called { is_among (string_bytes path) (called_by (self.old).files) ≡ true }
         ensures taken { OnOk result (IsTakenIfThere (string_bytes path)
             (self.old).files (self.new).files) }
         ensures waiting { OnOk result (AreAmong (called_by (self.new).files)
@@ -385,10 +380,10 @@ impl Gathering {
             ≡ (self.old).candidates.waiting.keys }
     {
         if path_fault(path).is_some() {
-            return Err(refused(self.alloc, path, Refused::BadPath));
+            return Err(refusal(self.alloc, path, Refused::BadPath));
         }
         if !self.files.accepts(path) {
-            return Err(refused(self.alloc, path, Refused::NotAccepted));
+            return Err(refusal(self.alloc, path, Refused::NotAccepted));
         }
         if self.files.has(path) {
             return Ok(Found::File);
@@ -400,7 +395,7 @@ impl Gathering {
             }
             Ok(Entry::Absent) => Ok(Found::Absent),
             Ok(Entry::Outside) => Ok(Found::Outside),
-            Err(error) => Err(failed(self.alloc, path, error)),
+            Err(error) => Err(disk_failure(self.alloc, path, error)),
         }
     }
 
@@ -414,7 +409,7 @@ impl Gathering {
     {
         match self.files.put(self.alloc, path, bytes) {
             Ok(()) => Ok(()),
-            Err(reason) => Err(refused(self.alloc, path, reason)),
+            Err(reason) => Err(refusal(self.alloc, path, reason)),
         }
     }
 
@@ -462,14 +457,14 @@ impl Gathering {
     }
 }
 
-fn failed(alloc: Global, path: &str, error: DiskError) -> Unread {
+fn disk_failure(alloc: Global, path: &str, error: DiskError) -> Unread {
     match (error, shown(alloc, path)) {
         (DiskError::Unreadable, Ok(path)) => Unread::Unreadable(path),
         (_, _) => Unread::Memory,
     }
 }
 
-fn refused(alloc: Global, path: &str, reason: Refused) -> Unread {
+fn refusal(alloc: Global, path: &str, reason: Refused) -> Unread {
     match (reason, shown(alloc, path)) {
         (Refused::Memory, _) => Unread::Memory,
         (_, Err(_)) => Unread::Memory,

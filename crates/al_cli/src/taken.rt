@@ -169,12 +169,12 @@ fn with_bytes(
 fn file_at(alloc: Global, files: &Loaded, path: Path) -> Result<(Path, Vec<u8>), AllocError>
     ensures { IfOk result (λ file. owned_entry file ≡ entry_in files.now.folder path) }
 {
-    let bytes = copied(alloc, files.bytes(path.as_str()))?;
+    let bytes = copy_of(alloc, files.bytes(path.as_str()))?;
     Ok((path, bytes))
 }
 
 // A copy of bytes; none of nothing.
-fn copied(alloc: Global, bytes: Option<&[u8]>) -> Result<Vec<u8>, AllocError>
+fn copy_of(alloc: Global, bytes: Option<&[u8]>) -> Result<Vec<u8>, AllocError>
     ensures { IfOk result (λ v. v.items ≡ unwrap_or (option_copied bytes.entry) []) }
 {
     match bytes {

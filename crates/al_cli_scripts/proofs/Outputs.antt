@@ -3,10 +3,11 @@ use Rattle.std.proofs.Common.{◌≡◌, ◌≢◌, ℕ, zero, suc, ◌+◌, ◌
 use Rattle.std.proofs.lemmas.List.{take-append-le}
 use Rattle.std.proofs.lemmas.List.Elements.{All-cons}
 use Rattle.al_cli_scripts.specs.Script.{Command, command_bytes, line_bytes, line_of, body_of, PutLine, IsCommand, IsWrong, BeginsWithCommand}
-use Rattle.al_cli_scripts.specs.Runs.{Steps, Puts, Ends, script_of}
+use Rattle.al_cli_scripts.specs.Runs.{Steps, Puts, Ends}
 use Rattle.al_cli_scripts.proofs.Deciding.{begins_or_not}
 use Rattle.al_cli_scripts.proofs.Serving.{Served-none}
 use Rattle.al_cli_scripts.proofs.Turns.{Puts-none, Puts-served, unpended}
+use Rattle.std.specs.List.{flat_map}
 
 pub wrong_stays : (bytes more : List ℕ) → IsWrong bytes → IsWrong (bytes ++ more)
 wrong_stays bytes more w = elim w [
@@ -50,7 +51,7 @@ module _ {F : Type 0} (steps : Steps F) where
     served = record {
       commands = c ∷ p.served.commands;
       each = each_more p.served.commands p.served.each;
-      whole = ap (λ l. command_bytes c ++ l) p.served.whole ∙ sym (append_assoc (command_bytes c) (script_of p.served.commands) p.rest);
+      whole = ap (λ l. command_bytes c ++ l) p.served.whole ∙ sym (append_assoc (command_bytes c) (flat_map command_bytes p.served.commands) p.rest);
       leaves = p.served.leaves;
       answered = ap (λ l. steps.reply f c ++ l) p.served.answered;
     };

@@ -1,10 +1,10 @@
 -- What it says of an edit that the run stops at its reply when memory runs out.
-use Rattle.std.proofs.Common.{◌≡◌, inl, inr, List, [], ◌∷◌, ℕ, Bool, true, false, Option, None, Result, Ok, Err, refl, sym, subst}
-use Rattle.std.specs.Prelude.{IfErr}
+use Rattle.std.proofs.Common.{◌≡◌, inl, inr, List, ℕ, Bool, true, false, Option, None, Some, Result, Ok, Err, refl, sym, subst}
+use Rattle.std.specs.Prelude.{IfErr, if◌then◌else◌}
 use Rattle.al_base.specs.declared.stops.Stop.{Stop}
 use Rattle.al_base.specs.declared.stops.Stop.TheVariants as stops
 use Rattle.al_session.specs.Meaning.{Meaning}
-use Rattle.al_session.specs.Folder.{Folder, first_refusal, put_refusal, delete_refusal, refusal_or_memory}
+use Rattle.al_session.specs.Folder.{Folder, put_refusal, delete_refusal, refusal_or_memory}
 use Rattle.al_session.specs.declared.lint.Refused.{Refused}
 use Rattle.al_session.specs.declared.lint.Refused.TheVariants.{BadPath, NotAccepted, TooLarge, Full, NoSuchFile, Memory}
 use Rattle.al_session.specs.declared.session.Edit.{Edit}
@@ -20,16 +20,16 @@ wanted_memory (Err stop) reply refusal old new s q e = elim s [
 ]
 
 -- no other reason is running out of memory
-put_reason : (a b c d : Bool) → refusal_or_memory (first_refusal ((a, BadPath) ∷ (b, NotAccepted) ∷ (c, TooLarge) ∷ (d, Full) ∷ [])) ≡ Memory
-    → first_refusal ((a, BadPath) ∷ (b, NotAccepted) ∷ (c, TooLarge) ∷ (d, Full) ∷ []) ≡ None
+put_reason : (a b c d : Bool) → refusal_or_memory (if a then Some BadPath else if b then Some NotAccepted else if c then Some TooLarge else if d then Some Full else None) ≡ Memory
+    → (if a then Some BadPath else if b then Some NotAccepted else if c then Some TooLarge else if d then Some Full else None) ≡ None
 put_reason true b c d e = absurd cc
 put_reason false true c d e = absurd cc
 put_reason false false true d e = absurd cc
 put_reason false false false true e = absurd cc
 put_reason false false false false e = refl
 
-delete_reason : (a b c : Bool) → refusal_or_memory (first_refusal ((a, BadPath) ∷ (b, NotAccepted) ∷ (c, NoSuchFile) ∷ [])) ≡ Memory
-    → first_refusal ((a, BadPath) ∷ (b, NotAccepted) ∷ (c, NoSuchFile) ∷ []) ≡ None
+delete_reason : (a b c : Bool) → refusal_or_memory (if a then Some BadPath else if b then Some NotAccepted else if c then Some NoSuchFile else None) ≡ Memory
+    → (if a then Some BadPath else if b then Some NotAccepted else if c then Some NoSuchFile else None) ≡ None
 delete_reason true b c e = absurd cc
 delete_reason false true c e = absurd cc
 delete_reason false false true e = absurd cc

@@ -1,12 +1,14 @@
 -- Lemmas on what was served.
 use Rattle.std.proofs.Common.{◌≡◌, ℕ, ◌+◌, ◌-◌, List, [], ◌∷◌, ◌++◌, length, take, drop, sym, subst, ap, ◌∙◌, refl, arith, Option, rules, append_assoc, append-nil, All, inl, inr, codes}
-use Rattle.std.proofs.lemmas.Grind.{common_steps}
+use Rattle.std.proofs.lemmas.Grind.{common_steps, flat_map-append}
 use Rattle.std.specs.Io.KnownBytes.{Appends}
+use Rattle.std.specs.List.{fold, flat_map}
+use Rattle.std.proofs.lemmas.List.Sums.{fold_push}
 use Rattle.std.proofs.KnownBytes.{Appends-trans}
 use Rattle.al_base.specs.Counted.{AppendsPrefix}
 use Rattle.al_base.proofs.Bytes.{AppendsPrefix-after}
 use Rattle.al_cli_scripts.specs.Script.{Command, command_bytes, IsCommand, IsWrong}
-use Rattle.al_cli_scripts.specs.Runs.{Steps, Served, folder_after, replies_to, script_of}
+use Rattle.al_cli_scripts.specs.Runs.{Steps, Served, replies_to}
 use Rattle.al_cli_scripts.specs.Private.Next.{IsFirst}
 use Rattle.al_cli_scripts.specs.Private.Answered.{IsStuck}
 use Rattle.std.proofs.Math.Seq.{drop-drop}
@@ -18,17 +20,12 @@ pub record Answering {F : Type 0} (steps : Steps F) (start folder : F) (waiting 
   pub written : Appends wrote now replies
 
 module _ {F : Type 0} (steps : Steps F) where
-  pub folder_after-push : (f : F) (cs : List Command) (c : Command) → folder_after steps f (cs ++ c ∷ []) ≡ steps.after (folder_after steps f cs) c
-  folder_after-push f [] c = refl
-  folder_after-push f (d ∷ cs) c = folder_after-push (steps.after f d) cs c
-
-  pub replies_to-push : (f : F) (cs : List Command) (c : Command) → replies_to steps f (cs ++ c ∷ []) ≡ replies_to steps f cs ++ steps.reply (folder_after steps f cs) c
+  pub replies_to-push : (f : F) (cs : List Command) (c : Command) → replies_to steps f (cs ++ c ∷ []) ≡ replies_to steps f cs ++ steps.reply (fold steps.after f cs) c
   replies_to-push f [] c = append-nil (steps.reply f c)
   replies_to-push f (d ∷ cs) c = ap (λ l. steps.reply f d ++ l) (replies_to-push (steps.after f d) cs c) ∙ sym (append_assoc (steps.reply f d) _ _)
 
-  pub script_of-push : (cs : List Command) (c : Command) → script_of (cs ++ c ∷ []) ≡ script_of cs ++ command_bytes c
-  script_of-push [] c = append-nil (command_bytes c)
-  script_of-push (d ∷ cs) c = ap (λ l. command_bytes d ++ l) (script_of-push cs c) ∙ sym (append_assoc (command_bytes d) _ _)
+  pub script-push : (cs : List Command) (c : Command) → flat_map command_bytes (cs ++ c ∷ []) ≡ flat_map command_bytes cs ++ command_bytes c
+  script-push cs c = flat_map-append command_bytes cs (c ∷ []) ∙ ap (λ l. flat_map command_bytes cs ++ l) (append-nil (command_bytes c))
 
   pub each-push : (cs : List Command) (c : Command) → All IsCommand cs → IsCommand c → All IsCommand (cs ++ c ∷ [])
   each-push cs c p q = search (rules, common_steps)
@@ -40,8 +37,9 @@ module _ {F : Type 0} (steps : Steps F) where
   Served-push start bytes folder replies rest more c s ok e = record {
     commands = s.commands ++ c ∷ [];
     each = each-push s.commands c s.each ok;
-    whole = s.whole ∙ ap (λ l. script_of s.commands ++ l) e ∙ sym (append_assoc (script_of s.commands) (command_bytes c) more) ∙ ap (λ l. l ++ more) (sym (script_of-push s.commands c));
-    leaves = ap (λ f. steps.after f c) s.leaves ∙ sym (folder_after-push start s.commands c);
+    whole = s.whole ∙ ap (λ l. flat_map command_bytes s.commands ++ l) e ∙ sym (append_assoc (flat_map command_bytes s.commands) (command_bytes c) more)
+        ∙ ap (λ l. l ++ more) (sym (script-push s.commands c));
+    leaves = ap (λ f. steps.after f c) s.leaves ∙ sym (fold_push steps.after start s.commands c);
     answered = ap (λ l. l ++ steps.reply folder c) s.answered ∙ ap (λ f. replies_to steps start s.commands ++ steps.reply f c) s.leaves ∙ sym (replies_to-push start s.commands c);
   }
 
@@ -55,7 +53,7 @@ module _ {F : Type 0} (steps : Steps F) where
   Served-more start bytes folder replies rest more s = record {
     commands = s.commands;
     each = s.each;
-    whole = ap (λ l. l ++ more) s.whole ∙ append_assoc (script_of s.commands) rest more;
+    whole = ap (λ l. l ++ more) s.whole ∙ append_assoc (flat_map command_bytes s.commands) rest more;
     leaves = s.leaves;
     answered = s.answered;
   }

@@ -1,15 +1,17 @@
 -- How a turn's clauses follow, and how the turns of a run join.
 use Rattle.std.proofs.Common.{◌≡◌, ◌≢◌, ℕ, max, List, [], ◌∷◌, ◌++◌, length, sym, subst, ap, ◌∙◌, refl, arith, Option, None, Some}
 use Rattle.std.proofs.Common.{Result, Ok, Err, OnOk, rules, append_assoc, append-nil, length-append, All, inl, inr, codes, ◌⊎◌}
-use Rattle.std.proofs.lemmas.Grind.{common_steps}
+use Rattle.std.proofs.lemmas.Grind.{common_steps, flat_map-append}
 use Rattle.std.proofs.lemmas.List.Elements.{All-tail}
 use Rattle.std.proofs.Math.Nat.{le-max_right, max-eq_left}
 use Rattle.std.specs.Io.KnownBytes.{Appends, Consumes, Keeps, IsAtEnd}
+use Rattle.std.specs.List.{fold, flat_map}
+use Rattle.std.proofs.lemmas.List.Sums.{fold-append}
 use Rattle.std.proofs.KnownBytes.{Appends-trans, Consumes-trans, Consumes-kept, Appends-kept, Consumes-nil, Appends-nil}
 use Rattle.al_base.specs.Counted.{AppendsPrefix, HasRisen}
 use Rattle.al_base.proofs.Bytes.{AppendsPrefix-after, AppendsPrefix-wider, AppendsPrefix-all, AppendsPrefix-none}
 use Rattle.al_cli_scripts.specs.Script.{Command, command_bytes, line_bytes, line_of, body_of, IsCommand, IsWrong, IsPending, BeginsWithCommand}
-use Rattle.al_cli_scripts.specs.Runs.{CountsFailures, Steps, Served, Puts, Ends, folder_after, replies_to, script_of}
+use Rattle.al_cli_scripts.specs.Runs.{CountsFailures, Steps, Served, Puts, Ends, replies_to}
 use Rattle.al_cli_scripts.specs.Runs.{RunsToEnd, IsCutShort, PausesAfter, RunState, GoesOn, TurnStops, Stops, ReadsLast, ReadsNoFurther}
 use Rattle.al_base.specs.declared.stops.Stop.{Stop}
 use Rattle.al_base.specs.declared.stops.Stop.TheVariants.{ReadFault, WriteFault, Memory, TooManyTurns}
@@ -59,18 +61,18 @@ module _ {F : Type 0} (steps : Steps F) where
   pub Puts-none : (f : F) (r out : List ℕ) (a : ℕ) → (BeginsWithCommand r → ⊥) → Puts steps f r out a → Ends steps f r out a
   Puts-none f r out a none p = none_of p.served.commands p.served.each p.served.whole p.served.leaves p.served.answered
     where
-      none_of : (cs : List Command) → All IsCommand cs → r ≡ script_of cs ++ p.rest → p.folder ≡ folder_after steps f cs → p.replies ≡ replies_to steps f cs → Ends steps f r out a
+      none_of : (cs : List Command) → All IsCommand cs → r ≡ flat_map command_bytes cs ++ p.rest → p.folder ≡ fold steps.after f cs → p.replies ≡ replies_to steps f cs → Ends steps f r out a
       none_of [] each e l an =
           subst (λ s. Ends steps f s out a) (sym e) (subst (λ g. Ends steps g p.rest out a) l
           (subst (λ o. Ends steps p.folder p.rest o a) (sym (p.whole ∙ ap (λ x. x ++ p.last) an)) p.ends))
-      none_of (c ∷ cs) each e l an = absurd (none (c, script_of cs ++ p.rest, each 0 c (omega arith), e ∙ append_assoc (command_bytes c) (script_of cs) p.rest))
+      none_of (c ∷ cs) each e l an = absurd (none (c, flat_map command_bytes cs ++ p.rest, each 0 c (omega arith), e ∙ append_assoc (command_bytes c) (flat_map command_bytes cs) p.rest))
 
   -- the output of bytes that begin with a command: its reply, and then the output of the rest
   Puts-first : (c : Command) (f : F) (x out : List ℕ) (a : ℕ) → IsCommand c → Puts steps f (command_bytes c ++ x) out a
       → (tail : List ℕ) × (out ≡ steps.reply f c ++ tail) × Puts steps (steps.after f c) x tail a
   Puts-first c f x out a ok p = first p.served.commands p.served.each p.served.whole p.served.leaves p.served.answered
     where
-      first : (ds : List Command) → All IsCommand ds → command_bytes c ++ x ≡ script_of ds ++ p.rest → p.folder ≡ folder_after steps f ds → p.replies ≡ replies_to steps f ds
+      first : (ds : List Command) → All IsCommand ds → command_bytes c ++ x ≡ flat_map command_bytes ds ++ p.rest → p.folder ≡ fold steps.after f ds → p.replies ≡ replies_to steps f ds
           → (tail : List ℕ) × (out ≡ steps.reply f c ++ tail) × Puts steps (steps.after f c) x tail a
       first [] each e l an =
           elim p.ends [
@@ -78,7 +80,7 @@ module _ {F : Type 0} (steps : Steps F) where
             | inr z ↦ absurd (z.1 (c, x, ok, sym e))
           ]
       first (d ∷ ds) each e l an =
-          let same = command_unique c d x (script_of ds ++ p.rest) ok (each 0 d (omega arith)) (e ∙ append_assoc (command_bytes d) (script_of ds) p.rest) in
+          let same = command_unique c d x (flat_map command_bytes ds ++ p.rest) ok (each 0 d (omega arith)) (e ∙ append_assoc (command_bytes d) (flat_map command_bytes ds) p.rest) in
           let one : d ≡ c = sym same.0 in
           let tail : List ℕ = replies_to steps (steps.after f c) ds ++ p.last in (
             tail,
@@ -92,7 +94,7 @@ module _ {F : Type 0} (steps : Steps F) where
                 commands = ds;
                 each = All-tail IsCommand d ds each;
                 whole = same.1;
-                leaves = l ∙ ap (λ b. folder_after steps (steps.after f b) ds) one;
+                leaves = l ∙ ap (λ b. fold steps.after (steps.after f b) ds) one;
                 answered = refl;
               };
               ends = p.ends;
@@ -101,20 +103,20 @@ module _ {F : Type 0} (steps : Steps F) where
           )
 
   -- the same for several
-  Puts-past : (cs : List Command) (f : F) (x out : List ℕ) (a : ℕ) → All IsCommand cs → Puts steps f (script_of cs ++ x) out a
-      → (last : List ℕ) × (out ≡ replies_to steps f cs ++ last) × Puts steps (folder_after steps f cs) x last a
+  Puts-past : (cs : List Command) (f : F) (x out : List ℕ) (a : ℕ) → All IsCommand cs → Puts steps f (flat_map command_bytes cs ++ x) out a
+      → (last : List ℕ) × (out ≡ replies_to steps f cs ++ last) × Puts steps (fold steps.after f cs) x last a
   Puts-past [] f x out a each p = (out, refl, p)
   Puts-past (c ∷ cs) f x out a each p =
-      let q : Puts steps f (command_bytes c ++ (script_of cs ++ x)) out a = subst (λ l. Puts steps f l out a) (append_assoc (command_bytes c) (script_of cs) x) p in
-      let one = Puts-first c f (script_of cs ++ x) out a (each 0 c (omega arith)) q in
+      let q : Puts steps f (command_bytes c ++ (flat_map command_bytes cs ++ x)) out a = subst (λ l. Puts steps f l out a) (append_assoc (command_bytes c) (flat_map command_bytes cs) x) p in
+      let one = Puts-first c f (flat_map command_bytes cs ++ x) out a (each 0 c (omega arith)) q in
       let more = Puts-past cs (steps.after f c) x one.0 a (All-tail IsCommand c cs each) one.2 in
       (more.0, one.1 ∙ ap (λ r. steps.reply f c ++ r) more.1 ∙ sym (append_assoc (steps.reply f c) _ more.0), more.2)
 
   pub Puts-served : (f g : F) (r replies rest more out : List ℕ) (a : ℕ) → Served steps f r g replies rest → Puts steps f (r ++ more) out a
       → (last : List ℕ) × (out ≡ replies ++ last) × Puts steps g (rest ++ more) last a
   Puts-served f g r replies rest more out a s p =
-      let split : r ++ more ≡ script_of s.commands ++ (rest ++ more) = ap (λ l. l ++ more) s.whole ∙ append_assoc (script_of s.commands) rest more in
-      let q : Puts steps f (script_of s.commands ++ (rest ++ more)) out a = subst (λ l. Puts steps f l out a) split p in
+      let split : r ++ more ≡ flat_map command_bytes s.commands ++ (rest ++ more) = ap (λ l. l ++ more) s.whole ∙ append_assoc (flat_map command_bytes s.commands) rest more in
+      let q : Puts steps f (flat_map command_bytes s.commands ++ (rest ++ more)) out a = subst (λ l. Puts steps f l out a) split p in
       let z = Puts-past s.commands f (rest ++ more) out a s.each q in
       (z.0, z.1 ∙ ap (λ l. l ++ z.0) (sym s.answered), subst (λ h. Puts steps h (rest ++ more) z.0 a) (sym s.leaves) z.2)
 
@@ -214,21 +216,13 @@ module _ {F : Type 0} (steps : Steps F) where
       record {
         commands = start ++ next;
         each = search (rules, common_steps);
-        whole = ap (λ l. l ++ more) s.whole ∙ append_assoc (script_of start) rest more ∙ ap (λ l. script_of start ++ l) u.whole
-            ∙ sym (append_assoc (script_of start) (script_of next) rest') ∙ ap (λ l. l ++ rest') (sym (script_of-append start next));
-        leaves = u.leaves ∙ ap (λ x. folder_after steps x next) s.leaves ∙ sym (folder_after-append f start next);
+        whole = ap (λ l. l ++ more) s.whole ∙ append_assoc (flat_map command_bytes start) rest more ∙ ap (λ l. flat_map command_bytes start ++ l) u.whole
+            ∙ sym (append_assoc (flat_map command_bytes start) (flat_map command_bytes next) rest') ∙ ap (λ l. l ++ rest') (sym (flat_map-append command_bytes start next));
+        leaves = u.leaves ∙ ap (λ x. fold steps.after x next) s.leaves ∙ sym (fold-append steps.after f start next);
         answered = ap (λ l. l ++ replies') s.answered ∙ ap (λ l. replies_to steps f start ++ l) (u.answered ∙ ap (λ x. replies_to steps x next) s.leaves) ∙ sym (replies_to-append f start next);
       }
     where
-      script_of-append : (cs ds : List Command) → script_of (cs ++ ds) ≡ script_of cs ++ script_of ds
-      script_of-append [] ds = refl
-      script_of-append (c ∷ cs) ds = ap (λ l. command_bytes c ++ l) (script_of-append cs ds) ∙ sym (append_assoc (command_bytes c) _ _)
-
-      folder_after-append : (f : F) (cs ds : List Command) → folder_after steps f (cs ++ ds) ≡ folder_after steps (folder_after steps f cs) ds
-      folder_after-append f [] ds = refl
-      folder_after-append f (c ∷ cs) ds = folder_after-append (steps.after f c) cs ds
-
-      replies_to-append : (f : F) (cs ds : List Command) → replies_to steps f (cs ++ ds) ≡ replies_to steps f cs ++ replies_to steps (folder_after steps f cs) ds
+      replies_to-append : (f : F) (cs ds : List Command) → replies_to steps f (cs ++ ds) ≡ replies_to steps f cs ++ replies_to steps (fold steps.after f cs) ds
       replies_to-append f [] ds = refl
       replies_to-append f (c ∷ cs) ds = ap (λ l. steps.reply f c ++ l) (replies_to-append (steps.after f c) cs ds) ∙ sym (append_assoc (steps.reply f c) _ _)
 

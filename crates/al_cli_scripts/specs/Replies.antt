@@ -5,7 +5,7 @@ use Rattle.al_base.specs.Counted.{AppendsPrefix}
 use Rattle.al_base.specs.declared.stops.Stop.{Stop}
 use Rattle.al_base.specs.declared.stops.Stop.TheVariants as stops
 use Rattle.al_session.specs.declared.session.Edit.{Edit}
-use Rattle.al_session.specs.Affected.{affected}
+use Rattle.al_session.specs.Affected.{affected_paths}
 use Rattle.al_session.specs.Folder.{Folder, put_refusal, delete_refusal, with_file, without_file}
 use Rattle.al_session.specs.Report.{report_of, status_of}
 use Rattle.al_session.specs.declared.lint.Refused.{Refused}
@@ -31,18 +31,19 @@ abbrev pub refused_reply : Refused → List ℕ
 refused_reply refused = codes "refused E" ++ decimal (number_of refused) ++ codes "\n"
 
 -- an edit that may be refused leaves the folder as it was, or another one
-abbrev pub edited : Option Refused → Folder → Folder → Folder
-edited None old new = new
-edited (Some refused) old new = old
+abbrev pub edit_result : Option Refused → Folder → Folder → Folder
+edit_result None old new = new
+edit_result (Some refused) old new = old
 
 -- an accepted edit is answered by the number of the files that it can change
 abbrev pub edit_reply : Option Refused → Folder → Folder → List ℕ
-edit_reply None old new = accepted_reply (length (affected interface.ghosts.eq linting old new))
+edit_reply None old new =
+    accepted_reply (length (affected_paths interface.ghosts.eq linting old new))
 edit_reply (Some refused) old new = refused_reply refused
 
 abbrev pub after_command : Folder → Command → Folder
-after_command folder (Put path bytes) = edited (put_refusal linting folder path bytes) folder (with_file folder path bytes)
-after_command folder (Delete path) = edited (delete_refusal linting folder path) folder (without_file folder path)
+after_command folder (Put path bytes) = edit_result (put_refusal linting folder path bytes) folder (with_file folder path bytes)
+after_command folder (Delete path) = edit_result (delete_refusal linting folder path) folder (without_file folder path)
 after_command folder Report = folder
 
 -- to a report with snippets, or of lines alone

@@ -1,6 +1,7 @@
 -- The output of a script, for any session that answers one command at a time, and what a run leaves that stops early.
 use Rattle.std.specs.Prelude.{◌≡◌, ◌≢◌, ℕ, ◌<◌, ◌≤◌, ◌⊎◌, List, [], ◌∷◌, ◌++◌, length, All, codes}
 use Rattle.std.specs.Prelude.{Option, None, Some, IfSome, Result, Ok, Err, OnOk, IsErrOf}
+use Rattle.std.specs.List.{flat_map, fold}
 use Rattle.std.specs.Io.KnownBytes.{Appends, Consumes, Keeps}
 use Rattle.al_base.specs.declared.stops.Stop.{Stop}
 use Rattle.al_base.specs.declared.stops.Stop.TheVariants.{ReadFault, WriteFault, Memory, TooManyTurns}
@@ -14,24 +15,16 @@ pub record Steps (F : Type 0) : Type 0 where
   pub after : F → Command → F
   pub status : F → ℕ
 
-abbrev pub folder_after : {F : Type 0} → Steps F → F → List Command → F
-folder_after steps folder [] = folder
-folder_after steps folder (c ∷ cs) = folder_after steps (steps.after folder c) cs
-
 abbrev pub replies_to : {F : Type 0} → Steps F → F → List Command → List ℕ
 replies_to steps folder [] = []
 replies_to steps folder (c ∷ cs) = steps.reply folder c ++ replies_to steps (steps.after folder c) cs
-
-abbrev pub script_of : List Command → List ℕ
-script_of [] = []
-script_of (c ∷ cs) = command_bytes c ++ script_of cs
 
 -- these bytes are whole commands and then rest: with their replies, and the folder after them
 pub record Served {F : Type 0} (steps : Steps F) (start : F) (bytes : List ℕ) (folder : F) (replies rest : List ℕ) : Type 0 where
   pub commands : List Command
   pub each : All IsCommand commands
-  pub whole : bytes ≡ script_of commands ++ rest
-  pub leaves : folder ≡ folder_after steps start commands
+  pub whole : bytes ≡ flat_map command_bytes commands ++ rest
+  pub leaves : folder ≡ fold steps.after start commands
   pub answered : replies ≡ replies_to steps start commands
 
 -- the end of a script, where no command begins: nothing is left, or the rest is a bad command

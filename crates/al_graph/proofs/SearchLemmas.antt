@@ -12,7 +12,7 @@ use Rattle.std.proofs.lemmas.Bool.{cases_eq, cases_lt}
 use Rattle.al_graph.specs.Graphs.{Edge, Walk, here, onward}
 use Rattle.al_graph.specs.Private.Marks.{Marked, unmarked_one}
 use Rattle.al_graph.proofs.Lists.{is_one, none_in, one_is}
-use Rattle.al_graph.specs.Private.Finishing.{Chain, IsBegun, IsFinished, IsSearch, Nested, cost, frame_cost, is_seen_edges, node_at, nodes_of}
+use Rattle.al_graph.specs.Private.Finishing.{Chain, IsBegun, IsFinished, IsSearch, Nested, cost, frame_cost, SeesEdges, node_at, nodes_of}
 use Rattle.al_graph.proofs.Orders.{all_at, all_front, all_last, all_more, all_weaker, at_before, at_end, chain_front, chain_last, chain_more, last_or_before, nodes_append}
 
 module _ (graph : List (List ℕ)) where
@@ -79,7 +79,7 @@ module _ (graph : List (List ℕ)) where
       let nodes : nodes_of (frames ++ (w, []) ∷ []) ≡ nodes_of frames ++ w ∷ [] = nodes_append frames ((w, []) ∷ []) in
       let w_seen : Marked seen w = b.entered w (subst (λ (ns : List ℕ). Contains ns w) (sym nodes) (Contains-append_right (nodes_of frames) (w ∷ []) w (is_one w))) in
       let w_edges : (k : ℕ) → Edge graph w k → Marked seen k = λ k e.
-      ⊎_elim (λ m. m) (λ c. absurd (none_in k c)) (all_last (is_seen_edges graph seen) frames (w, []) s.looked k e) in
+      ⊎_elim (λ m. m) (λ c. absurd (none_in k c)) (all_last (SeesEdges graph seen) frames (w, []) s.looked k e) in
       let chain : Chain graph (nodes_of frames ++ w ∷ []) = subst (Chain graph) nodes b.chain in
       let leads : AllByRecursion (λ x. Walk graph x w) (nodes_of frames) = chain_last graph (nodes_of frames) w chain in
       let pending : (a c k : ℕ) → a ≤ c → c < length order → Edge graph (node_at order a) k → Contains (nodes_of frames ++ w ∷ []) k → Walk graph k (node_at order c) =
@@ -101,7 +101,7 @@ module _ (graph : List (List ℕ)) where
           pending = pending_more order (nodes_of frames) w leads pending;
           nested = nested_more order (nodes_of frames ++ w ∷ []) w b.nested (Contains-append_right (nodes_of frames) (w ∷ []) w (is_one w)) pending;
         };
-        looked = all_front (is_seen_edges graph seen) frames ((w, []) ∷ []) s.looked;
+        looked = all_front (SeesEdges graph seen) frames ((w, []) ∷ []) s.looked;
       }
 
   -- nodes that stand in a list of one more
@@ -144,13 +144,13 @@ module _ (graph : List (List ℕ)) where
 
   looked_next : (seen after : List Bool) (frames : List (ℕ × List ℕ)) (rest : List ℕ) (w next : ℕ) →
       ((k : ℕ) → Marked seen k → Marked after k) → Marked after next →
-      AllByRecursion (is_seen_edges graph seen) (frames ++ (w, next ∷ rest) ∷ []) → AllByRecursion (is_seen_edges graph after) (frames ++ (w, rest) ∷ [])
+      AllByRecursion (SeesEdges graph seen) (frames ++ (w, next ∷ rest) ∷ []) → AllByRecursion (SeesEdges graph after) (frames ++ (w, rest) ∷ [])
   looked_next seen after frames rest w next kept now h =
-      all_more (is_seen_edges graph after) frames (w, rest)
-      (all_weaker (is_seen_edges graph seen) (is_seen_edges graph after) (λ f l k e. ⊎_elim (λ m. inl (kept k m)) (λ c. inr c) (l k e)) frames
-      (all_front (is_seen_edges graph seen) frames ((w, next ∷ rest) ∷ []) h))
+      all_more (SeesEdges graph after) frames (w, rest)
+      (all_weaker (SeesEdges graph seen) (SeesEdges graph after) (λ f l k e. ⊎_elim (λ m. inl (kept k m)) (λ c. inr c) (l k e)) frames
+      (all_front (SeesEdges graph seen) frames ((w, next ∷ rest) ∷ []) h))
       (λ k e. ⊎_elim (λ m. inl (kept k m)) (λ c. ⊎_elim (λ same. inl (subst (Marked after) same now)) (λ l. inr l) (in_rest next k rest c))
-      (all_last (is_seen_edges graph seen) frames (w, next ∷ rest) h k e))
+      (all_last (SeesEdges graph seen) frames (w, next ∷ rest) h k e))
 
   -- the edge leads to a node that was seen
   pub search_pass : (seen : List Bool) (frames : List (ℕ × List ℕ)) (order rest : List ℕ) (w next : ℕ) → Marked seen next →
@@ -175,7 +175,7 @@ module _ (graph : List (List ℕ)) where
   -- it comes to a node that was not seen, to which those lead that it is at
   pub search_enter : (seen : List Bool) (frames : List (ℕ × List ℕ)) (order : List ℕ) (w : ℕ) → w < length graph →
       get_or seen w false ≡ false → AllByRecursion (λ x. Walk graph x w) (nodes_of frames) → IsBegun graph seen frames order →
-      AllByRecursion (is_seen_edges graph (set seen w true)) frames →
+      AllByRecursion (SeesEdges graph (set seen w true)) frames →
       IsSearch graph (set seen w true) (frames ++ (w, get_or graph w []) ∷ []) order
   search_enter seen frames order w lt fresh leads b looked =
       let nodes : nodes_of (frames ++ (w, get_or graph w []) ∷ []) ≡ nodes_of frames ++ w ∷ [] = nodes_append frames ((w, get_or graph w []) ∷ []) in
@@ -200,7 +200,7 @@ module _ (graph : List (List ℕ)) where
               (Contains-append_cases (nodes_of frames) (w ∷ []) k (subst (λ (ns : List ℕ). Contains ns k) nodes in_ns));
           nested = b.nested;
         };
-        looked = all_more (is_seen_edges graph (set seen w true)) frames (w, get_or graph w []) looked (λ k e. inr e);
+        looked = all_more (SeesEdges graph (set seen w true)) frames (w, get_or graph w []) looked (λ k e. inr e);
       }
 
   -- the edge leads to one that was not seen
@@ -267,6 +267,15 @@ step_finish graph seen frames order new w nodes none is s =
 pub step_edge : (graph : List (List ℕ)) (seen : List Bool) (frames : List (ℕ × List ℕ)) (order : List ℕ) (w next : ℕ) (nodes rest : List ℕ) →
     nodes ≡ next ∷ rest → IsSearch graph seen (frames ++ (w, nodes) ∷ []) order → Edge graph w next
 step_edge graph seen frames order w next nodes rest is s = edge_next graph seen frames order rest w next (subst (Step graph seen frames order w) is s)
+
+-- the node that is looked at next is one of the graph, and has a mark
+pub step_inside : (graph : List (List ℕ)) (seen : List Bool) (frames : List (ℕ × List ℕ)) (order : List ℕ) (w next bound : ℕ) (nodes rest : List ℕ) →
+    nodes ≡ next ∷ rest → length graph ≡ bound → ((j k : ℕ) → Edge graph j k → k < bound) → IsSearch graph seen (frames ++ (w, nodes) ∷ []) order →
+    (next < length graph) × (next < length seen)
+step_inside graph seen frames order w next bound nodes rest is size edges_in s =
+    let below : next < bound = edges_in w next (step_edge graph seen frames order w next nodes rest is s) in
+    let marks : length seen ≡ length graph = s.begun.size in
+    (omega (arith, below, size), omega (arith, below, size, marks))
 
 pub step_pass : (graph : List (List ℕ)) (seen : List Bool) (frames after : List (ℕ × List ℕ)) (order : List ℕ) (w next : ℕ) (nodes rest : List ℕ) →
     nodes ≡ next ∷ rest → after ≡ frames ++ (w, rest) ∷ [] → Marked seen next → IsSearch graph seen (frames ++ (w, nodes) ∷ []) order →

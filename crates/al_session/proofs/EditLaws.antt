@@ -3,7 +3,7 @@ use Rattle.std.proofs.Common.{◌≡◌, ℕ, Bool, true, false, ◌&&◌, not, 
 use Rattle.std.specs.Prelude.{bytes_eq}
 use Rattle.std.specs.List.{AllByRecursion, list_all}
 use Rattle.std.specs.List.Sorted.{IsStrictlySortedBy}
-use Rattle.std.specs.Option.{option_map, option_map_or, unwrap_or}
+use Rattle.std.specs.Option.{option_map, option_map_or, unwrap_or, option_eq}
 use Rattle.std.specs.Ordering.{is_eq, nat_cmp, ordering_reverse}
 use Rattle.std.specs.declared.cmp.Ordering.TheVariants.{Less}
 use Rattle.std.specs.Cmp.Lexicographic.{slice_cmp}
@@ -14,7 +14,7 @@ use Rattle.std.proofs.lemmas.Map.{NonePasses, lookup-none}
 use Rattle.std.proofs.lemmas.Map.Text.{is_eq-slice_cmp}
 use Rattle.std.proofs.lemmas.Slice.Eq.{bytes_eq-Decides}
 use Rattle.al_session_folder.specs.Meaning.{Meaning}
-use Rattle.al_session_folder.specs.Affected.{affected, is_affected, is_same_text, is_untouched, same_answer}
+use Rattle.al_session_folder.specs.Affected.{affected_paths, is_affected, is_untouched}
 use Rattle.al_session_folder.specs.Folder.{Folder, answer, bytes_at, faults_in, paths_of, with_file}
 use Rattle.al_session_folder.proofs.Affecting.{affected_member}
 use Rattle.al_session_folder.proofs.Places.{by_ordering, exact_path, first_below, rest_sorted, sorted_put}
@@ -76,7 +76,7 @@ one_folder (x ∷ xs) (y ∷ ys) s t h =
 pub same_put : {I : Type 0} (eq : I → I → Bool) → ((x : I) → eq x x ≡ true) → (m : Meaning I) (f : Folder) → InOrder f → SamePutChangesNothing eq m f
 same_put eq itself m f s p b there =
     let same : with_file f p b ≡ f = put_same p b f s there in
-    (same, ap (affected eq m f) same ∙ affected_same eq itself m f s)
+    (same, ap (affected_paths eq m f) same ∙ affected_same eq itself m f s)
 
 pub any_order : (f : Folder) → InOrder f → PutsInAnyOrder f
 any_order f s p b q c apart =
@@ -93,7 +93,7 @@ any_order f s p b q c apart =
         bytes_put_other q r (with_file f p b) c k ∙ bytes_put_other p r f b l
         ∙ sym (bytes_put_other p r (with_file f q c) b l ∙ bytes_put_other q r f c k)
 
-same_text : (o : Option (List ℕ)) (b : List ℕ) → is_same_text o b ≡ true → o ≡ Some b
+same_text : (o : Option (List ℕ)) (b : List ℕ) → option_eq bytes_eq o (Some b) ≡ true → o ≡ Some b
 same_text None b h = absurd (wrong h)
   where
     wrong : false ≡ true → ⊥
@@ -111,8 +111,8 @@ pub others_keep : {I : Type 0} (eq : I → I → Bool) → ((x y : I) → eq x y
 unfolding is_untouched
 others_keep eq exact m f g s q b there none =
     let stays : is_affected eq m f g q ≡ false = sym (affected_member eq m f g s q) ∙ none in
-    let untouched : not (is_same_text (bytes_at f q) b && list_all (λ t. same_answer eq (answer m f t) (answer m g t)) (m.calls q b)) ≡ false =
+    let untouched : not (option_eq bytes_eq (bytes_at f q) (Some b) && list_all (λ t. option_eq eq (answer m f t) (answer m g t)) (m.calls q b)) ≡ false =
     sym (ap (λ (o : Option (List ℕ)). option_map_or
-    (λ x. not (is_same_text (bytes_at f q) x && list_all (λ t. same_answer eq (answer m f t) (answer m g t)) (m.calls q x))) o false) there) ∙ stays in
+    (λ x. not (option_eq bytes_eq (bytes_at f q) (Some x) && list_all (λ t. option_eq eq (answer m f t) (answer m g t)) (m.calls q x))) o false) there) ∙ stays in
     let before : bytes_at f q ≡ Some b = same_text (bytes_at f q) b (left _ _ untouched) in
     ap (option_map (faults_in m g q)) there ∙ ap Some (faults_stay eq exact m f g q b there stays) ∙ sym (ap (option_map (faults_in m f q)) before)

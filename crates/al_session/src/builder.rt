@@ -134,7 +134,7 @@ impl<L: Lint> SessionBuilder<L> {
             (λ session. session.checks ≡ raised self.checks (length self.folder)) }
         ensures reads { IfOk result (λ session. session.reads ≡ self.reads) }
     {
-        checked(self.lint, self.kept)
+        session_of(self.lint, self.kept)
     }
 }
 
@@ -173,7 +173,7 @@ fn load_file<L: Lint>(
 }
 
 // A session of files that were read: checks each of them.
-fn checked<L: Lint>(
+fn session_of<L: Lint>(
     mut lint: L,
     mut kept: IndexedFiles<L::Unit, L::Iface>,
 ) -> Result<Session<L>, AllocError>

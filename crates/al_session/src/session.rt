@@ -14,7 +14,7 @@ ghost use Rattle.al_base.specs.Streams.{bytes_written, write_failures};
 ghost use Rattle.al_session_folder.specs.Folder.{bytes_at, faults_at, put_refusal, delete_refusal, with_file};
 ghost use Rattle.al_session_folder.specs.Folder.{without_file, paths_of, refusal_or_memory};
 ghost use Rattle.std.specs.Bool.{Decides};
-ghost use Rattle.al_session_folder.specs.Affected.{affected, is_among};
+ghost use Rattle.al_session_folder.specs.Affected.{affected_paths, is_among};
 ghost use Rattle.al_session_folder.specs.Meaning.{IsUpTo};
 ghost use Rattle.al_base.specs.Counted.{raised};
 ghost use Rattle.al_session_folder.specs.Missing.{is_missing, missing_in};
@@ -174,7 +174,7 @@ impl<L: Lint> Session<L> {
         ensures folder { OnOk result
             (self.new.folder ≡ with_file self.old.folder path.now bytes.now) }
         ensures rechecked { IfOk result (λ edit.
-            edit.rechecked ≡ affected L.Iface.eq L.meaning self.old.folder self.new.folder) }
+            edit.rechecked ≡ affected_paths L.Iface.eq L.meaning self.old.folder self.new.folder) }
         ensures meter { IfOk result (λ edit.
             self.new.checks ≡ raised self.old.checks (length edit.rechecked)) }
         ensures refused { IfErr result (λ refused.
@@ -184,7 +184,7 @@ impl<L: Lint> Session<L> {
         ensures no_check { IfErr result
             (λ refused. refused ≢ Refused.Memory → self.new.checks ≡ self.old.checks) }
         ensures few_checks { OnErr result (IsUpTo self.old.checks self.new.checks
-            (length (affected L.Iface.eq L.meaning self.old.folder
+            (length (affected_paths L.Iface.eq L.meaning self.old.folder
             (with_file self.old.folder path.now bytes.now)))) }
         ensures reads { ReadsForPut L.meaning self.old.folder path.now bytes.now self.old.reads self.new.reads }
         ensures no_read { IfErr result
@@ -231,7 +231,7 @@ impl<L: Lint> Session<L> {
         ensures accepted { OnOk result (delete_refusal L.meaning self.old.folder path.now ≡ None) }
         ensures folder { OnOk result (self.new.folder ≡ without_file self.old.folder path.now) }
         ensures rechecked { IfOk result (λ edit.
-            edit.rechecked ≡ affected L.Iface.eq L.meaning self.old.folder self.new.folder) }
+            edit.rechecked ≡ affected_paths L.Iface.eq L.meaning self.old.folder self.new.folder) }
         ensures meter { IfOk result (λ edit.
             self.new.checks ≡ raised self.old.checks (length edit.rechecked)) }
         ensures refused { IfErr result (λ refused.
@@ -240,7 +240,7 @@ impl<L: Lint> Session<L> {
         ensures no_check { IfErr result
             (λ refused. refused ≢ Refused.Memory → self.new.checks ≡ self.old.checks) }
         ensures few_checks { OnErr result (IsUpTo self.old.checks self.new.checks
-            (length (affected L.Iface.eq L.meaning self.old.folder
+            (length (affected_paths L.Iface.eq L.meaning self.old.folder
             (without_file self.old.folder path.now)))) }
         ensures reads { self.new.reads ≡ self.old.reads }
     {

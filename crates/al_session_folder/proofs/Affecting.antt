@@ -5,7 +5,7 @@ use Rattle.std.specs.Prelude.{bytes_eq}
 use Rattle.std.proofs.Common.{Result, Ok, Err, IfOk, Bor}
 use Rattle.std.specs.Option.{option_copied}
 use Rattle.al_session_folder.specs.declared.kept.KeptFile.{KeptFile}
-use Rattle.std.specs.Option.{option_map, option_map_or}
+use Rattle.std.specs.Option.{option_map, option_map_or, option_eq, option_or}
 use Rattle.std.specs.List.{AllByRecursion, list_all, list_any}
 use Rattle.std.specs.List.Sorted.{IsStrictlySortedBy}
 use Rattle.std.specs.Ordering.{nat_cmp, is_eq, match_ordering}
@@ -18,9 +18,9 @@ use Rattle.std.proofs.lemmas.Cmp.{nat_list_cmp_total}
 use Rattle.al_session_folder.specs.Meaning.{Meaning, candidates, is_candidate}
 use Rattle.std.proofs.lemmas.List.{take_more}
 use Rattle.al_session_folder.proofs.Missings.{with_one-sorted}
-use Rattle.al_session_folder.specs.Folder.{Folder, without_file, bytes_at, paths_of, interface_in, or_else, first_of, answer}
-use Rattle.al_session_folder.specs.Affected.{same_answer, is_same_text, is_untouched, affected, is_affected, is_among}
-use Rattle.al_session_folder.specs.Kept.{changed}
+use Rattle.al_session_folder.specs.Folder.{Folder, without_file, bytes_at, paths_of, interface_in, first_of, answer}
+use Rattle.al_session_folder.specs.Affected.{is_untouched, affected_paths, is_affected, is_among}
+use Rattle.al_session_folder.specs.Kept.{with_bytes_at}
 use Rattle.al_base.specs.InOrder.{with_one}
 use Rattle.al_session_folder.specs.declared.lint.Target.{Target}
 use Rattle.al_session_folder.proofs.Places.{by_ordering, exact_path, rest_sorted, sorted_put}
@@ -50,112 +50,112 @@ eq_flipped p q false h = by (bytes_eq q p) refl
 
 -- a change at p leaves the answer of every call that has no candidate p
 module _ {I : Type 0} (m : Meaning I) (p : List ℕ) (f : Folder) (now : Option (List ℕ)) (ordered : IsStrictlySortedBy (slice_cmp nat_cmp) (paths_of f)) where
-  among_changed : (ps : List (List ℕ)) → list_any (bytes_eq p) ps ≡ false → first_of (interface_in m (changed f p now)) ps ≡ first_of (interface_in m f) ps
+  among_changed : (ps : List (List ℕ)) → list_any (bytes_eq p) ps ≡ false → first_of (interface_in m (with_bytes_at f p now)) ps ≡ first_of (interface_in m f) ps
   among_changed [] none = refl
   among_changed (q ∷ ps) none =
       let far : bytes_eq q p ≡ false = eq_flipped p q false (or_left (bytes_eq p q) (list_any (bytes_eq p) ps) none) in
-      let same : bytes_at (changed f p now) q ≡ bytes_at f q = bytes_changed p q f now ordered ∙ cond-false _ _ _ far in
-      ap (λ o. or_else (option_map (m.interface q) o) (first_of (interface_in m (changed f p now)) ps)) same
-      ∙ ap (or_else (interface_in m f q)) (among_changed ps (or_right (bytes_eq p q) (list_any (bytes_eq p) ps) none))
+      let same : bytes_at (with_bytes_at f p now) q ≡ bytes_at f q = bytes_changed p q f now ordered ∙ cond-false _ _ _ far in
+      ap (λ o. option_or (option_map (m.interface q) o) (first_of (interface_in m (with_bytes_at f p now)) ps)) same
+      ∙ ap (option_or (interface_in m f q)) (among_changed ps (or_right (bytes_eq p q) (list_any (bytes_eq p) ps) none))
 
-  pub answer_changed : (t : Target) → list_any (bytes_eq p) (candidates t) ≡ false → answer m (changed f p now) t ≡ answer m f t
+  pub answer_changed : (t : Target) → list_any (bytes_eq p) (candidates t) ≡ false → answer m (with_bytes_at f p now) t ≡ answer m f t
   unfolding answer
   answer_changed t none = among_changed (candidates t) none
 
   -- it leaves every answer where p offers what it offered
-  among_still : interface_in m f p ≡ interface_in m (changed f p now) p → (ps : List (List ℕ)) → first_of (interface_in m (changed f p now)) ps ≡ first_of (interface_in m f) ps
+  among_still : interface_in m f p ≡ interface_in m (with_bytes_at f p now) p → (ps : List (List ℕ)) → first_of (interface_in m (with_bytes_at f p now)) ps ≡ first_of (interface_in m f) ps
   among_still still [] = refl
   among_still still (q ∷ ps) =
-      ap (λ o. or_else o (first_of (interface_in m (changed f p now)) ps)) (by (bytes_eq q p) refl)
-      ∙ ap (or_else (interface_in m f q)) (among_still still ps)
+      ap (λ o. option_or o (first_of (interface_in m (with_bytes_at f p now)) ps)) (by (bytes_eq q p) refl)
+      ∙ ap (option_or (interface_in m f q)) (among_still still ps)
     where
-      by : (t : Bool) → bytes_eq q p ≡ t → interface_in m (changed f p now) q ≡ interface_in m f q
-      by true a = subst (λ (x : List ℕ). interface_in m (changed f p now) x ≡ interface_in m f x) (sym (bytes_same q p a)) (sym still)
+      by : (t : Bool) → bytes_eq q p ≡ t → interface_in m (with_bytes_at f p now) q ≡ interface_in m f q
+      by true a = subst (λ (x : List ℕ). interface_in m (with_bytes_at f p now) x ≡ interface_in m f x) (sym (bytes_same q p a)) (sym still)
       by false a = ap (option_map (m.interface q)) (bytes_changed p q f now ordered ∙ cond-false _ _ _ a)
 
-  answer_still : interface_in m f p ≡ interface_in m (changed f p now) p → (t : Target) → answer m (changed f p now) t ≡ answer m f t
+  answer_still : interface_in m f p ≡ interface_in m (with_bytes_at f p now) p → (t : Target) → answer m (with_bytes_at f p now) t ≡ answer m f t
   unfolding answer
   answer_still still t = among_still still (candidates t)
 
   module _ (eq : I → I → Bool) (itself : (x : I) → eq x x ≡ true) where
-    same_as_itself : (o : Option I) → same_answer eq o o ≡ true
+    same_as_itself : (o : Option I) → option_eq eq o o ≡ true
     same_as_itself None = refl
     same_as_itself (Some x) = itself x
 
-    pub same_answers : (ts : List Target) → is_candidate ts p ≡ false → list_all (λ t. same_answer eq (answer m f t) (answer m (changed f p now) t)) ts ≡ true
+    pub same_answers : (ts : List Target) → is_candidate ts p ≡ false → list_all (λ t. option_eq eq (answer m f t) (answer m (with_bytes_at f p now) t)) ts ≡ true
     same_answers [] none = refl
     same_answers (t ∷ ts) none =
-        let here : answer m (changed f p now) t ≡ answer m f t = answer_changed t (or_left (list_any (bytes_eq p) (candidates t)) (is_candidate ts p) none) in
-        let first : same_answer eq (answer m f t) (answer m (changed f p now) t) ≡ true = ap (same_answer eq (answer m f t)) here ∙ same_as_itself (answer m f t) in
-        ap (λ b. b && list_all (λ t. same_answer eq (answer m f t) (answer m (changed f p now) t)) ts) first
+        let here : answer m (with_bytes_at f p now) t ≡ answer m f t = answer_changed t (or_left (list_any (bytes_eq p) (candidates t)) (is_candidate ts p) none) in
+        let first : option_eq eq (answer m f t) (answer m (with_bytes_at f p now) t) ≡ true = ap (option_eq eq (answer m f t)) here ∙ same_as_itself (answer m f t) in
+        ap (λ b. b && list_all (λ t. option_eq eq (answer m f t) (answer m (with_bytes_at f p now) t)) ts) first
         ∙ same_answers ts (or_right (list_any (bytes_eq p) (candidates t)) (is_candidate ts p) none)
 
     -- a file at another path is affected just where one of its calls has another answer
     pub affected_other : (q b : List ℕ) → bytes_eq q p ≡ false → bytes_at f q ≡ Some b
-        → is_affected eq m f (changed f p now) q ≡ not (list_all (λ t. same_answer eq (answer m f t) (answer m (changed f p now) t)) (m.calls q b))
+        → is_affected eq m f (with_bytes_at f p now) q ≡ not (list_all (λ t. option_eq eq (answer m f t) (answer m (with_bytes_at f p now) t)) (m.calls q b))
     unfolding is_untouched
     affected_other q b far there =
-        let new : bytes_at (changed f p now) q ≡ Some b = bytes_changed p q f now ordered ∙ cond-false _ _ _ far ∙ there in
-        ap (λ (o : Option (List ℕ)). option_map_or (λ x. not (is_untouched eq m f (changed f p now) q x)) o false) new
-        ∙ ap (λ (o : Option (List ℕ)). not (is_same_text o b && list_all (λ t. same_answer eq (answer m f t) (answer m (changed f p now) t)) (m.calls q b))) there
-        ∙ ap (λ s. not (s && list_all (λ t. same_answer eq (answer m f t) (answer m (changed f p now) t)) (m.calls q b))) (bytes_self b)
+        let new : bytes_at (with_bytes_at f p now) q ≡ Some b = bytes_changed p q f now ordered ∙ cond-false _ _ _ far ∙ there in
+        ap (λ (o : Option (List ℕ)). option_map_or (λ x. not (is_untouched eq m f (with_bytes_at f p now) q x)) o false) new
+        ∙ ap (λ (o : Option (List ℕ)). not (option_eq bytes_eq o (Some b) && list_all (λ t. option_eq eq (answer m f t) (answer m (with_bytes_at f p now) t)) (m.calls q b))) there
+        ∙ ap (λ s. not (s && list_all (λ t. option_eq eq (answer m f t) (answer m (with_bytes_at f p now) t)) (m.calls q b))) (bytes_self b)
 
     -- a file at another path that is in no folder is not affected
-    pub affected_absent : (q : List ℕ) → bytes_eq q p ≡ false → bytes_at f q ≡ None → is_affected eq m f (changed f p now) q ≡ false
-    affected_absent q far none = ap (λ (o : Option (List ℕ)). option_map_or (λ x. not (is_untouched eq m f (changed f p now) q x)) o false)
+    pub affected_absent : (q : List ℕ) → bytes_eq q p ≡ false → bytes_at f q ≡ None → is_affected eq m f (with_bytes_at f p now) q ≡ false
+    affected_absent q far none = ap (λ (o : Option (List ℕ)). option_map_or (λ x. not (is_untouched eq m f (with_bytes_at f p now) q x)) o false)
         (bytes_changed p q f now ordered ∙ cond-false _ _ _ far ∙ none)
 
     -- one that has no call with the candidate p is not affected
     pub affected_stranger : (q : List ℕ) → bytes_eq q p ≡ false → option_map_or (λ b. is_candidate (m.calls q b) p) (bytes_at f q) false ≡ false
-        → is_affected eq m f (changed f p now) q ≡ false
+        → is_affected eq m f (with_bytes_at f p now) q ≡ false
     affected_stranger q far stranger = by (bytes_at f q) refl
       where
-        by : (o : Option (List ℕ)) → bytes_at f q ≡ o → is_affected eq m f (changed f p now) q ≡ false
+        by : (o : Option (List ℕ)) → bytes_at f q ≡ o → is_affected eq m f (with_bytes_at f p now) q ≡ false
         by None none = affected_absent q far none
         by (Some b) there =
             let s : is_candidate (m.calls q b) p ≡ false = sym (ap (λ (o : Option (List ℕ)). option_map_or (λ b. is_candidate (m.calls q b) p) o false) there) ∙ stranger in
             affected_other q b far there ∙ ap not (same_answers (m.calls q b) s)
 
-    still_answers : interface_in m f p ≡ interface_in m (changed f p now) p → (ts : List Target) → list_all (λ t. same_answer eq (answer m f t) (answer m (changed f p now) t)) ts ≡ true
+    still_answers : interface_in m f p ≡ interface_in m (with_bytes_at f p now) p → (ts : List Target) → list_all (λ t. option_eq eq (answer m f t) (answer m (with_bytes_at f p now) t)) ts ≡ true
     still_answers still [] = refl
     still_answers still (t ∷ ts) =
-        let first : same_answer eq (answer m f t) (answer m (changed f p now) t) ≡ true = ap (same_answer eq (answer m f t)) (answer_still still t) ∙ same_as_itself (answer m f t) in
-        ap (λ b. b && list_all (λ t. same_answer eq (answer m f t) (answer m (changed f p now) t)) ts) first ∙ still_answers still ts
+        let first : option_eq eq (answer m f t) (answer m (with_bytes_at f p now) t) ≡ true = ap (option_eq eq (answer m f t)) (answer_still still t) ∙ same_as_itself (answer m f t) in
+        ap (λ b. b && list_all (λ t. option_eq eq (answer m f t) (answer m (with_bytes_at f p now) t)) ts) first ∙ still_answers still ts
 
     -- no file at another path is affected where p offers what it offered
-    pub none_affected : interface_in m f p ≡ interface_in m (changed f p now) p → (q : List ℕ) → not (bytes_eq q p) && is_affected eq m f (changed f p now) q ≡ false
+    pub none_affected : interface_in m f p ≡ interface_in m (with_bytes_at f p now) p → (q : List ℕ) → not (bytes_eq q p) && is_affected eq m f (with_bytes_at f p now) q ≡ false
     none_affected still q = by (bytes_eq q p) refl (bytes_at f q) refl
       where
-        by : (t : Bool) → bytes_eq q p ≡ t → (o : Option (List ℕ)) → bytes_at f q ≡ o → not (bytes_eq q p) && is_affected eq m f (changed f p now) q ≡ false
-        by true a o there = ap (λ t. not t && is_affected eq m f (changed f p now) q) a
-        by false a None none = ap (λ t. not t && is_affected eq m f (changed f p now) q) a ∙ affected_absent q a none
-        by false a (Some b) there = ap (λ t. not t && is_affected eq m f (changed f p now) q) a ∙ affected_other q b a there ∙ ap not (still_answers still (m.calls q b))
+        by : (t : Bool) → bytes_eq q p ≡ t → (o : Option (List ℕ)) → bytes_at f q ≡ o → not (bytes_eq q p) && is_affected eq m f (with_bytes_at f p now) q ≡ false
+        by true a o there = ap (λ t. not t && is_affected eq m f (with_bytes_at f p now) q) a
+        by false a None none = ap (λ t. not t && is_affected eq m f (with_bytes_at f p now) q) a ∙ affected_absent q a none
+        by false a (Some b) there = ap (λ t. not t && is_affected eq m f (with_bytes_at f p now) q) a ∙ affected_other q b a there ∙ ap not (still_answers still (m.calls q b))
 
     -- the same, where it is known whether the answers are the same
-    pub touched_is : (q b : List ℕ) (r : Bool) → bytes_eq q p ≡ false → bytes_at f q ≡ Some b → r ≡ list_all (λ t. same_answer eq (answer m f t) (answer m (changed f p now) t)) (m.calls q b)
-        → not (bytes_eq q p) && is_affected eq m f (changed f p now) q ≡ not r
-    touched_is q b r far there h = ap (λ t. not t && is_affected eq m f (changed f p now) q) far ∙ affected_other q b far there ∙ ap not (sym h)
+    pub touched_is : (q b : List ℕ) (r : Bool) → bytes_eq q p ≡ false → bytes_at f q ≡ Some b → r ≡ list_all (λ t. option_eq eq (answer m f t) (answer m (with_bytes_at f p now) t)) (m.calls q b)
+        → not (bytes_eq q p) && is_affected eq m f (with_bytes_at f p now) q ≡ not r
+    touched_is q b r far there h = ap (λ t. not t && is_affected eq m f (with_bytes_at f p now) q) far ∙ affected_other q b far there ∙ ap not (sym h)
 
-    pub absent_is : (q : List ℕ) → bytes_at f q ≡ None → not (bytes_eq q p) && is_affected eq m f (changed f p now) q ≡ false
+    pub absent_is : (q : List ℕ) → bytes_at f q ≡ None → not (bytes_eq q p) && is_affected eq m f (with_bytes_at f p now) q ≡ false
     absent_is q none = by (bytes_eq q p) refl
       where
-        by : (t : Bool) → bytes_eq q p ≡ t → not (bytes_eq q p) && is_affected eq m f (changed f p now) q ≡ false
-        by true a = ap (λ t. not t && is_affected eq m f (changed f p now) q) a
-        by false a = ap (λ t. not t && is_affected eq m f (changed f p now) q) a ∙ affected_absent q a none
+        by : (t : Bool) → bytes_eq q p ≡ t → not (bytes_eq q p) && is_affected eq m f (with_bytes_at f p now) q ≡ false
+        by true a = ap (λ t. not t && is_affected eq m f (with_bytes_at f p now) q) a
+        by false a = ap (λ t. not t && is_affected eq m f (with_bytes_at f p now) q) a ∙ affected_absent q a none
 
     -- the file that is put is affected where it has not these bytes
-    pub affected_itself : (q : List ℕ) (now2 : Option (List ℕ)) → now2 ≡ now → bytes_eq q p ≡ true → (now ≡ bytes_at f p → ⊥) → is_affected eq m f (changed f p now) q ≡ is_some now2
+    pub affected_itself : (q : List ℕ) (now2 : Option (List ℕ)) → now2 ≡ now → bytes_eq q p ≡ true → (now ≡ bytes_at f p → ⊥) → is_affected eq m f (with_bytes_at f p now) q ≡ is_some now2
     unfolding is_untouched
     affected_itself q None e same other = ap
-        (λ (o : Option (List ℕ)). option_map_or (λ x. not (is_untouched eq m f (changed f p now) q x)) o false)
+        (λ (o : Option (List ℕ)). option_map_or (λ x. not (is_untouched eq m f (with_bytes_at f p now) q x)) o false)
         (bytes_changed p q f now ordered ∙ cond-true _ _ _ same ∙ sym e)
     affected_itself q (Some b) e same other =
-        ap (λ (o : Option (List ℕ)). option_map_or (λ x. not (is_untouched eq m f (changed f p now) q x)) o false) (bytes_changed p q f now ordered ∙ cond-true _ _ _ same ∙ sym e)
-        ∙ ap (λ s. not (s && list_all (λ t. same_answer eq (answer m f t) (answer m (changed f p now) t)) (m.calls q b))) (text (bytes_at f q) refl)
+        ap (λ (o : Option (List ℕ)). option_map_or (λ x. not (is_untouched eq m f (with_bytes_at f p now) q x)) o false) (bytes_changed p q f now ordered ∙ cond-true _ _ _ same ∙ sym e)
+        ∙ ap (λ s. not (s && list_all (λ t. option_eq eq (answer m f t) (answer m (with_bytes_at f p now) t)) (m.calls q b))) (text (bytes_at f q) refl)
       where
-        text : (o : Option (List ℕ)) → bytes_at f q ≡ o → is_same_text (bytes_at f q) b ≡ false
-        text None a = ap (λ o. is_same_text o b) a
-        text (Some a) h = ap (λ o. is_same_text o b) h ∙ by (bytes_eq a b) refl
+        text : (o : Option (List ℕ)) → bytes_at f q ≡ o → option_eq bytes_eq (bytes_at f q) (Some b) ≡ false
+        text None a = ap (λ o. option_eq bytes_eq o (Some b)) a
+        text (Some a) h = ap (λ o. option_eq bytes_eq o (Some b)) h ∙ by (bytes_eq a b) refl
           where
             by : (t : Bool) → bytes_eq a b ≡ t → bytes_eq a b ≡ false
             by false z = z
@@ -163,7 +163,7 @@ module _ {I : Type 0} (m : Meaning I) (p : List ℕ) (f : Folder) (now : Option 
 
     -- the path of the change, and those of its callers that it affects, are all that it affects
     pub affected_members : (q : List ℕ) (any : Bool) → any ≡ option_map_or (λ b. is_candidate (m.calls q b) p) (bytes_at f q) false → (now ≡ bytes_at f p → ⊥)
-        → (any && (not (bytes_eq q p) && is_affected eq m f (changed f p now) q)) || is_among q (cond (is_some now) (p ∷ []) []) ≡ is_affected eq m f (changed f p now) q
+        → (any && (not (bytes_eq q p) && is_affected eq m f (with_bytes_at f p now) q)) || is_among q (cond (is_some now) (p ∷ []) []) ≡ is_affected eq m f (with_bytes_at f p now) q
     affected_members q any calls other = by (bytes_eq q p) any refl calls
       where
         and_false : (b : Bool) → b && false ≡ false
@@ -183,13 +183,13 @@ module _ {I : Type 0} (m : Meaning I) (p : List ℕ) (f : Folder) (now : Option 
         and_true false = refl
 
         by : (t any2 : Bool) → bytes_eq q p ≡ t → any2 ≡ option_map_or (λ b. is_candidate (m.calls q b) p) (bytes_at f q) false
-            → (any2 && (not (bytes_eq q p) && is_affected eq m f (changed f p now) q)) || is_among q (cond (is_some now) (p ∷ []) []) ≡ is_affected eq m f (changed f p now) q
+            → (any2 && (not (bytes_eq q p) && is_affected eq m f (with_bytes_at f p now) q)) || is_among q (cond (is_some now) (p ∷ []) []) ≡ is_affected eq m f (with_bytes_at f p now) q
         by true any2 a e =
-            ap (λ t. (any2 && (not t && is_affected eq m f (changed f p now) q)) || is_among q (cond (is_some now) (p ∷ []) [])) a
+            ap (λ t. (any2 && (not t && is_affected eq m f (with_bytes_at f p now) q)) || is_among q (cond (is_some now) (p ∷ []) [])) a
             ∙ ap (λ t. t || is_among q (cond (is_some now) (p ∷ []) [])) (and_false any2) ∙ first true (is_some now) a ∙ and_true (is_some now) ∙ sym (affected_itself q now refl a other)
         by false true a e =
-            ap (λ t. (not t && is_affected eq m f (changed f p now) q) || is_among q (cond (is_some now) (p ∷ []) [])) a
-            ∙ ap (λ t. is_affected eq m f (changed f p now) q || t) (first false (is_some now) a ∙ and_false (is_some now)) ∙ or_false _
+            ap (λ t. (not t && is_affected eq m f (with_bytes_at f p now) q) || is_among q (cond (is_some now) (p ∷ []) [])) a
+            ∙ ap (λ t. is_affected eq m f (with_bytes_at f p now) q || t) (first false (is_some now) a ∙ and_false (is_some now)) ∙ or_false _
         by false false a e = first false (is_some now) a ∙ and_false (is_some now) ∙ sym (affected_stranger q a (sym e))
 
 -- Strictly sorted lists with the same members are the same
@@ -361,17 +361,17 @@ members_more q n p aff old new e = ap (is_among q) e ∙ by (not (bytes_eq n p) 
     by false a = ap (λ t. is_among q (cond t (with_one (slice_cmp nat_cmp) n old) old)) a ∙ sym (ap (λ t. t || is_among q old) (here false a ∙ and_false (bytes_eq q n)))
 
 module _ {I : Type 0} (eq : I → I → Bool) (m : Meaning I) (f g : Folder) (ordered : IsStrictlySortedBy (slice_cmp nat_cmp) (paths_of g)) where
-  pub affected_sorted : IsStrictlySortedBy (slice_cmp nat_cmp) (affected eq m f g)
-  unfolding affected
+  pub affected_sorted : IsStrictlySortedBy (slice_cmp nat_cmp) (affected_paths eq m f g)
+  unfolding affected_paths
   affected_sorted = sorted_kept (λ e. not (is_untouched eq m f g e.0 e.1)) g ordered
 
-  pub affected_member : (q : List ℕ) → is_among q (affected eq m f g) ≡ is_affected eq m f g q
-  unfolding affected
+  pub affected_member : (q : List ℕ) → is_among q (affected_paths eq m f g) ≡ is_affected eq m f g q
+  unfolding affected_paths
   affected_member q = member_kept (λ e. not (is_untouched eq m f g e.0 e.1)) g q ordered
 
   -- the paths in order that have just the affected files
-  pub affected_is : (paths : List (List ℕ)) → IsStrictlySortedBy (slice_cmp nat_cmp) paths → ((q : List ℕ) → is_among q paths ≡ is_affected eq m f g q) → paths ≡ affected eq m f g
-  affected_is paths s members = same_members paths (affected eq m f g) s affected_sorted (λ q. members q ∙ sym (affected_member q))
+  pub affected_is : (paths : List (List ℕ)) → IsStrictlySortedBy (slice_cmp nat_cmp) paths → ((q : List ℕ) → is_among q paths ≡ is_affected eq m f g q) → paths ≡ affected_paths eq m f g
+  affected_is paths s members = same_members paths (affected_paths eq m f g) s affected_sorted (λ q. members q ∙ sym (affected_member q))
 
 module _ (T : Target → Bool) where
   pub all_next : (ts : List Target) (i : ℕ) (t : Target) → i < length ts → t ≡ get_or ts i t → list_all T (take i ts) ≡ true → T t ≡ true → list_all T (take (i + 1) ts) ≡ true
@@ -429,7 +429,7 @@ sorted_gone p (e ∷ es) s = by (is_eq (slice_cmp nat_cmp p e.0)) refl (all_gone
     by true a all rest = subst (λ (l : Folder). IsStrictlySortedBy (slice_cmp nat_cmp) (paths_of l)) (sym (cond-true _ es (e ∷ without_file es p) a)) s.1
     by false a all rest = subst (λ (l : Folder). IsStrictlySortedBy (slice_cmp nat_cmp) (paths_of l)) (sym (cond-false _ es (e ∷ without_file es p) a)) (all, rest)
 
-pub changed_sorted : (p : List ℕ) (f : Folder) (now : Option (List ℕ)) → IsStrictlySortedBy (slice_cmp nat_cmp) (paths_of f) → IsStrictlySortedBy (slice_cmp nat_cmp) (paths_of (changed f p now))
+pub changed_sorted : (p : List ℕ) (f : Folder) (now : Option (List ℕ)) → IsStrictlySortedBy (slice_cmp nat_cmp) (paths_of f) → IsStrictlySortedBy (slice_cmp nat_cmp) (paths_of (with_bytes_at f p now))
 changed_sorted p f None s = sorted_gone p f s
 changed_sorted p f (Some b) s = sorted_put p f b s
 
@@ -444,20 +444,21 @@ module _ {I : Type 0} (m : Meaning I) (eq : I → I → Bool) (itself : (x : I) 
   and_swap false false = refl
 
   pub affected_found : (start paths : List (List ℕ)) → start ≡ cond (is_some now) (p ∷ []) [] → IsStrictlySortedBy (slice_cmp nat_cmp) paths
-      → ((q : List ℕ) → is_among q paths ≡ ((not (bytes_eq q p) && is_affected eq m f (changed f p now) q) && any q) || is_among q start) → paths ≡ affected eq m f (changed f p now)
-  affected_found start paths e s members = affected_is eq m f (changed f p now) (changed_sorted p f now ordered) paths s
-      (λ q. members q ∙ ap (λ t. t || is_among q start) (and_swap (not (bytes_eq q p) && is_affected eq m f (changed f p now) q) (any q))
-      ∙ ap (λ l. (any q && (not (bytes_eq q p) && is_affected eq m f (changed f p now) q)) || is_among q l) e ∙ affected_members m p f now ordered eq itself q (any q) (calls q) other)
+      → ((q : List ℕ) → is_among q paths ≡ ((not (bytes_eq q p) && is_affected eq m f (with_bytes_at f p now) q) && any q) || is_among q start) → paths ≡ affected_paths eq m f (with_bytes_at f p now)
+  affected_found start paths e s members = affected_is eq m f (with_bytes_at f p now) (changed_sorted p f now ordered) paths s
+      (λ q. members q ∙ ap (λ t. t || is_among q start) (and_swap (not (bytes_eq q p) && is_affected eq m f (with_bytes_at f p now) q) (any q))
+      ∙ ap (λ l. (any q && (not (bytes_eq q p) && is_affected eq m f (with_bytes_at f p now) q)) || is_among q l) e ∙ affected_members m p f now ordered eq itself q (any q) (calls q) other)
 
-  pub affected_none : (start : List (List ℕ)) → start ≡ cond (is_some now) (p ∷ []) [] → ((q : List ℕ) → any q ≡ false) → start ≡ affected eq m f (changed f p now)
+  pub affected_none : (start : List (List ℕ)) → start ≡ cond (is_some now) (p ∷ []) [] → ((q : List ℕ) → any q ≡ false) → start ≡ affected_paths eq m f (with_bytes_at f p now)
   affected_none start e none = affected_found start start e (start_sorted (is_some now) p start e)
-      (λ q. sym (ap (λ t. ((not (bytes_eq q p) && is_affected eq m f (changed f p now) q) && t) || is_among q start) (none q) ∙ ap (λ t. t || is_among q start) (and_swap _ false)))
+      (λ q. sym (ap (λ t. ((not (bytes_eq q p) && is_affected eq m f (with_bytes_at f p now) q) && t) || is_among q start) (none q) ∙ ap (λ t. t || is_among q start) (and_swap _ false)))
 
-  pub affected_still : (start : List (List ℕ)) → start ≡ cond (is_some now) (p ∷ []) [] → interface_in m f p ≡ interface_in m (changed f p now) p → start ≡ affected eq m f (changed f p now)
+  pub affected_still : (start : List (List ℕ)) → start ≡ cond (is_some now) (p ∷ []) []
+      → interface_in m f p ≡ interface_in m (with_bytes_at f p now) p → start ≡ affected_paths eq m f (with_bytes_at f p now)
   affected_still start e still = affected_found start start e (start_sorted (is_some now) p start e)
       (λ q. sym (ap (λ t. (t && any q) || is_among q start) (none_affected m p f now ordered eq itself still q)))
 
-pub same_answer_exact : {I : Type 0} (eq : I → I → Bool) → ((x y : I) → eq x y ≡ true → x ≡ y) → (a b : Option I) → same_answer eq a b ≡ true → a ≡ b
+pub same_answer_exact : {I : Type 0} (eq : I → I → Bool) → ((x y : I) → eq x y ≡ true → x ≡ y) → (a b : Option I) → option_eq eq a b ≡ true → a ≡ b
 same_answer_exact eq exact None None h = refl
 same_answer_exact eq exact (Some x) (Some y) h = ap Some (exact x y h)
 same_answer_exact eq exact None (Some y) h = absurd (wrong h)

@@ -4,13 +4,13 @@ use Rattle.std.proofs.lemmas.List.{map_push, map_more}
 use Rattle.al_base.specs.declared.faults.Fault.{Fault}
 use Rattle.al_session_folder.specs.Meaning.{Meaning}
 use Rattle.al_base.specs.Counted.{raised}
-use Rattle.al_session_folder.specs.Folder.{Folder, interface_in, or_else, answer, faults_in, bytes_at}
+use Rattle.al_session_folder.specs.Folder.{Folder, interface_in, answer, faults_in, bytes_at}
 use Rattle.al_session_folder.specs.Kept.{faults_of}
-use Rattle.std.specs.Option.{option_map_or}
+use Rattle.std.specs.Option.{option_map_or, option_or}
 use Rattle.al_session_folder.specs.declared.lint.Target.{Target}
 use Rattle.al_session_folder.specs.declared.lint.Target.TheVariants.{Only, FirstOf}
 
-or_none : {T : Type 0} (o : Option T) → or_else o None ≡ o
+or_none : {T : Type 0} (o : Option T) → option_or o None ≡ o
 or_none None = refl
 or_none (Some x) = refl
 
@@ -19,9 +19,9 @@ module _ {I : Type 0} (m : Meaning I) (f : Folder) where
   unfolding answer
   answer-Only t p h = rw h (sym (or_none (interface_in m f p)))
 
-  pub answer-FirstOf : (t : Target) (p q : List ℕ) → t ≡ FirstOf p q → or_else (interface_in m f p) (interface_in m f q) ≡ answer m f t
+  pub answer-FirstOf : (t : Target) (p q : List ℕ) → t ≡ FirstOf p q → option_or (interface_in m f p) (interface_in m f q) ≡ answer m f t
   unfolding answer
-  answer-FirstOf t p q h = rw h (ap (or_else (interface_in m f p)) (sym (or_none (interface_in m f q))))
+  answer-FirstOf t p q h = rw h (ap (option_or (interface_in m f p)) (sym (or_none (interface_in m f q))))
 
 -- what a check answers are the file's faults, where it was given the answers of its calls
 pub check_is : {I : Type 0} (m : Meaning I) (f : Folder) (p b b1 : List ℕ) (targets : List Target) (given : List (Option I)) (faults : List Fault)

@@ -26,14 +26,14 @@ use Rattle.al_base.specs.Spans.{LiesIn}
 use Rattle.al_base.specs.declared.faults.Fault.{Fault}
 use Rattle.al_session_folder.specs.Meaning.{Meaning}
 use Rattle.al_session_folder.specs.Folder.{Folder, answers, faults_in}
-use Rattle.al_session_folder.specs.Kept.{Files, folder_of, referred, AllKept}
-use Rattle.al_session_folder.specs.Loops.{calls_graph, called, leads_back, loop_faults, reported}
+use Rattle.al_session_folder.specs.Kept.{Files, folder_of, referents, AllKept}
+use Rattle.al_session_folder.specs.Loops.{calls_graph, callee, leads_back, loop_faults, report_faults}
 use Rattle.al_session_folder.specs.declared.kept.KeptFile.{KeptFile}
 use Rattle.al_session_folder.specs.declared.lint.Target.{Target}
 use Rattle.al_session_folder.proofs.Looping.{fault_if, kept_number, looping}
 use Rattle.al_session_folder.specs.Report.{status_of, report_of}
 use Rattle.al_session_folder.specs.Checked.{AllChecked}
-use Rattle.al_session_folder.specs.Printing.{AreNumbered, ArePrintable, joined_faults, listed, numbered_lines}
+use Rattle.al_session_folder.specs.Printing.{AreNumbered, ArePrintable, joined_faults, joined_or_own, numbered_lines}
 use Rattle.al_session_folder.proofs.Reports.{any_fault}
 
 -- ---- faults that are joined
@@ -50,8 +50,8 @@ checked_number m f (x ∷ xs) (suc i) e h at = checked_number m f xs i e h.1 at
 
 module _ {I : Type 0} (m : Meaning I) (ordered : (p b : List ℕ) (given : List (Option I)) → IsStrictlySortedBy fault_cmp (m.faults p b given)) (f : Folder) where
   -- where no call is on a cycle, a file's own faults are listed
-  pub own_reported : (i : ℕ) (p b : List ℕ) (faults : List Fault) → faults ≡ faults_in m f p b → loop_faults m f i p b ≡ [] → faults ≡ reported m f i p b
-  unfolding reported faults_in
+  pub own_reported : (i : ℕ) (p b : List ℕ) (faults : List Fault) → faults ≡ faults_in m f p b → loop_faults m f i p b ≡ [] → faults ≡ report_faults m f i p b
+  unfolding report_faults faults_in
   own_reported i p b faults is none =
       is ∙ sym (ap (λ l. fault_list (l ++ m.faults p b (answers m f p b))) none ∙ fault_list-sorted (m.faults p b (answers m f p b)) (ordered p b (answers m f p b)))
 
@@ -71,14 +71,14 @@ module _ {I : Type 0} (m : Meaning I) (f : Folder) (i : ℕ) (size : ℕ) where
   looping_inside [] ss h = tt
   looping_inside (t ∷ ts) [] h = tt
   looping_inside (t ∷ ts) (s ∷ ss) h =
-      all_one _ (fault_if (leads_back (calls_graph m f) i (called f t)) s) (looping (calls_graph m f) f i ts ss)
-      (one_inside (leads_back (calls_graph m f) i (called f t)) s h.0) (looping_inside ts ss h.1)
+      all_one _ (fault_if (leads_back (calls_graph m f) i (callee f t)) s) (looping (calls_graph m f) f i ts ss)
+      (one_inside (leads_back (calls_graph m f) i (callee f t)) s h.0) (looping_inside ts ss h.1)
 
 module _ {I : Type 0} (m : Meaning I)
     (inside : (p b : List ℕ) (given : List (Option I)) → length b ≤ 1048576 → AllByRecursion (λ (fault : Fault). LiesIn (length b) fault.span) (m.faults p b given))
     (sites : (p b : List ℕ) → length b ≤ 1048576 → AllByRecursion (λ (s : Fault). LiesIn (length b) s.span) (m.sites p b)) where
-  reported_inside : (f : Folder) (i : ℕ) (p b : List ℕ) → length b ≤ 1048576 → AllByRecursion (λ (fault : Fault). LiesIn (length b) fault.span) (reported m f i p b)
-  unfolding reported faults_in
+  reported_inside : (f : Folder) (i : ℕ) (p b : List ℕ) → length b ≤ 1048576 → AllByRecursion (λ (fault : Fault). LiesIn (length b) fault.span) (report_faults m f i p b)
+  unfolding report_faults faults_in
   reported_inside f i p b small =
       AllByRecursion-fault_list (λ (fault : Fault). LiesIn (length b) fault.span) (loop_faults m f i p b ++ m.faults p b (answers m f p b))
       (all_one _ (loop_faults m f i p b) (m.faults p b (answers m f p b)) (looping_inside m f i (length b) (m.calls p b) (m.sites p b) (sites p b small)) (inside p b (answers m f p b) small))
@@ -92,10 +92,10 @@ module _ {I : Type 0} (m : Meaning I)
 
 lines_from : {U I : Type 0} (m : Meaning I) (f : Folder) (oneline : Bool) (n : ℕ) (es : Files U I) →
     flat_map (numbered_lines oneline m f) (enumerate_from n es)
-    ≡ flat_map (λ x. flat_map (fault_text oneline x.1.0 x.1.1) (reported m f x.0 x.1.0 x.1.1)) (enumerate_from n (folder_of es))
+    ≡ flat_map (λ x. flat_map (fault_text oneline x.1.0 x.1.1) (report_faults m f x.0 x.1.0 x.1.1)) (enumerate_from n (folder_of es))
 lines_from m f oneline n [] = refl
 lines_from m f oneline n (e ∷ es) =
-    ap (λ l. flat_map (fault_text oneline (string_bytes e.0) e.1.bytes.items) (reported m f n (string_bytes e.0) e.1.bytes.items) ++ l) (lines_from m f oneline (n + 1) es)
+    ap (λ l. flat_map (fault_text oneline (string_bytes e.0) e.1.bytes.items) (report_faults m f n (string_bytes e.0) e.1.bytes.items) ++ l) (lines_from m f oneline (n + 1) es)
 
 pub report_is : {U I : Type 0} (m : Meaning I) (files : Files U I) (oneline : Bool) →
     flat_map (numbered_lines oneline m (folder_of files)) (enumerate_from 0 files) ≡ report_of oneline m (folder_of files)
@@ -152,9 +152,9 @@ module _ {U I : Type 0} (m : Meaning I) (files : Files U I) (checked : AllChecke
   abbrev LoopAt : ℕ × (List ℕ × List ℕ) → Bool
   LoopAt x = not (length (loop_faults m (folder_of files) x.0 x.1.0 x.1.1) == 0)
 
-  any_reported : list_any (λ (x : ℕ × (List ℕ × List ℕ)). not (length (reported m (folder_of files) x.0 x.1.0 x.1.1) == 0)) (enumerate_from 0 (folder_of files))
+  any_reported : list_any (λ (x : ℕ × (List ℕ × List ℕ)). not (length (report_faults m (folder_of files) x.0 x.1.0 x.1.1) == 0)) (enumerate_from 0 (folder_of files))
       ≡ (list_any LoopAt (enumerate_from 0 (folder_of files)) || list_any (λ (e : String Global × KeptFile U I). not (length e.1.faults.items == 0)) files)
-  unfolding reported
+  unfolding report_faults
   any_reported =
       either_any LoopAt (λ x. not (length (faults_in m (folder_of files) x.1.0 x.1.1) == 0)) _ (enumerate_from 0 (folder_of files))
       (λ x. some_in_order (loop_faults m (folder_of files) x.0 x.1.0 x.1.1 ++ faults_in m (folder_of files) x.1.0 x.1.1)
@@ -183,17 +183,17 @@ module _ {U I : Type 0} (m : Meaning I) (files : Files U I) (checked : AllChecke
 -- ---- faults in order by references to them
 
 pub ordered_faults : (xs sorted out : List (Bor Fault)) → IsPermutation xs sorted → IsSorted (λ x y. derived.ghosts.cmp x.now y.now) sorted →
-    out ≡ dedup (λ (x y : Bor Fault). derived_eq.ghosts.eq x.now y.now) sorted → referred out ≡ fault_list (referred xs)
+    out ≡ dedup (λ (x y : Bor Fault). derived_eq.ghosts.eq x.now y.now) sorted → referents out ≡ fault_list (referents xs)
 ordered_faults xs sorted out moved by_cmp is =
     ordered_referred fault_cmp_total fault_cmp_same derived_eq.ghosts.eq derived_ties xs sorted out moved
     (subst (λ (cmp : Fault → Fault → Ordering). IsSorted (λ (x y : Bor Fault). cmp x.now y.now) sorted) (λ i x y. derived_is x y i) by_cmp) is
 
 -- what is printed of each fault that is referred to
-pub flat_map-referred : (f : Fault → List ℕ) (xs : List (Bor Fault)) → flat_map (λ (r : Bor Fault). f r.now) xs ≡ flat_map f (referred xs)
+pub flat_map-referred : (f : Fault → List ℕ) (xs : List (Bor Fault)) → flat_map (λ (r : Bor Fault). f r.now) xs ≡ flat_map f (referents xs)
 flat_map-referred f [] = refl
 flat_map-referred f (x ∷ xs) = ap (λ l. f x.now ++ l) (flat_map-referred f xs)
 
-pub all-referred : (P : Fault → Type 0) (xs : List (Bor Fault)) (i : ℕ) (r : Bor Fault) → AllByRecursion P (referred xs) → i < length xs → r ≡ get_or xs i r → P r.now
+pub all-referred : (P : Fault → Type 0) (xs : List (Bor Fault)) (i : ℕ) (r : Bor Fault) → AllByRecursion P (referents xs) → i < length xs → r ≡ get_or xs i r → P r.now
 all-referred P [] i r all lt is = absurd (omega (arith, lt))
 all-referred P (x ∷ xs) zero r all lt is = subst (λ (y : Bor Fault). P y.now) (sym is) all.0
 all-referred P (x ∷ xs) (suc i) r all lt is = all-referred P xs i r all.1 (omega (arith, lt)) is
@@ -201,9 +201,9 @@ all-referred P (x ∷ xs) (suc i) r all lt is = all-referred P xs i r all.1 (ome
 -- a list of the program joins the file's own faults to those of its loops
 pub listed_both : {U I : Type 0} (m : Meaning I) (files : Files U I) (i : ℕ) (e : String Global × KeptFile U I) (all : List Fault)
     (list : List (Bor Fault)) → AllChecked m (folder_of files) files → slice_get files i ≡ Some e →
-    all ≡ e.1.faults.items ++ loop_faults m (folder_of files) i (string_bytes e.0) e.1.bytes.items → referred list ≡ fault_list all →
-    referred list ≡ reported m (folder_of files) i (string_bytes e.0) e.1.bytes.items
-unfolding reported
+    all ≡ e.1.faults.items ++ loop_faults m (folder_of files) i (string_bytes e.0) e.1.bytes.items → referents list ≡ fault_list all →
+    referents list ≡ report_faults m (folder_of files) i (string_bytes e.0) e.1.bytes.items
+unfolding report_faults
 listed_both m files i e all list checked at a o =
     let own = faults_in m (folder_of files) (string_bytes e.0) e.1.bytes.items in
     let looping = loop_faults m (folder_of files) i (string_bytes e.0) e.1.bytes.items in
@@ -213,22 +213,22 @@ listed_both m files i e all list checked at a o =
 -- what is listed of a file
 module _ {U I : Type 0} (m : Meaning I) (ordered : (p b : List ℕ) (given : List (Option I)) → IsStrictlySortedBy fault_cmp (m.faults p b given)) (files : Files U I) (i : ℕ)
     (e : String Global × KeptFile U I) (own loops : List Fault) (joined : List (Bor Fault)) (checked : AllChecked m (folder_of files) files) (at : slice_get files i ≡ Some e)
-    (is : own ≡ e.1.faults.items) (all : loops ≡ loop_faults m (folder_of files) i (string_bytes e.0) e.1.bytes.items) (now : referred joined ≡ joined_faults own loops) where
-  none_listed : loops ≡ [] → listed e.1 joined ≡ reported m (folder_of files) i (string_bytes e.0) e.1.bytes.items
+    (is : own ≡ e.1.faults.items) (all : loops ≡ loop_faults m (folder_of files) i (string_bytes e.0) e.1.bytes.items) (now : referents joined ≡ joined_faults own loops) where
+  none_listed : loops ≡ [] → joined_or_own e.1 joined ≡ report_faults m (folder_of files) i (string_bytes e.0) e.1.bytes.items
   none_listed none =
-      let empty : referred joined ≡ [] = now ∙ ap (joined_faults own) none in
-      let n : length (referred joined) ≡ length joined = length-map joined (λ (r : Bor Fault). r.now) in
+      let empty : referents joined ≡ [] = now ∙ ap (joined_faults own) none in
+      let n : length (referents joined) ≡ length joined = length-map joined (λ (r : Bor Fault). r.now) in
       let no : (length joined == 0) ≡ true = ap (λ k. k == 0) (sym n ∙ ap length empty) in
-      ap (λ b. cond b e.1.faults.items (referred joined)) no
+      ap (λ b. cond b e.1.faults.items (referents joined)) no
       ∙ own_reported m ordered (folder_of files) i (string_bytes e.0) e.1.bytes.items e.1.faults.items (checked_number m (folder_of files) files i e checked at) (sym all ∙ none)
 
-  some_listed : (length loops == 0) ≡ false → listed e.1 joined ≡ reported m (folder_of files) i (string_bytes e.0) e.1.bytes.items
+  some_listed : (length loops == 0) ≡ false → joined_or_own e.1 joined ≡ report_faults m (folder_of files) i (string_bytes e.0) e.1.bytes.items
   some_listed some =
-      let put : referred joined ≡ fault_list (own ++ loops) = now ∙ ap (λ b. cond b [] (fault_list (own ++ loops))) some in
-      let n : length (referred joined) ≡ length joined = length-map joined (λ (r : Bor Fault). r.now) in
+      let put : referents joined ≡ fault_list (own ++ loops) = now ∙ ap (λ b. cond b [] (fault_list (own ++ loops))) some in
+      let n : length (referents joined) ≡ length joined = length-map joined (λ (r : Bor Fault). r.now) in
       let told : not (length joined == 0) ≡ true =
       ap (λ k. not (k == 0)) (sym n ∙ ap length put) ∙ some_in_order (own ++ loops) ∙ some_of_both own loops ∙ ap (λ b. not (length own == 0) || not b) some ∙ or_true (not (length own == 0)) in
-      ap (λ b. cond b e.1.faults.items (referred joined)) (other (length joined == 0) told)
+      ap (λ b. cond b e.1.faults.items (referents joined)) (other (length joined == 0) told)
       ∙ listed_both m files i e (own ++ loops) joined checked at (ap (λ l. l ++ loops) is ∙ ap (λ l. e.1.faults.items ++ l) all) put
     where
       or_true : (b : Bool) → (b || true) ≡ true
@@ -242,10 +242,10 @@ module _ {U I : Type 0} (m : Meaning I) (ordered : (p b : List ℕ) (given : Lis
           wrong : false ≡ true → ⊥
           wrong h = cc
 
-  pub listed_is : listed e.1 joined ≡ reported m (folder_of files) i (string_bytes e.0) e.1.bytes.items
+  pub listed_is : joined_or_own e.1 joined ≡ report_faults m (folder_of files) i (string_bytes e.0) e.1.bytes.items
   listed_is = by (length loops == 0) refl
     where
-      by : (b : Bool) → (length loops == 0) ≡ b → listed e.1 joined ≡ reported m (folder_of files) i (string_bytes e.0) e.1.bytes.items
+      by : (b : Bool) → (length loops == 0) ≡ b → joined_or_own e.1 joined ≡ report_faults m (folder_of files) i (string_bytes e.0) e.1.bytes.items
       by true none = none_listed (none_of loops none)
       by false some = some_listed some
 

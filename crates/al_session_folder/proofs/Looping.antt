@@ -6,7 +6,7 @@ use Rattle.std.specs.Prelude.{string_bytes, bytes_eq, Contains, IfSome, ◌↔�
 use Rattle.std.specs.Global.{Global}
 use Rattle.std.specs.Bool.{◌==◌}
 use Rattle.std.specs.List.{AllByRecursion, cons_option, enumerate_from, filter_map, flat_map, list_any, position, prefix_len, zip}
-use Rattle.std.specs.Option.{unwrap_or, option_map, option_eq}
+use Rattle.std.specs.Option.{unwrap_or, option_map, option_eq, option_or}
 use Rattle.std.proofs.lemmas.Bool.{cases_lt}
 use Rattle.std.proofs.lemmas.Bool.Decides.{nat_tests}
 use Rattle.std.proofs.lemmas.List.{drop_more, drop_all, get_or_past, length-map, take_more, map-append}
@@ -22,9 +22,9 @@ use Rattle.al_graph.proofs.Edges.{edges_at}
 use Rattle.al_graph.proofs.Lists.{none_in}
 use Rattle.al_graph.proofs.OneWay.{no_loop_before, no_loop_behind, part_tells}
 use Rattle.al_session_folder.specs.Meaning.{Meaning, candidates}
-use Rattle.al_session_folder.specs.Folder.{Folder, first_of, or_else, paths_of}
+use Rattle.al_session_folder.specs.Folder.{Folder, first_of, paths_of}
 use Rattle.al_session_folder.specs.Kept.{Files, folder_of, entry_of, AllKept, AreKept, IsKept}
-use Rattle.al_session_folder.specs.Loops.{called, calls_graph, leads_back, loop_faults, number_of}
+use Rattle.al_session_folder.specs.Loops.{callee, calls_graph, leads_back, loop_faults, number_of}
 use Rattle.al_session_folder.specs.CallGraphs.{IsCallGraph, IsCalledBy, IsRow, NoneBackward, NoneForward, TellLoops, part_of}
 use Rattle.al_session_folder.specs.declared.kept.KeptFile.{KeptFile}
 use Rattle.al_session_folder.specs.declared.lint.Target.{Target}
@@ -36,7 +36,7 @@ fault_if looping fault = cond looping (fault ∷ []) []
 
 -- of these calls of the file with this number, what is said of those on a call cycle
 abbrev pub looping : List (List ℕ) → Folder → ℕ → List Target → List Fault → List Fault
-looping graph f file ts ss = flat_map (λ x. fault_if (leads_back graph file (called f x.0)) x.1) (zip ts ss)
+looping graph f file ts ss = flat_map (λ x. fault_if (leads_back graph file (callee f x.0)) x.1) (zip ts ss)
 
 -- ---- numbers of files
 
@@ -85,31 +85,31 @@ among_below f [] k e = absurd (wrong e)
 among_below f (p ∷ ps) k e = by (number_of f p) refl (λ h. among_below f ps k h)
   where
     by : (o : Option ℕ) → number_of f p ≡ o → (first_of (number_of f) ps ≡ Some k → k < length f) → k < length f
-    by None a rest = rest (sym (ap (λ o. or_else o (first_of (number_of f) ps)) a) ∙ e)
-    by (Some n) a rest = number_below f p k (a ∙ (sym (ap (λ o. or_else o (first_of (number_of f) ps)) a) ∙ e))
+    by None a rest = rest (sym (ap (λ o. option_or o (first_of (number_of f) ps)) a) ∙ e)
+    by (Some n) a rest = number_below f p k (a ∙ (sym (ap (λ o. option_or o (first_of (number_of f) ps)) a) ∙ e))
 
-pub called_below : (f : Folder) (t : Target) (k : ℕ) → called f t ≡ Some k → k < length f
+pub called_below : (f : Folder) (t : Target) (k : ℕ) → callee f t ≡ Some k → k < length f
 called_below f t k e = among_below f (candidates t) k e
 
 -- ---- the graph of calls
 
 module _ {I : Type 0} (m : Meaning I) (f : Folder) where
-  at_file : (i : ℕ) (p b : List ℕ) → slice_get f i ≡ Some (p, b) → get_or (calls_graph m f) i [] ≡ filter_map (called f) (m.calls p b)
+  at_file : (i : ℕ) (p b : List ℕ) → slice_get f i ≡ Some (p, b) → get_or (calls_graph m f) i [] ≡ filter_map (callee f) (m.calls p b)
   at_file i p b e =
-      get_or_from_slice_get (calls_graph m f) i (filter_map (called f) (m.calls p b)) []
-      (slice_get-map (λ (e : List ℕ × List ℕ). filter_map (called f) (m.calls e.0 e.1)) f i ∙ ap (option_map (λ (e : List ℕ × List ℕ). filter_map (called f) (m.calls e.0 e.1))) e)
+      get_or_from_slice_get (calls_graph m f) i (filter_map (callee f) (m.calls p b)) []
+      (slice_get-map (λ (e : List ℕ × List ℕ). filter_map (callee f) (m.calls e.0 e.1)) f i ∙ ap (option_map (λ (e : List ℕ × List ℕ). filter_map (callee f) (m.calls e.0 e.1))) e)
 
   -- a call makes an edge
-  pub call_edge : (i at : ℕ) (p b : List ℕ) (t : Target) → slice_get f i ≡ Some (p, b) → at < length (m.calls p b) → t ≡ get_or (m.calls p b) at t → IsCalledBy (calls_graph m f) i (called f t)
-  call_edge i at p b t e lt is = by (called f t) refl
+  pub call_edge : (i at : ℕ) (p b : List ℕ) (t : Target) → slice_get f i ≡ Some (p, b) → at < length (m.calls p b) → t ≡ get_or (m.calls p b) at t → IsCalledBy (calls_graph m f) i (callee f t)
+  call_edge i at p b t e lt is = by (callee f t) refl
     where
-      by : (o : Option ℕ) → called f t ≡ o → IsCalledBy (calls_graph m f) i o
+      by : (o : Option ℕ) → callee f t ≡ o → IsCalledBy (calls_graph m f) i o
       by None a = tt
-      by (Some k) a = subst (λ (ns : List ℕ). Contains ns k) (sym (at_file i p b e)) (in_filter_map (called f) (m.calls p b) at t k lt is a)
+      by (Some k) a = subst (λ (ns : List ℕ). Contains ns k) (sym (at_file i p b e)) (in_filter_map (callee f) (m.calls p b) at t k lt is a)
 
-  edges_below : (es : Folder) (j k : ℕ) → Contains (get_or (map (λ (e : List ℕ × List ℕ). filter_map (called f) (m.calls e.0 e.1)) es) j []) k → k < length f
+  edges_below : (es : Folder) (j k : ℕ) → Contains (get_or (map (λ (e : List ℕ × List ℕ). filter_map (callee f) (m.calls e.0 e.1)) es) j []) k → k < length f
   edges_below [] j k c = absurd (let below : c.0 < 0 = c.1 in omega (arith, below))
-  edges_below (e ∷ es) zero k c = all_in_filter_map (called f) (λ k. k < length f) (called_below f) (m.calls e.0 e.1) k c
+  edges_below (e ∷ es) zero k c = all_in_filter_map (callee f) (λ k. k < length f) (called_below f) (m.calls e.0 e.1) k c
   edges_below (e ∷ es) (suc j) k c = edges_below es j k c
 
   pub graph_inside : (j k : ℕ) → Edge (calls_graph m f) j k → k < length (calls_graph m f)
@@ -188,14 +188,14 @@ labels_tell graph labels i to r c edge says =
 module _ (graph : List (List ℕ)) (f : Folder) (i : ℕ) (ts : List Target) (ss : List Fault) (at : ℕ) (done whole : List Fault)
     (so_far : done ++ looping graph f i (drop at ts) (drop at ss) ≡ whole) where
   pub looping_next : (more : List Fault) (t : Target) (s : Fault) → at < length ts → t ≡ get_or ts at t → slice_get ss at ≡ Some s →
-      more ≡ done ++ fault_if (leads_back graph i (called f t)) s → more ++ looping graph f i (drop (at + 1) ts) (drop (at + 1) ss) ≡ whole
+      more ≡ done ++ fault_if (leads_back graph i (callee f t)) s → more ++ looping graph f i (drop (at + 1) ts) (drop (at + 1) ss) ≡ whole
   looping_next more t s within read known now =
       let inside : at < length ss = below_length ss at s known in
       let is : get_or ss at s ≡ s = get_or_from_slice_get ss at s s known in
       let one : drop at ts ≡ t ∷ drop (at + 1) ts = drop_more ts at t within ∙ sym (ap (λ c. c ∷ drop (at + 1) ts) read) in
       let two : drop at ss ≡ s ∷ drop (at + 1) ss = drop_more ss at s inside ∙ ap (λ a. a ∷ drop (at + 1) ss) is in
       let rest = looping graph f i (drop (at + 1) ts) (drop (at + 1) ss) in
-      let one_fault = fault_if (leads_back graph i (called f t)) s in
+      let one_fault = fault_if (leads_back graph i (callee f t)) s in
       ap (λ l. l ++ rest) now ∙ append_assoc done one_fault rest
       ∙ sym (ap (λ l. done ++ l) (ap (λ l. looping graph f i l (drop at ss)) one ∙ ap (looping graph f i (t ∷ drop (at + 1) ts)) two)) ∙ so_far
 
@@ -230,13 +230,13 @@ all_called_at h (x ∷ xs) at t d n lt is = by (h x) refl at n lt is (λ j u d. 
     by (Some k) a (suc i) n lt is rest = rest i t d (omega (arith, n)) (omega (arith, lt)) is
 
 pub row_called : (f : Folder) (row : List ℕ) (ts : List Target) (at d n : ℕ) (t : Target) → IsRow f row ts → length row ≡ length ts → at < length ts → t ≡ get_or ts at t →
-    n ≡ get_or row at d → Some n ≡ called f t
+    n ≡ get_or row at d → Some n ≡ callee f t
 row_called f row ts at d n t row_of size lt is read = ⊎_elim
     (λ none. absurd (let empty : length row ≡ 0 = ap length none in omega (arith, empty, size, lt)))
-    (λ all. ap Some (read ∙ ap (λ l. get_or l at d) all) ∙ all_called_at (called f) ts at t d (sym (ap length all) ∙ size) lt is)
+    (λ all. ap Some (read ∙ ap (λ l. get_or l at d) all) ∙ all_called_at (callee f) ts at t d (sym (ap length all) ∙ size) lt is)
     row_of
 
-pub if_called : (f : Folder) (t : Target) (o : Option ℕ) (bound : ℕ) → o ≡ called f t → length f ≡ bound → IfSome o (λ k. k < bound)
+pub if_called : (f : Folder) (t : Target) (o : Option ℕ) (bound : ℕ) → o ≡ callee f t → length f ≡ bound → IfSome o (λ k. k < bound)
 if_called f t None bound is n = tt
 if_called f t (Some k) bound is n = let below = called_below f t k (sym is) in omega (arith, below, n)
 
@@ -445,20 +445,20 @@ none_has T (y ∷ ys) x h c = by (T y) refl c.0 c.1 c.2 (λ rest at. none_has T 
 
 module _ (graph : List (List ℕ)) (f : Folder) (i : ℕ) where
   -- where nothing that these calls lead to is on a cycle
-  no_loops : (ts : List Target) (ss : List Fault) → ((k : ℕ) → Contains (filter_map (called f) ts) k → leads graph k i ≡ false) → looping graph f i ts ss ≡ []
+  no_loops : (ts : List Target) (ss : List Fault) → ((k : ℕ) → Contains (filter_map (callee f) ts) k → leads graph k i ≡ false) → looping graph f i ts ss ≡ []
   no_loops [] ss h = refl
   no_loops (t ∷ ts) [] h = refl
-  no_loops (t ∷ ts) (s ∷ ss) h = by (called f t) refl (λ rest. no_loops ts ss rest)
+  no_loops (t ∷ ts) (s ∷ ss) h = by (callee f t) refl (λ rest. no_loops ts ss rest)
     where
-      by : (o : Option ℕ) → called f t ≡ o → (((k : ℕ) → Contains (filter_map (called f) ts) k → leads graph k i ≡ false) → looping graph f i ts ss ≡ []) →
-          fault_if (leads_back graph i (called f t)) s ++ looping graph f i ts ss ≡ []
+      by : (o : Option ℕ) → callee f t ≡ o → (((k : ℕ) → Contains (filter_map (callee f) ts) k → leads graph k i ≡ false) → looping graph f i ts ss ≡ []) →
+          fault_if (leads_back graph i (callee f t)) s ++ looping graph f i ts ss ≡ []
       by None a more =
           ap (λ o. fault_if (leads_back graph i o) s ++ looping graph f i ts ss) a
-          ∙ more (λ k c. h k (put_behind (called f) (called f t) k (filter_map (called f) ts) c))
+          ∙ more (λ k c. h k (put_behind (callee f) (callee f t) k (filter_map (callee f) ts) c))
       by (Some k) a more =
           ap (λ o. fault_if (leads_back graph i o) s ++ looping graph f i ts ss) a
-          ∙ ap (λ b. fault_if b s ++ looping graph f i ts ss) (h k (put_first (called f) (called f t) k (filter_map (called f) ts) a))
-          ∙ more (λ j c. h j (put_behind (called f) (called f t) j (filter_map (called f) ts) c))
+          ∙ ap (λ b. fault_if b s ++ looping graph f i ts ss) (h k (put_first (callee f) (callee f t) k (filter_map (callee f) ts) a))
+          ∙ more (λ j c. h j (put_behind (callee f) (callee f t) j (filter_map (callee f) ts) c))
 
 -- ---- files with a call on a cycle
 
@@ -480,13 +480,13 @@ module _ (graph : List (List ℕ)) (f : Folder) (i : ℕ) where
       wrong h = cc
 
   -- where no call is on a cycle, none of the files that these calls lead to does
-  none_of_calls : (ts : List Target) (ss : List Fault) → length ss ≡ length ts → looping graph f i ts ss ≡ [] → AllByRecursion (λ t. (k : ℕ) → called f t ≡ Some k → leads graph k i ≡ false) ts
+  none_of_calls : (ts : List Target) (ss : List Fault) → length ss ≡ length ts → looping graph f i ts ss ≡ [] → AllByRecursion (λ t. (k : ℕ) → callee f t ≡ Some k → leads graph k i ≡ false) ts
   none_of_calls [] ss n e = tt
   none_of_calls (t ∷ ts) [] n e = absurd (let wrong : 0 ≡ length (t ∷ ts) = n in omega (arith, wrong))
   none_of_calls (t ∷ ts) (s ∷ ss) n e = (
     λ k is. not_true (leads graph k i)
         (λ yes. wrong (sym (ap (λ o. fault_if (leads_back graph i o) s ++ looping graph f i ts ss) is ∙ ap (λ b. fault_if b s ++ looping graph f i ts ss) yes) ∙ e)),
-    none_of_calls ts ss (omega (arith, n)) (last_none (fault_if (leads_back graph i (called f t)) s) (looping graph f i ts ss) e),
+    none_of_calls ts ss (omega (arith, n)) (last_none (fault_if (leads_back graph i (callee f t)) s) (looping graph f i ts ss) e),
   )
     where
       wrong : s ∷ looping graph f i ts ss ≡ [] → ⊥
@@ -534,7 +534,7 @@ module _ {I : Type 0} (m : Meaning I) (f : Folder) (edges : List (Vec ℕ Global
       G : List (List ℕ)
       G = calls_graph m f
 
-      to : (k : ℕ) → Contains row k → Contains (filter_map (called f) (m.calls p b)) k
+      to : (k : ℕ) → Contains row k → Contains (filter_map (callee f) (m.calls p b)) k
       to k there = ⊎_elim (λ e. absurd (none_in k (subst (λ (ns : List ℕ). Contains ns k) e there))) (λ e. subst (λ (ns : List ℕ). Contains ns k) e there) (row_of p b (m.calls p b) at refl)
 
       has_it : (k : ℕ) → Contains row k → option_eq nat_eq (get_or seen k None) (get_or seen i None) ≡ true → ⊥
@@ -544,7 +544,7 @@ module _ {I : Type 0} (m : Meaning I) (f : Folder) (edges : List (Vec ℕ Global
           (labels_same (get_or seen k None) (get_or seen i None) (option_eq nat_eq (get_or seen k None) (get_or seen i None)) refl).0 t in
           let walk : Walk G k i = (calls.tell.1 i k edge).0 (subst (λ (ls : List (Option ℕ)). get_or ls k None ≡ get_or ls i None) same equal) in
           let yes : leads G k i ≡ true = (leads_tells G k i).1 walk in
-          let no : leads G k i ≡ false = each_in_filter_map (called f) (λ j. leads G j i ≡ false) (m.calls p b) (none_of_calls G f i (m.calls p b) (m.sites p b) sited none) k (to k there) in
+          let no : leads G k i ≡ false = each_in_filter_map (callee f) (λ j. leads G j i ≡ false) (m.calls p b) (none_of_calls G f i (m.calls p b) (m.sites p b) sited none) k (to k there) in
           let wrong : true ≡ false = sym yes ∙ no in
           cc
 

@@ -23,7 +23,7 @@ use Rattle.std.proofs.lemmas.List.MinMax.{ranks_by}
 use Rattle.std.proofs.lemmas.Fn.{always_returns_same}
 use Rattle.std.proofs.lemmas.Map.Text.{is_eq-slice_cmp}
 use Rattle.al_session_folder.specs.Meaning.{Meaning, candidates}
-use Rattle.al_session_folder.specs.Kept.{Files, folder_of, file_at, referred, AllKept}
+use Rattle.al_session_folder.specs.Kept.{Files, folder_of, file_at, referents, AllKept}
 use Rattle.al_session_folder.specs.declared.kept.KeptFile.{KeptFile}
 use Rattle.al_session_folder.specs.Folder.{Folder, with_file, paths_of, bytes_at}
 use Rattle.al_session_folder.specs.Missing.{is_absent, absent_candidates, missing_in}
@@ -161,7 +161,7 @@ missing_sorted m f = IsStrictlySortedBy-in_order nat_list_cmp_total paths_same (
 pub ordered_paths : {F : Type 0} {g : Mut F (Bor (Bor (List ℕ)) × (Bor (Bor (List ℕ)) × Unit {0})) Ordering} {f : F} (xs sorted out : List (Bor (List ℕ)))
     → IsPermutation xs sorted → ((lt : Bor (List ℕ) → Bor (List ℕ) → Bool) → IsStrictWeakOrder lt → ComparesAs g lt f → IsSortedBy lt sorted)
     → ((a : Bor (Bor (List ℕ)) × (Bor (Bor (List ℕ)) × Unit {0})) (r : Ordering) (f' : F) → Called g f a r f' → (r ≡ slice_cmp nat_cmp a.0.now.now a.1.0.now.now) × (f' ≡ f))
-    → out ≡ dedup (λ (p q : Bor (List ℕ)). bytes_eq p.now q.now) sorted → referred out ≡ in_order (slice_cmp nat_cmp) (referred xs)
+    → out ≡ dedup (λ (p q : Bor (List ℕ)). bytes_eq p.now q.now) sorted → referents out ≡ in_order (slice_cmp nat_cmp) (referents xs)
 ordered_paths {g = g} {f = f} xs sorted out moved up h is =
     ordered_referred nat_list_cmp_total paths_same bytes_eq (λ x y. sym (is_eq-slice_cmp x y)) xs sorted out moved
     (up (λ x y. is_lt (slice_cmp nat_cmp x.now y.now)) (ranks_by nat_list_cmp_total (λ (x : Bor (List ℕ)). x.now))

@@ -6,16 +6,16 @@ use Rattle.std.specs.Bool.{Decides}
 use Rattle.std.specs.Global.{Global}
 use Rattle.std.specs.List.{cons_option, filter_map, position}
 use Rattle.std.specs.List.Sorted.{IsStrictlySortedBy}
-use Rattle.std.specs.Option.{option_map, unwrap_or}
+use Rattle.std.specs.Option.{option_map, unwrap_or, option_or}
 use Rattle.std.specs.Ordering.{nat_cmp}
 use Rattle.std.specs.Cmp.Lexicographic.{slice_cmp}
 use Rattle.std.proofs.lemmas.List.{length-map, take_more_same}
 use Rattle.std.proofs.lemmas.Option.{slice_get-map}
 use Rattle.al_graph.specs.Graphs.{Edge, Walk, edges_of}
 use Rattle.al_session_folder.specs.Meaning.{Meaning, candidates}
-use Rattle.al_session_folder.specs.Folder.{Folder, bytes_at, first_of, or_else, paths_of, with_file}
+use Rattle.al_session_folder.specs.Folder.{Folder, bytes_at, first_of, paths_of, with_file}
 use Rattle.al_session_folder.specs.Kept.{AreKept, Files, IsKept, file_at, folder_of}
-use Rattle.al_session_folder.specs.Loops.{called, calls_graph, number_of}
+use Rattle.al_session_folder.specs.Loops.{callee, calls_graph, number_of}
 use Rattle.al_session_folder.specs.CallGraphs.{HasSameCalls, IsCallGraph, IsRow, TellLoops, is_same_target}
 use Rattle.al_session_folder.specs.Place.{place_of}
 use Rattle.al_session_folder.specs.declared.kept.KeptFile.{KeptFile}
@@ -88,26 +88,26 @@ module _ {I : Type 0} (m : Meaning I) (f g : Folder) (same : HasSameCalls m f g)
 
   among_same : (ps : List (List ℕ)) → first_of (number_of g) ps ≡ first_of (number_of f) ps
   among_same [] = refl
-  among_same (p ∷ ps) = ap (λ l. or_else (position (bytes_eq p) l) (first_of (number_of g) ps)) same.paths ∙ ap (or_else (number_of f p)) (among_same ps)
+  among_same (p ∷ ps) = ap (λ l. option_or (position (bytes_eq p) l) (first_of (number_of g) ps)) same.paths ∙ ap (option_or (number_of f p)) (among_same ps)
 
-  row_same : (ts : List Target) → filter_map (called g) ts ≡ filter_map (called f) ts
+  row_same : (ts : List Target) → filter_map (callee g) ts ≡ filter_map (callee f) ts
   row_same [] = refl
-  row_same (t ∷ ts) = ap (λ o. cons_option o (filter_map (called g) ts)) (among_same (candidates t)) ∙ ap (cons_option (called f t)) (row_same ts)
+  row_same (t ∷ ts) = ap (λ o. cons_option o (filter_map (callee g) ts)) (among_same (candidates t)) ∙ ap (cons_option (callee f t)) (row_same ts)
 
-  rows_of : (es : Folder) → map (λ (e : List ℕ × List ℕ). filter_map (called g) (m.calls e.0 e.1)) es
-      ≡ map (filter_map (called f)) (map (λ (e : List ℕ × List ℕ). m.calls e.0 e.1) es)
+  rows_of : (es : Folder) → map (λ (e : List ℕ × List ℕ). filter_map (callee g) (m.calls e.0 e.1)) es
+      ≡ map (filter_map (callee f)) (map (λ (e : List ℕ × List ℕ). m.calls e.0 e.1) es)
   rows_of [] = refl
   rows_of (e ∷ es) =
-      ap (λ l. l ∷ map (λ (e : List ℕ × List ℕ). filter_map (called g) (m.calls e.0 e.1)) es) (row_same (m.calls e.0 e.1))
-      ∙ ap (λ l. filter_map (called f) (m.calls e.0 e.1) ∷ l) (rows_of es)
+      ap (λ l. l ∷ map (λ (e : List ℕ × List ℕ). filter_map (callee g) (m.calls e.0 e.1)) es) (row_same (m.calls e.0 e.1))
+      ∙ ap (λ l. filter_map (callee f) (m.calls e.0 e.1) ∷ l) (rows_of es)
 
-  own_rows : (es : Folder) → map (filter_map (called f)) (map (λ (e : List ℕ × List ℕ). m.calls e.0 e.1) es)
-      ≡ map (λ (e : List ℕ × List ℕ). filter_map (called f) (m.calls e.0 e.1)) es
+  own_rows : (es : Folder) → map (filter_map (callee f)) (map (λ (e : List ℕ × List ℕ). m.calls e.0 e.1) es)
+      ≡ map (λ (e : List ℕ × List ℕ). filter_map (callee f) (m.calls e.0 e.1)) es
   own_rows [] = refl
-  own_rows (e ∷ es) = ap (λ l. filter_map (called f) (m.calls e.0 e.1) ∷ l) (own_rows es)
+  own_rows (e ∷ es) = ap (λ l. filter_map (callee f) (m.calls e.0 e.1) ∷ l) (own_rows es)
 
   pub graph_same : calls_graph m g ≡ calls_graph m f
-  graph_same = rows_of g ∙ ap (map (filter_map (called f))) same.calls ∙ own_rows f
+  graph_same = rows_of g ∙ ap (map (filter_map (callee f))) same.calls ∙ own_rows f
 
   calls_number : (h : Folder) (i : ℕ) (e : List ℕ × List ℕ) → slice_get h i ≡ Some e → slice_get (map (λ (x : List ℕ × List ℕ). m.calls x.0 x.1) h) i ≡ Some (m.calls e.0 e.1)
   calls_number h i e at =

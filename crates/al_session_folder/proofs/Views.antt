@@ -15,8 +15,8 @@ use Rattle.std.proofs.lemmas.Map.Text.{is_eq-slice_cmp}
 use Rattle.std.proofs.lemmas.Slice.Eq.{bytes_eq-Decides}
 use Rattle.al_session_folder.specs.Meaning.{Meaning}
 use Rattle.al_session_folder.specs.Folder.{Folder, bytes_at, with_file, without_file, paths_of, interface_in}
-use Rattle.al_session_folder.specs.Kept.{Files, folder_of, file_at, file_after, after, changed, IsKept, AllKept, IsKeptIf, IsView, AreKept}
-use Rattle.al_session_folder.specs.FolderViews.{IsViewIf, viewed}
+use Rattle.al_session_folder.specs.Kept.{Files, folder_of, file_at, file_after, after, with_bytes_at, IsKept, AllKept, IsKeptIf, IsView, AreKept}
+use Rattle.al_session_folder.specs.FolderViews.{IsViewIf, folder_in_view}
 use Rattle.al_session_folder.specs.declared.kept.KeptFile.{KeptFile}
 use Rattle.al_session_folder.proofs.Places.{by_ordering, exact_path, put_step, first_below, rest_sorted, found, absent}
 use Rattle.al_session_folder.specs.Place.{place_of}
@@ -95,10 +95,11 @@ bytes_gone p q (e ∷ es) s same = by (is_eq (slice_cmp nat_cmp p e.0)) refl (by
         ap (λ l. bytes_at l q) (cond-false _ es (e ∷ without_file es p) a) ∙ cond-false _ _ _ far ∙ rest
 
 -- the bytes at each path after a change
-pub bytes_changed : (p q : List ℕ) (f : Folder) (now : Option (List ℕ)) → IsStrictlySortedBy (slice_cmp nat_cmp) (paths_of f) → bytes_at (changed f p now) q ≡ cond (bytes_eq q p) now (bytes_at f q)
+pub bytes_changed : (p q : List ℕ) (f : Folder) (now : Option (List ℕ)) → IsStrictlySortedBy (slice_cmp nat_cmp) (paths_of f)
+    → bytes_at (with_bytes_at f p now) q ≡ cond (bytes_eq q p) now (bytes_at f q)
 bytes_changed p q f now s = by now (bytes_eq q p) refl
   where
-    by : (now : Option (List ℕ)) (t : Bool) → bytes_eq q p ≡ t → bytes_at (changed f p now) q ≡ cond (bytes_eq q p) now (bytes_at f q)
+    by : (now : Option (List ℕ)) (t : Bool) → bytes_eq q p ≡ t → bytes_at (with_bytes_at f p now) q ≡ cond (bytes_eq q p) now (bytes_at f q)
     by None true a = bytes_gone p q f s a ∙ sym (cond-true _ _ _ a)
     by None false a = bytes_gone_other p q f a ∙ sym (cond-false _ _ _ a)
     by (Some b) true a = bytes_put p q f b a ∙ sym (cond-true _ _ _ a)
@@ -230,8 +231,8 @@ module _ {U I : Type 0} (m : Meaning I) (is_unit : U → List ℕ → List ℕ �
     at_path : IsView m is_unit files p next
     at_path = subst (λ (x : Option (List ℕ)). IsViewIf m is_unit files x next) is view
 
-    pub changed_bytes : HasBytes (viewed files o next)
-    changed_bytes = subst (λ (x : Option (List ℕ)). HasBytes (viewed files x next)) (sym is)
+    pub changed_bytes : HasBytes (folder_in_view files o next)
+    changed_bytes = subst (λ (x : Option (List ℕ)). HasBytes (folder_in_view files x next)) (sym is)
         (ap (option_map (λ (file : KeptFile U I). file.bytes.items)) found ∙ sym (bytes_after files p q next at_path.kept.ordered))
 
     pub changed_kept : IsKeptThere r
@@ -241,8 +242,8 @@ module _ {U I : Type 0} (m : Meaning I) (is_unit : U → List ℕ → List ℕ �
     as_is : AreKept m is_unit files
     as_is = subst (λ (x : Option (List ℕ)). IsViewIf m is_unit files x next) is view
 
-    pub still_bytes : HasBytes (viewed files o next)
-    still_bytes = subst (λ (x : Option (List ℕ)). HasBytes (viewed files x next)) (sym is)
+    pub still_bytes : HasBytes (folder_in_view files o next)
+    still_bytes = subst (λ (x : Option (List ℕ)). HasBytes (folder_in_view files x next)) (sym is)
         (ap (option_map (λ (file : KeptFile U I). file.bytes.items)) found ∙ sym (bytes_kept files q))
 
     pub still_kept : IsKeptThere r

@@ -4,7 +4,7 @@ use Rattle.std.proofs.Common.{Option, Some, None, slice_get, refl, sym, ap, arit
 use Rattle.std.specs.Prelude.{bytes_eq, Contains}
 use Rattle.std.specs.List.{AllByRecursion, filter_map, list_any, position, prefix_len}
 use Rattle.std.specs.List.Sorted.{IsStrictlySortedBy}
-use Rattle.std.specs.Option.{option_map, unwrap_or}
+use Rattle.std.specs.Option.{option_map, unwrap_or, option_or}
 use Rattle.std.specs.Ordering.{is_eq, is_ge, is_le, nat_cmp, ordering_reverse}
 use Rattle.std.specs.declared.cmp.Ordering.{Ordering}
 use Rattle.std.specs.declared.cmp.Ordering.TheVariants.{Less, Equal, Greater}
@@ -17,9 +17,9 @@ use Rattle.std.proofs.lemmas.Map.Text.{is_eq-slice_cmp}
 use Rattle.std.proofs.lemmas.Option.{slice_get-map, get_or_from_slice_get}
 use Rattle.al_graph.proofs.FilterMaps.{each_in_filter_map}
 use Rattle.al_session_folder.specs.Meaning.{candidates}
-use Rattle.al_session_folder.specs.Folder.{Folder, first_of, or_else, paths_of}
+use Rattle.al_session_folder.specs.Folder.{Folder, first_of, paths_of}
 use Rattle.al_session_folder.specs.Kept.{goes_backward, goes_forward}
-use Rattle.al_session_folder.specs.Loops.{called, number_of}
+use Rattle.al_session_folder.specs.Loops.{callee, number_of}
 use Rattle.al_session_folder.specs.declared.lint.Target.{Target}
 use Rattle.al_session_folder.proofs.Views.{bytes_same, bytes_self}
 
@@ -89,11 +89,11 @@ module _ (f : Folder) where
   among T P one (c ∷ ps) k e none = by (number_of f c) refl (λ h. among T P one ps k h (or_none (T c) (list_any T ps) none).1)
     where
       by : (o : Option ℕ) → number_of f c ≡ o → (first_of (number_of f) ps ≡ Some k → P k) → P k
-      by None a rest = rest (sym (ap (λ o. or_else o (first_of (number_of f) ps)) a) ∙ e)
-      by (Some n) a rest = one c k (a ∙ (sym (ap (λ o. or_else o (first_of (number_of f) ps)) a) ∙ e)) (or_none (T c) (list_any T ps) none).0
+      by None a rest = rest (sym (ap (λ o. option_or o (first_of (number_of f) ps)) a) ∙ e)
+      by (Some n) a rest = one c k (a ∙ (sym (ap (λ o. option_or o (first_of (number_of f) ps)) a) ∙ e)) (or_none (T c) (list_any T ps) none).0
 
   each : (T : List ℕ → Bool) (P : ℕ → Type 0) → ((c : List ℕ) (k : ℕ) → number_of f c ≡ Some k → T c ≡ false → P k) → (ts : List Target) →
-      list_any (λ t. list_any T (candidates t)) ts ≡ false → AllByRecursion (λ t. (k : ℕ) → called f t ≡ Some k → P k) ts
+      list_any (λ t. list_any T (candidates t)) ts ≡ false → AllByRecursion (λ t. (k : ℕ) → callee f t ≡ Some k → P k) ts
   each T P one [] none = tt
   each T P one (t ∷ ts) none =
       let two = or_none (list_any T (candidates t)) (list_any (λ t. list_any T (candidates t)) ts) none in
@@ -140,10 +140,10 @@ module _ (f : Folder) where
 
     -- so calls that go one way lead to files that stand there
     pub leads_before : (inside : (c : List ℕ) (k : ℕ) → number_of f c ≡ Some k → k < length (paths_of f)) (ts : List Target) (k : ℕ) → list_any (goes_forward p) ts ≡ false →
-        Contains (filter_map (called f) ts) k → k < i
+        Contains (filter_map (callee f) ts) k → k < i
     leads_before inside ts k none c =
-        each_in_filter_map (called f) (λ n. n < i) ts (each (λ q. is_le (slice_cmp nat_cmp p q)) (λ n. n < i) (before_it inside) ts none) k c
+        each_in_filter_map (callee f) (λ n. n < i) ts (each (λ q. is_le (slice_cmp nat_cmp p q)) (λ n. n < i) (before_it inside) ts none) k c
 
-    pub leads_behind : (inside : i < length (paths_of f)) (ts : List Target) (k : ℕ) → list_any (goes_backward p) ts ≡ false → Contains (filter_map (called f) ts) k → i < k
+    pub leads_behind : (inside : i < length (paths_of f)) (ts : List Target) (k : ℕ) → list_any (goes_backward p) ts ≡ false → Contains (filter_map (callee f) ts) k → i < k
     leads_behind inside ts k none c =
-        each_in_filter_map (called f) (λ n. i < n) ts (each (λ q. is_ge (slice_cmp nat_cmp p q)) (λ n. i < n) (behind_it inside) ts none) k c
+        each_in_filter_map (callee f) (λ n. i < n) ts (each (λ q. is_ge (slice_cmp nat_cmp p q)) (λ n. i < n) (behind_it inside) ts none) k c

@@ -7,7 +7,7 @@ use Rattle.al_graph.specs.Graphs.{Edge, Walk, edges_of}
 use Rattle.al_session_folder.specs.Meaning.{Meaning}
 use Rattle.al_session_folder.specs.Folder.{Folder, paths_of}
 use Rattle.al_session_folder.specs.Kept.{AreKept, Files, folder_of}
-use Rattle.al_session_folder.specs.Loops.{called, calls_graph}
+use Rattle.al_session_folder.specs.Loops.{callee, calls_graph}
 use Rattle.al_session_folder.specs.declared.kept.KeptFile.{KeptFile}
 use Rattle.al_session_folder.specs.declared.lint.Target.{Target}
 use Rattle.al_session_folder.specs.declared.lint.Target.TheVariants.{FirstOf, Only}
@@ -28,7 +28,7 @@ part_of first end graph = map (λ x. cond (nat_le first x.0 && nat_lt x.0 end) x
 
 -- the numbers of the files that these calls lead to, or none
 abbrev pub IsRow : Folder → List ℕ → List Target → Type 0
-IsRow f row calls = (row ≡ []) ⊎ (row ≡ filter_map (called f) calls)
+IsRow f row calls = (row ≡ []) ⊎ (row ≡ filter_map (callee f) calls)
 
 -- there is an edge from the file with this number to the one that a call leads to
 abbrev pub IsCalledBy : List (List ℕ) → ℕ → Option ℕ → Type 0

@@ -1,7 +1,7 @@
 -- A folder of files, its calls and their answers, and the edits that it takes.
-use Rattle.std.specs.Prelude.{ℕ, Bool, not, ◌&&◌, List, [], ◌∷◌, Option, Some, None, length}
+use Rattle.std.specs.Prelude.{ℕ, not, ◌&&◌, List, [], ◌∷◌, Option, Some, None, length}
 use Rattle.std.specs.Prelude.{if◌then◌else◌, nat_lt, nat_le, is_some, map, unwrap_or}
-use Rattle.std.specs.Option.{option_map}
+use Rattle.std.specs.Option.{option_map, option_or}
 use Rattle.std.specs.Ordering.{nat_cmp}
 use Rattle.std.specs.Cmp.Lexicographic.{slice_cmp}
 use Rattle.std.specs.BTreeMap.{insert_entry, is_at}
@@ -38,14 +38,10 @@ paths_of f = map (λ e. e.0) f
 abbrev pub interface_in : {I : Type 0} → Meaning I → Folder → List ℕ → Option I
 interface_in m f p = option_map (m.interface p) (bytes_at f p)
 
-abbrev pub or_else : {T : Type 0} → Option T → Option T → Option T
-or_else None other = other
-or_else (Some x) other = Some x
-
 -- what f answers of the first of these of which it answers something
 abbrev pub first_of : {A B : Type 0} → (A → Option B) → List A → Option B
 first_of f [] = None
-first_of f (x ∷ xs) = or_else (f x) (first_of f xs)
+first_of f (x ∷ xs) = option_or (f x) (first_of f xs)
 
 -- the answer of a call: the interface of its first candidate in the folder, or absent
 unfoldable pub answer : {I : Type 0} → Meaning I → Folder → Target → Option I
@@ -65,27 +61,22 @@ faults_at m f p = option_map (faults_in m f p) (bytes_at f p)
 
 -- Edits
 
--- the first reason whose test is true
-abbrev pub first_refusal : List (Bool × Refused) → Option Refused
-first_refusal [] = None
-first_refusal (t ∷ ts) = if t.0 then Some t.1 else first_refusal ts
-
 -- why a put is refused, other than for memory
 unfoldable pub put_refusal : {I : Type 0} → Meaning I → Folder → List ℕ → List ℕ → Option Refused
 put_refusal m f p b =
-    first_refusal ((is_some (path_fault_of p), BadPath)
-    ∷ (not (m.accepts p), NotAccepted)
-    ∷ (nat_lt largest_file (length b), TooLarge)
-    ∷ (nat_le most_files (length f) && not (is_some (bytes_at f p)), Full)
-    ∷ [])
+    if is_some (path_fault_of p) then Some BadPath
+    else if not (m.accepts p) then Some NotAccepted
+    else if nat_lt largest_file (length b) then Some TooLarge
+    else if nat_le most_files (length f) && not (is_some (bytes_at f p)) then Some Full
+    else None
 
 -- why a delete is refused, other than for memory
 unfoldable pub delete_refusal : {I : Type 0} → Meaning I → Folder → List ℕ → Option Refused
 delete_refusal m f p =
-    first_refusal ((is_some (path_fault_of p), BadPath)
-    ∷ (not (m.accepts p), NotAccepted)
-    ∷ (not (is_some (bytes_at f p)), NoSuchFile)
-    ∷ [])
+    if is_some (path_fault_of p) then Some BadPath
+    else if not (m.accepts p) then Some NotAccepted
+    else if not (is_some (bytes_at f p)) then Some NoSuchFile
+    else None
 
 -- the reply where an edit is not accepted
 abbrev pub refusal_or_memory : Option Refused → Refused

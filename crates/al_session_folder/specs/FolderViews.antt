@@ -3,15 +3,16 @@ use Rattle.std.specs.Prelude.{◌≡◌, ℕ, Bool, List, Option, Some, None}
 use Rattle.std.specs.Option.{option_map}
 use Rattle.al_base.specs.Paths.{path_fault_of}
 use Rattle.al_session_folder.specs.Meaning.{Meaning}
-use Rattle.al_session_folder.specs.Affected.{affected}
+use Rattle.al_session_folder.specs.Affected.{affected_paths}
 use Rattle.al_session_folder.specs.Folder.{Folder}
-use Rattle.al_session_folder.specs.Kept.{Files, IsView, AreKept, after, changed, folder_of}
+use Rattle.al_session_folder.specs.Kept.{Files, IsView, AreKept, after, with_bytes_at, folder_of}
 use Rattle.al_session_folder.specs.declared.kept.KeptFile.{KeptFile}
 
 -- the folder of kept files, with this file, or none, at a path where one is named
-abbrev pub viewed : {U I : Type 0} → Files U I → Option (List ℕ) → Option (KeptFile U I) → Folder
-viewed files None next = folder_of files
-viewed files (Some p) next = after files p next
+abbrev pub folder_in_view :
+    {U I : Type 0} → Files U I → Option (List ℕ) → Option (KeptFile U I) → Folder
+folder_in_view files None next = folder_of files
+folder_in_view files (Some p) next = after files p next
 
 -- what is true of the files, and of what is to stand at that path
 abbrev pub IsViewIf : {U I : Type 0} → Meaning I → (U → List ℕ → List ℕ → Type 0) → Files U I → Option (List ℕ) →
@@ -27,11 +28,11 @@ pub record FolderChange : Type 0 where
 
 -- the folder after a change
 abbrev pub changed_by : FolderChange → Folder
-changed_by c = changed c.before c.path c.bytes
+changed_by c = with_bytes_at c.before c.path c.bytes
 
 -- the files that a change affects
 abbrev pub affected_by : {I : Type 0} → (I → I → Bool) → Meaning I → FolderChange → List (List ℕ)
-affected_by eq m c = affected eq m c.before (changed_by c)
+affected_by eq m c = affected_paths eq m c.before (changed_by c)
 
 -- the change of kept files by which this file, or none, is to stand at a path
 abbrev pub change_of : {U I : Type 0} → Files U I → List ℕ → Option (KeptFile U I) → FolderChange

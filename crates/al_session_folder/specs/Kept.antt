@@ -22,8 +22,8 @@ use Rattle.al_session_folder.specs.declared.kept.KeptFile.{KeptFile}
 use Rattle.al_session_folder.specs.declared.lint.Target.{Target}
 
 -- what these references refer to
-abbrev pub referred : {T : Type 0} → List (Bor T) → List T
-referred refs = map (λ r. r.now) refs
+abbrev pub referents : {T : Type 0} → List (Bor T) → List T
+referents refs = map (λ r. r.now) refs
 
 -- Kept files by their paths, in order of path.
 abbrev pub Files : Type 0 → Type 0 → Type 0
@@ -93,13 +93,13 @@ pub record AreKept {U I : Type 0} (m : Meaning I) (is_unit : U → List ℕ → 
 -- A change of one path
 
 -- the folder with these bytes at a path, or without the path
-abbrev pub changed : Folder → List ℕ → Option (List ℕ) → Folder
-changed f p None = without_file f p
-changed f p (Some b) = with_file f p b
+abbrev pub with_bytes_at : Folder → List ℕ → Option (List ℕ) → Folder
+with_bytes_at f p None = without_file f p
+with_bytes_at f p (Some b) = with_file f p b
 
 -- the folder of kept files with another file, or none, at a path
 abbrev pub after : {U I : Type 0} → Files U I → List ℕ → Option (KeptFile U I) → Folder
-after files p now = changed (folder_of files) p (option_map (λ file. file.bytes.items) now)
+after files p now = with_bytes_at (folder_of files) p (option_map (λ file. file.bytes.items) now)
 
 -- the file at q where at p there is this one, or none
 abbrev pub file_after : {U I : Type 0} → Files U I → List ℕ → Option (KeptFile U I) → List ℕ → Option (KeptFile U I)

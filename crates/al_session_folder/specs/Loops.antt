@@ -14,12 +14,12 @@ abbrev pub number_of : Folder → List ℕ → Option ℕ
 number_of f p = position (bytes_eq p) (paths_of f)
 
 -- the file that a call leads to: its first candidate in the folder
-abbrev pub called : Folder → Target → Option ℕ
-called f t = first_of (number_of f) (candidates t)
+abbrev pub callee : Folder → Target → Option ℕ
+callee f t = first_of (number_of f) (candidates t)
 
 -- for each file the files that its calls lead to
 abbrev pub calls_graph : {I : Type 0} → Meaning I → Folder → List (List ℕ)
-calls_graph m f = map (λ e. filter_map (called f) (m.calls e.0 e.1)) f
+calls_graph m f = map (λ e. filter_map (callee f) (m.calls e.0 e.1)) f
 
 -- whether a call of the file with this number is on a call cycle: the file that it leads to is that file, or further calls lead there
 abbrev pub leads_back : List (List ℕ) → ℕ → Option ℕ → Bool
@@ -29,8 +29,8 @@ leads_back graph file (Some to) = leads graph to file
 -- what is said of the calls of the file with this number that are on a call cycle, in their order
 abbrev pub loop_faults : {I : Type 0} → Meaning I → Folder → ℕ → List ℕ → List ℕ → List Fault
 loop_faults m f file p b =
-    flat_map (λ x. if leads_back (calls_graph m f) file (called f x.0) then x.1 ∷ [] else []) (zip (m.calls p b) (m.sites p b))
+    flat_map (λ x. if leads_back (calls_graph m f) file (callee f x.0) then x.1 ∷ [] else []) (zip (m.calls p b) (m.sites p b))
 
 -- a file's faults as reports list them: its own, and those of its calls on a call cycle, in order, each once
-unfoldable pub reported : {I : Type 0} → Meaning I → Folder → ℕ → List ℕ → List ℕ → List Fault
-reported m f file p b = fault_list (loop_faults m f file p b ++ faults_in m f p b)
+unfoldable pub report_faults : {I : Type 0} → Meaning I → Folder → ℕ → List ℕ → List ℕ → List Fault
+report_faults m f file p b = fault_list (loop_faults m f file p b ++ faults_in m f p b)

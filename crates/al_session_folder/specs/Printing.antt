@@ -12,17 +12,17 @@ use Rattle.al_base.specs.Spans.{LiesIn}
 use Rattle.al_base.specs.Limits.{largest_file}
 use Rattle.al_session_folder.specs.Meaning.{Meaning}
 use Rattle.al_session_folder.specs.Folder.{Folder}
-use Rattle.al_session_folder.specs.Loops.{loop_faults, reported}
+use Rattle.al_session_folder.specs.Loops.{loop_faults, report_faults}
 use Rattle.al_session_folder.specs.declared.kept.KeptFile.{KeptFile}
-use Rattle.al_session_folder.specs.Kept.{Files, folder_of, referred}
+use Rattle.al_session_folder.specs.Kept.{Files, folder_of, referents}
 
 -- a file's own faults and those of its calls on a call cycle, in the order of reports, each once; none where no call does
 abbrev pub joined_faults : List Fault → List Fault → List Fault
 joined_faults own loops = cond (length loops == 0) [] (fault_list (own ++ loops))
 
 -- the faults that are listed of a kept file: those that were joined, or else its own
-abbrev pub listed : {U I : Type 0} → KeptFile U I → List (Bor Fault) → List Fault
-listed file joined = cond (length joined == 0) file.faults.items (referred joined)
+abbrev pub joined_or_own : {U I : Type 0} → KeptFile U I → List (Bor Fault) → List Fault
+joined_or_own file joined = cond (length joined == 0) file.faults.items (referents joined)
 
 -- what a report prints of these faults of a kept file
 abbrev pub lines_of : {U I : Type 0} → Bool → List ℕ → KeptFile U I → List Fault → List ℕ
@@ -30,7 +30,7 @@ lines_of oneline path file faults = flat_map (fault_text oneline path file.bytes
 
 -- what it prints of the file with this number
 abbrev pub numbered_lines : {U I : Type 0} → Bool → Meaning I → Folder → ℕ × (String Global × KeptFile U I) → List ℕ
-numbered_lines oneline m f x = lines_of oneline (string_bytes x.1.0) x.1.1 (reported m f x.0 (string_bytes x.1.0) x.1.1.bytes.items)
+numbered_lines oneline m f x = lines_of oneline (string_bytes x.1.0) x.1.1 (report_faults m f x.0 (string_bytes x.1.0) x.1.1.bytes.items)
 
 -- A kept file of which these faults can be printed: they lie in it.
 pub record IsPrintable {U I : Type 0} (file : KeptFile U I) (faults : List Fault) : Type 0 where
@@ -41,7 +41,7 @@ pub record IsPrintable {U I : Type 0} (file : KeptFile U I) (faults : List Fault
 -- what a report lists of each file can be printed
 abbrev pub ArePrintable : {U I : Type 0} → Meaning I → Files U I → Type 0
 ArePrintable {U} {I} m files = (i : ℕ) (e : String Global × KeptFile U I) → slice_get files i ≡ Some e →
-    IsPrintable e.1 (reported m (folder_of files) i (string_bytes e.0) e.1.bytes.items)
+    IsPrintable e.1 (report_faults m (folder_of files) i (string_bytes e.0) e.1.bytes.items)
 
 -- Each of so many elements is so, by its number.
 pub record AreNumbered {X : Type 0} (P : ℕ → X → Type 0) (count : ℕ) (all : List X) : Type 0 where
@@ -58,7 +58,7 @@ AreLoops m f all = AreNumbered (IsLoops m f) (length f) all
 -- the listed faults of the file with this number are those that a report lists
 abbrev pub IsListed : {U I : Type 0} → Meaning I → Files U I → ℕ → Vec (Bor Fault) Global → Type 0
 IsListed {U} {I} m files i joined = (e : String Global × KeptFile U I) → slice_get files i ≡ Some e →
-    listed e.1 joined.items ≡ reported m (folder_of files) i (string_bytes e.0) e.1.bytes.items
+    joined_or_own e.1 joined.items ≡ report_faults m (folder_of files) i (string_bytes e.0) e.1.bytes.items
 
 abbrev pub AreListed : {U I : Type 0} → Meaning I → Files U I → List (Vec (Bor Fault) Global) → Type 0
 AreListed m files all = AreNumbered (IsListed m files) (length files) all

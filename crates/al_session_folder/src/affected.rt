@@ -6,10 +6,10 @@ ghost use Rattle.std.specs.List.{list_all, list_any};
 ghost use Rattle.std.specs.List.Sorted.{IsStrictlySortedBy};
 ghost use Rattle.std.specs.Ordering.{nat_cmp};
 ghost use Rattle.std.specs.Cmp.Lexicographic.{slice_cmp};
-ghost use Rattle.std.specs.Option.{option_copied};
+ghost use Rattle.std.specs.Option.{option_copied, option_eq};
 ghost use Rattle.al_base.specs.InOrder.{with_one};
 ghost use Rattle.al_base.specs.Paths.{path_fault_of};
-ghost use Rattle.al_session_folder.specs.Affected.{is_affected, is_among, same_answer};
+ghost use Rattle.al_session_folder.specs.Affected.{is_affected, is_among};
 ghost use Rattle.al_session_folder.specs.Folder.{answer, bytes_at, interface_in, paths_of};
 ghost use Rattle.al_session_folder.specs.Kept.{IsIndex, IsView};
 ghost use Rattle.al_session_folder.specs.FolderViews.{affected_by, change_of, changed_by};
@@ -44,7 +44,7 @@ impl<'a, L: Lint> Model for PlannedChange<'a, L> {
 
 // Whether two answers are the same.
 fn is_same<I: Eq>(one: Option<&I>, other: Option<&I>) -> bool
-    ensures { result ≡ same_answer I.eq (option_copied one.entry) (option_copied other.entry) }
+    ensures { result ≡ option_eq I.eq (option_copied one.entry) (option_copied other.entry) }
 {
     match one {
         None => other.is_none(),
@@ -86,7 +86,7 @@ impl<'a, L: Lint> PlannedChange<'a, L> {
 
     // Whether the path of the change offers what it offered, or no file stands there before and after.
     fn has_same_interface(&self) -> bool
-        ensures { result ≡ same_answer L.Iface.eq
+        ensures { result ≡ option_eq L.Iface.eq
             (interface_in L.meaning self.now.before self.now.path)
             (interface_in L.meaning (changed_by self.now) self.now.path) }
     {
@@ -96,7 +96,7 @@ impl<'a, L: Lint> PlannedChange<'a, L> {
 
     // Whether a call has the answer that it had.
     fn has_same_answer(&self, target: &Target) -> bool
-        ensures { result ≡ same_answer L.Iface.eq (answer L.meaning self.now.before target.now)
+        ensures { result ≡ option_eq L.Iface.eq (answer L.meaning self.now.before target.now)
             (answer L.meaning (changed_by self.now) target.now) }
     {
         let before = self.as_is().answer(target);
@@ -106,7 +106,7 @@ impl<'a, L: Lint> PlannedChange<'a, L> {
     // Whether all these calls have the answers that they had.
     fn has_same_answers(&self, targets: &[Target]) -> bool
         ensures { result ≡ list_all
-            (λ t. same_answer L.Iface.eq (answer L.meaning self.now.before t)
+            (λ t. option_eq L.Iface.eq (answer L.meaning self.now.before t)
             (answer L.meaning (changed_by self.now) t)) targets.now }
     {
         for target in targets {

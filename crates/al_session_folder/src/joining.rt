@@ -3,7 +3,7 @@
 ghost use Rattle.std.specs.Prelude.{◌≡◌, ◌++◌, ◌==◌, IfOk, OnOk, length, not};
 ghost use Rattle.std.specs.List.{enumerate_from, list_any};
 ghost use Rattle.al_base.specs.FaultLists.{fault_list};
-ghost use Rattle.al_session_folder.specs.Kept.{folder_of, referred};
+ghost use Rattle.al_session_folder.specs.Kept.{folder_of, referents};
 ghost use Rattle.al_session_folder.specs.Loops as loops;
 ghost use Rattle.al_session_folder.specs.Checked.{AllChecked};
 ghost use Rattle.al_session_folder.specs.Printing.{AreListed, AreLoops, joined_faults};
@@ -14,7 +14,7 @@ use std::alloc::{AllocError, Global};
 
 // Adds references to faults.
 fn add_references<'a>(faults: &'a [Fault], out: &mut Vec<&'a Fault>) -> Result<(), AllocError>
-    ensures { OnOk result (referred out.new.items ≡ referred out.old.items ++ faults.now) }
+    ensures { OnOk result (referents out.new.items ≡ referents out.old.items ++ faults.now) }
 {
     for fault in faults {
         out.push(fault)?;
@@ -24,7 +24,7 @@ fn add_references<'a>(faults: &'a [Fault], out: &mut Vec<&'a Fault>) -> Result<(
 
 // Puts the faults that are referred to in the order of reports, each once.
 fn put_in_order(faults: &mut Vec<&Fault>)
-    ensures { referred faults.new.items ≡ fault_list (referred faults.old.items) }
+    ensures { referents faults.new.items ≡ fault_list (referents faults.old.items) }
 {
     faults.sort_unstable();
     faults.dedup();
@@ -36,7 +36,7 @@ fn join_faults<'a>(
     own: &'a [Fault],
     loops: &'a [Fault],
 ) -> Result<Vec<&'a Fault>, AllocError>
-    ensures { IfOk result (λ joined. referred joined.items ≡ joined_faults own.now loops.now) }
+    ensures { IfOk result (λ joined. referents joined.items ≡ joined_faults own.now loops.now) }
 {
     let mut joined = Vec::new(alloc);
     if loops.is_empty() {

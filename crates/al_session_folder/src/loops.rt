@@ -40,8 +40,8 @@ fn number_of<U, I>(files: &Files<U, I>, path: &Path) -> Option<usize>
 }
 
 /// The number of the file that a call leads to: of its first candidate that is there.
-fn called<U, I>(files: &Files<U, I>, target: &Target) -> Option<usize>
-    ensures number { result ≡ loops.called (folder_of files.now.entries) target.now }
+fn callee<U, I>(files: &Files<U, I>, target: &Target) -> Option<usize>
+    ensures number { result ≡ loops.callee (folder_of files.now.entries) target.now }
     ensures inside { IfSome result (λ number. number < length files.now.entries) }
 {
     match target {
@@ -54,16 +54,16 @@ fn called<U, I>(files: &Files<U, I>, target: &Target) -> Option<usize>
 }
 
 /// Adds the number of the file that a call leads to.
-fn add_called<U, I>(
+fn add_callee<U, I>(
     files: &Files<U, I>,
     target: &Target,
     numbers: &mut Vec<usize>,
 ) -> Result<(), AllocError>
     ensures { OnOk result (numbers.new.items
         ≡ numbers.old.items
-        ++ cons_option (loops.called (folder_of files.now.entries) target.now) []) }
+        ++ cons_option (loops.callee (folder_of files.now.entries) target.now) []) }
 {
-    match called(files, target) {
+    match callee(files, target) {
         None => Ok(()),
         Some(number) => {
             numbers.push(number)?;
@@ -73,18 +73,18 @@ fn add_called<U, I>(
 }
 
 /// The numbers of the files that calls lead to, in order.
-fn all_called<U, I>(
+fn callees<U, I>(
     alloc: Global,
     files: &Files<U, I>,
     targets: &[Target],
 ) -> Result<Vec<usize>, AllocError>
     ensures { IfOk result
         (λ numbers. numbers.items
-        ≡ filter_map (loops.called (folder_of files.now.entries)) targets.now) }
+        ≡ filter_map (loops.callee (folder_of files.now.entries)) targets.now) }
 {
     let mut numbers = Vec::with_capacity(alloc, targets.len())?;
     for target in targets {
-        add_called(files, target, &mut numbers)?;
+        add_callee(files, target, &mut numbers)?;
     }
     Ok(numbers)
 }
@@ -154,7 +154,7 @@ fn calls_graph<L: Lint>(
         let (_, file) = file_number(files, index);
         let is_wanted = is_between(first, index, end);
         let calls = calls_if(is_wanted, file);
-        graph.push(all_called(alloc, files, calls)?)?;
+        graph.push(callees(alloc, files, calls)?)?;
     }
     Ok(graph)
 }
@@ -210,7 +210,7 @@ fn has_label_of(nodes: &[usize], labels: &[Option<usize>], node: usize) -> bool
 
 /// The number of the file that one of a file's calls leads to, by the row that these calls gave in the graph. Where each of them leads to a
 /// file, it has its place in the row, and nothing is looked up again.
-fn called_again<U, I>(
+fn callee_again<U, I>(
     files: &Files<U, I>,
     row: &[usize],
     calls: &[Target],
@@ -219,12 +219,12 @@ fn called_again<U, I>(
     requires row { IsRow (folder_of files.now.entries) row.now calls.now }
     requires call { call < length calls.now }
     ensures { (target : Target) → target ≡ slice_index_or calls.now call target
-        → result ≡ loops.called (folder_of files.now.entries) target }
+        → result ≡ loops.callee (folder_of files.now.entries) target }
 {
     if row.len() == calls.len() {
         Some(row[call])
     } else {
-        called(files, &calls[call])
+        callee(files, &calls[call])
     }
 }
 
@@ -325,7 +325,7 @@ impl<'a, L: Lint> LinkedFiles<'a, L> {
         let (_, file) = file_number(self.files, index);
         let targets = file.calls.targets.as_slice();
         for call in 0..targets.len() {
-            let to = called_again(self.files, row, targets, call);
+            let to = callee_again(self.files, row, targets, call);
             let leads_back = leads_back(&self.calls.labels, index, to);
             add_fault_if(leads_back, lint.site(&file.unit, call), faults)?;
         }

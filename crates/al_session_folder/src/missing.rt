@@ -6,7 +6,7 @@ ghost use Rattle.std.specs.Ordering.{nat_cmp};
 ghost use Rattle.std.specs.Cmp.Lexicographic.{slice_cmp};
 ghost use Rattle.al_base.specs.InOrder.{in_order};
 ghost use Rattle.al_session_folder.specs.Affected.{is_among};
-ghost use Rattle.al_session_folder.specs.Kept.{AreKept, folder_of, referred};
+ghost use Rattle.al_session_folder.specs.Kept.{AreKept, folder_of, referents};
 ghost use Rattle.al_session_folder.specs.Meaning.{candidates};
 ghost use Rattle.al_session_folder.specs.Missing.{is_absent, is_missing, absent_candidates, missing_in};
 
@@ -49,7 +49,7 @@ fn add_absent<'a, U, I>(
     targets: &'a [Target],
     missing: &mut Vec<&'a Path>,
 ) -> Result<(), AllocError>
-    ensures { OnOk result (referred missing.new.items ≡ referred missing.old.items
+    ensures { OnOk result (referents missing.new.items ≡ referents missing.old.items
         ++ absent_candidates (folder_of files.now.entries) targets.now) }
 {
     for target in targets {
@@ -64,7 +64,7 @@ fn add_candidates<'a, U, I>(
     target: &'a Target,
     missing: &mut Vec<&'a Path>,
 ) -> Result<(), AllocError>
-    ensures { OnOk result (referred missing.new.items ≡ referred missing.old.items
+    ensures { OnOk result (referents missing.new.items ≡ referents missing.old.items
         ++ filter (is_absent (folder_of files.now.entries)) (candidates target.now)) }
 {
     match target {
@@ -82,7 +82,7 @@ fn add_if_absent<'a, U, I>(
     path: &'a Path,
     missing: &mut Vec<&'a Path>,
 ) -> Result<(), AllocError>
-    ensures { OnOk result (referred missing.new.items ≡ referred missing.old.items
+    ensures { OnOk result (referents missing.new.items ≡ referents missing.old.items
         ++ filter (is_absent (folder_of files.now.entries)) (path.now ∷ [])) }
 {
     if files.contains_key(path.as_str()) {
@@ -94,8 +94,8 @@ fn add_if_absent<'a, U, I>(
 
 // Puts paths in order, each once.
 fn put_in_order(paths: &mut Vec<&Path>)
-    ensures { referred paths.new.items
-        ≡ in_order (slice_cmp nat_cmp) (referred paths.old.items) }
+    ensures { referents paths.new.items
+        ≡ in_order (slice_cmp nat_cmp) (referents paths.old.items) }
 {
     paths.sort_unstable_by(|one, other| one.as_str().cmp(other.as_str()));
     paths.dedup_by(|one, other| one.as_str() == other.as_str());
@@ -103,7 +103,7 @@ fn put_in_order(paths: &mut Vec<&Path>)
 
 // The paths that are referred to, with memory of their own.
 fn copies(alloc: Global, paths: &[&Path]) -> Result<Vec<Path>, AllocError>
-    ensures { IfOk result (λ copies. copies.items ≡ referred paths.now) }
+    ensures { IfOk result (λ copies. copies.items ≡ referents paths.now) }
 {
     let mut copies = Vec::with_capacity(alloc, paths.len())?;
     for path in paths {

@@ -5,8 +5,8 @@ ghost use Rattle.std.specs.List.{enumerate_from, flat_map, list_any};
 ghost use Rattle.std.specs.Io.KnownBytes.{Appends};
 ghost use Rattle.al_base.specs.Counted.{HasRisen, AppendsPrefix};
 ghost use Rattle.al_base.specs.Streams.{bytes_written, write_failures};
-ghost use Rattle.al_session_folder.specs.Kept.{folder_of, referred};
-ghost use Rattle.al_session_folder.specs.Printing.{AreListed, ArePrintable, IsPrintable, lines_of, listed, numbered_lines};
+ghost use Rattle.al_session_folder.specs.Kept.{folder_of, referents};
+ghost use Rattle.al_session_folder.specs.Printing.{AreListed, ArePrintable, IsPrintable, lines_of, joined_or_own, numbered_lines};
 
 use crate::{Files, KeptFile, Lint, file_number};
 use al_base::{Fault, Location, Output, Stop};
@@ -86,15 +86,15 @@ fn write_file<U, I, W: Write>(
     listing: &Listing<'_, U, I>,
     joined: &[&Fault],
 ) -> Result<(), Stop>
-    requires { IsPrintable listing.now.file.now (listed listing.now.file.now joined.now) }
+    requires { IsPrintable listing.now.file.now (joined_or_own listing.now.file.now joined.now) }
     ensures all { OnOk result
         (Appends (bytes_written W.contents writer.old) (bytes_written W.contents writer.new)
         (lines_of listing.now.oneline listing.now.path.now listing.now.file.now
-        (listed listing.now.file.now joined.now))) }
+        (joined_or_own listing.now.file.now joined.now))) }
     ensures prefix { OnErr result
         (AppendsPrefix (bytes_written W.contents writer.old) (bytes_written W.contents writer.new)
         (lines_of listing.now.oneline listing.now.path.now listing.now.file.now
-        (listed listing.now.file.now joined.now))) }
+        (joined_or_own listing.now.file.now joined.now))) }
     ensures failures { OnOk result (write_failures writer.new ≡ write_failures writer.old) }
     ensures failed { OnErr result
         (HasRisen (write_failures writer.old) (write_failures writer.new)) }
@@ -120,15 +120,15 @@ fn write_referred<U, I, W: Write>(
     listing: &Listing<'_, U, I>,
     faults: &[&Fault],
 ) -> Result<(), Stop>
-    requires { IsPrintable listing.now.file.now (referred faults.now) }
+    requires { IsPrintable listing.now.file.now (referents faults.now) }
     ensures all { OnOk result
         (Appends (bytes_written W.contents writer.old) (bytes_written W.contents writer.new)
         (lines_of listing.now.oneline listing.now.path.now listing.now.file.now
-        (referred faults.now))) }
+        (referents faults.now))) }
     ensures prefix { OnErr result
         (AppendsPrefix (bytes_written W.contents writer.old) (bytes_written W.contents writer.new)
         (lines_of listing.now.oneline listing.now.path.now listing.now.file.now
-        (referred faults.now))) }
+        (referents faults.now))) }
     ensures failures { OnOk result (write_failures writer.new ≡ write_failures writer.old) }
     ensures failed { OnErr result
         (HasRisen (write_failures writer.old) (write_failures writer.new)) }

@@ -26,11 +26,11 @@ pub struct FolderView<'a, L: Lint> {
 impl<'a, L: Lint> Model for FolderView<'a, L> {
     ghost use Rattle.std.specs.Option.{option_copied};
     ghost use Rattle.al_session_folder.specs.Folder.{Folder};
-    ghost use Rattle.al_session_folder.specs.FolderViews.{IsViewIf, viewed};
+    ghost use Rattle.al_session_folder.specs.FolderViews.{IsViewIf, folder_in_view};
 
     ghost Value = { Folder };
 
-    ghost view = { λ v. viewed v.files.now.entries (option_copied v.path) (option_copied v.next) };
+    ghost view = { λ v. folder_in_view v.files.now.entries (option_copied v.path) (option_copied v.next) };
 
     ghost invariant = { λ v. IsViewIf L.meaning L.is_unit v.files.now.entries (option_copied v.path) (option_copied v.next) };
 }

@@ -101,19 +101,19 @@ static ANSWERED: [Step; 2] = [
     (Change::Put("b.toy", b"have x"), &["a.toy", "b.toy"], b""),
 ];
 
-fn needed() -> &'static [Step] {
+fn need_steps() -> &'static [Step] {
     &NEEDED
 }
 
-fn answered() -> &'static [Step] {
+fn answer_steps() -> &'static [Step] {
     &ANSWERED
 }
 
 fn answers_calls(alloc: Global, session: &mut Session<Toy>) -> Result<bool, Stop> {
     Ok(
-        follows(alloc, session, needed())?
+        follows(alloc, session, need_steps())?
             && misses(session, &["b.toy", "c.toy"])?
-            && follows(alloc, session, answered())?,
+            && follows(alloc, session, answer_steps())?,
     )
 }
 
@@ -273,7 +273,7 @@ fn a_folder_is_full(rt: HostRuntime) -> Result<(), AllocError> {
 }
 
 // How many of the changes are accepted.
-fn accepted(
+fn count_accepted(
     alloc: Global,
     session: &mut Session<Toy>,
     changes: &[Change],
@@ -298,7 +298,7 @@ fn has_file(session: &Session<Toy>, path: &str) -> bool {
 
 fn applies(alloc: Global, changes: &[Change]) -> Result<bool, AllocError> {
     let mut session = open(alloc);
-    Ok(accepted(alloc, &mut session, changes)? == 2 && !has_file(&session, "a.toy"))
+    Ok(count_accepted(alloc, &mut session, changes)? == 2 && !has_file(&session, "a.toy"))
 }
 
 #[test]
@@ -324,7 +324,7 @@ static CALLED: [Step; 3] = [
     ),
 ];
 
-fn called() -> &'static [Step] {
+fn candidate_steps() -> &'static [Step] {
     &CALLED
 }
 
@@ -339,7 +339,7 @@ fn second_comes() -> &'static [Step] {
 
 #[test]
 fn the_second_candidate_comes_to_answer(rt: HostRuntime) -> Result<(), Stop> {
-    assert!(rt; ends(rt.alloc(), called(), second_comes(), 0)?);
+    assert!(rt; ends(rt.alloc(), candidate_steps(), second_comes(), 0)?);
     Ok(())
 }
 
@@ -354,7 +354,7 @@ fn same_interface() -> &'static [Step] {
 
 #[test]
 fn other_bytes_with_the_same_interface_check_no_caller(rt: HostRuntime) -> Result<(), Stop> {
-    assert!(rt; ends(rt.alloc(), called(), same_interface(), 1)?);
+    assert!(rt; ends(rt.alloc(), candidate_steps(), same_interface(), 1)?);
     Ok(())
 }
 
@@ -375,7 +375,7 @@ fn equal_answer() -> &'static [Step] {
 
 #[test]
 fn an_equal_answer_checks_no_caller(rt: HostRuntime) -> Result<(), Stop> {
-    assert!(rt; ends(rt.alloc(), called(), equal_answer(), 0)?);
+    assert!(rt; ends(rt.alloc(), candidate_steps(), equal_answer(), 0)?);
     Ok(())
 }
 
@@ -391,7 +391,7 @@ fn stopped_calling() -> &'static [Step] {
 
 #[test]
 fn files_that_stopped_calling_are_not_checked(rt: HostRuntime) -> Result<(), Stop> {
-    assert!(rt; ends(rt.alloc(), called(), stopped_calling(), 0)?);
+    assert!(rt; ends(rt.alloc(), candidate_steps(), stopped_calling(), 0)?);
     Ok(())
 }
 

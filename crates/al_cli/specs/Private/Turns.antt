@@ -2,16 +2,17 @@
 use Rattle.std.specs.Prelude.{◌≡◌, ◌⊎◌, ℕ, true, if◌then◌else◌, List, [], ◌∷◌, ◌++◌, Option, None, Some, slice_get, string_bytes, String}
 use Rattle.std.specs.Global.{Global}
 use Rattle.std.specs.List.{AllByRecursion}
+use Rattle.al_session.specs.Affected.{is_among}
 use Rattle.al_session.specs.Folder.{paths_of}
 use Rattle.al_session.specs.declared.lint.Target.{Target}
 use Rattle.al_check.specs.Linting.{linting}
-use Rattle.al_cli.specs.Taken.{AreCalled, called_by, has_path}
+use Rattle.al_cli.specs.Taken.{AreCalled, called_by}
 use Rattle.al_cli.specs.declared.gathering.Found.{Found}
 use Rattle.al_cli.specs.declared.gathering.Found.TheVariants.{File, Absent, Outside}
 
 -- a file behind these, unless one of them has its path
 abbrev pub with_entry : List (List ℕ × List ℕ) → List ℕ × List ℕ → List (List ℕ × List ℕ)
-with_entry files e = if has_path (paths_of files) e.0 then files else files ++ e ∷ []
+with_entry files e = if is_among e.0 (paths_of files) then files else files ++ e ∷ []
 
 -- what is found at a path is taken, where it is a file that wasn't
 abbrev pub IsTakenAs : Found → List ℕ → List (List ℕ × List ℕ) → List (List ℕ × List ℕ) → Type 0
@@ -34,7 +35,7 @@ calls_at files number = calls_of_entry (slice_get files number)
 
 -- each of these texts stands among the paths
 abbrev pub AreAmong : List (List ℕ) → List (String Global) → Type 0
-AreAmong paths texts = AllByRecursion (λ text. has_path paths (string_bytes text) ≡ true) texts
+AreAmong paths texts = AllByRecursion (λ text. is_among (string_bytes text) paths ≡ true) texts
 
 -- files behind the first ones, each called by one before it, and the candidates that wait, each called by one of all these
 pub record IsCalling (first : List (List ℕ × List ℕ)) (files : List (List ℕ × List ℕ)) (texts : List (String Global)) : Type 0 where

@@ -30,8 +30,8 @@ Nested graph order = (a b c : ℕ) → a ≤ c → c ≤ b → b < length order 
     Walk graph (node_at order b) (node_at order c)
 
 -- each node is seen that an edge leads to, or is one of these
-abbrev pub is_seen_edges : List (List ℕ) → List Bool → ℕ × List ℕ → Type 0
-is_seen_edges graph seen f = (k : ℕ) → Edge graph f.0 k → Marked seen k ⊎ Contains f.1 k
+abbrev pub SeesEdges : List (List ℕ) → List Bool → ℕ × List ℕ → Type 0
+SeesEdges graph seen f = (k : ℕ) → Edge graph f.0 k → Marked seen k ⊎ Contains f.1 k
 
 -- What holds while the search goes on, of the nodes seen, those that it is at, and those that it is done with. The edges at which it has
 -- looked are apart.
@@ -50,7 +50,7 @@ pub record IsBegun (graph : List (List ℕ)) (seen : List Bool) (frames : List (
 
 pub record IsSearch (graph : List (List ℕ)) (seen : List Bool) (frames : List (ℕ × List ℕ)) (order : List ℕ) : Type 0 where
   pub begun : IsBegun graph seen frames order
-  pub looked : AllByRecursion (is_seen_edges graph seen) frames
+  pub looked : AllByRecursion (SeesEdges graph seen) frames
 
 -- a bound on the steps that are left
 abbrev pub frame_cost : ℕ × List ℕ → ℕ

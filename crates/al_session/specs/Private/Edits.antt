@@ -3,7 +3,7 @@ use Rattle.std.specs.Prelude.{◌≡◌, ℕ, Bool, List, length}
 use Rattle.al_base.specs.Counted.{raised}
 use Rattle.al_session_folder.specs.Meaning.{IsUpTo, Meaning}
 use Rattle.al_session_folder.specs.Folder.{Folder}
-use Rattle.al_session_folder.specs.Affected.{affected}
+use Rattle.al_session_folder.specs.Affected.{affected_paths}
 use Rattle.al_session.specs.Session.{IsLinted, folder_in}
 use Rattle.al_session.specs.declared.indexed.IndexedFiles.{IndexedFiles}
 
@@ -12,7 +12,7 @@ pub record IsEdited {U I : Type 0} (eq : I → I → Bool) (m : Meaning I) (is_u
     (wanted : Folder) (checks_before : ℕ) (paths : List (List ℕ)) (now : IndexedFiles U I) (checks_now : ℕ) : Type 0 where
   pub linted : IsLinted m is_unit now checks_now
   pub folder : folder_in now ≡ wanted
-  pub rechecked : paths ≡ affected eq m (folder_in before) wanted
+  pub rechecked : paths ≡ affected_paths eq m (folder_in before) wanted
   pub checks : checks_now ≡ raised checks_before (length paths)
 
 -- The files as they were, where memory ended before all was done: at most the affected files were checked.
@@ -20,4 +20,5 @@ pub record IsUndone {U I : Type 0} (eq : I → I → Bool) (m : Meaning I) (is_u
     (wanted : Folder) (checks_before : ℕ) (now : IndexedFiles U I) (checks_now : ℕ) : Type 0 where
   pub linted : IsLinted m is_unit now checks_now
   pub as_before : now.files.entries ≡ before.files.entries
-  pub few_checks : IsUpTo checks_before checks_now (length (affected eq m (folder_in before) wanted))
+  pub few_checks :
+      IsUpTo checks_before checks_now (length (affected_paths eq m (folder_in before) wanted))

@@ -10,4 +10,4 @@ returns-in-Put g c =
     let e = c.put.ensures in
     let P : Change → Type 0 = λ change. IsReply g.L.Iface.PartialEq.eq g.L.Lint.meaning c.args.session.now change c.put.result c.put.new.self in
     subst P (sym c.in-Put.is) (reply_is g.L.Iface.PartialEq.eq g.L.Lint.meaning c.args.session.now c.put.new.self (Put c.in-Put.path c.in-Put.bytes) c.put.result
-    e.accepted e.folder e.rechecked e.meter e.refused e.as_before e.no_check e.few_checks e.no_read (e.reads.there, e.reads.read_once))
+    e.accepted e.folder e.rechecked e.meter e.refused e.as_before e.no_check e.few_checks e.no_read e.reads)

@@ -5,7 +5,7 @@ use Rattle.std.proofs.lemmas.List.{take_all}
 use Rattle.std.proofs.lemmas.List.FromFn.{length-enumerate_from}
 use Rattle.al_graph.specs.Graphs.{edges_of}
 use Rattle.al_session_folder.specs.Kept.{folder_of}
-use Rattle.al_session_folder.specs.Loops.{called}
+use Rattle.al_session_folder.specs.Loops.{callee}
 use Rattle.al_session_folder.specs.declared.kept.KeptFile.{KeptFile}
 use Rattle.al_session_folder.proofs.Missings.{read_is}
 use Rattle.al_session_folder.proofs.Looping.{Inside, graph_next, numbered, part_of_kept}
@@ -19,20 +19,20 @@ loop-index-init g c =
 pub loop-index-preserved : goal.loop-index-preserved
 loop-index-preserved g c =
     let files = c.args.files.now.entries in
-    let h = called (folder_of files) in
+    let h = callee (folder_of files) in
     let e : String Global × KeptFile _ _ = (c.file_number.result.0.now, c.file_number.result.1.now) in
     let n : length (enumerate_from 0 files) ≡ length files = length-enumerate_from 0 files in
     graph_next (λ x. filter_map h (cond (Inside c.args.first c.args.end x.0) x.1.1.calls.targets.items [])) (enumerate_from 0 files) c.loop-index.index
-    (c.loop-index.index, e) c.loop-index.graph.items c.push.new.self.items c.in_ok-all_called.field-0
+    (c.loop-index.index, e) c.loop-index.graph.items c.push.new.self.items c.in_ok-callees.field-0
     (omega (arith, n, c.len-index-end.ensures.len, c.loop-index-test.true))
     (read_is (enumerate_from 0 files) c.loop-index.index (c.loop-index.index, e) (numbered files c.loop-index.index e c.file_number.ensures))
     c.loop-index.invariant c.in_ok-push.ensures.items
-    (c.in_ok-all_called.ensures ∙ ap (filter_map h) (c.calls_if-calls.ensures ∙ ap (λ b. cond b e.1.calls.targets.items []) c.is_between-is_wanted.ensures))
+    (c.in_ok-callees.ensures ∙ ap (filter_map h) (c.calls_if-calls.ensures ∙ ap (λ b. cond b e.1.calls.targets.items []) c.is_between-is_wanted.ensures))
 
 pub returns : goal.returns
 returns g c =
     let files = c.args.files.now.entries in
-    let h = called (folder_of files) in
+    let h = callee (folder_of files) in
     let n : length (enumerate_from 0 files) ≡ length files = length-enumerate_from 0 files in
     let whole = take_all c.loop-index.index (enumerate_from 0 files) (omega (arith, n, c.len-index-end.ensures.len, c.loop-index-test.false)) in
     c.loop-index.invariant ∙ ap (map (λ x. filter_map h (cond (Inside c.args.first c.args.end x.0) x.1.1.calls.targets.items []))) whole

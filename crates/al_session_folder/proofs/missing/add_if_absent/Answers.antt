@@ -1,5 +1,5 @@
 use Rattle.std.proofs.Common.{sym, ◌∙◌, ◌++◌, ap, true, false, append-nil}
-use Rattle.al_session_folder.specs.Kept.{referred}
+use Rattle.al_session_folder.specs.Kept.{referents}
 use Rattle.al_session_folder.proofs.Missings.{absent_by}
 use Rattle.al_session_folder.proofs.Referring.{referred-append}
 use Rattle.al_session_folder.proofs.missing.add_if_absent.Goals as goal
@@ -7,9 +7,9 @@ use Rattle.al_session_folder.proofs.missing.add_if_absent.Goals as goal
 pub returns-then-contains_key : goal.returns-then-contains_key
 returns-then-contains_key g c =
     let none = absent_by c.args.files.now.entries c.args.path.now true (sym (rw c.as_str.ensures.text at c.contains_key.ensures) ∙ c.if-contains_key.true) in
-    sym (ap (λ l. referred c.args.missing.now.items ++ l) none ∙ append-nil (referred c.args.missing.now.items))
+    sym (ap (λ l. referents c.args.missing.now.items ++ l) none ∙ append-nil (referents c.args.missing.now.items))
 
 pub returns : goal.returns
 returns g c =
     let some = absent_by c.args.files.now.entries c.args.path.now false (sym (rw c.as_str.ensures.text at c.contains_key.ensures) ∙ c.if-contains_key.false) in
-    ap referred c.in_ok-push.ensures.items ∙ referred-append c.args.missing.now.items c.args.path ∙ sym (ap (λ l. referred c.args.missing.now.items ++ l) some)
+    ap referents c.in_ok-push.ensures.items ∙ referred-append c.args.missing.now.items c.args.path ∙ sym (ap (λ l. referents c.args.missing.now.items ++ l) some)

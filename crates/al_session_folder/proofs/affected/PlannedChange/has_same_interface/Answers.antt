@@ -1,6 +1,5 @@
 use Rattle.std.proofs.Common.{ap, ◌∙◌}
-use Rattle.std.specs.Option.{option_copied}
-use Rattle.al_session_folder.specs.Affected.{same_answer}
+use Rattle.std.specs.Option.{option_copied, option_eq}
 use Rattle.al_session_folder.specs.Folder.{Folder, interface_in}
 use Rattle.al_session_folder.specs.FolderViews.{FolderChange}
 use Rattle.al_session_folder.proofs.affected.PlannedChange.has_same_interface.Goals as goal
@@ -11,5 +10,5 @@ returns g c =
     let m = g.L.Lint.meaning in
     let path = ap (λ (s : FolderChange). s.path) c.self.view_is in
     let at : Folder → _ = λ f. interface_in m f c.args.self.now.path in
-    c.is_same.ensures ∙ ap (λ o. same_answer eq o (option_copied c.interface.result)) (c.interface-before.ensures ∙ ap (interface_in m c.as_is.result) path ∙ ap at c.as_is.ensures)
-    ∙ ap (same_answer eq _) (c.interface.ensures ∙ ap (interface_in m c.after.result) path ∙ ap at c.after.ensures.folder)
+    c.is_same.ensures ∙ ap (λ o. option_eq eq o (option_copied c.interface.result)) (c.interface-before.ensures ∙ ap (interface_in m c.as_is.result) path ∙ ap at c.as_is.ensures)
+    ∙ ap (option_eq eq _) (c.interface.ensures ∙ ap (interface_in m c.after.result) path ∙ ap at c.after.ensures.folder)

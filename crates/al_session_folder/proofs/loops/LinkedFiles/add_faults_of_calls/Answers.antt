@@ -11,8 +11,8 @@ use Rattle.al_session_folder.specs.Sites.{fault_of}
 use Rattle.al_session_folder.proofs.Looping.{call_edge, entry_number, entry_there, fault_if, if_called, kept_number, looping_end, looping_next, one_entry, row_of}
 use Rattle.al_session_folder.proofs.loops.LinkedFiles.add_faults_of_calls.Goals as goal
 
-pub called_again-to-requires-clause-row : goal.called_again-to-requires-clause-row
-called_again-to-requires-clause-row g c =
+pub callee_again-to-requires-clause-row : goal.callee_again-to-requires-clause-row
+callee_again-to-requires-clause-row g c =
     let v = c.self.inside in
     let e : String Global × KeptFile _ _ = (c.file_number.result.0.now, c.file_number.result.1.now) in
     let kept = kept_number g.L.Lint.meaning g.L.Lint.is_unit v.files.now.entries c.args.index e c.self.invariant.kept.kept c.file_number.ensures in
@@ -35,8 +35,8 @@ leads_back-leads_back-requires-clause-to g c =
     let size = c.self.invariant.calls.tell.0 in
     let n : length (calls_graph g.L.Lint.meaning F) ≡ length F = length-map F _ in
     let t = entry_there c.as_slice-targets.result.now c.loop-call.call (omega (arith, c.loop-call-test.true)) in
-    if_called F t.0 c.called_again-to.result (length c.deref.result.now)
-    (c.called_again-to.ensures t.0 (sym (get_or_from_slice_get c.as_slice-targets.result.now c.loop-call.call t.0 t.0 t.1)))
+    if_called F t.0 c.callee_again-to.result (length c.deref.result.now)
+    (c.callee_again-to.ensures t.0 (sym (get_or_from_slice_get c.as_slice-targets.result.now c.loop-call.call t.0 t.0 t.1)))
     (omega (arith, size, n, ap length c.deref.ensures.value))
 
 pub site-requires : goal.site-requires
@@ -63,9 +63,9 @@ loop-call-preserved g c p b at =
     let within : c.loop-call.call < length (m.calls p b) = omega (arith, c.loop-call-test.true, ap length items) in
     let t = entry_there (m.calls p b) c.loop-call.call within in
     let read = sym (get_or_from_slice_get (m.calls p b) c.loop-call.call t.0 t.0 t.1) in
-    let to = c.called_again-to.ensures t.0 (read ∙ ap (λ l. get_or l c.loop-call.call t.0) (sym items)) in
+    let to = c.callee_again-to.ensures t.0 (read ∙ ap (λ l. get_or l c.loop-call.call t.0) (sym items)) in
     let tells = subst (TellLoops G) (sym c.deref.ensures.value) c.self.invariant.calls.tell in
-    let edge : IsCalledBy G c.args.index c.called_again-to.result =
+    let edge : IsCalledBy G c.args.index c.callee_again-to.result =
     subst (IsCalledBy G c.args.index) (sym to) (call_edge m F c.args.index c.loop-call.call p b t.0 at within read) in
     let back = c.leads_back-leads_back.ensures G tells edge ∙ ap (leads_back G c.args.index) to in
     let added = c.in_ok-add_fault_if.ensures ∙ ap (λ back. c.loop-call.faults ++ fault_if back (fault_of c.site.result)) back in

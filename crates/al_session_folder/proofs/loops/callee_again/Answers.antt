@@ -1,8 +1,8 @@
 use Rattle.std.proofs.Common.{◌≡◌, arith, get_or, length, refl, ap, ◌∙◌}
 use Rattle.al_session_folder.specs.Kept.{folder_of}
-use Rattle.al_session_folder.specs.Loops.{called}
+use Rattle.al_session_folder.specs.Loops.{callee}
 use Rattle.al_session_folder.proofs.Looping.{row_called, same_read}
-use Rattle.al_session_folder.proofs.loops.called_again.Goals as goal
+use Rattle.al_session_folder.proofs.loops.callee_again.Goals as goal
 
 pub returns-then-row-calls : goal.returns-then-row-calls
 returns-then-row-calls g c target is =
@@ -12,4 +12,4 @@ returns-then-row-calls g c target is =
 
 pub returns-else-row-calls : goal.returns-else-row-calls
 returns-else-row-calls g c target is =
-    c.called.ensures.number ∙ ap (called (folder_of c.args.files.now.entries)) (same_read c.args.calls.now c.args.call _ target c.requires.call c.index-calls-call.is is)
+    c.callee.ensures.number ∙ ap (callee (folder_of c.args.files.now.entries)) (same_read c.args.calls.now c.args.call _ target c.requires.call c.index-calls-call.is is)
