@@ -1,5 +1,10 @@
-use Rattle.std.proofs.Common.{◌+◌, arith, refl}
+use Rattle.std.proofs.Common.{◌+◌, ap, arith, refl, sym, ◌∙◌}
 use Rattle.al_scalar.specs.LineEnds.{cells_between}
+use Rattle.al_scalar.specs.Places.{lines_at}
+use Rattle.al_scalar.specs.Quoted.{double_quoted}
+use Rattle.al_scalar.specs.Taken.{before}
+use Rattle.al_scalar.proofs.FoldLemmas.{before-none}
+use Rattle.al_scalar.proofs.LineLemmas.{cells_between-none}
 use Rattle.al_scalar.proofs.SingleLemmas.{is_inside, never}
 use Rattle.al_scalar.proofs.LiteralLemmas.{reads-blanks, reads-run, reads-byte, reads-end, reads-more}
 use Rattle.al_scalar.proofs.double.literal_run.Goals as goal
@@ -29,4 +34,16 @@ characters-preserved c =
       inside = omega arith;
       reads = reads-more bytes c.args.at c.characters.end (c.blanks_end-solid.result + 1) c.characters.invariant.from (omega arith) c.characters.invariant.reads
           (reads-byte bytes c.characters.end c.blanks_end-solid.result found.blanks found.lines found.from here (found.not_blank here.inside) (λ h. never (c.if-is_mark.ensures.1 h)));
+    }
+
+pub characters-init : goal.characters-init
+characters-init c =
+    let bytes = c.args.bytes.now in
+    let at = c.args.at in
+    record {
+      from = omega arith;
+      inside = c.requires;
+      reads = λ quote.
+          let read = double_quoted quote (lines_at bytes at) in
+          sym (ap (λ cells. before cells read) (cells_between-none bytes at) ∙ before-none read);
     }
