@@ -7,7 +7,7 @@ pub mod FaultLists
 pub mod Growing
 pub mod Sets
 pub mod Elements
-pub mod ShownTexts
+pub mod PrintableTexts
 pub mod TwoTexts
 pub mod SameName
 pub mod NamePlaces

@@ -4,10 +4,10 @@ use Rattle.std.proofs.Math.ListN.{get_or-map}
 use Rattle.std.proofs.lemmas.List.{length-map}
 use Rattle.std.proofs.lemmas.Slice.Eq.{bytes_eq-Decides}
 use Rattle.std.specs.Char.{to_ascii_lowercase}
-use Rattle.al_base.specs.Names.{folded, same_name}
+use Rattle.al_base.specs.Names.{lower_case, same_name}
 
-same_folded : (a b : List ℕ) → same_name a b ≡ true → folded a ≡ folded b
-same_folded a b h = (bytes_eq-Decides (folded a) (folded b)).0 h
+same_folded : (a b : List ℕ) → same_name a b ≡ true → lower_case a ≡ lower_case b
+same_folded a b h = (bytes_eq-Decides (lower_case a) (lower_case b)).0 h
 
 pub same_length : (a b : List ℕ) → same_name a b ≡ true → length a ≡ length b
 same_length a b h = sym (length-map a to_ascii_lowercase) ∙ ap length (same_folded a b h) ∙ length-map b to_ascii_lowercase

@@ -17,7 +17,7 @@ use Rattle.std.proofs.lemmas.List.{get_or_default, length-map, length-take, map-
 use Rattle.std.proofs.lemmas.List.Folds.{find-append}
 use Rattle.std.proofs.lemmas.List.Sorted.{ranks_by, searchable_from_sorted}
 use Rattle.std.proofs.lemmas.Map.Text.{is_eq-slice_cmp}
-use Rattle.al_base.specs.Names.{folded}
+use Rattle.al_base.specs.Names.{lower_case}
 use Rattle.al_base.specs.NamePlaces.{name_place, text_place}
 use Rattle.al_base.specs.SortedTexts.{AreSorted, Key, entry_key, key_cmp, key_of, number_of, position_among}
 use Rattle.al_base.specs.declared.sorted_texts.Entry.{Entry}
@@ -236,6 +236,6 @@ entries_next bytes g xs i d old new e l h n k p =
     ∙ sym (first_more (λ m. bytes_eq m t) front u) ∙ ap (λ ts. text_place ts t) (sym all)) s)
 
 -- names stand where their texts in lower case do
-pub names_by_text : {X : Type 0} (g : X → List ℕ) (xs : List X) (n : List ℕ) → text_place (map (λ x. folded (g x)) xs) (folded n) ≡ name_place (map g xs) n
+pub names_by_text : {X : Type 0} (g : X → List ℕ) (xs : List X) (n : List ℕ) → text_place (map (λ x. lower_case (g x)) xs) (lower_case n) ≡ name_place (map g xs) n
 names_by_text g [] n = refl
-names_by_text g (x ∷ xs) n = ap (λ o. if bytes_eq (folded (g x)) (folded n) then Some 0 else option_map (λ i. i + 1) o) (names_by_text g xs n)
+names_by_text g (x ∷ xs) n = ap (λ o. if bytes_eq (lower_case (g x)) (lower_case n) then Some 0 else option_map (λ i. i + 1) o) (names_by_text g xs n)

@@ -7,7 +7,7 @@ use Rattle.std.specs.Cmp.Lexicographic.{slice_cmp}
 use Rattle.std.specs.Option.{option_cmp}
 use Rattle.std.specs.Ordering.{ordering_then}
 use Rattle.al_base.specs.Orders.{args_cmp}
-use Rattle.al_base.specs.Shown.{shown, shown_byte}
+use Rattle.al_base.specs.Printable.{printable, printable_byte}
 
 -- a text behind another begins where a character does
 pub cut_between : (text first second : List ℕ) → text ≡ first ++ second → IsUtf8 second → IsCharBoundary text (length first)
@@ -20,9 +20,9 @@ parts_of text first second is =
     rw (ap (take (length first)) is ∙ take_at first second (length first) refl, ap (drop (length first)) is ∙ drop_at first second (length first) refl) refl
 
 -- the parts of a text that is printed as it is are printed as they are
-pub parts_shown : (at : ℕ) (text : List ℕ) → shown text ≡ text → map shown (take at text ∷ drop at text ∷ []) ≡ take at text ∷ drop at text ∷ []
-parts_shown at text plain =
-    rw (sym (take-map shown_byte at text) ∙ ap (take at) plain, sym (drop-map shown_byte at text) ∙ ap (drop at) plain) refl
+pub parts_printable : (at : ℕ) (text : List ℕ) → printable text ≡ text → map printable (take at text ∷ drop at text ∷ []) ≡ take at text ∷ drop at text ∷ []
+parts_printable at text plain =
+    rw (sym (take-map printable_byte at text) ∙ ap (take at) plain, sym (drop-map printable_byte at text) ∙ ap (drop at) plain) refl
 
 -- ---- the order of at most two texts is that of the first, and then that of the second
 

@@ -1,7 +1,7 @@
 -- Where texts and names first stand in a list.
 use Rattle.std.specs.Prelude.{ℕ, ◌+◌, List, [], ◌∷◌, Bool, Option, Some, None, option_map, if◌then◌else◌}
 use Rattle.std.specs.Str.{bytes_eq}
-use Rattle.al_base.specs.Names.{folded, same_name}
+use Rattle.al_base.specs.Names.{lower_case, same_name}
 use Rattle.al_base.specs.SortedTexts.{position_among}
 use Rattle.al_base.specs.declared.name_positions.NamePositions.{NamePositions}
 use Rattle.al_base.specs.declared.name_positions.TextPositions.{TextPositions}
@@ -25,4 +25,4 @@ text_position p = position_among (λ t. t.now) p.entries.items
 
 -- where a name first stands
 unfoldable pub name_position : NamePositions → List ℕ → Option ℕ
-name_position p name = position_among (λ n. n.items) p.entries.items (folded name)
+name_position p name = position_among (λ n. n.items) p.entries.items (lower_case name)

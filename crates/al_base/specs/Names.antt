@@ -4,9 +4,9 @@ use Rattle.std.specs.Char.{to_ascii_lowercase}
 use Rattle.std.specs.Str.{bytes_eq}
 
 -- a text in lower case
-abbrev pub folded : List ℕ → List ℕ
-folded = map to_ascii_lowercase
+abbrev pub lower_case : List ℕ → List ℕ
+lower_case = map to_ascii_lowercase
 
 -- the same text, but for ASCII case
 abbrev pub same_name : List ℕ → List ℕ → Bool
-same_name a b = bytes_eq (folded a) (folded b)
+same_name a b = bytes_eq (lower_case a) (lower_case b)

@@ -4,9 +4,9 @@ ghost use Rattle.std.specs.Cmp.Lexicographic.{slice_cmp};
 ghost use Rattle.std.specs.Option.{option_cmp, option_copied};
 ghost use Rattle.std.specs.Ordering.{nat_cmp};
 ghost use Rattle.std.specs.Str.Lossy.{utf8_lossy};
-ghost use Rattle.al_base.specs.Shown.{shown};
+ghost use Rattle.al_base.specs.Printable.{printable};
 
-use crate::controls::{first_control, shown};
+use crate::controls::{first_control, printable};
 use std::alloc::{AllocError, Global};
 use std::cmp::Ordering;
 use std::marker::Model;
@@ -141,7 +141,7 @@ impl Args {
 
     /// Whether each text is printed as it is. Where one isn't, nothing is said. Takes no memory.
     pub fn is_plain(&self) -> bool
-        ensures { IsTrue result → map shown self.now ≡ self.now }
+        ensures { IsTrue result → map printable self.now ≡ self.now }
     {
         match &self.texts {
             Texts::None => true,
@@ -155,15 +155,15 @@ impl Args {
     /// # Errors
     ///
     /// [`AllocError`] where memory ran out.
-    pub fn shown(&self, alloc: Global) -> Result<Args, AllocError>
-        ensures { IfOk result (λ args. args ≡ map shown self.now) }
+    pub fn printable(&self, alloc: Global) -> Result<Args, AllocError>
+        ensures { IfOk result (λ args. args ≡ map printable self.now) }
     {
         match &self.texts {
             Texts::None => Ok(Args::none()),
-            Texts::One(text) => Ok(Args::one(shown(alloc, text.as_str())?)),
+            Texts::One(text) => Ok(Args::one(printable(alloc, text.as_str())?)),
             Texts::Two(text, at) => {
                 let (first, second) = text.as_str().split_at(*at);
-                two_shown(alloc, first, second)
+                two_printable(alloc, first, second)
             }
         }
     }
@@ -179,18 +179,18 @@ fn two_replaced(alloc: Global, first: &[u8], second: &[u8]) -> Result<Args, Allo
 }
 
 // Two texts as they are printed.
-fn two_shown(alloc: Global, first: &str, second: &str) -> Result<Args, AllocError>
-    ensures { IfOk result (λ args. args ≡ shown first.now ∷ shown second.now ∷ []) }
+fn two_printable(alloc: Global, first: &str, second: &str) -> Result<Args, AllocError>
+    ensures { IfOk result (λ args. args ≡ printable first.now ∷ printable second.now ∷ []) }
 {
-    let first = shown(alloc, first)?;
-    let second = shown(alloc, second)?;
+    let first = printable(alloc, first)?;
+    let second = printable(alloc, second)?;
     Args::two(alloc, first.as_str(), second.as_str())
 }
 
 // Whether a text is printed as it is. Where it isn't, nothing is said.
-#[tactic(auto, using(crate::proofs::ShownTexts::shown_plain))]
+#[tactic(auto, using(crate::proofs::PrintableTexts::printable_plain))]
 fn is_plain(text: &str) -> bool
-    ensures { IsTrue result → shown text.now ≡ text.now }
+    ensures { IsTrue result → printable text.now ≡ text.now }
 {
     first_control(text.as_bytes()).is_none()
 }

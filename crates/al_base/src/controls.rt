@@ -1,7 +1,7 @@
 //! Texts as they are printed, with a `?` for each control byte of ASCII.
 ghost use Rattle.std.specs.Prelude.{◌≡◌, ◌<◌, All, IfOk, MatchOption, false, length, slice_index, string_bytes, take, true};
 ghost use Rattle.std.specs.Char.{is_ascii_control};
-ghost use Rattle.al_base.specs.Shown.{shown, shown_byte};
+ghost use Rattle.al_base.specs.Printable.{printable, printable_byte};
 
 use std::alloc::{AllocError, Global};
 
@@ -15,14 +15,14 @@ pub fn first_control(text: &[u8]) -> Option<usize>
 }
 
 /// A copy of a text as it is printed. Fails with `AllocError` when out of memory.
-pub fn shown(alloc: Global, text: &str) -> Result<String, AllocError>
-    ensures { IfOk result (λ it. string_bytes it ≡ shown text.now) }
+pub fn printable(alloc: Global, text: &str) -> Result<String, AllocError>
+    ensures { IfOk result (λ it. string_bytes it ≡ printable text.now) }
 {
-    text.chars().map(shown_character).collect(alloc)
+    text.chars().map(printable_character).collect(alloc)
 }
 
-fn shown_character(character: char) -> char
-    ensures { result ≡ shown_byte character }
+fn printable_character(character: char) -> char
+    ensures { result ≡ printable_byte character }
 {
     if character.is_ascii_control() {
         '?'

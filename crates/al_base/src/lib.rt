@@ -35,12 +35,12 @@ mod examples;
 
 pub use args::Args;
 pub use codes::{CallCode, Caller, Code, ExpressionCode, KeyCode, RuleCode, YamlCode};
-pub use controls::{first_control, shown};
+pub use controls::{first_control, printable};
 pub use copies::add_copies;
 pub use examples::rows;
 pub use faults::{Fault, Span};
 pub use lines::Lines;
-pub use lists::{fault_lists, ordered};
+pub use lists::{fault_list, fault_lists};
 pub use name_positions::{NamePositions, TextPositions, in_lower_case};
 pub use names::is_same_name;
 pub use paths::{Path, PathFault, path_fault};

@@ -44,7 +44,7 @@ pub const MOST_READS: u32 = 1_048_576;
 pub const LARGEST_READ: usize = 65_536;
 
 /// These limits are those of the definitions. Does nothing.
-pub fn defined()
+pub fn match_definitions()
     ensures file { LARGEST_FILE ≡ largest_file }
     ensures files { MOST_FILES ≡ most_files }
     ensures path { LONGEST_PATH ≡ longest_path }

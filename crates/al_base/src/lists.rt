@@ -8,7 +8,7 @@ use super::faults::Fault;
 /// These faults in the order of reports, each once: a file's list of faults, however they were found.
 ///
 /// Takes no memory: the answer keeps that of the list given.
-pub fn ordered(faults: Vec<Fault>) -> Vec<Fault>
+pub fn fault_list(faults: Vec<Fault>) -> Vec<Fault>
     ensures { result.items ≡ fault_list faults.items }
 {
     let mut list = faults;

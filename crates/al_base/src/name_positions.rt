@@ -1,6 +1,6 @@
 //! Where texts and names first stand in a list.
 ghost use Rattle.std.specs.Prelude.{◌≡◌, IfOk};
-ghost use Rattle.al_base.specs.Names.{folded};
+ghost use Rattle.al_base.specs.Names.{lower_case};
 ghost use Rattle.al_base.specs.SortedTexts.{AreSorted};
 
 use super::sorted_texts::{Entry, position_by, sort_entries};
@@ -8,7 +8,7 @@ use std::alloc::{AllocError, Global};
 
 /// A name in lower case, by which names that are the same but for ASCII case are found. Fails with `AllocError` when out of memory.
 pub fn in_lower_case(alloc: Global, name: &[u8]) -> Result<Vec<u8>, AllocError>
-    ensures { IfOk result (λ v. v.items ≡ folded name.now) }
+    ensures { IfOk result (λ v. v.items ≡ lower_case name.now) }
 {
     name.to_ascii_lowercase(alloc)
 }

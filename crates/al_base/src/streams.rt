@@ -2,7 +2,7 @@
 ghost use Rattle.std.specs.Prelude.{◌≡◌, ◌+◌, ◌<◌, ◌≤◌, length, max, take, IfOk, OnOk, OnErr, IsOkUnless};
 ghost use Rattle.std.specs.Io.{ReadsAtMost};
 ghost use Rattle.std.specs.Io.KnownBytes.{Keeps, ReadConsumes};
-ghost use Rattle.al_base.specs.Counted.{raised, HasRisen};
+ghost use Rattle.al_base.specs.Counted.{count_after, HasRisen};
 ghost use Rattle.al_base.specs.Streams.{bytes_left, turns_of, read_failures, largest_ask, bytes_written, write_failures, Writes};
 ghost use Rattle.al_base.specs.Streams.{WritesPrefix};
 
@@ -73,7 +73,7 @@ impl<R: Read> Input<R> {
         ensures bound { ReadsAtMost result buf.new }
         ensures bytes { ReadConsumes (bytes_left R.remaining self.old)
             (bytes_left R.remaining self.new) result buf.new }
-        ensures turns { turns_of self.new ≡ raised (turns_of self.old) 1 }
+        ensures turns { turns_of self.new ≡ count_after (turns_of self.old) 1 }
         ensures asked { largest_ask self.new ≡ max (largest_ask self.old) (length buf.old) }
         ensures failures { OnOk result (read_failures self.new ≡ read_failures self.old) }
         ensures failed { OnErr result (HasRisen (read_failures self.old) (read_failures self.new)) }

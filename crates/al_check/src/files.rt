@@ -24,7 +24,7 @@ ghost use Rattle.al_check.specs.Reading.{IsRead};
 ghost use Rattle.al_check.specs.RuleFaults.{rule_faults};
 
 use crate::printing::with_printed_args;
-use al_base::{Code, Fault, FaultSink, add_copies, ordered};
+use al_base::{Code, Fault, FaultSink, add_copies, fault_list};
 use al_check_calls::{Calling, behind_faults};
 use al_check_interfaces::{Call, Interface, calls_by, interface_of, sites_in};
 use al_rules::rules;
@@ -157,7 +157,7 @@ fn add_behind(
 fn in_report_order(alloc: Global, found: Vec<Fault>) -> Result<Vec<Fault>, AllocError>
     ensures { IfOk result (λ list. list.items ≡ fault_list (map meant.printed_fault found.items)) }
 {
-    Ok(ordered(with_printed_args(alloc, found)?))
+    Ok(fault_list(with_printed_args(alloc, found)?))
 }
 
 /// The faults of a workflow or an action, of which these are its own, in the order of reports, each once.

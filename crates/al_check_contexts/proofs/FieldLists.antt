@@ -7,7 +7,7 @@ use Rattle.std.specs.Option.{option_to_list}
 use Rattle.std.specs.Prelude.{if◌then◌else◌}
 use Rattle.al_base.specs.Names.{same_name}
 use Rattle.al_types.specs.FusedFields.{are_distinct}
-use Rattle.al_types.specs.Puts.{Typed, firsts, put, put_all, put_new}
+use Rattle.al_types.specs.Puts.{Typed, firsts, put_or_fuse, put_all, put_new}
 use Rattle.al_types.specs.Strings.{named_strings, strings}
 use Rattle.al_types.specs.Types.{Absent, ObjectOf, Optional, Present, String, common_in, fields_of, fuse_optional, fuse_type, optional}
 use Rattle.al_types.proofs.FuseLaws.{last_turned, nothing_last, optional_assoc}
@@ -16,9 +16,9 @@ use Rattle.al_check_contexts.specs.Objects.{strictly}
 
 -- ---- several that are put
 
-pub put_all_more : (put : List Typed → Typed → List Typed) (ts ps qs : List Typed) → put_all put ts (ps ++ qs) ≡ put_all put (put_all put ts ps) qs
-put_all_more put ts [] qs = refl
-put_all_more put ts (p ∷ ps) qs = put_all_more put (put ts p) ps qs
+pub put_all_more : (put_or_fuse : List Typed → Typed → List Typed) (ts ps qs : List Typed) → put_all put_or_fuse ts (ps ++ qs) ≡ put_all put_or_fuse (put_all put_or_fuse ts ps) qs
+put_all_more put_or_fuse ts [] qs = refl
+put_all_more put_or_fuse ts (p ∷ ps) qs = put_all_more put_or_fuse (put_or_fuse ts p) ps qs
 
 module _ {X Y : Type 0} (g : X → Y) where
   mapped_more : (xs : List X) (i : ℕ) (x : X) → i < length xs → x ≡ get_or xs i x → map g (take (i + 1) xs) ≡ map g (take i xs) ++ g x ∷ []
@@ -103,22 +103,22 @@ put_step true q p qs more e = last_turned (Present q.1) (Present p.1) (common_of
 put_step false q p qs more e =
     ap (fuse_optional (Present q.1)) e ∙ sym (optional_assoc (Present q.1) (common_of qs) (Present p.1))
 
-common_put : (ts : List Typed) (p : Typed) → common_of (put ts p) ≡ fuse_optional (common_of ts) (Present p.1)
+common_put : (ts : List Typed) (p : Typed) → common_of (put_or_fuse ts p) ≡ fuse_optional (common_of ts) (Present p.1)
 common_put [] p = refl
-common_put (q ∷ qs) p = put_step (same_name q.0 p.0) q p qs (put qs p) (common_put qs p)
+common_put (q ∷ qs) p = put_step (same_name q.0 p.0) q p qs (put_or_fuse qs p) (common_put qs p)
 
-common_put_all : (ts us : List Typed) → common_of (put_all put ts us) ≡ fuse_optional (common_of ts) (common_of us)
+common_put_all : (ts us : List Typed) → common_of (put_all put_or_fuse ts us) ≡ fuse_optional (common_of ts) (common_of us)
 common_put_all ts [] = sym (nothing_last (common_of ts))
 common_put_all ts (p ∷ us) =
-    common_put_all (put ts p) us ∙ ap (λ o. fuse_optional o (common_of us)) (common_put ts p)
+    common_put_all (put_or_fuse ts p) us ∙ ap (λ o. fuse_optional o (common_of us)) (common_put ts p)
     ∙ optional_assoc (common_of ts) (Present p.1) (common_of us)
 
 -- an object of the fields of two objects, fused at each name, is what these have in common
-pub put_together : (ts us : List Typed) → are_distinct (fields_of us) ≡ true → strictly (put_all put ts us) ≡ fuse_type (strictly ts) (strictly us)
+pub put_together : (ts us : List Typed) → are_distinct (fields_of us) ≡ true → strictly (put_all put_or_fuse ts us) ≡ fuse_type (strictly ts) (strictly us)
 put_together ts us h =
     λ d. ObjectOf (found_in_both ts us h d) Absent (all d)
   where
-    all : fuse_optional (common_of (put_all put ts us)) Absent ≡ fuse_optional (fuse_optional (common_of ts) Absent) (fuse_optional (common_of us) Absent)
+    all : fuse_optional (common_of (put_all put_or_fuse ts us)) Absent ≡ fuse_optional (fuse_optional (common_of ts) Absent) (fuse_optional (common_of us) Absent)
     all = nothing_last _ ∙ common_put_all ts us ∙ (λ d. fuse_optional (sym (nothing_last (common_of ts)) d) (sym (nothing_last (common_of us)) d))
 
 -- ---- the first so many of fields

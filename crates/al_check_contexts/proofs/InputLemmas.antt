@@ -9,7 +9,7 @@ use Rattle.al_tree.specs.Values.{entries_in, value_at, value_below}
 use Rattle.al_tree_declarations.specs.Declarations.{declared_in, first_named, named_among}
 use Rattle.al_check_contexts.specs.Inputs.{input_type, event_inputs, input_field}
 use Rattle.al_tree_declarations.specs.Inputs.{input_of}
-use Rattle.al_types.specs.Puts.{Typed, firsts, put, put_all, put_new}
+use Rattle.al_types.specs.Puts.{Typed, firsts, put_or_fuse, put_all, put_new}
 use Rattle.al_types.specs.Types.{Type', fuse_type}
 use Rattle.al_types.proofs.GatheredFields.{firsts_distinct}
 use Rattle.al_yaml_tree.specs.Node.{Node}
@@ -98,10 +98,10 @@ inputs_once event root = once (value_below (codes "on" ∷ event ∷ codes "inpu
 -- what the inputs of two events have in common, as objects
 pub both_events : (a b : List ℕ) (root : Node) →
     fuse_type (strictly (firsts (event_inputs a root))) (strictly (firsts (event_inputs b root)))
-    ≡ strictly (put_all put (event_inputs a root) (event_inputs b root))
+    ≡ strictly (put_all put_or_fuse (event_inputs a root) (event_inputs b root))
 both_events a b root =
     sym (put_together (firsts (event_inputs a root)) (firsts (event_inputs b root)) (firsts_distinct (event_inputs b root)))
-    ∙ (λ d. strictly (put_all put (inputs_once a root d) (inputs_once b root d)))
+    ∙ (λ d. strictly (put_all put_or_fuse (inputs_once a root d) (inputs_once b root d)))
 
 itself : (o : Option Node) → o ≡ option_and_then (λ n. Some n) o
 itself None = refl

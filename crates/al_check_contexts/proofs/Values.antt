@@ -5,7 +5,7 @@ use Rattle.std.specs.Prelude.{if◌then◌else◌}
 use Rattle.al_tree.specs.Keys.{key_of, key_text}
 use Rattle.al_tree.specs.Names.{is_combination_key}
 use Rattle.al_types.specs.FusedFields.{are_distinct}
-use Rattle.al_types.specs.Puts.{Typed, put, put_all, put_new}
+use Rattle.al_types.specs.Puts.{Typed, put_or_fuse, put_all, put_new}
 use Rattle.al_types.specs.Types.{Optional, Present, fields_of, fuse_optional}
 use Rattle.al_types.proofs.GatheredFields.{firsts_distinct}
 use Rattle.al_yaml_tree.specs.Node.{Entries, Node, entry, mapping, no_entries, scalar, sequence}
@@ -33,9 +33,9 @@ distinct_combination (sequence ns at) = refl
 distinct_combination (mapping es at) = ap (λ ts. are_distinct (fields_of ts)) (entries_listed [] es) ∙ firsts_distinct (listed es)
 
 -- one combination more
-include_more : (ts : List Typed) (ns : List Node) (n : Node) → include_all ts (ns ++ n ∷ []) ≡ put_all put (include_all ts ns) (combination n)
+include_more : (ts : List Typed) (ns : List Node) (n : Node) → include_all ts (ns ++ n ∷ []) ≡ put_all put_or_fuse (include_all ts ns) (combination n)
 include_more ts [] n = refl
-include_more ts (m ∷ ns) n = include_more (put_all put ts (combination m)) ns n
+include_more ts (m ∷ ns) n = include_more (put_all put_or_fuse ts (combination m)) ns n
 
 -- of an object of rows and one of each combination, with one more
 pub include_next : {X : Type 0} (g : X → Node) (ts : List Typed) (xs : List X) (i : ℕ) (x : X) (sofar new : Optional) → i < length xs → x ≡ get_or xs i x →

@@ -11,7 +11,7 @@ use Rattle.al_tree_declarations.specs.declared.inputs.InputType.{InputType}
 use Rattle.al_tree_declarations.specs.declared.inputs.InputType.TheVariants as input
 use Rattle.al_types.specs.Strings.{named_strings}
 use Rattle.al_check_contexts.specs.Objects.{strictly}
-use Rattle.al_types.specs.Puts.{Typed, put, put_all}
+use Rattle.al_types.specs.Puts.{Typed, put_or_fuse, put_all}
 
 -- the type of expressions that an input has
 abbrev pub input_type : InputType → Type'
@@ -29,5 +29,5 @@ event_inputs event root = map input_field (declared_below (codes "on" ∷ event 
 -- of a workflow those of a call, and those of a dispatch fused in; of an action strings
 abbrev pub inputs_type : FileKind → Node → Type'
 inputs_type kind.Workflow root =
-    strictly (put_all put (event_inputs (codes "workflow_call") root) (event_inputs (codes "workflow_dispatch") root))
+    strictly (put_all put_or_fuse (event_inputs (codes "workflow_call") root) (event_inputs (codes "workflow_dispatch") root))
 inputs_type kind.Action root = named_strings (names_of (declared_below (codes "inputs" ∷ []) root))

@@ -16,7 +16,7 @@ use Rattle.al_tree.specs.Keys.{key_of, key_text}
 use Rattle.al_tree.specs.Names.{is_combination_key}
 use Rattle.al_tree.specs.Values.{entries_in, items_in, value_at, value_below}
 use Rattle.al_check_contexts.specs.Objects.{loose_any, strictly}
-use Rattle.al_types.specs.Puts.{Typed, firsts, put, put_all, put_new}
+use Rattle.al_types.specs.Puts.{Typed, firsts, put_or_fuse, put_all, put_new}
 
 -- a scalar by its class; one with `${{` is any where it is one expression, else a string
 abbrev pub class_type : Class → Type'
@@ -64,7 +64,7 @@ combination (mapping es at) = entries_types [] es
 combination _ = []
 
 abbrev pub include_all : List Typed → List Node → List Typed
-include_all = fold (λ ts n. put_all put ts (combination n))
+include_all = fold (λ ts n. put_all put_or_fuse ts (combination n))
 
 abbrev pub is_scalar : Node → Bool
 is_scalar n = is_some (scalar_in n)

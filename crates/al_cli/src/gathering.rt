@@ -17,7 +17,7 @@ ghost use Rattle.al_cli.specs.Taken.{called_by, each_once, path_named, with_path
 use crate::Words;
 use crate::disk::{Disk, DiskError, Entry, SystemFolder, WORKFLOWS};
 use crate::taken::TakenFiles;
-use al_base::{Path, path_fault, shown};
+use al_base::{Path, path_fault, printable};
 use al_check::Actions;
 use al_session::{Refused, SessionBuilder, Target};
 use std::alloc::{AllocError, AllocFailed, Global};
@@ -233,7 +233,7 @@ struct Gathering {
     alloc: Global,
     files: TakenFiles,
     candidates: Candidates,
-    // the paths that lead out of the folder, as they are shown
+    // the paths that lead out of the folder, as they are printable
     outside: Vec<String>,
 }
 
@@ -365,7 +365,7 @@ impl Gathering {
         ensures waiting { (self.new).candidates.waiting.keys
             ≡ (self.old).candidates.waiting.keys }
     {
-        self.outside.push(shown(self.alloc, path)?)?;
+        self.outside.push(printable(self.alloc, path)?)?;
         self.candidates
             .absent
             .insert(String::from_str(self.alloc, path)?)?;
@@ -458,14 +458,14 @@ impl Gathering {
 }
 
 fn disk_failure(alloc: Global, path: &str, error: DiskError) -> Unread {
-    match (error, shown(alloc, path)) {
+    match (error, printable(alloc, path)) {
         (DiskError::Unreadable, Ok(path)) => Unread::Unreadable(path),
         (_, _) => Unread::Memory,
     }
 }
 
 fn refusal(alloc: Global, path: &str, reason: Refused) -> Unread {
-    match (reason, shown(alloc, path)) {
+    match (reason, printable(alloc, path)) {
         (Refused::Memory, _) => Unread::Memory,
         (_, Err(_)) => Unread::Memory,
         (reason, Ok(path)) => Unread::Refused(path, reason),

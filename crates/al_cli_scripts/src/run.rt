@@ -3,7 +3,7 @@
 ghost use Rattle.std.specs.Prelude.{Err, None, false, max, ◌≡◌, ◌≢◌, [], ◌<◌, ◌+◌, ◌≤◌, ◌++◌, ◌⊎◌, ℕ, List, length};
 ghost use Rattle.std.specs.Prelude.{drop, codes, IfOk, OnOk, OnErr, IfErr, IsErrOf, decimal, IsOkUnless};
 ghost use Rattle.std.specs.Io.KnownBytes.{Appends, Keeps};
-ghost use Rattle.al_base.specs.Counted.{raised, HasRisen, AppendsPrefix};
+ghost use Rattle.al_base.specs.Counted.{count_after, HasRisen, AppendsPrefix};
 ghost use Rattle.al_base.specs.Streams.{bytes_left, turns_of, read_failures, largest_ask, bytes_written, write_failures};
 ghost use Rattle.al_cli_scripts.specs.Private.Next.{meaning};
 ghost use Rattle.al_cli_scripts.specs.Script.{IsPending, BeginsWithCommand};
@@ -55,7 +55,7 @@ pub fn run_session<R: Read, W: Write>(
     ensures write_failures { CountsFailures result Stop.WriteFault (write_failures writer.old)
         (write_failures writer.new) }
     ensures all_turns { IsErrOf result Stop.TooManyTurns
-        → turns_of reader.new ≡ raised (turns_of reader.old) most_reads }
+        → turns_of reader.new ≡ count_after (turns_of reader.old) most_reads }
     ensures asked { largest_ask reader.new ≤ max (largest_ask reader.old) largest_read }
     ensures asks { result ≢ Err Memory
         → largest_ask reader.new ≡ max (largest_ask reader.old) largest_read }
@@ -119,7 +119,7 @@ impl Run {
             (bytes_left R.remaining reader.new) (bytes_written W.contents writer.new))
             result }
         ensures oneline { self.new.oneline ≡ self.old.oneline }
-        ensures turns { turns_of reader.new ≡ raised (turns_of reader.old) 1 }
+        ensures turns { turns_of reader.new ≡ count_after (turns_of reader.old) 1 }
         ensures asked { largest_ask reader.new ≡ max (largest_ask reader.old) largest_read }
         ensures read_failures { CountsFailures result Stop.ReadFault (read_failures reader.old)
             (read_failures reader.new) }

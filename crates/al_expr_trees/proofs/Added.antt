@@ -6,7 +6,7 @@ use Rattle.al_base.specs.Names.{same_name}
 use Rattle.al_types.specs.FusedFields.{are_distinct}
 use Rattle.al_types.specs.Indexes.{name_at}
 use Rattle.al_types.specs.TypeParts.{common_type}
-use Rattle.al_types.specs.Puts.{Typed, firsts, put}
+use Rattle.al_types.specs.Puts.{Typed, firsts, put_or_fuse}
 use Rattle.al_types.specs.Fused.{fuse_parts}
 use Rattle.al_types.specs.Types.{Type', Optional, Absent, Present, Parts, FieldThen, NoField, common_in, field_at, fields_of, fuse_optional, fuse_type, has_field, optional, parts_with}
 use Rattle.al_types.proofs.FuseLaws.{common_optional, last_turned, nothing_last, optional_assoc, parts_assoc}
@@ -29,17 +29,17 @@ common_if : (b : Bool) (n : List ℕ) (t u : Type') (qs more : List Typed) →
 common_if true n t u qs more = refl
 common_if false n t u qs more = refl
 
-common_put : (ts : List Typed) (p : Typed) → common_in (fields_of (put ts p)) ≡ fuse_optional (common_in (fields_of ts)) (Present p.1)
+common_put : (ts : List Typed) (p : Typed) → common_in (fields_of (put_or_fuse ts p)) ≡ fuse_optional (common_in (fields_of ts)) (Present p.1)
 common_put [] p = refl
 common_put (q ∷ qs) p =
-    common_if (same_name q.0 p.0) q.0 q.1 (fuse_type q.1 p.1) qs (put qs p)
-    ∙ put_step (same_name q.0 p.0) q.1 p.1 (common_in (fields_of qs)) (common_in (fields_of (put qs p))) (common_put qs p)
+    common_if (same_name q.0 p.0) q.0 q.1 (fuse_type q.1 p.1) qs (put_or_fuse qs p)
+    ∙ put_step (same_name q.0 p.0) q.1 p.1 (common_in (fields_of qs)) (common_in (fields_of (put_or_fuse qs p))) (common_put qs p)
 
-pub parts_put : (ts : List Typed) (p : Typed) (r : Optional) → parts_with (fields_of (put ts p)) r ≡ fuse_parts (parts_with (fields_of ts) r) (field_parts p)
+pub parts_put : (ts : List Typed) (p : Typed) (r : Optional) → parts_with (fields_of (put_or_fuse ts p)) r ≡ fuse_parts (parts_with (fields_of ts) r) (field_parts p)
 parts_put ts p r =
-    let at : (n : List ℕ) → optional (field_at n (fields_of (put ts p))) ≡ fuse_optional (optional (field_at n (fields_of ts))) (optional (field_at n (FieldThen p.0 p.1 NoField))) =
+    let at : (n : List ℕ) → optional (field_at n (fields_of (put_or_fuse ts p))) ≡ fuse_optional (optional (field_at n (fields_of ts))) (optional (field_at n (FieldThen p.0 p.1 NoField))) =
     λ n. ap optional (found_put ts p n) ∙ common_optional (field_at n (fields_of ts)) (field_at n (FieldThen p.0 p.1 NoField)) in
-    let all : fuse_optional (common_in (fields_of (put ts p))) r ≡ fuse_optional (fuse_optional (common_in (fields_of ts)) r) (Present p.1) =
+    let all : fuse_optional (common_in (fields_of (put_or_fuse ts p))) r ≡ fuse_optional (fuse_optional (common_in (fields_of ts)) r) (Present p.1) =
     ap (λ o. fuse_optional o r) (common_put ts p) ∙ last_turned (common_in (fields_of ts)) (Present p.1) r in
     λ d. (λ n. at n d, sym (nothing_last r) d, all d)
 
@@ -48,12 +48,12 @@ distinct_if : (same : Bool) (q p : Typed) (qs more : List Typed) → are_distinc
 distinct_if true q p qs more d h e = d
 distinct_if false q p qs more d h e = λ i. not (h refl i) && e i
 
-pub put_distinct : (ts : List Typed) (p : Typed) → are_distinct (fields_of ts) ≡ true → are_distinct (fields_of (put ts p)) ≡ true
+pub put_distinct : (ts : List Typed) (p : Typed) → are_distinct (fields_of ts) ≡ true → are_distinct (fields_of (put_or_fuse ts p)) ≡ true
 put_distinct [] p d = refl
 put_distinct (q ∷ qs) p d =
     let none : has_field q.0 (fields_of qs) ≡ false = first_apart (has_field q.0 (fields_of qs)) (are_distinct (fields_of qs)) d in
-    distinct_if (same_name q.0 p.0) q p qs (put qs p) d
-    (λ f. sym (has_field_at q.0 (fields_of (put qs p))) ∙ ap is_some (found_put qs p q.0)
+    distinct_if (same_name q.0 p.0) q p qs (put_or_fuse qs p) d
+    (λ f. sym (has_field_at q.0 (fields_of (put_or_fuse qs p))) ∙ ap is_some (found_put qs p q.0)
     ∙ ap (λ o. is_some (common_type o (field_at q.0 (FieldThen p.0 p.1 NoField)))) (nothing_at q.0 (fields_of qs) none)
     ∙ ap (λ b. is_some (if b then Some p.1 else None)) (same_turned p.0 q.0 ∙ f))
     (put_distinct qs p (others_apart (has_field q.0 (fields_of qs)) (are_distinct (fields_of qs)) d))

@@ -5,7 +5,7 @@ use Rattle.std.proofs.lemmas.Bool.Decides.{nat_tests}
 use Rattle.std.specs.Prelude.{◌&&◌, nat_lt, zip}
 use Rattle.std.specs.List.{list_all}
 use Rattle.al_types.specs.Types.{Parts, Present, fields_of, fuse_optional, object_type, parts_with}
-use Rattle.al_types.specs.Fused.{fused}
+use Rattle.al_types.specs.Fused.{fuse_all}
 use Rattle.al_expr_types.specs.Names.{names_in}
 use Rattle.al_expr_types.specs.Types.{common_of, are_below, are_fields_below, arrays_of, base_type, fields_parts, is_base_below, is_below, is_extended_below, is_object_below, is_rest_below, no_parts}
 use Rattle.al_expr_types.specs.Types.{object_in, object_parts, rest_in, type_in}
@@ -128,7 +128,7 @@ parts_kept ms more (object.Extension e) h =
     let own = types_kept ms more e.own.items (right_of (nat_lt e.base.object (length ms)) _ behind) in
     λ d. ((fields d).0, (fields d).1, fuse_optional (base d).2 (common_of (own d)))
 parts_kept ms more (object.Strings ns) h = refl
-parts_kept ms more (object.Common ns) h = ap fused (objects_kept ms more ns.items h)
+parts_kept ms more (object.Common ns) h = ap fuse_all (objects_kept ms more ns.items h)
 
 -- ---- one of some
 

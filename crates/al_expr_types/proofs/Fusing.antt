@@ -3,7 +3,7 @@ use Rattle.std.proofs.Common.{◌≡◌, ◌≢◌, ◌<◌, ℕ, List, [], ◌�
 use Rattle.std.proofs.lemmas.List.{map-append}
 use Rattle.std.specs.Prelude.{Contains, get_or}
 use Rattle.al_types.specs.Types.{Type', Any, Null, Number, Bool', String, ArrayOf, ObjectOf, Parts, assignable_type, fuse_type, is_array, object_type}
-use Rattle.al_types.specs.Fused.{fuse_parts, fused}
+use Rattle.al_types.specs.Fused.{fuse_parts, fuse_all}
 use Rattle.al_types.proofs.FuseLaws.{fused_both, fused_one_more, optional_same, optional_turned, parts_assoc}
 use Rattle.al_expr_types.specs.Types.{arrays_of, base_type, is_any, scalar_type}
 use Rattle.al_expr_types.specs.declared.ty.Scalar.{Scalar}
@@ -74,8 +74,8 @@ fuse_uneven (suc j) (suc k) m x y h g n e =
 -- ---- objects
 
 -- one more
-pub fused_push : (f : ℕ → Parts) (ns : List ℕ) (n : ℕ) → fused (map f (ns ++ n ∷ [])) ≡ fuse_parts (fused (map f ns)) (f n)
-fused_push f ns n = ap fused (map-append f ns (n ∷ [])) ∙ fused_one_more (map f ns) (f n)
+pub fused_push : (f : ℕ → Parts) (ns : List ℕ) (n : ℕ) → fuse_all (map f (ns ++ n ∷ [])) ≡ fuse_parts (fuse_all (map f ns)) (f n)
+fused_push f ns n = ap fuse_all (map-append f ns (n ∷ [])) ∙ fused_one_more (map f ns) (f n)
 
 pub parts_same : (p : Parts) → fuse_parts p p ≡ p
 parts_same p = λ d. (λ n. optional_same (p.0 n) d, optional_same p.1 d, optional_same p.2 d)
@@ -83,23 +83,23 @@ parts_same p = λ d. (λ n. optional_same (p.0 n) d, optional_same p.1 d, option
 parts_turned : (p q : Parts) → fuse_parts p q ≡ fuse_parts q p
 parts_turned p q = λ d. (λ n. optional_turned (p.0 n) (q.0 n) d, optional_turned p.1 q.1 d, optional_turned p.2 q.2 d)
 
-front_first : (p : Parts) (ps : List Parts) → fused (p ∷ ps) ≡ fuse_parts p (fused ps)
+front_first : (p : Parts) (ps : List Parts) → fuse_all (p ∷ ps) ≡ fuse_parts p (fuse_all ps)
 front_first p ps = fused_both (p ∷ []) ps
 
 -- one that is among them
-pub absorbed : (f : ℕ → Parts) (ns : List ℕ) (n k : ℕ) → k < length ns → get_or ns k n ≡ n → fuse_parts (fused (map f ns)) (f n) ≡ fused (map f ns)
+pub absorbed : (f : ℕ → Parts) (ns : List ℕ) (n k : ℕ) → k < length ns → get_or ns k n ≡ n → fuse_parts (fuse_all (map f ns)) (f n) ≡ fuse_all (map f ns)
 absorbed f [] n k lt e = absurd (omega (arith, lt))
 absorbed f (m ∷ ns) n zero lt e =
-    let all : Parts = fused (map f ns) in
+    let all : Parts = fuse_all (map f ns) in
     ap (λ p. fuse_parts p (f n)) (front_first (f m) (map f ns)) ∙ parts_assoc (f m) all (f n) ∙ ap (fuse_parts (f m)) (parts_turned all (f n))
     ∙ ap (λ x. fuse_parts (f m) (fuse_parts (f x) all)) (sym e) ∙ sym (parts_assoc (f m) (f m) all) ∙ ap (λ p. fuse_parts p all) (parts_same (f m))
     ∙ sym (front_first (f m) (map f ns))
 absorbed f (m ∷ ns) n (suc k) lt e =
-    let all : Parts = fused (map f ns) in
+    let all : Parts = fuse_all (map f ns) in
     ap (λ p. fuse_parts p (f n)) (front_first (f m) (map f ns)) ∙ parts_assoc (f m) all (f n)
     ∙ ap (fuse_parts (f m)) (absorbed f ns n k (omega (arith, lt)) e) ∙ sym (front_first (f m) (map f ns))
 
-pub held : (f : ℕ → Parts) (ns : List ℕ) (n : ℕ) → Contains ns n → fuse_parts (fused (map f ns)) (f n) ≡ fused (map f ns)
+pub held : (f : ℕ → Parts) (ns : List ℕ) (n : ℕ) → Contains ns n → fuse_parts (fuse_all (map f ns)) (f n) ≡ fuse_all (map f ns)
 held f ns n c = absorbed f ns n c.0 c.1 c.2
 
 -- ---- where one type may stand for another

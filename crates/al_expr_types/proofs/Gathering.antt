@@ -9,7 +9,7 @@ use Rattle.al_types.proofs.StringFields.{common_strings, string_at}
 use Rattle.al_types.specs.Presence.{is_present}
 use Rattle.al_types.specs.TypeParts.{string_unless}
 use Rattle.al_types.specs.Types.{Type', String, Optional, Absent, Present, Parts, common_in, field_at, fields_of, fuse_optional, option_of, optional, or_else}
-use Rattle.al_types.specs.Fused.{fuse_parts, fused}
+use Rattle.al_types.specs.Fused.{fuse_parts, fuse_all}
 use Rattle.al_types.proofs.FuseLaws.{fused_one_more, nothing_last, optional_assoc, optional_back}
 use Rattle.al_expr_types.specs.Parts.{part_in}
 use Rattle.al_expr_types.specs.Types.{common_of, no_parts, rest_in, type_in}
@@ -63,19 +63,19 @@ part_fused (part.Named n) a b = refl
 part_fused part.Rest a b = refl
 part_fused part.All a b = refl
 
-pub gathered_none : (p : Part) (start : Optional) → start ≡ fuse_optional start (part_in p (fused []))
+pub gathered_none : (p : Part) (start : Optional) → start ≡ fuse_optional start (part_in p (fuse_all []))
 gathered_none p start = sym (ap (fuse_optional start) (part_nothing p) ∙ nothing_last start)
 
 pub gathered_next : (p : Part) (f : ℕ → Parts) (ns : List ℕ) (i n : ℕ) (start sofar new : Optional) → i < length ns → n ≡ get_or ns i n →
-    sofar ≡ fuse_optional start (part_in p (fused (map f (take i ns)))) → new ≡ fuse_optional sofar (part_in p (f n)) →
-    new ≡ fuse_optional start (part_in p (fused (map f (take (i + 1) ns))))
+    sofar ≡ fuse_optional start (part_in p (fuse_all (map f (take i ns)))) → new ≡ fuse_optional sofar (part_in p (f n)) →
+    new ≡ fuse_optional start (part_in p (fuse_all (map f (take (i + 1) ns))))
 gathered_next p f ns i n start sofar new lt e old step =
     let front : List Parts = map f (take i ns) in
-    step ∙ ap (λ o. fuse_optional o (part_in p (f n))) old ∙ optional_assoc start (part_in p (fused front)) (part_in p (f n))
-    ∙ ap (fuse_optional start) (sym (part_fused p (fused front) (f n))) ∙ ap (λ q. fuse_optional start (part_in p q)) (sym (fused_one_more front (f n)))
-    ∙ ap (λ m. fuse_optional start (part_in p (fused (front ++ f m ∷ [])))) e
-    ∙ ap (λ qs. fuse_optional start (part_in p (fused qs))) (sym (map-append f (take i ns) (get_or ns i n ∷ [])))
-    ∙ ap (λ ms. fuse_optional start (part_in p (fused (map f ms)))) (sym (take_more ns i n lt))
+    step ∙ ap (λ o. fuse_optional o (part_in p (f n))) old ∙ optional_assoc start (part_in p (fuse_all front)) (part_in p (f n))
+    ∙ ap (fuse_optional start) (sym (part_fused p (fuse_all front) (f n))) ∙ ap (λ q. fuse_optional start (part_in p q)) (sym (fused_one_more front (f n)))
+    ∙ ap (λ m. fuse_optional start (part_in p (fuse_all (front ++ f m ∷ [])))) e
+    ∙ ap (λ qs. fuse_optional start (part_in p (fuse_all qs))) (sym (map-append f (take i ns) (get_or ns i n ∷ [])))
+    ∙ ap (λ ms. fuse_optional start (part_in p (fuse_all (map f ms)))) (sym (take_more ns i n lt))
 
 -- ---- strings
 
@@ -100,12 +100,12 @@ fields_then_rest start all new common rest e f = f ∙ ap (λ o. fuse_optional o
 
 -- the fields of a name, object after object
 pub named_next : (n : List ℕ) (f : ℕ → Parts) (ns : List ℕ) (i m : ℕ) (start sofar new : Optional) → i < length ns → m ≡ get_or ns i m →
-    sofar ≡ fuse_optional start ((fused (map f (take i ns))).0 n) → new ≡ fuse_optional sofar ((f m).0 n) →
-    new ≡ fuse_optional start ((fused (map f (take (i + 1) ns))).0 n)
+    sofar ≡ fuse_optional start ((fuse_all (map f (take i ns))).0 n) → new ≡ fuse_optional sofar ((f m).0 n) →
+    new ≡ fuse_optional start ((fuse_all (map f (take (i + 1) ns))).0 n)
 named_next n f ns i m start sofar new lt e old step =
     let front : List Parts = map f (take i ns) in
-    step ∙ ap (λ o. fuse_optional o ((f m).0 n)) old ∙ optional_assoc start ((fused front).0 n) ((f m).0 n)
+    step ∙ ap (λ o. fuse_optional o ((f m).0 n)) old ∙ optional_assoc start ((fuse_all front).0 n) ((f m).0 n)
     ∙ ap (λ q. fuse_optional start (q.0 n)) (sym (fused_one_more front (f m)))
-    ∙ ap (λ k. fuse_optional start ((fused (front ++ f k ∷ [])).0 n)) e
-    ∙ ap (λ qs. fuse_optional start ((fused qs).0 n)) (sym (map-append f (take i ns) (get_or ns i m ∷ [])))
-    ∙ ap (λ ms. fuse_optional start ((fused (map f ms)).0 n)) (sym (take_more ns i m lt))
+    ∙ ap (λ k. fuse_optional start ((fuse_all (front ++ f k ∷ [])).0 n)) e
+    ∙ ap (λ qs. fuse_optional start ((fuse_all qs).0 n)) (sym (map-append f (take i ns) (get_or ns i m ∷ [])))
+    ∙ ap (λ ms. fuse_optional start ((fuse_all (map f ms)).0 n)) (sym (take_more ns i m lt))

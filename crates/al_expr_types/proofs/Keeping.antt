@@ -8,7 +8,7 @@ use Rattle.al_base.proofs.Growing.{begins_same}
 use Rattle.al_base.specs.Growth.{BeginsWith}
 use Rattle.al_types.specs.Types.{Parts, Optional, Present, object_type, option_of}
 use Rattle.al_types.proofs.FuseLaws.{optional_back}
-use Rattle.al_types.specs.Fused.{fused}
+use Rattle.al_types.specs.Fused.{fuse_all}
 use Rattle.al_expr_types.specs.Joining.{is_join_below, join_in}
 use Rattle.al_expr_types.specs.declared.joining.Join.{Join}
 use Rattle.al_expr_types.specs.declared.joining.Join.TheVariants as joined
@@ -96,7 +96,7 @@ right_if false os new old e h = subst (AreRight os) (sym e) h
 joined_kept : (ms more : List Parts) (j : Join) → is_join_below (length ms) j ≡ true → join_in (ms ++ more) j ≡ join_in ms j
 joined_kept ms more joined.Nothing h = refl
 joined_kept ms more (joined.One t) h = ap Present (type_kept ms more t h)
-joined_kept ms more (joined.Objects s) h = ap (λ ps. Present (arrays_of s.arrays (object_type (fused ps)))) (objects_kept ms more s.objects.items h)
+joined_kept ms more (joined.Objects s) h = ap (λ ps. Present (arrays_of s.arrays (object_type (fuse_all ps)))) (objects_kept ms more s.objects.items h)
 
 pub joined_longer : (new old : List Object) (j : Join) → BeginsWith (parts_of_all new) (parts_of_all old) → is_join_below (length old) j ≡ true →
     join_in (parts_of_all new) j ≡ join_in (parts_of_all old) j

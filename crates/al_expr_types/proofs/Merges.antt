@@ -8,7 +8,7 @@ use Rattle.std.proofs.lemmas.Bool.Decides.{nat_tests}
 use Rattle.std.specs.Prelude.{if◌then◌else◌, nat_eq, nat_lt, option_and_then, slice_get, zip}
 use Rattle.al_expr_types.proofs.Below.{both_are, is_less, left_of, right_of}
 use Rattle.std.specs.Str.{bytes_eq}
-use Rattle.al_base.specs.Names.{folded, same_name}
+use Rattle.al_base.specs.Names.{lower_case, same_name}
 use Rattle.al_base.specs.NamePlaces.{first_at, name_place}
 use Rattle.al_types.specs.Strings.{strings}
 use Rattle.al_types.specs.Types.{Type', String, Optional, Absent, Parts, Present, field_at, fields_of, fuse_optional, optional}
@@ -24,7 +24,7 @@ use Rattle.al_expr_types.specs.declared.joining.Join.TheVariants as joined
 -- names that are the same stand at one place
 pub place_same : (ns : List (List ℕ)) (name n : List ℕ) → same_name name n ≡ true → name_place ns n ≡ name_place ns name
 place_same ns name n e =
-    ap (λ (f : List ℕ). first_at (λ m. bytes_eq (folded m) f) ns) (sym ((bytes_decides (folded name) (folded n)).0 e))
+    ap (λ (f : List ℕ). first_at (λ m. bytes_eq (lower_case m) f) ns) (sym ((bytes_decides (lower_case name) (lower_case n)).0 e))
 
 module _ {A : Type 0} (test : A → Bool) where
   passes_step : (b : Bool) (o : Option ℕ) (x d : A) (xs : List A) (i : ℕ) → test x ≡ b → ((j : ℕ) → o ≡ Some j → test (get_or xs j d) ≡ true) →
@@ -45,10 +45,10 @@ module _ {A : Type 0} (test : A → Bool) where
 other_place : (ns : List (List ℕ)) (name n : List ℕ) (i j : ℕ) → name_place ns name ≡ Some i → name_place ns n ≡ Some j → same_name name n ≡ false → j ≢ i
 other_place ns name n i j at there differ same =
     let x = get_or ns i [] in
-    let a : bytes_eq (folded x) (folded name) ≡ true = first_passes (λ m. same_name m name) ns i [] at in
-    let b : bytes_eq (folded x) (folded n) ≡ true = first_passes (λ m. same_name m n) ns i [] (there ∙ ap Some same) in
-    let c : folded name ≡ folded n = sym ((bytes_decides (folded x) (folded name)).0 a) ∙ (bytes_decides (folded x) (folded n)).0 b in
-    let yes : same_name name n ≡ true = (bytes_decides (folded name) (folded n)).1 c in
+    let a : bytes_eq (lower_case x) (lower_case name) ≡ true = first_passes (λ m. same_name m name) ns i [] at in
+    let b : bytes_eq (lower_case x) (lower_case n) ≡ true = first_passes (λ m. same_name m n) ns i [] (there ∙ ap Some same) in
+    let c : lower_case name ≡ lower_case n = sym ((bytes_decides (lower_case x) (lower_case name)).0 a) ∙ (bytes_decides (lower_case x) (lower_case n)).0 b in
+    let yes : same_name name n ≡ true = (bytes_decides (lower_case name) (lower_case n)).1 c in
     let both : true ≡ false = sym yes ∙ differ in
     cc
 

@@ -3,7 +3,7 @@ use Rattle.std.proofs.Common.{◌≡◌, ℕ, ◌+◌, ◌<◌, List, [], ◌∷
 use Rattle.std.proofs.lemmas.List.{map-append}
 use Rattle.std.specs.Prelude.{if◌then◌else◌, is_none, is_some, not, ◌&&◌, zip}
 use Rattle.std.specs.Cmp.Lexicographic.{nat_list_eq_equiv}
-use Rattle.al_base.specs.Names.{folded, same_name}
+use Rattle.al_base.specs.Names.{lower_case, same_name}
 use Rattle.al_types.specs.FusedFields.{are_distinct}
 use Rattle.al_base.specs.NamePlaces.{name_place}
 use Rattle.al_types.specs.Strings.{strings}
@@ -65,7 +65,7 @@ apart_by false o i there h = refl
 pub once_place : (ns : List (List ℕ)) (i : ℕ) (x : List ℕ) → are_once ns ≡ true → i < length ns → x ≡ get_or ns i x → name_place ns x ≡ Some i
 once_place [] i x h lt e = absurd (omega (arith, lt))
 once_place (m ∷ ns) zero x h lt e =
-    let here : same_name m x ≡ true = ap (same_name m) e ∙ nat_list_eq_equiv.refl (folded m) in
+    let here : same_name m x ≡ true = ap (same_name m) e ∙ nat_list_eq_equiv.refl (lower_case m) in
     ap (λ b. if b then Some 0 else option_map (λ k. k + 1) (name_place ns x)) here
 once_place (m ∷ ns) (suc i) x h lt e =
     let has = has_field m (fields_of (strings ns)) in

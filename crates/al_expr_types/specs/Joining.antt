@@ -1,14 +1,14 @@
 -- What types have in common, as far as they were taken.
 use Rattle.std.specs.Prelude.{ℕ, List, map, Bool, true}
 use Rattle.al_types.specs.Types.{Type', Optional, Absent, Present, Parts, object_type}
-use Rattle.al_types.specs.Fused.{fused}
+use Rattle.al_types.specs.Fused.{fuse_all}
 use Rattle.al_expr_types.specs.Types.{are_below, arrays_of, is_below, object_in, type_in}
 use Rattle.al_expr_types.specs.declared.joining.Join.{Join}
 use Rattle.al_expr_types.specs.declared.joining.Join.TheVariants as join
 use Rattle.al_expr_types.specs.declared.joining.ObjectJoin.{ObjectJoin}
 
 abbrev pub object_join_type : List Parts → ObjectJoin → Type'
-object_join_type ms s = arrays_of s.arrays (object_type (fused (map (object_in ms) s.objects.items)))
+object_join_type ms s = arrays_of s.arrays (object_type (fuse_all (map (object_in ms) s.objects.items)))
 
 abbrev pub join_in : List Parts → Join → Optional
 join_in ms join.Nothing = Absent

@@ -5,7 +5,7 @@ use Rattle.std.specs.List.{list_all}
 use Rattle.al_types.specs.Types.{Type', Any, Null, Number, Bool', String, ArrayOf, NoField, Optional, Absent, Present, Parts, fields_of}
 use Rattle.al_types.specs.Types.{fuse_optional, object_type, parts_with}
 use Rattle.al_types.specs.Strings.{strings}
-use Rattle.al_types.specs.Fused.{fused}
+use Rattle.al_types.specs.Fused.{fuse_all}
 use Rattle.al_expr_types.specs.Names.{names_in}
 use Rattle.al_expr_types.specs.declared.ty.Scalar.{Scalar}
 use Rattle.al_expr_types.specs.declared.ty.Scalar.TheVariants as scalar
@@ -83,7 +83,7 @@ abbrev pub object_parts : List Parts → Object → Parts
 object_parts ms (object.Fields f) = fields_parts ms f
 object_parts ms (object.Extension e) = extension_parts ms e
 object_parts ms (object.Strings ns) = strings_parts ns.now
-object_parts ms (object.Common ns) = fused (map (object_in ms) ns.items)
+object_parts ms (object.Common ns) = fuse_all (map (object_in ms) ns.items)
 
 -- objects one after another, behind those before them
 abbrev pub parts_after : List Parts → List Object → List Parts

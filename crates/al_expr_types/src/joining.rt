@@ -3,7 +3,7 @@
 ghost use Rattle.std.specs.Prelude.{◌≡◌, ◌∷◌, ◌++◌, [], List, Contains, IfOk, IsTrue, map, nat_lt, not, true, ℕ};
 ghost use Rattle.al_types.specs.Presence.{is_present};
 ghost use Rattle.al_types.specs.Types.{Any, Parts, Present, fuse_optional, fuse_type};
-ghost use Rattle.al_types.specs.Fused.{fuse_parts, fused};
+ghost use Rattle.al_types.specs.Fused.{fuse_parts, fuse_all};
 ghost use Rattle.al_expr_types.specs.Joining.{is_join_below, join_in, object_join_type};
 ghost use Rattle.al_expr_types.specs.Types.{are_below, arrays_of, base_type, is_below, object_in, type_in};
 ghost use Rattle.al_expr_types.specs.declared.ty.Base.TheVariants as base;
@@ -161,8 +161,8 @@ impl ObjectJoin {
     fn and_object(self, n: u32) -> Result<ObjectJoin, AllocError>
         ensures arrays { IfOk result (λ s. s.arrays ≡ self.arrays) }
         ensures objects { IfOk result
-            (λ s. (ms : List Parts) → fused (map (object_in ms) s.objects.items)
-            ≡ fuse_parts (fused (map (object_in ms) self.objects.items)) (object_in ms n)) }
+            (λ s. (ms : List Parts) → fuse_all (map (object_in ms) s.objects.items)
+            ≡ fuse_parts (fuse_all (map (object_in ms) self.objects.items)) (object_in ms n)) }
         ensures below { IfOk result
             (λ s. (k : ℕ) → are_below k self.objects.items ≡ true → nat_lt n k ≡ true
             → are_below k s.objects.items ≡ true) }

@@ -16,7 +16,7 @@ use Rattle.al_expr_grammar.specs.declared.token.Operator.{Operator}
 use Rattle.al_expr_grammar.proofs.Inside.{TreeLies, StepsLie, OperandsLie, ArgumentsLie, start_of, whole_lies}
 use Rattle.al_types.specs.Names.{context_of, function_of}
 use Rattle.al_types.specs.Scopes.{Scope}
-use Rattle.al_types.specs.Signatures.{accepts, signature, takes, wanted}
+use Rattle.al_types.specs.Signatures.{accepts, signature, takes, parameter_at}
 use Rattle.al_types.specs.Types.{Type', Any, Number, Bool', ArrayOf, ObjectOf, option_of, or_else}
 use Rattle.al_types.specs.declared.names.Context.{Context}
 use Rattle.al_types.specs.declared.names.Function.{Function}
@@ -131,8 +131,8 @@ module _ (size : ℕ) where
   wrong_lie : (name : List ℕ) (ps : Parameters) (n : ℕ) (as' : List (Type' × Span)) → ArgsLie as' → AllLie size (wrong_arguments name ps n as')
   wrong_lie name ps n [] l = tt
   wrong_lie name ps n (a ∷ as') l =
-      both_lie (give (not (accepts (wanted ps n) a.0)) (fault code.ArgumentType a.1 (decimal (n + 1) ∷ name ∷ []))) (wrong_arguments name ps (n + 1) as')
-      (give_lies (not (accepts (wanted ps n) a.0)) (fault code.ArgumentType a.1 (decimal (n + 1) ∷ name ∷ [])) l.0) (wrong_lie name ps (n + 1) as' l.1)
+      both_lie (give (not (accepts (parameter_at ps n) a.0)) (fault code.ArgumentType a.1 (decimal (n + 1) ∷ name ∷ []))) (wrong_arguments name ps (n + 1) as')
+      (give_lies (not (accepts (parameter_at ps n) a.0)) (fault code.ArgumentType a.1 (decimal (n + 1) ∷ name ∷ [])) l.0) (wrong_lie name ps (n + 1) as' l.1)
 
   arguments_lie : (name : List ℕ) (at : Span) (ps : Parameters) (as' : List (Type' × Span)) → LiesIn size at → ArgsLie as' → AllLie size (argument_faults name at ps as')
   arguments_lie name at ps as' i l = if_lie (takes ps (length as')) (wrong_arguments name ps 0 as') (fault code.ArgumentCount at (name ∷ []) ∷ []) (wrong_lie name ps 0 as' l) (i, tt)

@@ -17,7 +17,7 @@ use Rattle.al_types.specs.Names.{context_of, function_of}
 use Rattle.al_expr_typing.specs.Placeholders.{used_arguments}
 use Rattle.al_types.specs.Types.{Type', Any, Number, Bool', String, ArrayOf, ObjectOf, fuse_type, option_of, or_any, or_else}
 use Rattle.al_expr_typing.specs.Comparison.{comparable_types}
-use Rattle.al_types.specs.Signatures.{signature, takes, wanted, accepts, returned_type}
+use Rattle.al_types.specs.Signatures.{signature, takes, parameter_at, accepts, returned_type}
 use Rattle.al_types.specs.Scopes.{Scope}
 use Rattle.al_expr_grammar.specs.Extents.{extent, across}
 use Rattle.al_expr_typing.specs.Literals.{literal_text, type_of_keyword}
@@ -135,7 +135,7 @@ typed_then (typed t fs) s (all_typed as' gs) = all_typed ((t, s) ∷ as') (fs ++
 abbrev pub wrong_arguments : List ℕ → Parameters → ℕ → List (Type' × Span) → List Fault
 wrong_arguments name ps n [] = []
 wrong_arguments name ps n (a ∷ as') =
-    give (not (accepts (wanted ps n) a.0)) (fault code.ArgumentType a.1 (decimal (n + 1) ∷ name ∷ []))
+    give (not (accepts (parameter_at ps n) a.0)) (fault code.ArgumentType a.1 (decimal (n + 1) ∷ name ∷ []))
     ++ wrong_arguments name ps (n + 1) as'
 
 -- X11 where the number of arguments is wrong, else X12

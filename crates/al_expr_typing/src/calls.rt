@@ -8,7 +8,7 @@ ghost use Rattle.al_expr_grammar.specs.Refusal.{fault};
 ghost use Rattle.al_expr_typing.specs.Arguments.{argument_in};
 ghost use Rattle.al_types.specs.Scopes.{is_allowed};
 ghost use Rattle.al_expr_typing.specs.Scopes.{scope_in};
-ghost use Rattle.al_types.specs.Signatures.{accepts, returned_type, wanted};
+ghost use Rattle.al_types.specs.Signatures.{accepts, returned_type, parameter_at};
 ghost use Rattle.al_expr_grammar.specs.Tree.{arguments_of};
 ghost use Rattle.al_types.specs.Types.{Parts, is_array, is_object};
 ghost use Rattle.al_expr_types.specs.Types.{is_below, type_in};
@@ -51,7 +51,7 @@ struct Parameter<'a> {
     of: &'a Word,
     // The first is 1.
     number: usize,
-    wanted: Wanted,
+    parameter_at: Wanted,
 }
 
 /// Whether a function only tests its arguments, so that no text of theirs gets into a script.
@@ -166,7 +166,7 @@ fn check_types(
         let parameter = Parameter {
             of: name,
             number: index + 1,
-            wanted: parameters.wanted(index),
+            parameter_at: parameters.parameter_at(index),
         };
         check_type(parameter, argument, faults)?;
     }
@@ -179,11 +179,11 @@ fn check_type(
     faults: &mut FaultSink,
 ) -> Result<(), AllocError>
     ensures { OnOk result ((ms : List Parts) → faults.new ≡ faults.old ++
-        give (not (accepts (parameter.entry).wanted (type_in ms argument.now.ty)))
+        give (not (accepts (parameter.entry).parameter_at (type_in ms argument.now.ty)))
         (fault code.ArgumentType argument.now.span
         (decimal (parameter.entry).number ∷ string_bytes (parameter.entry).of.now.text ∷ []))) }
 {
-    if !accepts(parameter.wanted, argument.ty) {
+    if !accepts(parameter.parameter_at, argument.ty) {
         let number = parameter.number.to_string(faults.alloc())?;
         let name = parameter.of.text.as_str();
         let args = Args::two(faults.alloc(), number.as_str(), name)?;
@@ -282,11 +282,11 @@ fn check_argument(
     Ok(())
 }
 
-/// Whether a value of this type may be an argument of which this is wanted.
-fn accepts(wanted: Wanted, ty: Ty) -> bool
-    ensures { (ms : List Parts) → result ≡ accepts wanted (type_in ms ty) }
+/// Whether a value of this type may be an argument of which this is parameter_at.
+fn accepts(parameter_at: Wanted, ty: Ty) -> bool
+    ensures { (ms : List Parts) → result ≡ accepts parameter_at (type_in ms ty) }
 {
-    match wanted {
+    match parameter_at {
         Wanted::Any => true,
         Wanted::NotObject => !is_object(ty),
         Wanted::NotCollection => !is_collection(ty),

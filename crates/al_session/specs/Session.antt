@@ -1,6 +1,6 @@
 -- What a session is, what is true of what it keeps, and what a put reads.
 use Rattle.std.specs.Prelude.{◌≡◌, ◌≢◌, ℕ, ◌≤◌, ◌^◌, ◌-◌, List, None, Some}
-use Rattle.al_base.specs.Counted.{raised}
+use Rattle.al_base.specs.Counted.{count_after}
 use Rattle.al_session_folder.specs.Meaning.{IsUpTo, Meaning}
 use Rattle.al_session_folder.specs.Folder.{Folder, bytes_at, put_refusal}
 use Rattle.al_session_folder.specs.Kept.{Files, folder_of, Callers, IsIndex, AreKept}
@@ -33,4 +33,4 @@ IsLinted m is_unit kept checks = AreLinted m is_unit kept.files.entries kept.cal
 pub record ReadsForPut {I : Type 0} (m : Meaning I) (f : Folder) (path bytes : List ℕ) (before now : ℕ) : Type 0 where
   pub at_most : IsUpTo before now 1
   pub there : bytes_at f path ≡ Some bytes → now ≡ before
-  pub read_once : put_refusal m f path bytes ≡ None → bytes_at f path ≢ Some bytes → now ≡ raised before 1
+  pub read_once : put_refusal m f path bytes ≡ None → bytes_at f path ≢ Some bytes → now ≡ count_after before 1

@@ -2,7 +2,7 @@
 
 ghost use Rattle.std.specs.Prelude.{◌≡◌, ◌≢◌, ◌≤◌, ◌<◌, ◌^◌, ◌-◌, [], None, Some, length, true, IfOk, OnOk, OnErr, IfErr};
 ghost use Rattle.std.specs.Option.{option_copied, option_map};
-ghost use Rattle.al_base.specs.Counted.{raised};
+ghost use Rattle.al_base.specs.Counted.{count_after};
 ghost use Rattle.al_base.specs.Paths.{path_fault_of};
 ghost use Rattle.al_base.specs.Limits.{largest_file, most_files};
 ghost use Rattle.al_session_folder.specs.Folder.{bytes_at, paths_of, put_refusal, refusal_or_memory, with_file};
@@ -109,7 +109,7 @@ impl<L: Lint> SessionBuilder<L> {
             (put_refusal L.meaning self.old.folder path.now bytes.now)) }
         ensures as_before { OnErr result (self.new.folder ≡ self.old.folder) }
         ensures meter { self.new.checks ≡ self.old.checks }
-        ensures reads { OnOk result (self.new.reads ≡ raised self.old.reads 1) }
+        ensures reads { OnOk result (self.new.reads ≡ count_after self.old.reads 1) }
         ensures few_reads { IsUpTo self.old.reads self.new.reads 1 }
         ensures no_read { IfErr result
             (λ refused. refused ≢ Refused.Memory → self.new.reads ≡ self.old.reads) }
@@ -131,7 +131,7 @@ impl<L: Lint> SessionBuilder<L> {
     pub fn build(self) -> Result<Session<L>, AllocError>
         ensures folder { IfOk result (λ session. session.folder ≡ self.folder) }
         ensures meter { IfOk result
-            (λ session. session.checks ≡ raised self.checks (length self.folder)) }
+            (λ session. session.checks ≡ count_after self.checks (length self.folder)) }
         ensures reads { IfOk result (λ session. session.reads ≡ self.reads) }
     {
         session_of(self.lint, self.kept)
@@ -156,7 +156,7 @@ fn load_file<L: Lint>(
         (folder_in kept.new ≡ with_file (folder_in kept.old) path.now bytes.now) }
     ensures as_before { OnErr result (kept.new.files.entries ≡ kept.old.files.entries) }
     ensures checks { L.checks_of lint.new ≡ L.checks_of lint.old }
-    ensures reads { L.reads_of lint.new ≡ raised (L.reads_of lint.old) 1 }
+    ensures reads { L.reads_of lint.new ≡ count_after (L.reads_of lint.old) 1 }
 {
     let file = read_file(lint, kept.alloc, path, bytes)?;
     match place_in(&kept.files, path) {
@@ -180,7 +180,7 @@ fn session_of<L: Lint>(
     requires { IsLoaded L.meaning L.is_unit kept (L.checks_of lint) }
     ensures folder { IfOk result (λ session. session.folder ≡ folder_in kept) }
     ensures checks { IfOk result
-        (λ session. session.checks ≡ raised (L.checks_of lint) (length (folder_in kept))) }
+        (λ session. session.checks ≡ count_after (L.checks_of lint) (length (folder_in kept))) }
     ensures reads { IfOk result (λ session. session.reads ≡ L.reads_of lint) }
 {
     check_all(&mut lint, &mut kept)?;
@@ -196,7 +196,7 @@ fn check_all<L: Lint>(
     ensures linted { OnOk result (IsLinted L.meaning L.is_unit kept.new (L.checks_of lint.new)) }
     ensures folder { OnOk result (folder_in kept.new ≡ folder_in kept.old) }
     ensures checks { OnOk result
-        (L.checks_of lint.new ≡ raised (L.checks_of lint.old) (length (folder_in kept.old))) }
+        (L.checks_of lint.new ≡ count_after (L.checks_of lint.old) (length (folder_in kept.old))) }
     ensures reads { L.reads_of lint.new ≡ L.reads_of lint.old }
 {
     let paths = paths_in::<L>(kept.alloc, &kept.files)?;

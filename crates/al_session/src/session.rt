@@ -16,7 +16,7 @@ ghost use Rattle.al_session_folder.specs.Folder.{without_file, paths_of, refusal
 ghost use Rattle.std.specs.Bool.{Decides};
 ghost use Rattle.al_session_folder.specs.Affected.{affected_paths, is_among};
 ghost use Rattle.al_session_folder.specs.Meaning.{IsUpTo};
-ghost use Rattle.al_base.specs.Counted.{raised};
+ghost use Rattle.al_base.specs.Counted.{count_after};
 ghost use Rattle.al_session_folder.specs.Missing.{is_missing, missing_in};
 ghost use Rattle.al_session_folder.specs.Report.{status_of, report_of};
 ghost use Rattle.al_session.specs.EditLaws.{OthersKeepFaults, PutsInAnyOrder, SamePutChangesNothing};
@@ -176,7 +176,7 @@ impl<L: Lint> Session<L> {
         ensures rechecked { IfOk result (λ edit.
             edit.rechecked ≡ affected_paths L.Iface.eq L.meaning self.old.folder self.new.folder) }
         ensures meter { IfOk result (λ edit.
-            self.new.checks ≡ raised self.old.checks (length edit.rechecked)) }
+            self.new.checks ≡ count_after self.old.checks (length edit.rechecked)) }
         ensures refused { IfErr result (λ refused.
             refused ≡ refusal_or_memory
             (put_refusal L.meaning self.old.folder path.now bytes.now)) }
@@ -233,7 +233,7 @@ impl<L: Lint> Session<L> {
         ensures rechecked { IfOk result (λ edit.
             edit.rechecked ≡ affected_paths L.Iface.eq L.meaning self.old.folder self.new.folder) }
         ensures meter { IfOk result (λ edit.
-            self.new.checks ≡ raised self.old.checks (length edit.rechecked)) }
+            self.new.checks ≡ count_after self.old.checks (length edit.rechecked)) }
         ensures refused { IfErr result (λ refused.
             refused ≡ refusal_or_memory (delete_refusal L.meaning self.old.folder path.now)) }
         ensures as_before { OnErr result (self.new.folder ≡ self.old.folder) }

@@ -3,7 +3,7 @@ use Rattle.std.proofs.Common.{◌≡◌, ℕ, ◌+◌, ◌<◌, List, [], ◌∷
 use Rattle.std.proofs.lemmas.List.{map_push, map_more}
 use Rattle.al_base.specs.declared.faults.Fault.{Fault}
 use Rattle.al_session_folder.specs.Meaning.{Meaning}
-use Rattle.al_base.specs.Counted.{raised}
+use Rattle.al_base.specs.Counted.{count_after}
 use Rattle.al_session_folder.specs.Folder.{Folder, interface_in, answer, faults_in, bytes_at}
 use Rattle.al_session_folder.specs.Kept.{faults_of}
 use Rattle.std.specs.Option.{option_map_or, option_or}
@@ -35,7 +35,7 @@ pub map_both : {A B C : Type 0} (f : A → C) (g : B → C) (xs : List A) (ys : 
     ≡ map g (take i ys) → f x ≡ g (get_or ys i d) → map f (xs ++ x ∷ []) ≡ map g (take (i + 1) ys)
 map_both f g xs ys i d x within so_far here = map_push f xs x ∙ ap (λ l. l ++ f x ∷ []) so_far ∙ ap (λ y. map g (take i ys) ++ y ∷ []) here ∙ sym (map_more g ys i d within)
 
-pub raised_more : (n k a b : ℕ) → a ≡ raised n k → b ≡ raised a 1 → b ≡ raised n (k + 1)
+pub raised_more : (n k a b : ℕ) → a ≡ count_after n k → b ≡ count_after a 1 → b ≡ count_after n (k + 1)
 raised_more n k a b h e = omega arith
 
 -- the faults of a file at a path are those of its bytes

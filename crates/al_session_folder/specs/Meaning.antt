@@ -1,7 +1,7 @@
 -- What a linter means: data that each linter gives, and that the folder's definitions take.
 use Rattle.std.specs.Prelude.{◌≡◌, ℕ, ◌≤◌, Bool, List, [], ◌∷◌, Option, bytes_eq, map}
 use Rattle.std.specs.List.{list_any}
-use Rattle.al_base.specs.Counted.{raised}
+use Rattle.al_base.specs.Counted.{count_after}
 use Rattle.al_base.specs.declared.faults.Fault.{Fault}
 use Rattle.al_session_folder.specs.declared.lint.Target.{Target}
 use Rattle.al_session_folder.specs.declared.lint.Target.TheVariants.{Only, FirstOf}
@@ -35,4 +35,4 @@ pub record AreAnswers {I : Type 0} (targets : List Target) (given : List (Option
 
 -- a count that has risen by at most that many
 abbrev pub IsUpTo : ℕ → ℕ → ℕ → Type 0
-IsUpTo old new most = (old ≤ new) × (new ≤ raised old most)
+IsUpTo old new most = (old ≤ new) × (new ≤ count_after old most)

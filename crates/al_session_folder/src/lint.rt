@@ -9,7 +9,7 @@ ghost use Rattle.al_base.specs.Limits.{largest_file};
 ghost use Rattle.al_base.specs.Spans.{LiesIn};
 ghost use Rattle.al_session_folder.specs.Meaning.{AreAnswers, Meaning};
 ghost use Rattle.al_session_folder.specs.Sites.{fault_of};
-ghost use Rattle.al_base.specs.Counted.{raised};
+ghost use Rattle.al_base.specs.Counted.{count_after};
 
 use al_base::{Code, Fault, Path, Span};
 use std::alloc::{AllocError, Global};
@@ -115,7 +115,7 @@ pub trait Lint: Drop {
     fn read(&mut self, alloc: Global, path: &str, bytes: &[u8]) -> Result<Self::Unit, AllocError>
         requires small { length bytes.now ≤ largest_file }
         ensures unit { IfOk result (λ u. is_unit u path.now bytes.now) }
-        ensures reads { reads_of self.new ≡ raised (reads_of self.old) 1 }
+        ensures reads { reads_of self.new ≡ count_after (reads_of self.old) 1 }
         ensures checks { checks_of self.new ≡ checks_of self.old };
 
     /// What a file offers to its callers.
@@ -145,7 +145,7 @@ pub trait Lint: Drop {
             (map (λ a. option_copied a) answers.now) }
         ensures faults { IfOk result (λ fs. fs.items
             ≡ meaning.faults path.now bytes.now (map (λ a. option_copied a) answers.now)) }
-        ensures checks { checks_of self.new ≡ raised (checks_of self.old) 1 }
+        ensures checks { checks_of self.new ≡ count_after (checks_of self.old) 1 }
         ensures reads { reads_of self.new ≡ reads_of self.old };
 
     /// The site of a call, by its number in the order of [`calls`](Lint::calls), from 0. Takes no memory.

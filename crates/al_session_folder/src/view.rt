@@ -4,7 +4,7 @@ ghost use Rattle.std.specs.Prelude.{◌≡◌, ◌≤◌, ◌^◌, ◌-◌, IsSo
 ghost use Rattle.std.specs.List.{AllByRecursion};
 ghost use Rattle.std.specs.Option.{option_copied, option_map};
 ghost use Rattle.al_session_folder.specs.Meaning.{IsUpTo};
-ghost use Rattle.al_base.specs.Counted.{raised};
+ghost use Rattle.al_base.specs.Counted.{count_after};
 ghost use Rattle.al_session_folder.specs.Folder.{answer, bytes_at, interface_in};
 ghost use Rattle.al_session_folder.specs.Kept.{after, file_after, faults_of, folder_of, AreKept, IsKept, IsView};
 
@@ -129,7 +129,7 @@ impl<'a, L: Lint> FolderView<'a, L> {
         requires there { IsSome (bytes_at self.now at.now) }
         requires counted { L.checks_of lint.old ≤ 2 ^ 64 - 1 }
         ensures faults { IfOk result (λ fs. fs.items ≡ faults_of L.meaning self.now at.now) }
-        ensures checks { OnOk result (L.checks_of lint.new ≡ raised (L.checks_of lint.old) 1) }
+        ensures checks { OnOk result (L.checks_of lint.new ≡ count_after (L.checks_of lint.old) 1) }
         ensures bound { OnErr result (IsUpTo (L.checks_of lint.old) (L.checks_of lint.new) 1) }
         ensures reads { L.reads_of lint.new ≡ L.reads_of lint.old }
     {
@@ -156,7 +156,7 @@ impl<'a, L: Lint> FolderView<'a, L> {
         ensures faults { IfOk result (λ lists. map (λ faults. faults.items) lists.items
             ≡ map (faults_of L.meaning self.now) paths.now) }
         ensures checks { OnOk result
-            (L.checks_of lint.new ≡ raised (L.checks_of lint.old) (length paths.now)) }
+            (L.checks_of lint.new ≡ count_after (L.checks_of lint.old) (length paths.now)) }
         ensures bound { OnErr result
             (IsUpTo (L.checks_of lint.old) (L.checks_of lint.new) (length paths.now)) }
         ensures reads { L.reads_of lint.new ≡ L.reads_of lint.old }

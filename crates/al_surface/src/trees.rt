@@ -1,7 +1,7 @@
 //! `al_tree` and `al_rules`: workflows, actions, and their faults of keys and of rules.
 
 use al_rules::rules;
-use al_text::{Code, Fault, KeyCode, RuleCode, ordered};
+use al_text::{Code, Fault, KeyCode, RuleCode, fault_list};
 use al_tree::{Tree, read_action, read_workflow};
 use al_yaml::{Doc, read_yaml};
 use std::alloc::{AllocError, Global};
@@ -58,12 +58,12 @@ fn of_the_action() -> &'static [Told] {
 
 fn breaks_workflow(alloc: Global, file: &[u8], wanted: &[Told]) -> Result<bool, AllocError> {
     let (_, faults) = read_workflow(alloc, document(alloc, file)?)?;
-    Ok(are_told(&ordered(faults), wanted))
+    Ok(are_told(&fault_list(faults), wanted))
 }
 
 fn breaks_action(alloc: Global, file: &[u8], wanted: &[Told]) -> Result<bool, AllocError> {
     let (_, faults) = read_action(alloc, document(alloc, file)?)?;
-    Ok(are_told(&ordered(faults), wanted))
+    Ok(are_told(&fault_list(faults), wanted))
 }
 
 #[test]

@@ -2,7 +2,7 @@
 use Rattle.std.specs.Prelude.{ℕ, List, [], ◌++◌, codes, decimal, slice_get, unwrap_or}
 use Rattle.al_base.specs.Codes.{code_row}
 use Rattle.al_base.specs.Positions.{line_at, column_at}
-use Rattle.al_base.specs.Shown.{shown}
+use Rattle.al_base.specs.Printable.{printable}
 use Rattle.al_base.specs.declared.codes.Code.{Code}
 use Rattle.al_base.specs.declared.faults.Fault.{Fault}
 
@@ -12,7 +12,7 @@ fault_kind code = (code_row code).kind
 
 -- the argument i, as it is printed
 abbrev pub argument : List (List ℕ) → ℕ → List ℕ
-argument args i = shown (unwrap_or (slice_get args i) [])
+argument args i = printable (unwrap_or (slice_get args i) [])
 
 abbrev pub message : Code → List (List ℕ) → List ℕ
 message code args = let row = code_row code in row.head ++ argument args 0 ++ row.middle ++ argument args 1 ++ row.tail

@@ -13,8 +13,9 @@ mod examples;
 
 pub use al_base::{
     Args, CallCode, Caller, Code, ExpressionCode, Fault, Input, KeyCode, Lines, Location, Output,
-    Path, PathFault, RuleCode, Span, Stop, YamlCode, add_copies, fault_lists, first_control,
-    is_char_start, is_same_name, limits, location_of, ordered, path_fault, position, rows, shown,
+    Path, PathFault, RuleCode, Span, Stop, YamlCode, add_copies, fault_list, fault_lists,
+    first_control, is_char_start, is_same_name, limits, location_of, path_fault, position,
+    printable, rows,
 };
 pub use examples::snippet_rows;
 pub use printing::{WriteFault, write_fault, write_fault_at, write_faults};

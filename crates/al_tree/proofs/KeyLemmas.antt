@@ -11,7 +11,7 @@ use Rattle.std.proofs.Math.ListN.{get_or-map}
 use Rattle.std.proofs.lemmas.Bool.{le-ltb, lt-ltb, ltb-true, ltb_from_iff}
 use Rattle.std.proofs.lemmas.List.{length-map, take-map, take_all}
 use Rattle.std.proofs.lemmas.Slice.Eq.{bytes_eq-Decides}
-use Rattle.al_base.specs.Names.{folded, same_name}
+use Rattle.al_base.specs.Names.{lower_case, same_name}
 use Rattle.al_base.specs.NamePlaces.{first_at, name_place, text_place, text_position}
 use Rattle.al_base.specs.declared.name_positions.TextPositions.{TextPositions}
 use Rattle.al_yaml_tree.specs.View.{entry_view}
@@ -116,7 +116,7 @@ module _ {A : Type 0} (test : A → Bool) where
   none_at (x ∷ xs) = none_step (test x) (first_at test xs) (list_any test xs) (none_at xs)
 
 same_itself : (n : List ℕ) → same_name n n ≡ true
-same_itself n = (bytes_eq-Decides (folded n) (folded n)).1 refl
+same_itself n = (bytes_eq-Decides (lower_case n) (lower_case n)).1 refl
 
 -- a name that no earlier one equals first stands where it does
 pub name_stands_first : {X : Type 0} (name : X → List ℕ) (xs : List X) (i : ℕ) (x : X) → i < length xs → x ≡ get_or xs i x →

@@ -8,7 +8,7 @@ ghost use Rattle.al_yaml_tree.specs.View.{view};
 ghost use Rattle.std.specs.Prelude.{◌≡◌, IfOk};
 
 use crate::{Shape, shape_faults};
-use al_base::{Fault, ordered};
+use al_base::{Fault, fault_list};
 use al_yaml_tree::{Doc, Node};
 use std::alloc::{AllocError, Global};
 
@@ -105,5 +105,5 @@ fn root_shape(kind: FileKind) -> Shape
 pub fn document_faults(alloc: Global, kind: FileKind, doc: &Doc) -> Result<Vec<Fault>, AllocError>
     ensures { IfOk result (λ found. found.items ≡ key_faults kind (view doc.now.root)) }
 {
-    Ok(ordered(shape_faults(alloc, root_shape(kind), &doc.root)?))
+    Ok(fault_list(shape_faults(alloc, root_shape(kind), &doc.root)?))
 }

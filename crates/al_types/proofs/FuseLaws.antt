@@ -3,7 +3,7 @@
 use Rattle.std.proofs.Common.{◌≡◌, List, [], ◌∷◌, ◌++◌, refl, sym, ap, ◌∙◌, Option, Some, None}
 use Rattle.al_types.specs.Types.{Type', Any, Null, Number, Bool', String, ArrayOf, ObjectOf, Optional, Absent, Present, NoField}
 use Rattle.al_types.specs.Types.{Parts, fuse_optional, fuse_type, option_of, optional, parts_with}
-use Rattle.al_types.specs.Fused.{fuse_parts, fused_with, fused}
+use Rattle.al_types.specs.Fused.{fuse_parts, fused_with, fuse_all}
 use Rattle.al_types.specs.TypeParts.{common_type}
 
 mutual
@@ -120,7 +120,7 @@ with_more p [] qs = refl
 with_more p (r ∷ ps) qs = with_more (fuse_parts p r) ps qs
 
 -- objects and one more
-pub fused_one_more : (ps : List Parts) (q : Parts) → fused (ps ++ q ∷ []) ≡ fuse_parts (fused ps) q
+pub fused_one_more : (ps : List Parts) (q : Parts) → fuse_all (ps ++ q ∷ []) ≡ fuse_parts (fuse_all ps) q
 fused_one_more ps q = with_more (parts_with NoField Absent) ps (q ∷ [])
 
 with_before : (p q : Parts) (qs : List Parts) → fused_with (fuse_parts p q) qs ≡ fuse_parts p (fused_with q qs)
@@ -128,7 +128,7 @@ with_before p q [] = refl
 with_before p q (r ∷ qs) = ap (λ x. fused_with x qs) (parts_assoc p q r) ∙ with_before p (fuse_parts q r) qs
 
 -- some objects and others: those fused, with these fused
-pub fused_both : (ps qs : List Parts) → fused (ps ++ qs) ≡ fuse_parts (fused ps) (fused qs)
+pub fused_both : (ps qs : List Parts) → fuse_all (ps ++ qs) ≡ fuse_parts (fuse_all ps) (fuse_all qs)
 fused_both ps qs =
-    with_more (parts_with NoField Absent) ps qs ∙ ap (λ x. fused_with x qs) (sym (empty_last (fused ps)))
-    ∙ with_before (fused ps) (parts_with NoField Absent) qs
+    with_more (parts_with NoField Absent) ps qs ∙ ap (λ x. fused_with x qs) (sym (empty_last (fuse_all ps)))
+    ∙ with_before (fuse_all ps) (parts_with NoField Absent) qs

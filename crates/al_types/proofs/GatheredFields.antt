@@ -4,9 +4,9 @@ use Rattle.std.specs.Prelude.{if◌then◌else◌, is_some, not, ◌&&◌}
 use Rattle.std.specs.Option.{option_or}
 use Rattle.std.specs.Cmp.Lexicographic.{bytes_decides}
 use Rattle.std.specs.Str.{bytes_eq}
-use Rattle.al_base.specs.Names.{folded, same_name}
+use Rattle.al_base.specs.Names.{lower_case, same_name}
 use Rattle.al_types.specs.FusedFields.{are_distinct}
-use Rattle.al_types.specs.Puts.{Typed, firsts, put, put_all, put_new}
+use Rattle.al_types.specs.Puts.{Typed, firsts, put_or_fuse, put_all, put_new}
 use Rattle.al_types.specs.Types.{Type', Fields, Optional, field_at, fields_of, fuse_optional, fuse_type, has_field, optional}
 use Rattle.al_types.specs.TypeParts.{common_type}
 use Rattle.al_types.proofs.FuseLaws.{common_optional}
@@ -49,11 +49,11 @@ put_step false there here n q p qs more h k is e =
     ∙ ap (λ b. common_type (if b then Some q.1 else field_at n (fields_of qs)) (when here p.1)) is
 
 pub found_put : (ts : List Typed) (p : Typed) (n : List ℕ) →
-    field_at n (fields_of (put ts p)) ≡ common_type (field_at n (fields_of ts)) (when (same_name p.0 n) p.1)
+    field_at n (fields_of (put_or_fuse ts p)) ≡ common_type (field_at n (fields_of ts)) (when (same_name p.0 n) p.1)
 found_put [] p n = refl
 found_put (q ∷ qs) p n =
-    put_step (same_name q.0 p.0) (same_name q.0 n) (same_name p.0 n) n q p qs (put qs p) (λ s. ap (λ m. bytes_eq m (folded n)) ((bytes_decides _ _).0 s))
-    (λ f s. ap (bytes_eq (folded p.0)) (sym ((bytes_decides _ _).0 s)) ∙ same_turned p.0 q.0 ∙ f) refl (found_put qs p n)
+    put_step (same_name q.0 p.0) (same_name q.0 n) (same_name p.0 n) n q p qs (put_or_fuse qs p) (λ s. ap (λ m. bytes_eq m (lower_case n)) ((bytes_decides _ _).0 s))
+    (λ f s. ap (bytes_eq (lower_case p.0)) (sym ((bytes_decides _ _).0 s)) ∙ same_turned p.0 q.0 ∙ f) refl (found_put qs p n)
 
 -- ---- many that are put, whose names are distinct
 
@@ -63,11 +63,11 @@ all_step true t o more h = ap (common_type (common_type o (Some t))) (h refl) �
 all_step false t o more h = ap (λ x. common_type x more) (common_none o)
 
 found_all : (ts us : List Typed) (n : List ℕ) → are_distinct (fields_of us) ≡ true →
-    field_at n (fields_of (put_all put ts us)) ≡ common_type (field_at n (fields_of ts)) (field_at n (fields_of us))
+    field_at n (fields_of (put_all put_or_fuse ts us)) ≡ common_type (field_at n (fields_of ts)) (field_at n (fields_of us))
 found_all ts [] n d = sym (common_none (field_at n (fields_of ts)))
 found_all ts (p ∷ us) n d =
     let none : has_field p.0 (fields_of us) ≡ false = first_apart (has_field p.0 (fields_of us)) (are_distinct (fields_of us)) d in
-    found_all (put ts p) us n (others_apart (has_field p.0 (fields_of us)) (are_distinct (fields_of us)) d)
+    found_all (put_or_fuse ts p) us n (others_apart (has_field p.0 (fields_of us)) (are_distinct (fields_of us)) d)
     ∙ ap (λ o. common_type o (field_at n (fields_of us))) (found_put ts p n)
     ∙ all_step (same_name p.0 n) p.1 (field_at n (fields_of ts)) (field_at n (fields_of us))
     (λ s. nothing_at n (fields_of us) (has_same n p.0 (fields_of us) (sym ((bytes_decides _ _).0 s)) ∙ none))
@@ -80,7 +80,7 @@ abbrev pub found_in_either : Fields → Fields → List ℕ → Optional
 found_in_either fs gs = λ n. fuse_optional (found_in fs n) (found_in gs n)
 
 -- a name finds what the types of both have in common
-pub found_in_both : (ts us : List Typed) → are_distinct (fields_of us) ≡ true → found_in (fields_of (put_all put ts us)) ≡ found_in_either (fields_of ts) (fields_of us)
+pub found_in_both : (ts us : List Typed) → are_distinct (fields_of us) ≡ true → found_in (fields_of (put_all put_or_fuse ts us)) ≡ found_in_either (fields_of ts) (fields_of us)
 found_in_both ts us e =
     λ d n. (ap optional (found_all ts us n e) ∙ common_optional (field_at n (fields_of ts)) (field_at n (fields_of us))) d
 
@@ -114,7 +114,7 @@ found_new : (ts : List Typed) (p : Typed) (n : List ℕ) →
     field_at n (fields_of (put_new ts p)) ≡ option_or (field_at n (fields_of ts)) (when (same_name p.0 n) p.1)
 found_new [] p n = refl
 found_new (q ∷ qs) p n =
-    new_step (same_name q.0 p.0) (same_name q.0 n) (same_name p.0 n) n q p qs (put_new qs p) (λ s. ap (λ m. bytes_eq m (folded n)) ((bytes_decides _ _).0 s))
+    new_step (same_name q.0 p.0) (same_name q.0 n) (same_name p.0 n) n q p qs (put_new qs p) (λ s. ap (λ m. bytes_eq m (lower_case n)) ((bytes_decides _ _).0 s))
     refl (found_new qs p n)
 
 or_step : (b : Bool) (t : Type') (o more : Option Type') → option_or (option_or o (when b t)) more ≡ option_or o (if b then Some t else more)

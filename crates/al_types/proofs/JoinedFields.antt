@@ -6,7 +6,7 @@ use Rattle.std.specs.Prelude.{if◌then◌else◌, is_some, not, ◌&&◌, optio
 use Rattle.std.specs.Option.{option_or}
 use Rattle.std.specs.Cmp.Lexicographic.{bytes_decides}
 use Rattle.std.specs.Str.{bytes_eq}
-use Rattle.al_base.specs.Names.{folded, same_name}
+use Rattle.al_base.specs.Names.{lower_case, same_name}
 use Rattle.al_types.specs.Types.{Type', Fields, NoField, FieldThen, Optional, Absent, Present, common_in, field_at, fields_of, fuse_optional}
 use Rattle.al_types.specs.Types.{fuse_type, has_field, optional, parts_with}
 use Rattle.al_types.specs.Fused.{fuse_parts}
@@ -18,13 +18,13 @@ use Rattle.al_types.proofs.FuseLaws.{common_optional, last_turned, middle_turned
 
 pub same_turned : (m n : List ℕ) → same_name m n ≡ same_name n m
 same_turned m n =
-    let back = bytes_eq-Decides (folded n) (folded m) in
-    same_from_decides (same_name m n) (same_name n m) (bytes_eq-Decides (folded m) (folded n)) (Decides-like (same_name n m) sym sym back)
+    let back = bytes_eq-Decides (lower_case n) (lower_case m) in
+    same_from_decides (same_name m n) (same_name n m) (bytes_eq-Decides (lower_case m) (lower_case n)) (Decides-like (same_name n m) sym sym back)
 
-same_at : (m n : List ℕ) (fs : Fields) → folded m ≡ folded n → field_at m fs ≡ field_at n fs
+same_at : (m n : List ℕ) (fs : Fields) → lower_case m ≡ lower_case n → field_at m fs ≡ field_at n fs
 same_at m n NoField e = refl
 same_at m n (FieldThen k u fs) e =
-    ap (λ b. if b then Some u else field_at m fs) (ap (bytes_eq (folded k)) e)
+    ap (λ b. if b then Some u else field_at m fs) (ap (bytes_eq (lower_case k)) e)
     ∙ ap (λ o. if same_name k n then Some u else o) (same_at m n fs e)
 
 some_if : (b : Bool) (t : Type') (o : Option Type') → is_some (if b then Some t else o) ≡ b || is_some o
@@ -35,7 +35,7 @@ pub has_field_at : (n : List ℕ) (fs : Fields) → is_some (field_at n fs) ≡ 
 has_field_at n NoField = refl
 has_field_at n (FieldThen m t fs) = some_if (same_name m n) t (field_at n fs) ∙ ap (λ b. same_name m n || b) (has_field_at n fs)
 
-pub has_same : (m n : List ℕ) (fs : Fields) → folded m ≡ folded n → has_field m fs ≡ has_field n fs
+pub has_same : (m n : List ℕ) (fs : Fields) → lower_case m ≡ lower_case n → has_field m fs ≡ has_field n fs
 has_same m n fs e = sym (has_field_at m fs) ∙ ap is_some (same_at m n fs e) ∙ has_field_at n fs
 
 none_at : (o : Option Type') → is_some o ≡ false → o ≡ None

@@ -3,7 +3,7 @@ use Rattle.std.proofs.Common.{◌≡◌, ℕ, ◌+◌, List, [], ◌∷◌, ◌+
 use Rattle.std.specs.Prelude.{if◌then◌else◌, is_none}
 use Rattle.al_base.specs.Names.{same_name}
 use Rattle.al_types.specs.Types.{fuse_type}
-use Rattle.al_types.specs.Puts.{Typed, put, put_new}
+use Rattle.al_types.specs.Puts.{Typed, put_or_fuse, put_new}
 use Rattle.al_types.specs.Indexes.{name_at}
 
 step : (b : Bool) (o : Option ℕ) (q : Typed) (qs more : List Typed) →
@@ -43,9 +43,9 @@ at_step true o q qs more p i d h e = let z : 0 ≡ i = cc in ap (λ k. fused_at 
 at_step false None q qs more p i d h e = absurd cc
 at_step false (Some j) q qs more p i d h e = let y : j + 1 ≡ i = cc in let z : suc j ≡ i = omega (arith, y) in ap (λ us. q ∷ us) (h j refl) ∙ ap (λ k. fused_at (q ∷ qs) p k d) z
 
-pub put_at : (ts : List Typed) (p : Typed) (i : ℕ) (d : Typed) → name_at ts p.0 ≡ Some i → put ts p ≡ fused_at ts p i d
+pub put_at : (ts : List Typed) (p : Typed) (i : ℕ) (d : Typed) → name_at ts p.0 ≡ Some i → put_or_fuse ts p ≡ fused_at ts p i d
 put_at [] p i d e = absurd cc
-put_at (q ∷ qs) p i d e = at_step (same_name q.0 p.0) (name_at qs p.0) q qs (put qs p) p i d (λ j h. put_at qs p j d h) e
+put_at (q ∷ qs) p i d e = at_step (same_name q.0 p.0) (name_at qs p.0) q qs (put_or_fuse qs p) p i d (λ j h. put_at qs p j d h) e
 
 behind_step : (b : Bool) (o : Option ℕ) (x y z w : List Typed) → (o ≡ None → y ≡ z) → (if b then Some 0 else option_map (λ k. k + 1) o) ≡ None → (if b then x else y) ≡ (if b then w else z)
 behind_step true o x y z w h e = absurd cc
@@ -53,13 +53,13 @@ behind_step false None x y z w h e = h refl
 behind_step false (Some j) x y z w h e = absurd cc
 
 -- where no field has its name it doesn't matter which way it is put
-pub put_behind : (ts : List Typed) (p : Typed) → name_at ts p.0 ≡ None → put ts p ≡ put_new ts p
+pub put_behind : (ts : List Typed) (p : Typed) → name_at ts p.0 ≡ None → put_or_fuse ts p ≡ put_new ts p
 put_behind [] p e = refl
 put_behind (q ∷ qs) p e =
-    behind_step (same_name q.0 p.0) (name_at qs p.0) ((q.0, fuse_type q.1 p.1) ∷ qs) (q ∷ put qs p) (q ∷ put_new qs p) (q ∷ qs) (λ h. ap (λ us. q ∷ us) (put_behind qs p h)) e
+    behind_step (same_name q.0 p.0) (name_at qs p.0) ((q.0, fuse_type q.1 p.1) ∷ qs) (q ∷ put_or_fuse qs p) (q ∷ put_new qs p) (q ∷ qs) (λ h. ap (λ us. q ∷ us) (put_behind qs p h)) e
 
 -- a field that is fused where it stands
-pub put_over : (ts : List Typed) (p q r : Typed) (i : ℕ) → name_at ts p.0 ≡ Some i → get_or ts i r ≡ r → q.0 ≡ r.0 → q.1 ≡ fuse_type r.1 p.1 → set ts i q ≡ put ts p
+pub put_over : (ts : List Typed) (p q r : Typed) (i : ℕ) → name_at ts p.0 ≡ Some i → get_or ts i r ≡ r → q.0 ≡ r.0 → q.1 ≡ fuse_type r.1 p.1 → set ts i q ≡ put_or_fuse ts p
 put_over ts p q r i at got name ty =
     ap (λ n. set ts i (n, q.1)) name
     ∙ ap (λ t. set ts i (r.0, t)) ty

@@ -11,5 +11,5 @@ fused_with p [] = p
 fused_with p (q ∷ qs) = fused_with (fuse_parts p q) qs
 
 -- objects as one, fused in turn: of none an object without fields
-abbrev pub fused : List Parts → Parts
-fused qs = fused_with (parts_with NoField Absent) qs
+abbrev pub fuse_all : List Parts → Parts
+fuse_all qs = fused_with (parts_with NoField Absent) qs

@@ -12,9 +12,9 @@ put_new [] p = p ∷ []
 put_new (q ∷ qs) p = if same_name q.0 p.0 then q ∷ qs else q ∷ put_new qs p
 
 -- a name with a type put to those that are there: fused with that of an equal one, else at the end
-abbrev pub put : List Typed → Typed → List Typed
-put [] p = p ∷ []
-put (q ∷ qs) p = if same_name q.0 p.0 then (q.0, fuse_type q.1 p.1) ∷ qs else q ∷ put qs p
+abbrev pub put_or_fuse : List Typed → Typed → List Typed
+put_or_fuse [] p = p ∷ []
+put_or_fuse (q ∷ qs) p = if same_name q.0 p.0 then (q.0, fuse_type q.1 p.1) ∷ qs else q ∷ put_or_fuse qs p
 
 abbrev pub put_all : (List Typed → Typed → List Typed) → List Typed → List Typed → List Typed
 put_all put_one ts [] = ts

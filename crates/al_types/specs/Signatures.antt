@@ -37,12 +37,12 @@ takes (OneOrTwo a b) n = nat_eq n 1 || nat_eq n 2
 takes (OneOrMore a b) n = not (nat_eq n 0)
 
 -- what the argument of an index, counted from 0, may be
-abbrev pub wanted : Parameters → ℕ → Wanted
-wanted Zero n = wants.Any
-wanted (One a) n = a
-wanted (Two a b) n = if nat_eq n 0 then a else b
-wanted (OneOrTwo a b) n = if nat_eq n 0 then a else b
-wanted (OneOrMore a b) n = if nat_eq n 0 then a else b
+abbrev pub parameter_at : Parameters → ℕ → Wanted
+parameter_at Zero n = wants.Any
+parameter_at (One a) n = a
+parameter_at (Two a b) n = if nat_eq n 0 then a else b
+parameter_at (OneOrTwo a b) n = if nat_eq n 0 then a else b
+parameter_at (OneOrMore a b) n = if nat_eq n 0 then a else b
 
 abbrev pub accepts : Wanted → Type' → Bool
 accepts wants.Any t = true

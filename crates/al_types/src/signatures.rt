@@ -2,7 +2,7 @@
 
 ghost use Rattle.std.specs.Prelude.{◌≡◌, option_map};
 ghost use Rattle.al_types.specs.Names.{function_of};
-ghost use Rattle.al_types.specs.Signatures.{signature, takes, wanted};
+ghost use Rattle.al_types.specs.Signatures.{signature, takes, parameter_at};
 
 use crate::names::Function;
 
@@ -113,8 +113,8 @@ impl Parameters {
     }
 
     /// What the argument of an index, counted from 0, may be.
-    pub fn wanted(self, index: usize) -> Wanted
-        ensures { result ≡ wanted self index }
+    pub fn parameter_at(self, index: usize) -> Wanted
+        ensures { result ≡ parameter_at self index }
     {
         match self {
             Parameters::Zero => Wanted::Any,

@@ -1,6 +1,6 @@
 -- What an edit of kept files leaves.
 use Rattle.std.specs.Prelude.{◌≡◌, ℕ, Bool, List, length}
-use Rattle.al_base.specs.Counted.{raised}
+use Rattle.al_base.specs.Counted.{count_after}
 use Rattle.al_session_folder.specs.Meaning.{IsUpTo, Meaning}
 use Rattle.al_session_folder.specs.Folder.{Folder}
 use Rattle.al_session_folder.specs.Affected.{affected_paths}
@@ -13,7 +13,7 @@ pub record IsEdited {U I : Type 0} (eq : I → I → Bool) (m : Meaning I) (is_u
   pub linted : IsLinted m is_unit now checks_now
   pub folder : folder_in now ≡ wanted
   pub rechecked : paths ≡ affected_paths eq m (folder_in before) wanted
-  pub checks : checks_now ≡ raised checks_before (length paths)
+  pub checks : checks_now ≡ count_after checks_before (length paths)
 
 -- The files as they were, where memory ended before all was done: at most the affected files were checked.
 pub record IsUndone {U I : Type 0} (eq : I → I → Bool) (m : Meaning I) (is_unit : U → List ℕ → List ℕ → Type 0) (before : IndexedFiles U I)

@@ -1,7 +1,7 @@
 -- Fragments of what is printed, one after another.
 use Rattle.std.specs.Prelude.{ℕ, List, ◌++◌, map, codes}
 use Rattle.std.specs.List.{flat_map}
-use Rattle.al_base.specs.Shown.{shown}
+use Rattle.al_base.specs.Printable.{printable}
 use Rattle.al_text.specs.Snippets.{spaces_for}
 use Rattle.al_text.specs.Private.Marks.{chars_of, mark_byte}
 use Rattle.al_text.specs.declared.printing.Fragment.{Fragment}
@@ -9,12 +9,12 @@ use Rattle.al_text.specs.declared.printing.Fragment.TheVariants.{Raw, Shown, Spa
 
 abbrev pub fragment_bytes : Fragment → List ℕ
 fragment_bytes (Raw bytes) = bytes.now
-fragment_bytes (Shown text) = shown text.now
+fragment_bytes (Shown text) = printable text.now
 fragment_bytes (Spaces digits) = spaces_for digits.now
 fragment_bytes (Marks mark bytes) = map (mark_byte mark) (chars_of bytes.now)
 
-abbrev pub joined : List Fragment → List ℕ
-joined fragments = flat_map fragment_bytes fragments
+abbrev pub bytes_of_fragments : List Fragment → List ℕ
+bytes_of_fragments fragments = flat_map fragment_bytes fragments
 
 -- PATH:LINE:COLUMN: MESSAGE [KIND] and a line feed, of what stands in each of these places
 abbrev pub line_of : List ℕ → List ℕ → List ℕ → List ℕ → List ℕ → List ℕ

@@ -1,9 +1,9 @@
 use Rattle.std.proofs.lemmas.Bool.Decides.{same_from_decides}
 use Rattle.std.proofs.lemmas.Slice.Eq.{bytes_eq-Decides}
-use Rattle.al_base.specs.Names.{folded, same_name}
+use Rattle.al_base.specs.Names.{lower_case, same_name}
 use Rattle.al_base.proofs.names.is_same_name.Goals as goal
 
 pub returns-then-end_alike : goal.returns-then-end_alike
 returns-then-end_alike c =
-    let decided = bytes_eq-Decides (folded c.args.a.now) (folded c.args.b.now) in
+    let decided = bytes_eq-Decides (lower_case c.args.a.now) (lower_case c.args.b.now) in
     same_from_decides c.eq_ignore_ascii_case.result (same_name c.args.a.now c.args.b.now) c.eq_ignore_ascii_case.ensures.test decided

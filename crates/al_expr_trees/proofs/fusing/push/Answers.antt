@@ -2,7 +2,7 @@ use Rattle.std.proofs.Common.{◌≡◌, ◌∷◌, ◌++◌, [], List, ◌∙�
 use Rattle.std.proofs.lemmas.List.{map-append}
 use Rattle.std.specs.Prelude.{is_none}
 use Rattle.al_types.specs.FusedFields.{are_distinct}
-use Rattle.al_types.specs.Puts.{Typed, put}
+use Rattle.al_types.specs.Puts.{Typed, put_or_fuse}
 use Rattle.al_types.specs.Types.{fields_of, parts_with}
 use Rattle.al_types.proofs.Puts.{put_behind, put_new_behind}
 use Rattle.al_expr_trees.specs.Trees.{field_of, rest_of}
@@ -13,7 +13,7 @@ pub invariant_of-result : goal.invariant_of-result
 invariant_of-result c =
     let ts : List Typed = map field_of c.args.sofar.fields.items in
     let p = field_of c.args.field.now in
-    let list : map field_of c.push.new.self.items ≡ put ts p =
+    let list : map field_of c.push.new.self.items ≡ put_or_fuse ts p =
     ap (map field_of) c.in_ok-push.ensures.items ∙ map-append field_of c.args.sofar.fields.items (c.in_ok-copy.copy ∷ [])
     ∙ ap (λ q. ts ++ q ∷ []) c.in_ok-copy.ensures ∙ sym (put_behind ts p c.requires ∙ put_new_behind ts p (ap is_none c.requires)) in
     record { distinct = ap (λ us. are_distinct (fields_of us)) list ∙ put_distinct ts p c.args.sofar.distinct }
@@ -23,7 +23,7 @@ returns c =
     let ts : List Typed = map field_of c.args.sofar.fields.items in
     let p = field_of c.args.field.now in
     let r = rest_of c.args.sofar.rest in
-    let list : map field_of c.push.new.self.items ≡ put ts p =
+    let list : map field_of c.push.new.self.items ≡ put_or_fuse ts p =
     ap (map field_of) c.in_ok-push.ensures.items ∙ map-append field_of c.args.sofar.fields.items (c.in_ok-copy.copy ∷ [])
     ∙ ap (λ q. ts ++ q ∷ []) c.in_ok-copy.ensures ∙ sym (put_behind ts p c.requires ∙ put_new_behind ts p (ap is_none c.requires)) in
     ap (λ us. parts_with (fields_of us) r) list ∙ parts_put ts p r

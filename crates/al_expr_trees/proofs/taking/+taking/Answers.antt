@@ -1,7 +1,7 @@
 use Rattle.std.proofs.Common.{◌≡◌, ◌<◌, ◌∷◌, ◌++◌, [], ℕ, ◌∙◌, ap, arith, get_or, length, map, sym, take}
 use Rattle.std.proofs.lemmas.List.{get_or_default, map-append}
 use Rattle.al_types.specs.FusedFields.{are_distinct}
-use Rattle.al_types.specs.Fused.{fuse_parts, fused}
+use Rattle.al_types.specs.Fused.{fuse_parts, fuse_all}
 use Rattle.al_types.specs.Types.{Parts, fields_of, parts_with}
 use Rattle.al_types.proofs.FuseLaws.{fused_one_more}
 use Rattle.al_expr_types.specs.Names.{names_in}
@@ -55,4 +55,4 @@ object_listing-loop-m-preserved t c =
     let same = ap (λ xs. object_parts (map field_of xs) rest) c.as_slice.ensures.value
     ∙ ap (λ us. parts_with (fields_of us) rest) (firsts_same (map field_of one.fields.items) one.distinct) ∙ c.in_ok-one-in-Common.ensures in
     c.in_ok-more-in-Common.ensures ∙ (λ d. fuse_parts (c.loop-m.invariant d) (same d))
-    ∙ sym (ap fused (mapped_more f ns i m c.loop-m-test.true (get_or_default ns i 0 m c.loop-m-test.true)) ∙ fused_one_more (map f (take i ns)) (f m))
+    ∙ sym (ap fuse_all (mapped_more f ns i m c.loop-m-test.true (get_or_default ns i 0 m c.loop-m-test.true)) ∙ fused_one_more (map f (take i ns)) (f m))

@@ -1,5 +1,5 @@
 use Rattle.std.proofs.Common.{◌≡◌, ◌+◌, ◌*◌, map, take}
-use Rattle.al_types.specs.Fused.{fused}
+use Rattle.al_types.specs.Fused.{fuse_all}
 use Rattle.al_expr_types.specs.Names.{names_in}
 use Rattle.al_expr_types.specs.Tables.{objects_of}
 use Rattle.al_expr_types.specs.Types.{named_types, object_in}
@@ -23,7 +23,7 @@ abbrev pub decreases-object_listing : goal.decreases-object_listing
 decreases-object_listing l = 4 * l.n + 3
 
 abbrev pub invariant-object_listing-loop-m : goal.invariant-object_listing-loop-m
-invariant-object_listing-loop-m l = parts_in l.all ≡ fused (map (object_in (objects_of l.types)) (take l.m-index l.m-items))
+invariant-object_listing-loop-m l = parts_in l.all ≡ fuse_all (map (object_in (objects_of l.types)) (take l.m-index l.m-items))
 
 abbrev pub invariant-field_trees-loop-i : goal.invariant-field_trees-loop-i
 invariant-field_trees-loop-i l =

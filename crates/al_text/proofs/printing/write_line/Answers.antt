@@ -2,7 +2,7 @@ use Rattle.std.proofs.Common.{◌≡◌, ◌++◌, ◌∷◌, [], ℕ, List, sub
 use Rattle.std.proofs.lemmas.Result.{on_ok_weaker, on_err_weaker}
 use Rattle.std.specs.Io.KnownBytes.{Appends}
 use Rattle.al_base.specs.Counted.{AppendsPrefix}
-use Rattle.al_base.specs.Shown.{shown}
+use Rattle.al_base.specs.Printable.{printable}
 use Rattle.al_text.proofs.printing.write_line.Goals as goal
 
 -- parts one after another, as a sum from the left
@@ -24,8 +24,8 @@ returns-clause-all g c =
     ) at c.write_fragments.ensures.all in
     let a = c.args in
     on_ok_weaker c.write_fragments.result
-    (λ x. subst (Appends _ _) (line_is a.place.path.now a.place.line.now a.place.column.now a.row.head.now (shown a.first.now)
-    a.row.middle.now (shown a.second.now) a.row.tail.now a.row.kind.now) x) w
+    (λ x. subst (Appends _ _) (line_is a.place.path.now a.place.line.now a.place.column.now a.row.head.now (printable a.first.now)
+    a.row.middle.now (printable a.second.now) a.row.tail.now a.row.kind.now) x) w
 
 pub returns-clause-prefix : goal.returns-clause-prefix
 returns-clause-prefix g c =
@@ -40,5 +40,5 @@ returns-clause-prefix g c =
     ) at c.write_fragments.ensures.prefix in
     let a = c.args in
     on_err_weaker c.write_fragments.result
-    (λ x. subst (AppendsPrefix _ _) (line_is a.place.path.now a.place.line.now a.place.column.now a.row.head.now (shown a.first.now)
-    a.row.middle.now (shown a.second.now) a.row.tail.now a.row.kind.now) x) w
+    (λ x. subst (AppendsPrefix _ _) (line_is a.place.path.now a.place.line.now a.place.column.now a.row.head.now (printable a.first.now)
+    a.row.middle.now (printable a.second.now) a.row.tail.now a.row.kind.now) x) w

@@ -2,7 +2,7 @@ use Rattle.std.proofs.Common.{◌<◌, ◌∙◌, ap, arith, get_or, length, map
 use Rattle.std.proofs.lemmas.List.{get_or_default, take_all}
 use Rattle.std.specs.Prelude.{nat_lt}
 use Rattle.al_types.specs.Types.{fuse_optional}
-use Rattle.al_types.specs.Fused.{fused}
+use Rattle.al_types.specs.Fused.{fuse_all}
 use Rattle.al_expr_types.specs.Joining.{join_in}
 use Rattle.al_expr_types.specs.Parts.{part_in}
 use Rattle.al_expr_types.specs.Tables.{objects_of}
@@ -77,7 +77,7 @@ gather-returns-after-loop-m-clause-part t c =
     let there = read os c.args.n c.index.result.now c.args.self.now.ordered c.requires c.index.ensures in
     let all = take_all c.loop-m.m-index ns (omega (arith, c.loop-m-test.false)) in
     c.loop-m.invariant.part
-    ∙ ap (λ l. fuse_optional (join_in ms c.args.sofar) (part_in c.args.part (fused (map (object_in ms) l)))) (all ∙ c.as_slice-m-items.ensures.value)
+    ∙ ap (λ l. fuse_optional (join_in ms c.args.sofar) (part_in c.args.part (fuse_all (map (object_in ms) l)))) (all ∙ c.as_slice-m-items.ensures.value)
     ∙ ap (λ o. fuse_optional (join_in ms c.args.sofar) (part_in c.args.part (object_parts ms o))) (sym c.in-Common.is)
     ∙ ap (λ p. fuse_optional (join_in ms c.args.sofar) (part_in c.args.part p)) (sym there)
 

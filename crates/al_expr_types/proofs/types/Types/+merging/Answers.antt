@@ -2,7 +2,7 @@ use Rattle.std.proofs.Common.{◌<◌, ◌∙◌, ap, arith, get_or, length, map
 use Rattle.std.proofs.lemmas.List.{get_or_default, take_all}
 use Rattle.std.specs.Prelude.{nat_lt}
 use Rattle.al_types.specs.Types.{Optional, fuse_optional}
-use Rattle.al_types.specs.Fused.{fused}
+use Rattle.al_types.specs.Fused.{fuse_all}
 use Rattle.al_expr_types.specs.Merging.{found_in}
 use Rattle.al_expr_types.specs.Tables.{objects_of}
 use Rattle.al_expr_types.specs.Types.{are_below, are_fields_below, is_object_below, object_in, object_parts}
@@ -72,7 +72,7 @@ returns-after-loop-m-clause-found t c = λ d name.
     let there = read os c.args.n c.index.result.now c.args.self.now.ordered c.requires c.index.ensures in
     let all = take_all c.loop-m.m-index ns (omega (arith, c.loop-m-test.false)) in
     (c.loop-m.invariant.found name
-    ∙ ap (λ l. fuse_optional start ((fused (map (object_in ms) l)).0 name)) (all ∙ c.as_slice-m-items.ensures.value)
+    ∙ ap (λ l. fuse_optional start ((fuse_all (map (object_in ms) l)).0 name)) (all ∙ c.as_slice-m-items.ensures.value)
     ∙ ap (λ p. fuse_optional start (p.0 name)) (sym (there ∙ ap (object_parts ms) c.in-Common.is))) d
 
 pub returns-in-Some-clause-found : goal.returns-in-Some-clause-found

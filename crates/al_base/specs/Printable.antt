@@ -4,8 +4,8 @@ use Rattle.std.specs.Char.{is_ascii_control}
 use Rattle.al_base.specs.Ascii.{question}
 
 -- a byte or a character as it is printed
-abbrev pub shown_byte : ℕ → ℕ
-shown_byte b = if is_ascii_control b then question else b
+abbrev pub printable_byte : ℕ → ℕ
+printable_byte b = if is_ascii_control b then question else b
 
-abbrev pub shown : List ℕ → List ℕ
-shown text = map shown_byte text
+abbrev pub printable : List ℕ → List ℕ
+printable text = map printable_byte text

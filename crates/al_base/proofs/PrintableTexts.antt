@@ -9,18 +9,18 @@ use Rattle.std.proofs.lemmas.Str.{encode_ascii, encodes-chars}
 use Rattle.std.specs.Char.{is_ascii_control}
 use Rattle.std.specs.List.{All, AllByRecursion}
 use Rattle.std.specs.Prelude.{IsUtf8, chars, nat_lt}
-use Rattle.al_base.specs.Shown.{shown, shown_byte}
+use Rattle.al_base.specs.Printable.{printable, printable_byte}
 use Rattle.al_base.proofs.Elements.{each_either}
 
 -- a byte that is no control byte
 abbrev pub IsPlain : ℕ → Type 0
 IsPlain b = is_ascii_control b ≡ false
 
-pub shown_plain : (xs : List ℕ) → All IsPlain xs → shown xs ≡ xs
-shown_plain [] p = refl
-shown_plain (x ∷ xs) p =
+pub printable_plain : (xs : List ℕ) → All IsPlain xs → printable xs ≡ xs
+printable_plain [] p = refl
+printable_plain (x ∷ xs) p =
     let first : is_ascii_control x ≡ false = All-head IsPlain x xs p in
-    let rest : shown xs ≡ xs = shown_plain xs (All-tail IsPlain x xs p) in
+    let rest : printable xs ≡ xs = printable_plain xs (All-tail IsPlain x xs p) in
     rw (first, rest) refl
 
 -- ---- characters
@@ -29,10 +29,10 @@ shown_plain (x ∷ xs) p =
 abbrev IsHigh : ℕ → Type 0
 IsHigh b = 128 ≤ b
 
-high_byte : (b : ℕ) → IsHigh b → shown_byte b ≡ b
+high_byte : (b : ℕ) → IsHigh b → printable_byte b ≡ b
 high_byte b h = let plain : is_ascii_control b ≡ false = grind (arith, nat_tests) in rw plain refl
 
-high_bytes : (bs : List ℕ) → AllByRecursion IsHigh bs → shown bs ≡ bs
+high_bytes : (bs : List ℕ) → AllByRecursion IsHigh bs → printable bs ≡ bs
 high_bytes [] p = refl
 high_bytes (b ∷ bs) p = rw (high_byte b p.0, high_bytes bs p.1) refl
 
@@ -43,19 +43,19 @@ high_character c h =
     rw wide (each_either IsHigh (nat_lt c 2048) _ _ (omega arith, (omega arith, tt))
     (each_either IsHigh (nat_lt c 65536) _ _ (omega arith, (omega arith, (omega arith, tt))) (omega arith, (omega arith, (omega arith, (omega arith, tt))))))
 
-low_shown : (control : Bool) (c : ℕ) → c < 128 → cond control 63 c < 128
-low_shown true c h = omega arith
-low_shown false c h = h
+low_printable : (control : Bool) (c : ℕ) → c < 128 → cond control 63 c < 128
+low_printable true c h = omega arith
+low_printable false c h = h
 
-shown_character : (c : ℕ) → encode (shown_byte c) ≡ shown (encode c)
-shown_character c = elim (cases_lt c 128) [
-  | inl low ↦ encode_ascii (shown_byte c) (low_shown (is_ascii_control c) c low) ∙ sym (ap shown (encode_ascii c low))
+printable_character : (c : ℕ) → encode (printable_byte c) ≡ printable (encode c)
+printable_character c = elim (cases_lt c 128) [
+  | inl low ↦ encode_ascii (printable_byte c) (low_printable (is_ascii_control c) c low) ∙ sym (ap printable (encode_ascii c low))
   | inr high ↦ ap encode (high_byte c high) ∙ sym (high_bytes (encode c) (high_character c high))
 ]
 
-shown_encoded : (cs : List ℕ) → encodes (map shown_byte cs) ≡ shown (encodes cs)
-shown_encoded [] = refl
-shown_encoded (c ∷ cs) = rw (shown_character c, shown_encoded cs) (sym (map-append shown_byte (encode c) (encodes cs)))
+printable_encoded : (cs : List ℕ) → encodes (map printable_byte cs) ≡ printable (encodes cs)
+printable_encoded [] = refl
+printable_encoded (c ∷ cs) = rw (printable_character c, printable_encoded cs) (sym (map-append printable_byte (encode c) (encodes cs)))
 
-pub shown_characters : (bs : List ℕ) → IsUtf8 bs → encodes (map shown_byte (chars bs)) ≡ shown bs
-shown_characters bs text = shown_encoded (chars bs) ∙ ap shown (encodes-chars bs text)
+pub printable_characters : (bs : List ℕ) → IsUtf8 bs → encodes (map printable_byte (chars bs)) ≡ printable bs
+printable_characters bs text = printable_encoded (chars bs) ∙ ap printable (encodes-chars bs text)

@@ -4,7 +4,7 @@ use Rattle.std.specs.List.Sorted.{IsSorted}
 use Rattle.al_base.specs.FaultLists.{fault_cmp}
 use Rattle.al_base.proofs.FaultLists.{derived_is, derived_ties, fault_cmp_total, fault_cmp_same}
 use Rattle.al_base.proofs.InOrder.{dedup-in_order}
-use Rattle.al_base.proofs.lists.ordered.Goals as goal
+use Rattle.al_base.proofs.lists.fault_list.Goals as goal
 
 pub returns : goal.returns
 returns c =
