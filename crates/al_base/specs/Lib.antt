@@ -18,7 +18,7 @@ pub mod LineStarts
 pub mod Growth
 pub mod FirstBytes
 pub mod Digits
-pub mod Shown
+pub mod Printable
 pub mod Private
 pub mod Rows
 pub mod Proofs
