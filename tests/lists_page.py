@@ -13,7 +13,7 @@ SHAPES = "al_tree/specs/Table.antt"
 EVENTS = "al_tree/specs/Names.antt"
 ACTIVITIES = "al_rules/specs/Names.antt"
 SETTINGS = "al_rules_settings/specs/Names.antt"
-USINGS = "al_rules/specs/Rules.antt"
+USINGS = "al_tree/specs/Faults.antt"
 FIXED = "al_check_contexts/specs/Fixed.antt"
 AVAILABILITY = "al_check_places/specs/Availability.antt"
 FUNCTION_NAMES = "al_types/specs/Names.antt"
@@ -201,8 +201,8 @@ def input_types(crates):
 
 def settings(crates):
     """Permissions with their values, shells, and kinds of actions."""
-    text, rules = (crates / SETTINGS).read_text(), (crates / USINGS).read_text()
-    usings = [*names_of(rules, "node_usings"), *re.findall(r'bytes_eq using_name\.text \(codes "(\w+)"\)', rules)]
+    text = (crates / SETTINGS).read_text()
+    usings = names_of((crates / USINGS).read_text(), "runs_of using")
     lists = {"`permissions`, its scopes": "permissions", "`permissions`, a scope": "scope_values", "`permissions` as a whole": "whole_values",
              "`shell`": "shells"}
     rows = [(key, quoted(names_of(text, name))) for key, name in lists.items()]
@@ -298,9 +298,7 @@ def functions(crates):
 
 def untrusted(crates):
     """The texts that anybody can write."""
-    text = (crates / UNTRUSTED).read_text()
-    body = text[text.index("untrusted_chains =\n"):text.index("    []\n")]
-    return table_of(("Untrusted texts",), [(quoted(".".join(NAME.findall(line)) for line in body.splitlines()[1:]),)])
+    return table_of(("Untrusted texts",), [(quoted(names_of((crates / UNTRUSTED).read_text(), "untrusted_chains")),)])
 
 
 def limits(crates):

@@ -4,13 +4,12 @@ use Rattle.std.specs.List.{flat_map}
 use Rattle.std.specs.Option.{option_map_or}
 use Rattle.std.specs.Str.{bytes_eq}
 use Rattle.al_base.specs.declared.codes.RuleCode.TheVariants.{ScheduleTooOften, UnknownActivity, UnknownEvent, UnknownInputType, WrongPattern, WrongSchedule}
-use Rattle.al_base.specs.declared.faults.Span.{Span}
 use Rattle.al_rules_formats.specs.Patterns.{is_pattern}
 use Rattle.al_rules_formats.specs.Schedules.{is_too_often, schedule_of}
 use Rattle.al_rules_formats.specs.declared.patterns.Filter.{Filter}
 use Rattle.al_rules_formats.specs.declared.patterns.Filter.TheVariants.{Names, Paths}
 use Rattle.al_rules_formats.specs.declared.schedules.Item.{Item}
-use Rattle.al_scalar.specs.Scalar.{Scalar, text_of}
+use Rattle.al_scalar.specs.Scalar.{text_of}
 use Rattle.al_yaml_tree.specs.Node.{Node}
 use Rattle.al_tree.specs.Names.{among, is_event}
 use Rattle.al_tree.specs.Values.{entries_at, entries_in, items_in, text_at, texts_at, texts_in}

@@ -1,5 +1,5 @@
 -- The faults of the rules, of a workflow and of an action.
-use Rattle.std.specs.Prelude.{◌≡◌, ◌↔◌, ◌⊎◌, ℕ, List, [], ◌∷◌, ◌++◌, codes, map, Option, if◌then◌else◌, is_some, Contains, option_map}
+use Rattle.std.specs.Prelude.{◌≡◌, ◌↔◌, ◌⊎◌, List, [], ◌∷◌, ◌++◌, codes, map, Option, if◌then◌else◌, is_some, Contains, option_map}
 use Rattle.std.specs.Prelude.{option_and_then}
 use Rattle.std.specs.List.{flat_map, filter_map}
 use Rattle.std.specs.Option.{option_map_or}

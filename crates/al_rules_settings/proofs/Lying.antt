@@ -1,5 +1,5 @@
 -- Each fault of a setting lies in the file that the tree was read from.
-use Rattle.std.specs.Prelude.{ℕ, ◌||◌, Bool, not, is_none, is_some, List, [], ◌∷◌, ◌++◌, codes, map, Option, Some, None, IfSome}
+use Rattle.std.specs.Prelude.{ℕ, ◌||◌, Bool, is_none, is_some, List, [], ◌∷◌, ◌++◌, codes, map, Option, Some, None, IfSome}
 use Rattle.std.specs.List.{AllByRecursion, flat_map}
 use Rattle.al_base.specs.Spans.{LiesIn}
 use Rattle.al_base.specs.declared.codes.RuleCode.TheVariants.{AlwaysTrue, PasswordNotExpression, RepeatedId, UnknownMatrixRow}

@@ -1,6 +1,6 @@
 -- The keys of the first entries of a mapping, and where keys and names first stand.
 use Rattle.std.proofs.Common.{◌≡◌, Bor, ◌≤◌, ◌<◌, ℕ, ◌+◌, zero, suc, Bool, true, false, List, [], ◌∷◌, length, map, take, get_or, refl, sym, ap, subst, arith, add-one, ◌∙◌, ◌||◌}
-use Rattle.std.specs.Prelude.{Option, Some, None, is_none, nat_eq, nat_lt, not, option_map, if◌then◌else◌}
+use Rattle.std.specs.Prelude.{Option, Some, None, is_none, nat_eq, not, option_map, if◌then◌else◌}
 use Rattle.std.specs.List.{list_any}
 use Rattle.std.specs.Option.{option_eq, option_map_or}
 use Rattle.std.specs.Str.{bytes_eq}

@@ -1,5 +1,5 @@
 -- The faults of a node that the program holds as a sequence or a mapping.
-use Rattle.std.proofs.Common.{◌≡◌, ℕ, Bool, List, [], ◌∷◌, ◌++◌, ap, map, refl, ◌∙◌, Vec}
+use Rattle.std.proofs.Common.{◌≡◌, ℕ, Bool, List, [], ap, map, ◌∙◌, Vec}
 use Rattle.std.specs.declared.alloc.Global.{Global}
 use Rattle.al_yaml_tree.specs.View.{entries_of, entry_view, nodes_of, view}
 use Rattle.al_yaml_tree.specs.declared.node.Entry.{Entry}
@@ -7,11 +7,10 @@ use Rattle.al_yaml_tree.specs.declared.node.Kind.TheVariants.{Mapping, Sequence}
 use Rattle.al_yaml_tree.specs.declared.node.Node.{Node}
 use Rattle.al_yaml_tree.proofs.ViewLemmas.{entries_again, view_mapping, view_sequence}
 use Rattle.al_base.specs.declared.codes.KeyCode.TheVariants.{WrongKind}
-use Rattle.al_yaml_tree.specs.Node.{Entries, entry, no_entries}
-use Rattle.al_tree.specs.Faults.{entries_faults, entry_faults, faults, items_faults, mapping_faults, one_fault, mapping_shape, sequence_faults, standing, takes_null}
-use Rattle.al_tree.specs.Keys.{key_text, keys_in}
+use Rattle.al_tree.specs.Faults.{entries_faults, faults, items_faults, mapping_faults, one_fault, mapping_shape, sequence_faults}
+use Rattle.al_tree.specs.Keys.{keys_in}
 use Rattle.al_tree.specs.Names.{among}
-use Rattle.al_tree.specs.Table.{free, rule}
+use Rattle.al_tree.specs.Table.{rule}
 use Rattle.al_tree.specs.declared.table.Shape.{Shape}
 
 pub faults_sequence : (s : Shape) (null : Bool) (above : List ℕ) (n : Node) (v : Vec Node Global) → n.kind ≡ Sequence v →
