@@ -15,7 +15,34 @@ fn field(alloc: Global, name: &str, ty: Ty) -> Result<Field, AllocError> {
     })
 }
 
-/// A step's `run` in which every context but `secrets` is available, and `hashFiles` alone of the special functions.
+/// Every context but `secrets`, and `hashFiles` alone of the special functions.
+fn available() -> Available {
+    Available {
+        contexts: ContextSet {
+            github: true,
+            env: true,
+            vars: true,
+            secrets: false,
+            runner: true,
+            job: true,
+            strategy: true,
+            needs: true,
+            jobs: true,
+            steps: true,
+            matrix: true,
+            inputs: true,
+        },
+        functions: FunctionSet {
+            hash_files: true,
+            success: false,
+            always: false,
+            cancelled: false,
+            failure: false,
+        },
+    }
+}
+
+/// A step's `run`, where these are available.
 /// `github` is an object with the string `head_ref` and the unknown `event`; every other context is any.
 fn step_run(alloc: Global) -> Result<Scope, AllocError> {
     let mut fields = Vec::new(alloc);
@@ -36,29 +63,7 @@ fn step_run(alloc: Global) -> Result<Scope, AllocError> {
             matrix: Ty::Any,
             inputs: Ty::Any,
         },
-        available: Available {
-            contexts: ContextSet {
-                github: true,
-                env: true,
-                vars: true,
-                secrets: false,
-                runner: true,
-                job: true,
-                strategy: true,
-                needs: true,
-                jobs: true,
-                steps: true,
-                matrix: true,
-                inputs: true,
-            },
-            functions: FunctionSet {
-                hash_files: true,
-                success: false,
-                always: false,
-                cancelled: false,
-                failure: false,
-            },
-        },
+        available: available(),
         in_run: true,
     })
 }
