@@ -14,14 +14,14 @@ use Rattle.al_yaml_tree.specs.Access.{entries}
 use Rattle.al_yaml_tree.specs.Node.{Node, Nodes, Entries, scalar, sequence, mapping, no_nodes, item, no_entries, entry}
 use Rattle.al_yaml_tree.specs.Spans.{AreFrom, AreLaid, EntriesFrom, EntriesLaid, IsLaid, ItemsFrom}
 use Rattle.al_yaml_tree.specs.Texts.{EntriesHaveTexts, HasTexts, HaveTexts}
-use Rattle.al_tree.specs.Faults.{Standing, repeated, unexpected, ignored, expected, standing, refined}
+use Rattle.al_tree.specs.Faults.{Standing, repeated, unexpected, ignored, expected, standing, mapping_shape}
 use Rattle.al_tree.specs.Keys.{key_text, keys_in}
 use Rattle.al_tree.specs.Names.{among}
 use Rattle.al_tree.specs.Table.{Keys, rule}
 use Rattle.al_tree.specs.declared.table.Shape.{Shape}
 use Rattle.al_tree.specs.Files.{shape_of}
 use Rattle.al_tree.specs.declared.files.FileKind.{FileKind}
-use Rattle.al_check_places.specs.Places.{Place, entry_places, fits, has_expression, place_at, place_of, placed, placed_entries, placed_items, places_of, rule_or_any, takes_scalars_only}
+use Rattle.al_check_places.specs.Places.{Place, entry_places, fits, has_expression, place_at, place_of, places_of_node, places_of_entries, places_of_items, places_of, rule_or_any, takes_scalars_only}
 use Rattle.al_check_places.specs.declared.walk.Place as rust
 use Rattle.al_check_places.specs.Ways.{WayStep, is_checked, nth, under}
 use Rattle.al_check_expressions.specs.Contents.{HasRoom}
@@ -67,24 +67,24 @@ module _ (P : Scalar → Span → Type 0) where
   some_entry (expected s other) f h = h s
 
   mutual
-    node_places : (n : Node) → Each n → (k : FileKind) (shape : Shape) (is_item : Bool) (way : List WayStep) → AllPlaces (placed k shape is_item way n)
+    node_places : (n : Node) → Each n → (k : FileKind) (shape : Shape) (is_item : Bool) (way : List WayStep) → AllPlaces (places_of_node k shape is_item way n)
     node_places (scalar s at) h k shape is_item way =
         one_place (fits (rule_or_any (rule shape)) s && is_checked k way && has_expression way s) (place_at k way (takes_scalars_only (rule_or_any (rule shape)) && not is_item) s at) h
     node_places (sequence ns at) h k shape is_item way =
-        some_items (rule_or_any (rule shape)).items (λ s. placed_items k s way 0 ns) (λ s. item_places ns h k s way 0)
+        some_items (rule_or_any (rule shape)).items (λ s. places_of_items k s way 0 ns) (λ s. item_places ns h k s way 0)
     node_places (mapping es at) h k shape is_item way =
-        entry_places_hold es h k (rule_or_any (rule (refined shape (entries es)))).keys_of [] (among (keys_in (entries es))) way
+        entry_places_hold es h k (rule_or_any (rule (mapping_shape shape (entries es)))).keys_of [] (among (keys_in (entries es))) way
 
-    item_places : (ns : Nodes) → EachItem ns → (k : FileKind) (s : Shape) (way : List WayStep) (i : ℕ) → AllPlaces (placed_items k s way i ns)
+    item_places : (ns : Nodes) → EachItem ns → (k : FileKind) (s : Shape) (way : List WayStep) (i : ℕ) → AllPlaces (places_of_items k s way i ns)
     item_places no_nodes h k s way i = tt
     item_places (item n ns) h k s way i =
-        both (placed k s true (way ++ nth i ∷ []) n) (placed_items k s way (i + 1) ns) (node_places n h.0 k s true (way ++ nth i ∷ [])) (item_places ns h.1 k s way (i + 1))
+        both (places_of_node k s true (way ++ nth i ∷ []) n) (places_of_items k s way (i + 1) ns) (node_places n h.0 k s true (way ++ nth i ∷ [])) (item_places ns h.1 k s way (i + 1))
 
-    entry_places_hold : (es : Entries) → EachEntry es → (k : FileKind) (ks : Keys) (seen : List (List ℕ)) (all : List ℕ → Bool) (way : List WayStep) → AllPlaces (placed_entries k ks seen all way es)
+    entry_places_hold : (es : Entries) → EachEntry es → (k : FileKind) (ks : Keys) (seen : List (List ℕ)) (all : List ℕ → Bool) (way : List WayStep) → AllPlaces (places_of_entries k ks seen all way es)
     entry_places_hold no_entries h k ks seen all way = tt
     entry_places_hold (entry key v es) h k ks seen all way =
-        both (entry_places (standing ks (among seen) all (key_text key)) (λ s. placed k s false (way ++ under (key_text key) ∷ []) v)) (placed_entries k ks (seen ++ key_text key ∷ []) all way es)
-        (some_entry (standing ks (among seen) all (key_text key)) (λ s. placed k s false (way ++ under (key_text key) ∷ []) v) (λ s. node_places v h.0 k s false (way ++ under (key_text key) ∷ [])))
+        both (entry_places (standing ks (among seen) all (key_text key)) (λ s. places_of_node k s false (way ++ under (key_text key) ∷ []) v)) (places_of_entries k ks (seen ++ key_text key ∷ []) all way es)
+        (some_entry (standing ks (among seen) all (key_text key)) (λ s. places_of_node k s false (way ++ under (key_text key) ∷ []) v) (λ s. node_places v h.0 k s false (way ++ under (key_text key) ∷ [])))
         (entry_places_hold es h.1 k ks (seen ++ key_text key ∷ []) all way)
 
 -- ---- offsets of a scalar that is placed

@@ -137,7 +137,7 @@ index_within (d ∷ ds) rest n h = within_cond (begins_with ascii.close_brace re
 piece_within : (b : ℕ) (bs : List ℕ) (n : ℕ) → length bs ≤ n → IsWithin n (piece_of (b ∷ bs))
 piece_within b bs n h =
     within_cond (b == ascii.open_brace) _ _ n
-    (within_cond (begins_with ascii.open_brace bs) _ _ n (drop_within bs n h) 
+    (within_cond (begins_with ascii.open_brace bs) _ _ n (drop_within bs n h)
     (index_within _ (drop (prefix_len is_ascii_digit bs) bs) n (omega (arith, h, length-drop (prefix_len is_ascii_digit bs) bs))))
     (within_cond (b == ascii.close_brace) _ _ n (within_cond (begins_with ascii.close_brace bs) _ _ n (drop_within bs n h) tt) h)
 

@@ -5,10 +5,12 @@ use Rattle.std.proofs.lemmas.Bool.{false≢true}
 use Rattle.al_graph.proofs.BoundedWalks.{leads_of, walk_of}
 use Rattle.al_graph.specs.Graphs.{Walk}
 use Rattle.al_graph.specs.Within.{leads}
+use Rattle.al_base.specs.NamePlaces.{name_place}
 use Rattle.al_base.specs.declared.faults.Fault.{Fault}
-use Rattle.al_rules.specs.Needs.{AreNeedsFaults, IsNeedFaults, Need, all_needs, and_need, cycle_fault, keys_of}
-use Rattle.al_rules.specs.Needs.{leads_back, leads_on, named_by, needs_faults, no_needs, position_in, tested_faults, undefined_job}
+use Rattle.al_rules.specs.Needs.{AreNeedsFaults, IsNeedFaults, Need, all_needs, and_need, cycle_fault}
+use Rattle.al_rules.specs.Needs.{leads_back, leads_on, named_by, needs_faults, no_needs, tested_faults, undefined_job}
 use Rattle.al_rules.specs.Rules.{AreRuleFaults}
+use Rattle.al_tree.specs.Keys.{keys_in}
 use Rattle.al_tree.specs.Files.{jobs_of}
 use Rattle.al_tree.specs.declared.files.FileKind.{FileKind}
 use Rattle.al_tree.specs.declared.files.FileKind.TheVariants as kind
@@ -35,7 +37,7 @@ module _ (graph : List (List ℕ)) where
 pub rules_hold : (file : FileKind) (root : Node) → AreRuleFaults file root (rule_faults file root)
 rules_hold kind.Workflow root = record {
   needs = needs_faults (leads (needs_graph (jobs_of root))) (jobs_of root);
-  of_needs = needs_hold (needs_graph (jobs_of root)) (position_in (keys_of (jobs_of root))) (all_needs (jobs_of root));
+  of_needs = needs_hold (needs_graph (jobs_of root)) (name_place (keys_in (jobs_of root))) (all_needs (jobs_of root));
   is = refl;
 }
 rules_hold kind.Action root = refl
