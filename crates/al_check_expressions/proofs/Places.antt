@@ -80,11 +80,14 @@ module _ (P : Scalar → Span → Type 0) where
     item_places (item n ns) h k s way i =
         both (places_of_node k s true (way ++ nth i ∷ []) n) (places_of_items k s way (i + 1) ns) (node_places n h.0 k s true (way ++ nth i ∷ [])) (item_places ns h.1 k s way (i + 1))
 
-    entry_places_hold : (es : Entries) → EachEntry es → (k : FileKind) (ks : Keys) (seen : List (List ℕ)) (all : List ℕ → Bool) (way : List WayStep) → AllPlaces (places_of_entries k ks seen all way es)
+    entry_places_hold : (es : Entries) → EachEntry es → (k : FileKind) (ks : Keys) (seen : List (List ℕ)) (all : List ℕ → Bool) (way : List WayStep)
+        → AllPlaces (places_of_entries k ks seen all way es)
     entry_places_hold no_entries h k ks seen all way = tt
     entry_places_hold (entry key v es) h k ks seen all way =
-        both (entry_places (standing ks (among seen) all (key_text key)) (λ s. places_of_node k s false (way ++ under (key_text key) ∷ []) v)) (places_of_entries k ks (seen ++ key_text key ∷ []) all way es)
-        (some_entry (standing ks (among seen) all (key_text key)) (λ s. places_of_node k s false (way ++ under (key_text key) ∷ []) v) (λ s. node_places v h.0 k s false (way ++ under (key_text key) ∷ [])))
+        both (entry_places (standing ks (among seen) all (key_text key)) (λ s. places_of_node k s false (way ++ under (key_text key) ∷ []) v))
+        (places_of_entries k ks (seen ++ key_text key ∷ []) all way es)
+        (some_entry (standing ks (among seen) all (key_text key)) (λ s. places_of_node k s false (way ++ under (key_text key) ∷ []) v)
+        (λ s. node_places v h.0 k s false (way ++ under (key_text key) ∷ [])))
         (entry_places_hold es h.1 k ks (seen ++ key_text key ∷ []) all way)
 
 -- ---- offsets of a scalar that is placed

@@ -1,6 +1,7 @@
 //! How a key stands in its mapping: known, unknown, given twice or beside one that excludes it.
 
-ghost use Rattle.al_tree.specs.Faults.{clash_with, event_shape as event, field_at, if_it, is_needed as needed, other_standing, mapping_shape};
+ghost use Rattle.al_tree.specs.Faults.{clash_with, event_shape as event, field_at};
+ghost use Rattle.al_tree.specs.Faults.{if_it, is_needed as needed, other_standing, mapping_shape};
 ghost use Rattle.al_tree.specs.Faults.{runs_of as runs, standing as stands, standing_view, takes_null as null_taken};
 ghost use Rattle.al_tree.specs.Keys.{holds};
 ghost use Rattle.al_tree.specs.Table.{clash_of, field_of, keys_view, need_of, others_of};
