@@ -86,7 +86,7 @@ def names(crates: Path) -> dict[str, list[str]]:
         "shells": lists_page.NAME.findall(settings["shells"]),
         "permission scopes": lists_page.NAME.findall(settings["permissions"]),
         "permission values": lists_page.NAME.findall(settings["scope_values"] + settings["whole_values"]),
-        "using": usings(crates / lists_page.USINGS),
+        "using": lists_page.NAME.findall(definitions(crates / lists_page.USINGS)["runs_of"]),
     }
     empty = [name for name, found in lists.items() if not found]
     if empty:
@@ -108,7 +108,7 @@ def syntax(top: Path) -> dict[str, dict | list]:
         "call input types": lists_page.names_of((crates / lists_page.ACTIVITIES).read_text(encoding="utf-8"), "call_types"),
         "permission values": {name: lists_page.names_of((crates / lists_page.SETTINGS).read_text(encoding="utf-8"), name)
                               for name in ("scope_values", "whole_values")},
-        "places": {path: {"contexts": contexts, "functions": functions} for path, contexts, functions in rows},
+        "places": {path: {"contexts": contexts, "functions": functions} for paths, contexts, functions in rows for path in paths},
         "contexts": {name: {"properties": fields_of, "strict": others == "none"}
                      for name, (fields_of, others) in lists_page.fixed_contexts(crates).items()},
         "functions": {name: {"takes": takes, "gives": gives} for name, (takes, gives) in lists_page.functions(crates).items()},
@@ -150,12 +150,6 @@ def definitions(file: Path) -> dict[str, str]:
     for name, right in re.findall(r"^(\w+)\b[^\n:]*? =(.*?)(?=^[\w-]|\Z)", file.read_text(encoding="utf-8"), re.M | re.S):
         found[name] = found.get(name, "") + right
     return found
-
-
-def usings(file: Path) -> list[str]:
-    """What `using` takes: the versions of Node, and the two other kinds."""
-    found = definitions(file)
-    return lists_page.NAME.findall(found["node_usings"] + found["using_faults"])
 
 
 if __name__ == "__main__":
