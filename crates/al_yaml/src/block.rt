@@ -6,7 +6,7 @@ ghost use Rattle.al_yaml.specs.Private.BlockFrames.{Enters, FindsBlock, IsEntere
 ghost use Rattle.al_yaml.specs.Private.BlockFrames.{IsNextInside, IsOpenAt, IsReadBefore, IsRestAt, IsResumed, ResumesBlock};
 ghost use Rattle.al_yaml.specs.Private.BlockFrames.{block_open_of, block_rest, block_waiting_of, closed_sequence};
 ghost use Rattle.al_yaml_parts.specs.Answers.{mark_of, noting};
-ghost use Rattle.al_yaml_parts.specs.BlockReads.{slot_of};
+ghost use Rattle.al_yaml_parts.specs.BlockReads.{next_found, slot_of};
 ghost use Rattle.al_yaml_tree.specs.Blocks as block;
 ghost use Rattle.al_yaml_parts.specs.Files.{left_at, size};
 ghost use Rattle.al_yaml_parts.specs.Places.{Shows, next_of, option_lines};
@@ -227,7 +227,7 @@ fn entry_on(bytes: &[u8], column: usize, next: Next) -> Result<Option<usize>, Fa
     requires { IsNextInside (length bytes.now) next }
     ensures fault { IfErr result (λ f. f.at ≤ length bytes.now) }
     ensures is { Shows (option_lines bytes.now)
-        (block.next_found column (next_of bytes.now next)) result }
+        (next_found column (next_of bytes.now next)) result }
     ensures inside { IfOk result (λ found. IfSome found (λ at. at ≤ length bytes.now)) }
     ensures column { IfOk result (λ found. IfSome found (λ at. column ≤ at)) }
     ensures here { IfOk result (λ found. IfSome found (IsNextAt next)) }

@@ -5,7 +5,6 @@ ghost use Rattle.al_scalar.specs.ReadScalar.{read_of};
 ghost use Rattle.al_scalar.specs.Places.{lines_at, text_at};
 ghost use Rattle.al_yaml_tree.specs.Content as content;
 ghost use Rattle.al_yaml_parts.specs.Files.{left_at, size};
-ghost use Rattle.al_yaml_tree.specs.Flow as flow;
 ghost use Rattle.al_yaml.specs.Private.FlowFrames.{IsAfter, IsPlaceInside, IsPut, IsStep, Resumes};
 ghost use Rattle.al_yaml.specs.Private.FlowFrames.{Steps, after_of, closer_of, open_of, waiting_of};
 ghost use Rattle.al_yaml.specs.Private.Frames as frames;
@@ -63,7 +62,7 @@ fn after_item(bytes: &[u8], opening: usize, close: u8, at: usize) -> Result<Afte
     requires opening { opening ≤ length bytes.now }
     ensures fault { IfErr result (λ f. f.at ≤ length bytes.now) }
     ensures is { Shows (after_of bytes.now)
-        (flow.after_item opening close (lines_at bytes.now at)) result }
+        (frames.after_item opening close (lines_at bytes.now at)) result }
     ensures after { IfOk result (λ after. IsAfter at (length bytes.now) after) }
 {
     if is_text_end(bytes, at) {

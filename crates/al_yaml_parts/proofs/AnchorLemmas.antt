@@ -1,5 +1,5 @@
 -- What is known of anchors, as one more is added.
-use Rattle.std.proofs.Common.{◌≡◌, ℕ, List, refl, sym, ap, ◌∙◌, Bool, true, false, cond, Option, Some, option_map}
+use Rattle.std.proofs.Common.{◌≡◌, ℕ, List, refl, sym, ap, ◌∙◌, Bool, true, false, cond, Option, Some, None, option_map}
 use Rattle.std.specs.BTreeMap.{UpdatesBy, is_at}
 use Rattle.std.specs.Cmp.{eq_by_cmp_equiv}
 use Rattle.std.specs.Cmp.Lexicographic.{bytes_decides, slice_cmp, nat_list_cmp_total, nat_list_eq_equiv}
@@ -8,8 +8,8 @@ use Rattle.std.specs.Map.{AreApart, IsKeyTest, KeepsOthers, lookup}
 use Rattle.std.specs.Ordering.{is_eq, nat_cmp}
 use Rattle.std.specs.Str.{bytes_eq}
 use Rattle.std.proofs.lemmas.Map.Text.{is_eq-slice_cmp}
-use Rattle.al_yaml_tree.specs.Reading.{is_later, later_of, with_anchor}
-use Rattle.al_yaml_parts.specs.Reads.{anchor_seen, found_in, known_of}
+use Rattle.al_yaml_tree.specs.Reading.{Anchor, later_of, with_anchor}
+use Rattle.al_yaml_parts.specs.Reads.{anchor_seen, found_in, is_later, known_of}
 use Rattle.al_yaml_parts.specs.declared.anchors.AnchoredNode.{AnchoredNode}
 use Rattle.al_yaml_parts.specs.declared.anchors.Anchors.{Anchors}
 
@@ -29,6 +29,10 @@ here_or_before : {A : Type 0} (here : Bool) (old new put : Option A) → (here �
 here_or_before true old new put there apart = there refl
 here_or_before false old new put there apart = apart refl
 
+later-is : (a : Anchor) (o : Option Anchor) → later_of a o ≡ cond (is_later a.at o) o (Some a)
+later-is a None = refl
+later-is a (Some b) = refl
+
 -- an anchor that is put, where none of its name stands behind it
 module _ (old new : Anchors) (key : Vec ℕ) (a : AnchoredNode)
     (u : UpdatesBy (λ a b. slice_cmp nat_cmp a.items b.items) (λ k. slice_cmp nat_cmp key.items k.items) old.latest new.latest (Some a))
@@ -43,7 +47,9 @@ module _ (old new : Anchors) (key : Vec ℕ) (a : AnchoredNode)
       other_entries _ _ _ _ u.3 (at_text name) (λ x y. (eq_by_cmp_equiv nat_list_cmp_total).congr name x.items y.items) (λ k. apart key.items name k.items n)
 
   put-is : later_of (anchor_seen key.items a) (known_of old key.items) ≡ Some (anchor_seen key.items a)
-  put-is = ap (λ b. cond b (known_of old key.items) (Some (anchor_seen key.items a))) last
+  put-is =
+      later-is (anchor_seen key.items a) (known_of old key.items)
+      ∙ ap (λ b. cond b (known_of old key.items) (Some (anchor_seen key.items a))) last
 
   seen-put : (name : List ℕ) → bytes_eq key.items name ≡ true → known_of new name ≡ later_of (anchor_seen key.items a) (known_of old name)
   seen-put name y =
@@ -62,3 +68,4 @@ module _ (old : Anchors) (key : List ℕ) (a : AnchoredNode) (later : is_later a
   stays name y =
       let same = (bytes_decides key name).0 y in
       ap (λ b. cond b (known_of old name) (Some (anchor_seen key a))) (sym (ap (λ n. is_later a.at (known_of old n)) (sym same) ∙ later))
+      ∙ sym (later-is (anchor_seen key a) (known_of old name))

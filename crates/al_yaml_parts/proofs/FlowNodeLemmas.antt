@@ -15,7 +15,7 @@ use Rattle.al_scalar.specs.Scalar.{scalar_at}
 use Rattle.al_yaml_tree.specs.Content.{is_file_end, is_quote, is_simple_key, is_property, is_flow_start, has_no_name, anchor_name, behind_name, flow_fault, unless}
 use Rattle.al_yaml_tree.specs.Flow.{gap, FlowReader, CollectionReader, FlowSlot}
 use Rattle.al_yaml_tree.specs.Flow.{flow_key, flow_value, flow_entry_value, flow_content}
-use Rattle.al_yaml_tree.specs.Flow.{flow_property, flow_node_over, empty_node, FlowKey, flow_key_of, key_colon, unless_late}
+use Rattle.al_yaml_tree.specs.Flow.{flow_property, flow_node_over, empty_node, FlowKey, key_colon, unless_late}
 use Rattle.al_yaml_tree.specs.Flow.{behind_colon, is_late_colon}
 use Rattle.al_yaml_parts.specs.Reads.{State, run, with_nodes, Stops, Refuses}
 use Rattle.al_yaml_parts.specs.Answers.{completing}
@@ -167,11 +167,16 @@ module _ (node : FlowReader) (slot : FlowSlot) (depth : ℕ) (n : State) (bytes 
 -- ---- keys of entries
 
 module _ (collection : CollectionReader) (depth : ℕ) (n : State) (bytes : List ℕ) (at : ℕ) (inside : at ≤ length bytes) where
+  abbrev pub key_with : ScalarRead → Reading FlowKey
+  key_with r =
+      of_result (key_colon (lines_at bytes at) r)
+      >>= (λ colon. starting_scalar (start (lines_at bytes at)) (gives (record { scalar = r; behind = colon })))
+
   abbrev pub key_inside : Reading FlowKey
   key_inside =
       cond (is_property (text_at bytes at)) (fails (cond (has_no_name (lines_at bytes at)) yaml.UnexpectedCharacter yaml.AnchorOrAlias) (start (lines_at bytes at)))
       (cond (is_flow_start (text_at bytes at)) (collection depth (lines_at bytes at) >>= (λ x. fails yaml.WrongKey (start (lines_at bytes at))))
-      (of_result (scalar_at flow (lines_at bytes at)) >>= (λ r. flow_key_of (lines_at bytes at) r)))
+      (of_result (scalar_at flow (lines_at bytes at)) >>= key_with))
 
   key-unless : flow_key collection depth (lines_at bytes at) ≡ unless (flow_fault (text_at bytes at)) (start (lines_at bytes at)) key_inside
   unfolding flow_key
@@ -202,18 +207,18 @@ module _ (collection : CollectionReader) (depth : ℕ) (n : State) (bytes : List
       key-opens h = ap (run n) (key-step h) ∙ ap (λ i. run n (collection depth (lines_at bytes at) >>= (λ _. fails yaml.WrongKey i))) (start-at bytes at inside)
 
       module _ (scalar : false ≡ is_flow_start (text_at bytes at)) where
-        key-scalar : flow_key collection depth (lines_at bytes at) ≡ (of_result (scalar_at flow (lines_at bytes at)) >>= (λ r. flow_key_of (lines_at bytes at) r))
+        key-scalar : flow_key collection depth (lines_at bytes at) ≡ (of_result (scalar_at flow (lines_at bytes at)) >>= key_with)
         key-scalar = key-right ∙ if-false (is_property (text_at bytes at)) _ _ plain ∙ if-false (is_flow_start (text_at bytes at)) _ _ scalar
 
         pub key-unread : (e : ReadError) → Refuses (scalar_at flow (lines_at bytes at)) e → Stops (flow_key collection depth (lines_at bytes at)) n e
-        key-unread e h = stops-same _ _ n e key-scalar (stops-given (scalar_at flow (lines_at bytes at)) (λ r. flow_key_of (lines_at bytes at) r) n e h)
+        key-unread e h = stops-same _ _ n e key-scalar (stops-given (scalar_at flow (lines_at bytes at)) key_with n e h)
 
         module _ (r : ScalarRead) (read : scalar_at flow (lines_at bytes at) ≡ Ok r) where
           abbrev pub with_colon : Option (List Line) → Reading FlowKey
           with_colon colon = starting_scalar (start (lines_at bytes at)) (gives (record { scalar = r; behind = colon }))
 
           scalar-read : run n (flow_key collection depth (lines_at bytes at)) ≡ run n (of_result (key_colon (lines_at bytes at) r) >>= with_colon)
-          scalar-read = ap (run n) key-scalar ∙ given-ok (scalar_at flow (lines_at bytes at)) (λ r. flow_key_of (lines_at bytes at) r) n r read
+          scalar-read = ap (run n) key-scalar ∙ given-ok (scalar_at flow (lines_at bytes at)) key_with n r read
 
           pub key-wrong : (f : Fault) → key_colon (lines_at bytes at) r ≡ Err f → run n (flow_key collection depth (lines_at bytes at)) ≡ Err f
           key-wrong f h = scalar-read ∙ run-stop n (of_result (key_colon (lines_at bytes at) r)) with_colon f (run-refused n (key_colon (lines_at bytes at) r) f h)

@@ -3,7 +3,7 @@ use Rattle.std.proofs.Common.{◌≡◌, ℕ, ◌+◌, List, [], ◌∷◌, ◌+
 use Rattle.std.specs.Prelude.{nat_lt}
 use Rattle.al_base.specs.declared.codes.YamlCode.{YamlCode}
 use Rattle.al_scalar.specs.Taken.{Fault}
-use Rattle.al_yaml_tree.specs.Reading.{Start, start_of, start_with, Anchor, gives_with_anchor, with_anchor, nothing_known, with_start}
+use Rattle.al_yaml_tree.specs.Reading.{Start, start_of, Anchor, gives_with_anchor, with_anchor, nothing_known, with_start}
 use Rattle.al_yaml_tree.specs.Reading.{Known, Outcome, Reading, gives, fails, of_result, after, next, ◌>>=◌}
 use Rattle.al_yaml_tree.specs.Limits.{broken_limit, unless_fault, within_limits, nodes_listed, text_listed}
 use Rattle.al_base.specs.Limits.{deepest_collection, most_alias_text, most_nodes}
@@ -144,15 +144,11 @@ pub run-any_start : {A : Type 0} (s : State) (start : Start) (r : Reading A) →
 unfolding run
 run-any_start s start r h = start-cases s start (r s.known) h
 
-pub run-start_with : {A : Type 0} (s : State) (more text at depth : ℕ) (r : Reading A) → broken_limit s.nodes s.text (start_with at more text depth ∷ []) ≡ None
-    → run s (with_start (start_with at more text depth) r) ≡ run (record { nodes = s.nodes + more; text = s.text + text; known = s.known }) r
-run-start_with s more text at depth r h = run-any_start s (start_with at more text depth) r h
-
 pub run-start : {A : Type 0} (s : State) (more at depth : ℕ) (r : Reading A) → broken_limit s.nodes s.text (start_of at more depth ∷ []) ≡ None
     → run s (with_start (start_of at more depth) r) ≡ run (with_nodes more s) r
 run-start s more at depth r h =
     let d : s.text + 0 ≡ s.text = omega arith in
-    run-start_with s more 0 at depth r h ∙ ap (λ m. run (record { nodes = s.nodes + more; text = m; known = s.known }) r) d
+    run-any_start s (start_of at more depth) r h ∙ ap (λ m. run (record { nodes = s.nodes + more; text = m; known = s.known }) r) d
 
 broken-cases : {A : Type 0} (s : State) (start : Start) (o : Outcome A) (e : Fault) → broken_limit s.nodes s.text (start ∷ []) ≡ Some e
     → run_outcome s (after (start ∷ []) o) ≡ Err e
@@ -178,10 +174,10 @@ limited-err : {A : Type 0} (s : State) (r : Result A Fault) (e : Fault) → with
 limited-err s (Err d) e h = cc
 limited-err s (Ok y) e h = cc
 
-pub run-limited : {A : Type 0} (r : Reading A) (x : A) (t : State) → run at_start r ≡ Ok (x, t) → within_limits (r nothing_known) ≡ Ok x
+pub run-limited : {A : Type 0} (r : Reading A) (x : A) (t : State) → run at_start r ≡ Ok (x, t) → within_limits 0 0 (r nothing_known) ≡ Ok x
 unfolding run
-run-limited r x t h = limited-ok (state_after at_start (r nothing_known)) t (within_limits (r nothing_known)) x h
+run-limited r x t h = limited-ok (state_after at_start (r nothing_known)) t (within_limits 0 0 (r nothing_known)) x h
 
-pub run-limited_fault : {A : Type 0} (r : Reading A) (e : Fault) → run at_start r ≡ Err e → within_limits (r nothing_known) ≡ Err e
+pub run-limited_fault : {A : Type 0} (r : Reading A) (e : Fault) → run at_start r ≡ Err e → within_limits 0 0 (r nothing_known) ≡ Err e
 unfolding run
-run-limited_fault r e h = limited-err (state_after at_start (r nothing_known)) (within_limits (r nothing_known)) e h
+run-limited_fault r e h = limited-err (state_after at_start (r nothing_known)) (within_limits 0 0 (r nothing_known)) e h

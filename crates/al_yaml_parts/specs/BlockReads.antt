@@ -1,7 +1,11 @@
 -- How contracts speak of keys and slots of block collections.
-use Rattle.std.specs.Prelude.{ℕ, ◌<◌, ◌≤◌, List, length, Option, Some, None, IfSome}
+use Rattle.std.specs.Prelude.{ℕ, ◌<◌, ◌≤◌, List, length, ◌==◌, nat_lt, if◌then◌else◌, Option, Some, None, IfSome, Result, Ok}
+use Rattle.al_base.specs.declared.codes.YamlCode.TheVariants as yaml
+use Rattle.al_scalar.specs.Line.{Line, start}
 use Rattle.al_scalar.specs.ReadScalar.{read_of}
 use Rattle.al_scalar.specs.Places.{lines_at}
+use Rattle.al_scalar.specs.Taken.{Fault, fault}
+use Rattle.al_yaml_tree.specs.Content as content
 use Rattle.al_yaml_tree.specs.Keys as keys
 use Rattle.al_yaml_parts.specs.Places.{IsReadInside}
 use Rattle.al_yaml_tree.specs.Blocks as block
@@ -25,6 +29,12 @@ pub record IsKeyBehind (bytes : List ℕ) (at : ℕ) (key : Key) : Type 0 where
 abbrev pub IsOptionKey : List ℕ → ℕ → Option Key → Type 0
 IsOptionKey bytes at None = Unit {0}
 IsOptionKey bytes at (Some key) = IsKeyBehind bytes at key
+
+-- the next entry of a collection in a column, on the next content line, if there is one
+abbrev pub next_found : ℕ → content.Next → Result (Option (List Line)) Fault
+next_found column content.ended = Ok None
+next_found column (content.at_line i left) =
+    if i == column then Ok (Some left) else (if nat_lt i column then Ok None else fault yaml.WrongIndentation (start left))
 
 abbrev pub spot_of : Spot → block.Spot
 spot_of spot.OwnLine = block.own_line

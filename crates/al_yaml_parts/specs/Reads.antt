@@ -1,5 +1,5 @@
 -- Reading with its limits, from one state to the next.
-use Rattle.std.specs.Prelude.{◌≡◌, ℕ, ◌+◌, ◌≤◌, List, length, Option, Some, None, option_map, Result, Ok, Err}
+use Rattle.std.specs.Prelude.{◌≡◌, ℕ, ◌+◌, ◌≤◌, List, length, Bool, false, nat_lt, Option, Some, None, option_map, Result, Ok, Err}
 use Rattle.std.specs.BTreeMap.{get_by}
 use Rattle.std.specs.Cmp.Lexicographic.{slice_cmp}
 use Rattle.std.specs.Ordering.{nat_cmp}
@@ -8,8 +8,8 @@ use Rattle.al_scalar.specs.Taken.{Fault}
 use Rattle.al_yaml_tree.specs.Node as tree
 use Rattle.al_scalar.specs.Line.{Line, start}
 use Rattle.al_yaml_tree.specs.Content.{anchor_name, behind_name}
-use Rattle.al_yaml_tree.specs.Reading.{Anchor, Known, nothing_known, with_anchor, Outcome, Reading, Part, part, gives, alias, ◌>>=◌}
-use Rattle.al_yaml_tree.specs.Limits.{within_limits_from, nodes_listed, text_listed}
+use Rattle.al_yaml_tree.specs.Reading.{Start, Anchor, Known, nothing_known, with_anchor, Outcome, Reading, Part, part, gives, alias, ◌>>=◌}
+use Rattle.al_yaml_tree.specs.Limits.{within_limits, nodes_listed, text_listed}
 use Rattle.al_yaml_tree.specs.View.{view}
 use Rattle.al_yaml_parts.specs.Places.{fault_of}
 use Rattle.al_yaml_parts.specs.declared.anchors.AnchoredNode.{AnchoredNode}
@@ -33,7 +33,7 @@ abbrev pub state_after : {A : Type 0} → State → Outcome A → State
 state_after s o = record { nodes = s.nodes + nodes_listed o.starts; text = s.text + text_listed o.starts; known = o.known }
 
 abbrev pub run_outcome : {A : Type 0} → State → Outcome A → Result (A × State) Fault
-run_outcome s o = with_state (state_after s o) (within_limits_from s.nodes s.text o)
+run_outcome s o = with_state (state_after s o) (within_limits s.nodes s.text o)
 
 -- What is read from a state on, with the state behind it, or the fault or broken limit that is met first.
 unfoldable pub run : {A : Type 0} → State → Reading A → Result (A × State) Fault
@@ -42,6 +42,15 @@ run s r = run_outcome s (r s.known)
 -- at a file's start
 abbrev pub at_start : State
 at_start = record { nodes = 0; text = 0; known = nothing_known }
+
+-- a start with so many bytes of text behind an alias, as limits count it
+abbrev pub start_with : ℕ → ℕ → ℕ → ℕ → Start
+start_with at nodes text depth = record { at = at; nodes = nodes; text = text; depth = depth; alias = false }
+
+-- whether an anchor stands behind an offset
+abbrev pub is_later : ℕ → Option Anchor → Bool
+is_later at None = false
+is_later at (Some a) = nat_lt at a.at
 
 -- with so many nodes more
 abbrev pub with_nodes : ℕ → State → State

@@ -6,7 +6,8 @@ ghost use Rattle.al_yaml_tree.specs.Content as content;
 ghost use Rattle.al_yaml_parts.specs.Files.{left_at, size};
 ghost use Rattle.al_yaml_tree.specs.Reading as reading;
 ghost use Rattle.al_yaml_tree.specs.Reading.{with_anchor, nothing_known};
-ghost use Rattle.al_yaml_parts.specs.Reads.{IsRead, IsStopInside, anchor_at, anchor_seen, known_of, state_with_anchor_at, state_of};
+ghost use Rattle.al_yaml_parts.specs.Reads.{IsRead, IsStopInside, anchor_at, anchor_seen, is_later, known_of};
+ghost use Rattle.al_yaml_parts.specs.Reads.{state_with_anchor_at, state_of};
 ghost use Rattle.al_yaml_tree.specs.View.{view};
 ghost use Rattle.std.specs.Prelude.{IfErr, IfOk, length, true, ◌+◌, ◌<◌, ◌≡◌, ◌≤◌};
 
@@ -138,7 +139,7 @@ impl Anchors {
 
     /// Whether the anchor of a name stands behind an offset.
     fn has_later(&self, name: &[u8], at: usize) -> bool
-        ensures { result ≡ reading.is_later at (known_of self.now name.now) }
+        ensures { result ≡ is_later at (known_of self.now name.now) }
     {
         match self.latest.get(name) {
             Some(found) => at < found.at,

@@ -2,8 +2,8 @@
 
 ghost use Rattle.al_yaml_tree.specs.Limits.{broken_limit};
 ghost use Rattle.al_yaml_parts.specs.Places.{fault_of};
-ghost use Rattle.al_yaml_parts.specs.Reads.{with_nodes, state_of};
-ghost use Rattle.al_yaml_tree.specs.Reading.{start_with, start_of};
+ghost use Rattle.al_yaml_parts.specs.Reads.{start_with, with_nodes, state_of};
+ghost use Rattle.al_yaml_tree.specs.Reading.{start_of};
 ghost use Rattle.std.specs.Prelude.{◌+◌, ◌≡◌, ◌≤◌, ◌∷◌, [], IfErr, IfOk, MatchResult};
 
 use crate::anchors::Anchors;

@@ -1,29 +1,30 @@
 -- Block nodes keep to what is said of nodes.
 use Rattle.std.proofs.Common.{◌≡◌, ℕ, zero, suc, ◌+◌, ◌≤◌, List, [], ◌∷◌, refl, arith, Bool, true, not, ◌&&◌, ◌||◌, ◌==◌, nat_lt}
-use Rattle.std.proofs.Common.{Option, Some, None, Result, Ok, Err}
+use Rattle.std.proofs.Common.{if◌then◌else◌, Option, Some, None}
+use Rattle.al_base.specs.declared.codes.YamlCode.TheVariants as yaml
 use Rattle.al_base.specs.Ascii as ascii
+use Rattle.al_base.specs.declared.faults.Span.{Span}
 use Rattle.al_scalar.specs.Line.{Cell, Line, start, begins, is_blank, blanks_dropped}
 use Rattle.al_scalar.specs.Offsets.{AreClimbing}
 use Rattle.al_scalar.specs.Places.{first_text}
 use Rattle.al_scalar.specs.Plain.{block}
 use Rattle.al_scalar.specs.Scalar.{scalar_at}
-use Rattle.al_scalar.specs.Taken.{Fault}
 use Rattle.al_scalar.proofs.OffsetLemmas.{choose, climbing-order}
 use Rattle.al_yaml_tree.specs.Blocks.{Spot, own_line, compact, behind_key, Slot, at_spot, BlockReader, is_behind_key, tab_before}
-use Rattle.al_yaml_tree.specs.Blocks.{unless_tab, spot_behind, is_deeper, node_found, rest_node, next_found}
-use Rattle.al_yaml_tree.specs.Blocks.{next_at, entry_slot, sequence_next, sequence_entries, value_slot}
-use Rattle.al_yaml_tree.specs.Blocks.{mapping_next, mapping_entries, scalar_left, scalar_node_at, flow_rest}
-use Rattle.al_yaml_tree.specs.Blocks.{block_sequence, keyed_node, block_content, block_property, block_node}
+use Rattle.al_yaml_tree.specs.Blocks.{unless_tab, spot_behind, is_deeper, node_found, rest_node, rest_found, rest_below}
+use Rattle.al_yaml_tree.specs.Blocks.{entry_slot, sequence_entries, value_slot}
+use Rattle.al_yaml_tree.specs.Blocks.{mapping_entries, scalar_left, scalar_node_at, ending_line}
+use Rattle.al_yaml_tree.specs.Blocks.{block_sequence, block_mapping, block_content, block_property, block_node}
 use Rattle.al_yaml_tree.specs.Content.{Next, ended, at_line, is_skipped, content, line_ended, whole_lines, behind, is_dash}
 use Rattle.al_yaml_tree.specs.Content.{tab_among, block_fault, is_flow_start, is_property, same_line, characters, is_short_key}
 use Rattle.al_yaml_tree.specs.Content.{anchor_name, behind_name, has_no_name}
 use Rattle.al_yaml_tree.specs.Flow.{CollectionReader, flow_collection}
-use Rattle.al_yaml_tree.specs.Keys.{Key, key_at, has_colon, is_block_start, is_on_key}
+use Rattle.al_yaml_tree.specs.Keys.{Key, key_at, has_colon, is_block_start, is_on_key, no_entry, entry_key}
 use Rattle.al_yaml_tree.specs.Node.{Node, Nodes, Entries, sequence, mapping, no_nodes, with_item, no_entries, with_entry, scalar_node}
-use Rattle.al_yaml_tree.specs.Reading.{Reading, and_then, gives, gives_with_anchor, Part, part}
+use Rattle.al_yaml_tree.specs.Reading.{Reading, gives, fails, gives_with_anchor, Part, part, ◌>>=◌}
 use Rattle.al_yaml_tree.proofs.FlowReading.{CollectionIn, flow_collection-in}
 use Rattle.al_yaml_tree.proofs.KeyReading.{KeyIn, OptionKeyIn, key_at-in, no_entry-in, entry_key-in}
-use Rattle.al_yaml_tree.proofs.LeftLines.{File, AreLeft, IsRead, NextLeft, OptionLeft, left-lower, left-start, starts-behind, starts-in}
+use Rattle.al_yaml_tree.proofs.LeftLines.{File, AreLeft, IsRead, NextLeft, left-lower, left-start, starts-behind, starts-in}
 use Rattle.al_yaml_tree.proofs.LeftLines.{left-whole, left-blanks, left-dash, left-name, scalar-read, content-in, line_ended-in}
 use Rattle.al_yaml_tree.proofs.NodeReading.{IsDone, no-items, no-entries, IsPart, same, itself, IsNode, AreItems, AreEntries}
 use Rattle.al_yaml_tree.proofs.NodeReading.{whole-part, read-part, part-lower, part-back, item-done, entry-done, Reads, reads-value, reads-fault}
@@ -68,17 +69,6 @@ module _ (f : File) where
   spot_behind-in text (compact (Some tab)) t h = h
   spot_behind-in text behind_key t h = h
 
-  next_found-in : (column low : ℕ) (found : Next) → NextLeft f low found → Answers f.size (OptionLeft f low) (next_found column found)
-  next_found-in column low ended k = tt
-  next_found-in column low (at_line i left) k =
-      choose (Answers f.size (OptionLeft f low)) (i == column) (λ _. k)
-      (λ _. choose (Answers f.size (OptionLeft f low)) (nat_lt i column) (λ _. tt) (λ _. starts-in k))
-
-  next_from-in : (column low : ℕ) (r : Result Next Fault) → Answers f.size (NextLeft f low) r
-      → Answers f.size (OptionLeft f low) (and_then r (next_found column))
-  next_from-in column low (Err e) k = k
-  next_from-in column low (Ok found) k = next_found-in column low found k
-
 module _ {f : File} where
   first_tab-in : (low : ℕ) (ls : List Line) → AreLeft f low ls → IsIn f (tab_among (first_text ls))
   first_tab-in low [] h = tt
@@ -88,11 +78,8 @@ module _ {f : File} where
       → SlotIn f back low (at_spot spot slot)
   at_spot-in spot t s = record { tab = t; behind = s.behind; inside = s.inside; reach = s.reach; back_to = s.back_to }
 
-  next-in : (column low : ℕ) (ls : List Line) → AreLeft f low ls → Answers f.size (OptionLeft f low) (next_at column ls)
-  next-in column low ls h = next_from-in f column low (content ls) (content-in low ls h)
-
   module _ (node : BlockReader) (n : BlockIn f node) where
-    found-in : (back : ℕ → ℕ) (slot : Slot) (depth low : ℕ) (ls : List Line) → SlotIn f back low slot → AreLeft f low ls
+    pub found-in : (back : ℕ → ℕ) (slot : Slot) (depth low : ℕ) (ls : List Line) → SlotIn f back low slot → AreLeft f low ls
         → (found : Next) → NextLeft f low found → Reads f (IsPart f itself back low) (node_found node slot depth ls found)
     found-in back slot depth low ls s h ended k = empty-reads s.behind s.inside (left-lower s.reach h)
     found-in back slot depth low ls s h (at_line i left) k =
@@ -157,28 +144,42 @@ module _ {f : File} where
       (reads-given (AreLeft f r.span.end) (scalar_left ls r.left) (scalar_left-in r.span.end ls r.left k.left))
       (λ left v. reads-value (read-part k v))))
 
-  flow_rest-in : (spot : Spot) (at low : ℕ) (x : Part Node) → at ≤ f.size → IsNode f low x → Reads f (IsNode f low) (flow_rest spot at x)
-  flow_rest-in spot at low x a h =
-      reads-by (not (is_behind_key spot) && has_colon x.left) (λ _. reads-fault a)
-      (λ _. reads-then {g = λ (left : List Line). gives (part x.value x.end left)}
-      (reads-given (AreLeft f x.end) (line_ended x.left) (line_ended-in x.end x.left h.left))
-      (λ left v. reads-value (whole-part h.done v)))
+  ending_line-in : (low : ℕ) (x : Part Node) → IsNode f low x → Reads f (IsNode f low) (ending_line x)
+  ending_line-in low x h =
+      reads-then {g = λ (left : List Line). gives (part x.value x.end left)}
+      (reads-given (AreLeft f x.end) (line_ended x.left) (line_ended-in x.end x.left h.left)) (λ left v. reads-value (whole-part h.done v))
+
+  behind_flow-in : (spot : Spot) (at low : ℕ) (x : Part Node) → at ≤ f.size → IsNode f low x
+      → Reads f (IsNode f low) (if not (is_behind_key spot) && has_colon x.left then fails yaml.WrongKey at else ending_line x)
+  behind_flow-in spot at low x a h =
+      reads-by (not (is_behind_key spot) && has_colon x.left) (λ _. reads-fault a) (λ _. ending_line-in low x h)
 
   unless_tab-in : {P : Part Node → Type 0} (o : Option ℕ) {r : Reading (Part Node)} → IsIn f o → Reads f P r → Reads f P (unless_tab o r)
   unless_tab-in (Some at) a h = reads-fault a
   unless_tab-in None a h = h
 
+  -- ---- the rest of a collection
+
+  module _ {A : Type 0} {g : A → Span → Node} (from : ℕ) (done : Part A) (h : IsPart f g same from done) (column : ℕ)
+      (more : Part A → List Line → Reading (Part A))
+      (m : (ls : List Line) → AreLeft f done.end ls → Reads f (IsPart f g same from) (more done ls)) where
+    rest_found-in : (found : Next) → NextLeft f done.end found → Reads f (IsPart f g same from) (rest_found column done more found)
+    rest_found-in ended k = reads-value h
+    rest_found-in (at_line i left) k =
+        reads-by (i == column) (λ _. m left k)
+        (λ _. reads-by (nat_lt i column) (λ _. reads-value h) (λ _. reads-fault (starts-in k)))
+
+    rest_below-in : Reads f (IsPart f g same from) (rest_below column done more)
+    rest_below-in = reads-then (reads-given (NextLeft f done.end) (content done.left) (content-in done.end done.left h.left))
+        (λ found k. rest_found-in found k)
+
   module _ (node : BlockReader) (n : BlockIn f node) (collection : CollectionReader) (c : CollectionIn f collection) where
     -- ---- sequences
 
-    sequence_next-in : (more : List Line → Reading (Part Nodes)) (from low : ℕ)
-        → ((ls : List Line) → is_dash (first_text ls) ≡ true → AreLeft f low ls → Reads f (AreItems f from) (more ls))
-        → (in_mapping : Bool) (depth : ℕ) (closed : Part Nodes) → AreItems f from closed → (o : Option (List Line)) → OptionLeft f low o
-        → Reads f (AreItems f from) (sequence_next collection more in_mapping depth closed o)
-    sequence_next-in more from low m in_mapping depth closed h None k = reads-value h
-    sequence_next-in more from low m in_mapping depth closed h (Some left) k =
-        reads-by (is_dash (first_text left)) (λ e. m left e k)
-        (λ _. reads-by in_mapping (λ _. reads-value h) (λ _. no_entry-in collection c depth low left k))
+    abbrev more_items : ℕ → Bool → ℕ → ℕ → Part Nodes → List Line → Reading (Part Nodes)
+    more_items turns in_mapping column depth now left =
+        if is_dash (first_text left) then sequence_entries node collection turns in_mapping column depth now.value left
+        else (if in_mapping then gives now else no_entry collection depth left)
 
     items-in : (turns : ℕ) (in_mapping : Bool) (column depth from low : ℕ) (done : Nodes) (ls : List Line) → IsDone f sequence from low done
         → is_dash (first_text ls) ≡ true → AreLeft f low ls
@@ -189,20 +190,15 @@ module _ {f : File} where
         let rest = behind 1 ls in
         reads-then (rest-lies node n (entry_slot column (start rest)) depth column low ls rest tt refl (left-dash e h))
         (λ x k. let i = item-done d k in
-        reads-then (reads-given (OptionLeft f x.end) (next_at column x.left) (next-in column x.end x.left k.left))
-        (λ found w. sequence_next-in
-        (λ left. sequence_entries node collection turns in_mapping column depth (with_item done x.value) left) from x.end
-        (λ left j v. items-in turns in_mapping column depth from x.end (with_item done x.value) left i j v)
-        in_mapping depth (part (with_item done x.value) x.end x.left) (whole-part i k.left) found w))
+        rest_below-in from (part (with_item done x.value) x.end x.left) (whole-part i k.left) column (more_items turns in_mapping column depth)
+        (λ left v. reads-by (is_dash (first_text left)) (λ j. items-in turns in_mapping column depth from x.end (with_item done x.value) left i j v)
+        (λ _. reads-by in_mapping (λ _. reads-value (whole-part i k.left)) (λ _. no_entry-in collection c depth x.end left v))))
 
     -- ---- mappings
 
-    mapping_next-in : (more : Key → Reading (Part Entries)) (from low : ℕ)
-        → ((key : Key) → KeyIn f low key → Reads f (AreEntries f from) (more key))
-        → (depth : ℕ) (closed : Part Entries) → AreEntries f from closed → (o : Option (List Line)) → OptionLeft f low o
-        → Reads f (AreEntries f from) (mapping_next collection more depth closed o)
-    mapping_next-in more from low m depth closed h None k = reads-value h
-    mapping_next-in more from low m depth closed h (Some left) k = reads-then (entry_key-in collection c depth low left k) m
+    abbrev more_entries : ℕ → ℕ → ℕ → Part Entries → List Line → Reading (Part Entries)
+    more_entries turns column depth now left =
+        entry_key collection depth left >>= (λ k. mapping_entries node collection turns column depth now.value k)
 
     entries-in : (turns column depth from low : ℕ) (done : Entries) (key : Key) → IsDone f mapping from low done → KeyIn f low key
         → Reads f (AreEntries f from) (mapping_entries node collection turns column depth done key)
@@ -211,11 +207,10 @@ module _ {f : File} where
     entries-in (suc turns) column depth from low done key d h =
         reads-then (rest-lies node n (value_slot column (start key.behind)) depth 0 key.scalar.span.end key.behind key.behind tt refl h.1)
         (λ x k. let i = entry-done d h.0 k in
-        reads-then (reads-given (OptionLeft f x.end) (next_at column x.left) (next-in column x.end x.left k.left))
-        (λ found w. mapping_next-in
-        (λ next. mapping_entries node collection turns column depth (with_entry done (scalar_node key.scalar) x.value) next) from x.end
-        (λ next v. entries-in turns column depth from x.end (with_entry done (scalar_node key.scalar) x.value) next i v)
-        depth (part (with_entry done (scalar_node key.scalar) x.value) x.end x.left) (whole-part i k.left) found w))
+        rest_below-in from (part (with_entry done (scalar_node key.scalar) x.value) x.end x.left) (whole-part i k.left) column
+        (more_entries turns column depth)
+        (λ left v. reads-then (entry_key-in collection c depth x.end left v)
+        (λ next w. entries-in turns column depth from x.end (with_entry done (scalar_node key.scalar) x.value) next i w)))
 
     -- ---- nodes without properties
 
@@ -230,7 +225,10 @@ module _ {f : File} where
         (items-in turns slot.in_mapping column (depth + 1) at at no_nodes ls (no-items at a) e (left-start h)))))
 
     keyed-in : (turns : ℕ) (slot : Slot) (depth column low : ℕ) (ls : List Line) → TabIn f slot.spot → AreLeft f low ls
-        → (o : Option Key) → OptionKeyIn f (start ls) o → Reads f (IsNode f low) (keyed_node node collection turns slot depth column ls o)
+        → (o : Option Key) → OptionKeyIn f (start ls) o → Reads f (IsNode f low) (elim o [
+          | None ↦ scalar_node_at slot.within ls
+          | Some key ↦ block_mapping node collection turns slot.spot depth column ls key
+        ])
     keyed-in turns slot depth column low ls t h None k = scalar_node-in slot.within low ls h
     keyed-in turns slot depth column low ls t h (Some key) k =
         let at = start ls in
@@ -250,7 +248,7 @@ module _ {f : File} where
         (λ _. reads-unless (block_fault (first_text ls)) (start ls) a
         (reads-by (is_property (first_text ls)) (λ _. reads-fault a)
         (λ _. reads-by (is_flow_start (first_text ls))
-        (λ e. reads-then (c depth low ls e h) (λ x k. flow_rest-in slot.spot (start ls) low x a k))
+        (λ e. reads-then (c depth low ls e h) (λ x k. behind_flow-in slot.spot (start ls) low x a k))
         (λ _. reads-by (is_block_start (first_text ls) || is_behind_key slot.spot) (λ _. scalar_node-in slot.within low ls h)
         (λ _. reads-then (reads-given (OptionKeyIn f (start ls)) (key_at ls) (key_at-in (start ls) ls (left-start h)))
         (λ found k. keyed-in turns slot depth column low ls t h found k))))))

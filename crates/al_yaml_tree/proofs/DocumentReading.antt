@@ -10,16 +10,17 @@ use Rattle.al_scalar.specs.Taken.{Fault}
 use Rattle.al_scalar.proofs.OffsetLemmas.{choose, lines-climb}
 use Rattle.al_scalar.proofs.Utf8Lemmas.{AreUtf8, lines-utf8, both-left}
 use Rattle.al_scalar.proofs.Utf8Texts.{both-right}
+use Rattle.al_yaml_tree.specs.Blocks.{block_node}
 use Rattle.al_yaml_tree.specs.Bytes.{has_mark, file_lines}
-use Rattle.al_yaml_tree.specs.Content.{Next, ended, at_line, content}
-use Rattle.al_yaml_tree.specs.Document.{document_start, document_end, root_slot, root_found, root, document, document_of, HasNoAlias}
+use Rattle.al_yaml_tree.specs.Content.{content}
+use Rattle.al_yaml_tree.specs.Document.{document_start, document_end, root_slot, root, document, document_of, HasNoAlias}
 use Rattle.al_yaml_tree.specs.Limits.{broken_limit, unless_fault}
 use Rattle.al_yaml_tree.specs.Node.{Node}
 use Rattle.al_yaml_tree.specs.Reading.{Start, nothing_known, gives, Part}
-use Rattle.al_yaml_tree.proofs.BlockReading.{block_node-in}
+use Rattle.al_yaml_tree.proofs.BlockReading.{found-in, block_node-in}
 use Rattle.al_yaml_tree.proofs.ByteTexts.{cons-same, equal}
 use Rattle.al_yaml_tree.proofs.LeftLines.{File, AreLeft, NextLeft, Anything, content-in, document_start-in, document_end-in}
-use Rattle.al_yaml_tree.proofs.NodeReading.{Lies, IsPart, itself, StartsIn, Reads, reads-value, reads-given, reads-then, empty-reads}
+use Rattle.al_yaml_tree.proofs.NodeReading.{Lies, IsPart, itself, StartsIn, Reads, reads-value, reads-given, reads-then}
 use Rattle.al_yaml_tree.proofs.ScalarSpans.{Answers}
 use Rattle.al_yaml_tree.proofs.SpanLemmas.{wider_in}
 use Rattle.al_yaml_tree.proofs.Standing.{Stand, stand-lower, lines-end}
@@ -65,17 +66,6 @@ abbrev to_start : ℕ → ℕ
 to_start end = 0
 
 module _ {f : File} where
-  root_found-in : (ls : List Line) → AreLeft f 0 ls → (found : Next) → NextLeft f 0 found
-      → Reads f (IsPart f itself to_start 0) (root_found f.size ls found)
-  root_found-in ls h ended k = empty-reads (omega arith) (omega arith) h
-  root_found-in ls h (at_line i left) k = block_node-in (suc f.size) to_start (root_slot f.size) 1 i 0 left (record {
-    tab = tt;
-    behind = omega arith;
-    inside = omega arith;
-    reach = omega arith;
-    back_to = λ end. omega arith;
-  }) k
-
   root-lies : {p : Part Node} → IsPart f itself to_start 0 p → Lies f 0 f.size p.value
   root-lies {p} k = record {
     laid = k.done.lies.laid;
@@ -85,7 +75,14 @@ module _ {f : File} where
 
   root-in : (ls : List Line) → AreLeft f 0 ls → Reads f (IsPart f itself to_start 0) (root f.size ls)
   root-in ls h =
-      reads-then (reads-given (NextLeft f 0) (content ls) (content-in 0 ls h)) (λ found k. root_found-in ls h found k)
+      reads-then (reads-given (NextLeft f 0) (content ls) (content-in 0 ls h))
+      (λ found k. found-in (block_node (suc f.size)) (block_node-in (suc f.size)) to_start (root_slot f.size) 1 0 ls (record {
+        tab = tt;
+        behind = omega arith;
+        inside = omega arith;
+        reach = omega arith;
+        back_to = λ end. omega arith;
+      }) h found k)
 
   document-in : (ls : List Line) → AreLeft f 0 ls → Reads f (Lies f 0 f.size) (document f.size ls)
   document-in ls h =

@@ -12,9 +12,9 @@ use Rattle.al_scalar.proofs.OffsetLemmas.{choose}
 use Rattle.al_scalar.proofs.Utf8Lemmas.{AreUtf8, either}
 use Rattle.al_scalar.proofs.Utf8Texts.{both-right}
 use Rattle.al_yaml_tree.specs.Content.{behind, is_file_end, flow_fault, is_flow_start, is_quote, is_property, is_simple_key, anchor_name, behind_name, has_no_name}
-use Rattle.al_yaml_tree.specs.Flow.{FlowSlot, FlowReader, CollectionReader, gap, empty_node, After, goes_on, closes}
-use Rattle.al_yaml_tree.specs.Flow.{after_item, flow_items, is_key_colon, behind_colon, flow_value, FlowKey}
-use Rattle.al_yaml_tree.specs.Flow.{is_late_colon, unless_late, key_colon, flow_key_of, flow_key, flow_entry_value}
+use Rattle.al_yaml_tree.specs.Flow.{FlowSlot, FlowReader, CollectionReader, gap, empty_node}
+use Rattle.al_yaml_tree.specs.Flow.{rest_behind, flow_items, is_key_colon, behind_colon, flow_value, FlowKey}
+use Rattle.al_yaml_tree.specs.Flow.{is_late_colon, unless_late, key_colon, flow_key, flow_entry_value}
 use Rattle.al_yaml_tree.specs.Flow.{flow_entries, flow_content, flow_property, flow_node_over, flow_collection}
 use Rattle.al_yaml_tree.specs.Node.{Node, Nodes, Entries, sequence, mapping, no_nodes, with_item, no_entries, with_entry, scalar_node}
 use Rattle.al_yaml_tree.specs.Reading.{Reading, gives, fails, of_result, starting_scalar, gives_with_anchor, Part, part, ◌>>=◌}
@@ -43,10 +43,6 @@ abbrev FlowIn : File → FlowReader → Type 0
 FlowIn f node = (slot : FlowSlot) (depth low : ℕ) (ls : List Line) → SlotIn f low slot → AreLeft f low ls
     → Reads f (IsNode f low) (node slot depth ls)
 
-abbrev AfterIn : File → ℕ → After → Type 0
-AfterIn f low (goes_on ls) = AreLeft f low ls
-AfterIn f low (closes end ls) = (low ≤ end) × AreLeft f end ls
-
 abbrev FlowKeyIn : File → ℕ → FlowKey → Type 0
 FlowKeyIn f low key = IsRead f low key.scalar × OptionLeft f key.scalar.span.end key.behind
 
@@ -65,40 +61,33 @@ late-in : (f : File) (low : ℕ) (ls : List Line) (r : ScalarRead) (o : Option (
 late-in f low ls r (Some left) a h = h
 late-in f low ls r None a h = choose (Answers f.size (OptionLeft f low)) (is_late_colon r.left) (λ _. a) (λ _. tt)
 
+-- the key that a scalar is
+abbrev key_with : List Line → ScalarRead → Option (List Line) → Reading FlowKey
+key_with ls r colon = starting_scalar (start ls) (gives (record { scalar = r; behind = colon }))
+
 module _ {f : File} where
   -- ---- behind an item
 
   closed-in : (q low : ℕ) (ls : List Line) → q < 128 → begins q (first_text ls) ≡ true → AreLeft f low ls
-      → AfterIn f low (closes (start ls + 1) (behind 1 ls))
+      → (low ≤ start ls + 1) × AreLeft f (start ls + 1) (behind 1 ls)
   closed-in q low ls a e h = let b = starts-behind h in (omega (arith, b), left-first q a e h)
-
-  after-in : (opening close low : ℕ) (ls : List Line) → opening ≤ f.size → close < 128 → AreLeft f low ls
-      → Answers f.size (AfterIn f low) (after_item opening close ls)
-  after-in opening close low ls o a h =
-      choose (Answers f.size (AfterIn f low)) (is_file_end ls) (λ _. o)
-      (λ _. choose (Answers f.size (AfterIn f low)) (begins ascii.comma (first_text ls))
-      (λ e. let k = closed-in ascii.comma low ls (omega arith) e h in left-gap (left-lower k.0 k.1))
-      (λ _. choose (Answers f.size (AfterIn f low)) (begins close (first_text ls)) (λ e. closed-in close low ls a e h) (λ _. starts-in h)))
 
   -- items or entries behind those done, given what reads further ones
   module _ {A : Type 0} {g : A → Span → Node} (grows : Grows f g) (from low : ℕ) (done : A) (d : IsDone f g from low done) where
-    closed-part : (end : ℕ) (ls : List Line) → AfterIn f low (closes end ls) → IsPart f g same from (part done end ls)
+    closed-part : (end : ℕ) (ls : List Line) → (low ≤ end) × AreLeft f end ls → IsPart f g same from (part done end ls)
     closed-part end ls h = whole-part (grows from low end done h.0 (is-inside h.1) d) h.1
-
-    after-reads : (more : List Line → Reading (Part A)) → ((ls : List Line) → AreLeft f low ls → Reads f (IsPart f g same from) (more ls))
-        → (found : After) → AfterIn f low found
-        → Reads f (IsPart f g same from) (elim found [ goes_on next ↦ more next | closes end next ↦ gives (part done end next) ])
-    after-reads more m (goes_on next) h = m next h
-    after-reads more m (closes end next) h = reads-value (closed-part end next h)
 
     rest-reads : (more : List Line → Reading (Part A)) (opening close : ℕ) (left : List Line) → opening ≤ f.size → close < 128
         → ((ls : List Line) → AreLeft f low ls → Reads f (IsPart f g same from) (more ls)) → AreLeft f low left
-        → Reads f (IsPart f g same from) (of_result (after_item opening close (gap false left))
-        >>= (λ (found : After). elim found [ goes_on next ↦ more next | closes end next ↦ gives (part done end next) ]))
+        → Reads f (IsPart f g same from) (rest_behind close more opening done left)
     rest-reads more opening close left o a m h =
-        reads-then (reads-given (AfterIn f low) (after_item opening close (gap false left))
-        (after-in opening close low (gap false left) o a (left-gap h)))
-        (λ found k. after-reads more m found k)
+        let ls = gap false left in
+        let k : AreLeft f low ls = left-gap h in
+        reads-by (is_file_end ls) (λ _. reads-fault o)
+        (λ _. reads-by (begins ascii.comma (first_text ls))
+        (λ e. let b = closed-in ascii.comma low ls (omega arith) e k in m (gap false (behind 1 ls)) (left-gap (left-lower b.0 b.1)))
+        (λ _. reads-by (begins close (first_text ls))
+        (λ e. reads-value (closed-part (start ls + 1) (behind 1 ls) (closed-in close low ls a e k))) (λ _. reads-fault (starts-in k))))
 
   -- ---- keys
 
@@ -112,10 +101,10 @@ module _ {f : File} where
       choose (Answers f.size (OptionLeft f low)) (not (is_simple_key ls r)) (λ _. a)
       (λ _. late-in f low ls r (behind_colon (is_quote (first_text ls)) r.left) a (behind_colon-in (is_quote (first_text ls)) low r.left h))
 
-  flow_key_of-in : (low : ℕ) (ls : List Line) (r : ScalarRead) → start ls ≤ f.size → IsRead f low r
-      → Reads f (FlowKeyIn f low) (flow_key_of ls r)
-  flow_key_of-in low ls r a h =
-      reads-then {g = λ (colon : Option (List Line)). starting_scalar (start ls) (gives (record { scalar = r; behind = colon }))}
+  colon_key-in : (low : ℕ) (ls : List Line) (r : ScalarRead) → start ls ≤ f.size → IsRead f low r
+      → Reads f (FlowKeyIn f low) (of_result (key_colon ls r) >>= key_with ls r)
+  colon_key-in low ls r a h =
+      reads-then {g = key_with ls r}
       (reads-given (OptionLeft f r.span.end) (key_colon ls r) (key_colon-in r.span.end ls r a h.left))
       (λ colon k. reads-one a (h, k))
 
@@ -127,7 +116,7 @@ module _ {f : File} where
       reads-unless (flow_fault (first_text ls)) (start ls) a
       (reads-by (is_property (first_text ls)) (λ _. reads-fault a)
       (λ _. reads-by (is_flow_start (first_text ls)) (λ e. reads-then {g = λ (x : Part Node). fails yaml.WrongKey (start ls)} (c depth low ls e h) (λ x k. reads-fault a))
-      (λ _. reads-then (reads-given (IsRead f low) (scalar_at flow ls) (scalar-read flow low ls h)) (λ r k. flow_key_of-in low ls r a k))))
+      (λ _. reads-then (reads-given (IsRead f low) (scalar_at flow ls) (scalar-read flow low ls h)) (λ r k. colon_key-in low ls r a k))))
 
   -- ---- nodes in a collection, given what reads one
 

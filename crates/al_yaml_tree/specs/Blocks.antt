@@ -2,19 +2,16 @@
 use Rattle.std.specs.Prelude.{ℕ, zero, suc, ◌+◌, List, Bool, true, false, not, ◌&&◌, ◌||◌, ◌==◌, nat_le}
 use Rattle.std.specs.Prelude.{nat_lt, if◌then◌else◌, Option, Some, None, Result, Ok}
 use Rattle.al_base.specs.declared.codes.YamlCode.TheVariants as yaml
-use Rattle.al_base.specs.Ascii as ascii
-use Rattle.al_scalar.specs.Line.{Cell, Line, start, begins, blanks_dropped}
+use Rattle.al_scalar.specs.Line.{Cell, Line, start, blanks_dropped}
 use Rattle.al_scalar.specs.Places.{first_text}
-use Rattle.al_scalar.specs.Taken.{Fault, fault}
+use Rattle.al_scalar.specs.Taken.{Fault}
 use Rattle.al_scalar.specs.Plain.{block}
 use Rattle.al_scalar.specs.Scalar.{scalar_at}
 use Rattle.al_yaml_tree.specs.Node.{Node, Nodes, Entries, sequence, mapping, no_nodes, with_item, no_entries, with_entry, scalar_node}
-use Rattle.al_yaml_tree.specs.Reading.{Reading, gives, fails, of_result, and_then, starting_scalar, starting_mapping}
-use Rattle.al_yaml_tree.specs.Reading.{starting_collection, gives_with_anchor, alias, Part, part, with_span, ◌>>=◌}
+use Rattle.al_yaml_tree.specs.Reading.{Reading, gives, fails, of_result, starting_scalar, starting_collection, Part, part, with_span, ◌>>=◌}
 use Rattle.al_yaml_tree.specs.Content.{Next, ended, at_line, is_skipped, content, line_ended, whole_lines, behind, is_dash, tab_among}
-use Rattle.al_yaml_tree.specs.Content.{block_fault, unless, is_flow_start, is_property, anchor_name, behind_name, has_no_name, same_line}
-use Rattle.al_yaml_tree.specs.Content.{characters, is_short_key}
-use Rattle.al_yaml_tree.specs.Flow.{CollectionReader, empty_node, flow_collection}
+use Rattle.al_yaml_tree.specs.Content.{block_fault, unless, is_flow_start, is_property, same_line, characters, is_short_key}
+use Rattle.al_yaml_tree.specs.Flow.{CollectionReader, empty_node, property, flow_collection}
 use Rattle.al_yaml_tree.specs.Keys.{Key, key_at, has_colon, is_block_start, is_on_key, no_entry, entry_key}
 
 -- Where a node begins: on a line of its own; behind a dash, an anchor or both, with the first tab before it; behind a
@@ -81,64 +78,43 @@ rest_node node slot depth column ls rest =
     if is_skipped (first_text rest) then node_below node slot depth (whole_lines rest)
     else node (at_spot (spot_behind (first_text rest) slot.spot) slot) depth (column + characters (start left) (first_text ls)) left
 
--- The next entry of a collection in the column, if there is one: a line with less indent closes the collection.
-abbrev pub next_found : ℕ → Next → Result (Option (List Line)) Fault
-next_found column ended = Ok None
-next_found column (at_line i left) =
-    if i == column then Ok (Some left) else (if nat_lt i column then Ok None else fault yaml.WrongIndentation (start left))
+-- The rest of a collection in the column, given what was read of it so far: more reads from its next line on, and a line with less indent
+-- closes it.
+abbrev pub rest_found : {A : Type 0} → ℕ → Part A → (Part A → List Line → Reading (Part A)) → Next → Reading (Part A)
+rest_found column done more ended = gives done
+rest_found column done more (at_line i left) = if i == column then more done left
+    else (if nat_lt i column then gives done else fails yaml.WrongIndentation (start left))
 
-abbrev pub next_at : ℕ → List Line → Result (Option (List Line)) Fault
-next_at column ls = and_then (content ls) (next_found column)
+abbrev pub rest_below : {A : Type 0} → ℕ → Part A → (Part A → List Line → Reading (Part A)) → Reading (Part A)
+rest_below column done more = do
+  found ← of_result (content done.left)
+  rest_found column done more found
 
 -- An entry of a sequence (8.2.1): what stands behind its dash.
 abbrev pub entry_slot : ℕ → ℕ → Slot
 entry_slot column at = record { spot = compact None; within = column + 1; in_mapping = false; empty = at }
 
--- The rest of a sequence, given all its items so far and the part that the last one was; more reads from the next dash
--- on. A line at its indent that has no dash closes it if it is the value of a mapping's entry.
-abbrev pub sequence_next : CollectionReader → (List Line → Reading (Part Nodes)) → Bool → ℕ → Part Nodes → Option (List Line) →
-    Reading (Part Nodes)
-sequence_next collection more in_mapping depth closed None = gives closed
-sequence_next collection more in_mapping depth closed (Some left) =
-    if is_dash (first_text left) then more left else (if in_mapping then gives closed else no_entry collection depth left)
-
-abbrev pub sequence_rest : CollectionReader → (List Line → Reading (Part Nodes)) → Bool → ℕ → ℕ → Part Nodes → Reading (Part Nodes)
-sequence_rest collection more in_mapping column depth done = do
-  found ← of_result (next_at column done.left)
-  sequence_next collection more in_mapping depth done found
-
--- The entries of a sequence behind those done, from a dash on. turns bounds their number.
+-- The entries of a sequence behind those done, from a dash on. A line at its indent that has no dash closes it if it is the value of a
+-- mapping's entry. turns bounds their number.
 unfoldable pub sequence_entries : BlockReader → CollectionReader → ℕ → Bool → ℕ → ℕ → Nodes → List Line → Reading (Part Nodes)
 sequence_entries node collection zero in_mapping column depth done ls = fails yaml.UnexpectedCharacter 0
 sequence_entries node collection (suc turns) in_mapping column depth done ls = do
   x ← rest_node node (entry_slot column (start (behind 1 ls))) depth column ls (behind 1 ls)
-  sequence_rest collection
-      (λ left. sequence_entries node collection turns in_mapping column depth (with_item done x.value) left) in_mapping column depth
-      (part (with_item done x.value) x.end x.left)
+  rest_below column (part (with_item done x.value) x.end x.left) (λ now left.
+      if is_dash (first_text left) then sequence_entries node collection turns in_mapping column depth now.value left
+      else (if in_mapping then gives now else no_entry collection depth left))
 
 -- A value (8.2.2): what stands behind its key's colon.
 abbrev pub value_slot : ℕ → ℕ → Slot
 value_slot column at = record { spot = behind_key; within = column + 1; in_mapping = true; empty = at }
-
--- The rest of a mapping, given all its entries so far and the part that the last one was; more reads from behind the
--- next key on.
-abbrev pub mapping_next : CollectionReader → (Key → Reading (Part Entries)) → ℕ → Part Entries → Option (List Line) → Reading (Part Entries)
-mapping_next collection more depth closed None = gives closed
-mapping_next collection more depth closed (Some left) = entry_key collection depth left >>= more
-
-abbrev pub mapping_rest : CollectionReader → (Key → Reading (Part Entries)) → ℕ → ℕ → Part Entries → Reading (Part Entries)
-mapping_rest collection more column depth done = do
-  found ← of_result (next_at column done.left)
-  mapping_next collection more depth done found
 
 -- The entries of a mapping behind those done, from behind a key on.
 unfoldable pub mapping_entries : BlockReader → CollectionReader → ℕ → ℕ → ℕ → Entries → Key → Reading (Part Entries)
 mapping_entries node collection zero column depth done key = fails yaml.UnexpectedCharacter 0
 mapping_entries node collection (suc turns) column depth done key = do
   x ← rest_node node (value_slot column (start key.behind)) depth 0 key.behind key.behind
-  mapping_rest collection
-      (λ k. mapping_entries node collection turns column depth (with_entry done (scalar_node key.scalar) x.value) k) column depth
-      (part (with_entry done (scalar_node key.scalar) x.value) x.end x.left)
+  rest_below column (part (with_entry done (scalar_node key.scalar) x.value) x.end x.left) (λ now left.
+      entry_key collection depth left >>= (λ k. mapping_entries node collection turns column depth now.value k))
 
 -- what is left behind a scalar: a block scalar ends with its last line
 abbrev pub scalar_left : List Line → List Line → Result (List Line) Fault
@@ -152,25 +128,23 @@ scalar_node_at within ls =
       left ← of_result (scalar_left ls r.left)
       gives (part (scalar_node r) r.span.end left))
 
--- The rest of a line, given the flow collection just read on it: no colon may stand there that would make it a key.
-abbrev pub flow_rest : Spot → ℕ → Part Node → Reading (Part Node)
-flow_rest spot at x =
-    if not (is_behind_key spot) && has_colon x.left then fails yaml.WrongKey at
-    else (do
-      left ← of_result (line_ended x.left)
-      gives (part x.value x.end left))
+-- a node behind which nothing else stands on its line, and the whole lines left
+abbrev pub ending_line : Part Node → Reading (Part Node)
+ending_line x = do
+  left ← of_result (line_ended x.left)
+  gives (part x.value x.end left)
 
--- a flow collection in block context
+-- a flow collection in block context: behind it no colon may stand that would make it a key
 abbrev pub flow_at : CollectionReader → Spot → ℕ → List Line → Reading (Part Node)
 flow_at collection spot depth ls = do
   x ← collection depth ls
-  flow_rest spot (start ls) x
+  if not (is_behind_key spot) && has_colon x.left then fails yaml.WrongKey (start ls) else ending_line x
 
 abbrev pub block_sequence : BlockReader → CollectionReader → ℕ → BlockReader
 block_sequence node collection turns slot depth column ls =
     let at = start ls in
     if is_behind_key slot.spot then fails yaml.UnexpectedCharacter at
-    else unless_tab (tab_before slot.spot) (starting_collection at depth (
+    else unless_tab (tab_before slot.spot) (starting_collection at 1 depth (
     with_span sequence at (sequence_entries node collection turns slot.in_mapping column (depth + 1) no_nodes ls)))
 
 -- a mapping whose first key was read
@@ -180,13 +154,8 @@ block_mapping node collection turns spot depth column ls key =
     if not (same_line ls key.scalar.left) then fails yaml.WrongKey at
     else unless_tab (tab_before spot) (
     if not (is_short_key ls key.scalar) then fails yaml.WrongKey at
-    else starting_mapping at depth (
+    else starting_collection at 2 depth (
     with_span mapping at (mapping_entries node collection turns column (depth + 1) no_entries key)))
-
--- a mapping if a key was found, or else a scalar
-abbrev pub keyed_node : BlockReader → CollectionReader → ℕ → Slot → ℕ → ℕ → List Line → Option Key → Reading (Part Node)
-keyed_node node collection turns slot depth column ls None = scalar_node_at slot.within ls
-keyed_node node collection turns slot depth column ls (Some key) = block_mapping node collection turns slot.spot depth column ls key
 
 -- a node without properties
 unfoldable pub block_content : BlockReader → CollectionReader → ℕ → BlockReader
@@ -199,24 +168,12 @@ block_content node collection turns slot depth column ls =
     else (if is_block_start (first_text ls) || is_behind_key slot.spot then scalar_node_at slot.within ls
     else (do
       found ← of_result (key_at ls)
-      keyed_node node collection turns slot depth column ls found))))
+      elim found [ None ↦ scalar_node_at slot.within ls | Some key ↦ block_mapping node collection turns slot.spot depth column ls key ]))))
 
--- an alias, or an anchor and its node (6.9.2, 7.1)
+-- an alias, or an anchor and its node, on no key
 unfoldable pub block_property : BlockReader → BlockReader
 block_property content slot depth column ls =
-    let at = start ls in
-    let name = anchor_name ls in
-    let rest = behind_name ls in
-    if has_no_name ls then fails yaml.UnexpectedCharacter at
-    else (if not (is_behind_key slot.spot) && is_on_key ls then fails yaml.AnchorOrAlias at
-    else (if begins ascii.asterisk (first_text ls)
-    then (do
-      n ← alias name at depth
-      left ← of_result (line_ended rest)
-      gives (part n (start rest) left))
-    else (do
-      x ← rest_node content slot depth column ls rest
-      gives_with_anchor (record { name = name; at = at; node = x.value }) x)))
+    property (not (is_behind_key slot.spot) && is_on_key ls) ending_line (rest_node content slot depth column ls) depth ls
 
 -- Nodes nested less deep than the bound, each with fewer parts; the file's length and one is always enough.
 unfoldable pub block_node : ℕ → BlockReader

@@ -9,9 +9,8 @@ use Rattle.al_yaml_tree.specs.Node.{Node}
 use Rattle.al_yaml_tree.specs.Limits.{unless_fault, within_limits}
 use Rattle.al_yaml_tree.specs.Bytes.{byte_fault, file_lines}
 use Rattle.al_yaml_tree.specs.Reading.{Start, HaveNoAlias, Reading, nothing_known, gives, of_result, Part, ◌>>=◌}
-use Rattle.al_yaml_tree.specs.Content.{Next, ended, at_line, text_line, is_file_end, content, line_ended, behind}
-use Rattle.al_yaml_tree.specs.Flow.{empty_node}
-use Rattle.al_yaml_tree.specs.Blocks.{Slot, own_line, block_node}
+use Rattle.al_yaml_tree.specs.Content.{text_line, is_file_end, line_ended, behind}
+use Rattle.al_yaml_tree.specs.Blocks.{Slot, own_line, node_below, block_node}
 
 -- The whole lines from the first content line on, behind the marker `---` if that is one. No directive stands there
 -- (6.8).
@@ -45,14 +44,8 @@ abbrev pub root_slot : ℕ → Slot
 root_slot size = record { spot = own_line; within = 0; in_mapping = false; empty = size }
 
 -- The root: the node on the first content line, or else an empty node at the file's end.
-abbrev pub root_found : ℕ → List Line → Next → Reading (Part Node)
-root_found size ls ended = empty_node size ls
-root_found size ls (at_line i left) = block_node (suc size) (root_slot size) 1 i left
-
 abbrev pub root : ℕ → List Line → Reading (Part Node)
-root size ls = do
-  found ← of_result (content ls)
-  root_found size ls found
+root size ls = node_below (block_node (suc size)) (root_slot size) 1 ls
 
 abbrev pub document : ℕ → List Line → Reading Node
 document size ls = do
@@ -63,7 +56,7 @@ document size ls = do
 
 -- The tree that a file is whose bytes have no fault, or its first fault.
 abbrev pub document_of : List ℕ → Result Node Fault
-document_of bs = within_limits (document (length bs) (file_lines bs) nothing_known)
+document_of bs = within_limits 0 0 (document (length bs) (file_lines bs) nothing_known)
 
 -- The tree that a file is, or its first fault.
 abbrev pub tree_of : List ℕ → Result Node Fault

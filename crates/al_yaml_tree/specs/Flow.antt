@@ -45,23 +45,14 @@ gap at_start (l ∷ ls) =
 abbrev pub empty_node : ℕ → List Line → Reading (Part Node)
 empty_node at left = starting_scalar at (gives (part (scalar (empty_scalar at) (span at at)) at left))
 
--- What stands behind an item: a comma, with the lines of what follows it, or the closing bracket with its end.
-pub data After : Type 0 where
-  goes_on : List Line → After
-  closes : ℕ → List Line → After
-
-abbrev pub after_item : ℕ → ℕ → List Line → Result After Fault
-after_item opening close ls =
-    if is_file_end ls then fault yaml.UnclosedFlow opening
-    else (if begins ascii.comma (first_text ls) then Ok (goes_on (gap false (behind 1 ls)))
-    else (if begins close (first_text ls) then Ok (closes (start ls + 1) (behind 1 ls))
-    else fault yaml.UnexpectedCharacter (start ls)))
-
--- The rest of a collection, given all its items or entries so far and the lines behind the last one; more reads further ones.
+-- The rest of a collection, given all its items or entries so far and the lines behind the last one: behind a comma more reads on.
 abbrev pub rest_behind : {A : Type 0} → ℕ → (List Line → Reading (Part A)) → ℕ → A → List Line → Reading (Part A)
-rest_behind close more opening done left = do
-  found ← of_result (after_item opening close (gap false left))
-  elim found [ goes_on next ↦ more next | closes end next ↦ gives (part done end next) ]
+rest_behind close more opening done left =
+    let ls = gap false left in
+    if is_file_end ls then fails yaml.UnclosedFlow opening
+    else (if begins ascii.comma (first_text ls) then more (gap false (behind 1 ls))
+    else (if begins close (first_text ls) then gives (part done (start ls + 1) (behind 1 ls))
+    else fails yaml.UnexpectedCharacter (start ls)))
 
 -- Items behind those done, from the first character of an item or the closer. turns bounds their number.
 unfoldable pub flow_items : FlowReader → ℕ → ℕ → ℕ → Nodes → List Line → Reading (Part Nodes)
@@ -108,11 +99,6 @@ abbrev pub key_colon : List Line → ScalarRead → Result (Option (List Line)) 
 key_colon ls r = if not (is_simple_key ls r) then fault yaml.WrongKey (start ls)
     else unless_late ls r (behind_colon (is_quote (first_text ls)) r.left)
 
-abbrev pub flow_key_of : List Line → ScalarRead → Reading FlowKey
-flow_key_of ls r = do
-  colon ← of_result (key_colon ls r)
-  starting_scalar (start ls) (gives (record { scalar = r; behind = colon }))
-
 unfoldable pub flow_key : CollectionReader → ℕ → List Line → Reading FlowKey
 flow_key collection depth ls =
     let at = start ls in
@@ -123,7 +109,8 @@ flow_key collection depth ls =
       fails yaml.WrongKey at)
     else (do
       r ← of_result (scalar_at flow ls)
-      flow_key_of ls r)))
+      colon ← of_result (key_colon ls r)
+      starting_scalar at (gives (record { scalar = r; behind = colon })))))
 
 -- The value of an entry, given its key; without a colon it is empty.
 unfoldable pub flow_entry_value : FlowReader → ℕ → ℕ → FlowKey → Reading (Part Node)
@@ -156,20 +143,26 @@ flow_content collection slot depth ls =
       r ← of_result (scalar_at flow ls)
       gives (part (scalar_node r) r.span.end r.left))))
 
--- an alias, or an anchor and its node (6.9.2, 7.1)
-unfoldable pub flow_property : CollectionReader → FlowSlot → ℕ → List Line → Reading (Part Node)
-flow_property collection slot depth ls =
+-- An alias, or an anchor and its node (6.9.2, 7.1), none of which stands on a key: ending reads on behind an alias, node behind an
+-- anchor's name.
+abbrev pub property : Bool → (Part Node → Reading (Part Node)) → (List Line → Reading (Part Node)) → ℕ → List Line → Reading (Part Node)
+property on_key ending node depth ls =
     let at = start ls in
     let name = anchor_name ls in
     let rest = behind_name ls in
     if has_no_name ls then fails yaml.UnexpectedCharacter at
+    else (if on_key then fails yaml.AnchorOrAlias at
     else (if begins ascii.asterisk (first_text ls)
     then (do
       n ← alias name at depth
-      gives (part n (start rest) rest))
+      ending (part n (start rest) rest))
     else (do
-      x ← flow_value (flow_content collection) slot depth (gap false rest)
-      gives_with_anchor (record { name = name; at = at; node = x.value }) x))
+      x ← node rest
+      gives_with_anchor (record { name = name; at = at; node = x.value }) x)))
+
+unfoldable pub flow_property : CollectionReader → FlowSlot → ℕ → List Line → Reading (Part Node)
+flow_property collection slot depth ls =
+    property false gives (λ rest. flow_value (flow_content collection) slot depth (gap false rest)) depth ls
 
 -- a node in a flow collection
 abbrev pub flow_node_over : CollectionReader → FlowReader
@@ -185,7 +178,7 @@ flow_collection (suc bound) depth ls =
     let node = flow_node_over collection in
     let at = start ls in
     let inside = gap false (behind 1 ls) in
-    starting_collection at depth (
+    starting_collection at 1 depth (
     if begins ascii.open_bracket (first_text ls)
     then with_span sequence at (flow_items node (suc bound) at (depth + 1) no_nodes inside)
     else with_span mapping at (flow_entries node collection (suc bound) at (depth + 1) no_entries inside))

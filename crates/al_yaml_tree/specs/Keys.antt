@@ -1,6 +1,6 @@
 -- Implicit keys of block mappings (YAML 1.2.2, 7.4, 8.2.2), and lines that begin no entry.
 use Rattle.std.specs.Prelude.{ℕ, List, [], ◌∷◌, Bool, true, false, not, ◌&&◌, ◌||◌, if◌then◌else◌}
-use Rattle.std.specs.Prelude.{Option, Some, None, is_some, Result, Ok, Err}
+use Rattle.std.specs.Prelude.{Option, Some, None, is_some, Result, Ok}
 use Rattle.al_base.specs.declared.codes.YamlCode.{YamlCode}
 use Rattle.al_base.specs.declared.codes.YamlCode.TheVariants as yaml
 use Rattle.al_base.specs.Ascii as ascii
@@ -56,15 +56,9 @@ key_at ls = and_then (key_scalar ls) (λ r. Ok (key_of r))
 abbrev pub is_block_start : List Cell → Bool
 is_block_start cs = begins ascii.bar cs || begins ascii.greater cs
 
--- whether a key that was looked for stands on one line
-abbrev pub is_key_on_line : List Line → Result (Option Key) Fault → Bool
-is_key_on_line ls (Err e) = false
-is_key_on_line ls (Ok None) = false
-is_key_on_line ls (Ok (Some key)) = same_line ls key.scalar.left
-
 -- whether a scalar on one line begins here and a colon follows it
 abbrev pub is_key : List Line → Bool
-is_key ls = is_key_on_line ls (key_at ls)
+is_key ls = elim (key_at ls) [ Ok (Some key) ↦ same_line ls key.scalar.left | _ ↦ false ]
 
 abbrev pub is_key_start : List Cell → Bool
 is_key_start cs = not (is_skipped cs || is_dash cs || is_property cs || is_block_start cs || is_flow_start cs || is_some (block_fault cs))

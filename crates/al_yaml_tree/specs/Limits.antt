@@ -32,8 +32,6 @@ abbrev pub unless_fault : {A : Type 0} → Option Fault → Result A Fault → R
 unless_fault None r = r
 unless_fault (Some f) r = Err f
 
-abbrev pub within_limits_from : {A : Type 0} → ℕ → ℕ → Outcome A → Result A Fault
-within_limits_from nodes text o = unless_fault (broken_limit nodes text o.starts) o.answer
-
-abbrev pub within_limits : {A : Type 0} → Outcome A → Result A Fault
-within_limits o = within_limits_from 0 0 o
+-- the answer behind so many nodes and so many bytes of text, unless a limit is broken
+abbrev pub within_limits : {A : Type 0} → ℕ → ℕ → Outcome A → Result A Fault
+within_limits nodes text o = unless_fault (broken_limit nodes text o.starts) o.answer

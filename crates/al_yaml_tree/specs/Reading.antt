@@ -80,31 +80,21 @@ and_then (Ok x) f = f x
 abbrev pub with_start : {A : Type 0} → Start → Reading A → Reading A
 with_start s r known = after (s ∷ []) (r known)
 
-abbrev pub start_with : ℕ → ℕ → ℕ → ℕ → Start
-start_with at nodes text depth = record { at = at; nodes = nodes; text = text; depth = depth; alias = false }
-
 abbrev pub start_of : ℕ → ℕ → ℕ → Start
-start_of at nodes depth = start_with at nodes 0 depth
+start_of at nodes depth = record { at = at; nodes = nodes; text = 0; depth = depth; alias = false }
 
 -- a scalar, or an empty node
 abbrev pub starting_scalar : {A : Type 0} → ℕ → Reading A → Reading A
 starting_scalar at r = with_start (start_of at 1 0) r
 
-abbrev pub starting_collection : {A : Type 0} → ℕ → ℕ → Reading A → Reading A
-starting_collection at depth r = with_start (start_of at 1 depth) r
-
--- a block mapping with its first key
-abbrev pub starting_mapping : {A : Type 0} → ℕ → ℕ → Reading A → Reading A
-starting_mapping at depth r = with_start (start_of at 2 depth) r
-
--- whether an anchor stands behind an offset
-abbrev pub is_later : ℕ → Option Anchor → Bool
-is_later at None = false
-is_later at (Some a) = nat_lt at a.at
+-- a collection, with so many nodes that start there
+abbrev pub starting_collection : {A : Type 0} → ℕ → ℕ → ℕ → Reading A → Reading A
+starting_collection at nodes depth r = with_start (start_of at nodes depth) r
 
 -- of two anchors of a name the one whose & stands later: an alias refers to the latest (7.1)
 abbrev pub later_of : Anchor → Option Anchor → Option Anchor
-later_of a o = if is_later a.at o then o else Some a
+later_of a None = Some a
+later_of a (Some b) = if nat_lt a.at b.at then Some b else Some a
 
 -- one more anchor, which may have the name of an earlier one (7.1)
 abbrev pub with_anchor : Anchor → Known → Known

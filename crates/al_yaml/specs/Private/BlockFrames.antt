@@ -1,15 +1,15 @@
 -- What a stack of open block collections stands for, and how contracts speak of it.
-use Rattle.std.specs.Prelude.{◌≡◌, ℕ, suc, ◌+◌, ◌<◌, ◌≤◌, List, length, map, Bool, true, Option, Some, None, Result, Ok, Err}
+use Rattle.std.specs.Prelude.{◌≡◌, ℕ, suc, ◌+◌, ◌<◌, ◌≤◌, List, length, map, Bool, true, if◌then◌else◌, Option, Some, None, Result, Ok, Err}
 use Rattle.al_scalar.specs.Line.{Line}
-use Rattle.al_scalar.specs.Places.{lines_at, text_at}
+use Rattle.al_scalar.specs.Places.{first_text, lines_at, text_at}
 use Rattle.al_scalar.specs.Scalar.{ScalarRead, span}
 use Rattle.al_scalar.specs.ReadScalar.{read_of}
 use Rattle.al_yaml_tree.specs.Node.{Node, Nodes, Entries, sequence, mapping, with_item, with_entry, scalar_node}
-use Rattle.al_yaml_tree.specs.Reading.{Reading, Part, part, with_span}
+use Rattle.al_yaml_tree.specs.Reading.{Reading, gives, Part, part, with_span, ◌>>=◌}
 use Rattle.al_yaml_tree.specs.Content as content
-use Rattle.al_yaml_tree.specs.Flow.{flow_collection}
-use Rattle.al_yaml_tree.specs.Keys.{Key}
-use Rattle.al_yaml_tree.specs.Blocks.{BlockReader, sequence_entries, sequence_rest, mapping_entries, mapping_rest, block_node, bare_node}
+use Rattle.al_yaml_tree.specs.Flow.{CollectionReader, flow_collection}
+use Rattle.al_yaml_tree.specs.Keys.{Key, no_entry, entry_key}
+use Rattle.al_yaml_tree.specs.Blocks.{BlockReader, rest_below, sequence_entries, mapping_entries, block_node, bare_node}
 use Rattle.al_yaml_parts.specs.BlockReads.{IsKeyBehind, IsTabInside, key_seen, slot_of}
 use Rattle.al_yaml_parts.specs.Answers.{Answer, Mark, then_read, noting}
 use Rattle.al_yaml_parts.specs.Answers.{mark_of}
@@ -59,17 +59,25 @@ block_rest turns bound depth start column (entries done key) ls =
 abbrev pub closed_sequence : ℕ → Nodes → Part Node → State → Answer (Part Node)
 closed_sequence start done x s = Ok (part (sequence (with_item done x.value) (span start x.end)) x.end x.left, s)
 
+-- what stands on the next line of a sequence, and of a mapping, in its column
+
+abbrev pub more_items : BlockReader → CollectionReader → ℕ → Bool → ℕ → ℕ → Part Nodes → List Line → Reading (Part Nodes)
+more_items node collection turns in_mapping column depth now left =
+    if content.is_dash (first_text left) then sequence_entries node collection turns in_mapping column depth now.value left
+    else (if in_mapping then gives now else no_entry collection depth left)
+
+abbrev pub more_entries : BlockReader → CollectionReader → ℕ → ℕ → ℕ → Part Entries → List Line → Reading (Part Entries)
+more_entries node collection turns column depth now left =
+    entry_key collection depth left >>= (λ key. mapping_entries node collection turns column depth now.value key)
+
 -- the same from behind the node that it waited for
 abbrev pub block_waits : ℕ → ℕ → ℕ → ℕ → ℕ → BlockWaiting → Part Node → Reading (Part Node)
 block_waits turns bound depth start column (item in_mapping done) x =
-    with_span sequence start (sequence_rest (flow_collection (suc bound))
-    (λ left. sequence_entries (block_node bound) (flow_collection (suc bound)) turns in_mapping column depth
-    (with_item done x.value) left) in_mapping column depth (part (with_item done x.value) x.end x.left))
+    with_span sequence start (rest_below column (part (with_item done x.value) x.end x.left)
+    (more_items (block_node bound) (flow_collection (suc bound)) turns in_mapping column depth))
 block_waits turns bound depth start column (value done k) x =
-    with_span mapping start (mapping_rest (flow_collection (suc bound))
-    (λ key. mapping_entries (block_node bound) (flow_collection (suc bound)) turns column depth
-    (with_entry done (scalar_node k) x.value) key) column depth
-    (part (with_entry done (scalar_node k) x.value) x.end x.left))
+    with_span mapping start (rest_below column (part (with_entry done (scalar_node k) x.value) x.end x.left)
+    (more_entries (block_node bound) (flow_collection (suc bound)) turns column depth))
 
 -- ---- as the code has them
 

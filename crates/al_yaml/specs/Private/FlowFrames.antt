@@ -57,9 +57,9 @@ closer_of (frames.entries es) = 125
 
 -- ---- a step of an open collection, and what comes behind a node in it
 
-abbrev pub after_of : List ℕ → After → flow.After
-after_of bytes (after.GoesOn next) = flow.goes_on (lines_at bytes next)
-after_of bytes (after.Closes next) = flow.closes next (lines_at bytes next)
+abbrev pub after_of : List ℕ → After → frames.After
+after_of bytes (after.GoesOn next) = frames.goes_on (lines_at bytes next)
+after_of bytes (after.Closes next) = frames.closes next (lines_at bytes next)
 
 abbrev pub IsAfter : ℕ → ℕ → After → Type 0
 IsAfter at size (after.GoesOn next) = (at < next) × (next ≤ size)

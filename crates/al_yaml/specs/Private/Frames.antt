@@ -1,13 +1,28 @@
 -- What a stack of open collections stands for: what is still to be read behind the node that is read now.
-use Rattle.std.specs.Prelude.{ℕ, List, Option}
+use Rattle.std.specs.Prelude.{ℕ, ◌+◌, List, false, if◌then◌else◌, Option, Result, Ok}
 use Rattle.al_base.specs.declared.codes.YamlCode.TheVariants as yaml
 use Rattle.al_base.specs.Ascii as ascii
-use Rattle.al_scalar.specs.Line.{Line}
+use Rattle.al_scalar.specs.Line.{Line, start, begins}
+use Rattle.al_scalar.specs.Places.{first_text}
 use Rattle.al_scalar.specs.Scalar.{ScalarRead}
+use Rattle.al_scalar.specs.Taken.{Fault, fault}
+use Rattle.al_yaml_tree.specs.Content.{behind, is_file_end}
 use Rattle.al_yaml_tree.specs.Node.{Node, Nodes, Entries, sequence, mapping, with_item, with_entry, scalar_node}
 use Rattle.al_yaml_tree.specs.Reading.{Reading, fails, Part, with_span}
-use Rattle.al_yaml_tree.specs.Flow.{CollectionReader, flow_items, flow_entries, flow_node_over, rest_behind}
+use Rattle.al_yaml_tree.specs.Flow.{CollectionReader, gap, flow_items, flow_entries, flow_node_over, rest_behind}
 use Rattle.al_yaml_parts.specs.Answers.{Mark}
+
+-- What stands behind an item: a comma, with the lines of what follows it, or the closing bracket with its end.
+pub data After : Type 0 where
+  goes_on : List Line → After
+  closes : ℕ → List Line → After
+
+abbrev pub after_item : ℕ → ℕ → List Line → Result After Fault
+after_item opening close ls =
+    if is_file_end ls then fault yaml.UnclosedFlow opening
+    else (if begins ascii.comma (first_text ls) then Ok (goes_on (gap false (behind 1 ls)))
+    else (if begins close (first_text ls) then Ok (closes (start ls + 1) (behind 1 ls))
+    else fault yaml.UnexpectedCharacter (start ls)))
 
 -- What was read of an open flow collection, up to an item, an entry or the closer.
 pub data Open : Type 0 where

@@ -1,7 +1,6 @@
 use Rattle.std.proofs.Common.{ap}
 use Rattle.std.specs.Prelude.{option_map}
-use Rattle.al_yaml_tree.specs.Reading.{is_later}
-use Rattle.al_yaml_parts.specs.Reads.{anchor_seen, found_in}
+use Rattle.al_yaml_parts.specs.Reads.{anchor_seen, found_in, is_later}
 use Rattle.al_yaml_parts.proofs.anchors.Anchors.has_later.Goals as goal
 
 pub returns-in-Some : goal.returns-in-Some

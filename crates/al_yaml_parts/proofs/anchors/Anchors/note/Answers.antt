@@ -1,6 +1,5 @@
 use Rattle.std.proofs.Common.{ap, sym, ◌∙◌}
-use Rattle.al_yaml_tree.specs.Reading.{is_later}
-use Rattle.al_yaml_parts.specs.Reads.{known_of}
+use Rattle.al_yaml_parts.specs.Reads.{is_later, known_of}
 use Rattle.al_yaml_parts.proofs.AnchorLemmas.{known-put}
 use Rattle.al_yaml_parts.proofs.anchors.Anchors.note.Goals as goal
 
