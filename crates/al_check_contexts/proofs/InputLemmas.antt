@@ -5,8 +5,8 @@ use Rattle.std.specs.Option.{option_map_or}
 use Rattle.std.specs.Prelude.{codes, if◌then◌else◌, option_and_then}
 use Rattle.al_base.specs.Names.{same_name}
 use Rattle.al_tree.specs.Keys.{key_of}
-use Rattle.al_tree.specs.Values.{entries_in, value_at, value_below}
-use Rattle.al_tree_declarations.specs.Declarations.{declared_in, first_named, named_among}
+use Rattle.al_tree.specs.Values.{entries_in, firsts_by, value_at, value_below}
+use Rattle.al_tree_declarations.specs.Declarations.{declared_in, named_among}
 use Rattle.al_check_contexts.specs.Inputs.{input_type, event_inputs, input_field}
 use Rattle.al_tree_declarations.specs.Inputs.{input_of}
 use Rattle.al_types.specs.Puts.{Typed, firsts, put_or_fuse, put_all, put_new}
@@ -82,10 +82,10 @@ module _ (ty : Node × Node → Type') where
       ∙ append_assoc ts (field e ∷ []) (map field rest)
 
   put_named : (seen : List (List ℕ)) (ts : List Typed) (es : List (Node × Node)) → AreAmong ts seen →
-      put_all put_new ts (map field (first_named seen es)) ≡ ts ++ map field (first_named seen es)
+      put_all put_new ts (map field (firsts_by named_among seen es)) ≡ ts ++ map field (firsts_by named_among seen es)
   put_named seen ts [] h = sym (append-nil ts)
   put_named seen ts (e ∷ es) h =
-      named_step seen ts e (first_named (seen ++ key_of e ∷ []) es) (named_among seen (key_of e)) refl h
+      named_step seen ts e (firsts_by named_among (seen ++ key_of e ∷ []) es) (named_among seen (key_of e)) refl h
       (λ us g. put_named (seen ++ key_of e ∷ []) us es g)
 
 once : (o : Option Node) → firsts (map input_field (option_map_or declared_in o [])) ≡ map input_field (option_map_or declared_in o [])

@@ -3,7 +3,7 @@ ghost use Rattle.std.specs.Prelude.{◌≡◌, IfOk, OnOk, IsTrue};
 ghost use Rattle.al_base.specs.Growth.{BeginsWith};
 ghost use Rattle.al_check_contexts.specs.Scopes as scopes;
 ghost use Rattle.al_check_places.specs.Places.{place_of};
-ghost use Rattle.al_check_places.specs.Positions.{position_view, seen_view, section_view};
+ghost use Rattle.al_check_places.specs.Positions.{position_view, section_view};
 ghost use Rattle.al_check_contexts.specs.Answered.{known_of};
 ghost use Rattle.al_check_contexts.specs.Contexts.{type_at};
 ghost use Rattle.al_check_contexts.specs.Lookups.{known_by};
@@ -141,7 +141,7 @@ fn see<'a>(file: File<'a>, env: &mut Env<'a>, seen: Seen) -> Result<(), AllocErr
     ensures shows { OnOk result
         (Shows (env.new).types (env.new).scope.types
         (type_at (file.entry).kind (known_by (env.new).outputs) (view (file.entry).root.now)
-        (position (section_view (env.old).section) (seen_view seen)))) }
+        (position (section_view (env.old).section) seen))) }
     ensures kept { OnOk result
         (BeginsWith (objects_of (env.new).types) (objects_of (env.old).types)) }
 {

@@ -4,7 +4,7 @@ ghost use Rattle.std.specs.Option.{option_copied, option_to_list};
 ghost use Rattle.al_base.specs.Growth.{BeginsWith};
 ghost use Rattle.al_check_contexts.specs.Contexts as contexts;
 ghost use Rattle.al_check_contexts.specs.Contexts.{Known, Owner as StepOwner, step_field, steps_type};
-ghost use Rattle.al_check_places.specs.Positions.{before, seen_view};
+ghost use Rattle.al_check_places.specs.Positions.{before};
 ghost use Rattle.al_check_contexts.specs.Lookups.{step_at};
 ghost use Rattle.al_check_contexts.specs.Made.{known_from};
 ghost use Rattle.al_check_contexts.specs.Numbers.{Keeps, Lists, Means};
@@ -192,7 +192,7 @@ impl<'a> StepFields<'a> {
     pub(crate) fn seen_count(&self, seen: Seen) -> usize
         ensures seen { (types : declared.Types) (known : Known) (o : Option StepOwner)
             → AreStepsOf types known o self.now
-            → steps_type known o (seen_view seen) ≡ steps_type known o (before result) }
+            → steps_type known o seen ≡ steps_type known o (before result) }
         ensures inside { result ≤ length self.now.counts.items - 1 }
     {
         let all = self.counts.len().saturating_sub(1);

@@ -11,7 +11,8 @@ use Rattle.al_base.specs.declared.faults.Fault.{Fault}
 use Rattle.al_base.specs.declared.faults.Span.{Span}
 use Rattle.al_scalar.specs.Line.{Cell}
 use Rattle.al_scalar.specs.Offsets.{AreRising, IsFrom, IsPlaced, reach}
-use Rattle.al_scalar.specs.Scalar.{Scalar, offset_of, offset_or, text_of}
+use Rattle.al_scalar.specs.Private.Located.{offset_or}
+use Rattle.al_scalar.specs.Scalar.{Scalar, offset_of, text_of}
 use Rattle.al_expr_grammar.specs.Chunks.{chunks_of}
 use Rattle.al_expr_grammar.specs.Extents.{extent}
 use Rattle.al_expr_grammar.specs.Grammar.{Binary}

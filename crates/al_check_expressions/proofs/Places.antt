@@ -8,7 +8,8 @@ use Rattle.al_base.specs.Spans.{LiesIn}
 use Rattle.al_base.specs.declared.faults.Span.{Span}
 use Rattle.al_scalar.specs.Line.{Cell}
 use Rattle.al_scalar.specs.Offsets.{AreRising, IsFrom, IsPlaced, is_block, reach}
-use Rattle.al_scalar.specs.Scalar.{Scalar, offset_or, text_of}
+use Rattle.al_scalar.specs.Private.Located.{offset_or}
+use Rattle.al_scalar.specs.Scalar.{Scalar, text_of}
 use Rattle.al_scalar.specs.declared.styles.Style.{Style}
 use Rattle.al_yaml_tree.specs.Access.{entries}
 use Rattle.al_yaml_tree.specs.Node.{Node, Nodes, Entries, scalar, sequence, mapping, no_nodes, item, no_entries, entry}

@@ -1,6 +1,6 @@
 -- What holds of a node and of all that is in it holds of what stands under its keys, and of the calls of a file.
-use Rattle.std.specs.Prelude.{ℕ, ◌+◌, Bool, true, false, List, [], ◌∷◌, codes, Option, Some, None, IfSome, find, option_and_then}
-use Rattle.std.proofs.Common.{cond}
+use Rattle.std.specs.Prelude.{ℕ, ◌+◌, Bool, true, false, not, List, [], ◌∷◌, codes, Option, Some, None, IfSome, find}
+use Rattle.std.specs.Bool.{then_some}
 use Rattle.std.specs.List.{AllByRecursion, enumerate_from}
 use Rattle.al_base.proofs.Elements.{and_some, each_as, each_either, each_of, each_some, found_one, map_or, map_some}
 use Rattle.al_base.specs.declared.faults.Span.{Span}
@@ -8,9 +8,10 @@ use Rattle.al_scalar.specs.Scalar.{Scalar}
 use Rattle.al_yaml_tree.specs.Access.{entries, mapping_in, nodes, scalar_in, sequence_in}
 use Rattle.al_yaml_tree.specs.Node.{Node, Nodes, Entries, scalar, sequence, mapping, span_of}
 use Rattle.al_tree.proofs.Lists.{firsts_kept}
+use Rattle.al_tree.specs.Names.{among}
 use Rattle.al_tree.specs.Faults.{is_key, is_null, value_in}
 use Rattle.al_tree.specs.Keys.{key_of}
-use Rattle.al_tree.specs.Values.{entries_at, entries_in, firsts, items_at, items_in, text_at, text_in, unless_null, value_at}
+use Rattle.al_tree.specs.Values.{entries_at, entries_in, firsts_by, items_at, items_in, text_at, text_in, value_at}
 use Rattle.al_tree.specs.Files.{jobs_of}
 use Rattle.al_tree.specs.declared.files.FileKind.{FileKind}
 use Rattle.al_tree.specs.declared.files.FileKind.TheVariants as kind
@@ -53,23 +54,20 @@ module _ (P : Node → Type 0) (Q : Scalar × Span → Type 0) (kept : IsKept P)
   pub value_kept : (k : List ℕ) (n : Node) → P n → IfSome (value_at k n) P
   value_kept k n p = and_some (AllByRecursion Pair) P (value_in k) (value_in_kept k) (mapping_in n) (mapping_kept n p)
 
-  either_some : (b : Bool) (s : Scalar) (at : Span) → Q (s, at) → IfSome (cond b None (Some s)) (λ r. Q (r, at))
-  either_some true s at q = tt
-  either_some false s at q = q
-
-  not_null : (s : Scalar) (at : Span) → Q (s, at) → IfSome (unless_null s) (λ r. Q (r, at))
-  not_null s at q = either_some (is_null s) s at q
+  either_some : (b : Bool) (t : Scalar × Span) → Q t → IfSome (then_some (not b) t) Q
+  either_some true t q = tt
+  either_some false t q = q
 
   text_in_kept : (n : Node) → P n → IfSome (text_in n) Q
   text_in_kept n p =
-      map_some (λ s. Q (s, span_of n)) Q (λ s. (s, span_of n)) (λ s q. q) (option_and_then unless_null (scalar_in n))
-      (and_some (λ s. Q (s, span_of n)) (λ s. Q (s, span_of n)) unless_null (λ s q. not_null s (span_of n) q) (scalar_in n) (scalar_kept n p))
+      and_some (λ s. Q (s, span_of n)) Q (λ s. then_some (not (is_null s)) (s, span_of n)) (λ s q. either_some (is_null s) (s, span_of n) q)
+      (scalar_in n) (scalar_kept n p)
 
   text_kept : (k : List ℕ) (n : Node) → P n → IfSome (text_at k n) Q
   text_kept k n p = and_some P Q text_in text_in_kept (value_at k n) (value_kept k n p)
 
   entries_in_kept : (n : Node) → P n → AllByRecursion Pair (entries_in n)
-  entries_in_kept n p = map_or (AllByRecursion Pair) Pair (firsts []) (firsts_kept Pair []) (mapping_in n) (mapping_kept n p)
+  entries_in_kept n p = map_or (AllByRecursion Pair) Pair (firsts_by among []) (firsts_kept among Pair []) (mapping_in n) (mapping_kept n p)
 
   items_in_kept : (n : Node) → P n → AllByRecursion P (items_in n)
   items_in_kept n p = map_or (AllByRecursion P) P (λ ns. ns) (λ ns q. q) (sequence_in n) (sequence_kept n p)

@@ -1,6 +1,7 @@
 -- A tree without its places shows what the tree does: for the law `interfaces_of_trees`.
-use Rattle.std.proofs.Common.{◌≡◌, ℕ, List, [], ◌∷◌, ◌++◌, map, Bool, true, false, refl, ap, ◌∙◌, Option, Some, None, option_map}
+use Rattle.std.proofs.Common.{◌≡◌, ℕ, List, [], ◌∷◌, ◌++◌, map, Bool, true, false, not, refl, ap, ◌∙◌, Option, Some, None, option_map}
 use Rattle.std.specs.Prelude.{codes, cond, find, if◌then◌else◌, is_some, option_and_then, ◌||◌}
+use Rattle.std.specs.Bool.{then_some}
 use Rattle.std.specs.List.{cons_option, filter_map, list_any}
 use Rattle.std.specs.Option.{option_map_or, option_to_list}
 use Rattle.std.specs.Str.{bytes_eq}
@@ -13,10 +14,10 @@ use Rattle.al_yaml_tree.specs.Node.{Node, Nodes, Entries, scalar, sequence, mapp
 use Rattle.al_tree.specs.Faults.{is_key, is_null, value_in}
 use Rattle.al_tree.specs.Keys.{key_of, key_text}
 use Rattle.al_tree.specs.Names.{among}
-use Rattle.al_tree.specs.Values.{entries_in, firsts, text_at, text_in, texts_in, unless_null, value_at, value_below}
+use Rattle.al_tree.specs.Values.{entries_in, firsts_by, text_at, text_in, texts_in, value_at, value_below}
 use Rattle.al_tree.specs.declared.files.FileKind.{FileKind}
 use Rattle.al_tree.specs.declared.files.FileKind.TheVariants as kind
-use Rattle.al_tree_declarations.specs.Declarations.{declared_below, declared_in, first_named, has_value, named_among, names_of, says}
+use Rattle.al_tree_declarations.specs.Declarations.{declared_below, declared_in, has_value, named_among, names_of, says}
 use Rattle.al_tree_declarations.specs.Inputs.{input_named, input_of}
 use Rattle.al_tree_declarations.specs.declared.inputs.InputType.TheVariants as input
 use Rattle.al_check_interfaces.specs.Interfaces.{has_default, is_required, is_true, name_of}
@@ -128,17 +129,12 @@ has_same k n = ap is_some (value_same k n) ∙ some_same (value_at k n)
 
 -- texts
 
-unless_same : (b : Bool) (s : Scalar) → (if b then None else Some (placeless_scalar s)) ≡ option_map placeless_scalar (if b then None else Some s)
-unless_same true s = refl
-unless_same false s = refl
-
-placed_same : (o : Option Scalar) (at : Span) →
-    option_map (λ s. (s, span 0 0)) (option_map placeless_scalar o) ≡ option_map placeless_text (option_map (λ s. (s, at)) o)
-placed_same None at = refl
-placed_same (Some s) at = refl
+unless_same : (b : Bool) (s : Scalar) (at : Span) → then_some (not b) (placeless_scalar s, span 0 0) ≡ option_map placeless_text (then_some (not b) (s, at))
+unless_same true s at = refl
+unless_same false s at = refl
 
 text_part : (n : Node) → text_in (placeless n) ≡ option_map placeless_text (text_in n)
-text_part (scalar s at) = ap (option_map (λ s. (s, span 0 0))) (unless_same (is_null s) s) ∙ placed_same (unless_null s) at
+text_part (scalar s at) = unless_same (is_null s) s at
 text_part (sequence ns at) = refl
 text_part (mapping es at) = refl
 
@@ -184,30 +180,23 @@ firsts_step : (b : Bool) (e : Node × Node) (es : List (Node × Node)) →
 firsts_step true e es = refl
 firsts_step false e es = refl
 
-firsts_same : (seen : List (List ℕ)) (es : List (Node × Node)) → firsts seen (map placeless_entry es) ≡ map placeless_entry (firsts seen es)
-firsts_same seen [] = refl
-firsts_same seen (e ∷ es) =
-    ap (λ k. (if among seen k then [] else placeless_entry e ∷ []) ++ firsts (seen ++ k ∷ []) (map placeless_entry es)) (key_same e)
-    ∙ ap (λ ds. (if among seen (key_of e) then [] else placeless_entry e ∷ []) ++ ds) (firsts_same (seen ++ key_of e ∷ []) es)
-    ∙ firsts_step (among seen (key_of e)) e (firsts (seen ++ key_of e ∷ []) es)
-
-named_same : (seen : List (List ℕ)) (es : List (Node × Node)) →
-    first_named seen (map placeless_entry es) ≡ map placeless_entry (first_named seen es)
-named_same seen [] = refl
-named_same seen (e ∷ es) =
-    ap (λ k. (if named_among seen k then [] else placeless_entry e ∷ []) ++ first_named (seen ++ k ∷ []) (map placeless_entry es)) (key_same e)
-    ∙ ap (λ ds. (if named_among seen (key_of e) then [] else placeless_entry e ∷ []) ++ ds) (named_same (seen ++ key_of e ∷ []) es)
-    ∙ firsts_step (named_among seen (key_of e)) e (first_named (seen ++ key_of e ∷ []) es)
+firsts_same : (is_in : List (List ℕ) → List ℕ → Bool) (seen : List (List ℕ)) (es : List (Node × Node)) →
+    firsts_by is_in seen (map placeless_entry es) ≡ map placeless_entry (firsts_by is_in seen es)
+firsts_same is_in seen [] = refl
+firsts_same is_in seen (e ∷ es) =
+    ap (λ k. (if is_in seen k then [] else placeless_entry e ∷ []) ++ firsts_by is_in (seen ++ k ∷ []) (map placeless_entry es)) (key_same e)
+    ∙ ap (λ ds. (if is_in seen (key_of e) then [] else placeless_entry e ∷ []) ++ ds) (firsts_same is_in (seen ++ key_of e ∷ []) es)
+    ∙ firsts_step (is_in seen (key_of e)) e (firsts_by is_in (seen ++ key_of e ∷ []) es)
 
 entries_of_part : (o : Option (List (Node × Node))) →
-    option_map_or (firsts []) (option_map (map placeless_entry) o) [] ≡ map placeless_entry (option_map_or (firsts []) o [])
+    option_map_or (firsts_by among []) (option_map (map placeless_entry) o) [] ≡ map placeless_entry (option_map_or (firsts_by among []) o [])
 entries_of_part None = refl
-entries_of_part (Some es) = firsts_same [] es
+entries_of_part (Some es) = firsts_same among [] es
 
 declared_same : (n : Node) → declared_in (placeless n) ≡ map placeless_entry (declared_in n)
 declared_same n =
-    ap (first_named []) (ap (λ o. option_map_or (firsts []) o []) (mapping_part n) ∙ entries_of_part (mapping_in n))
-    ∙ named_same [] (entries_in n)
+    ap (firsts_by named_among []) (ap (λ o. option_map_or (firsts_by among []) o []) (mapping_part n) ∙ entries_of_part (mapping_in n))
+    ∙ firsts_same named_among [] (entries_in n)
 
 declared_of : (o : Option Node) → option_map_or declared_in (option_map placeless o) [] ≡ map placeless_entry (option_map_or declared_in o [])
 declared_of None = refl

@@ -1,11 +1,10 @@
 -- Where a way leads, as far as the types of contexts depend on it.
-use Rattle.std.specs.Prelude.{ℕ, List, ◌∷◌, ◌&&◌, codes, if◌then◌else◌}
+use Rattle.std.specs.Prelude.{ℕ, List, ◌∷◌, ◌&&◌, ◌||◌, codes, if◌then◌else◌}
 use Rattle.std.specs.Str.{bytes_eq}
 use Rattle.al_tree.specs.declared.files.FileKind.{FileKind}
 use Rattle.al_tree.specs.declared.files.FileKind.TheVariants as kind
 use Rattle.al_check_places.specs.Ways.{WayStep, under, nth}
 use Rattle.al_check_places.specs.declared.positions.Section as rust_section
-use Rattle.al_check_places.specs.declared.positions.Seen as rust_seen
 use Rattle.al_check_places.specs.declared.positions.Position as rust
 
 -- below `on`, in a job with a key, or anywhere else
@@ -15,10 +14,8 @@ pub data Section : Type 0 where
   in_job : List ℕ → Section
 
 -- the steps that are seen: none, those before the nth, all
-pub data Seen : Type 0 where
-  no_step : Seen
-  before : ℕ → Seen
-  every_step : Seen
+pub use Rattle.al_check_places.specs.declared.positions.Seen.{Seen}
+pub use Rattle.al_check_places.specs.declared.positions.Seen.TheVariants.{Nothing as no_step, Before as before, Everything as every_step}
 
 pub record Position : Type 0 where
   pub section : Section
@@ -34,8 +31,7 @@ seen_in_item k i = if bytes_eq k (codes "steps") then before i else no_step
 
 abbrev pub seen_below : List ℕ → List ℕ → Seen
 seen_below a b =
-    if bytes_eq a (codes "outputs") then every_step
-    else if bytes_eq a (codes "environment") && bytes_eq b (codes "url") then every_step else no_step
+    if bytes_eq a (codes "outputs") || (bytes_eq a (codes "environment") && bytes_eq b (codes "url")) then every_step else no_step
 
 abbrev pub seen_at : FileKind → List WayStep → Seen
 seen_at kind.Workflow (jobs ∷ job ∷ under a ∷ nth i ∷ more) = seen_in_item a i
@@ -53,10 +49,5 @@ section_view rust_section.TheVariants.Apart = apart
 section_view rust_section.TheVariants.On = in_on
 section_view (rust_section.TheVariants.Job k) = in_job k.now
 
-abbrev pub seen_view : rust_seen.Seen → Seen
-seen_view rust_seen.TheVariants.Nothing = no_step
-seen_view (rust_seen.TheVariants.Before n) = before n
-seen_view rust_seen.TheVariants.Everything = every_step
-
 abbrev pub position_view : rust.Position → Position
-position_view p = record { section = section_view p.section; seen = seen_view p.seen }
+position_view p = record { section = section_view p.section; seen = p.seen }

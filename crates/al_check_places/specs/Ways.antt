@@ -26,29 +26,17 @@ abbrev pub is_one : List Path → List (List ℕ) → Bool
 is_one paths ks = list_any (λ p. begins p ks && (length p == length ks)) paths
 
 -- Of a workflow: all but `needs`, `id` and `uses`, and of `on` the defaults and values of a call.
-abbrev pub of_call : List Path
-of_call = map path ("on.workflow_call.inputs.*.default" ∷ "on.workflow_call.outputs.*.value" ∷ [])
-
-abbrev pub not_in_workflow : List Path
-not_in_workflow =
-    map path ("jobs.*.needs" ∷ "jobs.*.uses" ∷ "jobs.*.steps.id" ∷ "jobs.*.steps.uses" ∷ [])
-
 abbrev pub is_checked_in_workflow : List (List ℕ) → Bool
 is_checked_in_workflow ks =
-    if begins (path "on") ks then begins_one of_call ks else not (begins_one not_in_workflow ks)
+    if begins (path "on") ks then begins_one (map path ("on.workflow_call.inputs.*.default" ∷ "on.workflow_call.outputs.*.value" ∷ [])) ks
+    else not (begins_one (map path ("jobs.*.needs" ∷ "jobs.*.uses" ∷ "jobs.*.steps.id" ∷ "jobs.*.steps.uses" ∷ [])) ks)
 
--- Of an action: the defaults of inputs, the values of outputs, and below `runs` all but `using`, `id` and `uses`.
-abbrev pub of_interface : List Path
-of_interface = map path ("inputs.*.default" ∷ "outputs.*.value" ∷ [])
-
-abbrev pub not_in_runs : List Path
-not_in_runs = map path ("runs.using" ∷ "runs.steps.id" ∷ "runs.steps.uses" ∷ [])
-
--- a default or value is checked where it is itself a scalar: its way has no further key and no position
+-- Of an action: the defaults of inputs, the values of outputs, and below `runs` all but `using`, `id` and `uses`. A default or value
+-- is checked where it is itself a scalar: its way has no further key and no position.
 abbrev pub is_checked_in_action : ℕ → List (List ℕ) → Bool
 is_checked_in_action steps ks =
-    if begins (path "runs") ks then not (begins_one not_in_runs ks)
-    else begins_one of_interface ks && (steps == 3)
+    if begins (path "runs") ks then not (begins_one (map path ("runs.using" ∷ "runs.steps.id" ∷ "runs.steps.uses" ∷ [])) ks)
+    else begins_one (map path ("inputs.*.default" ∷ "outputs.*.value" ∷ [])) ks && (steps == 3)
 
 abbrev pub is_checked : FileKind → List WayStep → Bool
 is_checked kind.Workflow way = is_checked_in_workflow (keys_of way)

@@ -1,7 +1,7 @@
 //! Where a way leads, as far as the types of contexts depend on it.
 ghost use Rattle.std.specs.Prelude.{◌≡◌, map};
 ghost use Rattle.al_check_places.specs.Positions as positions;
-ghost use Rattle.al_check_places.specs.Positions.{position_view, section_view, seen_view};
+ghost use Rattle.al_check_places.specs.Positions.{position_view, section_view};
 ghost use Rattle.al_check_places.specs.Ways.{step_of};
 
 use crate::ways::WayStep;
@@ -48,7 +48,7 @@ fn section_at<'a>(way: &[WayStep<'a>]) -> Section<'a>
 
 /// The steps that are seen from an item of the list under a key: of `steps` those before it.
 fn seen_in_item(key: &[u8], i: usize) -> Seen
-    ensures { seen_view result ≡ positions.seen_in_item key.now i }
+    ensures { result ≡ positions.seen_in_item key.now i }
 {
     if key == b"steps".as_slice() {
         Seen::Before(i)
@@ -59,11 +59,11 @@ fn seen_in_item(key: &[u8], i: usize) -> Seen
 
 /// The steps that are seen below two keys: in `outputs` and `environment.url` all.
 fn seen_below(first: &[u8], second: &[u8]) -> Seen
-    ensures { seen_view result ≡ positions.seen_below first.now second.now }
+    ensures { result ≡ positions.seen_below first.now second.now }
 {
-    if first == b"outputs".as_slice() {
-        Seen::Everything
-    } else if first == b"environment".as_slice() && second == b"url".as_slice() {
+    if first == b"outputs".as_slice()
+        || first == b"environment".as_slice() && second == b"url".as_slice()
+    {
         Seen::Everything
     } else {
         Seen::Nothing
@@ -72,7 +72,7 @@ fn seen_below(first: &[u8], second: &[u8]) -> Seen
 
 /// The steps that are seen where a way leads in a file of a kind.
 fn seen_at(kind: FileKind, way: &[WayStep<'_>]) -> Seen
-    ensures { seen_view result ≡ positions.seen_at kind (map step_of way.now) }
+    ensures { result ≡ positions.seen_at kind (map step_of way.now) }
 {
     match kind {
         FileKind::Workflow => match way {

@@ -1,6 +1,6 @@
 //! Ways from the root of a file to a scalar, and which of them lead to an expression.
-ghost use Rattle.std.specs.Prelude.{◌≡◌, map, IfOk, IsTrue};
-ghost use Rattle.al_check_places.specs.Paths.{key_of};
+ghost use Rattle.std.specs.Prelude.{◌≡◌, [], ◌∷◌, map, IfOk, IsTrue};
+ghost use Rattle.al_check_places.specs.Paths.{key_of, path};
 ghost use Rattle.al_check_places.specs.Ways as ways;
 ghost use Rattle.al_check_places.specs.Private.Endings.{is_condition_key};
 ghost use Rattle.al_check_places.specs.Ways.{begins_one, is_one, keys_of, step_of};
@@ -79,25 +79,29 @@ const SCRIPTS: &[&[Key]] = &[
 ];
 
 fn of_call() -> &'static [&'static [Key]]
-    ensures { map (λ p. map key_of p.now) result.now ≡ ways.of_call }
+    ensures { map (λ p. map key_of p.now) result.now
+        ≡ map path ("on.workflow_call.inputs.*.default" ∷ "on.workflow_call.outputs.*.value" ∷ []) }
 {
     OF_CALL
 }
 
 fn not_in_workflow() -> &'static [&'static [Key]]
-    ensures { map (λ p. map key_of p.now) result.now ≡ ways.not_in_workflow }
+    ensures { map (λ p. map key_of p.now) result.now
+        ≡ map path ("jobs.*.needs" ∷ "jobs.*.uses" ∷ "jobs.*.steps.id" ∷ "jobs.*.steps.uses" ∷ []) }
 {
     NOT_IN_WORKFLOW
 }
 
 fn of_interface() -> &'static [&'static [Key]]
-    ensures { map (λ p. map key_of p.now) result.now ≡ ways.of_interface }
+    ensures { map (λ p. map key_of p.now) result.now
+        ≡ map path ("inputs.*.default" ∷ "outputs.*.value" ∷ []) }
 {
     OF_INTERFACE
 }
 
 fn not_in_runs() -> &'static [&'static [Key]]
-    ensures { map (λ p. map key_of p.now) result.now ≡ ways.not_in_runs }
+    ensures { map (λ p. map key_of p.now) result.now
+        ≡ map path ("runs.using" ∷ "runs.steps.id" ∷ "runs.steps.uses" ∷ []) }
 {
     NOT_IN_RUNS
 }

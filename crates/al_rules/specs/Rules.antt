@@ -7,16 +7,14 @@ use Rattle.al_base.specs.declared.codes.RuleCode.TheVariants.{MissingOutputValue
 use Rattle.al_base.specs.declared.faults.Fault.{Fault}
 use Rattle.al_yaml_tree.specs.Access.{scalar_in}
 use Rattle.al_yaml_tree.specs.Node.{Node, span_of}
-use Rattle.al_yaml_tree.specs.View.{view}
 use Rattle.al_tree.specs.Faults.{runs_of}
 use Rattle.al_tree.specs.Values.{entries_at, items_at, key_at, text_at, text_below, value_at, value_below}
-use Rattle.al_tree.specs.Files.{jobs_of}
+use Rattle.al_tree.specs.Files.{jobs_of, kind_in, root_of}
 use Rattle.al_tree.specs.declared.table.Shape.{Shape}
 use Rattle.al_tree.specs.declared.table.Shape.TheVariants.{CompositeRuns, DockerRuns, NodeRuns}
 use Rattle.al_tree.specs.declared.files.FileKind.{FileKind}
 use Rattle.al_tree.specs.declared.files.FileKind.TheVariants as kind
 use Rattle.al_tree.specs.declared.files.Tree.{Tree}
-use Rattle.al_tree.specs.declared.files.Tree.TheVariants as tree
 use Rattle.al_rules.specs.Events.{on_faults}
 use Rattle.al_rules_settings.specs.Ids.{ids_faults}
 use Rattle.al_rules_settings.specs.Matrix.{matrix_faults}
@@ -123,8 +121,7 @@ AreRuleFaults kind.Workflow root found = IsWorkflowFaults root found
 AreRuleFaults kind.Action root found = found ≡ action_faults root
 
 abbrev pub IsRuleFaults : Tree → List Fault → Type 0
-IsRuleFaults (tree.Workflow w) found = AreRuleFaults kind.Workflow (view w.root) found
-IsRuleFaults (tree.Action a) found = AreRuleFaults kind.Action (view a.root) found
+IsRuleFaults file found = AreRuleFaults (kind_in file) (root_of file) found
 
 -- The list has what it had, and some faults that are the rules', each of which it has now.
 pub record AddsRules (file : Tree) (old new : List Fault) : Type 0 where

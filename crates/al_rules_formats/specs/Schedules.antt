@@ -1,6 +1,9 @@
 -- The grammar of schedules, and their minutes (GitHub, "Events that trigger workflows", `schedule`).
-use Rattle.std.specs.Prelude.{ℕ, List, [], ◌∷◌, Bool, true, false, Option, Some, None, option_map, option_and_then, map}
-use Rattle.std.specs.Prelude.{◌-◌, ◌%◌, ◌==◌, nat_lt, nat_le, ◌&&◌, not, codes, if◌then◌else◌, find, is_some}
+use Rattle.std.specs.Prelude.{ℕ, List, [], ◌∷◌, Bool, Option, Some, None, option_map, option_and_then, map, length}
+use Rattle.std.specs.Prelude.{◌-◌, ◌%◌, ◌==◌, nat_lt, nat_le, ◌&&◌, codes, if◌then◌else◌, is_some}
+use Rattle.std.specs.Bool.{then_some}
+use Rattle.std.specs.Int.{is_in_range}
+use Rattle.std.specs.Map.{lookup}
 use Rattle.std.specs.List.{list_all, list_any, filter, range_with_len}
 use Rattle.std.specs.Option.{option_or, unwrap_or}
 use Rattle.std.specs.Str.{bytes_eq}
@@ -17,10 +20,10 @@ pub record Range : Type 0 where
   pub high : ℕ
   pub names : List (List ℕ × ℕ)
 
--- An item has the numbers from its low one on, each step-th one, up to its high one.
+abbrev pub range : ℕ → ℕ → List (List ℕ × ℕ) → Range
+range low high names = record { low = low; high = high; names = names }
 
-abbrev pub between : ℕ → ℕ → Range
-between low high = record { low = low; high = high; names = [] }
+-- An item has the numbers from its low one on, each step-th one, up to its high one.
 
 abbrev pub month_names : List (List ℕ × ℕ)
 month_names =
@@ -31,46 +34,20 @@ abbrev pub day_names : List (List ℕ × ℕ)
 day_names =
     (codes "sun", 0) ∷ (codes "mon", 1) ∷ (codes "tue", 2) ∷ (codes "wed", 3) ∷ (codes "thu", 4) ∷ (codes "fri", 5) ∷ (codes "sat", 6) ∷ []
 
-abbrev pub minutes : Range
-minutes = between 0 59
-
-abbrev pub hours : Range
-hours = between 0 23
-
-abbrev pub days : Range
-days = between 1 31
-
-abbrev pub months : Range
-months = record { low = 1; high = 12; names = month_names }
-
-abbrev pub weekdays : Range
-weekdays = record { low = 0; high = 6; names = day_names }
-
-abbrev pub is_empty : List ℕ → Bool
-is_empty [] = true
-is_empty (b ∷ bs) = false
-
 -- the number that digits write
 abbrev pub number_of : List ℕ → Option ℕ
-number_of bs = if not (is_empty bs) && list_all is_ascii_digit bs then Some (decimal bs) else None
-
-abbrev pub in_range : ℕ → ℕ → ℕ → Option ℕ
-in_range low high n = if nat_le low n && nat_le n high then Some n else None
+number_of bs = then_some (nat_lt 0 (length bs) && list_all is_ascii_digit bs) (decimal bs)
 
 abbrev pub number_in : ℕ → ℕ → List ℕ → Option ℕ
-number_in low high bs = option_and_then (in_range low high) (number_of bs)
+number_in low high bs = option_and_then (λ n. then_some (is_in_range low high n) n) (number_of bs)
 
--- a name without case
-abbrev pub name_in : List (List ℕ × ℕ) → List ℕ → Option ℕ
-name_in names bs = option_map (λ p. p.1) (find (λ p. same_name bs p.0) names)
-
--- a value: a name, or a number in the range
+-- a value: a name without case, or a number in the range
 abbrev pub value_in : Range → List ℕ → Option ℕ
-value_in r bs = option_or (name_in r.names bs) (number_in r.low r.high bs)
+value_in r bs = option_or (lookup (same_name bs) r.names) (number_in r.low r.high bs)
 
 -- the numbers from one value to another in steps, if they don't descend
 abbrev pub from_to : ℕ → ℕ → ℕ → Option Item
-from_to step a b = if nat_le a b then Some (record { low = a; high = b; step = step }) else None
+from_to step a b = then_some (nat_le a b) (record { low = a; high = b; step = step })
 
 -- what is meant by a value, with a step all from it on
 abbrev pub from_value : Range → Option ℕ → ℕ → Option Item
@@ -107,12 +84,13 @@ is_field r bs = is_some (field_of r bs)
 
 -- the texts between spaces
 abbrev pub words : List ℕ → List (List ℕ)
-words bs = filter (λ w. not (is_empty w)) (pieces ascii.space bs)
+words bs = filter (λ w. nat_lt 0 (length w)) (pieces ascii.space bs)
 
 -- Five fields: minutes, hours, days of the month, months, days of the week. If all are right, the minutes' items.
 abbrev pub minutes_in : List (List ℕ) → Option (List Item)
 minutes_in (m ∷ h ∷ d ∷ o ∷ w ∷ []) =
-    if is_field hours h && is_field days d && is_field months o && is_field weekdays w then field_of minutes m else None
+    if is_field (range 0 23 []) h && is_field (range 1 31 []) d && is_field (range 1 12 month_names) o && is_field (range 0 6 day_names) w
+    then field_of (range 0 59 []) m else None
 minutes_in _ = None
 
 abbrev pub schedule_of : List ℕ → Option (List Item)

@@ -1,16 +1,18 @@
 //! Schedules: five fields, each a set of numbers (GitHub, "Events that trigger workflows", `schedule`).
 
-ghost use Rattle.al_rules_formats.specs.Schedules as spec;
-ghost use Rattle.al_rules_formats.specs.Schedules.{all_of, are_close as close, field_of, from_to as numbers_from_to, head_of, is_empty};
+ghost use Rattle.al_rules_formats.specs.Schedules.{all_of, are_close as close, field_of, from_to as numbers_from_to, head_of};
 ghost use Rattle.al_rules_formats.specs.Schedules.{is_field as field_is_right, is_just_below, is_too_often as too_often};
 ghost use Rattle.al_rules_formats.specs.Schedules.{item_of, minute_set};
-ghost use Rattle.al_rules_formats.specs.Schedules.{minutes_in, name_in, number_in as in_range_number, number_of, picks as item_picks};
-ghost use Rattle.al_rules_formats.specs.Schedules.{schedule_of, value_in, words};
+ghost use Rattle.al_rules_formats.specs.Schedules.{day_names, minutes_in, month_names, number_in as in_range_number, number_of};
+ghost use Rattle.al_rules_formats.specs.Schedules.{picks as item_picks};
+ghost use Rattle.al_rules_formats.specs.Schedules.{range, schedule_of, value_in, words};
 ghost use Rattle.al_rules_formats.specs.Texts.{pieces};
 ghost use Rattle.al_base.specs.Ascii as ascii;
 ghost use Rattle.al_rules_formats.specs.Private.Views.{least_thousand, range_of, range_name};
+ghost use Rattle.al_base.specs.Names.{same_name};
 ghost use Rattle.std.specs.List.{list_any, filter};
-ghost use Rattle.std.specs.Prelude.{◌≡◌, ◌<◌, ◌≤◌, ◌+◌, ◌*◌, ◌&&◌, [], ◌∷◌, ◌++◌, map, not, option_map, IfOk, OnOk};
+ghost use Rattle.std.specs.Map.{lookup};
+ghost use Rattle.std.specs.Prelude.{◌≡◌, ◌<◌, ◌≤◌, ◌+◌, ◌*◌, ◌&&◌, [], ◌∷◌, ◌++◌, map, length, nat_lt, option_map, IfOk, OnOk};
 
 use crate::texts::split;
 use al_base::is_same_name;
@@ -189,7 +191,7 @@ fn number_in(low: u32, high: u32, text: &[u8]) -> Option<u32>
 
 /// The number that a name stands for.
 fn named_number(names: &[Name], text: &[u8]) -> Option<u32>
-    ensures { result ≡ name_in (map range_name names.now) text.now }
+    ensures { result ≡ lookup (same_name text.now) (map range_name names.now) }
 {
     for name in names {
         if is_same_name(text, name.name.as_bytes()) {
@@ -326,7 +328,7 @@ fn words_of(alloc: Global, text: &[u8]) -> Result<Vec<&[u8]>, AllocError>
 fn without_empty<'a>(alloc: Global, parts: &[&'a [u8]]) -> Result<Vec<&'a [u8]>, AllocError>
     ensures { IfOk result
         (λ v. map (λ p. p.now) v.items
-        ≡ filter (λ w. not (is_empty w)) (map (λ p. p.now) parts.now)) }
+        ≡ filter (λ w. nat_lt 0 (length w)) (map (λ p. p.now) parts.now)) }
 {
     let mut found = Vec::new(alloc);
     for part in parts {
@@ -346,8 +348,10 @@ fn are_right(
     weekdays: &[u8],
 ) -> Result<bool, AllocError>
     ensures { IfOk result
-        (λ r. r ≡ (field_is_right spec.hours hours.now && field_is_right spec.days days.now
-        && field_is_right spec.months months.now && field_is_right spec.weekdays weekdays.now)) }
+        (λ r. r ≡ (field_is_right (range 0 23 []) hours.now
+        && field_is_right (range 1 31 []) days.now
+        && field_is_right (range 1 12 month_names) months.now
+        && field_is_right (range 0 6 day_names) weekdays.now)) }
 {
     if !is_field(alloc, HOURS, hours)? {
         return Ok(false);

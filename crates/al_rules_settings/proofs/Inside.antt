@@ -1,6 +1,7 @@
 -- Nodes and texts that lie in a file, under any key, and faults that name them.
-use Rattle.std.specs.Prelude.{ℕ, Bool, true, false, List, [], ◌∷◌, ◌++◌, Option, Some, None, IfSome, find, option_and_then}
+use Rattle.std.specs.Prelude.{ℕ, Bool, true, false, not, List, [], ◌∷◌, ◌++◌, Option, Some, None, IfSome, find}
 use Rattle.std.proofs.Common.{cond}
+use Rattle.std.specs.Bool.{then_some}
 use Rattle.std.specs.List.{AllByRecursion, filter_map}
 use Rattle.std.specs.Option.{option_map_or, option_to_list}
 use Rattle.al_base.proofs.Elements.{and_some, each_both, each_either, each_some, found_one, map_or, map_some, to_list}
@@ -15,8 +16,9 @@ use Rattle.al_yaml_tree.specs.Access.{entries, mapping_in, nodes, scalar_in, seq
 use Rattle.al_yaml_tree.specs.Node.{Node, Nodes, Entries, scalar, sequence, mapping, no_nodes, item, no_entries, entry, span_of}
 use Rattle.al_yaml_tree.specs.Spans.{AreLaid, EntriesLaid, IsLaid}
 use Rattle.al_tree.proofs.Lists.{firsts_kept}
+use Rattle.al_tree.specs.Names.{among}
 use Rattle.al_tree.specs.Faults.{is_key, is_null, value_in}
-use Rattle.al_tree.specs.Values.{entries_at, entries_in, firsts, items_at, items_in, key_at, key_in, text_at, text_below, text_in, texts_at, texts_in, unless_null, value_at, value_below}
+use Rattle.al_tree.specs.Values.{entries_at, entries_in, firsts_by, items_at, items_in, key_at, key_in, text_at, text_below, text_in, texts_at, texts_in, value_at, value_below}
 use Rattle.al_rules_settings.specs.Words.{Named, about, fault, of_key, unless}
 
 abbrev pub Lies : ℕ → Fault → Type 0
@@ -84,17 +86,14 @@ module _ (size : ℕ) where
   below_fine [] n f = f
   below_fine (k ∷ ks) n f = and_some (Fine size) (Fine size) (value_below ks) (below_fine ks) (value_at k n) (value_fine k n f)
 
-  either_some : (b : Bool) (s : Scalar) (at : Span) → Text size (s, at) → IfSome (cond b None (Some s)) (λ r. Text size (r, at))
-  either_some true s at t = tt
-  either_some false s at t = t
-
-  not_null : (s : Scalar) (at : Span) → Text size (s, at) → IfSome (unless_null s) (λ r. Text size (r, at))
-  not_null s at t = either_some (is_null s) s at t
+  either_some : (b : Bool) (t : Scalar × Span) → Text size t → IfSome (then_some (not b) t) (Text size)
+  either_some true t h = tt
+  either_some false t h = h
 
   pub text_fine : (n : Node) → Fine size n → IfSome (text_in n) (Text size)
   text_fine n f =
-      map_some (λ s. Text size (s, span_of n)) (Text size) (λ s. (s, span_of n)) (λ s t. t) (option_and_then unless_null (scalar_in n))
-      (and_some (λ s. Text size (s, span_of n)) (λ s. Text size (s, span_of n)) unless_null (λ s t. not_null s (span_of n) t) (scalar_in n) (scalar_fine n f))
+      and_some (λ s. Text size (s, span_of n)) (Text size) (λ s. then_some (not (is_null s)) (s, span_of n)) (λ s t. either_some (is_null s) (s, span_of n) t)
+      (scalar_in n) (scalar_fine n f)
 
   pub text_at_fine : (k : List ℕ) (n : Node) → Fine size n → IfSome (text_at k n) (Text size)
   text_at_fine k n f = and_some (Fine size) (Text size) text_in text_fine (value_at k n) (value_fine k n f)
@@ -103,7 +102,7 @@ module _ (size : ℕ) where
   text_below_fine ks n f = and_some (Fine size) (Text size) text_in text_fine (value_below ks n) (below_fine ks n f)
 
   pub entries_in_fine : (n : Node) → Fine size n → AllByRecursion Pair (entries_in n)
-  entries_in_fine n f = map_or (AllByRecursion Pair) Pair (firsts []) (firsts_kept Pair []) (mapping_in n) (mapping_fine n f)
+  entries_in_fine n f = map_or (AllByRecursion Pair) Pair (firsts_by among []) (firsts_kept among Pair []) (mapping_in n) (mapping_fine n f)
 
   pub items_in_fine : (n : Node) → Fine size n → AllByRecursion (Fine size) (items_in n)
   items_in_fine n f = map_or (AllByRecursion (Fine size)) (Fine size) (λ ns. ns) (λ ns p. p) (sequence_in n) (sequence_fine n f)

@@ -1,10 +1,10 @@
 -- Offsets of a block scalar's text.
 use Rattle.std.proofs.Common.{◌≡◌, ℕ, ◌+◌, ◌-◌, ◌<◌, ◌≤◌, List, [], ◌∷◌, ◌++◌, drop, refl, sym, subst, arith, Bool, true, false, not}
 use Rattle.std.proofs.Common.{if◌then◌else◌, ◌&&◌, ◌||◌, nat_le, Option, Some, None, Result, Ok, Err}
-use Rattle.std.specs.Option.{is_some}
+use Rattle.std.specs.Option.{is_none, is_some, unwrap_or}
 use Rattle.al_base.specs.Ascii as ascii
 use Rattle.al_scalar.specs.Line.{Cell, Line, place, start, is_empty, begins, after_blanks, begins_blank, is_comment, indent, is_all_blank}
-use Rattle.al_scalar.specs.Block.{header_end, after_digit, after_sign, header, is_digit, is_sign}
+use Rattle.al_scalar.specs.Block.{header_end, header, is_digit, is_sign}
 use Rattle.al_scalar.specs.declared.header.Chomping.{Chomping}
 use Rattle.al_scalar.specs.declared.header.Chomping.TheVariants.{Strip, Clip, Keep}
 use Rattle.al_scalar.specs.declared.header.Header.{Header}
@@ -197,31 +197,15 @@ EndsBefore end (Err e) = Unit {0}
 header_end-from : (end : ℕ) (h : Header) (cs : List Cell) → h.end ≤ end → EndsBefore end (header_end h cs)
 header_end-from end h cs a = choose (EndsBefore end) (is_empty (after_blanks cs) || (begins_blank cs && is_comment cs)) (λ _. a) (λ _. tt)
 
-after_digit-from : (d at end : ℕ) (cs : List Cell) → AreClimbing at end cs → EndsBefore end (after_digit d at cs)
-after_digit-from d at end [] h = header_end-from end (record { digit = Some d; chomping = Clip; end = at }) [] h
-after_digit-from d at end (c ∷ cs) h =
-    let a = climbing-order (c.1 + 1) end cs h.1 in
-    let b = h.0 in
-    choose (EndsBefore end) (is_sign c.0) (λ _. header_end-from end (record { digit = Some d; chomping = chomping_of c.0; end = at + 1 }) cs (omega (arith, a, b)))
-    (λ _. header_end-from end (record { digit = Some d; chomping = Clip; end = at }) (c ∷ cs) (omega (arith, a, b)))
-
-after_sign-from : (k : Chomping) (at end : ℕ) (cs : List Cell) → AreClimbing at end cs → EndsBefore end (after_sign k at cs)
-after_sign-from k at end [] h = header_end-from end (record { digit = None; chomping = k; end = at }) [] h
-after_sign-from k at end (c ∷ cs) h =
-    let a = climbing-order (c.1 + 1) end cs h.1 in
-    let b = h.0 in
-    choose (EndsBefore end) (is_digit c.0) (λ _. header_end-from end (record { digit = Some (c.0 - 48); chomping = k; end = at + 1 }) cs (omega (arith, a, b)))
-    (λ _. header_end-from end (record { digit = None; chomping = k; end = at }) (c ∷ cs) (omega (arith, a, b)))
-
-header-from : (at end : ℕ) (cs : List Cell) → AreClimbing at end cs → EndsBefore end (header at cs)
-header-from at end [] h = header_end-from end (record { digit = None; chomping = Clip; end = at }) [] h
-header-from at end (c ∷ cs) h =
+header-from : (digit : Option ℕ) (sign : Option Chomping) (at end : ℕ) (cs : List Cell) → AreClimbing at end cs → EndsBefore end (header digit sign at cs)
+header-from digit sign at end [] h = header_end-from end (record { digit = digit; chomping = unwrap_or sign Clip; end = at }) [] h
+header-from digit sign at end (c ∷ cs) h =
     let a = climbing-order (c.1 + 1) end cs h.1 in
     let b = h.0 in
     let more = climbing-lower (c.1 + 1) (at + 1) end cs (omega (arith, b)) h.1 in
-    choose (EndsBefore end) (is_digit c.0) (λ _. after_digit-from (c.0 - 48) (at + 1) end cs more)
-    (λ _. choose (EndsBefore end) (is_sign c.0) (λ _. after_sign-from (chomping_of c.0) (at + 1) end cs more)
-    (λ _. header_end-from end (record { digit = None; chomping = Clip; end = at }) (c ∷ cs) (omega (arith, a, b))))
+    choose (EndsBefore end) (is_none digit && is_digit c.0) (λ _. header-from (Some (c.0 - 48)) sign (at + 1) end cs more)
+    (λ _. choose (EndsBefore end) (is_none sign && is_sign c.0) (λ _. header-from digit (Some (chomping_of c.0)) (at + 1) end cs more)
+    (λ _. header_end-from end (record { digit = digit; chomping = unwrap_or sign Clip; end = at }) (c ∷ cs) (omega (arith, a, b))))
 
 pub behind-indicator : (q low end : ℕ) (cs : List Cell) → begins q cs ≡ true → AreClimbing low end cs → AreClimbing (place cs end + 1) end (drop 1 cs)
 behind-indicator q low end [] e h = absurd cc
@@ -258,4 +242,4 @@ pub block-from : (is_literal : Bool) (within low q : ℕ) (l : Line) (ls : List 
 block-from is_literal within low q l ls e h =
     let at = place l.text l.end in
     block-by is_literal within at l ls (climbing-order at l.end l.text (climbing-place low l.end l.text h.0).1) h.1
-    (header (at + 1) (drop 1 l.text)) (header-from (at + 1) l.end (drop 1 l.text) (behind-indicator q low l.end l.text e h.0))
+    (header None None (at + 1) (drop 1 l.text)) (header-from None None (at + 1) l.end (drop 1 l.text) (behind-indicator q low l.end l.text e h.0))

@@ -21,17 +21,17 @@ abbrev pub body : Bool → ℕ → List Line → Header → Result Taken Fault
 body lit within xs h = Ok (of_rows lit h.chomping None [] h.end (rows_behind within xs h))
 
 block-body : (lit : Bool) (within : ℕ) (xs : List Line) → has_line xs ≡ true
-    → block_scalar lit within xs ≡ (header (place (first_text xs) (first_end xs) + 1) (drop 1 (first_text xs)) >>= body lit within xs)
+    → block_scalar lit within xs ≡ (header None None (place (first_text xs) (first_end xs) + 1) (drop 1 (first_text xs)) >>= body lit within xs)
 block-body lit within [] h = cc
 block-body lit within (l ∷ ls) h = refl
 
 module _ (lit : Bool) (within : ℕ) (bytes : List ℕ) (at : ℕ) (here : IsInside bytes at) (end : ℕ) (given : Result Header Fault)
-    (e : header (at + 1) (first_text (lines_at bytes (at + 1))) ≡ given) where
+    (e : header None None (at + 1) (first_text (lines_at bytes (at + 1))) ≡ given) where
   block-given : block_scalar lit within (lines_at bytes at) ≡ (given >>= body lit within (lines_at bytes at))
   block-given =
       let xs = lines_at bytes at in
       block-body lit within xs (lines_at-some bytes at)
-      ∙ ap (λ t. header (place t (first_end xs) + 1) (drop 1 t) >>= body lit within xs) (cell_at bytes at here.inside here.not_feed here.not_return).text
+      ∙ ap (λ t. header None None (place t (first_end xs) + 1) (drop 1 t) >>= body lit within xs) (cell_at bytes at here.inside here.not_feed here.not_return).text
       ∙ ap (λ r. r >>= body lit within xs) e
 
   pub block-fault : (f : Fault) → given ≡ Err f → block_scalar lit within (lines_at bytes at) ≡ Err f

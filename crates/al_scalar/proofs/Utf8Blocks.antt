@@ -92,4 +92,4 @@ block-by is_literal within l ls u (Ok h) =
 
 pub block-text : (is_literal : Bool) (within : ℕ) (ls : List Line) → AreUtf8 ls → TakesText (block_scalar is_literal within ls)
 block-text is_literal within [] u = tt
-block-text is_literal within (l ∷ ls) u = block-by is_literal within l ls u.1 (header (place l.text l.end + 1) (drop 1 l.text))
+block-text is_literal within (l ∷ ls) u = block-by is_literal within l ls u.1 (header None None (place l.text l.end + 1) (drop 1 l.text))

@@ -1,6 +1,6 @@
 -- Block scalars (8.1).
 use Rattle.std.specs.Prelude.{ℕ, ◌+◌, ◌-◌, List, [], ◌∷◌, ◌++◌, drop, Bool, true, not, ◌&&◌, ◌||◌, ◌==◌, nat_le, if◌then◌else◌}
-use Rattle.std.specs.Prelude.{Option, Some, None, is_some, Result, Ok}
+use Rattle.std.specs.Prelude.{Option, Some, None, is_none, is_some, unwrap_or, Result, Ok}
 use Rattle.std.specs.Option.{option_map_or}
 use Rattle.al_base.specs.Ascii as ascii
 use Rattle.al_base.specs.declared.codes.YamlCode.TheVariants as yaml
@@ -25,25 +25,13 @@ header_end h cs =
     if is_empty (after_blanks cs) || (begins_blank cs && is_comment cs) then Ok h
     else fault yaml.WrongBlockHeader (place (after_blanks cs) 0)
 
--- The header from behind the indicator, whose end is at: a digit and a sign in either order.
-abbrev pub after_digit : ℕ → ℕ → List Cell → Result Header Fault
-after_digit d at [] = header_end (record { digit = Some d; chomping = Clip; end = at }) []
-after_digit d at (c ∷ cs) =
-    if is_sign c.0 then header_end (record { digit = Some d; chomping = chomping_of c.0; end = at + 1 }) cs
-    else header_end (record { digit = Some d; chomping = Clip; end = at }) (c ∷ cs)
-
-abbrev pub after_sign : Chomping → ℕ → List Cell → Result Header Fault
-after_sign k at [] = header_end (record { digit = None; chomping = k; end = at }) []
-after_sign k at (c ∷ cs) =
-    if is_digit c.0 then header_end (record { digit = Some (c.0 - 48); chomping = k; end = at + 1 }) cs
-    else header_end (record { digit = None; chomping = k; end = at }) (c ∷ cs)
-
-abbrev pub header : ℕ → List Cell → Result Header Fault
-header at [] = header_end (record { digit = None; chomping = Clip; end = at }) []
-header at (c ∷ cs) =
-    if is_digit c.0 then after_digit (c.0 - 48) (at + 1) cs
-    else (if is_sign c.0 then after_sign (chomping_of c.0) (at + 1) cs
-    else header_end (record { digit = None; chomping = Clip; end = at }) (c ∷ cs))
+-- The header from behind these indicators, whose end is at: a digit and a sign, each at most once and in either order.
+abbrev pub header : Option ℕ → Option Chomping → ℕ → List Cell → Result Header Fault
+header digit sign at [] = header_end (record { digit = digit; chomping = unwrap_or sign Clip; end = at }) []
+header digit sign at (c ∷ cs) =
+    if is_none digit && is_digit c.0 then header (Some (c.0 - 48)) sign (at + 1) cs
+    else (if is_none sign && is_sign c.0 then header digit (Some (chomping_of c.0)) (at + 1) cs
+    else header_end (record { digit = digit; chomping = unwrap_or sign Clip; end = at }) (c ∷ cs))
 
 -- The content indent (8.1.1.1): what the digit says, or the indent of the first line that isn't all blanks, if it
 -- is at least within; None where there is no content.
@@ -135,7 +123,7 @@ rows_end at (r ∷ rs) = rows_end (last_end r.text at) rs
 abbrev pub block_scalar : Bool → ℕ → List Line → Result Taken Fault
 block_scalar is_literal within [] = fault yaml.UnexpectedCharacter 0
 block_scalar is_literal within (l ∷ ls) =
-    header (place l.text l.end + 1) (drop 1 l.text) >>= (λ h.
+    header None None (place l.text l.end + 1) (drop 1 l.text) >>= (λ h.
     let m = content_indent h.digit within ls in
     let rs = (if l.last then record { rows = []; left = at_end l } else rows_at m (is_some h.digit) ls) in
     Ok (record { text = text_after is_literal h.chomping None [] rs.rows; end = rows_end h.end rs.rows; left = rs.left }))

@@ -1,5 +1,5 @@
 -- One scalar: its style, its class and its decoded bytes with their offsets (7.3, 8.1, 7.2 for the empty node).
-use Rattle.std.specs.Prelude.{ℕ, zero, suc, List, [], ◌∷◌, map, drop, true, false, if◌then◌else◌, Result, Ok}
+use Rattle.std.specs.Prelude.{ℕ, List, [], ◌∷◌, map, drop, true, false, if◌then◌else◌, Result, Ok, slice_index_or}
 use Rattle.al_base.specs.Ascii as ascii
 use Rattle.al_base.specs.declared.codes.YamlCode.TheVariants as yaml
 use Rattle.al_scalar.specs.Line.{Cell, Line, start, begins, cut}
@@ -83,14 +83,8 @@ abbrev pub empty_at : List Line → ScalarRead
 empty_at ls = record { scalar = empty_scalar (start ls); span = span (start ls) (start ls); left = ls }
 
 -- the offset of cell i, and the end behind the last one
-abbrev pub offset_or : List Cell → ℕ → ℕ → ℕ
-offset_or [] end i = end
-offset_or (c ∷ cs) end zero = c.1
-offset_or (c ∷ cs) end (suc i) = offset_or cs end i
-
--- what `locate` answers
 abbrev pub offset_of : Scalar → ℕ → ℕ
-offset_of s i = offset_or s.cells s.end i
+offset_of s i = slice_index_or (map (λ (c : Cell). c.1) s.cells) i s.end
 
 abbrev pub text_of : Scalar → List ℕ
 text_of s = map (λ (c : Cell). c.0) s.cells

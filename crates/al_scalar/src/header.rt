@@ -1,7 +1,7 @@
 //! The header of a block scalar: indentation and chomping indicators (YAML 1.2.2, 8.1.1).
 
-ghost use Rattle.std.specs.Prelude.{◌≡◌, ◌≤◌, IfSome, length};
-ghost use Rattle.al_scalar.specs.Block.{after_digit, after_sign, header, is_digit as block_digit};
+ghost use Rattle.std.specs.Prelude.{◌≡◌, ◌≤◌, IfSome, None, Some, length};
+ghost use Rattle.al_scalar.specs.Block.{header, is_digit as block_digit};
 ghost use Rattle.al_scalar.specs.Block.{is_sign as block_sign, chomping_of as chomping_by};
 ghost use Rattle.al_scalar.specs.Private.BlockRead.{Indicates, EndsHeader};
 ghost use Rattle.al_scalar.specs.Places.{text_at};
@@ -68,7 +68,7 @@ fn chomping_of(byte: u8) -> Chomping
 /// The header behind its digit.
 fn behind_digit(bytes: &[u8], at: usize, digit: u8) -> Header
     requires { at ≤ length bytes.now }
-    ensures { Indicates bytes.now at (after_digit digit at (text_at bytes.now at)) result }
+    ensures { Indicates bytes.now at (header (Some digit) None at (text_at bytes.now at)) result }
 {
     match first_byte(bytes, at) {
         Some(b) => {
@@ -97,7 +97,7 @@ fn behind_digit(bytes: &[u8], at: usize, digit: u8) -> Header
 /// The header behind its sign.
 fn behind_sign(bytes: &[u8], at: usize, chomping: Chomping) -> Header
     requires { at ≤ length bytes.now }
-    ensures { Indicates bytes.now at (after_sign chomping at (text_at bytes.now at)) result }
+    ensures { Indicates bytes.now at (header None (Some chomping) at (text_at bytes.now at)) result }
 {
     match first_byte(bytes, at) {
         Some(b) => {
@@ -126,7 +126,7 @@ fn behind_sign(bytes: &[u8], at: usize, chomping: Chomping) -> Header
 /// The header behind the indicator that begins the scalar.
 pub fn indicators(bytes: &[u8], at: usize) -> Header
     requires { at ≤ length bytes.now }
-    ensures { Indicates bytes.now at (header at (text_at bytes.now at)) result }
+    ensures { Indicates bytes.now at (header None None at (text_at bytes.now at)) result }
 {
     match first_byte(bytes, at) {
         Some(b) => {

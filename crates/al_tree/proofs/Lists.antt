@@ -8,18 +8,18 @@ use Rattle.al_yaml_tree.specs.Node.{Node}
 use Rattle.al_yaml_tree.specs.View.{entry_view}
 use Rattle.al_yaml_tree.specs.declared.node.Entry.{Entry}
 use Rattle.al_tree.specs.Keys.{key_of, keys_in}
-use Rattle.al_tree.specs.Names.{among}
-use Rattle.al_tree.specs.Values.{firsts}
+use Rattle.al_tree.specs.Values.{firsts_by}
 
 pub not_not : (b : Bool) → not (not b) ≡ b
 not_not true = refl
 not_not false = refl
 
-pub firsts_kept : (P : Node × Node → Type 0) (seen : List (List ℕ)) (es : List (Node × Node)) → AllByRecursion P es → AllByRecursion P (firsts seen es)
-firsts_kept P seen [] p = tt
-firsts_kept P seen (e ∷ es) p =
-    each_both P (cond (among seen (key_of e)) [] (e ∷ [])) (firsts (seen ++ key_of e ∷ []) es)
-    (each_either P (among seen (key_of e)) [] (e ∷ []) tt (p.0, tt)) (firsts_kept P (seen ++ key_of e ∷ []) es p.1)
+pub firsts_kept : (is_in : List (List ℕ) → List ℕ → Bool) (P : Node × Node → Type 0) (seen : List (List ℕ)) (es : List (Node × Node)) → AllByRecursion P es
+    → AllByRecursion P (firsts_by is_in seen es)
+firsts_kept is_in P seen [] p = tt
+firsts_kept is_in P seen (e ∷ es) p =
+    each_both P (cond (is_in seen (key_of e)) [] (e ∷ [])) (firsts_by is_in (seen ++ key_of e ∷ []) es)
+    (each_either P (is_in seen (key_of e)) [] (e ∷ []) tt (p.0, tt)) (firsts_kept is_in P (seen ++ key_of e ∷ []) es p.1)
 
 -- the items behind those that were read, and the keys of the entries that were, one further
 pub left_next : {X Y : Type 0} (f : X → Y) (xs : List X) (i : ℕ) (x : X) → i < length xs → x ≡ get_or xs i x

@@ -9,14 +9,12 @@ use Rattle.al_base.specs.declared.codes.KeyCode as codes_key
 use Rattle.al_base.specs.declared.codes.KeyCode.TheVariants.{Unexpected}
 use Rattle.al_base.specs.declared.faults.Fault.{Fault}
 use Rattle.al_base.specs.declared.faults.Span.{Span}
-use Rattle.al_scalar.specs.Scalar.{Scalar}
 use Rattle.al_yaml_tree.specs.Access.{entries}
 use Rattle.al_yaml_tree.specs.Node.{Node, Nodes, Entries, scalar, sequence, mapping, no_nodes, item, no_entries, entry, span_of}
 use Rattle.al_yaml_tree.specs.Spans.{IsInside, AreInside, EntriesInside}
 use Rattle.al_tree.specs.Faults.{Standing, repeated, unexpected, ignored, expected, beside_faults, entries_faults, entry_faults, fault}
-use Rattle.al_tree.specs.Faults.{faults, is_empty, is_needed, is_null, items_faults, keyed_faults, mapping_faults, missing_fault}
-use Rattle.al_tree.specs.Faults.{one_fault, mapping_shape, root_faults, scalar_faults, sequence_faults, standing, takes_null}
-use Rattle.al_tree.specs.Faults.{scalar_fault}
+use Rattle.al_tree.specs.Faults.{faults, is_empty, is_needed, is_null, items_faults, keyed_faults, mapping_shape, missing_fault}
+use Rattle.al_tree.specs.Faults.{one_fault, root_faults, scalar_fault, standing, takes_null}
 use Rattle.al_tree.specs.Keys.{key_text, keys_in}
 use Rattle.al_tree.specs.Names.{among}
 use Rattle.al_tree.specs.Table.{Field, Keys, no_keys, free, keys, Rule, rule}
@@ -51,11 +49,8 @@ module _ (size : ℕ) where
   word_lies None above at i = none_lie
   word_lies (Some key) above at i = one_lies _ i
 
-  scalar_lies : (r : Option Rule) (above : List ℕ) (s : Scalar) (at : Span) → LiesIn size at → All (Lies size) (scalar_faults r above s at)
-  scalar_lies r above s at i = word_lies (option_and_then (λ r. scalar_fault r.scalars s) r) above at i
-
   sequence_lies : (r : Option Rule) (misfit : List Fault) (items : Shape → List Fault) → All (Lies size) misfit
-      → ((s : Shape) → All (Lies size) (items s)) → All (Lies size) (sequence_faults r misfit items)
+      → ((s : Shape) → All (Lies size) (items s)) → All (Lies size) (option_map_or (λ o. option_map_or items o.items misfit) r [])
   sequence_lies None misfit items m f = none_lie
   sequence_lies (Some r) misfit items m f = elim r.items as (λ o. All (Lies size) (option_map_or items o misfit)) [ None ↦ m | Some s ↦ f s ]
 
@@ -72,7 +67,7 @@ module _ (size : ℕ) where
   keyed_lies (keys others fs) above all at inside i f = both (flat_map (missing_fault at all) fs) (inside (keys others fs)) (missing_lies at all fs i) (f (keys others fs))
 
   mapping_lies : (r : Option Rule) (above : List ℕ) (all : List ℕ → Bool) (at : Span) (inside : Keys → List Fault)
-      → LiesIn size at → ((own : Keys) → All (Lies size) (inside own)) → All (Lies size) (mapping_faults r above all at inside)
+      → LiesIn size at → ((own : Keys) → All (Lies size) (inside own)) → All (Lies size) (option_map_or (λ o. keyed_faults o.keys_of above all at inside) r [])
   mapping_lies None above all at inside i f = none_lie
   mapping_lies (Some r) above all at inside i f = keyed_lies r.keys_of above all at inside i f
 
@@ -89,7 +84,7 @@ module _ (size : ℕ) where
 
   mutual
     node_lies : (n : Node) → IsInside size n → (shape : Shape) (null : Bool) (above : List ℕ) → All (Lies size) (faults shape null above n)
-    node_lies (scalar s at) i shape null above = either (is_null s && null) _ _ none_lie (scalar_lies (rule shape) above s at i)
+    node_lies (scalar s at) i shape null above = either (is_null s && null) _ _ none_lie (word_lies (option_and_then (λ r. scalar_fault r.scalars s) (rule shape)) above at i)
     node_lies (sequence ns at) i shape null above = sequence_lies (rule shape) _ _ (one_lies _ i.0) (λ s. items_lie ns i.1 s above)
     node_lies (mapping es at) i shape null above =
         mapping_lies (rule (mapping_shape shape (entries es))) above (among (keys_in (entries es))) at (λ ks. entries_faults ks [] (among (keys_in (entries es))) es) i.0

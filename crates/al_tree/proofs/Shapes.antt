@@ -1,27 +1,31 @@
 -- The faults of a node that the program holds as a sequence or a mapping.
 use Rattle.std.proofs.Common.{◌≡◌, ℕ, Bool, List, [], ap, map, ◌∙◌, Vec}
 use Rattle.std.specs.declared.alloc.Global.{Global}
+use Rattle.std.specs.Option.{option_map_or}
 use Rattle.al_yaml_tree.specs.View.{entries_of, entry_view, nodes_of, view}
 use Rattle.al_yaml_tree.specs.declared.node.Entry.{Entry}
 use Rattle.al_yaml_tree.specs.declared.node.Kind.TheVariants.{Mapping, Sequence}
 use Rattle.al_yaml_tree.specs.declared.node.Node.{Node}
 use Rattle.al_yaml_tree.proofs.ViewLemmas.{entries_again, view_mapping, view_sequence}
 use Rattle.al_base.specs.declared.codes.KeyCode.TheVariants.{WrongKind}
-use Rattle.al_tree.specs.Faults.{entries_faults, faults, items_faults, mapping_faults, one_fault, mapping_shape, sequence_faults}
+use Rattle.al_tree.specs.Faults.{entries_faults, faults, items_faults, keyed_faults, one_fault, mapping_shape}
 use Rattle.al_tree.specs.Keys.{keys_in}
 use Rattle.al_tree.specs.Names.{among}
 use Rattle.al_tree.specs.Table.{rule}
 use Rattle.al_tree.specs.declared.table.Shape.{Shape}
 
 pub faults_sequence : (s : Shape) (null : Bool) (above : List ℕ) (n : Node) (v : Vec Node Global) → n.kind ≡ Sequence v →
-    faults s null above (view n) ≡ sequence_faults (rule s) (one_fault WrongKind n.span above) (λ inner. items_faults inner above (nodes_of (map view v.items)))
+    faults s null above (view n)
+    ≡ option_map_or (λ r. option_map_or (λ inner. items_faults inner above (nodes_of (map view v.items))) r.items (one_fault WrongKind n.span above)) (rule s) []
 faults_sequence s null above n v e = ap (faults s null above) (view_sequence n v e)
 
 pub faults_mapping : (s : Shape) (null : Bool) (above : List ℕ) (n : Node) (v : Vec Entry Global) → n.kind ≡ Mapping v →
     faults s null above (view n)
-    ≡ mapping_faults (rule (mapping_shape s (map entry_view v.items))) above (among (keys_in (map entry_view v.items))) n.span
-    (λ ks. entries_faults ks [] (among (keys_in (map entry_view v.items))) (entries_of (map entry_view v.items)))
+    ≡ option_map_or (λ r. keyed_faults r.keys_of above (among (keys_in (map entry_view v.items))) n.span
+    (λ ks. entries_faults ks [] (among (keys_in (map entry_view v.items))) (entries_of (map entry_view v.items))))
+    (rule (mapping_shape s (map entry_view v.items))) []
 faults_mapping s null above n v e =
     ap (faults s null above) (view_mapping n v e)
-    ∙ ap (λ es. mapping_faults (rule (mapping_shape s es)) above (among (keys_in es)) n.span
-    (λ ks. entries_faults ks [] (among (keys_in es)) (entries_of (map entry_view v.items)))) (entries_again (map entry_view v.items))
+    ∙ ap (λ es. option_map_or (λ r. keyed_faults r.keys_of above (among (keys_in es)) n.span
+    (λ ks. entries_faults ks [] (among (keys_in es)) (entries_of (map entry_view v.items)))) (rule (mapping_shape s es)) [])
+    (entries_again (map entry_view v.items))

@@ -1,6 +1,7 @@
 -- The faults of a node that doesn't fit its shape.
 use Rattle.std.specs.Prelude.{ℕ, List, [], ◌∷◌, ◌++◌, ◌==◌, Bool, true, false, codes, map, Option, Some, None, ◌||◌, ◌&&◌, not}
 use Rattle.std.specs.Prelude.{if◌then◌else◌, find, nat_eq, length, option_map, option_and_then}
+use Rattle.std.specs.Bool.{then_some}
 use Rattle.std.specs.List.{flat_map, starts_with}
 use Rattle.std.specs.Option.{option_map_or}
 use Rattle.std.specs.Str.{bytes_eq}
@@ -8,8 +9,9 @@ use Rattle.std.specs.Str.Lossy.{utf8_lossy}
 use Rattle.al_scalar.specs.Scalar.{Scalar, text_of}
 use Rattle.al_scalar.specs.declared.styles.Class.{Class}
 use Rattle.al_scalar.specs.declared.styles.Class.TheVariants as class
-use Rattle.al_scalar.specs.declared.styles.Style.{Style}
+use Rattle.al_scalar.specs.contracts.styles.ClassPartialEq.TheImpl as classes
 use Rattle.al_scalar.specs.declared.styles.Style.TheVariants as style
+use Rattle.al_scalar.specs.contracts.styles.StylePartialEq.TheImpl as styles
 use Rattle.al_base.specs.declared.codes.Code.TheVariants as code
 use Rattle.al_base.specs.declared.codes.KeyCode as codes_key
 use Rattle.al_base.specs.declared.codes.KeyCode.TheVariants.{Unexpected, Missing, Repeated, WrongKind, WrongType, NotBeside, EmptyFile}
@@ -19,7 +21,7 @@ use Rattle.al_yaml_tree.specs.Access.{entries, scalar_in}
 use Rattle.al_yaml_tree.specs.Node.{Node, Nodes, Entries, scalar, sequence, mapping, no_nodes, item, no_entries, entry, span_of}
 use Rattle.al_tree.specs.Keys.{key_of, key_text, keys_in}
 use Rattle.al_tree.specs.Names.{among, is_event}
-use Rattle.al_tree.specs.Table.{Field, Rule, Keys, no_keys, free, keys, rule, Need, optional, required, unless, Clash, never, after}
+use Rattle.al_tree.specs.Table.{Field, Keys, no_keys, free, keys, rule, Need, optional, required, unless, Clash, never, after}
 use Rattle.al_tree.specs.Table.{beside, Others, wrong, wrong_beside, unchecked, events}
 use Rattle.al_tree.specs.declared.standings.Standing as rust
 use Rattle.al_tree.specs.declared.table.Shape.{Shape}
@@ -40,25 +42,11 @@ abbrev pub has_chunk : List ℕ → Bool
 has_chunk [] = false
 has_chunk (b ∷ bs) = starts_with nat_eq (b ∷ bs) (codes "${{") || has_chunk bs
 
-abbrev pub is_null_class : Class → Bool
-is_null_class class.Null = true
-is_null_class _ = false
+abbrev pub has_class : Class → Scalar → Bool
+has_class k s = classes.ghosts.eq s.class k
 
 abbrev pub is_null : Scalar → Bool
-is_null s = is_null_class s.class
-
-abbrev pub is_bool_class : Class → Bool
-is_bool_class class.Bool = true
-is_bool_class _ = false
-
-abbrev pub is_number_class : Class → Bool
-is_number_class class.Int = true
-is_number_class class.Float = true
-is_number_class _ = false
-
-abbrev pub is_plain : Style → Bool
-is_plain style.Plain = true
-is_plain _ = false
+is_null = has_class class.Null
 
 abbrev pub is_key : List ℕ → Node × Node → Bool
 is_key k e = bytes_eq (key_of e) k
@@ -67,17 +55,14 @@ is_key k e = bytes_eq (key_of e) k
 abbrev pub value_in : List ℕ → List (Node × Node) → Option Node
 value_in k es = option_map (λ e. e.1) (find (is_key k) es)
 
-abbrev pub unless_taken : Bool → codes_key.KeyCode → Option codes_key.KeyCode
-unless_taken taken key = if taken then None else Some key
-
 -- A scalar that isn't taken: of a wrong class where some scalars are taken, else of a wrong kind.
 abbrev pub scalar_fault : ScalarSet → Scalar → Option codes_key.KeyCode
 scalar_fault AnyScalar s = None
 scalar_fault NoScalar s = Some WrongKind
-scalar_fault NotNull s = unless_taken (not (is_null s)) WrongType
-scalar_fault Bools s = unless_taken (is_bool_class s.class || has_chunk (text_of s)) WrongType
-scalar_fault Numbers s = unless_taken (is_number_class s.class || has_chunk (text_of s)) WrongType
-scalar_fault Chunks s = unless_taken (has_chunk (text_of s)) WrongKind
+scalar_fault NotNull s = then_some (is_null s) WrongType
+scalar_fault Bools s = then_some (not (has_class class.Bool s || has_chunk (text_of s))) WrongType
+scalar_fault Numbers s = then_some (not (has_class class.Int s || has_class class.Float s || has_chunk (text_of s))) WrongType
+scalar_fault Chunks s = then_some (not (has_chunk (text_of s))) WrongKind
 
 -- `runs` by what `using` says; where that is nothing known, only `using` is checked
 abbrev pub runs_of : List ℕ → Shape
@@ -109,14 +94,11 @@ abbrev pub missing_fault : Span → (List ℕ → Bool) → Field → List Fault
 missing_fault at all f =
     if is_needed f.need all && not (all f.key) then one_fault Missing (record { start = at.start; end = at.start }) f.key else []
 
-abbrev pub if_it : (List ℕ → Bool) → List ℕ → Option (List ℕ)
-if_it test k = if test k then Some k else None
-
 -- the key that a key cannot stand beside, if it is among those that were seen, or among all
 abbrev pub clash_with : Clash → (List ℕ → Bool) → (List ℕ → Bool) → Option (List ℕ)
 clash_with never seen all = None
-clash_with (after k) seen all = if_it seen k
-clash_with (beside k) seen all = if_it all k
+clash_with (after k) seen all = then_some (seen k) k
+clash_with (beside k) seen all = then_some (all k) k
 
 -- How an entry stands in its mapping: its key repeats an earlier one; is no key of the mapping; isn't looked at;
 -- or its value should have a shape. A text is a key that is there and beside which it cannot stand.
@@ -126,31 +108,20 @@ pub data Standing : Type 0 where
   ignored : Standing
   expected : Shape → Option (List ℕ) → Standing
 
--- the first of equal keys counts
-abbrev pub first : Bool → Standing → Standing
-first seen s = if seen then repeated else s
-
-abbrev pub event_shape : List ℕ → Shape
-event_shape k = if is_event k then On Event else Any
-
+-- of a key without a field
 abbrev pub other_standing : Others → (List ℕ → Bool) → (List ℕ → Bool) → List ℕ → Standing
-other_standing wrong seen all k = first (seen k) (unexpected None)
-other_standing (wrong_beside u) seen all k = first (seen k) (unexpected (if_it all u))
+other_standing wrong seen all k = if seen k then repeated else unexpected None
+other_standing (wrong_beside u) seen all k = if seen k then repeated else unexpected (then_some (all u) u)
 other_standing unchecked seen all k = ignored
-other_standing events seen all k = first (seen k) (expected (event_shape k) None)
+other_standing events seen all k = if seen k then repeated else expected (if is_event k then On Event else Any) None
 
-abbrev pub field_at : List ℕ → List Field → Option Field
-field_at k fs = find (λ f. bytes_eq f.key k) fs
-
-abbrev pub field_standing : Option Field → Others → (List ℕ → Bool) → (List ℕ → Bool) → List ℕ → Standing
-field_standing None others seen all k = other_standing others seen all k
-field_standing (Some f) others seen all k = first (seen k) (expected f.shape (clash_with f.clash seen all))
-
--- how an entry with a key stands behind the keys that were seen, in a mapping with all these
+-- how an entry with a key stands behind the keys that were seen, in a mapping with all these: the first of equal keys counts
 abbrev pub standing : Keys → (List ℕ → Bool) → (List ℕ → Bool) → List ℕ → Standing
 standing no_keys seen all k = ignored
-standing (free s) seen all k = first (seen k) (expected s None)
-standing (keys others fs) seen all k = field_standing (field_at k fs) others seen all k
+standing (free s) seen all k = if seen k then repeated else expected s None
+standing (keys others fs) seen all k =
+    option_map_or (λ f. if seen k then repeated else expected f.shape (clash_with f.clash seen all)) (find (λ f. bytes_eq f.key k) fs)
+    (other_standing others seen all k)
 
 abbrev pub beside_faults : Option (List ℕ) → Node → List Fault
 beside_faults other key = option_map_or (λ k. fault NotBeside (span_of key) (key_text key ∷ k ∷ []) ∷ []) other []
@@ -162,31 +133,24 @@ entry_faults (unexpected other) key value = one_fault Unexpected (span_of key) (
 entry_faults ignored key value = []
 entry_faults (expected s other) key value = beside_faults other key ++ value s
 
-abbrev pub scalar_faults : Option Rule → List ℕ → Scalar → Span → List Fault
-scalar_faults taken above s at =
-    option_map_or (λ k. one_fault k at above) (option_and_then (λ r. scalar_fault r.scalars s) taken) []
-
--- of a sequence, given what its items have as nodes of a shape
-abbrev pub sequence_faults : Option Rule → List Fault → (Shape → List Fault) → List Fault
-sequence_faults taken misfit items = option_map_or (λ r. option_map_or items r.items misfit) taken []
-
 -- of a mapping with these keys, given what its entries have
 abbrev pub keyed_faults : Keys → List ℕ → (List ℕ → Bool) → Span → (Keys → List Fault) → List Fault
 keyed_faults no_keys above all at inside = one_fault WrongKind at above
 keyed_faults (free s) above all at inside = inside (free s)
 keyed_faults (keys others fs) above all at inside = flat_map (missing_fault at all) fs ++ inside (keys others fs)
 
-abbrev pub mapping_faults : Option Rule → List ℕ → (List ℕ → Bool) → Span → (Keys → List Fault) → List Fault
-mapping_faults taken above all at inside = option_map_or (λ r. keyed_faults r.keys_of above all at inside) taken []
-
 abbrev mutual
   -- the faults of a node below a key, where it should have a shape and may be null or not
   pub faults : Shape → Bool → List ℕ → Node → List Fault
-  faults shape null above (scalar s at) = if is_null s && null then [] else scalar_faults (rule shape) above s at
-  faults shape null above (sequence ns at) = sequence_faults (rule shape) (one_fault WrongKind at above) (λ s. items_faults s above ns)
+  faults shape null above (scalar s at) =
+      if is_null s && null then []
+      else option_map_or (λ k. one_fault k at above) (option_and_then (λ r. scalar_fault r.scalars s) (rule shape)) []
+  faults shape null above (sequence ns at) =
+      option_map_or (λ r. option_map_or (λ s. items_faults s above ns) r.items (one_fault WrongKind at above)) (rule shape) []
   faults shape null above (mapping es at) =
-      mapping_faults (rule (mapping_shape shape (entries es))) above (among (keys_in (entries es))) at
-      (λ ks. entries_faults ks [] (among (keys_in (entries es))) es)
+      let all = among (keys_in (entries es)) in
+      option_map_or (λ r. keyed_faults r.keys_of above all at (λ ks. entries_faults ks [] all es))
+      (rule (mapping_shape shape (entries es))) []
 
   -- of the items of a sequence below a key
   pub items_faults : Shape → List ℕ → Nodes → List Fault
@@ -202,7 +166,7 @@ abbrev mutual
 
 -- nothing was written
 abbrev pub is_empty : Node → Bool
-is_empty n = option_map_or (λ s. is_plain s.style && (length s.cells == 0)) (scalar_in n) false
+is_empty n = option_map_or (λ s. styles.ghosts.eq s.style style.Plain && (length s.cells == 0)) (scalar_in n) false
 
 -- the faults of a file's root
 abbrev pub root_faults : Shape → Node → List Fault

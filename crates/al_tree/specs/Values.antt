@@ -1,5 +1,6 @@
 -- What stands under a key of a node. A value of a wrong kind is as if it weren't there.
-use Rattle.std.specs.Prelude.{ℕ, List, [], ◌∷◌, ◌++◌, Option, Some, None, find, option_and_then, option_map, if◌then◌else◌}
+use Rattle.std.specs.Prelude.{ℕ, List, [], ◌∷◌, ◌++◌, Bool, not, Option, Some, find, option_and_then, option_map, if◌then◌else◌}
+use Rattle.std.specs.Bool.{then_some}
 use Rattle.std.specs.List.{filter_map}
 use Rattle.std.specs.Option.{option_map_or, option_to_list}
 use Rattle.al_base.specs.declared.faults.Span.{Span}
@@ -13,14 +14,14 @@ use Rattle.al_tree.specs.Names.{among}
 use Rattle.al_tree.specs.declared.values.Member.{Member}
 use Rattle.al_tree.specs.declared.values.ScalarNode.{ScalarNode}
 
--- the entries whose keys no earlier one has, behind entries with the keys that were seen
-abbrev pub firsts : List (List ℕ) → List (Node × Node) → List (Node × Node)
-firsts seen [] = []
-firsts seen (e ∷ es) = (if among seen (key_of e) then [] else e ∷ []) ++ firsts (seen ++ key_of e ∷ []) es
+-- the entries whose keys aren't in those of earlier ones, behind entries with the keys that were seen
+abbrev pub firsts_by : (List (List ℕ) → List ℕ → Bool) → List (List ℕ) → List (Node × Node) → List (Node × Node)
+firsts_by is_in seen [] = []
+firsts_by is_in seen (e ∷ es) = (if is_in seen (key_of e) then [] else e ∷ []) ++ firsts_by is_in (seen ++ key_of e ∷ []) es
 
 -- the entries of a mapping, of equal keys the first; else none
 abbrev pub entries_in : Node → List (Node × Node)
-entries_in n = option_map_or (firsts []) (mapping_in n) []
+entries_in n = option_map_or (firsts_by among []) (mapping_in n) []
 
 -- the items of a sequence, else none
 abbrev pub items_in : Node → List Node
@@ -42,12 +43,9 @@ abbrev pub value_below : List (List ℕ) → Node → Option Node
 value_below [] n = Some n
 value_below (k ∷ ks) n = option_and_then (value_below ks) (value_at k n)
 
-abbrev pub unless_null : Scalar → Option Scalar
-unless_null s = if is_null s then None else Some s
-
 -- a scalar that isn't null, with the span of its written form
 abbrev pub text_in : Node → Option (Scalar × Span)
-text_in n = option_map (λ s. (s, span_of n)) (option_and_then unless_null (scalar_in n))
+text_in n = option_and_then (λ s. then_some (not (is_null s)) (s, span_of n)) (scalar_in n)
 
 abbrev pub text_at : List ℕ → Node → Option (Scalar × Span)
 text_at k n = option_and_then text_in (value_at k n)

@@ -1,13 +1,13 @@
 //! A node against the shape that its place asks for.
 
 ghost use Rattle.al_tree.specs.Faults.{beside_faults, entries_faults, entry_faults, faults as faults_of, is_empty as empty, items_faults};
-ghost use Rattle.al_tree.specs.Faults.{mapping_faults, mapping_shape, missing_fault, root_faults, standing_view};
+ghost use Rattle.al_tree.specs.Faults.{missing_fault, root_faults, standing_view};
 ghost use Rattle.al_tree.specs.Faults.{takes_null as null_taken};
 ghost use Rattle.al_base.specs.Growth.{SameSet};
 ghost use Rattle.al_tree.specs.Keys.{IsIndexOf, holds, key_of as key_in, keys_in};
 ghost use Rattle.al_tree.specs.Names.{among};
-ghost use Rattle.al_tree.specs.Private.Demands.{demanded_faults};
-ghost use Rattle.al_tree.specs.Table.{field_of, keys_view, rule};
+ghost use Rattle.al_tree.specs.Private.Demands.{demanded_faults, mapping_faults};
+ghost use Rattle.al_tree.specs.Table.{field_of, keys_view};
 ghost use Rattle.al_yaml_tree.specs.Node.{scalar as scalar_node};
 ghost use Rattle.al_yaml_tree.specs.View.{entries_of, entry_view, nodes_of, view};
 ghost use Rattle.std.specs.List.{flat_map};
@@ -160,11 +160,8 @@ fn check_mapping(
     at: Span,
     faults: &mut FaultSink,
 ) -> Result<(), AllocError>
-    ensures { OnOk result (faults.new ≡ faults.old
-        ++ mapping_faults (rule (mapping_shape (demand.entry).shape (map entry_view entries.now)))
-        (demand.entry).above.now (among (keys_in (map entry_view entries.now))) at
-        (λ ks. entries_faults ks [] (among (keys_in (map entry_view entries.now)))
-        (entries_of (map entry_view entries.now)))) }
+    ensures { OnOk result (faults.new
+        ≡ faults.old ++ mapping_faults demand.entry at (map entry_view entries.now)) }
 {
     match rule_of(refine(demand.shape, entries)) {
         None => Ok(()),

@@ -1,8 +1,9 @@
 //! Which scalars may stand where one is due.
 
-ghost use Rattle.al_tree.specs.Faults.{has_chunk, is_bool_class, is_null, is_number_class, unless_taken};
+ghost use Rattle.al_tree.specs.Faults.{has_chunk, has_class as class_is, is_null};
 ghost use Rattle.al_tree.specs.Faults as faults;
-ghost use Rattle.std.specs.Prelude.{◌≡◌};
+ghost use Rattle.std.specs.Bool.{then_some};
+ghost use Rattle.std.specs.Prelude.{◌≡◌, not};
 
 use crate::table::ScalarSet;
 use al_base::KeyCode;
@@ -22,32 +23,25 @@ pub fn contains_chunk(text: &[u8]) -> bool
     false
 }
 
+/// Whether a scalar has a class.
+fn has_class(class: Class, scalar: &Scalar) -> bool
+    ensures { result ≡ class_is class scalar.now }
+{
+    scalar.class() == class
+}
+
 /// Whether a scalar is null.
 pub fn is_null_scalar(scalar: &Scalar) -> bool
     ensures { result ≡ is_null scalar.now }
 {
-    matches!(scalar.class(), Class::Null)
-}
-
-/// Whether a scalar is `true` or `false`.
-fn is_bool(scalar: &Scalar) -> bool
-    ensures { result ≡ is_bool_class (scalar.now).class }
-{
-    matches!(scalar.class(), Class::Bool)
-}
-
-/// Whether a scalar is a number.
-fn is_number(scalar: &Scalar) -> bool
-    ensures { result ≡ is_number_class (scalar.now).class }
-{
-    matches!(scalar.class(), Class::Int | Class::Float)
+    has_class(Class::Null, scalar)
 }
 
 /// A fault, where a scalar isn't taken.
 fn fault_unless(taken: bool, key: KeyCode) -> Option<KeyCode>
-    ensures { result ≡ unless_taken taken key }
+    ensures { result ≡ then_some (not taken) key }
 {
-    if taken { None } else { Some(key) }
+    (!taken).then_some(key)
 }
 
 /// What is wrong with a scalar where these are taken.
@@ -57,13 +51,15 @@ pub fn scalar_fault(scalars: ScalarSet, scalar: &Scalar) -> Option<KeyCode>
     match scalars {
         ScalarSet::AnyScalar => None,
         ScalarSet::NoScalar => Some(KeyCode::WrongKind),
-        ScalarSet::NotNull => fault_unless(!is_null_scalar(scalar), KeyCode::WrongType),
+        ScalarSet::NotNull => is_null_scalar(scalar).then_some(KeyCode::WrongType),
         ScalarSet::Bools => fault_unless(
-            is_bool(scalar) || contains_chunk(scalar.text()),
+            has_class(Class::Bool, scalar) || contains_chunk(scalar.text()),
             KeyCode::WrongType,
         ),
         ScalarSet::Numbers => fault_unless(
-            is_number(scalar) || contains_chunk(scalar.text()),
+            has_class(Class::Int, scalar)
+                || has_class(Class::Float, scalar)
+                || contains_chunk(scalar.text()),
             KeyCode::WrongType,
         ),
         ScalarSet::Chunks => fault_unless(contains_chunk(scalar.text()), KeyCode::WrongKind),

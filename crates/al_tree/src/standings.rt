@@ -1,12 +1,17 @@
 //! How a key stands in its mapping: known, unknown, given twice or beside one that excludes it.
 
-ghost use Rattle.al_tree.specs.Faults.{clash_with, event_shape as event, field_at};
-ghost use Rattle.al_tree.specs.Faults.{if_it, is_needed as needed, other_standing, mapping_shape};
+ghost use Rattle.al_tree.specs.Faults.{clash_with};
+ghost use Rattle.al_tree.specs.Faults.{is_needed as needed, other_standing, mapping_shape};
 ghost use Rattle.al_tree.specs.Faults.{runs_of as runs, standing as stands, standing_view, takes_null as null_taken};
 ghost use Rattle.al_tree.specs.Keys.{holds};
 ghost use Rattle.al_tree.specs.Table.{clash_of, field_of, keys_view, need_of, others_of};
 ghost use Rattle.al_yaml_tree.specs.View.{entry_view};
-ghost use Rattle.std.specs.Prelude.{◌≡◌, map, option_map};
+ghost use Rattle.al_tree.specs.Names.{is_event as event};
+ghost use Rattle.al_tree.specs.declared.table.Shape.TheVariants.{Any, On};
+ghost use Rattle.al_tree.specs.declared.table.Trigger.TheVariants.{Event};
+ghost use Rattle.std.specs.Bool.{then_some};
+ghost use Rattle.std.specs.Prelude.{◌≡◌, find, if◌then◌else◌, map, option_map};
+ghost use Rattle.std.specs.Str.{bytes_eq};
 
 use crate::entries::scalar_among;
 use crate::keys::KeySet;
@@ -51,7 +56,8 @@ pub(crate) fn takes_null(shape: Shape) -> bool
 
 /// The row of a key.
 fn row_at<'a>(rows: &'a [Row], key: &[u8]) -> Option<&'a Row>
-    ensures { option_map (λ r. field_of r.now) result ≡ field_at key.now (map field_of rows.now) }
+    ensures { option_map (λ r. field_of r.now) result
+        ≡ find (λ f. bytes_eq f.key key.now) (map field_of rows.now) }
 {
     for row in rows {
         if row.key.as_bytes() == key {
@@ -83,13 +89,9 @@ pub enum Standing {
 
 /// A key, if it is in a set.
 fn if_in(set: KeySet<'_>, key: &'static str) -> Option<&'static str>
-    ensures { option_map (λ k. k.now) result ≡ if_it (holds set.entry) key.now }
+    ensures { option_map (λ k. k.now) result ≡ then_some (holds set.entry key.now) key.now }
 {
-    if set.contains(key.as_bytes()) {
-        Some(key)
-    } else {
-        None
-    }
+    set.contains(key.as_bytes()).then_some(key)
 }
 
 /// The key that a key cannot stand beside, if it is there.
@@ -106,7 +108,7 @@ fn clash(clash: Clash, seen: KeySet<'_>, all: KeySet<'_>) -> Option<&'static str
 
 /// The shape of an event's filters; that of any value where there is no such event.
 fn event_shape(key: &[u8]) -> Shape
-    ensures { result ≡ event key.now }
+    ensures { result ≡ (if event key.now then On Event else Any) }
 {
     if is_event(key) {
         Shape::On(Trigger::Event)

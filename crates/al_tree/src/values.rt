@@ -2,11 +2,11 @@
 
 ghost use Rattle.al_base.specs.NamePlaces.{name_place, name_position};
 ghost use Rattle.al_tree.specs.Keys.{keys_in};
-ghost use Rattle.al_tree.specs.Values.{entries_at, entries_in, firsts, items_at, items_in, key_at, member_of, text_at, text_in};
-ghost use Rattle.al_tree.specs.Values.{texts_at, texts_in, unless_null, value_at, scalar_node_of};
+ghost use Rattle.al_tree.specs.Names.{among};
+ghost use Rattle.al_tree.specs.Values.{entries_at, entries_in, firsts_by, items_at, items_in, key_at, member_of, text_at, text_in};
+ghost use Rattle.al_tree.specs.Values.{texts_at, texts_in, value_at, scalar_node_of};
 ghost use Rattle.al_yaml_tree.specs.View.{entry_view, view};
 ghost use Rattle.std.specs.List.{filter_map};
-ghost use Rattle.std.specs.Option.{option_copied};
 ghost use Rattle.std.specs.Prelude.{◌≡◌, [], map, option_map, IfOk};
 
 use crate::entries::{key_among, value_among};
@@ -42,17 +42,6 @@ pub fn key<'a>(node: &'a Node, key: &str) -> Option<&'a Node>
     key_among(node.mapping()?, key)
 }
 
-/// A scalar that isn't null.
-fn unless_null_scalar(scalar: &Scalar) -> Option<&Scalar>
-    ensures { option_copied result ≡ unless_null scalar.now }
-{
-    if is_null_scalar(scalar) {
-        None
-    } else {
-        Some(scalar)
-    }
-}
-
 /// A scalar, and the span of its written form.
 #[derive(Clone, Copy)]
 pub struct ScalarNode<'a> {
@@ -64,7 +53,10 @@ pub struct ScalarNode<'a> {
 pub fn text(node: &Node) -> Option<ScalarNode<'_>>
     ensures { option_map scalar_node_of result ≡ text_in (view node.now) }
 {
-    let scalar = unless_null_scalar(node.scalar()?)?;
+    let scalar = node.scalar()?;
+    if is_null_scalar(scalar) {
+        return None;
+    }
     Some(ScalarNode {
         scalar,
         span: node.span(),
@@ -195,7 +187,7 @@ fn as_member(entry: &Entry) -> Member<'_>
 
 /// The entries with a key that no earlier one has.
 fn first_members(alloc: Global, entries: &[Entry]) -> Result<Vec<Member<'_>>, AllocError>
-    ensures { IfOk result (λ v. map member_of v.items ≡ firsts [] (map entry_view entries.now)) }
+    ensures { IfOk result (λ v. map member_of v.items ≡ firsts_by among [] (map entry_view entries.now)) }
 {
     let index = KeyIndex::of(alloc, entries)?;
     let mut firsts = Vec::with_capacity(alloc, entries.len())?;

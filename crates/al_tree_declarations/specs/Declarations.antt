@@ -1,5 +1,5 @@
 -- Inputs, secrets and outputs that a file declares, by their names.
-use Rattle.std.specs.Prelude.{ℕ, List, [], ◌∷◌, ◌++◌, Bool, false, codes, map, if◌then◌else◌, is_some}
+use Rattle.std.specs.Prelude.{ℕ, List, [], ◌∷◌, Bool, false, codes, map, is_some}
 use Rattle.std.specs.List.{list_any}
 use Rattle.std.specs.Option.{option_map_or}
 use Rattle.std.specs.Str.{bytes_eq}
@@ -8,20 +8,15 @@ use Rattle.al_base.specs.Names.{same_name}
 use Rattle.al_yaml_tree.specs.Access.{scalar_in}
 use Rattle.al_yaml_tree.specs.Node.{Node}
 use Rattle.al_tree.specs.Keys.{key_of}
-use Rattle.al_tree.specs.Values.{entries_in, items_at, value_at, value_below}
+use Rattle.al_tree.specs.Values.{entries_in, firsts_by, items_at, value_at, value_below}
 
 -- one of these texts is this name, but for ASCII case
 abbrev pub named_among : List (List ℕ) → List ℕ → Bool
 named_among ns n = list_any (λ m. same_name m n) ns
 
--- of entries with equal names the first, behind entries with these names
-abbrev pub first_named : List (List ℕ) → List (Node × Node) → List (Node × Node)
-first_named seen [] = []
-first_named seen (e ∷ es) = (if named_among seen (key_of e) then [] else e ∷ []) ++ first_named (seen ++ key_of e ∷ []) es
-
--- what a mapping declares
+-- what a mapping declares: of entries with equal names the first
 abbrev pub declared_in : Node → List (Node × Node)
-declared_in n = first_named [] (entries_in n)
+declared_in n = firsts_by named_among [] (entries_in n)
 
 abbrev pub declared_below : List (List ℕ) → Node → List (Node × Node)
 declared_below ks n = option_map_or declared_in (value_below ks n) []

@@ -2,7 +2,7 @@
 ghost use Rattle.std.specs.Prelude.{◌≡◌, [], map, option_map, IfOk};
 ghost use Rattle.std.specs.Option.{option_map_or};
 ghost use Rattle.al_tree_declarations.specs.Declarations as declarations;
-ghost use Rattle.al_tree.specs.Values.{member_of};
+ghost use Rattle.al_tree.specs.Values.{firsts_by, member_of};
 ghost use Rattle.al_yaml_tree.specs.View.{view};
 
 use al_tree::{Member, key_text, member_positions, members};
@@ -12,7 +12,7 @@ use std::alloc::{AllocError, Global};
 /// Of members with equal names the first.
 fn first_named<'a>(alloc: Global, members: &[Member<'a>]) -> Result<Vec<Member<'a>>, AllocError>
     ensures { IfOk result
-        (λ v. map member_of v.items ≡ declarations.first_named [] (map member_of members.now)) }
+        (λ v. map member_of v.items ≡ firsts_by declarations.named_among [] (map member_of members.now)) }
 {
     let positions = member_positions(alloc, members)?;
     let mut found = Vec::new(alloc);

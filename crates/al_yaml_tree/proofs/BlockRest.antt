@@ -1,11 +1,11 @@
 -- A block scalar ends before the lines left, which stand behind an offset where those did that it was read from.
 use Rattle.std.proofs.Common.{◌≡◌, ℕ, ◌+◌, ◌-◌, ◌≤◌, List, [], ◌∷◌, drop, arith, Bool, true, false, not}
 use Rattle.std.proofs.Common.{if◌then◌else◌, ◌&&◌, ◌||◌, nat_le, Option, Some, None, Result, Ok, Err}
-use Rattle.std.specs.Option.{is_some}
+use Rattle.std.specs.Option.{is_none, is_some, unwrap_or}
 use Rattle.al_scalar.specs.declared.header.Chomping.{Chomping}
 use Rattle.al_scalar.specs.declared.header.Chomping.TheVariants.{Clip}
 use Rattle.al_scalar.specs.declared.header.Header.{Header}
-use Rattle.al_scalar.specs.Block.{header_end, after_digit, after_sign, header, is_digit, is_sign, chomping_of}
+use Rattle.al_scalar.specs.Block.{header_end, header, is_digit, is_sign, chomping_of}
 use Rattle.al_scalar.specs.Block.{content_indent, Rows, row_of, at_end, with_row, rows_at, text_after, last_end, rows_end, block_scalar}
 use Rattle.al_scalar.specs.Line.{Cell, Line, place, start, is_empty, begins, after_blanks, begins_blank, is_comment, indent, is_all_blank}
 use Rattle.al_scalar.specs.Offsets.{AreClimbing}
@@ -25,39 +25,16 @@ header_end-in low at end h cs a b k =
     choose (HeaderIn low end) (is_empty (after_blanks cs) || (begins_blank cs && is_comment cs)) (λ _. (a, b))
     (λ _. place-first at end (after_blanks cs) (climbing-blanks at end cs k))
 
-after_digit-in : (d low at end : ℕ) (cs : List Cell) → low ≤ at → AreClimbing at end cs → HeaderIn low end (after_digit d at cs)
-after_digit-in d low at end [] a h = header_end-in low at end (record { digit = Some d; chomping = Clip; end = at }) [] a h h
-after_digit-in d low at end (c ∷ cs) a h =
-    let b = climbing-order (c.1 + 1) end cs h.1 in
-    let f = h.0 in
-    choose (HeaderIn low end) (is_sign c.0)
-    (λ _. header_end-in low (c.1 + 1) end (record { digit = Some d; chomping = chomping_of c.0; end = at + 1 }) cs (omega (arith, a))
-    (omega (arith, b, f)) h.1)
-    (λ _. header_end-in low at end (record { digit = Some d; chomping = Clip; end = at }) (c ∷ cs) a (omega (arith, b, f)) h)
-
-after_sign-in : (k : Chomping) (low at end : ℕ) (cs : List Cell) → low ≤ at → AreClimbing at end cs → HeaderIn low end (after_sign k at cs)
-after_sign-in k low at end [] a h = header_end-in low at end (record { digit = None; chomping = k; end = at }) [] a h h
-after_sign-in k low at end (c ∷ cs) a h =
-    let b = climbing-order (c.1 + 1) end cs h.1 in
-    let f = h.0 in
-    choose (HeaderIn low end) (is_digit c.0)
-    (λ _. header_end-in low (c.1 + 1) end (record { digit = Some (c.0 - 48); chomping = k; end = at + 1 }) cs (omega (arith, a))
-    (omega (arith, b, f)) h.1)
-    (λ _. header_end-in low at end (record { digit = None; chomping = k; end = at }) (c ∷ cs) a (omega (arith, b, f)) h)
-
-header-in : (at end : ℕ) (cs : List Cell) → AreClimbing at end cs → HeaderIn at end (header at cs)
-header-in at end [] h = header_end-in at at end (record { digit = None; chomping = Clip; end = at }) [] (omega arith) h h
-header-in at end (c ∷ cs) h =
+header-in : (digit : Option ℕ) (sign : Option Chomping) (low at end : ℕ) (cs : List Cell) → low ≤ at → AreClimbing at end cs
+    → HeaderIn low end (header digit sign at cs)
+header-in digit sign low at end [] a h = header_end-in low at end (record { digit = digit; chomping = unwrap_or sign Clip; end = at }) [] a h h
+header-in digit sign low at end (c ∷ cs) a h =
     let b = climbing-order (c.1 + 1) end cs h.1 in
     let f = h.0 in
     let more = climbing-lower (c.1 + 1) (at + 1) end cs (omega (arith, f)) h.1 in
-    choose (HeaderIn at end) (is_digit c.0) (λ _. after_digit-in (c.0 - 48) at (at + 1) end cs (omega arith) more)
-    (λ _. choose (HeaderIn at end) (is_sign c.0) (λ _. after_sign-in (chomping_of c.0) at (at + 1) end cs (omega arith) more)
-    (λ _. header_end-in at at end (record { digit = None; chomping = Clip; end = at }) (c ∷ cs) (omega arith) (omega (arith, b, f)) h))
-
-header-lower : (low low' end : ℕ) (r : Result Header Fault) → low' ≤ low → HeaderIn low end r → HeaderIn low' end r
-header-lower low low' end (Ok h) a k = let b = k.0 in (omega (arith, a, b), k.1)
-header-lower low low' end (Err e) a k = k
+    choose (HeaderIn low end) (is_none digit && is_digit c.0) (λ _. header-in (Some (c.0 - 48)) sign low (at + 1) end cs (omega (arith, a)) more)
+    (λ _. choose (HeaderIn low end) (is_none sign && is_sign c.0) (λ _. header-in digit (Some (chomping_of c.0)) low (at + 1) end cs (omega (arith, a)) more)
+    (λ _. header_end-in low at end (record { digit = digit; chomping = unwrap_or sign Clip; end = at }) (c ∷ cs) a (omega (arith, b, f)) h))
 
 -- ---- rows
 
@@ -140,6 +117,5 @@ module _ (size : ℕ) where
   block-taken is_literal within low q l ls e h =
       let at = place l.text l.end in
       let here : Stand size at (l ∷ ls) = (((climbing-place low l.end l.text h.0.0).1, h.0.1), h.1) in
-      let first = header-in (at + 1) l.end (drop 1 l.text) (climbing-first q low l.end l.text e h.0.0) in
-      block-by is_literal within at l ls here (header (at + 1) (drop 1 l.text))
-      (header-lower (at + 1) at l.end (header (at + 1) (drop 1 l.text)) (omega arith) first)
+      let first = header-in None None at (at + 1) l.end (drop 1 l.text) (omega arith) (climbing-first q low l.end l.text e h.0.0) in
+      block-by is_literal within at l ls here (header None None (at + 1) (drop 1 l.text)) first

@@ -1,6 +1,6 @@
 use Rattle.std.proofs.Common.{subst}
 use Rattle.al_base.proofs.Growing.{begins_trans}
-use Rattle.al_check_places.specs.Positions.{section_view, seen_view}
+use Rattle.al_check_places.specs.Positions.{section_view}
 use Rattle.al_yaml_tree.specs.View.{view}
 use Rattle.al_expr_types.specs.Tables.{objects_of}
 use Rattle.al_check_contexts.specs.Lookups.{known_by}
@@ -13,7 +13,7 @@ returns-clause-shows c =
     let now = c.see.new.env in
     let kind = c.args.file.kind in
     let root = view c.args.file.root.now in
-    let seen = seen_view c.args.position.seen in
+    let seen = c.args.position.seen in
     subst (λ k. Shows now.types now.scope.types (type_at kind k root (position (section_view c.args.position.section) seen))) c.in_ok-see.ensures.stands.known
     (subst (λ s. Shows now.types now.scope.types (type_at kind (known_by now.outputs) root (position s seen))) c.in_ok-enter.ensures.same c.in_ok-see.ensures.shows)
 

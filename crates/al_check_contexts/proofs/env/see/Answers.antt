@@ -1,5 +1,5 @@
 use Rattle.std.proofs.Common.{map}
-use Rattle.al_check_places.specs.Positions.{before, section_view, seen_view}
+use Rattle.al_check_places.specs.Positions.{before, section_view}
 use Rattle.al_check_contexts.specs.Fixed.{strategy_type}
 use Rattle.al_check_contexts.specs.Contexts.{job_in, owner_of}
 use Rattle.al_tree.specs.Files.{jobs_of}
@@ -44,7 +44,7 @@ returns-clause-shows c =
     let now = c.first.new.types in
     let made = c.in_ok-steps.ensures in
     let count = c.seen_count-count.result in
-    same_seen now (record env.scope.types { steps = c.in_ok-steps.steps }) c.args.file.kind known root section (before count) (seen_view c.args.seen)
+    same_seen now (record env.scope.types { steps = c.in_ok-steps.steps }) c.args.file.kind known root section (before count) c.args.seen
     (c.seen_count-count.ensures.seen env.types known owner was.steps)
     (steps_changed now env.types env.scope.types c.in_ok-steps.steps c.args.file.kind known root section (before env.seen) (before count) made.kept
     (made.ty known owner was.steps) was.shows)

@@ -3,7 +3,7 @@ use Rattle.std.proofs.lemmas.List.{map-append}
 use Rattle.al_yaml_tree.specs.View.{entry_view}
 use Rattle.al_tree.specs.Keys.{key_of, keys_in}
 use Rattle.al_tree.specs.Names.{among}
-use Rattle.al_tree.specs.Values.{firsts, member_of}
+use Rattle.al_tree.specs.Values.{firsts_by, member_of}
 use Rattle.al_tree.proofs.Lists.{keys_next, left_next}
 use Rattle.al_tree.proofs.values.first_members.Goals.{then-is_new+in_ok-push, else-is_new}
 use Rattle.al_tree.proofs.values.first_members.Goals as goal
@@ -31,9 +31,9 @@ loop-i-preserved c =
           ap (λ v. map member_of v.items) w.firsts-is ∙ sym (append-nil members)
           ∙ ap (λ b. members ++ (if b then [] else entry_view e ∷ [])) (sym w.if-is_new.false)
     ] in
-    ap (λ ms. ms ++ firsts (keys_in (map entry_view (take (i + 1) es))) left) added
-    ∙ ap (λ b. (members ++ (if b then [] else entry_view e ∷ [])) ++ firsts (keys_in (map entry_view (take (i + 1) es))) left) repeats
-    ∙ ap (λ ks. (members ++ (if among before (key_of (entry_view e)) then [] else entry_view e ∷ [])) ++ firsts ks left) more
-    ∙ append_assoc members (if among before (key_of (entry_view e)) then [] else entry_view e ∷ []) (firsts (before ++ key_of (entry_view e) ∷ []) left)
-    ∙ ap (λ l. members ++ firsts before l) (sym rest)
+    ap (λ ms. ms ++ firsts_by among (keys_in (map entry_view (take (i + 1) es))) left) added
+    ∙ ap (λ b. (members ++ (if b then [] else entry_view e ∷ [])) ++ firsts_by among (keys_in (map entry_view (take (i + 1) es))) left) repeats
+    ∙ ap (λ ks. (members ++ (if among before (key_of (entry_view e)) then [] else entry_view e ∷ [])) ++ firsts_by among ks left) more
+    ∙ append_assoc members (if among before (key_of (entry_view e)) then [] else entry_view e ∷ []) (firsts_by among (before ++ key_of (entry_view e) ∷ []) left)
+    ∙ ap (λ l. members ++ firsts_by among before l) (sym rest)
     ∙ c.loop-i.invariant

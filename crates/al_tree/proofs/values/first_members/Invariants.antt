@@ -2,11 +2,12 @@ use Rattle.std.proofs.Common.{◌≡◌, ◌++◌, [], take, drop, map}
 use Rattle.al_yaml_tree.specs.View.{entry_view}
 use Rattle.al_tree.specs.Keys.{keys_in}
 use Rattle.al_tree.specs.Values.{member_of}
-use Rattle.al_tree.specs.Values.{firsts}
+use Rattle.al_tree.specs.Names.{among}
+use Rattle.al_tree.specs.Values.{firsts_by}
 use Rattle.al_tree.proofs.values.first_members.Given as goal
 
 -- the members so far, and the first entries among those that are left
 abbrev pub invariant-loop-i : goal.invariant-loop-i
 invariant-loop-i l =
-    map member_of l.firsts.items ++ firsts (keys_in (map entry_view (take l.i l.entries))) (map entry_view (drop l.i l.entries))
-    ≡ firsts [] (map entry_view l.entries)
+    map member_of l.firsts.items ++ firsts_by among (keys_in (map entry_view (take l.i l.entries))) (map entry_view (drop l.i l.entries))
+    ≡ firsts_by among [] (map entry_view l.entries)

@@ -8,8 +8,8 @@ use Rattle.al_base.specs.NamePlaces.{name_place}
 use Rattle.al_tree.proofs.KeyLemmas.{name_stands_first, none_at}
 use Rattle.al_tree.proofs.Lists.{left_next, not_not}
 use Rattle.al_tree.specs.Keys.{key_of, keys_in}
-use Rattle.al_tree.specs.Values.{member_of}
-use Rattle.al_tree_declarations.specs.Declarations.{first_named, named_among}
+use Rattle.al_tree.specs.Values.{firsts_by, member_of}
+use Rattle.al_tree_declarations.specs.Declarations.{named_among}
 use Rattle.al_tree_declarations.proofs.mappings.first_named.Goals.{then-is_first+in_ok-push, else-is_first}
 use Rattle.al_tree_declarations.proofs.mappings.first_named.Goals as goal
 
@@ -48,9 +48,9 @@ loop-i-preserved c =
           ap (λ v. map member_of v.items) w.found-is ∙ sym (append-nil out)
           ∙ ap (λ b. out ++ (if not b then [] else member_of member ∷ [])) (sym w.if-is_first.false)
     ] in
-    ap (λ ms. ms ++ first_named (keys_in (map member_of (take (i + 1) members))) left) added
-    ∙ ap (λ b. (out ++ (if b then [] else member_of member ∷ [])) ++ first_named (keys_in (map member_of (take (i + 1) members))) left) taken
-    ∙ ap (λ ks. (out ++ (if named_among before key then [] else member_of member ∷ [])) ++ first_named ks left) more
-    ∙ append_assoc out (if named_among before key then [] else member_of member ∷ []) (first_named (before ++ key ∷ []) left)
-    ∙ ap (λ l. out ++ first_named before l) (sym rest)
+    ap (λ ms. ms ++ firsts_by named_among (keys_in (map member_of (take (i + 1) members))) left) added
+    ∙ ap (λ b. (out ++ (if b then [] else member_of member ∷ [])) ++ firsts_by named_among (keys_in (map member_of (take (i + 1) members))) left) taken
+    ∙ ap (λ ks. (out ++ (if named_among before key then [] else member_of member ∷ [])) ++ firsts_by named_among ks left) more
+    ∙ append_assoc out (if named_among before key then [] else member_of member ∷ []) (firsts_by named_among (before ++ key ∷ []) left)
+    ∙ ap (λ l. out ++ firsts_by named_among before l) (sym rest)
     ∙ c.loop-i.invariant

@@ -1,11 +1,11 @@
 use Rattle.std.proofs.Common.{◌≡◌, ◌++◌, [], take, drop, map}
 use Rattle.al_tree.specs.Keys.{keys_in}
-use Rattle.al_tree.specs.Values.{member_of}
-use Rattle.al_tree_declarations.specs.Declarations.{first_named}
+use Rattle.al_tree.specs.Values.{firsts_by, member_of}
+use Rattle.al_tree_declarations.specs.Declarations.{named_among}
 use Rattle.al_tree_declarations.proofs.mappings.first_named.Given as goal
 
 -- what was found, with what of the rest no name before it equals
 abbrev pub invariant-loop-i : goal.invariant-loop-i
 invariant-loop-i l =
-    map member_of l.found.items ++ first_named (keys_in (map member_of (take l.i l.members))) (map member_of (drop l.i l.members))
-    ≡ first_named [] (map member_of l.members)
+    map member_of l.found.items ++ firsts_by named_among (keys_in (map member_of (take l.i l.members))) (map member_of (drop l.i l.members))
+    ≡ firsts_by named_among [] (map member_of l.members)
