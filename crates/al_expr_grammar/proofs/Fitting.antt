@@ -4,9 +4,9 @@ use Rattle.std.proofs.Common.{refl, subst, arith, Bool, true, false, cond, ◌&&
 use Rattle.std.proofs.lemmas.Bool.Decides.{nat_tests}
 use Rattle.std.proofs.lemmas.List.{get_or-drop}
 use Rattle.std.proofs.lemmas.List.Sums.{prefix_len_passes, prefix_len-le-length}
-use Rattle.std.specs.Prelude.{slice_index}
+use Rattle.std.specs.Prelude.{codes, slice_index}
 use Rattle.std.specs.Char.{is_ascii_digit, is_ascii_hexdigit}
-use Rattle.std.specs.List.{prefix_len}
+use Rattle.std.specs.List.{prefix_len, starts_with}
 use Rattle.al_base.specs.FirstBytes.{begins_with, first_is}
 use Rattle.al_expr_grammar.specs.Tokens.{is_sign, begins_name, goes_on_name, with_digits, hex_len, fraction_len}
 use Rattle.al_expr_grammar.specs.Tokens.{exponent_len, decimal_tail, decimal_len, unsigned_len, number_len, add_to, text_tail}
@@ -75,25 +75,29 @@ begun : (c : ℕ) (bs : List ℕ) → begins_with c bs ≡ true → 1 ≤ length
 begun c [] h = absurd cc
 begun c (b ∷ bs) h = omega arith
 
-two_begun : (c d : ℕ) (bs : List ℕ) → (begins_with c bs && begins_with d (drop 1 bs)) ≡ true → 2 ≤ length bs
-two_begun c d [] h = absurd cc
-two_begun c d (b ∷ []) h = absurd (grind arith)
-two_begun c d (b ∷ e ∷ bs) h = omega arith
+later : (a b : Bool) → (a && b) ≡ true → b ≡ true
+later true b h = h
+later false b h = absurd cc
+
+-- A text at the front lies in the bytes.
+pub text_within : (text bs : List ℕ) → starts_with nat_eq bs text ≡ true → length text ≤ length bs
+text_within [] bs h = omega arith
+text_within (c ∷ text) [] h = absurd cc
+text_within (c ∷ text) (b ∷ bs) h = let i = text_within text bs (later (nat_eq c b) _ h) in omega (arith, i)
 
 fraction_ends : (bs : List ℕ) → Ends bs (fraction_len bs)
 fraction_ends bs = either bs _ _ _ (λ h. with_ends bs 1 _ (begun _ bs h) (run_ends is_ascii_digit (drop 1 bs) digit_ascii)) (nothing bs)
 
-signed_ends : (bs : List ℕ) → 1 ≤ length bs
-    → Ends bs (cond (first_is is_sign (drop 1 bs)) (with_digits 2 (prefix_len is_ascii_digit (drop 2 bs))) (with_digits 1 (prefix_len is_ascii_digit (drop 1 bs))))
-signed_ends bs h = either bs _ _ _
-    (λ s. with_ends bs 2 _ (let n = one_byte _ (drop 1 bs) s in omega (arith, n, length-drop 1 bs))
-    (run_ends is_ascii_digit (drop 2 bs) digit_ascii)) (with_ends bs 1 _ h (run_ends is_ascii_digit (drop 1 bs) digit_ascii))
+signed_ends : (bs : List ℕ) (sign : Bool) → first_is is_sign (drop 1 bs) ≡ sign → 1 ≤ length bs
+    → Ends bs (with_digits (cond sign 2 1) (prefix_len is_ascii_digit (drop (cond sign 2 1) bs)))
+signed_ends bs true s h = with_ends bs 2 _ (let n = one_byte _ (drop 1 bs) s in omega (arith, n, length-drop 1 bs)) (run_ends is_ascii_digit (drop 2 bs) digit_ascii)
+signed_ends bs false s h = with_ends bs 1 _ h (run_ends is_ascii_digit (drop 1 bs) digit_ascii)
 
 exponent_ends : (bs : List ℕ) → Ends bs (exponent_len bs)
-exponent_ends bs = either bs _ _ _ (λ h. signed_ends bs (one_byte _ bs h)) (nothing bs)
+exponent_ends bs = either bs _ _ _ (λ h. signed_ends bs (first_is is_sign (drop 1 bs)) refl (one_byte _ bs h)) (nothing bs)
 
 hex_ends : (bs : List ℕ) → Ends bs (hex_len bs)
-hex_ends bs = either bs _ _ _ (λ h. with_ends bs 2 _ (two_begun _ _ bs h) (run_ends is_ascii_hexdigit (drop 2 bs) hex_ascii)) (nothing bs)
+hex_ends bs = either bs _ _ _ (λ h. with_ends bs 2 _ (text_within (codes "0x") bs h) (run_ends is_ascii_hexdigit (drop 2 bs) hex_ascii)) (nothing bs)
 
 tail_ends : (bs : List ℕ) → Ends bs (decimal_tail bs)
 tail_ends bs = further bs (fraction_len bs) _ (fraction_ends bs) (exponent_ends (drop (fraction_len bs) bs))

@@ -1,12 +1,13 @@
 -- A text that is never closed has a quote.
 use Rattle.std.proofs.Common.{◌≡◌, ◌≢◌, ◌-◌, ◌+◌, ℕ, zero, suc, List, [], ◌∷◌, length, arith, refl, sym, ◌∙◌, Bool, true, false, cond, Option, Some, None}
-use Rattle.std.specs.Prelude.{option_map}
-use Rattle.std.specs.Option.{option_or}
+use Rattle.std.specs.Prelude.{find, nat_eq, option_map}
+use Rattle.std.specs.List.{starts_with}
+use Rattle.std.specs.Option.{option_map_or, option_or}
 use Rattle.al_expr_grammar.specs.declared.lexer.Read.{Read}
 use Rattle.al_expr_grammar.specs.declared.lexer.Read.TheVariants.{Blank, Token, BadCharacter, OpenText}
 use Rattle.al_expr_grammar.specs.declared.token.TokenKind.{TokenKind}
 use Rattle.al_expr_grammar.specs.Lexeme.{Lexeme}
-use Rattle.al_expr_grammar.specs.Tokens.{Lexed, AllRead, Bad, Unclosed, read, mark, number_read, number_len, or_equal, double_mark, tokens_of}
+use Rattle.al_expr_grammar.specs.Tokens.{Lexed, AllRead, Bad, Unclosed, read, mark, marks, number_read, number_len, tokens_of}
 use Rattle.al_expr_grammar.specs.Tokens.{is_quote, last_quote, then_token}
 use Rattle.al_expr_grammar.specs.Private.TokenStates.{continue_with, tokens_from}
 use Rattle.al_expr_grammar.proofs.Splitting.{tokens_are}
@@ -18,23 +19,16 @@ apart false x y f g = g
 token : (k : TokenKind) (n : ℕ) → Token k n ≢ OpenText
 token k n e = cc
 
-equal_apart : (t : Bool) (k j : TokenKind) → or_equal t k j ≢ OpenText
-equal_apart true k j e = cc
-equal_apart false k j e = cc
-
-doubled_apart : (t : Bool) (k : TokenKind) → double_mark t k ≢ OpenText
-doubled_apart true k e = cc
-doubled_apart false k e = cc
-
 number_apart : (n : ℕ) → number_read n ≢ OpenText
 number_apart zero e = cc
 number_apart (suc n) e = cc
 
-bad_apart : BadCharacter ≢ OpenText
-bad_apart e = cc
+found_apart : (o : Option (List ℕ × TokenKind)) → option_map_or (λ m. Token m.1 (length m.0)) o BadCharacter ≢ OpenText
+found_apart None e = cc
+found_apart (Some m) e = cc
 
-mark_apart : (b : ℕ) (bs : List ℕ) → mark b bs ≢ OpenText
-mark_apart b bs = search (apart, token, equal_apart, doubled_apart, bad_apart) depth 20
+mark_apart : (bs : List ℕ) → mark bs ≢ OpenText
+mark_apart bs = found_apart (find (λ m. starts_with nat_eq bs m.0) marks)
 
 quote_or : (t : Bool) (x y : Read) → y ≢ OpenText → cond t x y ≡ OpenText → t ≡ true
 quote_or true x y f e = refl
@@ -49,7 +43,7 @@ blank_apart e = cc
 
 begins_with_quote : (b : ℕ) (bs : List ℕ) → read (b ∷ bs) ≡ OpenText → is_quote b ≡ true
 begins_with_quote b bs e =
-    quote_or _ _ _ (apart _ _ _ (number_apart (number_len (b ∷ bs))) (mark_apart b bs)) (other _ _ _ (token _ _) (other _ _ _ blank_apart e))
+    quote_or _ _ _ (apart _ _ _ (number_apart (number_len (b ∷ bs))) (mark_apart (b ∷ bs))) (other _ _ _ (token _ _) (other _ _ _ blank_apart e))
 
 some_second : (o : Option ℕ) (n : ℕ) → option_or o (Some n) ≢ None
 some_second None n = λ e. cc

@@ -1,16 +1,17 @@
 -- What is read at a place has a byte and lies in the bytes.
-use Rattle.std.proofs.Common.{◌≡◌, ◌<◌, ◌≤◌, ℕ, List, [], ◌∷◌, length, refl, sym, subst, arith, Bool, true, false, cond, nat_eq, ◌||◌}
+use Rattle.std.proofs.Common.{◌≡◌, ◌<◌, ◌≤◌, ℕ, List, [], ◌∷◌, length, refl, sym, subst, arith, Bool, true, false, cond, nat_eq, nat_lt, ◌&&◌, ◌||◌, Option, Some}
 use Rattle.std.proofs.lemmas.Bool.Decides.{nat_tests}
 use Rattle.std.specs.Char.{is_ascii_digit}
+use Rattle.std.specs.List.{list_all, starts_with}
+use Rattle.std.specs.Option.{option_map_or}
+use Rattle.std.specs.Prelude.{find}
 use Rattle.al_expr_grammar.specs.declared.lexer.Read.{Read}
 use Rattle.al_expr_grammar.specs.declared.lexer.Read.TheVariants.{Blank, Token, BadCharacter, OpenText}
 use Rattle.al_expr_grammar.specs.declared.token.TokenKind.{TokenKind}
-use Rattle.al_expr_grammar.specs.declared.token.TokenKind.TheVariants.{Open, Close, OpenIndex, CloseIndex, Dot, Comma, Star}
-use Rattle.al_base.specs.FirstBytes.{begins_with}
-use Rattle.al_expr_grammar.specs.Tokens.{begins_name, double_mark, is_blank, is_sign, mark, name_read, number_len, number_read, or_equal}
+use Rattle.al_expr_grammar.specs.Tokens.{begins_name, is_blank, is_sign, mark, marks, name_read, number_len, number_read}
 use Rattle.al_expr_grammar.specs.Tokens.{read, text_read, text_tail}
 use Rattle.al_expr_grammar.specs.Private.TokenStates.{Fits}
-use Rattle.al_expr_grammar.proofs.Fitting.{name_fits, number_fits, text_fits}
+use Rattle.al_expr_grammar.proofs.Fitting.{name_fits, number_fits, text_fits, text_within}
 
 abbrev pub Short : List ℕ → Read → Type 0
 Short bs (Token k n) = (0 < n) × (n ≤ length bs)
@@ -30,42 +31,29 @@ if_given : (bs : List ℕ) (t : Bool) (x y : Read) → (t ≡ true → Short bs 
 if_given bs true x y a b = a refl
 if_given bs false x y a b = b
 
-some_first : (c : ℕ) (bs : List ℕ) → begins_with c bs ≡ true → 1 ≤ length bs
-some_first c [] e = absurd cc
-some_first c (b ∷ bs) e = omega arith
+-- the token of a mark, where one is found
+abbrev mark_found : Option (List ℕ × TokenKind) → Read
+mark_found o = option_map_or (λ m. Token m.1 (length m.0)) o BadCharacter
 
-one_byte : (b : ℕ) (bs : List ℕ) (k : TokenKind) → Short (b ∷ bs) (Token k 1)
-one_byte b bs k = (omega arith, omega arith)
+found_short : (bs : List ℕ) (m : List ℕ × TokenKind) (o : Option (List ℕ × TokenKind)) (t : Bool) → starts_with nat_eq bs m.0 ≡ t → 0 < length m.0
+    → Short bs (mark_found o) → Short bs (mark_found (cond t (Some m) o))
+found_short bs m o true e some h = (some, text_within m.0 bs e)
+found_short bs m o false e some h = h
 
-equal_short_at : (b : ℕ) (bs : List ℕ) (t : Bool) (j k : TokenKind) → (t ≡ true → 1 ≤ length bs) → Short (b ∷ bs) (or_equal t j k)
-equal_short_at b bs true j k f = let h = f refl in (omega arith, omega (arith, h))
-equal_short_at b bs false j k f = (omega arith, omega arith)
+both : (a b : Bool) → (a && b) ≡ true → (a ≡ true) × (b ≡ true)
+both true b h = (refl, h)
+both false b h = absurd cc
 
-equal_short : (b : ℕ) (bs : List ℕ) (j k : TokenKind) → Short (b ∷ bs) (or_equal (begins_with 61 bs) j k)
-equal_short b bs j k = equal_short_at b bs (begins_with 61 bs) j k (some_first 61 bs)
+some_byte : (text : List ℕ) → nat_lt 0 (length text) ≡ true → 0 < length text
+some_byte text h = grind (arith, nat_tests)
 
-doubled_short_at : (b : ℕ) (bs : List ℕ) (t : Bool) (k : TokenKind) → (t ≡ true → 1 ≤ length bs) → Short (b ∷ bs) (double_mark t k)
-doubled_short_at b bs true k f = let h = f refl in (omega arith, omega (arith, h))
-doubled_short_at b bs false k f = tt
+found_in : (bs : List ℕ) (ms : List (List ℕ × TokenKind)) → list_all (λ m. nat_lt 0 (length m.0)) ms ≡ true
+    → Short bs (mark_found (find (λ m. starts_with nat_eq bs m.0) ms))
+found_in bs [] h = tt
+found_in bs (m ∷ ms) h = let h' = both _ _ h in found_short bs m _ (starts_with nat_eq bs m.0) refl (some_byte m.0 h'.0) (found_in bs ms h'.1)
 
-doubled_short : (b c : ℕ) (bs : List ℕ) (k : TokenKind) → Short (b ∷ bs) (double_mark (begins_with c bs) k)
-doubled_short b c bs k = doubled_short_at b bs (begins_with c bs) k (some_first c bs)
-
-mark_short : (b : ℕ) (bs : List ℕ) → Short (b ∷ bs) (mark b bs)
-mark_short b bs =
-    if_short (b ∷ bs) (nat_eq b 40) _ _ (one_byte b bs Open)
-    (if_short (b ∷ bs) (nat_eq b 41) _ _ (one_byte b bs Close)
-    (if_short (b ∷ bs) (nat_eq b 91) _ _ (one_byte b bs OpenIndex)
-    (if_short (b ∷ bs) (nat_eq b 93) _ _ (one_byte b bs CloseIndex)
-    (if_short (b ∷ bs) (nat_eq b 46) _ _ (one_byte b bs Dot)
-    (if_short (b ∷ bs) (nat_eq b 44) _ _ (one_byte b bs Comma)
-    (if_short (b ∷ bs) (nat_eq b 42) _ _ (one_byte b bs Star)
-    (if_short (b ∷ bs) (nat_eq b 33) _ _ (equal_short b bs _ _)
-    (if_short (b ∷ bs) (nat_eq b 60) _ _ (equal_short b bs _ _)
-    (if_short (b ∷ bs) (nat_eq b 62) _ _ (equal_short b bs _ _)
-    (if_short (b ∷ bs) (nat_eq b 61) _ _ (doubled_short b 61 bs _)
-    (if_short (b ∷ bs) (nat_eq b 38) _ _ (doubled_short b 38 bs _)
-    (if_short (b ∷ bs) (nat_eq b 124) _ _ (doubled_short b 124 bs _) tt))))))))))))
+mark_short : (bs : List ℕ) → Short bs (mark bs)
+mark_short bs = found_in bs marks refl
 
 quote_is : (b : ℕ) → nat_eq b 39 ≡ true → b ≡ 39
 quote_is b h = grind (arith, nat_tests)
@@ -80,5 +68,5 @@ read_short b bs =
     if_short (b ∷ bs) (is_blank b) Blank _ tt
     (if_given (b ∷ bs) (begins_name b) (name_read (b ∷ bs)) _ (λ e. fits_short (b ∷ bs) (name_read (b ∷ bs)) (name_fits b bs e))
     (if_given (b ∷ bs) (nat_eq b 39) (text_read (text_tail bs)) _ (text_short b bs)
-    (if_short (b ∷ bs) (is_ascii_digit b || is_sign b) (number_read (number_len (b ∷ bs))) (mark b bs)
-    (fits_short (b ∷ bs) (number_read (number_len (b ∷ bs))) (number_fits (b ∷ bs))) (mark_short b bs))))
+    (if_short (b ∷ bs) (is_ascii_digit b || is_sign b) (number_read (number_len (b ∷ bs))) (mark (b ∷ bs))
+    (fits_short (b ∷ bs) (number_read (number_len (b ∷ bs))) (number_fits (b ∷ bs))) (mark_short (b ∷ bs)))))

@@ -49,20 +49,18 @@ after_operand k (Index j ∷ st) CloseIndex = Go O j st
 after_operand k st _ = Stuck
 
 abbrev pub step : Mode → ℕ → List Frame → TokenKind → Transition
-step E k st t = operand k st t
 step A k st Close = after_operand k st Close
-step A k st t = operand k st t
 step I k st Star = Go S k st
-step I k st t = operand k st t
 step S k st CloseIndex = after_operand k st CloseIndex
 step S k st t = Stuck
 step D k st Name = Go O k st
 step D k st (Keyword w) = Go O k st
 step D k st Star = Go O k st
 step D k st t = Stuck
-step O k st t = after_operand k st t
 step N k st Open = Deeper A 0 (Call k ∷ st)
 step N k st t = after_operand k st t
+step O k st t = after_operand k st t
+step m k st t = operand k st t
 
 -- A fault stands at the token behind which this many are left, itself counted.
 pub data Verdict : Type 0 where

@@ -15,11 +15,11 @@ use Rattle.al_base.specs.declared.faults.Span.{Span}
 use Rattle.al_expr_grammar.specs.Lexeme.{Lexeme, lexeme}
 use Rattle.std.specs.Char.{is_ascii_alphabetic, is_ascii_digit, is_ascii_hexdigit}
 use Rattle.std.specs.Int.{is_in_range}
-use Rattle.std.specs.List.{prefix_len}
-use Rattle.std.specs.Option.{option_or}
+use Rattle.std.specs.List.{prefix_len, starts_with}
+use Rattle.std.specs.Option.{option_map_or, option_or}
 use Rattle.std.specs.Str.{bytes_eq}
-use Rattle.std.specs.Prelude.{codes, ℕ, zero, suc, ◌+◌, List, [], ◌∷◌, Bool, ◌&&◌, ◌||◌, ◌==◌, if◌then◌else◌, max}
-use Rattle.std.specs.Prelude.{take, drop, Option, Some, None, option_map, length}
+use Rattle.std.specs.Prelude.{codes, ℕ, zero, suc, ◌+◌, List, [], ◌∷◌, Bool, ◌||◌, ◌==◌, if◌then◌else◌, max, nat_eq}
+use Rattle.std.specs.Prelude.{find, take, drop, Option, Some, None, option_map, length}
 
 abbrev pub begins_name : ℕ → Bool
 begins_name b = is_ascii_alphabetic b || b == ascii.underscore
@@ -43,9 +43,7 @@ with_digits lead (suc n) = lead + suc n
 
 -- `0x` and hexadecimal digits
 abbrev pub hex_len : List ℕ → ℕ
-hex_len bs =
-    if begins_with ascii.digit_zero bs && begins_with ascii.small_x (drop 1 bs)
-    then with_digits 2 (prefix_len is_ascii_hexdigit (drop 2 bs)) else 0
+hex_len bs = if starts_with nat_eq bs (codes "0x") then with_digits 2 (prefix_len is_ascii_hexdigit (drop 2 bs)) else 0
 
 -- a dot and digits
 abbrev pub fraction_len : List ℕ → ℕ
@@ -54,19 +52,15 @@ fraction_len bs = if begins_with ascii.dot bs then with_digits 1 (prefix_len is_
 -- an `e`, a sign or none, and digits
 abbrev pub exponent_len : List ℕ → ℕ
 exponent_len bs =
-    if first_is (λ b. b == ascii.capital_e || b == ascii.small_e) bs
-    then (if first_is is_sign (drop 1 bs) then with_digits 2 (prefix_len is_ascii_digit (drop 2 bs))
-    else with_digits 1 (prefix_len is_ascii_digit (drop 1 bs)))
-    else 0
+    let lead = if first_is is_sign (drop 1 bs) then 2 else 1 in
+    if first_is (λ b. b == ascii.capital_e || b == ascii.small_e) bs then with_digits lead (prefix_len is_ascii_digit (drop lead bs)) else 0
 
 -- what follows the digits of a decimal number
 abbrev pub decimal_tail : List ℕ → ℕ
 decimal_tail bs = fraction_len bs + exponent_len (drop (fraction_len bs) bs)
 
 abbrev pub decimal_len : List ℕ → ℕ
-decimal_len bs =
-    if first_is is_ascii_digit bs
-    then prefix_len is_ascii_digit bs + decimal_tail (drop (prefix_len is_ascii_digit bs) bs) else 0
+decimal_len bs = let whole = prefix_len is_ascii_digit bs in if first_is is_ascii_digit bs then whole + decimal_tail (drop whole bs) else 0
 
 -- a number's length without its sign, the longest that fits, or 0 where there is none
 abbrev pub unsigned_len : List ℕ → ℕ
@@ -93,34 +87,19 @@ word_kind b =
     else if bytes_eq b (codes "false") then Keyword keyword.False
     else Name
 
--- the same mark alone or before `=`
-abbrev pub or_equal : Bool → TokenKind → TokenKind → Read
-or_equal is_before_equal alone equal = if is_before_equal then Token equal 2 else Token alone 1
+-- the marks; of two that begin alike the longer one stands first
+abbrev pub marks : List (List ℕ × TokenKind)
+marks =
+    (codes "(", Open) ∷ (codes ")", Close) ∷ (codes "[", OpenIndex) ∷ (codes "]", CloseIndex) ∷ (codes ".", Dot) ∷ (codes ",", Comma)
+    ∷ (codes "*", Star) ∷ (codes "!=", Infix NotEqual) ∷ (codes "!", Bang) ∷ (codes "<=", Infix LessEqual) ∷ (codes "<", Infix Less)
+    ∷ (codes ">=", Infix GreaterEqual) ∷ (codes ">", Infix Greater) ∷ (codes "==", Infix Equal) ∷ (codes "&&", Infix And)
+    ∷ (codes "||", Infix Or) ∷ []
 
--- a mark that stands doubled
-abbrev pub double_mark : Bool → TokenKind → Read
-double_mark is_double k = if is_double then Token k 2 else BadCharacter
-
-abbrev pub mark : ℕ → List ℕ → Read
-mark b bs =
-    if b == ascii.open_parenthesis then Token Open 1
-    else if b == ascii.close_parenthesis then Token Close 1
-    else if b == ascii.open_bracket then Token OpenIndex 1
-    else if b == ascii.close_bracket then Token CloseIndex 1
-    else if b == ascii.dot then Token Dot 1
-    else if b == ascii.comma then Token Comma 1
-    else if b == ascii.asterisk then Token Star 1
-    else if b == ascii.exclamation then or_equal (begins_with ascii.equals bs) Bang (Infix NotEqual)
-    else if b == ascii.less then or_equal (begins_with ascii.equals bs) (Infix Less) (Infix LessEqual)
-    else if b == ascii.greater then or_equal (begins_with ascii.equals bs) (Infix Greater) (Infix GreaterEqual)
-    else if b == ascii.equals then double_mark (begins_with ascii.equals bs) (Infix Equal)
-    else if b == ascii.ampersand then double_mark (begins_with ascii.ampersand bs) (Infix And)
-    else if b == ascii.bar then double_mark (begins_with ascii.bar bs) (Infix Or)
-    else BadCharacter
+abbrev pub mark : List ℕ → Read
+mark bs = option_map_or (λ m. Token m.1 (length m.0)) (find (λ m. starts_with nat_eq bs m.0) marks) BadCharacter
 
 abbrev pub text_read : Option ℕ → Read
-text_read None = OpenText
-text_read (Some n) = Token Text (1 + n)
+text_read tail = option_map_or (λ n. Token Text (1 + n)) tail OpenText
 
 -- a number of a positive length
 abbrev pub number_read : ℕ → Read
@@ -137,7 +116,7 @@ read (b ∷ bs) =
     else if begins_name b then name_read (b ∷ bs)
     else if is_quote b then text_read (text_tail bs)
     else if is_ascii_digit b || is_sign b then number_read (number_len (b ∷ bs))
-    else mark b bs
+    else mark (b ∷ bs)
 
 pub data Lexed : Type 0 where
   AllRead : List Lexeme → Lexed

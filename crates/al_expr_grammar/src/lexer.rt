@@ -1,12 +1,10 @@
 //! The tokens of a content, or the character at which they break off.
 
-ghost use Rattle.std.specs.Prelude.{map, ℕ, IfOk, IfSome, MatchOption, MatchResult, ◌≡◌, ◌≤◌, ◌<◌, ◌+◌, ◌^◌, Some, [], ◌∷◌, length, false};
+ghost use Rattle.std.specs.Prelude.{map, IfOk, IfSome, MatchOption, MatchResult, ◌≡◌, ◌≤◌, ◌<◌, ◌+◌, ◌^◌, Some, [], ◌∷◌, length, false};
 ghost use Rattle.std.specs.Int.{is_in_range};
 ghost use Rattle.std.specs.List.{prefix_len};
 ghost use Rattle.al_expr_grammar.specs.Lexeme.{seen};
-ghost use Rattle.al_expr_grammar.specs.Tokens.{begins_name, goes_on_name, is_blank, is_sign, or_equal, double_mark, mark};
-ghost use Rattle.al_base.specs.Ascii as ascii;
-ghost use Rattle.al_base.specs.FirstBytes.{begins_with};
+ghost use Rattle.al_expr_grammar.specs.Tokens.{begins_name, goes_on_name, is_blank, is_sign, mark};
 ghost use Rattle.al_base.specs.Limits.{longest_text};
 ghost use Rattle.al_expr_grammar.specs.Tokens.{word_kind, text_tail, text_read, name_read, number_read};
 ghost use Rattle.al_expr_grammar.specs.Tokens.{number_len, read, tokens_of, AllRead};
@@ -118,67 +116,28 @@ fn text_len(bytes: &[u8]) -> Option<usize>
     if closes { Some(bytes.len()) } else { None }
 }
 
-fn starts_with(bytes: &[u8], b: u8) -> bool
-    ensures { result ≡ begins_with b bytes.now }
+/// The mark at the front. Of two that begin alike the longer one counts.
+fn mark_at(bytes: &[u8]) -> Read
+    ensures value { result ≡ mark bytes.now }
+    ensures fits { Fits bytes.now result }
 {
     match bytes {
-        [first, ..] => *first == b,
-        [] => false,
-    }
-}
-
-/// A mark that means another thing before `=`.
-fn alone_or_equal(rest: &[u8], alone: TokenKind, equal: TokenKind) -> Read
-    ensures value { result ≡ or_equal (begins_with ascii.equals rest.now) alone equal }
-    ensures fits { (b : ℕ) → b < 128 → Fits (b ∷ rest.now) result }
-{
-    if starts_with(rest, b'=') {
-        Read::Token(equal, 2)
-    } else {
-        Read::Token(alone, 1)
-    }
-}
-
-/// A mark that stands doubled only.
-fn twice(b: u8, rest: &[u8], kind: TokenKind) -> Read
-    requires { b < 128 }
-    ensures value { result ≡ double_mark (begins_with b rest.now) kind }
-    ensures fits { Fits (b ∷ rest.now) result }
-{
-    if starts_with(rest, b) {
-        Read::Token(kind, 2)
-    } else {
-        Read::BadCharacter
-    }
-}
-
-/// The mark that a byte begins, with what follows the byte.
-fn mark_at(first: u8, rest: &[u8]) -> Read
-    ensures value { result ≡ mark first rest.now }
-    ensures fits { Fits (first ∷ rest.now) result }
-{
-    match first {
-        b'(' => Read::Token(TokenKind::Open, 1),
-        b')' => Read::Token(TokenKind::Close, 1),
-        b'[' => Read::Token(TokenKind::OpenIndex, 1),
-        b']' => Read::Token(TokenKind::CloseIndex, 1),
-        b'.' => Read::Token(TokenKind::Dot, 1),
-        b',' => Read::Token(TokenKind::Comma, 1),
-        b'*' => Read::Token(TokenKind::Star, 1),
-        b'!' => alone_or_equal(rest, TokenKind::Bang, TokenKind::Infix(Operator::NotEqual)),
-        b'<' => alone_or_equal(
-            rest,
-            TokenKind::Infix(Operator::Less),
-            TokenKind::Infix(Operator::LessEqual),
-        ),
-        b'>' => alone_or_equal(
-            rest,
-            TokenKind::Infix(Operator::Greater),
-            TokenKind::Infix(Operator::GreaterEqual),
-        ),
-        b'=' => twice(b'=', rest, TokenKind::Infix(Operator::Equal)),
-        b'&' => twice(b'&', rest, TokenKind::Infix(Operator::And)),
-        b'|' => twice(b'|', rest, TokenKind::Infix(Operator::Or)),
+        [b'(', ..] => Read::Token(TokenKind::Open, 1),
+        [b')', ..] => Read::Token(TokenKind::Close, 1),
+        [b'[', ..] => Read::Token(TokenKind::OpenIndex, 1),
+        [b']', ..] => Read::Token(TokenKind::CloseIndex, 1),
+        [b'.', ..] => Read::Token(TokenKind::Dot, 1),
+        [b',', ..] => Read::Token(TokenKind::Comma, 1),
+        [b'*', ..] => Read::Token(TokenKind::Star, 1),
+        [b'!', b'=', ..] => Read::Token(TokenKind::Infix(Operator::NotEqual), 2),
+        [b'!', ..] => Read::Token(TokenKind::Bang, 1),
+        [b'<', b'=', ..] => Read::Token(TokenKind::Infix(Operator::LessEqual), 2),
+        [b'<', ..] => Read::Token(TokenKind::Infix(Operator::Less), 1),
+        [b'>', b'=', ..] => Read::Token(TokenKind::Infix(Operator::GreaterEqual), 2),
+        [b'>', ..] => Read::Token(TokenKind::Infix(Operator::Greater), 1),
+        [b'=', b'=', ..] => Read::Token(TokenKind::Infix(Operator::Equal), 2),
+        [b'&', b'&', ..] => Read::Token(TokenKind::Infix(Operator::And), 2),
+        [b'|', b'|', ..] => Read::Token(TokenKind::Infix(Operator::Or), 2),
         _ => Read::BadCharacter,
     }
 }
@@ -238,7 +197,7 @@ fn read_at(bytes: &[u8]) -> Read
     } else if digit(first) || sign(first) {
         number_at(bytes)
     } else {
-        mark_at(first, rest)
+        mark_at(bytes)
     }
 }
 

@@ -1,6 +1,7 @@
 -- Each fault of a meaning lies in the content that its tree lies in.
 use Rattle.std.proofs.Common.{◌≤◌, ◌+◌, ℕ, List, [], ◌∷◌, ◌++◌, length, drop, arith, Bool, true, false, cond, ◌||◌, ◌&&◌, not, Option, Some, None}
 use Rattle.std.specs.List.{AllByRecursion}
+use Rattle.std.specs.Option.{option_map_or}
 use Rattle.std.specs.Fmt.{decimal}
 use Rattle.al_base.specs.Spans.{LiesIn}
 use Rattle.al_base.specs.declared.codes.ExpressionCode.TheVariants as code
@@ -24,10 +25,10 @@ use Rattle.al_types.specs.declared.names.Function.TheVariants.{Format}
 use Rattle.al_types.specs.declared.signatures.Parameters.{Parameters}
 use Rattle.al_expr_typing.specs.Comparison.{comparable_types}
 use Rattle.al_expr_typing.specs.Literals.{literal_text}
-use Rattle.al_expr_typing.specs.Meaning.{AllTyped, all_typed, Typed, typed, all_of, and_then, argument_faults}
-use Rattle.al_expr_typing.specs.Meaning.{begins_logic, behind, call, call_from, operations, faults_in, format_faults, format_text}
+use Rattle.al_expr_typing.specs.Meaning.{Typed, typed, all_of, and_then, argument_faults, argument_then}
+use Rattle.al_expr_typing.specs.Meaning.{begins_logic, behind, call, call_from, operations, faults_in, format_faults}
 use Rattle.al_expr_typing.specs.Meaning.{give, index_of, index_from, is_logic, is_test, meaning, meanings, name_type, operation, or_fault, parts_of}
-use Rattle.al_expr_typing.specs.Meaning.{placeholder_faults, property_of, typed_then, untrusted_faults, chain_faults}
+use Rattle.al_expr_typing.specs.Meaning.{placeholder_faults, property_of, untrusted_faults}
 use Rattle.al_expr_typing.specs.Meaning.{unused_arguments, walk, wrong_arguments}
 use Rattle.al_expr_typing.specs.Placeholders.{used_arguments}
 use Rattle.al_expr_typing.specs.Untrusted.{untrusted_chain}
@@ -39,8 +40,8 @@ module _ (size : ℕ) where
   abbrev ArgsLie : List (Type' × Span) → Type 0
   ArgsLie as' = AllByRecursion (λ (a : Type' × Span). LiesIn size a.1) as'
 
-  abbrev AllTypedLies : AllTyped → Type 0
-  AllTypedLies (all_typed as' fs) = ArgsLie as' × AllLie size fs
+  abbrev AllTypedLies : List (Type' × Span) × List Fault → Type 0
+  AllTypedLies all = ArgsLie all.0 × AllLie size all.1
 
   abbrev LiteralLies : Option (List ℕ × Span) → Type 0
   LiteralLies None = Unit {0}
@@ -113,7 +114,7 @@ module _ (size : ℕ) where
   across_lies : (a b : Span) → a.start ≤ b.start → LiesIn size b → LiesIn size (across a b)
   across_lies a b h i = let o : b.start ≤ b.end = i.ordered in record { ordered = omega (arith, h, o); inside = i.inside }
 
-  chain_lies : (whole : Span) (o : Option (List (List ℕ))) → LiesIn size whole → AllLie size (chain_faults whole o)
+  chain_lies : (whole : Span) (o : Option (List ℕ)) → LiesIn size whole → AllLie size (option_map_or (λ c. fault code.Untrusted whole (c ∷ []) ∷ []) o [])
   chain_lies whole None i = tt
   chain_lies whole (Some c) i = (i, tt)
 
@@ -144,11 +145,12 @@ module _ (size : ℕ) where
       both_lie (give (not u) (fault code.UnusedArgument a.1 (decimal (n + 2) ∷ []))) (unused_arguments (n + 1) us as')
       (give_lies (not u) (fault code.UnusedArgument a.1 (decimal (n + 2) ∷ [])) l.0) (unused_lie (n + 1) us as' l.1)
 
-  placeholders_lie : (at : Span) (o : Option (List Bool)) (as' : List (Type' × Span)) → LiesIn size at → ArgsLie as' → AllLie size (placeholder_faults at o as')
+  placeholders_lie : (at : Span) (o : Option (List Bool)) (as' : List (Type' × Span)) → LiesIn size at → ArgsLie as'
+      → AllLie size (option_map_or (λ us. unused_arguments 0 us as') o (fault code.WrongPlaceholder at [] ∷ []))
   placeholders_lie at None as' i l = (i, tt)
   placeholders_lie at (Some us) as' i l = unused_lie 0 us as' l
 
-  text_lie : (o : Option (List ℕ × Span)) (as' : List (Type' × Span)) → LiteralLies o → ArgsLie as' → AllLie size (format_text o as')
+  text_lie : (o : Option (List ℕ × Span)) (as' : List (Type' × Span)) → LiteralLies o → ArgsLie as' → AllLie size (option_map_or (λ x. placeholder_faults x as') o [])
   text_lie None as' i l = tt
   text_lie (Some x) as' i l = placeholders_lie x.1 (used_arguments (length as') x.0) as' i l
 
@@ -170,12 +172,13 @@ module _ (size : ℕ) where
       (give_lies (not (sc.available.functions f)) (fault code.UnavailableFunction s (b ∷ [])) i) (arguments_lie b s (signature f).parameters as' i l))
       (format_lie f ts low as' h l)
 
-  called_lies : (sc : Scope) (b : List ℕ) (s : Span) (o : Option Function) (ts : Arguments) (low : ℕ) (all : AllTyped) →
+  called_lies : (sc : Scope) (b : List ℕ) (s : Span) (o : Option Function) (ts : Arguments) (low : ℕ) (all : List (Type' × Span) × List Fault) →
       LiesIn size s → ArgumentsLie size low ts → AllTypedLies all → TypedLies (call sc b s o ts all)
-  called_lies sc b s o ts low (all_typed as' fs) i h l = behind_lies fs (call_from sc b s o ts as') l.1 (with_lies sc b s o ts low as' i h l.0)
+  called_lies sc b s o ts low all i h l = behind_lies all.1 (call_from sc b s o ts all.0) l.1 (with_lies sc b s o ts low all.0 i h l.0)
 
-  argument_then : (x : Typed) (s : Span) (all : AllTyped) → TypedLies x → LiesIn size s → AllTypedLies all → AllTypedLies (typed_then x s all)
-  argument_then (typed t fs) s (all_typed as' gs) a i l = ((i, l.0), both_lie fs gs a l.1)
+  one_more_lies : (x : Typed) (s : Span) (all : List (Type' × Span) × List Fault) → TypedLies x → LiesIn size s → AllTypedLies all
+      → AllTypedLies (argument_then x s all)
+  one_more_lies (typed t fs) s all a i l = ((i, l.0), both_lie fs all.1 a l.1)
 
   -- ---- trees
 
@@ -220,4 +223,4 @@ module _ (size : ℕ) where
     meanings_lie : (ts : Arguments) (sc : Scope) (safe : Bool) (low : ℕ) → ArgumentsLie size low ts → AllTypedLies (meanings sc safe ts)
     meanings_lie NoArgument sc safe low l = (tt, tt)
     meanings_lie (ArgumentThen t ts) sc safe low l =
-        argument_then (meaning sc safe t) (extent t) (meanings sc safe ts) (meaning_lies t sc safe low l.0) (whole_lies size low t l.0) (meanings_lie ts sc safe low l.1)
+        one_more_lies (meaning sc safe t) (extent t) (meanings sc safe ts) (meaning_lies t sc safe low l.0) (whole_lies size low t l.0) (meanings_lie ts sc safe low l.1)

@@ -4,6 +4,7 @@ pub mod Inside
 pub mod Shown
 pub mod Forms
 pub mod ChainLemmas
+pub mod ChainTexts
 pub mod LiteralLemmas
 pub mod Indices
 pub mod PlaceholderLemmas

@@ -1,6 +1,7 @@
 -- Paths, levels and arguments, item by item.
 use Rattle.std.proofs.Common.{◌≡◌, ℕ, List, [], ◌∷◌, ◌++◌, Bool, true, map, Option, Some, None, refl, sym, ap, ◌∙◌, append_assoc}
-use Rattle.std.specs.Prelude.{option_map, if◌then◌else◌}
+use Rattle.std.specs.Prelude.{if◌then◌else◌}
+use Rattle.std.specs.Option.{option_map_or}
 use Rattle.al_base.specs.declared.faults.Fault.{Fault}
 use Rattle.al_base.specs.declared.faults.Span.{Span}
 use Rattle.al_base.specs.declared.codes.ExpressionCode.TheVariants as code
@@ -12,9 +13,9 @@ use Rattle.al_types.specs.Types.{Type', Any}
 use Rattle.al_expr_grammar.specs.Tree.{Tree, Named, Path, Steps, Sign, sign, Arguments, StepTree, Property, All, Index, steps_of, operands_of, arguments_of}
 use Rattle.al_types.specs.Scopes.{Scope}
 use Rattle.al_expr_grammar.specs.Extents.{extent}
-use Rattle.al_expr_typing.specs.Untrusted.{part_of, untrusted_chain, with_dots}
+use Rattle.al_expr_typing.specs.Untrusted.{part_of, untrusted_chain}
 use Rattle.al_expr_typing.specs.Meaning.{Typed, typed, behind, name_type, call, call_from, untrusted_faults}
-use Rattle.al_expr_typing.specs.Meaning.{chain_faults, and_then, AllTyped, all_typed, typed_then, all_behind, parts_of, step_from, index_from}
+use Rattle.al_expr_typing.specs.Meaning.{and_then, argument_then, all_behind, parts_of, step_from, index_from}
 use Rattle.al_expr_typing.specs.Meaning.{index_of, operation, meaning, walk, operations, meanings}
 use Rattle.al_expr_typing.specs.Steps.{base_name}
 use Rattle.al_expr_typing.proofs.TypedSteps.{follows, behind-behind}
@@ -48,12 +49,12 @@ chained_on sc safe (sign op at, x) os t u v old mid new e f =
     follows mid new v (operation op at t u) (λ w. operations sc safe (operands_of os) w) f
     ∙ follows old mid u (meaning sc safe x) (λ w. and_then (operation op at t w) (λ y. operations sc safe (operands_of os) y)) e
 
-joined_typed : (given : List (Type' × Span)) (old fs : List Fault) (t : Type') (s : Span) (rest : AllTyped)
-    → all_behind (given ++ (t, s) ∷ []) (old ++ fs) rest ≡ all_behind given old (typed_then (typed t fs) s rest)
-joined_typed given old fs t s (all_typed as' gs) = ap (λ l. all_typed l ((old ++ fs) ++ gs)) (append_assoc given ((t, s) ∷ []) as') ∙ ap (all_typed (given ++ (t, s) ∷ as')) (append_assoc old fs gs)
+joined_typed : (given : List (Type' × Span)) (old fs : List Fault) (t : Type') (s : Span) (rest : List (Type' × Span) × List Fault)
+    → all_behind (given ++ (t, s) ∷ []) (old ++ fs) rest ≡ all_behind given old (argument_then (typed t fs) s rest)
+joined_typed given old fs t s rest = λ d. (append_assoc given ((t, s) ∷ []) rest.0 d, append_assoc old fs rest.1 d)
 
-joined_on : (given : List (Type' × Span)) (old : List Fault) (x : Typed) (s : Span) (t : Type') (mid : List Fault) (rest : AllTyped)
-    → typed t mid ≡ behind old x → all_behind (given ++ (t, s) ∷ []) mid rest ≡ all_behind given old (typed_then x s rest)
+joined_on : (given : List (Type' × Span)) (old : List Fault) (x : Typed) (s : Span) (t : Type') (mid : List Fault) (rest : List (Type' × Span) × List Fault)
+    → typed t mid ≡ behind old x → all_behind (given ++ (t, s) ∷ []) mid rest ≡ all_behind given old (argument_then x s rest)
 joined_on given old (typed u fs) s t mid rest e =
     let p : t ≡ u = cc in
     let q : mid ≡ old ++ fs = cc in
@@ -67,12 +68,12 @@ meanings_on sc safe x xs t given old mid e = joined_on given old (meaning sc saf
 
 -- a call's arguments, then the call
 pub called_on : (sc : Scope) (b : List ℕ) (s : Span) (f : Option Function) (ts : Arguments) (given : List (Type' × Span))
-    (old mid : List Fault) (m : AllTyped) → all_typed given mid ≡ all_behind [] old m → behind mid (call_from sc b s f ts given)
-    ≡ behind old (call sc b s f ts m)
-called_on sc b s f ts given old mid (all_typed as' fs) e =
-    let p : given ≡ as' = cc in
-    let q : mid ≡ old ++ fs = cc in
-    rw (p, q) (behind-behind old fs (call_from sc b s f ts as'))
+    (old mid : List Fault) (m : List (Type' × Span) × List Fault) → (given, mid) ≡ all_behind [] old m
+    → behind mid (call_from sc b s f ts given) ≡ behind old (call sc b s f ts m)
+called_on sc b s f ts given old mid m e =
+    let p : given ≡ m.0 = ap (λ x. x.0) e in
+    let q : mid ≡ old ++ m.1 = ap (λ x. x.1) e in
+    rw (p, q) (behind-behind old m.1 (call_from sc b s f ts m.0))
 
 -- a path's base, then its steps, then what is wrong with the whole
 pub path_on : (old m1 m2 new gs : List Fault) (u v : Type') (x : Typed) (go : Type' → Typed) → typed u m1 ≡ behind old x → typed v m2
@@ -80,10 +81,9 @@ pub path_on : (old m1 m2 new gs : List Fault) (u v : Type') (x : Typed) (go : Ty
 path_on old m1 m2 new gs u v x go e f h =
     ap (typed v) h ∙ follows old m2 v (and_then x go) (λ w. typed w gs) (f ∙ follows old m1 u x go e)
 
--- no chain, so no fault
-fault_none : (whole : Span) (o : Option (List (List ℕ))) → None ≡ option_map with_dots o → chain_faults whole o ≡ []
-fault_none whole None h = refl
-fault_none whole (Some c) h = absurd cc
+-- the fault of a chain, where there is one
+abbrev chain_faults : Span → Option (List ℕ) → List Fault
+chain_faults whole o = option_map_or (λ c. fault code.Untrusted whole (c ∷ []) ∷ []) o []
 
 -- of a path that begins with a name
 chain_of : (name : List ℕ) (t : Tree) (ss : Steps) → Some name ≡ base_name t → untrusted_faults true t ss
@@ -96,24 +96,19 @@ nameless (Named b s) ss h = absurd cc
 nameless t ss h = refl
 
 pub untrusted_none : (name : List ℕ) (t : Tree) (ss : List StepTree) → Some name ≡ base_name t → None
-    ≡ option_map with_dots (untrusted_chain (name ∷ map part_of ss)) → untrusted_faults true t (steps_of ss) ≡ []
+    ≡ untrusted_chain (name ∷ map part_of ss) → untrusted_faults true t (steps_of ss) ≡ []
 untrusted_none name t ss h k =
     chain_of name t (steps_of ss) h
     ∙ ap (λ ps. chain_faults (extent (Path t (steps_of ss))) (untrusted_chain (name ∷ ps))) (parts_of-steps ss)
-    ∙ fault_none (extent (Path t (steps_of ss))) (untrusted_chain (name ∷ map part_of ss)) k
-
-fault_some : (whole : Span) (o : Option (List (List ℕ))) (text : List ℕ) → Some text ≡ option_map with_dots o →
-    chain_faults whole o ≡ fault code.Untrusted whole (text ∷ []) ∷ []
-fault_some whole None text h = absurd cc
-fault_some whole (Some c) text h = cc
+    ∙ ap (chain_faults (extent (Path t (steps_of ss)))) (sym k)
 
 pub untrusted_some : (name : List ℕ) (t : Tree) (ss : List StepTree) (text : List ℕ) → Some name ≡ base_name t → Some text
-    ≡ option_map with_dots (untrusted_chain (name ∷ map part_of ss)) → untrusted_faults true t (steps_of ss)
+    ≡ untrusted_chain (name ∷ map part_of ss) → untrusted_faults true t (steps_of ss)
     ≡ fault code.Untrusted (extent (Path t (steps_of ss))) (text ∷ []) ∷ []
 untrusted_some name t ss text h k =
     chain_of name t (steps_of ss) h
     ∙ ap (λ ps. chain_faults (extent (Path t (steps_of ss))) (untrusted_chain (name ∷ ps))) (parts_of-steps ss)
-    ∙ fault_some (extent (Path t (steps_of ss))) (untrusted_chain (name ∷ map part_of ss)) text k
+    ∙ ap (chain_faults (extent (Path t (steps_of ss)))) (sym k)
 
 -- an index that is no text literal
 pub indexed_on : (o : Option (List ℕ × Span)) (whole : Span) (u by v : Type') (old mid new : List Fault) (x : Typed) → None ≡ o

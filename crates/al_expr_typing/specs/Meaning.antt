@@ -1,5 +1,5 @@
 -- The type of an expression under a scope, and the faults in it, in the order in which it is read.
-use Rattle.std.specs.Prelude.{ℕ, ◌+◌, List, [], ◌∷◌, ◌++◌, Bool, true, false, ◌&&◌, ◌||◌, not, if◌then◌else◌, Option, Some}
+use Rattle.std.specs.Prelude.{codes, ℕ, ◌+◌, List, [], ◌∷◌, ◌++◌, Bool, true, false, ◌&&◌, ◌||◌, not, if◌then◌else◌, Option, Some}
 use Rattle.std.specs.Prelude.{None, drop, length}
 use Rattle.std.specs.Fmt.{decimal}
 use Rattle.std.specs.Option.{option_map_or}
@@ -21,7 +21,7 @@ use Rattle.al_types.specs.Signatures.{signature, takes, parameter_at, accepts, r
 use Rattle.al_types.specs.Scopes.{Scope}
 use Rattle.al_expr_grammar.specs.Extents.{extent, across}
 use Rattle.al_expr_typing.specs.Literals.{literal_text, type_of_keyword}
-use Rattle.al_expr_typing.specs.Untrusted.{untrusted_chain, part_of_index, with_dots}
+use Rattle.al_expr_typing.specs.Untrusted.{untrusted_chain}
 use Rattle.al_expr_grammar.specs.Tree as tree
 use Rattle.al_expr_grammar.specs.Tree.{Tree, sign, Constant, Named, Call, Group, Negated, Path, Chain, StepTree, Steps, NoStep}
 use Rattle.al_expr_grammar.specs.Tree.{PropertyThen, AllThen, IndexThen, Operands, NoOperand}
@@ -86,21 +86,19 @@ index_of whole _ i = not_indexable whole
 
 -- `['p']` is a property, any other index an element.
 abbrev pub index_from : Option (List ℕ × Span) → Span → Type' → Typed → Typed
-index_from (Some text) whole t i = property_of text.0 text.1 whole t
-index_from None whole t i = and_then i (λ u. index_of whole t u)
+index_from text whole t i = option_map_or (λ p. property_of p.0 p.1 whole t) text (and_then i (λ u. index_of whole t u))
 
+-- steps as the parts of a chain: `['x']` as `x`, every other index as `*`
 abbrev pub parts_of : Steps → List (List ℕ)
 parts_of NoStep = []
 parts_of (PropertyThen d b s ss) = b ∷ parts_of ss
-parts_of (AllThen a b ss) = part_of_index None ∷ parts_of ss
-parts_of (IndexThen a t b ss) = part_of_index (literal_text t) ∷ parts_of ss
-
-abbrev pub chain_faults : Span → Option (List (List ℕ)) → List Fault
-chain_faults at found = option_map_or (λ c. fault code.Untrusted at (with_dots c ∷ []) ∷ []) found []
+parts_of (AllThen a b ss) = codes "*" ∷ parts_of ss
+parts_of (IndexThen a t b ss) = option_map_or (λ text. text.0) (literal_text t) (codes "*") ∷ parts_of ss
 
 -- X19: a whole path that is an untrusted chain, where a text could do harm. It begins with a name: a bracket ends a chain.
 abbrev pub untrusted_faults : Bool → Tree → Steps → List Fault
-untrusted_faults true (Named b s) ss = chain_faults (extent (Path (Named b s) ss)) (untrusted_chain (b ∷ parts_of ss))
+untrusted_faults true (Named b s) ss =
+    option_map_or (λ c. fault code.Untrusted (extent (Path (Named b s) ss)) (c ∷ []) ∷ []) (untrusted_chain (b ∷ parts_of ss)) []
 untrusted_faults _ t ss = []
 
 abbrev pub is_logic : Operator → Bool
@@ -124,12 +122,9 @@ is_test (Some function.StartsWith) = true
 is_test (Some function.EndsWith) = true
 is_test _ = false
 
--- arguments, each with its type and its place, and the faults in them
-pub data AllTyped : Type 0 where
-  all_typed : List (Type' × Span) → List Fault → AllTyped
-
-abbrev pub typed_then : Typed → Span → AllTyped → AllTyped
-typed_then (typed t fs) s (all_typed as' gs) = all_typed ((t, s) ∷ as') (fs ++ gs)
+-- an argument's type, place and faults before those of others
+abbrev pub argument_then : Typed → Span → List (Type' × Span) × List Fault → List (Type' × Span) × List Fault
+argument_then (typed t fs) s more = ((t, s) ∷ more.0, fs ++ more.1)
 
 -- X12 at each argument of a wrong type; the first has index 0 and number 1
 abbrev pub wrong_arguments : List ℕ → Parameters → ℕ → List (Type' × Span) → List Fault
@@ -150,17 +145,13 @@ unused_arguments n (u ∷ us) (a ∷ as') =
 unused_arguments n _ _ = []
 
 -- X16 where a placeholder is wrong, else X17
-abbrev pub placeholder_faults : Span → Option (List Bool) → List (Type' × Span) → List Fault
-placeholder_faults at None as' = fault code.WrongPlaceholder at [] ∷ []
-placeholder_faults at (Some used) as' = unused_arguments 0 used as'
-
-abbrev pub format_text : Option (List ℕ × Span) → List (Type' × Span) → List Fault
-format_text None as' = []
-format_text (Some text) as' = placeholder_faults text.1 (used_arguments (length as') text.0) as'
+abbrev pub placeholder_faults : List ℕ × Span → List (Type' × Span) → List Fault
+placeholder_faults text as' =
+    option_map_or (λ us. unused_arguments 0 us as') (used_arguments (length as') text.0) (fault code.WrongPlaceholder text.1 [] ∷ [])
 
 -- `format`, where its first argument is a text literal
 abbrev pub format_faults : Function → Arguments → List (Type' × Span) → List Fault
-format_faults function.Format (ArgumentThen t ts) as' = format_text (literal_text t) (drop 1 as')
+format_faults function.Format (ArgumentThen t ts) as' = option_map_or (λ text. placeholder_faults text (drop 1 as')) (literal_text t) []
 format_faults _ ts as' = []
 
 -- A call: X9 where there is no such function, X10 where it isn't available here.
@@ -171,8 +162,8 @@ call_from sc b s (Some f) ts as' =
     (give (not (sc.available.functions f)) (fault code.UnavailableFunction s (b ∷ []))
     ++ argument_faults b s (signature f).parameters as' ++ format_faults f ts as')
 
-abbrev pub call : Scope → List ℕ → Span → Option Function → Arguments → AllTyped → Typed
-call sc b s f ts (all_typed as' fs) = behind fs (call_from sc b s f ts as')
+abbrev pub call : Scope → List ℕ → Span → Option Function → Arguments → List (Type' × Span) × List Fault → Typed
+call sc b s f ts given = behind given.1 (call_from sc b s f ts given.0)
 
 -- The type of an expression, with its faults. The flag: whether it stands where X19 isn't given, in an argument of a
 -- function that only tests it, or in an operand of a comparison or of `!`.
@@ -186,10 +177,9 @@ abbrev mutual
   meaning sc safe (Group t s e) = meaning sc safe t
   meaning sc safe (Negated s t) = and_then (meaning sc true t) (λ u. typed Bool' [])
   meaning sc safe (Path t ss) =
-      and_then (and_then (meaning sc safe t) (λ u. walk sc safe ss u))
-      (λ u. typed u (untrusted_faults (sc.in_run && not safe) t ss))
+      and_then (and_then (meaning sc safe t) (λ u. walk sc safe ss u)) (λ u. typed u (untrusted_faults (sc.in_run && not safe) t ss))
   meaning sc safe (Chain t os) =
-      and_then (meaning sc (safe || not (begins_logic os)) t) (λ u. operations sc (safe || not (begins_logic os)) os u)
+      let inside = safe || not (begins_logic os) in and_then (meaning sc inside t) (λ u. operations sc inside os u)
 
   -- the steps of a path from a type on
   pub walk : Scope → Bool → Steps → Type' → Typed
@@ -204,9 +194,10 @@ abbrev mutual
   operations sc safe (OperandThen (sign o s) t os) u =
       and_then (meaning sc safe t) (λ v. and_then (operation o s u v) (λ w. operations sc safe os w))
 
-  pub meanings : Scope → Bool → Arguments → AllTyped
-  meanings sc safe NoArgument = all_typed [] []
-  meanings sc safe (ArgumentThen t ts) = typed_then (meaning sc safe t) (extent t) (meanings sc safe ts)
+  -- the types of arguments with their places, and the faults in them
+  pub meanings : Scope → Bool → Arguments → List (Type' × Span) × List Fault
+  meanings sc safe NoArgument = ([], [])
+  meanings sc safe (ArgumentThen t ts) = argument_then (meaning sc safe t) (extent t) (meanings sc safe ts)
 
 -- one step of a path
 abbrev pub step_from : Scope → Bool → StepTree → Type' → Typed
@@ -215,8 +206,8 @@ step_from sc safe (tree.All a b) u = all_of (across a b) u
 step_from sc safe (tree.Index a t b) u = index_from (literal_text t) (across a b) u (meaning sc safe t)
 
 -- the same with these arguments and faults before the others
-abbrev pub all_behind : List (Type' × Span) → List Fault → AllTyped → AllTyped
-all_behind before' old (all_typed as' fs) = all_typed (before' ++ as') (old ++ fs)
+abbrev pub all_behind : List (Type' × Span) → List Fault → List (Type' × Span) × List Fault → List (Type' × Span) × List Fault
+all_behind before' old more = (before' ++ more.0, old ++ more.1)
 
 abbrev pub meaning_of : Scope → Tree → Typed
 meaning_of sc t = meaning sc false t

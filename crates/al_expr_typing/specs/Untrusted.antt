@@ -1,17 +1,15 @@
 -- Chains from `github` whose text comes from outside, as an author of an issue or a branch wrote it.
-use Rattle.std.specs.Prelude.{codes, ℕ, List, [], ◌∷◌, ◌++◌, ◌==◌, Option, find, map}
-use Rattle.std.specs.List.{flat_map, slice_split}
+use Rattle.std.specs.Prelude.{codes, ℕ, List, [], ◌∷◌, ◌==◌, Option, find}
+use Rattle.std.specs.List.{slice_split}
 use Rattle.std.specs.Option.{option_map_or}
 use Rattle.std.specs.Cmp.Lexicographic.{pointwise}
 use Rattle.al_base.specs.Ascii as ascii
-use Rattle.al_base.specs.declared.faults.Span.{Span}
 use Rattle.al_expr_grammar.specs.Tree.{StepTree, Property, All, Index}
 use Rattle.al_base.specs.Names.{same_name}
 use Rattle.al_expr_typing.specs.Literals.{literal_text}
 
--- each by its parts
-abbrev pub untrusted_chains : List (List (List ℕ))
-untrusted_chains = map (slice_split (λ b. b == ascii.dot)) (
+abbrev pub untrusted_chains : List (List ℕ)
+untrusted_chains =
     codes "github.head_ref" ∷ codes "github.event.issue.title" ∷ codes "github.event.issue.body" ∷
     codes "github.event.pull_request.title" ∷ codes "github.event.pull_request.body" ∷
     codes "github.event.pull_request.head.ref" ∷ codes "github.event.pull_request.head.label" ∷
@@ -20,22 +18,14 @@ untrusted_chains = map (slice_split (λ b. b == ascii.dot)) (
     codes "github.event.pages.*.page_name" ∷ codes "github.event.commits.*.message" ∷
     codes "github.event.commits.*.author.name" ∷ codes "github.event.commits.*.author.email" ∷
     codes "github.event.head_commit.message" ∷ codes "github.event.head_commit.author.name" ∷
-    codes "github.event.head_commit.author.email" ∷ [])
+    codes "github.event.head_commit.author.email" ∷ []
 
 -- a step as a part of a chain: `['x']` as `x`, every other index as `*`
-abbrev pub part_of_index : Option (List ℕ × Span) → List ℕ
-part_of_index literal = option_map_or (λ text. text.0) literal (codes "*")
-
 abbrev pub part_of : StepTree → List ℕ
 part_of (Property d b s) = b
 part_of (All a b) = codes "*"
-part_of (Index a t b) = part_of_index (literal_text t)
+part_of (Index a t b) = option_map_or (λ text. text.0) (literal_text t) (codes "*")
 
--- the chain that these parts are
-abbrev pub untrusted_chain : List (List ℕ) → Option (List (List ℕ))
-untrusted_chain ps = find (λ c. pointwise same_name c ps) untrusted_chains
-
--- a chain's parts with dots between them
-abbrev pub with_dots : List (List ℕ) → List ℕ
-with_dots [] = []
-with_dots (p ∷ ps) = p ++ flat_map (λ q. codes "." ++ q) ps
+-- the chain that has these parts between its dots
+abbrev pub untrusted_chain : List (List ℕ) → Option (List ℕ)
+untrusted_chain ps = find (λ c. pointwise same_name (slice_split (λ b. b == ascii.dot) c) ps) untrusted_chains

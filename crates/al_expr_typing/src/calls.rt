@@ -1,9 +1,8 @@
 //! Calls of functions: whether one is known and may stand here, and what is wrong with its arguments.
 
-ghost use Rattle.std.specs.Prelude.{◌≡◌, ◌++◌, ◌+◌, ◌^◌, ◌<◌, IfOk, OnOk, List, not, map, length, string_bytes, drop, true, ◌∷◌, [], ℕ};
+ghost use Rattle.std.specs.Prelude.{◌≡◌, ◌++◌, ◌+◌, ◌^◌, ◌<◌, IfOk, OnOk, List, not, map, string_bytes, drop, true, ◌∷◌, [], ℕ};
 ghost use Rattle.al_expr_typing.specs.Meaning.{typed, behind, give, is_test, call_from, argument_faults, wrong_arguments, format_faults};
 ghost use Rattle.al_expr_typing.specs.Meaning.{placeholder_faults, unused_arguments};
-ghost use Rattle.al_expr_typing.specs.Placeholders.{used_arguments};
 ghost use Rattle.al_expr_grammar.specs.Refusal.{fault};
 ghost use Rattle.al_expr_typing.specs.Arguments.{argument_in};
 ghost use Rattle.al_types.specs.Scopes.{is_allowed};
@@ -231,8 +230,7 @@ fn check_placeholders(
     faults: &mut FaultSink,
 ) -> Result<(), AllocError>
     ensures { OnOk result ((ms : List Parts) → faults.new ≡ faults.old ++
-        placeholder_faults literal.now.span
-        (used_arguments (length arguments.now) (string_bytes literal.now.value))
+        placeholder_faults (string_bytes literal.now.value, literal.now.span)
         (map (argument_in ms) arguments.now)) }
 {
     match used_arguments(faults.alloc(), literal.value.as_str(), arguments.len())? {

@@ -2,7 +2,9 @@
 
 ghost use Rattle.std.specs.Prelude.{◌≡◌, ◌∷◌, IfOk, find, length, map, option_map, string_bytes};
 ghost use Rattle.std.specs.Cmp.Lexicographic.{pointwise};
-ghost use Rattle.al_expr_typing.specs.Untrusted.{untrusted_chain, part_of, with_dots};
+ghost use Rattle.std.specs.List.{join_with_byte};
+ghost use Rattle.al_base.specs.Ascii as ascii;
+ghost use Rattle.al_expr_typing.specs.Untrusted.{untrusted_chain, part_of};
 ghost use Rattle.al_base.specs.Names.{same_name};
 ghost use Rattle.al_expr_grammar.specs.View.{step_of};
 
@@ -41,21 +43,22 @@ pub(crate) fn untrusted_chain(
     name: &str,
     steps: &[PathStep],
 ) -> Result<Option<String>, AllocError>
-    ensures { IfOk result (λ c. option_map string_bytes c ≡ option_map with_dots
-        (untrusted_chain (name.now ∷ map part_of (map step_of steps.now)))) }
+    ensures { IfOk result (λ c. option_map string_bytes c
+        ≡ untrusted_chain (name.now ∷ map part_of (map step_of steps.now))) }
 {
     let found = find_chain(alloc, &UNTRUSTED, name, steps)?;
     let text = chain_text(alloc, found)?;
     Ok(text)
 }
 
+#[tactic(auto, using(crate::proofs::ChainTexts::joined))]
 fn chain_text(alloc: Global, chain: Option<Parts>) -> Result<Option<String>, AllocError>
     ensures { IfOk result
-        (λ c. option_map string_bytes c ≡ option_map with_dots
+        (λ c. option_map string_bytes c ≡ option_map (join_with_byte ascii.dot)
         (option_map (λ p. map (λ q. q.now) p.now) chain.entry)) }
 {
     match chain {
-        Some(parts) => Ok(Some(with_dots(alloc, parts)?)),
+        Some(parts) => Ok(Some(parts.join(alloc, ".")?)),
         None => Ok(None),
     }
 }
@@ -126,18 +129,4 @@ fn is_part(alloc: Global, part: &str, step: &PathStep) -> Result<bool, AllocErro
             None => Ok(is_same_name(part, b"*")),
         },
     }
-}
-
-fn with_dots(alloc: Global, parts: &[&str]) -> Result<String, AllocError>
-    ensures { IfOk result (λ s. string_bytes s ≡ with_dots (map (λ p. p.now) parts.now)) }
-{
-    let [first, rest @ ..] = parts else {
-        return Ok(String::new(alloc));
-    };
-    let mut text = String::from_str(alloc, first)?;
-    for part in rest {
-        text.push_str(".")?;
-        text.push_str(part)?;
-    }
-    Ok(text)
 }

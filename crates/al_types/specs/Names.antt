@@ -1,5 +1,5 @@
 -- Names of contexts and functions (GitHub's pages on contexts and on expressions).
-use Rattle.std.specs.Prelude.{codes, ℕ, List, [], ◌∷◌, if◌then◌else◌, Option, Some, None}
+use Rattle.std.specs.Prelude.{codes, find, ℕ, List, [], ◌∷◌, Option}
 use Rattle.al_base.specs.Names.{same_name}
 use Rattle.al_types.specs.declared.names.Context.{Context}
 use Rattle.al_types.specs.declared.names.Context.TheVariants as context
@@ -44,13 +44,9 @@ functions =
     function.Contains ∷ function.StartsWith ∷ function.EndsWith ∷ function.Format ∷ function.Join ∷ function.ToJson
     ∷ function.FromJson ∷ function.HashFiles ∷ function.Success ∷ function.Always ∷ function.Cancelled ∷ function.Failure ∷ []
 
--- the first that has this name
-abbrev pub first_named : {A : Type 0} → (A → List ℕ) → List ℕ → List A → Option A
-first_named name n [] = None
-first_named name n (x ∷ xs) = if same_name (name x) n then Some x else first_named name n xs
-
+-- the one of a name
 abbrev pub context_of : List ℕ → Option Context
-context_of n = first_named context_name n contexts
+context_of n = find (λ c. same_name (context_name c) n) contexts
 
 abbrev pub function_of : List ℕ → Option Function
-function_of n = first_named function_name n functions
+function_of n = find (λ f. same_name (function_name f) n) functions

@@ -1,7 +1,8 @@
 //! The names of contexts and functions, in which letter case does not count.
 
-ghost use Rattle.std.specs.Prelude.{◌≡◌};
-ghost use Rattle.al_types.specs.Names.{context_name, function_name, first_named};
+ghost use Rattle.std.specs.Prelude.{◌≡◌, find};
+ghost use Rattle.al_base.specs.Names.{same_name};
+ghost use Rattle.al_types.specs.Names.{context_name, function_name};
 ghost use Rattle.al_types.specs.Names as names;
 
 use al_base::is_same_name;
@@ -130,7 +131,7 @@ impl Function {
 }
 
 fn context_among(contexts: &[Context], name: &str) -> Option<Context>
-    ensures { result ≡ first_named context_name name.now contexts.now }
+    ensures { result ≡ find (λ c. same_name (context_name c) name.now) contexts.now }
 {
     for context in contexts {
         if is_same_name(context.name().as_bytes(), name.as_bytes()) {
@@ -141,7 +142,7 @@ fn context_among(contexts: &[Context], name: &str) -> Option<Context>
 }
 
 fn function_among(functions: &[Function], name: &str) -> Option<Function>
-    ensures { result ≡ first_named function_name name.now functions.now }
+    ensures { result ≡ find (λ f. same_name (function_name f) name.now) functions.now }
 {
     for function in functions {
         if is_same_name(function.name().as_bytes(), name.as_bytes()) {
