@@ -19,7 +19,7 @@ use Rattle.al_yaml_tree.specs.Node.{Node, span_of}
 use Rattle.al_tree.specs.Keys.{key_of}
 use Rattle.al_tree.specs.Values.{entries_at, text_at}
 use Rattle.al_tree_declarations.specs.Declarations.{named_among, names_of}
-use Rattle.al_check_contexts.specs.Inputs.{input_type}
+use Rattle.al_check_objects.specs.Inputs.{input_type}
 use Rattle.al_tree_declarations.specs.declared.inputs.InputType.{InputType}
 use Rattle.al_tree_declarations.specs.declared.inputs.InputType.TheVariants as input
 use Rattle.al_check_interfaces.specs.Parameters.{has_parameter, is_parameter, mandatory_of}

@@ -7,7 +7,7 @@ use Rattle.al_types.specs.Scopes.{Scope}
 use Rattle.al_types.specs.Types.{Type', Any, String}
 use Rattle.al_expr_typing.specs.Meaning.{meaning_of, type_in}
 use Rattle.al_tree.specs.Faults.{has_chunk}
-use Rattle.al_check_contexts.specs.Matrix.{class_type}
+use Rattle.al_check_objects.specs.Matrix.{class_type}
 use Rattle.al_check_expressions.specs.Contents.{is_one_chunk}
 use Rattle.al_check_expressions.specs.Spelled.{tree_of_content}
 

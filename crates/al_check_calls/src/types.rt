@@ -13,7 +13,7 @@ ghost use Rattle.al_scalar.specs.Scalar.{text_of};
 ghost use Rattle.al_types.specs.Types.{Parts};
 
 use al_base::FaultSink;
-use al_check_contexts::class_type_of;
+use al_check_objects::class_type_of;
 use al_expr_grammar::{Chunk, chunks, grammar, parse_expr};
 use al_expr_types::{Base, Ty, Types};
 use al_expr_typing::{Scope, type_of};

@@ -5,15 +5,15 @@ ghost use Rattle.al_base.specs.declared.codes.Caller.TheVariants as by;
 ghost use Rattle.al_expr_types.specs.Types.{type_in};
 ghost use Rattle.al_tree.specs.Values.{member_of};
 ghost use Rattle.al_types.specs.Types.{Parts, assignable_type};
-ghost use Rattle.al_check_contexts.specs.Inputs.{input_type};
+ghost use Rattle.al_check_objects.specs.Inputs.{input_type};
 ghost use Rattle.al_check_calls.specs.CallFaults as meant;
 ghost use Rattle.al_check_calls.specs.Private.AnswerViews.{call_of, given_in};
 
 use crate::answers::SiteCall;
 use crate::reports::code_at;
 use al_base::{CallCode, FaultSink};
-use al_check_contexts::type_of_input;
 use al_check_interfaces::{Parameter, Parameters, Signature};
+use al_check_objects::type_of_input;
 use al_expr_types::{Base, Ty};
 use al_tree::{Member, key_text};
 use al_tree_declarations::InputType;

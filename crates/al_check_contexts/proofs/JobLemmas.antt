@@ -14,7 +14,7 @@ use Rattle.al_yaml_tree.specs.Node.{Node}
 use Rattle.al_tree.specs.Keys.{key_of}
 use Rattle.al_tree.specs.Values.{entries_at}
 use Rattle.al_tree_declarations.specs.Declarations.{has_value, names_of}
-use Rattle.al_check_contexts.specs.Objects.{loose_any}
+use Rattle.al_check_objects.specs.Objects.{loose_any}
 use Rattle.al_check_contexts.specs.Contexts.{Known, outputs_type, dependency, job_field}
 use Rattle.al_base.specs.Growth.{BeginsWith}
 use Rattle.al_expr_types.specs.Tables.{objects_of}
@@ -24,7 +24,8 @@ use Rattle.al_check_contexts.specs.Lookups.{called_at, known_by, shown_at, shown
 use Rattle.al_check_contexts.specs.Made.{KeepsBare, KeepsJobs}
 use Rattle.al_check_contexts.specs.declared.jobs.JobTypes.{JobTypes}
 use Rattle.al_check_contexts.specs.declared.known.Outputs.{Outputs}
-use Rattle.al_check_contexts.proofs.Numbers.{keeps_stays, means_stays}
+use Rattle.al_check_contexts.proofs.Kept.{keeps_stays}
+use Rattle.al_check_objects.proofs.Numbers.{means_stays}
 
 -- where the first stands whose image passes a test
 pub first_mapped : {X Y : Type 0} (f : X → Y) (test : Y → Bool) (xs : List X) → first_at test (map f xs) ≡ first_at (λ x. test (f x)) xs

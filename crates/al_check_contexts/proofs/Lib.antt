@@ -1,10 +1,7 @@
 pub mod Sets
 pub mod Found
-pub mod Numbers
-pub mod FieldLists
+pub mod Kept
 pub mod TableLemmas
 pub mod StepLemmas
-pub mod InputLemmas
 pub mod JobLemmas
-pub mod Values
 pub mod Standing

@@ -4,7 +4,7 @@ use Rattle.al_base.specs.Growth.{BeginsWith}
 use Rattle.al_yaml_tree.specs.View.{view}
 use Rattle.al_tree.specs.Values.{member_of}
 use Rattle.al_check_places.specs.Positions.{before, section_view}
-use Rattle.al_check_contexts.specs.Fixed.{strategy_type}
+use Rattle.al_check_objects.specs.Fixed.{strategy_type}
 use Rattle.al_check_contexts.specs.Contexts.{job_in, owner_of, type_at}
 use Rattle.al_tree.specs.Files.{jobs_of}
 use Rattle.al_check_contexts.specs.Lookups.{known_by, step_at}
@@ -15,7 +15,8 @@ use Rattle.al_check_contexts.specs.declared.env.File.{File}
 use Rattle.al_expr_types.specs.Tables.{objects_of}
 use Rattle.al_expr_types.specs.declared.types.Types.{Types}
 use Rattle.al_check_contexts.proofs.JobLemmas.{keeps_jobs_stay}
-use Rattle.al_check_contexts.proofs.Numbers.{keeps_stays, means_stays}
+use Rattle.al_check_contexts.proofs.Kept.{keeps_stays}
+use Rattle.al_check_objects.proofs.Numbers.{means_stays}
 use Rattle.al_check_contexts.proofs.StepLemmas.{prefixes_stay, steps_stay}
 use Rattle.al_check_contexts.proofs.TableLemmas.{shows_stays}
 

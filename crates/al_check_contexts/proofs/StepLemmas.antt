@@ -1,5 +1,5 @@
 -- The fields of `steps` by counts of steps: where the table has grown, and as steps are gone through.
-use Rattle.std.proofs.Common.{◌≡◌, ◌≢◌, ◌<◌, ◌≤◌, ◌+◌, ⊎_elim, ℕ, List, [], ◌∷◌, ◌++◌, length, map, take, get_or, refl, sym, ap, subst, ◌∙◌, Option, Some, None, true, arith, zero, suc}
+use Rattle.std.proofs.Common.{◌≡◌, ◌≢◌, ◌<◌, ◌≤◌, ◌+◌, ⊎_elim, ℕ, List, [], ◌∷◌, ◌++◌, length, map, take, get_or, refl, sym, ap, subst, ◌∙◌, Bool, Option, Some, None, true, false, arith, zero, suc}
 use Rattle.std.proofs.Math.ListN.{get_or-map}
 use Rattle.std.proofs.Math.Seq.{get_or-append_seam}
 use Rattle.std.proofs.lemmas.Bool.{cases_eq}
@@ -7,13 +7,14 @@ use Rattle.std.proofs.lemmas.List.{get_or_append_left, length-append, length-map
 use Rattle.std.proofs.lemmas.List.Elements.{filter_map-append}
 use Rattle.std.specs.List.{cons_option, enumerate_from, filter_map}
 use Rattle.std.specs.Option.{option_to_list}
-use Rattle.std.specs.Prelude.{zip}
+use Rattle.std.specs.Prelude.{if◌then◌else◌, zip}
 use Rattle.al_base.specs.Growth.{BeginsWith}
+use Rattle.al_base.specs.Names.{same_name}
 use Rattle.al_types.specs.Puts.{Typed, firsts, put_all, put_new}
 use Rattle.al_yaml_tree.specs.Node.{Node}
 use Rattle.al_check_places.specs.Positions.{before}
 use Rattle.al_check_contexts.specs.Contexts.{Known, Owner, step_field, steps_type}
-use Rattle.al_check_contexts.specs.Objects.{strictly}
+use Rattle.al_check_objects.specs.Objects.{strictly}
 use Rattle.al_types.specs.Types.{object_type}
 use Rattle.al_expr_types.specs.Names.{names_in}
 use Rattle.al_expr_types.specs.Prefixes.{HasPrefix, map_in, prefix_parts}
@@ -23,11 +24,38 @@ use Rattle.al_expr_types.specs.declared.prefixes.Prefixes.{Prefixes}
 use Rattle.al_expr_types.specs.declared.ty.Ty.{Ty}
 use Rattle.al_expr_types.specs.declared.types.Types.{Types}
 use Rattle.al_expr_types.proofs.PrefixLemmas.{prefix_longer, types_wider}
-use Rattle.al_check_contexts.specs.Numbers.{Means, fields_in, is_map_below}
+use Rattle.al_check_objects.specs.Numbers.{Means, fields_in, is_map_below}
 use Rattle.al_check_contexts.specs.Steps.{ArePrefixes, AreSteps, AreStepsOf, IsCount, first_fields}
 use Rattle.al_check_contexts.specs.declared.steps.StepFields.{StepFields}
-use Rattle.al_check_contexts.proofs.FieldLists.{firsts_kept, put_all_more}
-use Rattle.al_check_contexts.proofs.Numbers.{fields_stay}
+use Rattle.al_check_objects.proofs.FieldLists.{put_all_more}
+use Rattle.al_check_objects.proofs.Numbers.{fields_stay}
+
+-- ---- the first of fields, where more are put behind them
+
+kept_step : (b : Bool) (n : ℕ) (q : Typed) (qs more : List Typed) → take n more ≡ take n qs → take (suc n) (if b then q ∷ qs else q ∷ more) ≡ take (suc n) (q ∷ qs)
+kept_step true n q qs more e = refl
+kept_step false n q qs more e = ap (λ us. q ∷ us) e
+
+first_kept : (ts : List Typed) (p : Typed) (n : ℕ) → n ≤ length ts → take n (put_new ts p) ≡ take n ts
+first_kept ts p zero h = refl
+first_kept [] p (suc n) h = absurd (omega (arith, h))
+first_kept (q ∷ qs) p (suc n) h = kept_step (same_name q.0 p.0) n q qs (put_new qs p) (first_kept qs p n (omega (arith, h)))
+
+long_step : (b : Bool) (q : Typed) (qs more : List Typed) → length qs ≤ length more → length (q ∷ qs) ≤ length (if b then q ∷ qs else q ∷ more)
+long_step true q qs more h = omega arith
+long_step false q qs more h = omega (arith, h)
+
+no_shorter : (ts : List Typed) (p : Typed) → length ts ≤ length (put_new ts p)
+no_shorter [] p = omega arith
+no_shorter (q ∷ qs) p = long_step (same_name q.0 p.0) q qs (put_new qs p) (no_shorter qs p)
+
+-- stay
+firsts_kept : (ts ps : List Typed) (n : ℕ) → n ≤ length ts → (n ≤ length (put_all put_new ts ps)) × (take n (put_all put_new ts ps) ≡ take n ts)
+firsts_kept ts [] n h = (h, refl)
+firsts_kept ts (p ∷ ps) n h =
+    let longer = no_shorter ts p in
+    let more = firsts_kept (put_new ts p) ps n (omega (arith, h, longer)) in
+    (more.0, more.1 ∙ first_kept ts p n h)
 
 -- ---- in longer tables
 

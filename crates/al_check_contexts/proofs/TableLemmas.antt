@@ -9,17 +9,17 @@ use Rattle.al_tree.specs.Files.{jobs_of}
 use Rattle.al_tree.specs.declared.files.FileKind.{FileKind}
 use Rattle.al_check_places.specs.Positions.{Section, Seen, apart, before}
 use Rattle.al_check_contexts.specs.Contexts.{Known, job_in, type_at}
-use Rattle.al_check_contexts.specs.Inputs.{inputs_type}
+use Rattle.al_check_objects.specs.Inputs.{inputs_type}
 use Rattle.al_expr_types.specs.Tables.{objects_of}
 use Rattle.al_expr_types.specs.declared.ty.Ty.{Ty}
 use Rattle.al_expr_types.specs.declared.types.Types.{Types}
 use Rattle.al_expr_typing.specs.Scopes.{number_of}
 use Rattle.al_expr_typing.specs.declared.scope.ContextTypes.{ContextTypes}
-use Rattle.al_check_contexts.specs.Numbers.{Means}
+use Rattle.al_check_objects.specs.Numbers.{Means}
 use Rattle.al_check_contexts.specs.Table.{AreFixed, AreOfSection, Shows, position}
 use Rattle.al_check_contexts.specs.declared.sections.SectionTypes.{SectionTypes}
 use Rattle.al_check_contexts.specs.declared.start.FixedTypes.{FixedTypes}
-use Rattle.al_check_contexts.proofs.Numbers.{any, any_means, means_as, means_stays}
+use Rattle.al_check_objects.proofs.Numbers.{any, any_means, means_as, means_stays}
 
 -- ---- from one position to the next
 

@@ -16,11 +16,11 @@ use Rattle.al_tree.specs.declared.files.FileKind.{FileKind}
 use Rattle.al_tree.specs.declared.files.FileKind.TheVariants as kind
 use Rattle.al_check_places.specs.Positions.{Position, Section, apart, in_job, Seen, no_step, before, every_step}
 use Rattle.al_tree_declarations.specs.Declarations.{action_steps, has_value, is_composite, names_of}
-use Rattle.al_check_contexts.specs.Fixed.{github_type, runner_type, job_type, strategy_type}
-use Rattle.al_check_contexts.specs.Inputs.{inputs_type}
-use Rattle.al_check_contexts.specs.Matrix.{matrix_type}
+use Rattle.al_check_objects.specs.Fixed.{github_type, runner_type, job_type, strategy_type}
+use Rattle.al_check_objects.specs.Inputs.{inputs_type}
+use Rattle.al_check_objects.specs.Matrix.{matrix_type}
 use Rattle.al_types.specs.Strings.{named_strings}
-use Rattle.al_check_contexts.specs.Objects.{strictly, loose_strings, loose_any}
+use Rattle.al_check_objects.specs.Objects.{strictly, loose_strings, loose_any}
 use Rattle.al_types.specs.Puts.{Typed, firsts}
 
 -- What is known of the names of outputs behind calls: of a job by its key, and with an index of a step of a job or, without a key, of

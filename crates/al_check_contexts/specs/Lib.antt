@@ -1,13 +1,9 @@
-pub mod Fixed
-pub mod Objects
-pub mod Matrix
-pub mod Inputs
 pub mod Contexts
 pub mod Answered
 pub mod Scopes
 pub mod Lookups
+pub mod Caches
 pub mod Made
-pub mod Numbers
 pub mod Steps
 pub mod Table
 pub mod Standing

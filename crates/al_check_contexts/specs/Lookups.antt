@@ -8,7 +8,7 @@ use Rattle.al_types.specs.Types.{Type', Any, String}
 use Rattle.al_yaml_tree.specs.Node.{Node}
 use Rattle.al_check_contexts.specs.Answered.{Behind, is_at}
 use Rattle.al_check_contexts.specs.Contexts.{Known, job_field, outputs_type, step_type}
-use Rattle.al_check_contexts.specs.Objects.{loose_any, strictly}
+use Rattle.al_check_objects.specs.Objects.{loose_any, strictly}
 use Rattle.al_check_contexts.specs.declared.known.Outputs.{Outputs}
 
 -- the names at a place, None where nothing is known of them; None where nothing was answered there

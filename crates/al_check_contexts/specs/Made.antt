@@ -7,7 +7,8 @@ use Rattle.al_expr_types.specs.declared.ty.Ty.{Ty}
 use Rattle.al_expr_types.specs.declared.types.Types.{Types}
 use Rattle.al_types.specs.Strings.{named_strings}
 use Rattle.al_check_contexts.specs.Lookups.{called_at, known_by, shown_at, shown_with}
-use Rattle.al_check_contexts.specs.Numbers.{Keeps, Means}
+use Rattle.al_check_contexts.specs.Caches.{Keeps}
+use Rattle.al_check_objects.specs.Numbers.{Means}
 use Rattle.al_check_contexts.specs.declared.basis.Basis.{Basis}
 use Rattle.al_check_contexts.specs.declared.jobs.JobTypes.{JobTypes}
 use Rattle.al_check_contexts.specs.declared.known.Outputs.{Outputs}

@@ -4,12 +4,13 @@ use Rattle.al_yaml_tree.specs.View.{view}
 use Rattle.al_tree.specs.Values.{member_of}
 use Rattle.al_tree.specs.Files.{jobs_of}
 use Rattle.al_check_places.specs.Positions.{before, section_view}
-use Rattle.al_check_contexts.specs.Fixed.{strategy_type}
+use Rattle.al_check_objects.specs.Fixed.{strategy_type}
 use Rattle.al_check_contexts.specs.Contexts.{job_in, owner_of, type_at}
 use Rattle.al_check_contexts.specs.Answered.{known_of}
 use Rattle.al_check_contexts.specs.Lookups.{known_by, step_at}
 use Rattle.al_check_contexts.specs.Made.{KeepsJobs}
-use Rattle.al_check_contexts.specs.Numbers.{Keeps, Means}
+use Rattle.al_check_contexts.specs.Caches.{Keeps}
+use Rattle.al_check_objects.specs.Numbers.{Means}
 use Rattle.al_check_contexts.specs.Steps.{ArePrefixes, AreStepsOf}
 use Rattle.al_check_contexts.specs.Table.{Shows, position}
 use Rattle.al_check_contexts.specs.declared.env.Env.{Env}

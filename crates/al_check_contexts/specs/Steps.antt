@@ -4,11 +4,11 @@ use Rattle.al_types.specs.Puts.{Typed}
 use Rattle.al_types.specs.Types.{Type', String}
 use Rattle.al_check_places.specs.Positions.{before}
 use Rattle.al_check_contexts.specs.Contexts.{Known, Owner, steps_fields}
-use Rattle.al_check_contexts.specs.Objects.{strictly}
+use Rattle.al_check_objects.specs.Objects.{strictly}
 use Rattle.al_expr_types.specs.Prefixes.{HasPrefix, map_in}
 use Rattle.al_expr_types.specs.Tables.{objects_of}
 use Rattle.al_expr_types.specs.declared.types.Types.{Types}
-use Rattle.al_check_contexts.specs.Numbers.{fields_in, is_map_below}
+use Rattle.al_check_objects.specs.Numbers.{fields_in, is_map_below}
 use Rattle.al_check_contexts.specs.declared.steps.StepFields.{StepFields}
 
 -- the type of a step that has outputs of a type

@@ -5,13 +5,13 @@ use Rattle.al_types.specs.declared.names.Context.{Context}
 use Rattle.al_yaml_tree.specs.Node.{Node}
 use Rattle.al_check_places.specs.Positions.{Position, Section, Seen}
 use Rattle.al_check_contexts.specs.Contexts.{Known, jobs_in, needs_type, type_in_job}
-use Rattle.al_check_contexts.specs.Fixed.{github_type, job_type, runner_type, strategy_type}
-use Rattle.al_check_contexts.specs.Matrix.{matrix_type}
-use Rattle.al_check_contexts.specs.Objects.{loose_strings}
+use Rattle.al_check_objects.specs.Fixed.{github_type, job_type, runner_type, strategy_type}
+use Rattle.al_check_objects.specs.Matrix.{matrix_type}
+use Rattle.al_check_objects.specs.Objects.{loose_strings}
 use Rattle.al_expr_types.specs.declared.types.Types.{Types}
 use Rattle.al_expr_typing.specs.Scopes.{number_of}
 use Rattle.al_expr_typing.specs.declared.scope.ContextTypes.{ContextTypes}
-use Rattle.al_check_contexts.specs.Numbers.{Means}
+use Rattle.al_check_objects.specs.Numbers.{Means}
 use Rattle.al_check_contexts.specs.declared.sections.SectionTypes.{SectionTypes}
 use Rattle.al_check_contexts.specs.declared.start.FixedTypes.{FixedTypes}
 

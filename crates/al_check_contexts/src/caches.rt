@@ -12,7 +12,8 @@ pub(crate) struct TypeCache {
 impl TypeCache {
     ghost use Rattle.std.specs.Prelude.{ℕ, IfOk, IfSome};
     ghost use Rattle.al_types.specs.Types.{Type'};
-    ghost use Rattle.al_check_contexts.specs.Numbers.{Keeps, Means};
+    ghost use Rattle.al_check_contexts.specs.Caches.{Keeps};
+    ghost use Rattle.al_check_objects.specs.Numbers.{Means};
     ghost use Rattle.al_expr_types.specs.declared.types.Types as declared;
 
     /// None of so many types. Fails with `AllocError` when out of memory.

@@ -15,7 +15,6 @@ ghost use Rattle.al_yaml_tree.specs.View.{view};
 
 use crate::basis::Basis;
 use crate::caches::TypeCache;
-use crate::fixed::strategy;
 use crate::job_lists::JobList;
 use crate::jobs::JobTypes;
 use crate::known::{Answers, Outputs};
@@ -23,6 +22,7 @@ use crate::scopes::{available, available_at};
 use crate::sections::{owner_at, section_types};
 use crate::start::first_types;
 use crate::steps::StepFields;
+use al_check_objects::strategy;
 use al_check_places::{Place, Position, Section, Seen};
 use al_expr_types::{Ty, Types};
 use al_expr_typing::Scope;

@@ -5,16 +5,10 @@
 mod basis;
 mod caches;
 mod env;
-mod field_lists;
-mod fixed;
-mod inputs;
 mod job_lists;
 mod jobs;
 mod known;
-mod matrix;
-mod objects;
 mod owners;
-mod scalars;
 mod scopes;
 mod sections;
 mod start;
@@ -23,5 +17,4 @@ mod worked;
 
 pub use env::{Env, File};
 pub use known::{Answer, Answers};
-pub use scalars::{class_type_of, type_of_input};
 pub use worked::rows;

@@ -2,11 +2,11 @@
 ghost use Rattle.std.specs.Prelude.{◌≡◌, IfOk, OnOk, option_map};
 ghost use Rattle.al_base.specs.Growth.{BeginsWith};
 ghost use Rattle.al_check_contexts.specs.Contexts.{jobs_in, needs_type, owner_of, type_in_job};
-ghost use Rattle.al_check_contexts.specs.Fixed.{strategy_type};
-ghost use Rattle.al_check_contexts.specs.Matrix as specs;
+ghost use Rattle.al_check_objects.specs.Fixed.{strategy_type};
+ghost use Rattle.al_check_objects.specs.Matrix as specs;
 ghost use Rattle.al_check_places.specs.Positions.{section_view};
 ghost use Rattle.al_check_contexts.specs.Made.{KeepsJobsOf, jobs_from, known_from};
-ghost use Rattle.al_check_contexts.specs.Numbers.{Means};
+ghost use Rattle.al_check_objects.specs.Numbers.{Means};
 ghost use Rattle.al_check_contexts.specs.Private.Owners.{owner_view};
 ghost use Rattle.al_check_contexts.specs.Table.{AreOfSection};
 ghost use Rattle.al_expr_types.specs.Tables.{objects_of};
@@ -16,8 +16,8 @@ ghost use Rattle.al_yaml_tree.specs.View.{view};
 
 use crate::basis::Basis;
 use crate::jobs::JobTypes;
-use crate::matrix::matrix_type;
 use crate::owners::Owner;
+use al_check_objects::matrix_type;
 use al_check_places::Section;
 use al_expr_types::{Ty, Types};
 use al_tree::{FileKind, Member, items_under, key_text};

@@ -3,16 +3,14 @@ ghost use Rattle.std.specs.Prelude.{IfOk, OnOk};
 ghost use Rattle.al_base.specs.Growth.{BeginsWith};
 ghost use Rattle.al_check_contexts.specs.Contexts.{Known, type_at};
 ghost use Rattle.al_check_places.specs.Positions.{apart, before};
-ghost use Rattle.al_check_contexts.specs.Numbers.{Means};
+ghost use Rattle.al_check_objects.specs.Numbers.{Means};
 ghost use Rattle.al_check_contexts.specs.Table.{AreFixed, Shows, position};
 ghost use Rattle.al_expr_types.specs.Tables.{objects_of};
 ghost use Rattle.al_types.specs.declared.names.Context.TheVariants as context;
 ghost use Rattle.al_yaml_tree.specs.View.{view};
 
 use crate::env::File;
-use crate::fixed::{github, job, runner};
-use crate::inputs::inputs_type;
-use crate::objects::loose_strings;
+use al_check_objects::{github, inputs_type, job, loose_strings, runner};
 use al_expr_types::{Ty, Types};
 use al_expr_typing::ContextTypes;
 use std::alloc::{AllocError, Global};

@@ -7,8 +7,9 @@ ghost use Rattle.al_check_contexts.specs.Contexts.{Known, Owner as StepOwner, st
 ghost use Rattle.al_check_places.specs.Positions.{before};
 ghost use Rattle.al_check_contexts.specs.Lookups.{step_at};
 ghost use Rattle.al_check_contexts.specs.Made.{known_from};
-ghost use Rattle.al_check_contexts.specs.Numbers.{Keeps, Lists, Means};
-ghost use Rattle.al_check_contexts.specs.Objects as objects;
+ghost use Rattle.al_check_contexts.specs.Caches.{Keeps};
+ghost use Rattle.al_check_objects.specs.Numbers.{Lists, Means};
+ghost use Rattle.al_check_objects.specs.Objects as objects;
 ghost use Rattle.al_check_contexts.specs.Steps.{ArePrefixes, AreSteps, AreStepsOf};
 ghost use Rattle.al_check_contexts.specs.Steps as specs;
 ghost use Rattle.al_check_contexts.specs.Private.Owners.{owner_view};
@@ -19,9 +20,8 @@ ghost use Rattle.al_yaml_tree.specs.View.{view};
 
 use crate::basis::Basis;
 use crate::caches::TypeCache;
-use crate::field_lists::FieldList;
-use crate::objects::loose_strings;
 use crate::owners::{Owner, Step};
+use al_check_objects::{FieldList, loose_strings};
 use al_check_places::Seen;
 use al_expr_types::{FieldMap, NameList, Prefixes, Ty, Types};
 use al_tree::text_under;

@@ -1,13 +1,14 @@
 use Rattle.std.proofs.Common.{map}
 use Rattle.al_check_places.specs.Positions.{before, section_view}
-use Rattle.al_check_contexts.specs.Fixed.{strategy_type}
+use Rattle.al_check_objects.specs.Fixed.{strategy_type}
 use Rattle.al_check_contexts.specs.Contexts.{job_in, owner_of}
 use Rattle.al_tree.specs.Files.{jobs_of}
 use Rattle.al_tree.specs.Values.{member_of}
 use Rattle.al_yaml_tree.specs.View.{view}
 use Rattle.al_check_contexts.specs.Lookups.{known_by, step_at}
 use Rattle.al_check_contexts.proofs.JobLemmas.{keeps_jobs_stay}
-use Rattle.al_check_contexts.proofs.Numbers.{keeps_stays, means_stays}
+use Rattle.al_check_contexts.proofs.Kept.{keeps_stays}
+use Rattle.al_check_objects.proofs.Numbers.{means_stays}
 use Rattle.al_check_contexts.proofs.TableLemmas.{same_seen, steps_changed}
 use Rattle.al_check_contexts.proofs.env.see.Goals as goal
 

@@ -2,7 +2,7 @@ use Rattle.std.proofs.Common.{ap}
 use Rattle.al_base.proofs.Growing.{begins_trans}
 use Rattle.al_expr_types.specs.Tables.{objects_of}
 use Rattle.al_check_contexts.specs.Lookups.{shown_with}
-use Rattle.al_check_contexts.proofs.Numbers.{means_as}
+use Rattle.al_check_objects.proofs.Numbers.{means_as}
 use Rattle.al_check_contexts.proofs.jobs.bare_type.Goals as goal
 
 pub shown_with-requires : goal.shown_with-requires

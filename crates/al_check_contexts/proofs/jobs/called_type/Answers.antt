@@ -1,10 +1,11 @@
 use Rattle.std.proofs.Common.{◌∙◌, ap}
 use Rattle.al_base.proofs.Growing.{begins_trans}
 use Rattle.al_expr_types.specs.Tables.{objects_of}
-use Rattle.al_check_contexts.specs.Objects.{loose_any}
+use Rattle.al_check_objects.specs.Objects.{loose_any}
 use Rattle.al_check_contexts.specs.Contexts.{outputs_type}
 use Rattle.al_check_contexts.specs.Lookups.{shown_with, called_at}
-use Rattle.al_check_contexts.proofs.Numbers.{keeps_stays, means_as}
+use Rattle.al_check_contexts.proofs.Kept.{keeps_stays}
+use Rattle.al_check_objects.proofs.Numbers.{means_as}
 use Rattle.al_check_contexts.proofs.jobs.called_type.Goals as goal
 
 pub shown_with-requires : goal.shown_with-requires

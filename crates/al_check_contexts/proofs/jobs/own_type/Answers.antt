@@ -6,7 +6,7 @@ use Rattle.al_types.specs.Strings.{named_strings}
 use Rattle.al_expr_types.specs.Tables.{objects_of}
 use Rattle.al_check_contexts.specs.Lookups.{shown_with}
 use Rattle.al_check_contexts.proofs.JobLemmas.{keeps_bare_stays}
-use Rattle.al_check_contexts.proofs.Numbers.{means_as}
+use Rattle.al_check_objects.proofs.Numbers.{means_as}
 use Rattle.al_check_contexts.proofs.jobs.own_type.Goals as goal
 
 pub shown_with-requires : goal.shown_with-requires

@@ -1,7 +1,7 @@
 use Rattle.std.proofs.Common.{[]}
 use Rattle.al_types.specs.Types.{String}
 use Rattle.al_expr_types.specs.Tables.{type_at}
-use Rattle.al_check_contexts.proofs.Numbers.{means_itself, string_means}
+use Rattle.al_check_objects.proofs.Numbers.{means_itself, string_means}
 use Rattle.al_check_contexts.proofs.jobs.shown_with.Goals as goal
 
 pub into_type-requires-clause-fields : goal.into_type-requires-clause-fields

@@ -2,7 +2,7 @@ use Rattle.al_base.proofs.Growing.{begins_trans}
 use Rattle.al_expr_types.specs.Tables.{objects_of}
 use Rattle.al_check_contexts.specs.Made.{jobs_from}
 use Rattle.al_check_contexts.proofs.JobLemmas.{keeps_jobs_stay}
-use Rattle.al_check_contexts.proofs.Numbers.{means_stays}
+use Rattle.al_check_objects.proofs.Numbers.{means_stays}
 use Rattle.al_check_contexts.proofs.sections.section_types.Goals as goal
 
 pub returns-clause-types : goal.returns-clause-types

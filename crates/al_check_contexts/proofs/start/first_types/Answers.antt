@@ -1,7 +1,7 @@
 use Rattle.al_base.proofs.Growing.{begins_trans}
 use Rattle.al_yaml_tree.specs.View.{view}
 use Rattle.al_expr_types.specs.Tables.{objects_of}
-use Rattle.al_check_contexts.proofs.Numbers.{means_stays}
+use Rattle.al_check_objects.proofs.Numbers.{means_stays}
 use Rattle.al_check_contexts.proofs.TableLemmas.{fixed_stay, shows_first}
 use Rattle.al_check_contexts.proofs.start.first_types.Goals as goal
 

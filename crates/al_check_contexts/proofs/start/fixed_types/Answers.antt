@@ -1,6 +1,6 @@
 use Rattle.al_base.proofs.Growing.{begins_trans}
 use Rattle.al_expr_types.specs.Tables.{objects_of}
-use Rattle.al_check_contexts.proofs.Numbers.{means_stays}
+use Rattle.al_check_objects.proofs.Numbers.{means_stays}
 use Rattle.al_check_contexts.proofs.start.fixed_types.Goals as goal
 
 pub returns-clause-fixed : goal.returns-clause-fixed

@@ -5,8 +5,8 @@ use Rattle.al_tree.specs.Values.{scalar_node_of}
 use Rattle.al_types.specs.Puts.{put_all, put_new}
 use Rattle.al_check_contexts.specs.Contexts.{step_type}
 use Rattle.al_check_contexts.specs.Made.{known_from}
-use Rattle.al_check_contexts.specs.Numbers.{Lists}
-use Rattle.al_check_contexts.proofs.Numbers.{lists_stay, means_as}
+use Rattle.al_check_objects.specs.Numbers.{Lists}
+use Rattle.al_check_objects.proofs.Numbers.{lists_stay, means_as}
 use Rattle.al_check_contexts.proofs.steps.and_step.Goals as goal
 
 pub returns-in_ok-more-in-Some-clause-fields : goal.returns-in_ok-more-in-Some-clause-fields

@@ -1,11 +1,12 @@
 use Rattle.std.proofs.Common.{◌∙◌, ap}
 use Rattle.al_base.proofs.Growing.{begins_trans}
 use Rattle.al_expr_types.specs.Tables.{objects_of}
-use Rattle.al_check_contexts.specs.Objects.{loose_strings}
+use Rattle.al_check_objects.specs.Objects.{loose_strings}
 use Rattle.al_check_contexts.specs.Contexts.{outputs_type}
 use Rattle.al_check_contexts.specs.Steps.{step_with}
 use Rattle.al_check_contexts.specs.Lookups.{step_at}
-use Rattle.al_check_contexts.proofs.Numbers.{keeps_stays, means_as}
+use Rattle.al_check_contexts.proofs.Kept.{keeps_stays}
+use Rattle.al_check_objects.proofs.Numbers.{means_as}
 use Rattle.al_check_contexts.proofs.steps.step_type.Goals as goal
 
 pub step_with-requires : goal.step_with-requires

@@ -1,6 +1,6 @@
 use Rattle.std.proofs.Common.{◌<◌, ◌∙◌, None, arith, length, sym}
 use Rattle.std.proofs.lemmas.List.{get_or_default}
-use Rattle.al_check_contexts.proofs.Numbers.{kept_means}
+use Rattle.al_check_contexts.proofs.Kept.{kept_means}
 use Rattle.al_check_contexts.proofs.caches.TypeCache.get.Goals as goal
 
 pub returns : goal.returns

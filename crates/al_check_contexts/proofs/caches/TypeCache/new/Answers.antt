@@ -1,5 +1,5 @@
 use Rattle.std.proofs.Common.{◌≡◌, ◌∙◌, None, Some, ap, get_or, sym}
-use Rattle.al_check_contexts.proofs.Numbers.{nothing_pushed}
+use Rattle.al_check_contexts.proofs.Kept.{nothing_pushed}
 use Rattle.al_check_contexts.proofs.caches.TypeCache.new.Goals as goal
 
 pub loop-i-init : goal.loop-i-init

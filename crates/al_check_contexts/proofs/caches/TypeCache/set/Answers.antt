@@ -1,6 +1,6 @@
 use Rattle.std.proofs.Common.{◌≡◌, Some, subst}
-use Rattle.al_check_contexts.specs.Numbers.{Means}
-use Rattle.al_check_contexts.proofs.Numbers.{set_kept}
+use Rattle.al_check_objects.specs.Numbers.{Means}
+use Rattle.al_check_contexts.proofs.Kept.{set_kept}
 use Rattle.al_check_contexts.proofs.caches.TypeCache.set.Goals as goal
 
 pub returns-then-i-len : goal.returns-then-i-len

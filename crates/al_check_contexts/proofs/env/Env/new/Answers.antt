@@ -1,13 +1,14 @@
 use Rattle.std.proofs.Common.{None, map, subst}
 use Rattle.al_base.proofs.Growing.{begins_trans}
-use Rattle.al_check_contexts.specs.Fixed.{strategy_type}
+use Rattle.al_check_objects.specs.Fixed.{strategy_type}
 use Rattle.al_check_contexts.specs.Contexts.{owner_of}
 use Rattle.al_tree.specs.Values.{member_of}
 use Rattle.al_yaml_tree.specs.View.{view}
 use Rattle.al_expr_types.specs.Tables.{objects_of}
 use Rattle.al_check_contexts.specs.Lookups.{known_by, step_at}
 use Rattle.al_check_contexts.specs.Steps.{AreStepsOf}
-use Rattle.al_check_contexts.proofs.Numbers.{keeps_stays, means_stays}
+use Rattle.al_check_contexts.proofs.Kept.{keeps_stays}
+use Rattle.al_check_objects.proofs.Numbers.{means_stays}
 use Rattle.al_check_contexts.proofs.StepLemmas.{prefixes_stay, steps_stay}
 use Rattle.al_check_contexts.proofs.env.Env.new.Goals as goal
 

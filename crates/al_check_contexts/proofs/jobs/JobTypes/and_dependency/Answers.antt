@@ -9,9 +9,9 @@ use Rattle.al_check_contexts.specs.Contexts.{job_field}
 use Rattle.al_base.specs.NamePlaces.{first_at}
 use Rattle.al_check_contexts.specs.Lookups.{known_by}
 use Rattle.al_check_contexts.specs.Made.{jobs_from, known_from}
-use Rattle.al_check_contexts.specs.Numbers.{Lists}
+use Rattle.al_check_objects.specs.Numbers.{Lists}
 use Rattle.al_check_contexts.proofs.JobLemmas.{dependency_at, first_mapped, no_dependency, shown_there}
-use Rattle.al_check_contexts.proofs.Numbers.{lists_stay, means_as}
+use Rattle.al_check_objects.proofs.Numbers.{lists_stay, means_as}
 use Rattle.al_check_contexts.proofs.jobs.JobTypes.and_dependency.Goals as goal
 
 pub get-requires-clause-inside : goal.get-requires-clause-inside

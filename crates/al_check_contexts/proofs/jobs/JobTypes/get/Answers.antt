@@ -1,9 +1,10 @@
 use Rattle.std.proofs.Common.{◌∙◌, subst, sym}
 use Rattle.al_check_contexts.specs.Lookups.{shown_at}
 use Rattle.al_check_contexts.specs.Made.{jobs_from}
-use Rattle.al_check_contexts.specs.Numbers.{Keeps}
+use Rattle.al_check_contexts.specs.Caches.{Keeps}
 use Rattle.al_check_contexts.proofs.JobLemmas.{shown_there}
-use Rattle.al_check_contexts.proofs.Numbers.{keeps_stays, means_as, means_stays}
+use Rattle.al_check_contexts.proofs.Kept.{keeps_stays}
+use Rattle.al_check_objects.proofs.Numbers.{means_as, means_stays}
 use Rattle.al_check_contexts.proofs.jobs.JobTypes.get.Goals as goal
 
 pub returns-clause-ty : goal.returns-clause-ty

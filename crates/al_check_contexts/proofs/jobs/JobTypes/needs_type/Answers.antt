@@ -7,13 +7,13 @@ use Rattle.al_scalar.specs.Scalar.{text_of}
 use Rattle.al_tree.specs.Values.{scalar_node_of}
 use Rattle.al_types.specs.Puts.{firsts, put_all, put_new}
 use Rattle.al_check_contexts.specs.Contexts.{dependency}
-use Rattle.al_check_contexts.specs.Objects.{strictly}
+use Rattle.al_check_objects.specs.Objects.{strictly}
 use Rattle.al_expr_types.specs.Tables.{objects_of}
 use Rattle.al_check_contexts.specs.Made.{jobs_from, known_from}
-use Rattle.al_check_contexts.specs.Numbers.{Lists}
-use Rattle.al_check_contexts.proofs.FieldLists.{put_if_next}
+use Rattle.al_check_objects.specs.Numbers.{Lists}
+use Rattle.al_check_objects.proofs.FieldLists.{put_if_next}
 use Rattle.al_check_contexts.proofs.JobLemmas.{keeps_jobs_stay}
-use Rattle.al_check_contexts.proofs.Numbers.{means_as}
+use Rattle.al_check_objects.proofs.Numbers.{means_as}
 use Rattle.al_check_contexts.proofs.jobs.JobTypes.needs_type.Goals as goal
 
 pub loop-name-preserved : goal.loop-name-preserved

@@ -7,7 +7,7 @@ use Rattle.al_types.specs.Puts.{put_all, put_new}
 use Rattle.al_expr_types.specs.Tables.{objects_of}
 use Rattle.al_check_contexts.specs.Contexts.{dependency}
 use Rattle.al_check_contexts.specs.Made.{KeepsJobsOf, jobs_from, known_from}
-use Rattle.al_check_contexts.specs.Numbers.{Lists}
+use Rattle.al_check_objects.specs.Numbers.{Lists}
 use Rattle.al_check_contexts.proofs.jobs.JobTypes.needs_type.Given as goal
 
 abbrev pub invariant-loop-name : goal.invariant-loop-name

@@ -4,14 +4,14 @@ use Rattle.al_base.proofs.Growing.{begins_trans}
 use Rattle.al_tree.specs.Values.{member_of}
 use Rattle.al_types.specs.Puts.{firsts, put_all, put_new}
 use Rattle.al_check_contexts.specs.Contexts.{job_field}
-use Rattle.al_check_contexts.specs.Objects.{strictly}
+use Rattle.al_check_objects.specs.Objects.{strictly}
 use Rattle.al_expr_types.specs.Tables.{objects_of}
 use Rattle.al_check_contexts.specs.Lookups.{known_by}
 use Rattle.al_check_contexts.specs.Made.{jobs_from, known_from}
-use Rattle.al_check_contexts.specs.Numbers.{Lists}
-use Rattle.al_check_contexts.proofs.FieldLists.{put_next}
+use Rattle.al_check_objects.specs.Numbers.{Lists}
+use Rattle.al_check_objects.proofs.FieldLists.{put_next}
 use Rattle.al_check_contexts.proofs.JobLemmas.{keeps_jobs_stay, same_there, shown_there}
-use Rattle.al_check_contexts.proofs.Numbers.{lists_stay, means_as}
+use Rattle.al_check_objects.proofs.Numbers.{lists_stay, means_as}
 use Rattle.al_check_contexts.proofs.jobs.JobTypes.object_of_jobs.Goals as goal
 
 pub loop-i-preserved : goal.loop-i-preserved

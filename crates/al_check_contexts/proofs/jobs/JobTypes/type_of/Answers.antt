@@ -1,11 +1,12 @@
 use Rattle.std.proofs.Common.{None, Some, ◌∙◌, ap, sym}
 use Rattle.al_tree.specs.Values.{member_of}
-use Rattle.al_check_contexts.specs.Objects.{loose_any}
+use Rattle.al_check_objects.specs.Objects.{loose_any}
 use Rattle.al_check_contexts.specs.Contexts.{outputs_type}
 use Rattle.al_check_contexts.specs.Lookups.{called_at, known_by, shown_with}
 use Rattle.al_check_contexts.specs.Made.{known_from}
 use Rattle.al_check_contexts.proofs.JobLemmas.{keeps_bare_stays, shown_called, shown_own}
-use Rattle.al_check_contexts.proofs.Numbers.{keeps_stays, means_as}
+use Rattle.al_check_contexts.proofs.Kept.{keeps_stays}
+use Rattle.al_check_objects.proofs.Numbers.{means_as}
 use Rattle.al_check_contexts.proofs.jobs.JobTypes.type_of.Goals as goal
 
 pub returns-then-has_value-clause-ty : goal.returns-then-has_value-clause-ty

@@ -3,7 +3,8 @@ use Rattle.al_base.specs.Growth.{BeginsWith}
 use Rattle.al_expr_types.specs.Tables.{objects_of}
 use Rattle.al_check_contexts.specs.Lookups.{step_at}
 use Rattle.al_check_contexts.specs.Made.{known_from}
-use Rattle.al_check_contexts.specs.Numbers.{Keeps, Lists}
+use Rattle.al_check_contexts.specs.Caches.{Keeps}
+use Rattle.al_check_objects.specs.Numbers.{Lists}
 use Rattle.al_check_contexts.specs.Private.Owners.{owner_view}
 use Rattle.al_check_contexts.specs.Steps.{IsCount, first_fields}
 use Rattle.al_check_contexts.proofs.steps.StepFields.of_owner.Given as goal

@@ -1,0 +1,4 @@
+pub mod Numbers
+pub mod FieldLists
+pub mod InputLemmas
+pub mod Values

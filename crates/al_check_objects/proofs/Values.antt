@@ -1,0 +1,79 @@
+-- The types of nodes that the program holds as a sequence or a mapping, and what combinations add to a matrix.
+use Rattle.std.proofs.Common.{◌≡◌, ◌<◌, ◌+◌, ℕ, List, [], ◌∷◌, ◌++◌, Some, None, true, false, ap, refl, sym, drop, get_or, length, map, take, ◌∙◌}
+use Rattle.std.proofs.lemmas.List.{drop_more, map-append, take_more}
+use Rattle.std.specs.Prelude.{if◌then◌else◌}
+use Rattle.al_tree.specs.Keys.{key_of, key_text}
+use Rattle.al_tree.specs.Names.{is_combination_key}
+use Rattle.al_types.specs.FusedFields.{are_distinct}
+use Rattle.al_types.specs.Puts.{Typed, put_or_fuse, put_all, put_new}
+use Rattle.al_types.specs.Types.{Optional, Present, fields_of, fuse_optional}
+use Rattle.al_types.proofs.GatheredFields.{firsts_distinct}
+use Rattle.al_yaml_tree.specs.Node.{Entries, Node, entry, mapping, no_entries, scalar, sequence}
+use Rattle.al_yaml_tree.specs.View.{entries_of, entry_view, nodes_of, view}
+use Rattle.al_yaml_tree.specs.declared.node.Entry as code_entry
+use Rattle.al_yaml_tree.proofs.ViewLemmas.{entry_parts}
+use Rattle.al_check_objects.specs.Matrix.{combination, entries_types, include_all, items_type, node_type, row_field, row_type}
+use Rattle.al_check_objects.specs.Objects.{strictly}
+use Rattle.al_check_objects.proofs.FieldLists.{put_together}
+
+-- ---- fields that entries are
+
+listed : Entries → List Typed
+listed no_entries = []
+listed (entry k v es) = (key_text k, node_type v) ∷ listed es
+
+entries_listed : (ts : List Typed) (es : Entries) → entries_types ts es ≡ put_all put_new ts (listed es)
+unfolding listed
+entries_listed ts no_entries = refl
+entries_listed ts (entry k v es) = entries_listed (put_new ts (key_text k, node_type v)) es
+
+distinct_combination : (n : Node) → are_distinct (fields_of (combination n)) ≡ true
+distinct_combination (scalar s at) = refl
+distinct_combination (sequence ns at) = refl
+distinct_combination (mapping es at) = ap (λ ts. are_distinct (fields_of ts)) (entries_listed [] es) ∙ firsts_distinct (listed es)
+
+-- one combination more
+include_more : (ts : List Typed) (ns : List Node) (n : Node) → include_all ts (ns ++ n ∷ []) ≡ put_all put_or_fuse (include_all ts ns) (combination n)
+include_more ts [] n = refl
+include_more ts (m ∷ ns) n = include_more (put_all put_or_fuse ts (combination m)) ns n
+
+-- of an object of rows and one of each combination, with one more
+pub include_next : {X : Type 0} (g : X → Node) (ts : List Typed) (xs : List X) (i : ℕ) (x : X) (sofar new : Optional) → i < length xs → x ≡ get_or xs i x →
+    sofar ≡ Present (strictly (include_all ts (map g (take i xs)))) → new ≡ fuse_optional sofar (Present (strictly (combination (g x)))) →
+    new ≡ Present (strictly (include_all ts (map g (take (i + 1) xs))))
+include_next g ts xs i x sofar new lt e old step =
+    let front = map g (take i xs) in
+    step ∙ ap (λ o. fuse_optional o (Present (strictly (combination (g x))))) old
+    ∙ ap Present (sym (put_together (include_all ts front) (combination (g x)) (distinct_combination (g x))))
+    ∙ ap (λ us. Present (strictly us)) (sym (include_more ts front (g x)))
+    ∙ ap (λ ns. Present (strictly (include_all ts ns)))
+    (sym (ap (map g) (take_more xs i x lt) ∙ ap (λ y. map g (take i xs ++ y ∷ [])) (sym e) ∙ map-append g (take i xs) (x ∷ [])))
+
+-- ---- what items have in common
+
+-- with one more
+pub items_next : {X : Type 0} (g : X → Node) (xs : List X) (i : ℕ) (x : X) (sofar new : Optional) → i < length xs → x ≡ get_or xs i x →
+    new ≡ fuse_optional sofar (Present (node_type (g x))) →
+    items_type new (nodes_of (map g (drop (i + 1) xs))) ≡ items_type sofar (nodes_of (map g (drop i xs)))
+items_next g xs i x sofar new lt e step =
+    ap (λ o. items_type o (nodes_of (map g (drop (i + 1) xs)))) step
+    ∙ ap (λ ys. items_type sofar (nodes_of (map g ys))) (ap (λ y. y ∷ drop (i + 1) xs) e ∙ sym (drop_more xs i x lt))
+
+-- ---- fields of entries, with those of one more
+
+pub entries_next : (es : List code_entry.Entry) (i : ℕ) (x : code_entry.Entry) (ts us : List Typed) → i < length es → x ≡ get_or es i x →
+    us ≡ put_new ts (key_text (view x.key), node_type (view x.value)) →
+    entries_types us (entries_of (map entry_view (drop (i + 1) es))) ≡ entries_types ts (entries_of (map entry_view (drop i es)))
+entries_next es i x ts us lt e is =
+    let rest = map entry_view (drop (i + 1) es) in
+    ap (λ vs. entries_types vs (entries_of rest)) is
+    ∙ ap (λ p. entries_types ts (entries_of (p ∷ rest))) (sym (entry_parts x))
+    ∙ ap (λ ys. entries_types ts (entries_of (map entry_view ys))) (ap (λ y. y ∷ drop (i + 1) es) e ∙ sym (drop_more es i x lt))
+
+-- ---- whether an entry is a row
+
+pub no_row : (e : Node × Node) → is_combination_key (key_of e) ≡ true → row_field e ≡ None
+no_row e is = ap (λ b. if b then None else Some (key_of e, row_type e.1)) is
+
+pub one_row : (e : Node × Node) → is_combination_key (key_of e) ≡ false → row_field e ≡ Some (key_of e, row_type e.1)
+one_row e is = ap (λ b. if b then None else Some (key_of e, row_type e.1)) is

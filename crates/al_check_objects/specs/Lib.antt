@@ -1,0 +1,5 @@
+pub mod Objects
+pub mod Fixed
+pub mod Inputs
+pub mod Matrix
+pub mod Numbers

@@ -1,0 +1,88 @@
+-- The type of `matrix` in a job (GitHub, "Workflow syntax", `jobs.<job_id>.strategy.matrix`).
+use Rattle.std.specs.Prelude.{List, [], ◌∷◌, Bool, ◌||◌, codes, Option, Some, None, is_some, if◌then◌else◌}
+use Rattle.std.specs.List.{filter_map, fold, list_any}
+use Rattle.std.specs.Option.{option_map_or}
+use Rattle.al_scalar.specs.Scalar.{Scalar, text_of}
+use Rattle.al_scalar.specs.declared.styles.Class.{Class}
+use Rattle.al_scalar.specs.declared.styles.Class.TheVariants as class
+use Rattle.al_rules_formats.specs.Chunks.{is_lone_chunk}
+use Rattle.al_rules_formats.specs.declared.chunks.Around.TheVariants.{Nothing}
+use Rattle.al_types.specs.Types.{Type', Any, Null, Number, Bool', String, ArrayOf, Optional, Absent, Present}
+use Rattle.al_types.specs.Types.{fuse_optional, option_of, or_any}
+use Rattle.al_yaml_tree.specs.Access.{scalar_in}
+use Rattle.al_yaml_tree.specs.Node.{Node, Nodes, Entries, scalar, sequence, mapping, no_nodes, item, no_entries, entry}
+use Rattle.al_tree.specs.Faults.{has_chunk}
+use Rattle.al_tree.specs.Keys.{key_of, key_text}
+use Rattle.al_tree.specs.Names.{is_combination_key}
+use Rattle.al_tree.specs.Values.{entries_in, items_in, value_at, value_below}
+use Rattle.al_check_objects.specs.Objects.{loose_any, strictly}
+use Rattle.al_types.specs.Puts.{Typed, firsts, put_or_fuse, put_all, put_new}
+
+-- a scalar by its class; one with `${{` is any where it is one expression, else a string
+abbrev pub class_type : Class → Type'
+class_type class.Null = Null
+class_type class.Bool = Bool'
+class_type class.Int = Number
+class_type class.Float = Number
+class_type class.Str = String
+
+abbrev pub scalar_type : Scalar → Type'
+scalar_type s = if has_chunk (text_of s) then (if is_lone_chunk Nothing (text_of s) then Any else String) else class_type s.class
+
+-- The type of a value: of a list an array of what its items have in common, of a mapping a strict object, of equal names the first.
+abbrev mutual
+  pub node_type : Node → Type'
+  node_type (scalar s at) = scalar_type s
+  node_type (sequence ns at) = ArrayOf (or_any (option_of (items_type Absent ns)))
+  node_type (mapping es at) = strictly (entries_types [] es)
+
+  -- what some types and those of these items have in common
+  pub items_type : Optional → Nodes → Optional
+  items_type sofar no_nodes = sofar
+  items_type sofar (item n ns) = items_type (fuse_optional sofar (Present (node_type n))) ns
+
+  -- fields, and those of these entries
+  pub entries_types : List Typed → Entries → List Typed
+  entries_types ts no_entries = ts
+  entries_types ts (entry k v es) = entries_types (put_new ts (key_text k, node_type v)) es
+
+-- of a row: what its entries have in common
+abbrev pub row_type : Node → Type'
+row_type (sequence ns at) = or_any (option_of (items_type Absent ns))
+row_type _ = Any
+
+-- the rows of a matrix, of which each has a name
+abbrev pub row_field : Node × Node → Option Typed
+row_field e = if is_combination_key (key_of e) then None else Some (key_of e, row_type e.1)
+
+abbrev pub rows_of : Node → List Typed
+rows_of n = firsts (filter_map row_field (entries_in n))
+
+-- the entries of one combination
+abbrev pub combination : Node → List Typed
+combination (mapping es at) = entries_types [] es
+combination _ = []
+
+abbrev pub include_all : List Typed → List Node → List Typed
+include_all = fold (λ ts n. put_all put_or_fuse ts (combination n))
+
+abbrev pub is_scalar : Node → Bool
+is_scalar n = is_some (scalar_in n)
+
+-- an `include` that isn't known before the workflow runs
+abbrev pub is_open_include : Node → Bool
+is_open_include n = is_scalar n || list_any is_scalar (items_in n)
+
+-- the rows, and what each combination of `include` adds to them
+abbrev pub with_combinations : List Typed → Option Node → Type'
+with_combinations rows None = strictly rows
+with_combinations rows (Some n) = if is_open_include n then loose_any else strictly (include_all rows (items_in n))
+
+abbrev pub matrix_of : Node → Type'
+matrix_of (scalar s at) = loose_any
+matrix_of (sequence ns at) = strictly []
+matrix_of (mapping es at) = with_combinations (rows_of (mapping es at)) (value_at (codes "include") (mapping es at))
+
+-- of a job; without a matrix it has no properties
+abbrev pub matrix_type : Node → Type'
+matrix_type job = option_map_or matrix_of (value_below (codes "strategy" ∷ codes "matrix" ∷ []) job) (strictly [])

@@ -1,0 +1,109 @@
+//! Lists of fields, of which objects are made.
+
+use al_expr_types::{FieldMap, Fields, Ty, Types};
+use std::alloc::{AllocError, Global};
+use std::rc::Rc;
+
+/// Fields in order, of equal names the first.
+#[derive(Drop)]
+pub struct FieldList<'a> {
+    pub(crate) map: FieldMap<'a>,
+}
+
+impl<'a> FieldList<'a> {
+    ghost use Rattle.std.specs.Prelude.{◌≡◌, [], List, IfOk, OnOk, length, map, true};
+    ghost use Rattle.al_base.specs.Growth.{BeginsWith};
+    ghost use Rattle.al_types.specs.Puts.{Typed, put_all, put_new};
+    ghost use Rattle.al_types.specs.Strings.{strings};
+    ghost use Rattle.al_types.specs.Types.{Type', fields_of, object_with};
+    ghost use Rattle.al_check_objects.specs.Numbers.{Lists, Means, is_map_below};
+    ghost use Rattle.al_expr_types.specs.Once.{are_once};
+    ghost use Rattle.al_expr_types.specs.Tables.{objects_of, type_at};
+    ghost use Rattle.al_expr_types.specs.Types.{is_below, is_rest_below, rest_in};
+    ghost use Rattle.std.specs.List.{list_all};
+    ghost use Rattle.al_expr_types.specs.declared.types.Types as declared;
+
+    /// No fields. Takes no memory.
+    pub fn new(alloc: Global) -> FieldList<'a>
+        ensures { (types : declared.Types) → Lists types result [] }
+    {
+        FieldList {
+            map: FieldMap::new(alloc),
+        }
+    }
+
+    /// These fields, of which no two have the same name. Fails with `AllocError` when out of memory, as all here.
+    pub(crate) fn of(alloc: Global, fields: &[(&'a [u8], Ty)]) -> Result<FieldList<'a>, AllocError>
+        requires { are_once (map (λ f. f.0.now) fields.now) ≡ true }
+        ensures { IfOk result
+            (λ l. (types : declared.Types)
+            → list_all (is_below (length types.objects.items)) (map (λ f. f.1) fields.now) ≡ true
+            → Lists types l (map (λ f. (f.0.now, type_at types f.1)) fields.now)) }
+    {
+        let map = FieldMap::of(alloc, fields)?;
+        Ok(FieldList { map })
+    }
+
+    /// The fields, and one more behind them unless one has its name.
+    pub fn and(self, alloc: Global, name: &'a [u8], ty: Ty) -> Result<FieldList<'a>, AllocError>
+        ensures { IfOk result
+            (λ l. (types : declared.Types) (ts : List Typed) (m : Type') → Lists types self.entry ts
+            → Means types ty m
+            → Lists types l (put_new ts (name.now, m))) }
+    {
+        let map = self.map.and(alloc, name, ty)?;
+        Ok(FieldList { map })
+    }
+
+    /// The fields, and strings of some names.
+    pub(crate) fn and_strings(
+        self,
+        alloc: Global,
+        names: &[&'a [u8]],
+    ) -> Result<FieldList<'a>, AllocError>
+        ensures { IfOk result
+            (λ l. (types : declared.Types) (ts : List Typed) → Lists types self.entry ts
+            → Lists types l (put_all put_new ts (strings (map (λ n. n.now) names.now)))) }
+    {
+        let mut all = self;
+        for name in names {
+            let more = all.and(alloc, *name, Ty::STRING)?;
+            all = more;
+        }
+        Ok(all)
+    }
+
+    /// How many fields there are.
+    pub fn len(&self) -> usize
+        ensures { result ≡ length (self.now).map.types.items }
+    {
+        self.map.len()
+    }
+
+    /// The fields, found by their names.
+    pub fn into_map(self) -> FieldMap<'a>
+        ensures { result ≡ (self.entry).map }
+    {
+        self.map
+    }
+
+    /// The type of an object of these fields, and of others of a type where there may be others.
+    pub fn into_type(
+        self,
+        alloc: Global,
+        types: &mut Types<'a>,
+        rest: Option<Ty>,
+    ) -> Result<Ty, AllocError>
+        requires fields { is_map_below (length types.old.objects.items) self.map ≡ true }
+        requires rest { is_rest_below (length types.old.objects.items) rest ≡ true }
+        ensures ty { IfOk result (λ t. (ts : List Typed) → Lists types.old self.entry ts
+            → Means types.new t (object_with (fields_of ts)
+            (rest_in (objects_of types.old) rest))) }
+        ensures kept { OnOk result (BeginsWith (objects_of types.new) (objects_of types.old)) }
+    {
+        let count = self.map.len();
+        let map = Rc::new(alloc, self.map)?;
+        let ty = types.fields(Fields { map, count, rest })?;
+        Ok(ty)
+    }
+}

@@ -1,0 +1,17 @@
+//! The types of objects that need no file around them: of a matrix and of inputs, which a node alone gives, and of the contexts that are
+//! the same in every file; and lists of fields, of which objects are made.
+#![tactic(auto)]
+
+mod field_lists;
+mod fixed;
+mod inputs;
+mod matrix;
+mod objects;
+mod scalars;
+
+pub use field_lists::FieldList;
+pub use fixed::{github, job, runner, strategy};
+pub use inputs::inputs_type;
+pub use matrix::matrix_type;
+pub use objects::{declared_strings, key_texts, loose_any, loose_strings, no_fields};
+pub use scalars::{class_type_of, type_of_input};

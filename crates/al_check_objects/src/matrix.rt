@@ -1,0 +1,296 @@
+//! The type of `matrix`.
+ghost use Rattle.std.specs.Prelude.{◌≡◌, [], codes, map, option_map, IfOk, List, OnOk, true};
+ghost use Rattle.std.specs.List.{list_any};
+ghost use Rattle.std.specs.Option.{option_to_list};
+ghost use Rattle.al_base.specs.Growth.{BeginsWith};
+ghost use Rattle.al_check_objects.specs.Matrix as matrix;
+ghost use Rattle.al_check_objects.specs.Matrix.{entries_types, include_all, items_type, row_field, rows_of};
+ghost use Rattle.al_check_objects.specs.Objects.{strictly};
+ghost use Rattle.al_check_objects.specs.Numbers.{Lists, Means};
+ghost use Rattle.al_expr_types.specs.Tables.{is_known, objects_of};
+ghost use Rattle.al_expr_types.specs.declared.types.Types as declared;
+ghost use Rattle.al_tree.specs.Values.{member_of, value_at};
+ghost use Rattle.al_types.specs.Puts.{Typed, put_all, put_new};
+ghost use Rattle.al_types.specs.Types.{Absent, ArrayOf, Type', option_of, or_any};
+ghost use Rattle.al_yaml_tree.specs.View.{entries_of, entry_view, nodes_of, view};
+
+use crate::field_lists::FieldList;
+use crate::objects::{loose_any, no_fields};
+use crate::scalars::{class_type_of, scalar as scalar_ty};
+use al_expr_types::{Join, Ty, Types};
+use al_rules_formats::{Around, is_lone_chunk};
+use al_scalar::Scalar;
+use al_tree::{
+    Member, contains_chunk, is_combination_key, items, key_of, key_text, members, value,
+};
+use al_tree_declarations::value_below_two;
+use al_yaml_tree::{Entry, Kind, Node};
+use std::alloc::{AllocError, Global};
+
+/// The type of a scalar. Fails with `AllocError` when out of memory, as all here.
+fn scalar_type(alloc: Global, scalar: &Scalar) -> Result<Ty, AllocError>
+    ensures { IfOk result
+        (λ t. (types : declared.Types) → Means types t (matrix.scalar_type scalar.now)) }
+{
+    if !contains_chunk(scalar.text()) {
+        return Ok(scalar_ty(class_type_of(scalar.class())));
+    }
+    if is_lone_chunk(alloc, Around::Nothing, scalar.text())? {
+        Ok(Ty::ANY)
+    } else {
+        Ok(Ty::STRING)
+    }
+}
+
+/// An array of a type.
+fn array_of(ty: Ty) -> Result<Ty, AllocError>
+    ensures { IfOk result
+        (λ t. (types : declared.Types) (m : Type') → Means types ty m → Means types t (ArrayOf m)) }
+{
+    match ty.arrays.checked_add(1) {
+        Some(arrays) => Ok(Ty { arrays, of: ty.of }),
+        // No file has so many brackets.
+        None => Err(AllocError),
+    }
+}
+
+/// The type of a value.
+#[cycle(values)]
+fn node_type<'a>(alloc: Global, types: &mut Types<'a>, node: &'a Node) -> Result<Ty, AllocError>
+    ensures ty { IfOk result (λ t. Means types.new t (matrix.node_type (view node.entry.now))) }
+    ensures kept { OnOk result (BeginsWith (objects_of types.new) (objects_of types.old)) }
+{
+    match &node.kind {
+        Kind::Scalar(scalar) => {
+            let ty = scalar_type(alloc, scalar)?;
+            Ok(ty)
+        }
+        Kind::Sequence(nodes) => {
+            let ty = items_type(alloc, types, nodes.as_slice())?;
+            let array = array_of(ty)?;
+            Ok(array)
+        }
+        Kind::Mapping(entries) => {
+            let ty = entries_type(alloc, types, entries.as_slice())?;
+            Ok(ty)
+        }
+        Kind::Shared(inner) => node_type(alloc, types, inner),
+    }
+}
+
+/// What values have in common; any of no values.
+#[cycle(values)]
+fn items_type<'a>(alloc: Global, types: &mut Types<'a>, nodes: &'a [Node]) -> Result<Ty, AllocError>
+    ensures ty { IfOk result
+        (λ t. Means types.new t
+        (or_any (option_of (items_type Absent (nodes_of (map view nodes.entry.now)))))) }
+    ensures kept { OnOk result (BeginsWith (objects_of types.new) (objects_of types.old)) }
+{
+    let mut all = Join::Nothing;
+    for node in nodes {
+        let ty = node_type(alloc, types, node)?;
+        let more = all.and(alloc, ty)?;
+        all = more;
+    }
+    let ty = types.type_or_any(all)?;
+    Ok(ty)
+}
+
+/// The type of a mapping of these entries, of equal names the first.
+#[cycle(values)]
+fn entries_type<'a>(
+    alloc: Global,
+    types: &mut Types<'a>,
+    entries: &'a [Entry],
+) -> Result<Ty, AllocError>
+    ensures ty { IfOk result
+        (λ t. Means types.new t
+        (strictly (entries_types [] (entries_of (map entry_view entries.entry.now))))) }
+    ensures kept { OnOk result (BeginsWith (objects_of types.new) (objects_of types.old)) }
+{
+    let mut fields = FieldList::new(alloc);
+    for entry in entries {
+        let ty = node_type(alloc, types, &entry.value)?;
+        let more = fields.and(alloc, key_of(entry), ty)?;
+        fields = more;
+    }
+    let ty = fields.into_type(alloc, types, None)?;
+    Ok(ty)
+}
+
+/// The type of a row.
+fn row_type<'a>(alloc: Global, types: &mut Types<'a>, row: &'a Node) -> Result<Ty, AllocError>
+    ensures ty { IfOk result (λ t. Means types.new t (matrix.row_type (view row.entry.now))) }
+    ensures kept { OnOk result (BeginsWith (objects_of types.new) (objects_of types.old)) }
+{
+    match &row.kind {
+        Kind::Sequence(nodes) => {
+            let ty = items_type(alloc, types, nodes.as_slice())?;
+            Ok(ty)
+        }
+        Kind::Scalar(_) | Kind::Mapping(_) => Ok(Ty::ANY),
+        Kind::Shared(inner) => row_type(alloc, types, inner),
+    }
+}
+
+/// Rows, and that of an entry, where it is one.
+fn and_row<'a>(
+    alloc: Global,
+    types: &mut Types<'a>,
+    entry: Member<'a>,
+    rows: FieldList<'a>,
+) -> Result<FieldList<'a>, AllocError>
+    ensures fields { IfOk result (λ l. (ts : List Typed) → Lists types.old rows.entry ts
+        → Lists types.new l (put_all put_new ts
+        (option_to_list (row_field (member_of entry.entry))))) }
+    ensures kept { OnOk result (BeginsWith (objects_of types.new) (objects_of types.old)) }
+{
+    if is_combination_key(key_text(entry.key)) {
+        return Ok(rows);
+    }
+    let ty = row_type(alloc, types, entry.value)?;
+    let more = rows.and(alloc, key_text(entry.key), ty)?;
+    Ok(more)
+}
+
+/// An object of the rows of a matrix.
+fn rows_type<'a>(alloc: Global, types: &mut Types<'a>, node: &'a Node) -> Result<Ty, AllocError>
+    ensures ty { IfOk result (λ t. Means types.new t (strictly (rows_of (view node.entry.now)))) }
+    ensures kept { OnOk result (BeginsWith (objects_of types.new) (objects_of types.old)) }
+{
+    let mut rows = FieldList::new(alloc);
+    let entries = members(alloc, node)?;
+    for entry in entries.as_slice() {
+        let more = and_row(alloc, types, *entry, rows)?;
+        rows = more;
+    }
+    let ty = rows.into_type(alloc, types, None)?;
+    Ok(ty)
+}
+
+/// An object of the entries of one combination; none where it has none.
+fn combination<'a>(alloc: Global, types: &mut Types<'a>, node: &'a Node) -> Result<Ty, AllocError>
+    ensures ty { IfOk result
+        (λ t. Means types.new t (strictly (matrix.combination (view node.entry.now)))) }
+    ensures kept { OnOk result (BeginsWith (objects_of types.new) (objects_of types.old)) }
+{
+    match &node.kind {
+        Kind::Mapping(entries) => {
+            let ty = entries_type(alloc, types, entries.as_slice())?;
+            Ok(ty)
+        }
+        Kind::Scalar(_) | Kind::Sequence(_) => no_fields(alloc, types),
+        Kind::Shared(inner) => combination(alloc, types, inner),
+    }
+}
+
+/// What an object of rows and one of each combination have in common: to combinations a matrix is an object as to its rows.
+fn include<'a>(
+    alloc: Global,
+    types: &mut Types<'a>,
+    rows: Ty,
+    nodes: &'a [Node],
+) -> Result<Ty, AllocError>
+    requires { is_known types.old rows ≡ true }
+    ensures ty { IfOk result (λ t. (ts : List Typed) → Means types.old rows (strictly ts)
+        → Means types.new t (strictly (include_all ts (map view nodes.entry.now)))) }
+    ensures kept { OnOk result (BeginsWith (objects_of types.new) (objects_of types.old)) }
+{
+    let mut all = Join::One(rows);
+    for node in nodes {
+        let ty = combination(alloc, types, node)?;
+        let more = all.and(alloc, ty)?;
+        all = more;
+    }
+    let ty = types.type_or_any(all)?;
+    Ok(ty)
+}
+
+fn is_scalar(node: &Node) -> bool
+    ensures { result ≡ matrix.is_scalar (view node.now) }
+{
+    node.scalar().is_some()
+}
+
+fn has_scalar(nodes: &[Node]) -> bool
+    ensures { result ≡ list_any matrix.is_scalar (map view nodes.now) }
+{
+    for node in nodes {
+        if is_scalar(node) {
+            return true;
+        }
+    }
+    false
+}
+
+/// Whether an `include` isn't known before the workflow runs.
+fn is_open_include(node: &Node) -> bool
+    ensures { result ≡ matrix.is_open_include (view node.now) }
+{
+    is_scalar(node) || has_scalar(items(node))
+}
+
+/// The type of a matrix of these rows.
+fn with_combinations<'a>(
+    alloc: Global,
+    types: &mut Types<'a>,
+    rows: Ty,
+    combinations: Option<&'a Node>,
+) -> Result<Ty, AllocError>
+    requires { is_known types.old rows ≡ true }
+    ensures ty { IfOk result (λ t. (ts : List Typed) → Means types.old rows (strictly ts)
+        → Means types.new t (matrix.with_combinations ts
+        (option_map (λ n. view n.now) combinations.entry))) }
+    ensures kept { OnOk result (BeginsWith (objects_of types.new) (objects_of types.old)) }
+{
+    match combinations {
+        None => Ok(rows),
+        Some(node) => {
+            if is_open_include(node) {
+                return loose_any(alloc, types);
+            }
+            let ty = include(alloc, types, rows, items(node))?;
+            Ok(ty)
+        }
+    }
+}
+
+/// The type of a matrix that is a mapping.
+fn mapped_matrix<'a>(alloc: Global, types: &mut Types<'a>, node: &'a Node) -> Result<Ty, AllocError>
+    ensures ty { IfOk result (λ t. Means types.new t
+        (matrix.with_combinations (rows_of (view node.entry.now))
+        (value_at (codes "include") (view node.entry.now)))) }
+    ensures kept { OnOk result (BeginsWith (objects_of types.new) (objects_of types.old)) }
+{
+    let rows = rows_type(alloc, types, node)?;
+    let ty = with_combinations(alloc, types, rows, value(node, "include"))?;
+    Ok(ty)
+}
+
+/// The type of a matrix.
+fn matrix_of<'a>(alloc: Global, types: &mut Types<'a>, node: &'a Node) -> Result<Ty, AllocError>
+    ensures ty { IfOk result (λ t. Means types.new t (matrix.matrix_of (view node.entry.now))) }
+    ensures kept { OnOk result (BeginsWith (objects_of types.new) (objects_of types.old)) }
+{
+    match &node.kind {
+        Kind::Scalar(_) => loose_any(alloc, types),
+        Kind::Sequence(_) => no_fields(alloc, types),
+        Kind::Mapping(_) => mapped_matrix(alloc, types, node),
+        Kind::Shared(inner) => matrix_of(alloc, types, inner),
+    }
+}
+
+/// The type of `matrix` in a job: of a job without one an object without fields.
+pub fn matrix_type<'a>(
+    alloc: Global,
+    types: &mut Types<'a>,
+    job: &'a Node,
+) -> Result<Ty, AllocError>
+    ensures ty { IfOk result (λ t. Means types.new t (matrix.matrix_type (view job.entry.now))) }
+    ensures kept { OnOk result (BeginsWith (objects_of types.new) (objects_of types.old)) }
+{
+    match value_below_two(job, "strategy", "matrix") {
+        None => no_fields(alloc, types),
+        Some(node) => matrix_of(alloc, types, node),
+    }
+}

@@ -1,0 +1,44 @@
+//! Types without parts.
+ghost use Rattle.std.specs.Prelude.{◌≡◌};
+ghost use Rattle.al_check_objects.specs.Matrix.{class_type};
+ghost use Rattle.al_check_objects.specs.Numbers.{Means};
+ghost use Rattle.al_expr_types.specs.Types.{scalar_type};
+ghost use Rattle.al_expr_types.specs.declared.types.Types as declared;
+ghost use Rattle.al_check_objects.specs.Inputs.{input_type};
+
+use al_expr_types::{Base, Scalar, Ty};
+use al_scalar::Class;
+use al_tree_declarations::InputType;
+
+/// The type of a scalar of a class.
+pub fn class_type_of(class: Class) -> Scalar
+    ensures { scalar_type result ≡ class_type class }
+{
+    match class {
+        Class::Null => Scalar::Null,
+        Class::Bool => Scalar::Bool,
+        Class::Int | Class::Float => Scalar::Number,
+        Class::Str => Scalar::String,
+    }
+}
+
+/// The type of expressions that an input has.
+pub fn type_of_input(input: InputType) -> Scalar
+    ensures { scalar_type result ≡ input_type input }
+{
+    match input {
+        InputType::Boolean => Scalar::Bool,
+        InputType::Number => Scalar::Number,
+        InputType::String => Scalar::String,
+    }
+}
+
+/// The type that a scalar is.
+pub(crate) fn scalar(of: Scalar) -> Ty
+    ensures { (types : declared.Types) → Means types result (scalar_type of) }
+{
+    Ty {
+        arrays: 0,
+        of: Base::Scalar(of),
+    }
+}
