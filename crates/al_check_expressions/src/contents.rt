@@ -85,7 +85,7 @@ struct Text<'s> {
 fn check_tree(
     types: &mut Types<'_>,
     text: &Text<'_>,
-    expr: &Expr,
+    expr: &Expr<'_>,
     faults: &mut FaultSink,
 ) -> Result<(), AllocError>
     requires { IsShown types.old text.now.scope.now }

@@ -1,7 +1,7 @@
 -- The view of each form of an expression.
 use Rattle.std.proofs.Common.{◌≡◌, ◌<◌, length, arith, List, [], ◌∷◌, map, refl, sym, ap, ◌∙◌}
 use Rattle.std.specs.Global.{Global}
-use Rattle.std.specs.Prelude.{Box, Vec, string_bytes}
+use Rattle.std.specs.Prelude.{Box, Vec}
 use Rattle.al_base.specs.declared.faults.Span.{Span}
 use Rattle.al_expr_grammar.specs.declared.token.Keyword.{Keyword}
 use Rattle.al_expr_grammar.specs.declared.ast.Word.{Word}
@@ -23,19 +23,19 @@ pub tree_of-Keyword : (w : Keyword) (s : Span) → tree_of (code.Keyword w s) �
 unfolding tree_of
 tree_of-Keyword w s = ap tree_of (sym (rolls-Keyword w s)) ∙ fold-roll-Expr Tree StepTree (Sign × Tree) expr_layer step_layer operand_layer (layer.Keyword w s)
 
-pub tree_of-Number : (w : Word) → tree_of (code.Number w) ≡ Number (string_bytes w.text) w.span
+pub tree_of-Number : (w : Word) → tree_of (code.Number w) ≡ Number w.text.now w.span
 unfolding tree_of
 tree_of-Number w = ap tree_of (sym (rolls-Number w)) ∙ fold-roll-Expr Tree StepTree (Sign × Tree) expr_layer step_layer operand_layer (layer.Number w)
 
-pub tree_of-Text : (w : Word) → tree_of (code.Text w) ≡ Text (string_bytes w.text) w.span
+pub tree_of-Text : (w : Word) → tree_of (code.Text w) ≡ Text w.text.now w.span
 unfolding tree_of
 tree_of-Text w = ap tree_of (sym (rolls-Text w)) ∙ fold-roll-Expr Tree StepTree (Sign × Tree) expr_layer step_layer operand_layer (layer.Text w)
 
-pub tree_of-Name : (w : Word) → tree_of (code.Name w) ≡ Named (string_bytes w.text) w.span
+pub tree_of-Name : (w : Word) → tree_of (code.Name w) ≡ Named w.text.now w.span
 unfolding tree_of
 tree_of-Name w = ap tree_of (sym (rolls-Name w)) ∙ fold-roll-Expr Tree StepTree (Sign × Tree) expr_layer step_layer operand_layer (layer.Name w)
 
-pub tree_of-Call : (w : Word) (v : Vec Expr Global) (e : Span) → tree_of (code.Call w v e) ≡ Call (string_bytes w.text) w.span (arguments_of (map tree_of v.items)) e
+pub tree_of-Call : (w : Word) (v : Vec Expr Global) (e : Span) → tree_of (code.Call w v e) ≡ Call w.text.now w.span (arguments_of (map tree_of v.items)) e
 unfolding tree_of
 tree_of-Call w v e = ap tree_of (sym (rolls-Call w v e)) ∙ fold-roll-Expr Tree StepTree (Sign × Tree) expr_layer step_layer operand_layer (layer.Call w v e)
 
@@ -55,7 +55,7 @@ pub tree_of-Chain : (b : Box Expr Global) (v : Vec Operand Global) → tree_of (
 unfolding tree_of operand_of
 tree_of-Chain b v = ap tree_of (sym (rolls-Chain b v)) ∙ fold-roll-Expr Tree StepTree (Sign × Tree) expr_layer step_layer operand_layer (layer.Chain b v)
 
-pub step_of-Property : (d : Span) (w : Word) → step_of (code_step.Property d w) ≡ Property d (string_bytes w.text) w.span
+pub step_of-Property : (d : Span) (w : Word) → step_of (code_step.Property d w) ≡ Property d w.text.now w.span
 unfolding step_of
 step_of-Property d w = ap step_of (sym (rolls-Property d w)) ∙ fold-roll-PathStep Tree StepTree (Sign × Tree) expr_layer step_layer operand_layer (layer.Property d w)
 

@@ -1,5 +1,4 @@
 -- What a clause sees of the code's expressions.
-use Rattle.std.specs.Prelude.{string_bytes}
 use Rattle.al_expr_grammar.specs.declared.ast.Expr.{Expr}
 use Rattle.al_expr_grammar.specs.declared.ast.PathStep.{PathStep}
 use Rattle.al_expr_grammar.specs.declared.ast.Operand.{Operand}
@@ -11,17 +10,17 @@ use Rattle.al_expr_grammar.specs.Tree.{All, Index, steps_of, operands_of, argume
 
 abbrev pub expr_layer : layer.Expr-F Tree StepTree (Sign × Tree) → Tree
 expr_layer (layer.Keyword w s) = Constant w s
-expr_layer (layer.Number w) = Number (string_bytes w.text) w.span
-expr_layer (layer.Text w) = Text (string_bytes w.text) w.span
-expr_layer (layer.Name w) = Named (string_bytes w.text) w.span
-expr_layer (layer.Call w as' e) = Call (string_bytes w.text) w.span (arguments_of as'.items) e
+expr_layer (layer.Number w) = Number w.text.now w.span
+expr_layer (layer.Text w) = Text w.text.now w.span
+expr_layer (layer.Name w) = Named w.text.now w.span
+expr_layer (layer.Call w as' e) = Call w.text.now w.span (arguments_of as'.items) e
 expr_layer (layer.Group t s e) = Group t.value s e
 expr_layer (layer.Not s t) = Negated s t.value
 expr_layer (layer.Path t ss) = Path t.value (steps_of ss.items)
 expr_layer (layer.Chain t os) = Chain t.value (operands_of os.items)
 
 abbrev pub step_layer : layer.PathStep-F Tree StepTree (Sign × Tree) → StepTree
-step_layer (layer.Property d w) = Property d (string_bytes w.text) w.span
+step_layer (layer.Property d w) = Property d w.text.now w.span
 step_layer (layer.All a b) = All a b
 step_layer (layer.Index a t b) = Index a t b
 

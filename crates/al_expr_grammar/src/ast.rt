@@ -4,9 +4,9 @@ use crate::token::{Keyword, Operator};
 use al_base::Span;
 
 /// A name or literal as written, and where it stands in the content.
-#[derive(Drop)]
-pub struct Word {
-    pub text: String,
+#[derive(Clone, Copy)]
+pub struct Word<'a> {
+    pub text: &'a str,
     pub span: Span,
 }
 
@@ -16,44 +16,44 @@ pub struct Word {
 /// deeper. Brackets are kept, as spans take them in and a path ends at them.
 #[derive(Drop)]
 #[cycle(ast)]
-pub enum Expr {
+pub enum Expr<'a> {
     /// `null`, `true` or `false`.
     Keyword(Keyword, Span),
     /// A number as written.
-    Number(Word),
+    Number(Word<'a>),
     /// A text as written, with its quotes.
-    Text(Word),
+    Text(Word<'a>),
     /// A context's name.
-    Name(Word),
+    Name(Word<'a>),
     /// The name, the arguments, and the closing bracket.
-    Call(Word, Vec<Expr>, Span),
+    Call(Word<'a>, Vec<Expr<'a>>, Span),
     /// What brackets hold, then the opening and the closing one.
-    Group(Box<Expr>, Span, Span),
+    Group(Box<Expr<'a>>, Span, Span),
     /// The `!`, and its operand.
-    Not(Span, Box<Expr>),
+    Not(Span, Box<Expr<'a>>),
     /// The base, and at least one step.
-    Path(Box<Expr>, Vec<PathStep>),
+    Path(Box<Expr<'a>>, Vec<PathStep<'a>>),
     /// The first operand, and at least one more, each behind an operator of the same level.
-    Chain(Box<Expr>, Vec<Operand>),
+    Chain(Box<Expr<'a>>, Vec<Operand<'a>>),
 }
 
 /// A step of a path.
 #[derive(Drop)]
 #[cycle(ast)]
-pub enum PathStep {
+pub enum PathStep<'a> {
     /// `.name`: the dot, and the name.
-    Property(Span, Word),
+    Property(Span, Word<'a>),
     /// `.*` or `[*]`: the first and the last token.
     All(Span, Span),
     /// `[index]`: the opening bracket, the index, and the closing bracket.
-    Index(Span, Expr, Span),
+    Index(Span, Expr<'a>, Span),
 }
 
 /// An operator, its place, and the operand behind it.
 #[derive(Drop)]
 #[cycle(ast)]
-pub struct Operand {
+pub struct Operand<'a> {
     pub operator: Operator,
     pub at: Span,
-    pub expr: Expr,
+    pub expr: Expr<'a>,
 }

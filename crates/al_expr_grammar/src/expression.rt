@@ -68,7 +68,7 @@ fn parse_fault(
 /// The fault is X5 where the content is longer than 21,000 bytes; else X1 or X2 of its tokens; else, at the first token
 /// that no expression's tokens go on with, X3, or at the token that makes the nesting 51, X6; else X4 at the content's
 /// end, where its tokens end too early. The outer error: out of memory.
-pub fn parse_expr(alloc: Global, content: &str) -> Result<Result<Expr, Fault>, AllocError>
+pub fn parse_expr(alloc: Global, content: &str) -> Result<Result<Expr<'_>, Fault>, AllocError>
     ensures tree { IfOk result (λ r. IfOk r (λ e. Spells content.now (tree_of e))) }
     ensures none { IfOk result (λ r. IfOk r (λ e. fault_of_content content.now ≡ None)) }
     ensures fault { IfOk result (λ r. IfErr r (λ f. fault_of_content content.now ≡ Some f)) }

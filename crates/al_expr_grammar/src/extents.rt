@@ -13,7 +13,7 @@ use al_base::Span;
 /// Where an expression stands, its outer brackets included.
 #[tactic(auto, using(crate::proofs::TreeViews::tree_views))]
 #[cycle(extents)]
-pub fn extent(expr: &Expr) -> Span
+pub fn extent(expr: &Expr<'_>) -> Span
     ensures { result ≡ extent (tree_of expr.now) }
 {
     match expr {
@@ -30,7 +30,7 @@ pub fn extent(expr: &Expr) -> Span
 }
 
 /// Where a path stands.
-pub fn path_extent(base: &Expr, steps: &[PathStep]) -> Span
+pub fn path_extent(base: &Expr<'_>, steps: &[PathStep<'_>]) -> Span
     ensures { result ≡ extent (Path (tree_of base.now) (steps_of (map step_of steps.now))) }
 {
     with_steps(extent(base), steps)
@@ -46,7 +46,7 @@ pub fn across(first: Span, last: Span) -> Span
     }
 }
 
-fn with_steps(base: Span, steps: &[PathStep]) -> Span
+fn with_steps(base: Span, steps: &[PathStep<'_>]) -> Span
     ensures { result ≡ with_steps base (steps_of (map step_of steps.now)) }
 {
     let mut whole = base;
@@ -58,7 +58,7 @@ fn with_steps(base: Span, steps: &[PathStep]) -> Span
 
 /// The last token of a step.
 #[tactic(auto, using(crate::proofs::TreeViews::step_views))]
-fn step_end(step: &PathStep) -> Span
+fn step_end(step: &PathStep<'_>) -> Span
     ensures { (x : Span) (ss : List StepTree) → with_steps x (steps_of (step_of step.now ∷ ss))
         ≡ with_steps (extents.across x result) (steps_of ss) }
 {
@@ -71,7 +71,7 @@ fn step_end(step: &PathStep) -> Span
 
 #[tactic(auto, using(crate::proofs::TreeViews::operand_view))]
 #[cycle(extents)]
-fn with_operands(first: Span, operands: &[Operand]) -> Span
+fn with_operands(first: Span, operands: &[Operand<'_>]) -> Span
     ensures { result ≡ with_operands first (operands_of (map operand_of operands.now)) }
 {
     let mut whole = first;

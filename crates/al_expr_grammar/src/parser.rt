@@ -1,6 +1,6 @@
 //! The tree that tokens spell, level by level of the operators.
 
-ghost use Rattle.std.specs.Prelude.{map, IfOk, ◌≡◌, ◌≢◌, ◌+◌, ◌<◌, MatchOption, MatchResult, List, [], ◌∷◌, string_bytes};
+ghost use Rattle.std.specs.Prelude.{map, IfOk, ◌≡◌, ◌≢◌, ◌+◌, ◌<◌, MatchOption, MatchResult, List, [], ◌∷◌};
 ghost use Rattle.al_expr_grammar.specs.Lexeme.{seen, kinds, kind_of, text_of, span_of};
 ghost use Rattle.al_expr_grammar.specs.Parsed.{EndsPath, IsStray, NoOperator, Parses};
 ghost use Rattle.al_expr_grammar.specs.Parsed.{ParsesStep, StepRead, StepRefused, ArgumentsRead};
@@ -67,20 +67,23 @@ fn split<'t, 'a>(tokens: &'t [Token<'a>]) -> Option<(Token<'a>, &'t [Token<'a>])
 }
 
 /// A token's text with its place.
-fn word(alloc: Global, token: Token) -> Result<Word, AllocError>
-    ensures text { IfOk result (λ w. string_bytes w.text ≡ text_of (seen token.entry)) }
-    ensures span { IfOk result (λ w. w.span ≡ span_of (seen token.entry)) }
+fn word<'a>(token: Token<'a>) -> Word<'a>
+    ensures text { result.text.now ≡ text_of (seen token.entry) }
+    ensures span { result.span ≡ span_of (seen token.entry) }
 {
-    let text = String::from_str(alloc, token.text)?;
-    Ok(Word {
-        text,
+    Word {
+        text: token.text,
         span: token.span,
-    })
+    }
 }
 
 /// The path from a base, which is the base itself where there is no step.
-fn with_steps(alloc: Global, base: Expr, steps: Vec<PathStep>) -> Result<Expr, AllocError>
-    ensures { IfOk result (λ e. tree_of e ≡ path_of (tree_of base) (map step_of steps.items)) }
+fn with_steps<'a>(
+    alloc: Global,
+    base: Expr<'a>,
+    steps: Vec<PathStep<'a>>,
+) -> Result<Expr<'a>, AllocError>
+    ensures { IfOk result (λ e. tree_of e ≡ path_of (tree_of base.entry) (map step_of (steps.entry).items)) }
 {
     if steps.len() == 0 {
         return Ok(base);
@@ -89,8 +92,12 @@ fn with_steps(alloc: Global, base: Expr, steps: Vec<PathStep>) -> Result<Expr, A
 }
 
 /// The chain from a first operand, which is the operand itself where there is no other.
-fn with_operands(alloc: Global, first: Expr, more: Vec<Operand>) -> Result<Expr, AllocError>
-    ensures { IfOk result (λ e. tree_of e ≡ chain_of (tree_of first) (map operand_of more.items)) }
+fn with_operands<'a>(
+    alloc: Global,
+    first: Expr<'a>,
+    more: Vec<Operand<'a>>,
+) -> Result<Expr<'a>, AllocError>
+    ensures { IfOk result (λ e. tree_of e ≡ chain_of (tree_of first.entry) (map operand_of (more.entry).items)) }
 {
     if more.len() == 0 {
         return Ok(first);
@@ -166,11 +173,10 @@ fn deeper(room: u32, left: usize) -> Result<u32, ParseError>
 
 /// The property that a dot leads to.
 fn property<'t, 'a>(
-    alloc: Global,
     dot: Token,
     tokens: &'t [Token<'a>],
     room: u32,
-) -> Result<(PathStep, &'t [Token<'a>]), ParseError>
+) -> Result<(PathStep<'a>, &'t [Token<'a>]), ParseError>
     requires { kind_of (seen dot) ≡ Dot }
     ensures { ParsesStep room (seen dot.entry ∷ map seen tokens.now) result }
 {
@@ -179,7 +185,7 @@ fn property<'t, 'a>(
     };
     match first.kind {
         TokenKind::Name | TokenKind::Keyword(_) => {
-            Ok((PathStep::Property(dot.span, word(alloc, first)?), rest))
+            Ok((PathStep::Property(dot.span, word(first)), rest))
         }
         TokenKind::Star => Ok((PathStep::All(dot.span, first.span), rest)),
         _ => Err(ParseError::Unexpected(tokens.len())),
@@ -192,7 +198,7 @@ fn primary<'t, 'a>(
     alloc: Global,
     tokens: &'t [Token<'a>],
     room: u32,
-) -> Result<(Expr, &'t [Token<'a>]), ParseError>
+) -> Result<(Expr<'a>, &'t [Token<'a>]), ParseError>
     requires { NoBang (kinds (map seen tokens.now)) }
     ensures { Parses Primary room (map seen tokens.now) result }
 {
@@ -201,12 +207,12 @@ fn primary<'t, 'a>(
     };
     match first.kind {
         TokenKind::Keyword(keyword) => Ok((Expr::Keyword(keyword, first.span), rest)),
-        TokenKind::Number => Ok((Expr::Number(word(alloc, first)?), rest)),
-        TokenKind::Text => Ok((Expr::Text(word(alloc, first)?), rest)),
+        TokenKind::Number => Ok((Expr::Number(word(first)), rest)),
+        TokenKind::Text => Ok((Expr::Text(word(first)), rest)),
         TokenKind::Open => group(alloc, first, rest, room),
         TokenKind::Name => match after(rest, TokenKind::Open) {
             Some((bracket, inner)) => call(alloc, first, bracket, inner, room),
-            None => Ok((Expr::Name(word(alloc, first)?), rest)),
+            None => Ok((Expr::Name(word(first)), rest)),
         },
         _ => Err(ParseError::Unexpected(tokens.len())),
     }
@@ -219,7 +225,7 @@ fn group<'t, 'a>(
     bracket: Token,
     tokens: &'t [Token<'a>],
     room: u32,
-) -> Result<(Expr, &'t [Token<'a>]), ParseError>
+) -> Result<(Expr<'a>, &'t [Token<'a>]), ParseError>
     requires { kind_of (seen bracket) ≡ Open }
     ensures { Parses Primary room (seen bracket.entry ∷ map seen tokens.now) result }
 {
@@ -236,18 +242,18 @@ fn group<'t, 'a>(
 #[cycle(parser)]
 fn call<'t, 'a>(
     alloc: Global,
-    name: Token,
+    name: Token<'a>,
     bracket: Token,
     tokens: &'t [Token<'a>],
     room: u32,
-) -> Result<(Expr, &'t [Token<'a>]), ParseError>
+) -> Result<(Expr<'a>, &'t [Token<'a>]), ParseError>
     requires name { kind_of (seen name) ≡ Name }
     requires bracket { kind_of (seen bracket) ≡ Open }
     ensures { Parses Primary room
         (seen name.entry ∷ seen bracket.entry ∷ map seen tokens.now) result }
 {
     let inner = deeper(room, tokens.len() + 1)?;
-    let function = word(alloc, name)?;
+    let function = word(name);
     if let Some((close, rest)) = after(tokens, TokenKind::Close) {
         return Ok((Expr::Call(function, Vec::new(alloc), close.span), rest));
     }
@@ -262,7 +268,7 @@ fn arguments<'t, 'a>(
     alloc: Global,
     tokens: &'t [Token<'a>],
     room: u32,
-) -> Result<(Vec<Expr>, &'t [Token<'a>]), ParseError>
+) -> Result<(Vec<Expr<'a>>, &'t [Token<'a>]), ParseError>
     requires { NoClose (kinds (map seen tokens.now)) }
     ensures { MatchResult result
         (λ x. ArgumentsRead room (map seen tokens.now) (map tree_of x.0.items) (map seen x.1.now))
@@ -285,7 +291,7 @@ fn postfix<'t, 'a>(
     alloc: Global,
     tokens: &'t [Token<'a>],
     room: u32,
-) -> Result<(Expr, &'t [Token<'a>]), ParseError>
+) -> Result<(Expr<'a>, &'t [Token<'a>]), ParseError>
     requires { NoBang (kinds (map seen tokens.now)) }
     ensures { Parses Postfix room (map seen tokens.now) result }
 {
@@ -304,7 +310,7 @@ fn step<'t, 'a>(
     alloc: Global,
     tokens: &'t [Token<'a>],
     room: u32,
-) -> Result<Option<(PathStep, &'t [Token<'a>])>, ParseError>
+) -> Result<Option<(PathStep<'a>, &'t [Token<'a>])>, ParseError>
     ensures { MatchResult result (λ o. MatchOption o (EndsPath (kinds (map seen tokens.now)))
         (λ x. StepRead room (map seen tokens.now) (step_of x.0) (map seen x.1.now)))
         (λ e. StepRefused room (map seen tokens.now) e) }
@@ -313,7 +319,7 @@ fn step<'t, 'a>(
         return Ok(None);
     };
     match first.kind {
-        TokenKind::Dot => Ok(Some(property(alloc, first, rest, room)?)),
+        TokenKind::Dot => Ok(Some(property(first, rest, room)?)),
         TokenKind::OpenIndex => Ok(Some(index(alloc, first, rest, room)?)),
         _ => Ok(None),
     }
@@ -326,7 +332,7 @@ fn index<'t, 'a>(
     bracket: Token,
     tokens: &'t [Token<'a>],
     room: u32,
-) -> Result<(PathStep, &'t [Token<'a>]), ParseError>
+) -> Result<(PathStep<'a>, &'t [Token<'a>]), ParseError>
     requires { kind_of (seen bracket) ≡ OpenIndex }
     ensures { ParsesStep room (seen bracket.entry ∷ map seen tokens.now) result }
 {
@@ -346,7 +352,7 @@ fn unary<'t, 'a>(
     alloc: Global,
     tokens: &'t [Token<'a>],
     room: u32,
-) -> Result<(Expr, &'t [Token<'a>]), ParseError>
+) -> Result<(Expr<'a>, &'t [Token<'a>]), ParseError>
     ensures { Parses Unary room (map seen tokens.now) result }
 {
     let Some((bang, inner)) = after(tokens, TokenKind::Bang) else {
@@ -364,7 +370,7 @@ fn binary<'t, 'a>(
     level: u8,
     tokens: &'t [Token<'a>],
     room: u32,
-) -> Result<(Expr, &'t [Token<'a>]), ParseError>
+) -> Result<(Expr<'a>, &'t [Token<'a>]), ParseError>
     requires { level < 4 }
     ensures { Parses (Binary level) room (map seen tokens.now) result }
 {
@@ -389,7 +395,7 @@ fn operand<'t, 'a>(
     level: u8,
     tokens: &'t [Token<'a>],
     room: u32,
-) -> Result<(Expr, &'t [Token<'a>]), ParseError>
+) -> Result<(Expr<'a>, &'t [Token<'a>]), ParseError>
     requires { level < 4 }
     ensures { Parses (below level) room (map seen tokens.now) result }
 {
@@ -401,7 +407,7 @@ fn operand<'t, 'a>(
 }
 
 /// The tree of the tokens, or the first fault in them.
-pub fn parse(alloc: Global, tokens: &[Token]) -> Result<Expr, ParseError>
+pub fn parse<'a>(alloc: Global, tokens: &[Token<'a>]) -> Result<Expr<'a>, ParseError>
     ensures { MatchResult result
         (λ e. (verdict_of (kinds (map seen tokens.now)) ≡ Fine)
         × IsTreeOf (tree_of e) (map seen tokens.now))

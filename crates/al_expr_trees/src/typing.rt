@@ -22,7 +22,7 @@ use std::alloc::{AllocError, Global};
 pub fn type_of(
     alloc: Global,
     env: &Scope,
-    expr: &Expr,
+    expr: &Expr<'_>,
     out: &mut Vec<Fault>,
 ) -> Result<Ty, AllocError>
     ensures ty { IfOk result

@@ -36,18 +36,18 @@ pub(crate) struct Argument {
 
 /// A call as it is written.
 #[derive(Clone, Copy)]
-pub(crate) struct CallExpr<'a> {
-    pub name: &'a Word,
+pub(crate) struct CallExpr<'a, 'e> {
+    pub name: Word<'a>,
     /// The function of that name, where there is one.
     pub function: Option<Function>,
-    pub arguments: &'a [Expr],
+    pub arguments: &'e [Expr<'a>],
 }
 
 /// What a function wants of an argument.
 #[derive(Clone, Copy)]
 struct Parameter<'a> {
     // The function's name, as the call has it.
-    of: &'a Word,
+    of: Word<'a>,
     // The first is 1.
     number: usize,
     parameter_at: Wanted,
@@ -77,14 +77,14 @@ pub(crate) fn is_test(function: Option<Function>) -> bool
 /// The type of a call whose arguments have these types.
 pub(crate) fn call_from(
     scope: &Scope,
-    call: CallExpr<'_>,
+    call: CallExpr<'_, '_>,
     arguments: &[Argument],
     faults: &mut FaultSink,
 ) -> Result<Ty, AllocError>
     ensures ok { IfOk result
         (λ t. (ms : List Parts) → typed (type_in ms t) faults.new ≡ behind faults.old
-        (call_from (scope_in ms scope.now) (string_bytes (call.entry).name.now.text)
-        (call.entry).name.now.span
+        (call_from (scope_in ms scope.now) (call.entry).name.text.now
+        (call.entry).name.span
         (call.entry).function
         (arguments_of (map tree_of (call.entry).arguments.now))
         (map (argument_in ms) arguments.now))) }
@@ -95,7 +95,7 @@ pub(crate) fn call_from(
         report_text(
             name.span,
             ExpressionCode::UndefinedFunction,
-            name.text.as_str(),
+            name.text,
             faults,
         )?;
         return Ok(Ty::ANY);
@@ -109,20 +109,20 @@ pub(crate) fn call_from(
 
 fn check_available(
     scope: &Scope,
-    name: &Word,
+    name: Word<'_>,
     function: Function,
     faults: &mut FaultSink,
 ) -> Result<(), AllocError>
     ensures { OnOk result
         (faults.new ≡ faults.old
         ++ give (not (is_allowed scope.now.available.functions function))
-        (fault code.UnavailableFunction name.now.span (string_bytes name.now.text ∷ []))) }
+        (fault code.UnavailableFunction (name.entry).span ((name.entry).text.now ∷ []))) }
 {
     if !scope.available.functions.allows(function) {
         report_text(
             name.span,
             ExpressionCode::UnavailableFunction,
-            name.text.as_str(),
+            name.text,
             faults,
         )?;
     }
@@ -130,35 +130,30 @@ fn check_available(
 }
 
 fn check_arguments(
-    name: &Word,
+    name: Word<'_>,
     parameters: Parameters,
     arguments: &[Argument],
     faults: &mut FaultSink,
 ) -> Result<(), AllocError>
     ensures { OnOk result ((ms : List Parts) → faults.new ≡ faults.old ++
-        argument_faults (string_bytes name.now.text) name.now.span parameters
+        argument_faults (name.entry).text.now (name.entry).span parameters
         (map (argument_in ms) arguments.now)) }
 {
     if parameters.takes(arguments.len()) {
         check_types(name, parameters, arguments, faults)
     } else {
-        report_text(
-            name.span,
-            ExpressionCode::ArgumentCount,
-            name.text.as_str(),
-            faults,
-        )
+        report_text(name.span, ExpressionCode::ArgumentCount, name.text, faults)
     }
 }
 
 fn check_types(
-    name: &Word,
+    name: Word<'_>,
     parameters: Parameters,
     arguments: &[Argument],
     faults: &mut FaultSink,
 ) -> Result<(), AllocError>
     ensures { OnOk result ((ms : List Parts) → faults.new ≡ faults.old ++
-        wrong_arguments (string_bytes name.now.text) parameters 0
+        wrong_arguments (name.entry).text.now parameters 0
         (map (argument_in ms) arguments.now)) }
 {
     for (index, argument) in arguments.iter().enumerate() {
@@ -180,11 +175,11 @@ fn check_type(
     ensures { OnOk result ((ms : List Parts) → faults.new ≡ faults.old ++
         give (not (accepts (parameter.entry).parameter_at (type_in ms argument.now.ty)))
         (fault code.ArgumentType argument.now.span
-        (decimal (parameter.entry).number ∷ string_bytes (parameter.entry).of.now.text ∷ []))) }
+        (decimal (parameter.entry).number ∷ (parameter.entry).of.text.now ∷ []))) }
 {
     if !accepts(parameter.parameter_at, argument.ty) {
         let number = parameter.number.to_string(faults.alloc())?;
-        let name = parameter.of.text.as_str();
+        let name = parameter.of.text;
         let args = Args::two(faults.alloc(), number.as_str(), name)?;
         let code = Code::Expression(ExpressionCode::ArgumentType);
         faults.report(argument.span, code, args)?;
@@ -194,7 +189,7 @@ fn check_type(
 
 fn check_format(
     function: Function,
-    exprs: &[Expr],
+    exprs: &[Expr<'_>],
     arguments: &[Argument],
     faults: &mut FaultSink,
 ) -> Result<(), AllocError>

@@ -90,7 +90,7 @@ fn is_logic(operator: Operator) -> bool
 /// Whether operators choose between their operands, so that these are branches. All operators of a level are of one kind, so the first
 /// tells.
 #[tactic(auto, using(al_expr_grammar::proofs::TreeViews::operand_view))]
-pub(crate) fn begins_logic(operands: &[Operand]) -> bool
+pub(crate) fn begins_logic(operands: &[Operand<'_>]) -> bool
     ensures { result ≡ begins_logic (operands_of (map operand_of operands.now)) }
 {
     match operands {

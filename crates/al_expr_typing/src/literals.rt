@@ -31,12 +31,12 @@ pub(crate) enum Quoting {
 
 /// The value of a text literal, in brackets or not: none where the expression is no such literal.
 #[tactic(auto, using(al_expr_grammar::proofs::TreeViews::tree_views))]
-pub(crate) fn literal_text(alloc: Global, expr: &Expr) -> Result<Option<Literal>, AllocError>
+pub(crate) fn literal_text(alloc: Global, expr: &Expr<'_>) -> Result<Option<Literal>, AllocError>
     ensures { IfOk result (λ l. option_map literal_of l ≡ literal_text (tree_of expr.now)) }
 {
     match expr {
         Expr::Text(word) => {
-            let value = text_value(alloc, word.text.as_str())?;
+            let value = text_value(alloc, word.text)?;
             Ok(Some(Literal {
                 value,
                 span: word.span,

@@ -1,6 +1,6 @@
 //! The type of an expression, and the faults found on the way.
 
-ghost use Rattle.std.specs.Prelude.{◌≡◌, ◌++◌, ◌||◌, ◌&&◌, not, [], List, IfOk, OnOk, map, string_bytes, option_map, true, ℕ};
+ghost use Rattle.std.specs.Prelude.{◌≡◌, ◌++◌, ◌||◌, ◌&&◌, not, [], List, IfOk, OnOk, map, option_map, true, ℕ};
 ghost use Rattle.al_expr_typing.specs.Arguments.{are_known, argument_at};
 ghost use Rattle.al_expr_typing.specs.Scopes.{IsShown, scope_at, scope_in};
 ghost use Rattle.al_types.specs.Types.{Parts};
@@ -35,7 +35,7 @@ use std::alloc::AllocError;
 pub fn type_of(
     types: &mut Types<'_>,
     scope: &Scope,
-    expr: &Expr,
+    expr: &Expr<'_>,
     faults: &mut FaultSink,
 ) -> Result<Ty, AllocError>
     requires { IsShown types.old scope.now }
@@ -73,7 +73,7 @@ struct Left<'s> {
 fn expression(
     types: &mut Types<'_>,
     around: Surroundings<'_>,
-    expr: &Expr,
+    expr: &Expr<'_>,
     faults: &mut FaultSink,
 ) -> Result<Ty, AllocError>
     requires shown { IsShown types.old around.scope.now }
@@ -89,7 +89,7 @@ fn expression(
         Expr::Number(_) => Ok(scalar(Scalar::Number)),
         Expr::Text(_) => Ok(Ty::STRING),
         Expr::Name(word) => {
-            let ty = name_type(around.scope, word, faults)?;
+            let ty = name_type(around.scope, *word, faults)?;
             Ok(ty)
         }
         Expr::Group(inner, _, _) => expression(types, around, inner, faults),
@@ -101,7 +101,7 @@ fn expression(
             let _ty = expression(types, tested, operand, faults)?;
             Ok(scalar(Scalar::Bool))
         }
-        Expr::Call(name, arguments, _) => call(types, around, name, arguments, faults),
+        Expr::Call(name, arguments, _) => call(types, around, *name, arguments, faults),
         Expr::Path(base, steps) => {
             let start = expression(types, around, base, faults)?;
             let left = Left { around, ty: start };
@@ -139,26 +139,26 @@ pub(crate) fn scalar(of: Scalar) -> Ty
 // The type of a call, from the types of its arguments.
 #[tactic(auto, using(al_base::proofs::Growing::growth, crate::proofs::Shown::shown))]
 #[cycle(typing)]
-fn call(
+fn call<'a, 'e>(
     types: &mut Types<'_>,
     around: Surroundings<'_>,
-    name: &Word,
-    arguments: &[Expr],
+    name: Word<'a>,
+    arguments: &'e [Expr<'a>],
     faults: &mut FaultSink,
 ) -> Result<Ty, AllocError>
     requires shown { IsShown types.old around.scope.now }
     ensures ok { IfOk result (λ t. typed (type_at types.new t) faults.new ≡ behind faults.old
         (meaning.call (scope_at types.old (around.entry).scope.now)
-        (string_bytes name.now.text) name.now.span
-        (function_of (string_bytes name.now.text)) (arguments_of (map tree_of arguments.now))
+        (name.entry).text.now (name.entry).span
+        (function_of (name.entry).text.now) (arguments_of (map tree_of arguments.now))
         (meanings (scope_at types.old (around.entry).scope.now)
-        ((around.entry).safe || meaning.is_test (function_of (string_bytes name.now.text)))
+        ((around.entry).safe || meaning.is_test (function_of (name.entry).text.now))
         (arguments_of (map tree_of arguments.now))))) }
     ensures known { IfOk result (λ t. is_known types.new t ≡ true) }
     ensures shown { IsShown types.new (around.entry).scope.now }
     ensures kept { BeginsWith (objects_of types.new) (objects_of types.old) }
 {
-    let function = Function::from_name(name.text.as_str());
+    let function = Function::from_name(name.text);
     let tested = Surroundings {
         safe: is_tested(around.safe, function),
         ..around
@@ -179,7 +179,7 @@ fn is_tested(safe: bool, function: Option<Function>) -> bool
     safe || is_test(function)
 }
 
-fn is_compared(safe: bool, operands: &[Operand]) -> bool
+fn is_compared(safe: bool, operands: &[Operand<'_>]) -> bool
     ensures { result ≡ (safe || not (begins_logic (operands_of (map operand_of operands.now)))) }
 {
     safe || !begins_logic(operands)
@@ -192,15 +192,15 @@ fn is_exposed(around: Surroundings<'_>) -> bool
 }
 
 #[tactic(auto, using(crate::proofs::TypedSteps::typing))]
-fn name_type(scope: &Scope, word: &Word, faults: &mut FaultSink) -> Result<Ty, AllocError>
+fn name_type(scope: &Scope, word: Word<'_>, faults: &mut FaultSink) -> Result<Ty, AllocError>
     ensures ok { IfOk result
         (λ t. (ms : List Parts) → typed (numbers.type_in ms t) faults.new ≡ behind faults.old
-        (meaning.name_type (scope_in ms scope.now) (string_bytes word.now.text) word.now.span
-        (context_of (string_bytes word.now.text)))) }
+        (meaning.name_type (scope_in ms scope.now) (word.entry).text.now (word.entry).span
+        (context_of (word.entry).text.now))) }
     ensures known { IfOk result
         (λ t. (types : Types) → IsShown types scope.now → is_known types t ≡ true) }
 {
-    let name = word.text.as_str();
+    let name = word.text;
     let code = match Context::from_name(name) {
         Some(context) => {
             if scope.available.contexts.contains(context) {
@@ -220,7 +220,7 @@ fn name_type(scope: &Scope, word: &Word, faults: &mut FaultSink) -> Result<Ty, A
 fn walk(
     types: &mut Types<'_>,
     left: Left<'_>,
-    steps: &[PathStep],
+    steps: &[PathStep<'_>],
     faults: &mut FaultSink,
 ) -> Result<Ty, AllocError>
     requires shown { IsShown types.old left.around.scope.now }
@@ -251,7 +251,7 @@ fn walk(
 fn step_from(
     types: &mut Types<'_>,
     left: Left<'_>,
-    step: &PathStep,
+    step: &PathStep<'_>,
     faults: &mut FaultSink,
 ) -> Result<Ty, AllocError>
     requires shown { IsShown types.old left.around.scope.now }
@@ -266,7 +266,7 @@ fn step_from(
     match step {
         PathStep::Property(dot, name) => {
             let asked = PropertyStep {
-                name: name.text.as_str(),
+                name: name.text,
                 at: name.span,
                 whole: across(*dot, name.span),
             };
@@ -286,7 +286,7 @@ fn step_from(
 fn index_from(
     types: &mut Types<'_>,
     left: Left<'_>,
-    index: &Expr,
+    index: &Expr<'_>,
     whole: Span,
     faults: &mut FaultSink,
 ) -> Result<Ty, AllocError>
@@ -324,7 +324,7 @@ fn index_from(
 fn operations(
     types: &mut Types<'_>,
     left: Left<'_>,
-    operands: &[Operand],
+    operands: &[Operand<'_>],
     faults: &mut FaultSink,
 ) -> Result<Ty, AllocError>
     requires shown { IsShown types.old left.around.scope.now }
@@ -358,7 +358,7 @@ fn operations(
 fn typed_arguments(
     types: &mut Types<'_>,
     around: Surroundings<'_>,
-    exprs: &[Expr],
+    exprs: &[Expr<'_>],
     faults: &mut FaultSink,
 ) -> Result<Vec<Argument>, AllocError>
     requires shown { IsShown types.old around.scope.now }
@@ -385,8 +385,8 @@ fn typed_arguments(
 #[tactic(auto, using(crate::proofs::Paths::parts))]
 fn check_untrusted(
     exposed: bool,
-    base: &Expr,
-    steps: &[PathStep],
+    base: &Expr<'_>,
+    steps: &[PathStep<'_>],
     faults: &mut FaultSink,
 ) -> Result<(), AllocError>
     ensures { OnOk result
@@ -411,11 +411,11 @@ fn check_untrusted(
 
 // The name that a path begins with: a bracket ends a chain.
 #[tactic(auto, using(al_expr_grammar::proofs::TreeViews::tree_views))]
-fn base_name(base: &Expr) -> Option<&str>
+fn base_name<'a>(base: &Expr<'a>) -> Option<&'a str>
     ensures { option_map (λ n. n.now) result ≡ base_name (tree_of base.now) }
 {
     match base {
-        Expr::Name(word) => Some(word.text.as_str()),
+        Expr::Name(word) => Some(word.text),
         Expr::Keyword(_, _) => None,
         Expr::Number(_) => None,
         Expr::Text(_) => None,

@@ -41,7 +41,7 @@ const UNTRUSTED: [Parts; 18] = [
 pub(crate) fn untrusted_chain(
     alloc: Global,
     name: &str,
-    steps: &[PathStep],
+    steps: &[PathStep<'_>],
 ) -> Result<Option<String>, AllocError>
     ensures { IfOk result (λ c. option_map string_bytes c
         ≡ untrusted_chain (name.now ∷ map part_of (map step_of steps.now))) }
@@ -67,7 +67,7 @@ fn find_chain<'c>(
     alloc: Global,
     chains: &'c [Parts],
     name: &str,
-    steps: &[PathStep],
+    steps: &[PathStep<'_>],
 ) -> Result<Option<Parts>, AllocError>
     ensures { IfOk result (λ c. option_map (λ p. map (λ q. q.now) p.now) c
         ≡ find (λ p. pointwise same_name p (name.now ∷ map part_of (map step_of steps.now)))
@@ -85,7 +85,7 @@ fn is_chain(
     alloc: Global,
     chain: &[&str],
     name: &str,
-    steps: &[PathStep],
+    steps: &[PathStep<'_>],
 ) -> Result<bool, AllocError>
     ensures { IfOk result
         (λ b. b ≡ pointwise same_name (map (λ p. p.now) chain.now)
@@ -103,7 +103,7 @@ fn is_chain(
     are_parts(alloc, rest, steps)
 }
 
-fn are_parts(alloc: Global, parts: &[&str], steps: &[PathStep]) -> Result<bool, AllocError>
+fn are_parts(alloc: Global, parts: &[&str], steps: &[PathStep<'_>]) -> Result<bool, AllocError>
     requires { length parts.now ≡ length steps.now }
     ensures { IfOk result
         (λ b. b ≡ pointwise same_name (map (λ p. p.now) parts.now) (map part_of (map step_of steps.now))) }
@@ -117,7 +117,7 @@ fn are_parts(alloc: Global, parts: &[&str], steps: &[PathStep]) -> Result<bool, 
 }
 
 #[tactic(auto, using(al_expr_grammar::proofs::TreeViews::step_views))]
-fn is_part(alloc: Global, part: &str, step: &PathStep) -> Result<bool, AllocError>
+fn is_part(alloc: Global, part: &str, step: &PathStep<'_>) -> Result<bool, AllocError>
     ensures { IfOk result (λ b. b ≡ same_name part.now (part_of (step_of step.now))) }
 {
     let part = part.as_bytes();

@@ -48,11 +48,11 @@ fn faults_of_contents(rt: HostRuntime) -> Result<(), AllocError> {
     Ok(())
 }
 
-fn is_word(word: &Word, text: &str) -> bool {
-    word.text.as_str() == text
+fn is_word(word: &Word<'_>, text: &str) -> bool {
+    word.text == text
 }
 
-fn is_name(expr: &Expr, text: &str) -> bool {
+fn is_name(expr: &Expr<'_>, text: &str) -> bool {
     match expr {
         Expr::Name(word) => is_word(word, text),
         _ => false,
@@ -60,7 +60,7 @@ fn is_name(expr: &Expr, text: &str) -> bool {
 }
 
 /// Whether it is the property `b` of `a`.
-fn is_property(expr: &Expr) -> bool {
+fn is_property(expr: &Expr<'_>) -> bool {
     match expr {
         Expr::Path(base, steps) => match steps.as_slice() {
             [PathStep::Property(_, word)] => is_name(base, "a") && is_word(word, "b"),
@@ -70,14 +70,14 @@ fn is_property(expr: &Expr) -> bool {
     }
 }
 
-fn is_equal_to_text(operand: &Operand) -> bool {
+fn is_equal_to_text(operand: &Operand<'_>) -> bool {
     match &operand.expr {
         Expr::Text(word) => operand.operator == Operator::Equal && is_word(word, "'x'"),
         _ => false,
     }
 }
 
-fn is_comparison(expr: &Expr) -> bool {
+fn is_comparison(expr: &Expr<'_>) -> bool {
     match expr {
         Expr::Chain(first, more) => match more.as_slice() {
             [only] => is_property(first) && is_equal_to_text(only),
@@ -87,14 +87,14 @@ fn is_comparison(expr: &Expr) -> bool {
     }
 }
 
-fn is_and_not(operand: &Operand) -> bool {
+fn is_and_not(operand: &Operand<'_>) -> bool {
     match &operand.expr {
         Expr::Not(_, negated) => operand.operator == Operator::And && is_name(negated, "c"),
         _ => false,
     }
 }
 
-fn is_conjunction(expr: &Expr) -> bool {
+fn is_conjunction(expr: &Expr<'_>) -> bool {
     match expr {
         Expr::Chain(first, more) => match more.as_slice() {
             [only] => is_comparison(first) && is_and_not(only),
@@ -307,7 +307,7 @@ fn typed() -> &'static [(
 /// Whether an expression that was read has one fault when it is typed, of this code and these texts.
 fn has_one(
     alloc: Global,
-    expr: &Expr,
+    expr: &Expr<'_>,
     code: ExpressionCode,
     texts: (Option<&str>, Option<&str>),
 ) -> Result<bool, AllocError> {

@@ -22,19 +22,19 @@ primary-returns-in-Some-after t c = rw (c.in-Some.ensures, c.in-Some-after.ensur
 pub primary-returns-in-Keyword : goal.primary-returns-in-Keyword
 primary-returns-in-Keyword t c = rw (c.in-Some.ensures, c.in-Keyword.is, tree_of-Keyword) (constant_read _ _ _ _ _)
 
-pub primary-returns-in_ok-word-in-Number : goal.primary-returns-in_ok-word-in-Number
-primary-returns-in_ok-word-in-Number t c =
-    let w = c.in_ok-word-in-Number.ensures in
+pub primary-returns-in-Number : goal.primary-returns-in-Number
+primary-returns-in-Number t c =
+    let w = c.word.ensures in
     rw (c.in-Some.ensures, c.in-Number.is, tree_of-Number, w.text, w.span) (number_read _ _ _ _)
 
-pub primary-returns-in_ok-word-in-Text : goal.primary-returns-in_ok-word-in-Text
-primary-returns-in_ok-word-in-Text t c =
-    let w = c.in_ok-word-in-Text.ensures in
+pub primary-returns-in-Text : goal.primary-returns-in-Text
+primary-returns-in-Text t c =
+    let w = c.word-in-Text.ensures in
     rw (c.in-Some.ensures, c.in-Text.is, tree_of-Text, w.text, w.span) (text_read _ _ _ _)
 
-pub primary-returns-in_ok-word-in-None : goal.primary-returns-in_ok-word-in-None
-primary-returns-in_ok-word-in-None t c =
-    let w = c.in_ok-word-in-None.ensures in
+pub primary-returns-in-None : goal.primary-returns-in-None
+primary-returns-in-None t c =
+    let w = c.word-in-None.ensures in
     rw (c.in-Some.ensures, c.in-Name.is, tree_of-Name, w.text, w.span) (name_read _ _ _ _ (no_call _ c.in-None.ensures))
 
 pub group-returns-in_err-expr : goal.group-returns-in_err-expr
@@ -58,7 +58,7 @@ group-returns t c =
 
 pub call-returns-in-Some : goal.call-returns-in-Some
 call-returns-in-Some t c =
-    let w = c.in_ok-function.ensures in
+    let w = c.word-function.ensures in
     let g = c.in-Some.ensures in
     rw (c.requires.name, c.requires.bracket, g.0, g.1, tree_of-Call, w.text, w.span, c.new.ensures.items) (call_empty_read _ c.in_ok-inner.inner _ _ _ _ _ _ _ c.in_ok-inner.ensures)
 
@@ -77,7 +77,7 @@ call-returns-in_err-close t c =
 
 pub call-returns : goal.call-returns
 call-returns t c =
-    let w = c.in_ok-function.ensures in
+    let w = c.word-function.ensures in
     let g = c.in_ok-close.ensures in
     let h = rw (g.0, g.1) at c.in_ok-given.ensures in
     rw (c.requires.name, c.requires.bracket, tree_of-Call, w.text, w.span)

@@ -3,9 +3,9 @@ use Rattle.al_expr_grammar.proofs.Trees.{step_of-Property, step_of-All}
 use Rattle.al_expr_grammar.proofs.Rules.{property_read, keyword_read, all_read}
 use Rattle.al_expr_grammar.proofs.parser.property.Goals as goal
 
-pub returns-in_ok-word-in-Name : goal.returns-in_ok-word-in-Name
-returns-in_ok-word-in-Name c =
-    let w = c.in_ok-word-in-Name.ensures in
+pub returns-in-Name : goal.returns-in-Name
+returns-in-Name c =
+    let w = c.word.ensures in
     elim c.in-Name.is [
       | inl e ↦ rw (c.requires, c.in-Some.ensures, e, step_of-Property, w.text, w.span) (property_read _ _ _ _ _ _)
       | inr e ↦ rw (c.requires, c.in-Some.ensures, e.1, step_of-Property, w.text, w.span) (keyword_read _ _ _ _ _ _ _)

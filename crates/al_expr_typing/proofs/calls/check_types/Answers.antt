@@ -22,6 +22,6 @@ loop-index-preserved c =
 pub returns : goal.returns
 returns c = λ ms.
     let now = c.loop-index.faults in
-    let d = at_drop_all (λ l. now ++ wrong_arguments (string_bytes c.args.name.now.text) c.args.parameters c.loop-index.index (map (argument_in ms) l))
+    let d = at_drop_all (λ l. now ++ wrong_arguments c.args.name.text.now c.args.parameters c.loop-index.index (map (argument_in ms) l))
     c.args.arguments.now c.loop-index.index (omega arith) in
     sym (append-nil now) ∙ sym d ∙ c.loop-index.invariant ms

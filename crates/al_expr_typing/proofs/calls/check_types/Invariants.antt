@@ -6,5 +6,5 @@ use Rattle.al_expr_typing.proofs.calls.check_types.Given as goal
 
 abbrev pub invariant-loop-index : goal.invariant-loop-index
 invariant-loop-index l = (ms : List Parts) → l.faults
-    ++ wrong_arguments (string_bytes l.name.text) l.parameters l.index (map (argument_in ms) (drop l.index l.arguments))
-    ≡ l.initial.faults ++ wrong_arguments (string_bytes l.name.text) l.parameters 0 (map (argument_in ms) l.arguments)
+    ++ wrong_arguments l.name.text.now l.parameters l.index (map (argument_in ms) (drop l.index l.arguments))
+    ≡ l.initial.faults ++ wrong_arguments l.name.text.now l.parameters 0 (map (argument_in ms) l.arguments)

@@ -99,14 +99,14 @@ pub call-returns-clause-ok : goal.call-returns-clause-ok
 call-returns-clause-ok t c =
     let before = c.args.types.now in
     let mid = c.typed_arguments.new.types in
-    let f : c.from_name-function.result ≡ function_of (string_bytes c.args.name.now.text) = c.from_name-function.ensures ∙ ap function_of c.as_str.ensures.value in
+    let f : c.from_name-function.result ≡ function_of c.args.name.text.now = c.from_name-function.ensures in
     let g = rw (c.is_tested.ensures, f) at c.in_ok-given.ensures.ok in
     let h = rw (f, c.deref.ensures.value) at c.in_ok-ty.ensures.ok (objects_of mid) in
-    let name = string_bytes c.args.name.now.text in
+    let name = c.args.name.text.now in
     let ts = arguments_of (map tree_of c.args.arguments.now) in
-    let s = ap (λ sc. behind c.typed_arguments.new.faults (call_from sc name c.args.name.now.span (function_of name) ts (map (argument_at mid) c.in_ok-given.given.items)))
+    let s = ap (λ sc. behind c.typed_arguments.new.faults (call_from sc name c.args.name.span (function_of name) ts (map (argument_at mid) c.in_ok-given.given.items)))
     (scope_stays mid before c.args.around.scope.now c.in_ok-given.ensures.kept c.requires.shown) in
-    h ∙ s ∙ called_on (scope_at before c.args.around.scope.now) name c.args.name.now.span (function_of name) ts _ _ _ _ g
+    h ∙ s ∙ called_on (scope_at before c.args.around.scope.now) name c.args.name.span (function_of name) ts _ _ _ _ g
 
 pub operations-operation-requires-clause-below : goal.operations-operation-requires-clause-below
 operations-operation-requires-clause-below t c =
@@ -161,7 +161,7 @@ operations-returns-clause-kept t c = begins_trans _ _ _ c.loop-operand.invariant
 pub step_from-returns-in-Property-clause-ok : goal.step_from-returns-in-Property-clause-ok
 step_from-returns-in-Property-clause-ok t c =
     let e = ap step_of c.in-Property.is ∙ step_of-Property c.in-Property.dot c.in-Property.name in
-    let f = rw (c.as_str.ensures.value, c.across.ensures) at c.property.ensures.ok in
+    let f = rw c.across.ensures at c.property.ensures.ok in
     rw e f
 
 pub step_from-returns-in-All-clause-ok : goal.step_from-returns-in-All-clause-ok
