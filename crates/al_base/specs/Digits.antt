@@ -1,11 +1,11 @@
 -- The number that decimal digits write.
 use Rattle.std.specs.Prelude.{ℕ, ◌-◌, List, map}
 use Rattle.std.specs.Int.Digits.{number_from_digits}
-use Rattle.al_base.specs.Ascii.{digit_zero}
+use Rattle.al_base.specs.Ascii.{ascii}
 
 -- what a digit stands for
 abbrev pub digit_of : ℕ → ℕ
-digit_of b = b - digit_zero
+digit_of b = b - ascii "0"
 
 abbrev pub decimal : List ℕ → ℕ
 decimal digits = number_from_digits 10 (map digit_of digits)

@@ -1,7 +1,7 @@
 -- The position of an offset, as two counts over the whole list of bytes. Breaks are LF, CRLF and CR (YAML 1.2.2, 5.4).
 use Rattle.std.specs.Prelude.{◌≡◌, ◌≤◌, ◌<◌, ℕ, zero, suc, ◌+◌, Bool, not, ◌&&◌, ◌||◌, ◌==◌, nat_lt, nat_le, List}
 use Rattle.std.specs.Prelude.{slice_index, if◌then◌else◌}
-use Rattle.al_base.specs.Ascii.{carriage_return, line_feed}
+use Rattle.al_base.specs.Ascii.{ascii}
 
 -- how many k below n pass
 abbrev pub count_below : (ℕ → Bool) → ℕ → ℕ
@@ -11,7 +11,7 @@ count_below p (suc n) = count_below p n + (if p n then 1 else 0)
 -- whether a break ends right after the byte at k: LF, or CR with no LF behind it (past the end `slice_index` is 0)
 abbrev pub ends_break : List ℕ → ℕ → Bool
 ends_break bytes k =
-    (slice_index bytes k == line_feed) || ((slice_index bytes k == carriage_return) && not (slice_index bytes (k + 1) == line_feed))
+    (slice_index bytes k == ascii "\n") || ((slice_index bytes k == ascii "\r") && not (slice_index bytes (k + 1) == ascii "\n"))
 
 -- 1 plus the breaks that end at or before the offset
 abbrev pub line_at : List ℕ → ℕ → ℕ

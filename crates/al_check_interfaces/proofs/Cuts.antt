@@ -3,7 +3,7 @@ use Rattle.std.specs.Prelude.{◌≡◌, ℕ, zero, suc, ◌+◌, ◌-◌, ◌<�
 use Rattle.std.proofs.Common.{add-one, arith, ap, sym, refl, ◌∙◌, cond}
 use Rattle.std.proofs.lemmas.List.{get_or-drop, length-drop, take_all, take_more}
 use Rattle.std.specs.List.{list_all, list_any, onto_first, range_with_len}
-use Rattle.al_base.specs.Ascii.{slash}
+use Rattle.al_base.specs.Ascii.{ascii}
 use Rattle.al_base.specs.Paths.{parts}
 use Rattle.al_check_interfaces.specs.Forms.{is_some_text, is_cut, is_cut_at, is_some_cut}
 
@@ -23,7 +23,7 @@ has_either false x ps = has_onto x ps
 
 pub has_first : (bs : List ℕ) → HasFirst (parts bs)
 has_first [] = record { first = []; others = []; is = refl }
-has_first (x ∷ xs) = has_either (x == slash) x (parts xs)
+has_first (x ∷ xs) = has_either (x == ascii "/") x (parts xs)
 
 onto_more : (x : ℕ) (ps more : List (List ℕ)) → HasFirst ps → onto_first x (ps ++ more) ≡ onto_first x ps ++ more
 onto_more x [] more h = absurd cc
@@ -34,9 +34,9 @@ slash_after true x ps qs h e = ap (λ l. [] ∷ l) e
 slash_after false x ps qs h e = ap (onto_first x) e ∙ onto_more x ps ([] ∷ []) h
 
 -- behind a slash a part begins
-pub parts_slash : (bs : List ℕ) → parts (bs ++ slash ∷ []) ≡ parts bs ++ [] ∷ []
+pub parts_slash : (bs : List ℕ) → parts (bs ++ ascii "/" ∷ []) ≡ parts bs ++ [] ∷ []
 parts_slash [] = refl
-parts_slash (x ∷ xs) = slash_after (x == slash) x (parts xs) (parts (xs ++ slash ∷ [])) (has_first xs) (parts_slash xs)
+parts_slash (x ∷ xs) = slash_after (x == ascii "/") x (parts xs) (parts (xs ++ ascii "/" ∷ [])) (has_first xs) (parts_slash xs)
 
 -- the last part with one byte more
 abbrev pub with_last : ℕ → List (List ℕ) → List (List ℕ)
@@ -57,9 +57,9 @@ other_after : (c : Bool) (x b : ℕ) (ps qs : List (List ℕ)) → HasFirst ps �
 other_after true x b ps qs h e = ap (λ l. [] ∷ l) e ∙ nil_with_last b ps h
 other_after false x b ps qs h e = ap (onto_first x) e ∙ onto_with_last x b ps h
 
-pub parts_other : (bs : List ℕ) (b : ℕ) → (b == slash) ≡ false → parts (bs ++ b ∷ []) ≡ with_last b (parts bs)
+pub parts_other : (bs : List ℕ) (b : ℕ) → (b == ascii "/") ≡ false → parts (bs ++ b ∷ []) ≡ with_last b (parts bs)
 parts_other [] b e = ap (λ c. cond c ([] ∷ [] ∷ []) ((b ∷ []) ∷ [])) e
-parts_other (x ∷ xs) b e = other_after (x == slash) x b (parts xs) (parts (xs ++ b ∷ [])) (has_first xs) (parts_other xs b e)
+parts_other (x ∷ xs) b e = other_after (x == ascii "/") x b (parts xs) (parts (xs ++ b ∷ [])) (has_first xs) (parts_other xs b e)
 
 last_with : (ds : List (List ℕ)) (last : List ℕ) (b : ℕ) → with_last b (ds ++ last ∷ []) ≡ ds ++ (last ++ b ∷ []) ∷ []
 last_with [] last b = refl
@@ -79,13 +79,13 @@ slice_more text start i d below room =
     ap (λ n. take n (drop start text)) one ∙ take_more (drop start text) (i - start) d long
     ∙ ap (λ x. take (i - start) (drop start text) ++ x ∷ []) (get_or-drop start text (i - start) d ∙ ap (λ n. get_or text n d) there)
 
-pub at_slash : (text : List ℕ) (start i : ℕ) (ds : List (List ℕ)) → i < length text → get_or text i 0 ≡ slash → parts (take i text) ≡ ds ++ slice_range text start i ∷ [] →
+pub at_slash : (text : List ℕ) (start i : ℕ) (ds : List (List ℕ)) → i < length text → get_or text i 0 ≡ ascii "/" → parts (take i text) ≡ ds ++ slice_range text start i ∷ [] →
     parts (take (i + 1) text) ≡ (ds ++ slice_range text start i ∷ []) ++ slice_range text (i + 1) (i + 1) ∷ []
 at_slash text start i ds room is e =
     ap parts (take_more text i 0 room ∙ ap (λ x. take i text ++ x ∷ []) is) ∙ parts_slash (take i text)
     ∙ ap (λ l. l ++ [] ∷ []) e ∙ ap (λ l. (ds ++ slice_range text start i ∷ []) ++ l ∷ []) (sym (nothing text (i + 1)))
 
-pub at_other : (text : List ℕ) (start i : ℕ) (ds : List (List ℕ)) → start ≤ i → i < length text → (get_or text i 0 == slash) ≡ false → parts (take i text) ≡ ds ++ slice_range text start i ∷ [] →
+pub at_other : (text : List ℕ) (start i : ℕ) (ds : List (List ℕ)) → start ≤ i → i < length text → (get_or text i 0 == ascii "/") ≡ false → parts (take i text) ≡ ds ++ slice_range text start i ∷ [] →
     parts (take (i + 1) text) ≡ ds ++ slice_range text start (i + 1) ∷ []
 at_other text start i ds below room is e =
     ap parts (take_more text i 0 room) ∙ parts_other (take i text) (get_or text i 0) is ∙ ap (with_last (get_or text i 0)) e
@@ -152,7 +152,7 @@ uncut_on test text i none is =
 pub uncut : (test : List (List ℕ) → Bool) (text : List ℕ) (i : ℕ) → i ≡ length text → list_any (is_cut_at test text) (range_with_len 0 i) ≡ false → false ≡ is_some_cut test text
 uncut test text i e none = sym (ap (λ n. list_any (is_cut_at test text) (range_with_len 0 n)) (sym e) ∙ none)
 
-pub slash_kept : (text : List ℕ) (start i : ℕ) (ds more : List (List ℕ)) (from : ℕ) → i < length text → get_or text i 0 ≡ slash → parts (take i text) ≡ ds ++ slice_range text start i ∷ [] →
+pub slash_kept : (text : List ℕ) (start i : ℕ) (ds more : List (List ℕ)) (from : ℕ) → i < length text → get_or text i 0 ≡ ascii "/" → parts (take i text) ≡ ds ++ slice_range text start i ∷ [] →
     more ≡ ds ++ slice_range text start i ∷ [] → from ≡ i + 1 → parts (take (i + 1) text) ≡ more ++ slice_range text from (i + 1) ∷ []
 slash_kept text start i ds more from room is e m f =
     at_slash text start i ds room is e ∙ ap (λ l. l ++ slice_range text (i + 1) (i + 1) ∷ []) (sym m) ∙ ap (λ n. more ++ slice_range text n (i + 1) ∷ []) (sym f)
@@ -161,7 +161,7 @@ pub whole_kept : (ds more : List (List ℕ)) (last : List ℕ) (old new : Bool) 
     ≡ (old && is_some_text last) → more ≡ ds ++ last ∷ [] → new ≡ list_all is_some_text more
 whole_kept ds more last old new o n m = n ∙ ap (λ b. b && is_some_text last) o ∙ sym (all_more ds last) ∙ ap (list_all is_some_text) (sym m)
 
-pub slash_cuts_nothing : (test : List (List ℕ) → Bool) (text : List ℕ) (i : ℕ) → get_or text i 0 ≡ slash → is_cut_at test text i ≡ false
+pub slash_cuts_nothing : (test : List (List ℕ) → Bool) (text : List ℕ) (i : ℕ) → get_or text i 0 ≡ ascii "/" → is_cut_at test text i ≡ false
 slash_cuts_nothing test text i is = ap (λ b. is_cut test (parts (take i text)) b (drop (i + 1) text)) is
 
 -- what a byte does, with the parts and the rest of the text as the code has them

@@ -4,7 +4,7 @@ use Rattle.std.specs.Prelude.{slice_index, Option, Some, None, is_none, if◌the
 use Rattle.std.specs.List.{list_all, list_any, range_with_len, starts_with, ends_with}
 use Rattle.std.specs.Option.{option_map_or}
 use Rattle.std.specs.Str.{bytes_eq, is_utf8}
-use Rattle.al_base.specs.Ascii as ascii
+use Rattle.al_base.specs.Ascii.{ascii}
 use Rattle.al_base.specs.Paths.{parts, path_fault_of}
 use Rattle.al_base.specs.declared.codes.Caller.{Caller}
 use Rattle.al_base.specs.declared.codes.Caller.TheVariants as caller
@@ -19,7 +19,7 @@ is_some_text bs = nat_lt 0 (length bs)
 
 -- What cuts a REF off from the parts before it, which have to pass a test: an `@` with something behind it.
 abbrev pub is_cut : (List (List ℕ) → Bool) → List (List ℕ) → ℕ → List ℕ → Bool
-is_cut test before b ref = b == ascii.at_sign && is_some_text ref && test before
+is_cut test before b ref = b == ascii "@" && is_some_text ref && test before
 
 -- the byte at this place of a text does
 abbrev pub is_cut_at : (List (List ℕ) → Bool) → List ℕ → ℕ → Bool

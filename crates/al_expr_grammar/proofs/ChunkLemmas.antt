@@ -3,7 +3,7 @@ use Rattle.std.proofs.Common.{◌≡◌, ◌≤◌, ℕ, zero, suc, ◌+◌, Lis
 use Rattle.std.proofs.Common.{append-nil, length-append, length-drop, Bool, true, false, cond, ◌&&◌, not, Option, Some, None, ◌==◌}
 use Rattle.std.proofs.lemmas.Bool.Decides.{nat_tests}
 use Rattle.std.specs.Prelude.{option_map}
-use Rattle.al_base.specs.Ascii as ascii
+use Rattle.al_base.specs.Ascii.{ascii}
 use Rattle.al_base.specs.FirstBytes.{begins_with}
 use Rattle.al_base.specs.declared.faults.Fault.{Fault}
 use Rattle.al_expr_grammar.specs.declared.chunk.ChunkState.{ChunkState}
@@ -98,11 +98,11 @@ closed_later start b front bs (Some n) =
     ∙ ap (then_chunk (span start (start + length front + suc n)))
     (placed Outside (start + length (front ++ b ∷ []) + n + 2) (start + length front + suc n + 2) (drop (n + 2) bs) (drop (suc n + 2) (b ∷ bs)) f (dropped n 2 b bs))
 
-apart : (b : ℕ) → is_quote b ≡ true → (b == ascii.close_brace) ≡ false
+apart : (b : ℕ) → is_quote b ≡ true → (b == ascii "}") ≡ false
 apart b h = grind (arith, nat_tests)
 
 no_closing : (b : ℕ) (bs : List ℕ) → is_quote b ≡ true → closes (b ∷ bs) ≡ false
-no_closing b bs h = ap (λ t. t && begins_with ascii.close_brace bs) (apart b h)
+no_closing b bs h = ap (λ t. t && begins_with (ascii "}") bs) (apart b h)
 
 two : (bs : List ℕ) → closes bs ≡ true → 2 ≤ length bs
 two [] h = absurd cc

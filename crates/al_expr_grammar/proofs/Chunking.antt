@@ -13,7 +13,7 @@ use Rattle.al_expr_grammar.specs.declared.chunk.ChunkState.{ChunkState}
 use Rattle.al_expr_grammar.specs.declared.chunk.ChunkState.TheVariants.{Outside, Inside, Quoted}
 use Rattle.al_expr_grammar.specs.declared.chunk.Move.{Move}
 use Rattle.al_expr_grammar.specs.declared.chunk.Move.TheVariants.{On, End}
-use Rattle.al_base.specs.Ascii as ascii
+use Rattle.al_base.specs.Ascii.{ascii}
 use Rattle.al_base.specs.FirstBytes.{first_is}
 use Rattle.al_expr_grammar.specs.Tokens.{is_quote, span}
 use Rattle.al_expr_grammar.specs.Chunks.{Chunked, opens, closes, then_chunk, IsCutFrom}
@@ -61,13 +61,13 @@ second : (x y : Bool) → (x && y) ≡ true → y ≡ true
 second true y h = h
 second false y h = absurd cc
 
-pub third_is : (bs : List ℕ) → opens bs ≡ true → (3 ≤ length bs) × ((get_or bs 2 0 == ascii.open_brace) ≡ true)
+pub third_is : (bs : List ℕ) → opens bs ≡ true → (3 ≤ length bs) × ((get_or bs 2 0 == ascii "{") ≡ true)
 third_is [] h = absurd cc
 third_is (a ∷ []) h = absurd (grind arith)
 third_is (a ∷ b ∷ []) h = absurd (grind arith)
-third_is (a ∷ b ∷ c ∷ bs) h = (omega arith, second (a == ascii.dollar && b == ascii.open_brace) (c == ascii.open_brace) h)
+third_is (a ∷ b ∷ c ∷ bs) h = (omega arith, second (a == ascii "$" && b == ascii "{") (c == ascii "{") h)
 
-brace : (b : ℕ) → (b == ascii.open_brace) ≡ true → b < 128
+brace : (b : ℕ) → (b == ascii "{") ≡ true → b < 128
 brace b h = grind (arith, nat_tests)
 
 opened : (text : List ℕ) (at : ℕ) → IsUtf8 text → at < length text → opens (drop at text) ≡ true → Opens text (at + 3) (at + 3)

@@ -6,7 +6,7 @@
 use Rattle.std.specs.Prelude.{◌≡◌, ℕ, zero, suc, ◌+◌, ◌-◌, List, [], ◌∷◌, Bool, true, ◌&&◌, not, if◌then◌else◌, length}
 use Rattle.std.specs.Prelude.{drop, find, slice_range, take, Option, Some, None, option_map}
 use Rattle.std.specs.List.{range_with_len}
-use Rattle.al_base.specs.Ascii as ascii
+use Rattle.al_base.specs.Ascii.{ascii}
 use Rattle.al_base.specs.FirstBytes.{begins_with}
 use Rattle.al_base.specs.declared.codes.ExpressionCode.TheVariants as code
 use Rattle.al_base.specs.declared.faults.Fault.{Fault}
@@ -22,11 +22,11 @@ pub record Chunked : Type 0 where
 
 -- `${{`
 abbrev pub opens : List ℕ → Bool
-opens bs = begins_with ascii.dollar bs && begins_with ascii.open_brace (drop 1 bs) && begins_with ascii.open_brace (drop 2 bs)
+opens bs = begins_with (ascii "$") bs && begins_with (ascii "{") (drop 1 bs) && begins_with (ascii "{") (drop 2 bs)
 
 -- `}}`
 abbrev pub closes : List ℕ → Bool
-closes bs = begins_with ascii.close_brace bs && begins_with ascii.close_brace (drop 1 bs)
+closes bs = begins_with (ascii "}") bs && begins_with (ascii "}") (drop 1 bs)
 
 -- Behind these bytes of a content no quote is open: their number of quotes is even.
 abbrev pub is_outside_quotes : List ℕ → Bool

@@ -2,7 +2,7 @@
 --
 -- A content splits into what stands first and the rest behind it, whose tokens follow: a blank, or a token, the longest that begins there.
 -- Else its first character begins none, or a text is never closed.
-use Rattle.al_base.specs.Ascii as ascii
+use Rattle.al_base.specs.Ascii.{ascii}
 use Rattle.al_base.specs.FirstBytes.{first_is, begins_with}
 use Rattle.al_expr_grammar.specs.declared.token.Operator.TheVariants.{Or, And, Equal, NotEqual, Less, LessEqual, Greater, GreaterEqual}
 use Rattle.al_expr_grammar.specs.declared.token.Keyword.TheVariants as keyword
@@ -22,19 +22,19 @@ use Rattle.std.specs.Prelude.{codes, ℕ, zero, suc, ◌+◌, List, [], ◌∷�
 use Rattle.std.specs.Prelude.{find, take, drop, Option, Some, None, option_map, length}
 
 abbrev pub begins_name : ℕ → Bool
-begins_name b = is_ascii_alphabetic b || b == ascii.underscore
+begins_name b = is_ascii_alphabetic b || b == ascii "_"
 
 abbrev pub goes_on_name : ℕ → Bool
-goes_on_name b = begins_name b || is_ascii_digit b || b == ascii.dash
+goes_on_name b = begins_name b || is_ascii_digit b || b == ascii "-"
 
 abbrev pub is_blank : ℕ → Bool
-is_blank b = b == ascii.space || b == ascii.tab || b == ascii.line_feed || b == ascii.carriage_return
+is_blank b = b == ascii " " || b == ascii "\t" || b == ascii "\n" || b == ascii "\r"
 
 abbrev pub is_sign : ℕ → Bool
-is_sign b = b == ascii.plus || b == ascii.dash
+is_sign b = b == ascii "+" || b == ascii "-"
 
 abbrev pub is_quote : ℕ → Bool
-is_quote b = b == ascii.single_quote
+is_quote b = b == ascii "'"
 
 -- a part that is there only with at least one digit: so many bytes and the digits behind them
 abbrev pub with_digits : ℕ → ℕ → ℕ
@@ -47,13 +47,13 @@ hex_len bs = if starts_with nat_eq bs (codes "0x") then with_digits 2 (prefix_le
 
 -- a dot and digits
 abbrev pub fraction_len : List ℕ → ℕ
-fraction_len bs = if begins_with ascii.dot bs then with_digits 1 (prefix_len is_ascii_digit (drop 1 bs)) else 0
+fraction_len bs = if begins_with (ascii ".") bs then with_digits 1 (prefix_len is_ascii_digit (drop 1 bs)) else 0
 
 -- an `e`, a sign or none, and digits
 abbrev pub exponent_len : List ℕ → ℕ
 exponent_len bs =
     let lead = if first_is is_sign (drop 1 bs) then 2 else 1 in
-    if first_is (λ b. b == ascii.capital_e || b == ascii.small_e) bs then with_digits lead (prefix_len is_ascii_digit (drop lead bs)) else 0
+    if first_is (λ b. b == ascii "E" || b == ascii "e") bs then with_digits lead (prefix_len is_ascii_digit (drop lead bs)) else 0
 
 -- what follows the digits of a decimal number
 abbrev pub decimal_tail : List ℕ → ℕ

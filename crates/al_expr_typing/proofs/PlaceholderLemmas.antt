@@ -4,7 +4,7 @@ use Rattle.std.specs.List.{prefix_len}
 use Rattle.std.proofs.lemmas.List.{length-drop}
 use Rattle.std.specs.Int.Digits.{number_from_digits_after}
 use Rattle.std.specs.Prelude.{map, slice_set}
-use Rattle.al_base.specs.Ascii as ascii
+use Rattle.al_base.specs.Ascii.{ascii}
 use Rattle.al_base.specs.Digits.{decimal, digit_of}
 use Rattle.al_base.specs.FirstBytes.{begins_with}
 use Rattle.std.specs.Char.{is_ascii_digit}
@@ -62,58 +62,58 @@ number_on n ds = number_from_digits_after 10 n (map digit_of ds)
 
 -- an index that has digits already
 abbrev index_behind : ℕ → List ℕ → List ℕ → Piece
-index_behind n ds rest = cond (begins_with ascii.close_brace rest) (Argument (number_on n ds) (drop 1 rest)) NoPiece
+index_behind n ds rest = cond (begins_with (ascii "}") rest) (Argument (number_on n ds) (drop 1 rest)) NoPiece
 
-index_at : (used : List Bool) (n b : ℕ) (bs : List ℕ) (digit closing : Bool) → (b == ascii.close_brace) ≡ closing
-    → used_from (InIndex (10 * n + (b - ascii.digit_zero))) used bs ≡ behind used (index_behind (10 * n + (b - ascii.digit_zero)) (digits_of bs) (behind_digits bs))
-    → goes used bs (cond digit (To (InIndex (10 * n + (b - ascii.digit_zero)))) (cond closing (Names n) Wrong))
+index_at : (used : List Bool) (n b : ℕ) (bs : List ℕ) (digit closing : Bool) → (b == ascii "}") ≡ closing
+    → used_from (InIndex (10 * n + (b - ascii "0"))) used bs ≡ behind used (index_behind (10 * n + (b - ascii "0")) (digits_of bs) (behind_digits bs))
+    → goes used bs (cond digit (To (InIndex (10 * n + (b - ascii "0")))) (cond closing (Names n) Wrong))
     ≡ behind used (index_behind n (cond digit (b ∷ digits_of bs) []) (cond digit (behind_digits bs) (b ∷ bs)))
 index_at used n b bs true closing e f =
-    let same : 10 * n + (b - ascii.digit_zero) ≡ n * 10 + (b - ascii.digit_zero) = omega arith in
+    let same : 10 * n + (b - ascii "0") ≡ n * 10 + (b - ascii "0") = omega arith in
     f ∙ ap (λ m. behind used (index_behind m (digits_of bs) (behind_digits bs))) same
 index_at used n b bs false true e f = sym (ap (λ t. behind used (cond t (Argument n bs) NoPiece)) e)
 index_at used n b bs false false e f = sym (ap (λ t. behind used (cond t (Argument n bs) NoPiece)) e)
 
 index : (used : List Bool) (n : ℕ) (bs : List ℕ) → used_from (InIndex n) used bs ≡ behind used (index_behind n (digits_of bs) (behind_digits bs))
 index used n [] = refl
-index used n (b ∷ bs) = index_at used n b bs (is_ascii_digit b) (b == ascii.close_brace) refl (index used (10 * n + (b - ascii.digit_zero)) bs)
+index used n (b ∷ bs) = index_at used n b bs (is_ascii_digit b) (b == ascii "}") refl (index used (10 * n + (b - ascii "0")) bs)
 
 opening_at : (used : List Bool) (b : ℕ) (bs : List ℕ) (opens digit : Bool)
-    → goes used bs (cond opens (To Outside) (cond digit (To (InIndex (b - ascii.digit_zero))) Wrong))
+    → goes used bs (cond opens (To Outside) (cond digit (To (InIndex (b - ascii "0"))) Wrong))
     ≡ behind used (cond opens (Plain bs) (index_of (cond digit (b ∷ digits_of bs) []) (cond digit (behind_digits bs) (b ∷ bs))))
 opening_at used b bs true digit = refl
 opening_at used b bs false true =
-    let e : b - ascii.digit_zero ≡ 0 * 10 + (b - ascii.digit_zero) = omega arith in
-    index used (b - ascii.digit_zero) bs ∙ ap (λ n. behind used (index_behind n (digits_of bs) (behind_digits bs))) e
+    let e : b - ascii "0" ≡ 0 * 10 + (b - ascii "0") = omega arith in
+    index used (b - ascii "0") bs ∙ ap (λ n. behind used (index_behind n (digits_of bs) (behind_digits bs))) e
 opening_at used b bs false false = refl
 
 -- behind a `{`
 opening : (used : List Bool) (bs : List ℕ) → used_from BehindOpening used bs
-    ≡ behind used (cond (begins_with ascii.open_brace bs) (Plain (drop 1 bs)) (index_front bs))
+    ≡ behind used (cond (begins_with (ascii "{") bs) (Plain (drop 1 bs)) (index_front bs))
 opening used [] = refl
 opening used (b ∷ bs) =
-    opening_at used b bs (b == ascii.open_brace) (is_ascii_digit b)
-    ∙ ap (λ p. behind used (cond (b == ascii.open_brace) (Plain bs) p)) (index_is (b ∷ bs))
+    opening_at used b bs (b == ascii "{") (is_ascii_digit b)
+    ∙ ap (λ p. behind used (cond (b == ascii "{") (Plain bs) p)) (index_is (b ∷ bs))
 
 closing_at : (used : List Bool) (bs : List ℕ) (closes : Bool) → goes used bs (cond closes (To Outside) Wrong) ≡ behind used (cond closes (Plain bs) NoPiece)
 closing_at used bs true = refl
 closing_at used bs false = refl
 
 -- behind a `}`
-closing : (used : List Bool) (bs : List ℕ) → used_from BehindClosing used bs ≡ behind used (cond (begins_with ascii.close_brace bs) (Plain (drop 1 bs)) NoPiece)
+closing : (used : List Bool) (bs : List ℕ) → used_from BehindClosing used bs ≡ behind used (cond (begins_with (ascii "}") bs) (Plain (drop 1 bs)) NoPiece)
 closing used [] = refl
-closing used (b ∷ bs) = closing_at used bs (b == ascii.close_brace)
+closing used (b ∷ bs) = closing_at used bs (b == ascii "}")
 
 piece_at : (used : List Bool) (bs : List ℕ) (opens closes : Bool)
     → goes used bs (cond opens (To BehindOpening) (cond closes (To BehindClosing) (To Outside)))
-    ≡ behind used (cond opens (cond (begins_with ascii.open_brace bs) (Plain (drop 1 bs)) (index_front bs))
-    (cond closes (cond (begins_with ascii.close_brace bs) (Plain (drop 1 bs)) NoPiece) (Plain bs)))
+    ≡ behind used (cond opens (cond (begins_with (ascii "{") bs) (Plain (drop 1 bs)) (index_front bs))
+    (cond closes (cond (begins_with (ascii "}") bs) (Plain (drop 1 bs)) NoPiece) (Plain bs)))
 piece_at used bs true closes = opening used bs
 piece_at used bs false true = closing used bs
 piece_at used bs false false = refl
 
 piece : (used : List Bool) (b : ℕ) (bs : List ℕ) → used_from Outside used (b ∷ bs) ≡ behind used (piece_of (b ∷ bs))
-piece used b bs = piece_at used bs (b == ascii.open_brace) (b == ascii.close_brace)
+piece used b bs = piece_at used bs (b == ascii "{") (b == ascii "}")
 
 -- ---- what stands behind a piece is shorter
 
@@ -132,14 +132,14 @@ drop_within (b ∷ bs) n h = omega arith
 
 index_within : (ds rest : List ℕ) (n : ℕ) → length rest ≤ n → IsWithin n (index_of ds rest)
 index_within [] rest n h = tt
-index_within (d ∷ ds) rest n h = within_cond (begins_with ascii.close_brace rest) (Argument (decimal (d ∷ ds)) (drop 1 rest)) NoPiece n (drop_within rest n h) tt
+index_within (d ∷ ds) rest n h = within_cond (begins_with (ascii "}") rest) (Argument (decimal (d ∷ ds)) (drop 1 rest)) NoPiece n (drop_within rest n h) tt
 
 piece_within : (b : ℕ) (bs : List ℕ) (n : ℕ) → length bs ≤ n → IsWithin n (piece_of (b ∷ bs))
 piece_within b bs n h =
-    within_cond (b == ascii.open_brace) _ _ n
-    (within_cond (begins_with ascii.open_brace bs) _ _ n (drop_within bs n h)
+    within_cond (b == ascii "{") _ _ n
+    (within_cond (begins_with (ascii "{") bs) _ _ n (drop_within bs n h)
     (index_within _ (drop (prefix_len is_ascii_digit bs) bs) n (omega (arith, h, length-drop (prefix_len is_ascii_digit bs) bs))))
-    (within_cond (b == ascii.close_brace) _ _ n (within_cond (begins_with ascii.close_brace bs) _ _ n (drop_within bs n h) tt) h)
+    (within_cond (b == ascii "}") _ _ n (within_cond (begins_with (ascii "}") bs) _ _ n (drop_within bs n h) tt) h)
 
 -- ---- piece after piece
 

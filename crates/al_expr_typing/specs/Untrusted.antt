@@ -3,7 +3,7 @@ use Rattle.std.specs.Prelude.{codes, ℕ, List, [], ◌∷◌, ◌==◌, Option,
 use Rattle.std.specs.List.{slice_split}
 use Rattle.std.specs.Option.{option_map_or}
 use Rattle.std.specs.Cmp.Lexicographic.{pointwise}
-use Rattle.al_base.specs.Ascii as ascii
+use Rattle.al_base.specs.Ascii.{ascii}
 use Rattle.al_expr_grammar.specs.Tree.{StepTree, Property, All, Index}
 use Rattle.al_base.specs.Names.{same_name}
 use Rattle.al_expr_typing.specs.Literals.{literal_text}
@@ -28,4 +28,4 @@ part_of (Index a t b) = option_map_or (λ text. text.0) (literal_text t) (codes 
 
 -- the chain that has these parts between its dots
 abbrev pub untrusted_chain : List (List ℕ) → Option (List ℕ)
-untrusted_chain ps = find (λ c. pointwise same_name (slice_split (λ b. b == ascii.dot) c) ps) untrusted_chains
+untrusted_chain ps = find (λ c. pointwise same_name (slice_split (λ b. b == ascii ".") c) ps) untrusted_chains

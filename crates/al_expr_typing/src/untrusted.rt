@@ -3,7 +3,7 @@
 ghost use Rattle.std.specs.Prelude.{◌≡◌, ◌∷◌, IfOk, find, length, map, option_map, string_bytes};
 ghost use Rattle.std.specs.Cmp.Lexicographic.{pointwise};
 ghost use Rattle.std.specs.List.{join_with_byte};
-ghost use Rattle.al_base.specs.Ascii as ascii;
+ghost use Rattle.al_base.specs.Ascii.{ascii};
 ghost use Rattle.al_expr_typing.specs.Untrusted.{untrusted_chain, part_of};
 ghost use Rattle.al_base.specs.Names.{same_name};
 ghost use Rattle.al_expr_grammar.specs.View.{step_of};
@@ -54,7 +54,7 @@ pub(crate) fn untrusted_chain(
 #[tactic(auto, using(crate::proofs::ChainTexts::joined))]
 fn chain_text(alloc: Global, chain: Option<Parts>) -> Result<Option<String>, AllocError>
     ensures { IfOk result
-        (λ c. option_map string_bytes c ≡ option_map (join_with_byte ascii.dot)
+        (λ c. option_map string_bytes c ≡ option_map (join_with_byte (ascii "."))
         (option_map (λ p. map (λ q. q.now) p.now) chain.entry)) }
 {
     match chain {

@@ -16,9 +16,9 @@ use Rattle.al_graph.proofs.Labels.{labels_same}
 use Rattle.al_scalar.specs.Scalar.{Scalar}
 use Rattle.al_base.specs.declared.faults.Span.{Span}
 use Rattle.al_tree.specs.Values.{texts_at}
-use Rattle.al_rules.specs.Private.Components.{has_label_of, labelled_fault, labelled_faults}
+use Rattle.al_rules.specs.Private.Components.{has_label_of, labelled_fault, labelled_faults, named_by}
 use Rattle.al_rules.specs.Needs.{AddsAllNeeds, AddsNeeds, AreNeedsFaults, undefined_job, leads_back, leads_on, no_needs, and_need}
-use Rattle.al_rules.specs.Needs.{IsNeedFaults, Need, all_needs, cycle_fault, named_by, needs_in, needs_lists, needs_of}
+use Rattle.al_rules.specs.Needs.{IsNeedFaults, Need, all_needs, cycle_fault, needs_in, needs_lists, needs_of}
 use Rattle.al_base.specs.NamePlaces.{name_place}
 use Rattle.al_tree.specs.Keys.{keys_in}
 use Rattle.al_base.specs.Names.{same_name}

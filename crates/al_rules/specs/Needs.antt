@@ -18,13 +18,9 @@ keys_of jobs = map (λ j. of_key j.0) jobs
 abbrev pub needs_of : Node × Node → List Named
 needs_of j = map of_scalar (texts_at (codes "needs") j.1)
 
--- where the job stands that a text names, by where names stand
-abbrev pub named_by : (List ℕ → Option ℕ) → Named → Option ℕ
-named_by position n = position n.text
-
--- for each job the positions of the jobs that it needs
+-- for each job the positions of the jobs that it needs, by where names stand
 abbrev pub needs_lists : (List ℕ → Option ℕ) → List (Node × Node) → List (List ℕ)
-needs_lists position jobs = map (λ j. filter_map (named_by position) (needs_of j)) jobs
+needs_lists position jobs = map (λ j. filter_map (λ n. position n.text) (needs_of j)) jobs
 
 -- an entry of `needs`: its text, and the position and the key of its job
 pub record Need : Type 0 where
@@ -50,7 +46,7 @@ pub data IsNeedFaults (Leads : ℕ → ℕ → Type 0) (n : Need) : Option ℕ �
 -- what entries give, one after another
 pub data AreNeedsFaults (position : List ℕ → Option ℕ) (Leads : ℕ → ℕ → Type 0) : List Need → List Fault → Type 0 where
   no_needs : AreNeedsFaults position Leads [] []
-  and_need : (n : Need) (ns : List Need) (first rest : List Fault) → IsNeedFaults Leads n (named_by position n.text) first
+  and_need : (n : Need) (ns : List Need) (first rest : List Fault) → IsNeedFaults Leads n (position n.text.text) first
       → AreNeedsFaults position Leads ns rest
       → AreNeedsFaults position Leads (n ∷ ns) (first ++ rest)
 
@@ -75,4 +71,4 @@ tested_faults leads n (Some j) = if leads j then cycle_fault n ∷ [] else []
 
 abbrev pub needs_faults : (ℕ → ℕ → Bool) → List (Node × Node) → List Fault
 needs_faults leads jobs =
-    flat_map (λ n. tested_faults (λ j. leads j n.job) n (named_by (name_place (keys_in jobs)) n.text)) (all_needs jobs)
+    flat_map (λ n. tested_faults (λ j. leads j n.job) n (name_place (keys_in jobs) n.text.text)) (all_needs jobs)

@@ -3,7 +3,7 @@ use Rattle.std.proofs.Common.{◌≡◌, ◌≤◌, ◌<◌, ℕ, List, [], ◌�
 use Rattle.std.proofs.lemmas.Bool.Decides.{nat_tests}
 use Rattle.std.proofs.lemmas.List.{at_drop_all, at_drop_more}
 use Rattle.std.specs.Prelude.{option_and_then}
-use Rattle.al_base.specs.Ascii as ascii
+use Rattle.al_base.specs.Ascii.{ascii}
 use Rattle.al_rules_formats.specs.Patterns.{is_mark, before_closing, ascends, is_class, are_items_from, goes_on_escaped, goes_on_in_class, are_items}
 use Rattle.al_rules_formats.specs.Private.PatternStates.{read, read_all, is_done}
 use Rattle.al_rules_formats.specs.declared.patterns.State.{State}
@@ -17,17 +17,17 @@ done s cs = is_done (read_all s cs)
 abbrev goes : List ℕ → Option State → Bool
 goes cs next = is_done (option_and_then (λ s. read_all s cs) next)
 
-not_dash : (a c : ℕ) (cs : List ℕ) → (c == ascii.dash) ≡ false → ascends (a ∷ c ∷ cs) ≡ ascends (c ∷ cs)
+not_dash : (a c : ℕ) (cs : List ℕ) → (c == ascii "-") ≡ false → ascends (a ∷ c ∷ cs) ≡ ascends (c ∷ cs)
 not_dash a c [] h = refl
 not_dash a c (d ∷ cs) h = ap (λ t. cond t (nat_le a d && ascends cs) (ascends (c ∷ d ∷ cs))) h
 
-is_dash : (a c : ℕ) (cs : List ℕ) → (c == ascii.dash) ≡ true → ascends (a ∷ c ∷ cs) ≡ ascends (a ∷ ascii.dash ∷ cs)
+is_dash : (a c : ℕ) (cs : List ℕ) → (c == ascii "-") ≡ true → ascends (a ∷ c ∷ cs) ≡ ascends (a ∷ ascii "-" ∷ cs)
 is_dash a c [] h = refl
 is_dash a c (d ∷ cs) h = ap (λ t. cond t (nat_le a d && ascends cs) (ascends (c ∷ d ∷ cs))) h
 
 -- a character further in each state of a class; its tests come as truth values
-low_at : (a c : ℕ) (cs : List ℕ) (ends dashes : Bool) → (c == ascii.dash) ≡ dashes → done AfterItem cs ≡ are_items_from true cs
-    → done (ClassDash a) cs ≡ (ascends (a ∷ ascii.dash ∷ before_closing cs) && goes_on_in_class cs)
+low_at : (a c : ℕ) (cs : List ℕ) (ends dashes : Bool) → (c == ascii "-") ≡ dashes → done AfterItem cs ≡ are_items_from true cs
+    → done (ClassDash a) cs ≡ (ascends (a ∷ ascii "-" ∷ before_closing cs) && goes_on_in_class cs)
     → done (ClassLow c) cs ≡ (ascends (c ∷ before_closing cs) && goes_on_in_class cs)
     → goes cs (cond ends (Some AfterItem) (cond dashes (Some (ClassDash a)) (Some (ClassLow c))))
     ≡ (ascends (a ∷ cond ends [] (c ∷ before_closing cs)) && cond ends (are_items_from true cs) (goes_on_in_class cs))
@@ -44,7 +44,7 @@ keeps a c h = grind (arith, nat_tests)
 dash_at : (a c : ℕ) (cs : List ℕ) (ends less : Bool) → nat_lt c a ≡ less → done AfterItem cs ≡ are_items_from true cs
     → done ClassNext cs ≡ (ascends (before_closing cs) && goes_on_in_class cs)
     → goes cs (cond ends (Some AfterItem) (cond less None (Some ClassNext)))
-    ≡ (ascends (a ∷ ascii.dash ∷ cond ends [] (c ∷ before_closing cs)) && cond ends (are_items_from true cs) (goes_on_in_class cs))
+    ≡ (ascends (a ∷ ascii "-" ∷ cond ends [] (c ∷ before_closing cs)) && cond ends (are_items_from true cs) (goes_on_in_class cs))
 dash_at a c cs true less e i f = i
 dash_at a c cs false true e i f = sym (ap (λ t. (t && ascends (before_closing cs)) && goes_on_in_class cs) (descends a c e))
 dash_at a c cs false false e i f = f ∙ sym (ap (λ t. (t && ascends (before_closing cs)) && goes_on_in_class cs) (keeps a c e))
@@ -82,24 +82,24 @@ IsRead cs =
     × (done ClassFirst cs ≡ (is_class (before_closing cs) && goes_on_in_class cs))
     × (done ClassNext cs ≡ (ascends (before_closing cs) && goes_on_in_class cs))
     × ((a : ℕ) → done (ClassLow a) cs ≡ (ascends (a ∷ before_closing cs) && goes_on_in_class cs))
-    × ((a : ℕ) → done (ClassDash a) cs ≡ (ascends (a ∷ ascii.dash ∷ before_closing cs) && goes_on_in_class cs))
+    × ((a : ℕ) → done (ClassDash a) cs ≡ (ascends (a ∷ ascii "-" ∷ before_closing cs) && goes_on_in_class cs))
 
 is_read : (cs : List ℕ) → IsRead cs
 is_read [] = (refl, refl, refl, refl, (λ a. refl), (λ a. refl))
 is_read (c ∷ cs) =
     let f = is_read cs in (
-      item_at true cs (c == ascii.backslash) (c == ascii.open_bracket) (is_mark c) f.0 f.1 f.2,
+      item_at true cs (c == ascii "\\") (c == ascii "[") (is_mark c) f.0 f.1 f.2,
       f.0,
-      first_at c cs (c == ascii.close_bracket) (f.4 c),
-      next_at c cs (c == ascii.close_bracket) f.0 (f.4 c),
-      (λ a. low_at a c cs (c == ascii.close_bracket) (c == ascii.dash) refl f.0 (f.5 a) (f.4 c)),
-      (λ a. dash_at a c cs (c == ascii.close_bracket) (nat_lt c a) refl f.0 f.3),
+      first_at c cs (c == ascii "]") (f.4 c),
+      next_at c cs (c == ascii "]") f.0 (f.4 c),
+      (λ a. low_at a c cs (c == ascii "]") (c == ascii "-") refl f.0 (f.5 a) (f.4 c)),
+      (λ a. dash_at a c cs (c == ascii "]") (nat_lt c a) refl f.0 f.3),
     )
 
 states_say : (cs : List ℕ) → done FirstItem cs ≡ are_items cs
 states_say [] = refl
 states_say (c ∷ cs) =
-    let f = is_read cs in item_at false cs (c == ascii.backslash) (c == ascii.open_bracket) (is_mark c) f.0 f.1 f.2
+    let f = is_read cs in item_at false cs (c == ascii "\\") (c == ascii "[") (is_mark c) f.0 f.1 f.2
 
 -- the code at its end, and where no character may stand
 pub read_to_end : (state : State) (cs : List ℕ) (i : ℕ) → length cs ≤ i → read_all state (drop i cs) ≡ read_all FirstItem cs → is_done (Some state) ≡ are_items cs

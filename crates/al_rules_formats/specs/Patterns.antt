@@ -9,23 +9,23 @@ use Rattle.std.specs.Prelude.{ℕ, List, [], ◌∷◌, Bool, true, false, ◌==
 use Rattle.std.specs.List.{list_any}
 use Rattle.std.specs.Str.{chars}
 use Rattle.std.specs.Str.Lossy.{utf8_lossy}
-use Rattle.al_base.specs.Ascii as ascii
+use Rattle.al_base.specs.Ascii.{ascii}
 use Rattle.al_base.specs.FirstBytes.{begins_with}
 use Rattle.al_rules_formats.specs.declared.patterns.Filter.{Filter}
 use Rattle.al_rules_formats.specs.declared.patterns.Filter.TheVariants.{Names, Paths}
 
 -- the marks that may follow an item
 abbrev pub is_mark : ℕ → Bool
-is_mark c = c == ascii.question || c == ascii.plus
+is_mark c = c == ascii "?" || c == ascii "+"
 
 -- the characters up to the first `]`
 abbrev pub before_closing : List ℕ → List ℕ
 before_closing [] = []
-before_closing (c ∷ cs) = if c == ascii.close_bracket then [] else c ∷ before_closing cs
+before_closing (c ∷ cs) = if c == ascii "]" then [] else c ∷ before_closing cs
 
 -- no range descends
 abbrev pub ascends : List ℕ → Bool
-ascends (low ∷ mark ∷ high ∷ cs) = if mark == ascii.dash then nat_le low high && ascends cs else ascends (mark ∷ high ∷ cs)
+ascends (low ∷ mark ∷ high ∷ cs) = if mark == ascii "-" then nat_le low high && ascends cs else ascends (mark ∷ high ∷ cs)
 ascends _ = true
 
 abbrev pub is_class : List ℕ → Bool
@@ -37,8 +37,8 @@ abbrev mutual
   pub are_items_from : Bool → List ℕ → Bool
   are_items_from has_item [] = has_item
   are_items_from has_item (c ∷ cs) =
-      if c == ascii.backslash then goes_on_escaped cs
-      else if c == ascii.open_bracket then is_class (before_closing cs) && goes_on_in_class cs
+      if c == ascii "\\" then goes_on_escaped cs
+      else if c == ascii "[" then is_class (before_closing cs) && goes_on_in_class cs
       else if is_mark c then has_item && are_items_from true cs
       else are_items_from true cs
 
@@ -50,7 +50,7 @@ abbrev mutual
   -- the rest of a class, and then items
   pub goes_on_in_class : List ℕ → Bool
   goes_on_in_class [] = false
-  goes_on_in_class (c ∷ cs) = if c == ascii.close_bracket then are_items_from true cs else goes_on_in_class cs
+  goes_on_in_class (c ∷ cs) = if c == ascii "]" then are_items_from true cs else goes_on_in_class cs
 
 -- one or more items
 abbrev pub are_items : List ℕ → Bool
@@ -58,14 +58,14 @@ are_items cs = are_items_from false cs
 
 -- the characters behind a `!` at the start
 abbrev pub behind_not : List ℕ → List ℕ
-behind_not cs = if begins_with ascii.exclamation cs then drop 1 cs else cs
+behind_not cs = if begins_with (ascii "!") cs then drop 1 cs else cs
 
 -- `./`
 abbrev pub is_relative : List ℕ → Bool
-is_relative cs = begins_with ascii.dot cs && begins_with ascii.slash (drop 1 cs)
+is_relative cs = begins_with (ascii ".") cs && begins_with (ascii "/") (drop 1 cs)
 
 abbrev pub is_barred : ℕ → Bool
-is_barred c = c == ascii.space || c == ascii.tilde || c == ascii.caret || c == ascii.colon
+is_barred c = c == ascii " " || c == ascii "~" || c == ascii "^" || c == ascii ":"
 
 -- a path filter doesn't begin with `./`, branch and tag filters lack some characters
 abbrev pub has_barred : Filter → List ℕ → Bool

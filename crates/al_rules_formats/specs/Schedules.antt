@@ -8,7 +8,7 @@ use Rattle.std.specs.List.{list_all, list_any, filter, range_with_len}
 use Rattle.std.specs.Option.{option_or, unwrap_or}
 use Rattle.std.specs.Str.{bytes_eq}
 use Rattle.std.specs.Char.{is_ascii_digit}
-use Rattle.al_base.specs.Ascii as ascii
+use Rattle.al_base.specs.Ascii.{ascii}
 use Rattle.al_base.specs.Digits.{decimal}
 use Rattle.al_base.specs.Names.{same_name}
 use Rattle.al_rules_formats.specs.Texts.{pieces}
@@ -63,12 +63,12 @@ head_of r step _ = None
 
 -- a head, perhaps with a slash and a step from 1 to the greatest value
 abbrev pub item_parts : Range → List (List ℕ) → Option Item
-item_parts r (head ∷ []) = head_of r None (pieces ascii.dash head)
-item_parts r (head ∷ step ∷ []) = option_and_then (λ n. head_of r (Some n) (pieces ascii.dash head)) (number_in 1 r.high step)
+item_parts r (head ∷ []) = head_of r None (pieces (ascii "-") head)
+item_parts r (head ∷ step ∷ []) = option_and_then (λ n. head_of r (Some n) (pieces (ascii "-") head)) (number_in 1 r.high step)
 item_parts r _ = None
 
 abbrev pub item_of : Range → List ℕ → Option Item
-item_of r bs = item_parts r (pieces ascii.slash bs)
+item_of r bs = item_parts r (pieces (ascii "/") bs)
 
 -- all of them, if each is there
 abbrev pub all_of : {X : Type 0} → List (Option X) → Option (List X)
@@ -77,14 +77,14 @@ all_of (x ∷ xs) = option_and_then (λ y. option_map (λ ys. y ∷ ys) (all_of 
 
 -- items separated by commas
 abbrev pub field_of : Range → List ℕ → Option (List Item)
-field_of r bs = all_of (map (item_of r) (pieces ascii.comma bs))
+field_of r bs = all_of (map (item_of r) (pieces (ascii ",") bs))
 
 abbrev pub is_field : Range → List ℕ → Bool
 is_field r bs = is_some (field_of r bs)
 
 -- the texts between spaces
 abbrev pub words : List ℕ → List (List ℕ)
-words bs = filter (λ w. nat_lt 0 (length w)) (pieces ascii.space bs)
+words bs = filter (λ w. nat_lt 0 (length w)) (pieces (ascii " ") bs)
 
 -- Five fields: minutes, hours, days of the month, months, days of the week. If all are right, the minutes' items.
 abbrev pub minutes_in : List (List ℕ) → Option (List Item)

@@ -7,7 +7,7 @@ ghost use Rattle.al_rules_formats.specs.Schedules.{day_names, minutes_in, month_
 ghost use Rattle.al_rules_formats.specs.Schedules.{picks as item_picks};
 ghost use Rattle.al_rules_formats.specs.Schedules.{range, schedule_of, value_in, words};
 ghost use Rattle.al_rules_formats.specs.Texts.{pieces};
-ghost use Rattle.al_base.specs.Ascii as ascii;
+ghost use Rattle.al_base.specs.Ascii.{ascii};
 ghost use Rattle.al_rules_formats.specs.Private.Views.{least_thousand, range_of, range_name};
 ghost use Rattle.al_base.specs.Names.{same_name};
 ghost use Rattle.std.specs.List.{list_any, filter};
@@ -256,7 +256,7 @@ fn head(
     text: &[u8],
 ) -> Result<Option<Item>, AllocError>
     requires { range.high < 1000 }
-    ensures { IfOk result (λ r. r ≡ head_of (range_of range) step (pieces ascii.dash text.now)) }
+    ensures { IfOk result (λ r. r ≡ head_of (range_of range) step (pieces (ascii "-") text.now)) }
 {
     let parts = split(alloc, text, b'-')?;
     Ok(match parts.as_slice() {

@@ -3,7 +3,7 @@ ghost use Rattle.al_rules_formats.specs.Rows.Patterns.{right_names, right_paths,
 ghost use Rattle.al_rules_formats.specs.Patterns.{is_right};
 ghost use Rattle.al_rules_formats.specs.Rows.Schedules.{every, frequent_schedules, right_schedules};
 ghost use Rattle.al_rules_formats.specs.Rows.Schedules.{runs_seldom, runs_too_often, wrong_schedules};
-ghost use Rattle.al_base.specs.Ascii.{comma};
+ghost use Rattle.al_base.specs.Ascii.{ascii};
 ghost use Rattle.al_rules_formats.specs.Schedules.{minute_set, number_of, schedule_of};
 ghost use Rattle.al_rules_formats.specs.Texts.{pieces};
 ghost use Rattle.al_rules_formats.specs.declared.patterns.Filter.TheVariants.{Names, Paths};
@@ -31,8 +31,8 @@ pub fn part_rows()
     ensures great { number_of (codes "4294967296") ≡ Some 4294967296 }
     ensures no_digit { number_of [] ≡ None }
     ensures no_number { number_of (codes "1x2") ≡ None }
-    ensures pieces { pieces comma (codes "1,,25,") ≡ codes "1" ∷ [] ∷ codes "25" ∷ [] ∷ [] }
-    ensures no_separator { pieces comma [] ≡ [] ∷ [] }
+    ensures pieces { pieces (ascii ",") (codes "1,,25,") ≡ codes "1" ∷ [] ∷ codes "25" ∷ [] ∷ [] }
+    ensures no_separator { pieces (ascii ",") [] ≡ [] ∷ [] }
     ensures minutes { minute_set (every 3 50 20 ∷ every 23 23 1 ∷ []) ≡ 3 ∷ 23 ∷ 43 ∷ [] }
     ensures last_minute { minute_set (every 57 59 2 ∷ []) ≡ 57 ∷ 59 ∷ [] }
 {}

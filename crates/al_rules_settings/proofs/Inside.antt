@@ -1,5 +1,5 @@
 -- Nodes and texts that lie in a file, under any key, and faults that name them.
-use Rattle.std.specs.Prelude.{ℕ, Bool, true, false, not, List, [], ◌∷◌, ◌++◌, Option, Some, None, IfSome, find}
+use Rattle.std.specs.Prelude.{ℕ, Bool, true, false, not, List, [], ◌∷◌, ◌++◌, Option, Some, None, IfSome, find, option_map}
 use Rattle.std.proofs.Common.{cond}
 use Rattle.std.specs.Bool.{then_some}
 use Rattle.std.specs.List.{AllByRecursion, filter_map}
@@ -18,7 +18,7 @@ use Rattle.al_yaml_tree.specs.Spans.{AreLaid, EntriesLaid, IsLaid}
 use Rattle.al_tree.proofs.Lists.{firsts_kept}
 use Rattle.al_tree.specs.Names.{among}
 use Rattle.al_tree.specs.Faults.{is_key, is_null, value_in}
-use Rattle.al_tree.specs.Values.{entries_at, entries_in, firsts_by, items_at, items_in, key_at, key_in, text_at, text_below, text_in, texts_at, texts_in, value_at, value_below}
+use Rattle.al_tree.specs.Values.{entries_at, entries_in, firsts_by, items_at, items_in, key_at, text_at, text_below, text_in, texts_at, texts_in, value_at, value_below}
 use Rattle.al_rules_settings.specs.Words.{Named, about, fault, of_key, unless}
 
 abbrev pub Lies : ℕ → Fault → Type 0
@@ -70,14 +70,14 @@ module _ (size : ℕ) where
 
   -- ---- what stands under a key
 
-  key_in_fine : (k : List ℕ) (es : List (Node × Node)) → AllByRecursion Pair es → IfSome (key_in k es) (Fine size)
+  key_in_fine : (k : List ℕ) (es : List (Node × Node)) → AllByRecursion Pair es → IfSome (option_map (λ e. e.0) (find (is_key k) es)) (Fine size)
   key_in_fine k es p = map_some Pair (Fine size) (λ e. e.0) (λ e q. q.0) (find (is_key k) es) (found_one Pair (is_key k) es p)
 
   value_in_fine : (k : List ℕ) (es : List (Node × Node)) → AllByRecursion Pair es → IfSome (value_in k es) (Fine size)
   value_in_fine k es p = map_some Pair (Fine size) (λ e. e.1) (λ e q. q.1) (find (is_key k) es) (found_one Pair (is_key k) es p)
 
   pub key_fine : (k : List ℕ) (n : Node) → Fine size n → IfSome (key_at k n) (Fine size)
-  key_fine k n f = and_some (AllByRecursion Pair) (Fine size) (key_in k) (key_in_fine k) (mapping_in n) (mapping_fine n f)
+  key_fine k n f = and_some (AllByRecursion Pair) (Fine size) (λ es. option_map (λ e. e.0) (find (is_key k) es)) (key_in_fine k) (mapping_in n) (mapping_fine n f)
 
   pub value_fine : (k : List ℕ) (n : Node) → Fine size n → IfSome (value_at k n) (Fine size)
   value_fine k n f = and_some (AllByRecursion Pair) (Fine size) (value_in k) (value_in_fine k) (mapping_in n) (mapping_fine n f)

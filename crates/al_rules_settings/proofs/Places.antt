@@ -10,8 +10,9 @@ use Rattle.memchr.proofs.lemmas.CallerLemmas.{All-matches}
 use Rattle.memchr.proofs.lemmas.MatchLemmas.{matches-none}
 use Rattle.al_base.specs.Spans.{LiesIn}
 use Rattle.al_base.specs.declared.faults.Span.{Span}
+use Rattle.al_scalar.proofs.PlacedLemmas.{offset-order}
 use Rattle.al_scalar.specs.Line.{Cell}
-use Rattle.al_scalar.specs.Offsets.{AreBefore, AreRising, reach}
+use Rattle.al_scalar.specs.Offsets.{AreBefore, reach}
 use Rattle.al_scalar.specs.Private.Located.{offset_or}
 use Rattle.al_scalar.specs.Scalar.{Scalar, offset_of, text_of}
 use Rattle.al_rules_settings.specs.Commands.{command_fault, command_faults, commands, one_command, part_span}
@@ -55,21 +56,6 @@ no_colon_found s hay None same h first = without_colons s (subst (λ (t : List �
 no_colon_found s hay (Some k) same h first = absurd cc
 
 module _ (size : ℕ) where
-  rising_from : (low high end : ℕ) (cs : List Cell) (i : ℕ) → AreRising low high cs → i < length cs → low ≤ offset_or cs end i
-  rising_from low high end [] i r h = absurd (omega (arith, h))
-  rising_from low high end (c ∷ cs) zero r h = r.0
-  rising_from low high end (c ∷ cs) (suc i) r h =
-      let more : i < length cs = omega (arith, h) in
-      let later : c.1 ≤ offset_or cs end i = rising_from c.1 high end cs i r.2 more in let first : low ≤ c.1 = r.0 in omega (arith, first, later)
-
-  rising_to : (low high end : ℕ) (cs : List Cell) (i j : ℕ) → AreRising low high cs → i ≤ j → j < length cs → offset_or cs end i ≤ offset_or cs end j
-  rising_to low high end [] i j r le h = absurd (omega (arith, h))
-  rising_to low high end (c ∷ cs) zero zero r le h = omega arith
-  rising_to low high end (c ∷ cs) zero (suc j) r le h = let more : j < length cs = omega (arith, h) in rising_from c.1 high end cs j r.2 more
-  rising_to low high end (c ∷ cs) (suc i) zero r le h = absurd (omega (arith, le))
-  rising_to low high end (c ∷ cs) (suc i) (suc j) r le h =
-      let less : i ≤ j = omega (arith, le) in let more : j < length cs = omega (arith, h) in rising_to c.1 high end cs i j r.2 less more
-
   before_end : (end other : ℕ) (cs : List Cell) (i : ℕ) → AreBefore end cs → i < length cs → (get_or (map (λ (c : Cell). c.0) cs) i 0 ≡ 10 → ⊥) → offset_or cs other i < end
   before_end end other [] i b h ne = absurd (omega (arith, h))
   before_end end other (c ∷ cs) zero b h ne = b.0 ne
@@ -94,7 +80,7 @@ module _ (size : ℕ) where
       let fits : i + length (b ∷ bs) ≤ length (text_of t.0) = o.fits in
       let inside : last < length cells = omega (arith, len, fits) in
       let lower : i ≤ last = omega arith in
-      let rises : offset_of t.0 i ≤ offset_of t.0 last = rising_to t.1.start (reach 1048576 t.0.style t.0.end) t.0.end cells i last p.placed.rising lower inside in
+      let rises : offset_of t.0 i ≤ offset_of t.0 last = offset-order t.1.start (reach 1048576 t.0.style t.0.end) t.0.end cells i last p.placed.rising lower inside in
       let reads : get_or (text_of t.0) (i + length bs) 0 ≡ get_or (b ∷ bs) (length bs) 0 = o.reads (length bs) (omega arith) in
       let at_last : get_or (text_of t.0) last 0 ≡ get_or (b ∷ bs) (length bs) 0 = ap (λ k. get_or (text_of t.0) k 0) is ∙ reads in
       let ends : offset_of t.0 last < t.0.end = before_end t.0.end t.0.end cells last p.placed.before inside (λ e. n (sym at_last ∙ e)) in

@@ -5,7 +5,6 @@ use Rattle.std.proofs.Math.Nat.{eq-or-lt_of_le, le_of_lt}
 use Rattle.std.proofs.lemmas.Grind.{common_steps}
 use Rattle.al_scalar.specs.Block.{row_of, found_indent}
 use Rattle.al_scalar.specs.Line.{Cell, Line, indent, is_empty, is_all_blank}
-use Rattle.al_scalar.specs.Taken.{feeds}
 use Rattle.al_scalar.specs.Places.{first_text, lines_at}
 use Rattle.al_scalar.specs.LineEnds.{cells_at, cells_between, with_cells_before, AreBlank, IsBlankByte, IsLineEnd, broken_line, SameLine, later, AreSpaces, BlankTo}
 use Rattle.al_scalar.specs.Private.BlockRead.{indent_from}
@@ -154,9 +153,3 @@ indent_from-no within text n e h = grind (arith, common_steps, e, h)
 pub blank-is : (bytes : List ℕ) (at : ℕ) (b : Option ℕ) → BlankTo bytes at b → is_all_blank (first_text (lines_at bytes at)) ≡ is_some b
 blank-is bytes at None h = h
 blank-is bytes at (Some end) h = h.0
-
--- ---- breaks
-
-pub feeds-append : (xs ys : List ℕ) → feeds (xs ++ ys) ≡ feeds xs ++ feeds ys
-feeds-append [] ys = refl
-feeds-append (x ∷ xs) ys = ap (λ cs. (10, x) ∷ cs) (feeds-append xs ys)

@@ -2,7 +2,7 @@
 use Rattle.std.proofs.Common.{◌≡◌, ℕ, ◌+◌, ◌-◌, ◌<◌, ◌≤◌, List, [], ◌∷◌, ◌++◌, drop, refl, sym, subst, arith, Bool, true, false, not}
 use Rattle.std.proofs.Common.{if◌then◌else◌, ◌&&◌, ◌||◌, nat_le, Option, Some, None, Result, Ok, Err}
 use Rattle.std.specs.Option.{is_none, is_some, unwrap_or}
-use Rattle.al_base.specs.Ascii as ascii
+use Rattle.al_base.specs.Ascii.{ascii}
 use Rattle.al_scalar.specs.Line.{Cell, Line, place, start, is_empty, begins, after_blanks, begins_blank, is_comment, indent, is_all_blank}
 use Rattle.al_scalar.specs.Block.{header_end, header, is_digit, is_sign}
 use Rattle.al_scalar.specs.declared.header.Chomping.{Chomping}
@@ -53,7 +53,7 @@ rows-by : (low : ℕ) (l : Line) (ls : List Line) (below : Rows) → AreLines lo
 rows-by low l ls below h more None k = (climbing-place low l.end l.text h.0).0
 rows-by low l ls below h more (Some text) k = choose (IsRows low) l.last
     (λ _. (k, from-none l.end l.end (omega arith), omega arith))
-    (λ e. (k, from-one l.end (l.end + 1) ascii.line_feed l.end (omega arith) (omega arith), more (tail-lines l.end l.last ls e h.1)))
+    (λ e. (k, from-one l.end (l.end + 1) (ascii "\n") l.end (omega arith) (omega arith), more (tail-lines l.end l.last ls e h.1)))
 
 rows-from : (m : Option ℕ) (found : Bool) (low : ℕ) (ls : List Line) → AreLines low ls → IsRows low (rows_at m found ls)
 rows-from m found low [] h = absurd h
@@ -82,7 +82,7 @@ between-from low mid high (e ∷ es) [] h k =
     let a = h.rising.0 in
     let b = h.rising.1 in
     let c = from-order mid high [] k in
-    from-one low high ascii.space e a (omega (arith, b, c))
+    from-one low high (ascii " ") e a (omega (arith, b, c))
 between-from low mid high (e ∷ es) (x ∷ xs) h k = from-wider mid high low high (feeds (x ∷ xs)) (from-order low mid (feeds (e ∷ es)) h) (omega arith) k
 
 joint-from : (is_literal : Bool) (low mid high : ℕ) (last : Option BlockLine) (empties : List ℕ) (next : BlockLine)

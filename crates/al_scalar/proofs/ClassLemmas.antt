@@ -1,9 +1,9 @@
 -- Texts of plain scalars that are no word and no number, as their first byte tells.
-use Rattle.std.proofs.Common.{◌≡◌, ℕ, List, [], ◌∷◌, refl, ap, ◌∙◌, arith, Bool, false, ◌&&◌, ◌||◌, ◌==◌, cond}
+use Rattle.std.proofs.Common.{◌≡◌, ℕ, List, [], ◌∷◌, drop, refl, ap, ◌∙◌, arith, Bool, false, ◌&&◌, ◌||◌, ◌==◌, cond}
 use Rattle.std.proofs.lemmas.Grind.{common_steps}
 use Rattle.std.specs.Char.{is_ascii_digit}
 use Rattle.std.specs.List.{list_all}
-use Rattle.al_base.specs.FirstBytes.{first_is}
+use Rattle.al_base.specs.FirstBytes.{begins_with, first_is}
 use Rattle.al_scalar.specs.Class.{is_one_of, nulls, booleans, infinities, not_numbers, is_digit_in, are_digits, after_digits, without_sign}
 use Rattle.al_scalar.specs.Class.{is_prefixed, is_integer, is_exponent, is_fraction, is_pure_fraction, is_decimal, is_float, class_of}
 use Rattle.al_scalar.specs.Private.Values.{begins_value}
@@ -83,8 +83,7 @@ module _ (b : ℕ) (bs : List ℕ) (h : begins_value b ≡ false) where
   no-zero = let digit = o.digit in grind (arith, common_steps, digit)
 
   no-prefix : (letter : ℕ) (base : Base) (cs : List ℕ) → is_prefixed letter base (b ∷ cs) ≡ false
-  no-prefix letter base [] = refl
-  no-prefix letter base (c ∷ cs) = ap (λ x. x && (c == letter) && are_digits base cs) no-zero
+  no-prefix letter base cs = ap (λ x. x && begins_with letter cs && are_digits base (drop 1 cs)) no-zero
 
   integer-no : is_integer (b ∷ bs) ≡ false
   integer-no =

@@ -1,7 +1,7 @@
 -- Offsets of a scalar's text: they never fall, and lie in what the scalar takes; and how many bytes it has.
 use Rattle.std.proofs.Common.{◌≡◌, ℕ, zero, suc, ◌+◌, ◌*◌, ◌<◌, ◌≤◌, List, [], ◌∷◌, ◌++◌, length, length-append, drop, refl, sym, ap, subst}
 use Rattle.std.proofs.Common.{◌∙◌, arith, Bool, true, false, not, ◌&&◌, ◌||◌, ◌==◌, if◌then◌else◌, Result, Ok, Err}
-use Rattle.al_base.specs.Ascii as ascii
+use Rattle.al_base.specs.Ascii.{ascii}
 use Rattle.al_scalar.specs.Line.{Cell, Line, lines, place, start, is_blank, after_blanks, is_break, with_cell, with_return}
 use Rattle.al_base.specs.FirstBytes.{begins_with}
 use Rattle.al_scalar.specs.Places.{first_text}
@@ -149,7 +149,7 @@ taken-behind low mid cs (Err e) h k = tt
 
 pub feeds-join : (xs ys : List ℕ) → feeds (xs ++ ys) ≡ feeds xs ++ feeds ys
 feeds-join [] ys = refl
-feeds-join (x ∷ xs) ys = ap (λ cs. (ascii.line_feed, x) ∷ cs) (feeds-join xs ys)
+feeds-join (x ∷ xs) ys = ap (λ cs. (ascii "\n", x) ∷ cs) (feeds-join xs ys)
 
 -- a break and the breaks of empty lines behind it
 pub record AreBreaks (low high break : ℕ) (empties : List ℕ) : Type 0 where
@@ -158,7 +158,7 @@ pub record AreBreaks (low high break : ℕ) (empties : List ℕ) : Type 0 where
   pub feeds : IsFrom (break + 1) high (feeds empties)
 
 pub breaks-folded : (low high break : ℕ) (es : List ℕ) → AreBreaks low high break es → IsFrom low high (folded_break break es)
-breaks-folded low high break [] h = from-one low high ascii.space break h.from h.below
+breaks-folded low high break [] h = from-one low high (ascii " ") break h.from h.below
 breaks-folded low high break (e ∷ es) h = let a = h.from in from-wider (break + 1) high low high (feeds (e ∷ es)) (omega (arith, a)) (omega arith) h.feeds
 
 pub breaks-more : (low high break : ℕ) (es : List ℕ) (e : ℕ) → high ≤ e → AreBreaks low high break es → AreBreaks low (e + 1) break (es ++ e ∷ [])
@@ -166,8 +166,8 @@ breaks-more low high break es e a h = let b = h.below in record {
   from = h.from;
   below = omega (arith, a, b);
   feeds = subst (IsFrom (break + 1) (e + 1)) (sym (feeds-join es (e ∷ [])))
-      (from-join (break + 1) high (e + 1) (feeds es) ((ascii.line_feed, e) ∷ []) h.feeds
-      (from-one high (e + 1) ascii.line_feed e a (omega arith)));
+      (from-join (break + 1) high (e + 1) (feeds es) ((ascii "\n", e) ∷ []) h.feeds
+      (from-one high (e + 1) (ascii "\n") e a (omega arith)));
 }
 
 pub breaks-one : (low break : ℕ) → low ≤ break → AreBreaks low (break + 1) break []

@@ -2,7 +2,7 @@
 use Rattle.std.proofs.Common.{◌≡◌, ℕ, zero, suc, ◌*◌, ◌-◌, ◌+◌, ◌<◌, ◌≤◌, List, [], ◌∷◌, ◌++◌, length, map, refl, ap, arith, Bool, true, false}
 use Rattle.std.proofs.Common.{not, if◌then◌else◌, ◌&&◌, ◌==◌, Option, Some, None, Result, Ok, Err, encode_utf8}
 use Rattle.std.proofs.lemmas.Str.{length-encode, len_utf8_bounds}
-use Rattle.al_base.specs.Ascii as ascii
+use Rattle.al_base.specs.Ascii.{ascii}
 use Rattle.al_scalar.specs.Line.{Cell, Line, place, is_blank, after_blanks, is_empty}
 use Rattle.al_scalar.specs.Offsets.{AreRising, AreClimbing, AreLines}
 use Rattle.al_scalar.specs.Quoted.{QuotedLine, QuotedEnd, closed, broken, escaped, cut_short, is_broken, with_own, single_part}
@@ -45,14 +45,14 @@ single-from : (low end : ℕ) (cs : List Cell) → AreClimbing low end cs → Is
 single-from low end [] h = from-none low end h
 single-from low end (c ∷ []) h =
     let a = h.0 in
-    choose (IsPart low end) (c.0 == ascii.single_quote) (λ _. (from-none low (c.1 + 1) (omega (arith, a)), (climbing-place (c.1 + 1) end [] h.1).0))
+    choose (IsPart low end) (c.0 == ascii "'") (λ _. (from-none low (c.1 + 1) (omega (arith, a)), (climbing-place (c.1 + 1) end [] h.1).0))
     (λ _. own-from low end c (single_part []) a (from-none (c.1 + 1) end h.1))
 single-from low end (c ∷ d ∷ cs) h =
     let pair = single_part cs in
     let a = h.0 in
     let b = h.1.0 in
-    choose (IsPart low end) (not (c.0 == ascii.single_quote)) (λ _. own-from low end c (single_part (d ∷ cs)) a (single-from (c.1 + 1) end (d ∷ cs) h.1))
-    (λ _. choose (IsPart low end) (d.0 == ascii.single_quote)
+    choose (IsPart low end) (not (c.0 == ascii "'")) (λ _. own-from low end c (single_part (d ∷ cs)) a (single-from (c.1 + 1) end (d ∷ cs) h.1))
+    (λ _. choose (IsPart low end) (d.0 == ascii "'")
     (λ _. stop-behind low (c.1 + 1) end (c ∷ []) pair.text pair.stop (from-one low (c.1 + 1) c.0 c.1 a (omega arith))
     (stop-lower (d.1 + 1) (c.1 + 1) end pair.text pair.stop (omega (arith, b)) (single-from (d.1 + 1) end cs h.1.1)))
     (λ _. (from-none low (c.1 + 1) (omega (arith, a)), (climbing-place (c.1 + 1) end (d ∷ cs) h.1).0)))
@@ -98,8 +98,8 @@ mutual
   double-from low end [] h = from-none low end h
   double-from low end (c ∷ cs) h =
       let a = h.0 in
-      choose (GivesPart low end) (c.0 == ascii.double_quote) (λ _. (from-none low (c.1 + 1) (omega (arith, a)), (climbing-place (c.1 + 1) end cs h.1).0))
-      (λ _. choose (GivesPart low end) (c.0 == ascii.backslash) (λ _. escape-from low end c.1 cs a h.1)
+      choose (GivesPart low end) (c.0 == ascii "\"") (λ _. (from-none low (c.1 + 1) (omega (arith, a)), (climbing-place (c.1 + 1) end cs h.1).0))
+      (λ _. choose (GivesPart low end) (c.0 == ascii "\\") (λ _. escape-from low end c.1 cs a h.1)
       (λ _. own-behind low end c (double_part cs) a (double-from (c.1 + 1) end cs h.1)))
 
   escape-from : (low end at : ℕ) (cs : List Cell) → low ≤ at → AreClimbing (at + 1) end cs → GivesPart low end (escape at cs)
@@ -138,7 +138,7 @@ given-from quote low mid space p l ls below h k more = by-stop p.stop k
     by-stop (closed e rest) k = (from-join low mid e space p.text h k.0, k.1)
     by-stop (cut_short at) k = choose (AreTaken low) l.last (λ _. tt) (λ _. tt)
     by-stop broken k = choose (AreTaken low) l.last (λ _. tt)
-        (λ e. taken-behind low l.end (space ++ p.text) _ (from-join low mid l.end space p.text h k) (more e (Some l.end) (from-one l.end (l.end + 1) ascii.space l.end (omega arith) (omega arith))))
+        (λ e. taken-behind low l.end (space ++ p.text) _ (from-join low mid l.end space p.text h k) (more e (Some l.end) (from-one l.end (l.end + 1) (ascii " ") l.end (omega arith) (omega arith))))
     by-stop escaped k = choose (AreTaken low) l.last (λ _. tt)
         (λ e. taken-behind low l.end (space ++ p.text) _ (from-join low mid l.end space p.text h k) (more e None (from-none l.end (l.end + 1) (omega arith))))
 
@@ -156,13 +156,13 @@ LinesReader below ls = (low mid : ℕ) (b : Option ℕ) → IsFrom low mid (fold
 line-from : (quote low mid : ℕ) (break : Option ℕ) (l : Line) (ls : List Line) (below : Option ℕ → Result Taken Fault)
     → IsFrom low mid (folding_space break) → AreLines mid (l ∷ ls) → LinesReader below ls
     → (r : Result QuotedLine Fault) → GivesPart mid l.end r
-    → AreTaken low (r >>= (λ p. if is_empty_line p l then before ((ascii.line_feed, l.end) ∷ []) (below None) else line_given quote (folding_space break) p l ls below))
+    → AreTaken low (r >>= (λ p. if is_empty_line p l then before ((ascii "\n", l.end) ∷ []) (below None) else line_given quote (folding_space break) p l ls below))
 line-from quote low mid break l ls below h k more (Err e) r = tt
 line-from quote low mid break l ls below h k more (Ok p) r =
     let order = from-order low mid (folding_space break) h in
     let line = climbing-order mid l.end l.text k.0 in
     choose (AreTaken low) (is_empty_line p l)
-    (λ e. taken-behind low (l.end + 1) ((ascii.line_feed, l.end) ∷ []) (below None) (from-one low (l.end + 1) ascii.line_feed l.end (omega (arith, order, line)) (omega arith))
+    (λ e. taken-behind low (l.end + 1) ((ascii "\n", l.end) ∷ []) (below None) (from-one low (l.end + 1) (ascii "\n") l.end (omega (arith, order, line)) (omega arith))
     (more (l.end + 1) (l.end + 1) None (from-none (l.end + 1) (l.end + 1) (omega arith)) (tail-lines l.end l.last ls (not-last (is_empty p.text) (is_broken p.stop) l.last e) k.1)))
     (λ _. given-from quote low mid (folding_space break) p l ls below h r (λ e b f. more l.end (l.end + 1) b f (tail-lines l.end l.last ls e k.1)))
 

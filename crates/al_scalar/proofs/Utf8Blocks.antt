@@ -3,7 +3,7 @@ use Rattle.std.proofs.Common.{◌≡◌, ℕ, zero, suc, ◌+◌, ◌≤◌, Lis
 use Rattle.std.proofs.lemmas.Bool.Decides.{nat_tests}
 use Rattle.std.proofs.lemmas.Str.{IsUtf8-nil}
 use Rattle.std.specs.Option.{is_some}
-use Rattle.al_base.specs.Ascii as ascii
+use Rattle.al_base.specs.Ascii.{ascii}
 use Rattle.al_scalar.specs.Line.{Cell, Line, place, is_empty, indent, is_all_blank, begins_blank}
 use Rattle.al_scalar.specs.Block.{header, content_indent, BlockLine, Rows, row_of, at_end, with_row}
 use Rattle.al_scalar.specs.declared.header.Chomping.{Chomping}
@@ -23,7 +23,7 @@ drop-text : (m : ℕ) (cs : List Cell) → nat_le m (indent cs) ≡ true → IsT
 drop-text zero cs h u = u
 drop-text (suc m) [] h u = u
 drop-text (suc m) (c ∷ cs) h u =
-    let s = indent-step (c.0 == ascii.space) m (indent cs) h in
+    let s = indent-step (c.0 == ascii " ") m (indent cs) h in
     drop-text m cs s.1 (split-behind c.0 (bytes_of cs) (equal-ascii c.0 32 (omega arith) s.0) u)
 
 abbrev IsRowText : Option (List Cell) → Type 0

@@ -6,7 +6,7 @@ use Rattle.std.proofs.lemmas.Grind.{common_steps}
 use Rattle.std.specs.Prelude.{IsUtf8}
 use Rattle.std.specs.Char.{IsScalar}
 use Rattle.std.proofs.lemmas.Str.{IsUtf8-append, IsUtf8-encode}
-use Rattle.al_base.specs.Ascii as ascii
+use Rattle.al_base.specs.Ascii.{ascii}
 use Rattle.al_scalar.specs.Line.{Cell, Line}
 use Rattle.al_scalar.specs.Quoted.{QuotedLine, own_before, part_before, escape_table, digits_table}
 use Rattle.std.specs.Map.{lookup}
@@ -138,8 +138,8 @@ mutual
   double-keeps : (cs : List Cell) → PartKeeps cs (double_part cs)
   double-keeps [] = keeps-all []
   double-keeps (c ∷ cs) =
-      choose (PartKeeps (c ∷ cs)) (c.0 == ascii.double_quote) (λ e. keeps-none c cs (equal-ascii c.0 34 (omega arith) e))
-      (λ _. choose (PartKeeps (c ∷ cs)) (c.0 == ascii.backslash)
+      choose (PartKeeps (c ∷ cs)) (c.0 == ascii "\"") (λ e. keeps-none c cs (equal-ascii c.0 34 (omega arith) e))
+      (λ _. choose (PartKeeps (c ∷ cs)) (c.0 == ascii "\\")
       (λ e. skipped c cs (escape c.1 cs) (equal-ascii c.0 92 (omega arith) e) (escape-keeps c.1 cs))
       (λ _. own-both c cs (double_part cs) (double-keeps cs)))
 

@@ -4,7 +4,7 @@ use Rattle.std.proofs.Common.{drop, take, refl, sym, ap, subst, arith, append_as
 use Rattle.std.proofs.lemmas.Grind.{common_steps}
 use Rattle.std.specs.Prelude.{IsUtf8}
 use Rattle.std.proofs.lemmas.Str.{IsUtf8-append, IsUtf8-take, IsUtf8-drop, IsCharBoundary-before_ascii, IsCharBoundary-after_ascii}
-use Rattle.al_base.specs.Ascii as ascii
+use Rattle.al_base.specs.Ascii.{ascii}
 use Rattle.al_scalar.specs.Line.{Cell, Line, lines, is_break, with_cell, with_return, is_blank, after_blanks, is_empty}
 use Rattle.al_base.specs.FirstBytes.{begins_with}
 use Rattle.al_scalar.specs.Quoted.{QuotedLine, is_broken, with_own, single_part}
@@ -81,7 +81,7 @@ by-blank a (inl e) = equal-ascii a 32 (omega arith) e
 by-blank a (inr e) = equal-ascii a 9 (omega arith) e
 
 pub blank-ascii : (c : Cell) → is_blank c ≡ true → c.0 < 128
-blank-ascii c h = by-blank c.0 (either (c.0 == ascii.space) (c.0 == ascii.tab) h)
+blank-ascii c h = by-blank c.0 (either (c.0 == ascii " ") (c.0 == ascii "\t") h)
 
 pub keeps-blanks : (cs : List Cell) → Keeps cs (after_blanks cs)
 keeps-blanks [] = keeps-all []
@@ -144,10 +144,10 @@ own-keeps c cs p k =
 pub single-keeps : (cs : List Cell) → PartKeeps cs (single_part cs)
 single-keeps [] = keeps-all []
 single-keeps (c ∷ []) =
-    choose (PartKeeps (c ∷ [])) (c.0 == ascii.single_quote) (λ e. keeps-none c [] (equal-ascii c.0 39 (omega arith) e))
+    choose (PartKeeps (c ∷ [])) (c.0 == ascii "'") (λ e. keeps-none c [] (equal-ascii c.0 39 (omega arith) e))
     (λ _. own-keeps c [] (single_part []) (keeps-all []))
 single-keeps (c ∷ d ∷ cs) =
-    choose (PartKeeps (c ∷ d ∷ cs)) (not (c.0 == ascii.single_quote)) (λ _. own-keeps c (d ∷ cs) (single_part (d ∷ cs)) (single-keeps (d ∷ cs)))
-    (λ e. choose (PartKeeps (c ∷ d ∷ cs)) (d.0 == ascii.single_quote)
+    choose (PartKeeps (c ∷ d ∷ cs)) (not (c.0 == ascii "'")) (λ _. own-keeps c (d ∷ cs) (single_part (d ∷ cs)) (single-keeps (d ∷ cs)))
+    (λ e. choose (PartKeeps (c ∷ d ∷ cs)) (d.0 == ascii "'")
     (λ f. keeps-own c (d ∷ cs) (single_part cs).text (keeps-drop d cs (single_part cs).text (equal-ascii d.0 39 (omega arith) f) (single-keeps cs)))
     (λ _. keeps-none c (d ∷ cs) (equal-ascii c.0 39 (omega arith) (not-false (c.0 == 39) e))))

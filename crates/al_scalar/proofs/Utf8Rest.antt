@@ -4,7 +4,7 @@ use Rattle.std.proofs.Common.{false, not, if◌then◌else◌, ◌&&◌, ◌||�
 use Rattle.std.proofs.lemmas.Str.{IsUtf8-nil}
 use Rattle.std.specs.Prelude.{IsUtf8}
 use Rattle.std.specs.Option.{is_some}
-use Rattle.al_base.specs.Ascii as ascii
+use Rattle.al_base.specs.Ascii.{ascii}
 use Rattle.al_scalar.specs.Line.{Cell, Line, place, is_blank, after_blanks, is_empty, is_all_blank}
 use Rattle.al_scalar.specs.Block.{header, content_indent, Rows, row_of, at_end, with_row, rows_at, text_after, rows_end, block_scalar}
 use Rattle.al_scalar.specs.declared.header.Header.{Header}
@@ -48,11 +48,11 @@ own-leaves c cs p k =
 single-leaves : (cs : List Cell) → PartLeaves cs (single_part cs)
 single-leaves [] = λ p u. tt
 single-leaves (c ∷ []) =
-    choose (PartLeaves (c ∷ [])) (c.0 == ascii.single_quote) (λ e. leaves-closed (c.1 + 1) c [] (equal-ascii c.0 39 (omega arith) e))
+    choose (PartLeaves (c ∷ [])) (c.0 == ascii "'") (λ e. leaves-closed (c.1 + 1) c [] (equal-ascii c.0 39 (omega arith) e))
     (λ _. own-leaves c [] (single_part []) (λ p u. tt))
 single-leaves (c ∷ d ∷ cs) =
-    choose (PartLeaves (c ∷ d ∷ cs)) (not (c.0 == ascii.single_quote)) (λ _. own-leaves c (d ∷ cs) (single_part (d ∷ cs)) (single-leaves (d ∷ cs)))
-    (λ e. choose (PartLeaves (c ∷ d ∷ cs)) (d.0 == ascii.single_quote)
+    choose (PartLeaves (c ∷ d ∷ cs)) (not (c.0 == ascii "'")) (λ _. own-leaves c (d ∷ cs) (single_part (d ∷ cs)) (single-leaves (d ∷ cs)))
+    (λ e. choose (PartLeaves (c ∷ d ∷ cs)) (d.0 == ascii "'")
     (λ _. leaves-more c (d ∷ cs) (single_part cs).stop (leaves-more d cs (single_part cs).stop (single-leaves cs)))
     (λ _. leaves-closed (c.1 + 1) c (d ∷ cs) (equal-ascii c.0 39 (omega arith) (not-false (c.0 == 39) e))))
 
@@ -79,8 +79,8 @@ mutual
   double-leaves : (cs : List Cell) → GivesLeaves cs (double_part cs)
   double-leaves [] = λ p u. tt
   double-leaves (c ∷ cs) =
-      choose (GivesLeaves (c ∷ cs)) (c.0 == ascii.double_quote) (λ e. leaves-closed (c.1 + 1) c cs (equal-ascii c.0 34 (omega arith) e))
-      (λ _. choose (GivesLeaves (c ∷ cs)) (c.0 == ascii.backslash) (λ _. gives-more c cs (escape c.1 cs) (escape-leaves c.1 cs))
+      choose (GivesLeaves (c ∷ cs)) (c.0 == ascii "\"") (λ e. leaves-closed (c.1 + 1) c cs (equal-ascii c.0 34 (omega arith) e))
+      (λ _. choose (GivesLeaves (c ∷ cs)) (c.0 == ascii "\\") (λ _. gives-more c cs (escape c.1 cs) (escape-leaves c.1 cs))
       (λ _. own-gives c cs (double_part cs) (double-leaves cs)))
 
   escape-leaves : (at : ℕ) (cs : List Cell) → GivesLeaves cs (escape at cs)
@@ -130,10 +130,10 @@ given-left quote space p l ls below u h more = by-stop p.stop h
 
 line-left : (quote : ℕ) (break : Option ℕ) (l : Line) (ls : List Line) (below : Option ℕ → Result Taken Fault) → AreUtf8 ls
     → ((b : Option ℕ) → LeavesText (below b)) → (r : Result QuotedLine Fault) → GivesStop r
-    → LeavesText (r >>= (λ p. if is_empty_line p l then before ((ascii.line_feed, l.end) ∷ []) (below None) else line_given quote (folding_space break) p l ls below))
+    → LeavesText (r >>= (λ p. if is_empty_line p l then before ((ascii "\n", l.end) ∷ []) (below None) else line_given quote (folding_space break) p l ls below))
 line-left quote break l ls below u more (Err e) r = tt
 line-left quote break l ls below u more (Ok p) r =
-    choose LeavesText (is_empty_line p l) (λ _. left-before ((ascii.line_feed, l.end) ∷ []) (below None) (more None))
+    choose LeavesText (is_empty_line p l) (λ _. left-before ((ascii "\n", l.end) ∷ []) (below None) (more None))
     (λ _. given-left quote (folding_space break) p l ls below u r more)
 
 lines-left : (part : List Cell → Result QuotedLine Fault) → PartReader part → (quote : ℕ) (break : Option ℕ) (ls : List Line) → AreUtf8 ls → LeavesText (quoted_lines part quote break ls)
@@ -232,4 +232,4 @@ block-by is_literal within l ls u (Ok h) =
 
 pub block-left : (is_literal : Bool) (within : ℕ) (ls : List Line) → AreUtf8 ls → LeavesText (block_scalar is_literal within ls)
 block-left is_literal within [] u = tt
-block-left is_literal within (l ∷ ls) u = block-by is_literal within l ls u.1 (header (place l.text l.end + 1) (drop 1 l.text))
+block-left is_literal within (l ∷ ls) u = block-by is_literal within l ls u.1 (header None None (place l.text l.end + 1) (drop 1 l.text))

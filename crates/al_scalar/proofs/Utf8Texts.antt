@@ -3,7 +3,7 @@ use Rattle.std.proofs.Common.{slice_index, ◌≡◌, ◌⊎◌, inl, inr, ℕ, 
 use Rattle.std.proofs.Common.{Bool, true, false, not, if◌then◌else◌, ◌&&◌, ◌||◌, ◌==◌, Option, Some, None, Result, Ok, Err}
 use Rattle.std.specs.Prelude.{IsUtf8}
 use Rattle.std.proofs.lemmas.Str.{IsUtf8-append, IsUtf8-nil, IsUtf8-from_ascii}
-use Rattle.al_base.specs.Ascii as ascii
+use Rattle.al_base.specs.Ascii.{ascii}
 use Rattle.al_scalar.specs.Line.{Cell, Line, is_blank, after_blanks, begins, is_empty}
 use Rattle.al_scalar.specs.Plain.{Context, is_flow, is_flow_indicator, begins_flow_indicator, ends_key, is_value_colon, ends_plain, plain_part, continues, ended_before, plain_lines, plain}
 use Rattle.al_scalar.specs.Quoted.{QuotedLine, QuotedEnd, closed, broken, escaped, cut_short, single_part, line_given, is_empty_line, quoted_lines, quoted_scalar, single_quoted}
@@ -36,7 +36,7 @@ text-one b at l = one-ascii b l
 
 pub text-feeds : (ats : List ℕ) → IsText (feeds ats)
 text-feeds [] = IsUtf8-nil
-text-feeds (a ∷ ats) = text-join ((ascii.line_feed, a) ∷ []) (feeds ats) (text-one 10 a (omega arith)) (text-feeds ats)
+text-feeds (a ∷ ats) = text-join ((ascii "\n", a) ∷ []) (feeds ats) (text-one 10 a (omega arith)) (text-feeds ats)
 
 pub text-folding_space : (b : Option ℕ) → IsText (folding_space b)
 text-folding_space None = IsUtf8-nil
@@ -75,10 +75,10 @@ given-text quote space p l ls below h k more = by-stop p.stop
     by-stop escaped = choose TakesText l.last (λ _. tt) (λ _. text-before (space ++ p.text) _ (text-join space p.text h k) (more None))
 
 line-text : (quote : ℕ) (break : Option ℕ) (l : Line) (ls : List Line) (below : Option ℕ → Result Taken Fault) → ((b : Option ℕ) → TakesText (below b)) → (r : Result QuotedLine Fault) → GivesText r
-    → TakesText (r >>= (λ p. if is_empty_line p l then before ((ascii.line_feed, l.end) ∷ []) (below None) else line_given quote (folding_space break) p l ls below))
+    → TakesText (r >>= (λ p. if is_empty_line p l then before ((ascii "\n", l.end) ∷ []) (below None) else line_given quote (folding_space break) p l ls below))
 line-text quote break l ls below more (Err e) r = tt
 line-text quote break l ls below more (Ok p) r =
-    choose TakesText (is_empty_line p l) (λ _. text-before ((ascii.line_feed, l.end) ∷ []) (below None) (text-one 10 l.end (omega arith)) (more None))
+    choose TakesText (is_empty_line p l) (λ _. text-before ((ascii "\n", l.end) ∷ []) (below None) (text-one 10 l.end (omega arith)) (more None))
     (λ _. given-text quote (folding_space break) p l ls below (text-folding_space break) r more)
 
 lines-text : (part : List Cell → Result QuotedLine Fault) → PartReader part → (quote : ℕ) (break : Option ℕ) (ls : List Line) → AreUtf8 ls → TakesText (quoted_lines part quote break ls)
@@ -113,33 +113,33 @@ both-right true b h = h
 both-right false b h = cc
 
 pub indicator-ascii : (b : ℕ) → is_flow_indicator b ≡ true → b < 128
-indicator-ascii b h = four (either (((b == ascii.comma) || (b == ascii.open_bracket) || (b == ascii.close_bracket)) || (b == ascii.open_brace)) (b == ascii.close_brace) h)
+indicator-ascii b h = four (either (((b == ascii ",") || (b == ascii "[") || (b == ascii "]")) || (b == ascii "{")) (b == ascii "}") h)
   where
-    two : ((b == ascii.comma) ≡ true) ⊎ ((b == ascii.open_bracket) ≡ true) → b < 128
-    two (inl e) = equal-ascii b ascii.comma (omega arith) e
-    two (inr e) = equal-ascii b ascii.open_bracket (omega arith) e
+    two : ((b == ascii ",") ≡ true) ⊎ ((b == ascii "[") ≡ true) → b < 128
+    two (inl e) = equal-ascii b (ascii ",") (omega arith) e
+    two (inr e) = equal-ascii b (ascii "[") (omega arith) e
 
-    three : (((b == ascii.comma) || (b == ascii.open_bracket)) ≡ true) ⊎ ((b == ascii.close_bracket) ≡ true) → b < 128
-    three (inl e) = two (either (b == ascii.comma) (b == ascii.open_bracket) e)
-    three (inr e) = equal-ascii b ascii.close_bracket (omega arith) e
+    three : (((b == ascii ",") || (b == ascii "[")) ≡ true) ⊎ ((b == ascii "]") ≡ true) → b < 128
+    three (inl e) = two (either (b == ascii ",") (b == ascii "[") e)
+    three (inr e) = equal-ascii b (ascii "]") (omega arith) e
 
-    brace : (((b == ascii.comma) || (b == ascii.open_bracket) || (b == ascii.close_bracket)) ≡ true) ⊎ ((b == ascii.open_brace) ≡ true) → b < 128
-    brace (inl e) = three (either ((b == ascii.comma) || (b == ascii.open_bracket)) (b == ascii.close_bracket) e)
-    brace (inr e) = equal-ascii b ascii.open_brace (omega arith) e
+    brace : (((b == ascii ",") || (b == ascii "[") || (b == ascii "]")) ≡ true) ⊎ ((b == ascii "{") ≡ true) → b < 128
+    brace (inl e) = three (either ((b == ascii ",") || (b == ascii "[")) (b == ascii "]") e)
+    brace (inr e) = equal-ascii b (ascii "{") (omega arith) e
 
-    four : ((((b == ascii.comma) || (b == ascii.open_bracket) || (b == ascii.close_bracket)) || (b == ascii.open_brace)) ≡ true) ⊎ ((b == ascii.close_brace) ≡ true) → b < 128
-    four (inl e) = brace (either ((b == ascii.comma) || (b == ascii.open_bracket) || (b == ascii.close_bracket)) (b == ascii.open_brace) e)
-    four (inr e) = equal-ascii b ascii.close_brace (omega arith) e
+    four : ((((b == ascii ",") || (b == ascii "[") || (b == ascii "]")) || (b == ascii "{")) ≡ true) ⊎ ((b == ascii "}") ≡ true) → b < 128
+    four (inl e) = brace (either ((b == ascii ",") || (b == ascii "[") || (b == ascii "]")) (b == ascii "{") e)
+    four (inr e) = equal-ascii b (ascii "}") (omega arith) e
 
 pub ends-ascii : (p : Context) (blank : Bool) (c : Cell) (cs : List Cell) → ends_plain p blank (c ∷ cs) ≡ true → c.0 < 128
-ends-ascii p blank c cs h = last (either (is_value_colon p (c ∷ cs) || (begins ascii.hash (c ∷ cs) && blank)) (is_flow p && begins_flow_indicator (c ∷ cs)) h)
+ends-ascii p blank c cs h = last (either (is_value_colon p (c ∷ cs) || (begins (ascii "#") (c ∷ cs) && blank)) (is_flow p && begins_flow_indicator (c ∷ cs)) h)
   where
-    first : (is_value_colon p (c ∷ cs) ≡ true) ⊎ ((begins ascii.hash (c ∷ cs) && blank) ≡ true) → c.0 < 128
-    first (inl e) = equal-ascii c.0 ascii.colon (omega arith) (both-left (c.0 == ascii.colon) (ends_key p cs) e)
-    first (inr e) = equal-ascii c.0 ascii.hash (omega arith) (both-left (c.0 == ascii.hash) blank e)
+    first : (is_value_colon p (c ∷ cs) ≡ true) ⊎ ((begins (ascii "#") (c ∷ cs) && blank) ≡ true) → c.0 < 128
+    first (inl e) = equal-ascii c.0 (ascii ":") (omega arith) (both-left (c.0 == ascii ":") (ends_key p cs) e)
+    first (inr e) = equal-ascii c.0 (ascii "#") (omega arith) (both-left (c.0 == ascii "#") blank e)
 
-    last : ((is_value_colon p (c ∷ cs) || (begins ascii.hash (c ∷ cs) && blank)) ≡ true) ⊎ ((is_flow p && begins_flow_indicator (c ∷ cs)) ≡ true) → c.0 < 128
-    last (inl e) = first (either (is_value_colon p (c ∷ cs)) (begins ascii.hash (c ∷ cs) && blank) e)
+    last : ((is_value_colon p (c ∷ cs) || (begins (ascii "#") (c ∷ cs) && blank)) ≡ true) ⊎ ((is_flow p && begins_flow_indicator (c ∷ cs)) ≡ true) → c.0 < 128
+    last (inl e) = first (either (is_value_colon p (c ∷ cs)) (begins (ascii "#") (c ∷ cs) && blank) e)
     last (inr e) = indicator-ascii c.0 (both-right (is_flow p) (is_flow_indicator c.0) e)
 
 abbrev PlainKeeps : List Cell → List Cell × List Cell → Type 0

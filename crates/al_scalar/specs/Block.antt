@@ -2,7 +2,7 @@
 use Rattle.std.specs.Prelude.{ℕ, ◌+◌, ◌-◌, List, [], ◌∷◌, ◌++◌, drop, Bool, true, not, ◌&&◌, ◌||◌, ◌==◌, nat_le, if◌then◌else◌}
 use Rattle.std.specs.Prelude.{Option, Some, None, is_none, is_some, unwrap_or, Result, Ok}
 use Rattle.std.specs.Option.{option_map_or}
-use Rattle.al_base.specs.Ascii as ascii
+use Rattle.al_base.specs.Ascii.{ascii}
 use Rattle.al_base.specs.declared.codes.YamlCode.TheVariants as yaml
 use Rattle.al_scalar.specs.Line.{Cell, Line, place, after_blanks, indent, is_empty, is_all_blank, begins_blank, is_comment}
 use Rattle.al_scalar.specs.Taken.{Fault, Taken, ◌>>=◌, fault, feeds, folded_break}
@@ -14,10 +14,10 @@ abbrev pub is_digit : ℕ → Bool
 is_digit b = nat_le 49 b && nat_le b 57
 
 abbrev pub is_sign : ℕ → Bool
-is_sign b = (b == ascii.plus) || (b == ascii.dash)
+is_sign b = (b == ascii "+") || (b == ascii "-")
 
 abbrev pub chomping_of : ℕ → Chomping
-chomping_of b = if b == ascii.plus then Keep else Strip
+chomping_of b = if b == ascii "+" then Keep else Strip
 
 -- Behind the indicators only blanks, and a comment after a blank.
 abbrev pub header_end : Header → List Cell → Result Header Fault

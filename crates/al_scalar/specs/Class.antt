@@ -1,11 +1,11 @@
 -- Classes of plain scalars by their text: the core schema (10.3.2).
-use Rattle.std.specs.Prelude.{ℕ, List, [], ◌∷◌, Bool, true, false, ◌&&◌, ◌||◌, ◌==◌, if◌then◌else◌, codes}
+use Rattle.std.specs.Prelude.{ℕ, List, [], ◌∷◌, Bool, true, false, drop, ◌&&◌, ◌||◌, ◌==◌, if◌then◌else◌, codes}
 use Rattle.std.specs.Char.{is_ascii_digit, is_ascii_hexdigit}
 use Rattle.std.specs.Int.{is_in_range}
 use Rattle.std.specs.Str.{bytes_eq}
-use Rattle.std.specs.List.{list_all, list_any}
-use Rattle.al_base.specs.Ascii as ascii
-use Rattle.al_base.specs.FirstBytes.{first_is}
+use Rattle.std.specs.List.{list_all, list_any, prefix_len}
+use Rattle.al_base.specs.Ascii.{ascii}
+use Rattle.al_base.specs.FirstBytes.{begins_with, first_is}
 use Rattle.al_scalar.specs.declared.class.Base.{Base}
 use Rattle.al_scalar.specs.declared.class.Base.TheVariants as base
 use Rattle.al_scalar.specs.declared.styles.Class.{Class}
@@ -43,22 +43,17 @@ are_digits base (b ∷ bs) = list_all (is_digit_in base) (b ∷ bs)
 
 -- behind [0-9]*
 abbrev pub after_digits : List ℕ → List ℕ
-after_digits [] = []
-after_digits (b ∷ bs) =
-    let more = after_digits bs in
-    if is_digit_in base.Decimal b then more else b ∷ bs
+after_digits bs = drop (prefix_len is_ascii_digit bs) bs
 
 -- behind [-+]?
 abbrev pub without_sign : List ℕ → List ℕ
-without_sign [] = []
-without_sign (b ∷ bs) = if (b == ascii.plus) || (b == ascii.dash) then bs else b ∷ bs
+without_sign bs = if first_is (λ b. b == ascii "+" || b == ascii "-") bs then drop 1 bs else bs
 
 -- ---- numbers
 
 -- a zero, the letter of a base and digits
 abbrev pub is_prefixed : ℕ → Base → List ℕ → Bool
-is_prefixed letter base (a ∷ b ∷ bs) = (a == ascii.digit_zero) && (b == letter) && are_digits base bs
-is_prefixed letter base _ = false
+is_prefixed letter base bs = begins_with (ascii "0") bs && begins_with letter (drop 1 bs) && are_digits base (drop 2 bs)
 
 -- [-+]?[0-9]+, 0o[0-7]+ or 0x[0-9a-fA-F]+
 abbrev pub is_integer : List ℕ → Bool
@@ -67,17 +62,15 @@ is_integer bs = are_digits base.Decimal (without_sign bs) || is_prefixed 111 bas
 -- ([eE][-+]?[0-9]+)?
 abbrev pub is_exponent : List ℕ → Bool
 is_exponent [] = true
-is_exponent (b ∷ bs) = ((b == 101) || (b == ascii.capital_e)) && are_digits base.Decimal (without_sign bs)
+is_exponent (b ∷ bs) = ((b == 101) || (b == ascii "E")) && are_digits base.Decimal (without_sign bs)
 
 -- (\.[0-9]*)? and the exponent
 abbrev pub is_fraction : List ℕ → Bool
-is_fraction [] = true
-is_fraction (b ∷ bs) = if b == ascii.dot then is_exponent (after_digits bs) else is_exponent (b ∷ bs)
+is_fraction bs = is_exponent (if begins_with (ascii ".") bs then after_digits (drop 1 bs) else bs)
 
 -- \.[0-9]+ and the exponent
 abbrev pub is_pure_fraction : List ℕ → Bool
-is_pure_fraction [] = false
-is_pure_fraction (b ∷ bs) = (b == ascii.dot) && first_is is_ascii_digit bs && is_exponent (after_digits bs)
+is_pure_fraction bs = begins_with (ascii ".") bs && first_is is_ascii_digit (drop 1 bs) && is_exponent (after_digits (drop 1 bs))
 
 -- (\.[0-9]+|[0-9]+(\.[0-9]*)?)([eE][-+]?[0-9]+)?
 abbrev pub is_decimal : List ℕ → Bool

@@ -1,7 +1,7 @@
 -- The lines from an offset, and where they end.
 use Rattle.std.specs.Prelude.{◌≡◌, ◌⊎◌, ℕ, zero, suc, ◌-◌, ◌<◌, ◌≤◌, List, [], ◌∷◌, ◌++◌, length, slice_index, Option, Some}
 use Rattle.std.specs.Prelude.{None, ◌+◌, Bool, true, false}
-use Rattle.al_base.specs.Ascii as ascii
+use Rattle.al_base.specs.Ascii.{ascii}
 use Rattle.al_scalar.specs.Line.{Cell, Line, cut, is_all_blank}
 use Rattle.al_scalar.specs.Places.{first_end, lines_at, text_at}
 
@@ -45,7 +45,7 @@ broken_line at = record { text = []; end = at; last = false }
 -- blanks and breaks by their bytes
 
 abbrev pub IsBlankByte : ℕ → Type 0
-IsBlankByte b = (b ≡ ascii.space) ⊎ (b ≡ ascii.tab)
+IsBlankByte b = (b ≡ ascii " ") ⊎ (b ≡ ascii "\t")
 
 abbrev pub AreBlank : List Cell → Type 0
 AreBlank [] = Unit {0}
@@ -53,10 +53,10 @@ AreBlank (c ∷ cs) = IsBlankByte c.0 × AreBlank cs
 
 abbrev pub AreSpaces : List Cell → Type 0
 AreSpaces [] = Unit {0}
-AreSpaces (c ∷ cs) = (c.0 ≡ ascii.space) × AreSpaces cs
+AreSpaces (c ∷ cs) = (c.0 ≡ ascii " ") × AreSpaces cs
 
 abbrev pub IsBreakByte : ℕ → Type 0
-IsBreakByte b = (b ≡ ascii.line_feed) ⊎ (b ≡ ascii.carriage_return)
+IsBreakByte b = (b ≡ ascii "\n") ⊎ (b ≡ ascii "\r")
 
 -- the file's end, or a break
 abbrev pub IsLineEnd : List ℕ → ℕ → Type 0

@@ -1,6 +1,6 @@
 -- Plain scalars (7.3.3).
 use Rattle.std.specs.Prelude.{ℕ, List, [], ◌∷◌, ◌++◌, Bool, true, false, not, ◌&&◌, ◌||◌, ◌==◌, nat_le, if◌then◌else◌, Result, Ok}
-use Rattle.al_base.specs.Ascii as ascii
+use Rattle.al_base.specs.Ascii.{ascii}
 use Rattle.al_base.specs.declared.codes.YamlCode.TheVariants as yaml
 use Rattle.al_scalar.specs.Line.{Cell, Line, place, cut, is_blank, after_blanks, indent, is_empty}
 use Rattle.al_scalar.specs.Line.{begins, is_blank_or_end, is_comment, is_document_marker}
@@ -18,8 +18,8 @@ is_flow (block within) = false
 
 -- , [ ] { } (5.3, c-flow-indicator)
 abbrev pub is_flow_indicator : ℕ → Bool
-is_flow_indicator b = (b == ascii.comma) || (b == ascii.open_bracket) || (b == ascii.close_bracket) || (b == ascii.open_brace)
-    || (b == ascii.close_brace)
+is_flow_indicator b = (b == ascii ",") || (b == ascii "[") || (b == ascii "]") || (b == ascii "{")
+    || (b == ascii "}")
 
 abbrev pub begins_flow_indicator : List Cell → Bool
 begins_flow_indicator [] = false
@@ -32,11 +32,11 @@ ends_key p cs = is_blank_or_end cs || (is_flow p && begins_flow_indicator cs)
 -- a colon that parts a key from its value
 abbrev pub is_value_colon : Context → List Cell → Bool
 is_value_colon p [] = false
-is_value_colon p (c ∷ cs) = (c.0 == ascii.colon) && ends_key p cs
+is_value_colon p (c ∷ cs) = (c.0 == ascii ":") && ends_key p cs
 
 -- The scalar ends before these cells; after_blank says that a blank or a break stands before them.
 abbrev pub ends_plain : Context → Bool → List Cell → Bool
-ends_plain p after_blank cs = is_empty cs || is_value_colon p cs || (begins ascii.hash cs && after_blank)
+ends_plain p after_blank cs = is_empty cs || is_value_colon p cs || (begins (ascii "#") cs && after_blank)
     || (is_flow p && begins_flow_indicator cs)
 
 -- A part of a line: the cells of the scalar without trailing blanks, and the cells behind them.

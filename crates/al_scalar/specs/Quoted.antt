@@ -3,7 +3,7 @@ use Rattle.std.specs.Prelude.{ℕ, zero, suc, ◌+◌, ◌*◌, ◌-◌, List, [
 use Rattle.std.specs.Prelude.{◌==◌, nat_le, nat_lt, if◌then◌else◌, Option, Some, None, Result, Ok, encode_utf8}
 use Rattle.std.specs.Char.{digit_value}
 use Rattle.std.specs.Map.{lookup}
-use Rattle.al_base.specs.Ascii as ascii
+use Rattle.al_base.specs.Ascii.{ascii}
 use Rattle.al_base.specs.declared.codes.YamlCode.TheVariants as yaml
 use Rattle.al_scalar.specs.Line.{Cell, Line, cut, is_blank, after_blanks, is_empty}
 use Rattle.al_scalar.specs.Taken.{Fault, Taken, ◌>>=◌, before, fault, folding_space}
@@ -39,10 +39,10 @@ closed_by c cs = record { text = []; stop = closed (c.1 + 1) cs }
 -- Single quotes: two quotes are a quote.
 abbrev pub single_part : List Cell → QuotedLine
 single_part [] = record { text = []; stop = broken }
-single_part (c ∷ []) = if c.0 == ascii.single_quote then closed_by c [] else with_own c (single_part [])
+single_part (c ∷ []) = if c.0 == ascii "'" then closed_by c [] else with_own c (single_part [])
 single_part (c ∷ d ∷ cs) =
-    if not (c.0 == ascii.single_quote) then with_own c (single_part (d ∷ cs))
-    else if d.0 == ascii.single_quote then with_cells (c ∷ []) (single_part cs)
+    if not (c.0 == ascii "'") then with_own c (single_part (d ∷ cs))
+    else if d.0 == ascii "'" then with_cells (c ∷ []) (single_part cs)
     else closed_by c (d ∷ cs)
 
 -- The one-letter escapes of 5.7.
@@ -79,8 +79,8 @@ abbrev mutual
   pub double_part : List Cell → Result QuotedLine Fault
   double_part [] = Ok (record { text = []; stop = broken })
   double_part (c ∷ cs) =
-      if c.0 == ascii.double_quote then Ok (closed_by c cs)
-      else if c.0 == ascii.backslash then escape c.1 cs
+      if c.0 == ascii "\"" then Ok (closed_by c cs)
+      else if c.0 == ascii "\\" then escape c.1 cs
       else own_before c (double_part cs)
 
   -- behind the backslash of an escape, which stands at an offset
@@ -130,7 +130,7 @@ quoted_lines part quote break [] = fault yaml.UnclosedQuote quote
 quoted_lines part quote break (l ∷ ls) =
     let below = (λ (b : Option ℕ). quoted_lines part quote b ls) in
     part (after_blanks l.text) >>= (λ p.
-    if is_empty_line p l then before ((ascii.line_feed, l.end) ∷ []) (below None)
+    if is_empty_line p l then before ((ascii "\n", l.end) ∷ []) (below None)
     else line_given quote (folding_space break) p l ls below)
 
 -- a quoted scalar, from behind its opening quote

@@ -1,6 +1,6 @@
 -- One scalar: its style, its class and its decoded bytes with their offsets (7.3, 8.1, 7.2 for the empty node).
 use Rattle.std.specs.Prelude.{ℕ, List, [], ◌∷◌, map, drop, true, false, if◌then◌else◌, Result, Ok, slice_index_or}
-use Rattle.al_base.specs.Ascii as ascii
+use Rattle.al_base.specs.Ascii.{ascii}
 use Rattle.al_base.specs.declared.codes.YamlCode.TheVariants as yaml
 use Rattle.al_scalar.specs.Line.{Cell, Line, start, begins, cut}
 use Rattle.al_scalar.specs.Taken.{Fault, Taken, ◌>>=◌, fault}
@@ -45,11 +45,11 @@ read_as style at taken = taken >>= (λ t. Ok (record {
 -- The first character says the style (7.3.1, 7.3.2, 8.1); block scalars stand in no flow collection.
 abbrev pub style_at : Context → List Cell → Style
 style_at p text =
-    if begins ascii.single_quote text then style.SingleQuoted
-    else (if begins ascii.double_quote text then style.DoubleQuoted
+    if begins (ascii "'") text then style.SingleQuoted
+    else (if begins (ascii "\"") text then style.DoubleQuoted
     else (if is_flow p then style.Plain
-    else (if begins ascii.bar text then style.Literal
-    else (if begins ascii.greater text then style.Folded else style.Plain))))
+    else (if begins (ascii "|") text then style.Literal
+    else (if begins (ascii ">") text then style.Folded else style.Plain))))
 
 abbrev pub within_of : Context → ℕ
 within_of flow = 0

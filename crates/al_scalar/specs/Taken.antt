@@ -1,7 +1,7 @@
 -- What reading a scalar takes from the lines that are left.
 use Rattle.std.specs.Prelude.{ℕ, List, [], ◌∷◌, ◌++◌, map, Option, Some, Result, Ok, Err}
 use Rattle.std.specs.Option.{option_map, option_to_list}
-use Rattle.al_base.specs.Ascii as ascii
+use Rattle.al_base.specs.Ascii.{ascii}
 use Rattle.al_scalar.specs.Line.{Cell, Line}
 use Rattle.al_base.specs.declared.codes.YamlCode.{YamlCode}
 
@@ -34,10 +34,10 @@ fault code at = Err (record { code = code; at = at })
 
 -- A break is folded to a space, unless empty lines follow it, which give an LF each (6.5).
 abbrev pub folding_space : Option ℕ → List Cell
-folding_space at = option_to_list (option_map (λ offset. (ascii.space, offset)) at)
+folding_space at = option_to_list (option_map (λ offset. (ascii " ", offset)) at)
 
 abbrev pub feeds : List ℕ → List Cell
-feeds ats = map (λ at. (ascii.line_feed, at)) ats
+feeds ats = map (λ at. (ascii "\n", at)) ats
 
 -- a break with the breaks of the empty lines behind it, folded
 abbrev pub folded_break : ℕ → List ℕ → List Cell

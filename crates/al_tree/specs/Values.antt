@@ -28,11 +28,8 @@ abbrev pub items_in : Node → List Node
 items_in n = option_map_or (λ ns. ns) (sequence_in n) []
 
 -- the node of a key where it first stands
-abbrev pub key_in : List ℕ → List (Node × Node) → Option Node
-key_in k es = option_map (λ e. e.0) (find (is_key k) es)
-
 abbrev pub key_at : List ℕ → Node → Option Node
-key_at k n = option_and_then (key_in k) (mapping_in n)
+key_at k n = option_and_then (λ es. option_map (λ e. e.0) (find (is_key k) es)) (mapping_in n)
 
 -- the value of the first entry with a key
 abbrev pub value_at : List ℕ → Node → Option Node

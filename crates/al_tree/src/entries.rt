@@ -1,7 +1,6 @@
 //! The first entry of a mapping with a key.
 
 ghost use Rattle.al_tree.specs.Faults.{is_key, value_in};
-ghost use Rattle.al_tree.specs.Values.{key_in};
 ghost use Rattle.al_yaml_tree.specs.Access.{scalar_in};
 ghost use Rattle.al_yaml_tree.specs.View.{entry_view, view};
 ghost use Rattle.std.specs.Option.{option_copied};
@@ -42,7 +41,8 @@ fn entry_among<'a>(entries: &'a [Entry], key: &str) -> Option<&'a Entry>
 
 /// The node of a key where it first stands.
 pub(crate) fn key_among<'a>(entries: &'a [Entry], key: &str) -> Option<&'a Node>
-    ensures { option_map (λ n. view n.now) result ≡ key_in key.now (map entry_view entries.now) }
+    ensures { option_map (λ n. view n.now) result
+        ≡ option_map (λ e. e.0) (find (is_key key.now) (map entry_view entries.now)) }
 {
     Some(key_node(entry_among(entries, key)?))
 }

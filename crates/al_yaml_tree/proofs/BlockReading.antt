@@ -2,7 +2,7 @@
 use Rattle.std.proofs.Common.{◌≡◌, ℕ, zero, suc, ◌+◌, ◌≤◌, List, [], ◌∷◌, refl, arith, Bool, true, not, ◌&&◌, ◌||◌, ◌==◌, nat_lt}
 use Rattle.std.proofs.Common.{if◌then◌else◌, Option, Some, None}
 use Rattle.al_base.specs.declared.codes.YamlCode.TheVariants as yaml
-use Rattle.al_base.specs.Ascii as ascii
+use Rattle.al_base.specs.Ascii.{ascii}
 use Rattle.al_base.specs.declared.faults.Span.{Span}
 use Rattle.al_scalar.specs.Line.{Cell, Line, start, begins, is_blank, blanks_dropped}
 use Rattle.al_scalar.specs.Offsets.{AreClimbing}
@@ -60,7 +60,7 @@ module _ (f : File) where
   tab_among-in low end [] a h = tt
   tab_among-in low end (c ∷ cs) a h =
       let b = climbing-order (c.1 + 1) end cs h.1 in
-      choose (IsIn f) (c.0 == ascii.tab) (λ _. omega (arith, a, b))
+      choose (IsIn f) (c.0 == ascii "\t") (λ _. omega (arith, a, b))
       (λ _. choose (IsIn f) (is_blank c) (λ _. tab_among-in (c.1 + 1) end cs a h.1) (λ _. tt))
 
   spot_behind-in : (text : List Cell) (spot : Spot) → IsIn f (tab_among text) → TabIn f spot → TabIn f (spot_behind text spot)
@@ -120,7 +120,7 @@ module _ {f : File} where
         let v = left-name e h in
         reads-by (has_no_name ls) (λ _. reads-fault a)
         (λ _. reads-by (not (is_behind_key slot.spot) && is_on_key ls) (λ _. reads-fault a)
-        (λ _. reads-by (begins ascii.asterisk (first_text ls))
+        (λ _. reads-by (begins (ascii "*") (first_text ls))
         (λ _. reads-then (alias-reads (anchor_name ls) (start ls) depth a)
         (λ m k. reads-then {g = λ (left : List Line). gives (part m (start rest) left)}
         (reads-given (AreLeft f (start rest)) (line_ended rest) (line_ended-in (start rest) rest (left-start v)))

@@ -3,7 +3,7 @@ use Rattle.std.proofs.Common.{◌≡◌, ◌⊎◌, inl, inr, ℕ, zero, suc, �
 use Rattle.std.proofs.Common.{Option, Some, None}
 use Rattle.al_base.specs.declared.codes.YamlCode.TheVariants as yaml
 use Rattle.al_base.specs.declared.faults.Span.{Span}
-use Rattle.al_base.specs.Ascii as ascii
+use Rattle.al_base.specs.Ascii.{ascii}
 use Rattle.al_scalar.specs.Line.{Line, start, after_blanks, begins, blanks_dropped}
 use Rattle.al_scalar.specs.Places.{first_text}
 use Rattle.al_scalar.specs.Plain.{flow, is_value_colon}
@@ -49,11 +49,11 @@ FlowKeyIn f low key = IsRead f low key.scalar × OptionLeft f key.scalar.span.en
 key_colon-behind : (after_quote : Bool) (ls : List Line) → is_key_colon after_quote ls ≡ true → AreUtf8 ls
     → AreUtf8 (behind 1 (blanks_dropped ls))
 key_colon-behind after_quote ls e u =
-    by-colon (either (after_quote && begins ascii.colon (first_text ls)) (is_value_colon flow (after_blanks (first_text ls))) e)
+    by-colon (either (after_quote && begins (ascii ":") (first_text ls)) (is_value_colon flow (after_blanks (first_text ls))) e)
   where
-    by-colon : ((after_quote && begins ascii.colon (first_text ls)) ≡ true) ⊎ (is_value_colon flow (after_blanks (first_text ls)) ≡ true)
+    by-colon : ((after_quote && begins (ascii ":") (first_text ls)) ≡ true) ⊎ (is_value_colon flow (after_blanks (first_text ls)) ≡ true)
         → AreUtf8 (behind 1 (blanks_dropped ls))
-    by-colon (inl h) = first_colon-utf8 ls (both-right after_quote (begins ascii.colon (first_text ls)) h) u
+    by-colon (inl h) = first_colon-utf8 ls (both-right after_quote (begins (ascii ":") (first_text ls)) h) u
     by-colon (inr h) = colon-utf8 flow ls h u
 
 late-in : (f : File) (low : ℕ) (ls : List Line) (r : ScalarRead) (o : Option (List Line)) → start ls ≤ f.size → OptionLeft f low o
@@ -84,8 +84,8 @@ module _ {f : File} where
         let ls = gap false left in
         let k : AreLeft f low ls = left-gap h in
         reads-by (is_file_end ls) (λ _. reads-fault o)
-        (λ _. reads-by (begins ascii.comma (first_text ls))
-        (λ e. let b = closed-in ascii.comma low ls (omega arith) e k in m (gap false (behind 1 ls)) (left-gap (left-lower b.0 b.1)))
+        (λ _. reads-by (begins (ascii ",") (first_text ls))
+        (λ e. let b = closed-in (ascii ",") low ls (omega arith) e k in m (gap false (behind 1 ls)) (left-gap (left-lower b.0 b.1)))
         (λ _. reads-by (begins close (first_text ls))
         (λ e. reads-value (closed-part (start ls + 1) (behind 1 ls) (closed-in close low ls a e k))) (λ _. reads-fault (starts-in k))))
 
@@ -125,7 +125,7 @@ module _ {f : File} where
         → Reads f (IsNode f low) (flow_value node slot depth ls)
     flow_value-in slot depth low ls s h =
         reads-by (is_file_end ls) (λ _. reads-fault s.0)
-        (λ _. reads-by (begins ascii.comma (first_text ls) || begins ascii.close_brace (first_text ls))
+        (λ _. reads-by (begins (ascii ",") (first_text ls) || begins (ascii "}") (first_text ls))
         (λ _. by-empty slot.empty s.1) (λ _. n slot depth low ls s h))
       where
         by-empty : (o : Option ℕ) → EmptyAt low o
@@ -156,13 +156,13 @@ module _ {f : File} where
     items-in zero opening depth from low done ls o d h = reads-fault (omega arith)
     items-in (suc turns) opening depth from low done ls o d h =
         reads-by (is_file_end ls) (λ _. reads-fault o)
-        (λ _. reads-by (begins ascii.close_bracket (first_text ls))
+        (λ _. reads-by (begins (ascii "]") (first_text ls))
         (λ e. reads-value (closed-part items-grow from low done d (start ls + 1) (behind 1 ls)
-        (closed-in ascii.close_bracket low ls (omega arith) e h)))
+        (closed-in (ascii "]") low ls (omega arith) e h)))
         (λ _. reads-then (n (record { opening = opening; empty = None }) depth low ls (o, tt) h)
         (λ x k. let i = item-done d k in
         rest-reads items-grow from x.end (with_item done x.value) i
-        (λ left. flow_items node turns opening depth (with_item done x.value) left) opening ascii.close_bracket x.left o (omega arith)
+        (λ left. flow_items node turns opening depth (with_item done x.value) left) opening (ascii "]") x.left o (omega arith)
         (λ left v. items-in turns opening depth from x.end (with_item done x.value) left o i v) k.left)))
 
     module _ (collection : CollectionReader) (c : CollectionIn f collection) where
@@ -172,15 +172,15 @@ module _ {f : File} where
       entries-in zero opening depth from low done ls o d h = reads-fault (omega arith)
       entries-in (suc turns) opening depth from low done ls o d h =
           reads-by (is_file_end ls) (λ _. reads-fault o)
-          (λ _. reads-by (begins ascii.close_brace (first_text ls))
+          (λ _. reads-by (begins (ascii "}") (first_text ls))
           (λ e. reads-value (closed-part entries-grow from low done d (start ls + 1) (behind 1 ls)
-          (closed-in ascii.close_brace low ls (omega arith) e h)))
+          (closed-in (ascii "}") low ls (omega arith) e h)))
           (λ _. reads-then (flow_key-in collection c depth low ls h)
           (λ key k. reads-then (entry_value-in opening depth low key o k)
           (λ x v. let i = entry-done d k.0 v in
           rest-reads entries-grow from x.end (with_entry done (scalar_node key.scalar) x.value) i
           (λ left. flow_entries node collection turns opening depth (with_entry done (scalar_node key.scalar) x.value) left)
-          opening ascii.close_brace x.left o (omega arith)
+          opening (ascii "}") x.left o (omega arith)
           (λ left w. entries-in turns opening depth from x.end (with_entry done (scalar_node key.scalar) x.value) left o i w) v.left))))
 
   -- ---- nodes and collections
@@ -204,7 +204,7 @@ module _ {f : File} where
         let rest = behind_name ls in
         let v = left-name e h in
         reads-by (has_no_name ls) (λ _. reads-fault a)
-        (λ _. reads-by (begins ascii.asterisk (first_text ls))
+        (λ _. reads-by (begins (ascii "*") (first_text ls))
         (λ _. reads-then {g = λ (n : Node). gives (part n (start rest) rest)} (alias-reads (anchor_name ls) (start ls) depth a)
         (λ n k. reads-value (whole-part (record { ordered = starts-behind v; lies = k low (start rest) }) (left-start v))))
         (λ _. reads-then {g = λ (x : Part Node). gives_with_anchor (record { name = anchor_name ls; at = start ls; node = x.value }) x}
@@ -227,7 +227,7 @@ module _ {f : File} where
       let v = left-gap (left-bracket e (left-start h)) in
       let inside = gap false (behind 1 ls) in
       reads-start a
-      (reads-by (begins ascii.open_bracket (first_text ls))
+      (reads-by (begins (ascii "[") (first_text ls))
       (λ _. collected (starts-behind h) (items-in (flow_node_over k) n (suc bound) at (depth + 1) at at no_nodes inside a (no-items at a) v))
       (λ _. collected (starts-behind h)
       (entries-in (flow_node_over k) n k c (suc bound) at (depth + 1) at at no_entries inside a (no-entries at a) v)))

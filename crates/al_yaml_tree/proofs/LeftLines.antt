@@ -3,7 +3,7 @@ use Rattle.std.proofs.Common.{◌≡◌, ℕ, ◌+◌, ◌<◌, ◌≤◌, List,
 use Rattle.std.proofs.Common.{Option, Some, None, Result, Ok, Err, IfOk}
 use Rattle.std.proofs.lemmas.Str.{IsUtf8-nil}
 use Rattle.std.specs.Prelude.{IsUtf8}
-use Rattle.al_base.specs.Ascii as ascii
+use Rattle.al_base.specs.Ascii.{ascii}
 use Rattle.al_scalar.specs.Block.{at_end}
 use Rattle.al_scalar.specs.Line.{Line, start, begins, is_marker, is_document_marker, blanks_dropped, spaces_dropped}
 use Rattle.al_scalar.specs.Places.{first_text}
@@ -129,7 +129,7 @@ module _ {f : File} where
   content_line-in : (low : ℕ) (ls : List Line) → AreLeft f low ls → Answers f.size (NextLeft f low) (content_line ls)
   content_line-in low ls h =
       choose (Answers f.size (NextLeft f low)) (is_document_marker (first_text ls)) (λ _. tt)
-      (λ _. choose (Answers f.size (NextLeft f low)) (begins ascii.tab (first_text (spaces_dropped ls)))
+      (λ _. choose (Answers f.size (NextLeft f low)) (begins (ascii "\t") (first_text (spaces_dropped ls)))
       (λ _. starts-in (left-spaces h)) (λ _. left-spaces h))
 
   left-text_line : {low : ℕ} (ls : List Line) → AreLeft f low ls → AreLeft f low (text_line ls)
@@ -151,9 +151,9 @@ module _ {f : File} where
 
   first_line-in : (low : ℕ) (ls : List Line) → AreLeft f low ls → Answers f.size (AreLeft f low) (first_line ls)
   first_line-in low ls h =
-      choose (Answers f.size (AreLeft f low)) (begins ascii.percent (first_text ls)) (λ _. starts-in h)
-      (λ _. choose (Answers f.size (AreLeft f low)) (is_marker ascii.dash (first_text ls))
-      (λ e. line_ended-in low (behind 3 ls) (left-behind 3 (marker-utf8 ascii.dash ls (omega arith) e) h)) (λ _. h))
+      choose (Answers f.size (AreLeft f low)) (begins (ascii "%") (first_text ls)) (λ _. starts-in h)
+      (λ _. choose (Answers f.size (AreLeft f low)) (is_marker (ascii "-") (first_text ls))
+      (λ e. line_ended-in low (behind 3 ls) (left-behind 3 (marker-utf8 (ascii "-") ls (omega arith) e) h)) (λ _. h))
 
   pub document_start-in : (low : ℕ) (ls : List Line) → AreLeft f low ls → Answers f.size (AreLeft f low) (document_start ls)
   document_start-in low ls h = first_line-in low (text_line ls) (left-text_line ls h)
@@ -164,10 +164,10 @@ module _ {f : File} where
 
   last_line-in : (low : ℕ) (ls : List Line) → AreLeft f low ls → Answers f.size Anything (last_line ls)
   last_line-in low ls h =
-      choose (Answers f.size Anything) (is_marker ascii.dash (first_text ls)) (λ _. starts-in h)
-      (λ _. choose (Answers f.size Anything) (is_marker ascii.dot (first_text ls))
-      (λ e. ended_behind-in low (behind 3 ls) (left-behind 3 (marker-utf8 ascii.dot ls (omega arith) e) h))
-      (λ _. choose (Answers f.size Anything) (begins ascii.tab (first_text (spaces_dropped ls)))
+      choose (Answers f.size Anything) (is_marker (ascii "-") (first_text ls)) (λ _. starts-in h)
+      (λ _. choose (Answers f.size Anything) (is_marker (ascii ".") (first_text ls))
+      (λ e. ended_behind-in low (behind 3 ls) (left-behind 3 (marker-utf8 (ascii ".") ls (omega arith) e) h))
+      (λ _. choose (Answers f.size Anything) (begins (ascii "\t") (first_text (spaces_dropped ls)))
       (λ _. starts-in (left-spaces h)) (λ _. starts-in (left-spaces h))))
 
   pub document_end-in : (low : ℕ) (ls : List Line) → AreLeft f low ls → Answers f.size Anything (document_end ls)

@@ -1,7 +1,7 @@
 -- The lines left behind a quoted scalar stand behind an offset where those did that it was read from.
 use Rattle.std.proofs.Common.{ℕ, zero, suc, ◌*◌, ◌-◌, ◌+◌, ◌≤◌, List, [], ◌∷◌, ◌++◌, arith, Bool, not}
 use Rattle.std.proofs.Common.{if◌then◌else◌, ◌&&◌, ◌==◌, Option, Some, None, Result, Ok, Err}
-use Rattle.al_base.specs.Ascii as ascii
+use Rattle.al_base.specs.Ascii.{ascii}
 use Rattle.al_scalar.specs.Line.{Cell, Line, is_blank, after_blanks, is_empty}
 use Rattle.al_scalar.specs.Offsets.{AreClimbing}
 use Rattle.al_scalar.specs.Quoted.{QuotedLine, QuotedEnd, closed, broken, escaped, cut_short, is_broken, with_own}
@@ -36,11 +36,11 @@ own-stops low end c p h = choose (PartStops low end) (is_blank c && is_empty p.t
 single-stops : (low end : ℕ) (cs : List Cell) → AreClimbing low end cs → PartStops low end (single_part cs)
 single-stops low end [] h = tt
 single-stops low end (c ∷ []) h =
-    choose (PartStops low end) (c.0 == ascii.single_quote) (λ _. climbing-behind low end c [] h) (λ _. own-stops low end c (single_part []) tt)
+    choose (PartStops low end) (c.0 == ascii "'") (λ _. climbing-behind low end c [] h) (λ _. own-stops low end c (single_part []) tt)
 single-stops low end (c ∷ d ∷ cs) h =
     let k = climbing-behind low end c (d ∷ cs) h in
-    choose (PartStops low end) (not (c.0 == ascii.single_quote)) (λ _. own-stops low end c (single_part (d ∷ cs)) (single-stops low end (d ∷ cs) k))
-    (λ _. choose (PartStops low end) (d.0 == ascii.single_quote) (λ _. single-stops low end cs (climbing-behind low end d cs k)) (λ _. k))
+    choose (PartStops low end) (not (c.0 == ascii "'")) (λ _. own-stops low end c (single_part (d ∷ cs)) (single-stops low end (d ∷ cs) k))
+    (λ _. choose (PartStops low end) (d.0 == ascii "'") (λ _. single-stops low end cs (climbing-behind low end d cs k)) (λ _. k))
 
 part-stops : (low end : ℕ) (ws : List Cell) (r : Result QuotedLine Fault) → GivesStop low end r → GivesStop low end (part_before ws r)
 part-stops low end ws (Ok p) h = h
@@ -62,8 +62,8 @@ mutual
       let k = climbing-behind low end c cs h in
       let a = climbing-order (c.1 + 1) end cs h.1 in
       let at : c.1 ≤ end = omega (arith, a) in
-      choose (GivesStop low end) (c.0 == ascii.double_quote) (λ _. k)
-      (λ _. choose (GivesStop low end) (c.0 == ascii.backslash) (λ _. escape-stops low end c.1 cs at k)
+      choose (GivesStop low end) (c.0 == ascii "\"") (λ _. k)
+      (λ _. choose (GivesStop low end) (c.0 == ascii "\\") (λ _. escape-stops low end c.1 cs at k)
       (λ _. own-gives low end c (double_part cs) (double-stops low end cs k)))
 
   escape-stops : (low end at : ℕ) (cs : List Cell) → at ≤ end → AreClimbing low end cs → GivesStop low end (escape at cs)
@@ -104,11 +104,11 @@ module _ (size quote : ℕ) (q : quote ≤ size) where
 
   line-left : (low : ℕ) (break : Option ℕ) (l : Line) (ls : List Line) (below : Option ℕ → Result Taken Fault) → Stand size low (l ∷ ls)
       → ((b : Option ℕ) → Leaves size low (below b)) → (r : Result QuotedLine Fault) → GivesStop low l.end r
-      → Leaves size low (r >>= (λ p. if is_empty_line p l then before ((ascii.line_feed, l.end) ∷ []) (below None) else line_given quote
+      → Leaves size low (r >>= (λ p. if is_empty_line p l then before ((ascii "\n", l.end) ∷ []) (below None) else line_given quote
       (folding_space break) p l ls below))
   line-left low break l ls below h more (Err e) k = let a = h.1.0 in omega (arith, k, a)
   line-left low break l ls below h more (Ok p) k =
-      choose (Leaves size low) (is_empty_line p l) (λ _. left-before size low ((ascii.line_feed, l.end) ∷ []) (below None) (more None))
+      choose (Leaves size low) (is_empty_line p l) (λ _. left-before size low ((ascii "\n", l.end) ∷ []) (below None) (more None))
       (λ _. given-left low (folding_space break) p l ls below h k more)
 
   lines-left : (part : List Cell → Result QuotedLine Fault) → PartReader part

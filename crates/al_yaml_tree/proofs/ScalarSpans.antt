@@ -1,6 +1,6 @@
 -- A scalar lies between the offset behind which the lines stand and the lines left behind it; a fault of it lies in the file.
 use Rattle.std.proofs.Common.{◌≡◌, ◌⊎◌, inl, inr, ℕ, ◌≤◌, List, [], ◌∷◌, refl, ap, arith, Bool, true, false, ◌||◌, cond, Result, Ok, Err}
-use Rattle.al_base.specs.Ascii as ascii
+use Rattle.al_base.specs.Ascii.{ascii}
 use Rattle.al_scalar.specs.Line.{Line, place, start, begins}
 use Rattle.al_scalar.specs.Offsets.{is_block}
 use Rattle.al_scalar.specs.Plain.{Context, is_flow}
@@ -54,14 +54,14 @@ module _ (size : ℕ) where
   block-any : (p : Context) (is_literal : Bool) (low : ℕ) (l : Line) (ls : List Line) → Stand size low (l ∷ ls)
       → is_block (style_at p l.text) ≡ true
       → TakenIn size (place l.text l.end) (block_scalar is_literal (within_of p) (l ∷ ls))
-  block-any p is_literal low l ls h e = by-indicator (either (begins ascii.bar l.text) (begins ascii.greater l.text)
-      (begins-block (begins ascii.single_quote l.text) (begins ascii.double_quote l.text) (is_flow p) (begins ascii.bar l.text)
-      (begins ascii.greater l.text) e))
+  block-any p is_literal low l ls h e = by-indicator (either (begins (ascii "|") l.text) (begins (ascii ">") l.text)
+      (begins-block (begins (ascii "'") l.text) (begins (ascii "\"") l.text) (is_flow p) (begins (ascii "|") l.text)
+      (begins (ascii ">") l.text) e))
     where
-      by-indicator : (begins ascii.bar l.text ≡ true) ⊎ (begins ascii.greater l.text ≡ true)
+      by-indicator : (begins (ascii "|") l.text ≡ true) ⊎ (begins (ascii ">") l.text ≡ true)
           → TakenIn size (place l.text l.end) (block_scalar is_literal (within_of p) (l ∷ ls))
-      by-indicator (inl f) = block-taken size is_literal (within_of p) low ascii.bar l ls f h
-      by-indicator (inr f) = block-taken size is_literal (within_of p) low ascii.greater l ls f h
+      by-indicator (inl f) = block-taken size is_literal (within_of p) low (ascii "|") l ls f h
+      by-indicator (inr f) = block-taken size is_literal (within_of p) low (ascii ">") l ls f h
 
   taken-in : (p : Context) (style : Style) (low : ℕ) (l : Line) (ls : List Line) → Stand size low (l ∷ ls) → style_at p l.text ≡ style
       → TakenIn size (start (l ∷ ls)) (taken_as p style (l ∷ ls))

@@ -1,6 +1,6 @@
 -- Lines that stand behind an offset, in a file of so many bytes: what is left of them stands so too.
 use Rattle.std.proofs.Common.{◌≡◌, ℕ, ◌+◌, ◌≤◌, List, [], ◌∷◌, drop, refl, arith, Bool, true, false, ◌==◌, length}
-use Rattle.al_base.specs.Ascii as ascii
+use Rattle.al_base.specs.Ascii.{ascii}
 use Rattle.al_scalar.specs.Block.{at_end}
 use Rattle.al_scalar.specs.Line.{Cell, Line, lines, place, start, cut, after_blanks, after_spaces, begins}
 use Rattle.al_scalar.specs.Line.{blanks_dropped, spaces_dropped, is_break, with_cell, with_return}
@@ -21,7 +21,7 @@ climbing-higher low end end' (c ∷ cs) a h = (h.0, climbing-higher (c.1 + 1) en
 pub climbing-spaces : (low end : ℕ) (cs : List Cell) → AreClimbing low end cs → AreClimbing low end (after_spaces cs)
 climbing-spaces low end [] h = h
 climbing-spaces low end (c ∷ cs) h =
-    choose (AreClimbing low end) (c.0 == ascii.space) (λ _. climbing-spaces low end cs (climbing-behind low end c cs h)) (λ _. h)
+    choose (AreClimbing low end) (c.0 == ascii " ") (λ _. climbing-spaces low end cs (climbing-behind low end c cs h)) (λ _. h)
 
 -- where they begin, and where the first one of them stands
 pub place-end : (low end : ℕ) (cs : List Cell) → AreClimbing low end cs → place cs end ≤ end

@@ -2,7 +2,7 @@
 use Rattle.std.proofs.Common.{◌≡◌, ◌⊎◌, inl, inr, ℕ, suc, ◌+◌, ◌<◌, List, [], ◌∷◌, ◌++◌, length, drop, sym, subst, arith, append_assoc, Bool, true, ◌&&◌, ◌||◌, ◌==◌}
 use Rattle.std.proofs.lemmas.Str.{IsUtf8-nil}
 use Rattle.std.specs.Prelude.{IsUtf8}
-use Rattle.al_base.specs.Ascii as ascii
+use Rattle.al_base.specs.Ascii.{ascii}
 use Rattle.al_scalar.specs.Line.{Cell, Line, is_blank, after_blanks, after_spaces, begins, is_blank_or_end, is_marker, blanks_dropped, spaces_dropped}
 use Rattle.al_scalar.specs.Places.{first_text}
 use Rattle.al_scalar.specs.Plain.{Context, is_flow_indicator, ends_key, is_value_colon}
@@ -23,19 +23,19 @@ pub first-utf8 : (q : ℕ) (ls : List Line) → q < 128 → begins q (first_text
 first-utf8 q [] a e u = tt
 first-utf8 q (l ∷ ls) a e u = behind-text q l ls a e u
 
-dash-begins : (cs : List Cell) → is_dash cs ≡ true → begins ascii.dash cs ≡ true
+dash-begins : (cs : List Cell) → is_dash cs ≡ true → begins (ascii "-") cs ≡ true
 dash-begins [] e = e
-dash-begins (c ∷ cs) e = both-left (c.0 == ascii.dash) (is_blank_or_end cs) e
+dash-begins (c ∷ cs) e = both-left (c.0 == ascii "-") (is_blank_or_end cs) e
 
 pub dash-utf8 : (ls : List Line) → is_dash (first_text ls) ≡ true → AreUtf8 ls → AreUtf8 (behind 1 ls)
-dash-utf8 ls e u = first-utf8 ascii.dash ls (omega arith) (dash-begins (first_text ls) e) u
+dash-utf8 ls e u = first-utf8 (ascii "-") ls (omega arith) (dash-begins (first_text ls) e) u
 
 pub bracket-utf8 : (ls : List Line) → is_flow_start (first_text ls) ≡ true → AreUtf8 ls → AreUtf8 (behind 1 ls)
-bracket-utf8 ls e u = by-bracket (either (begins ascii.open_bracket (first_text ls)) (begins ascii.open_brace (first_text ls)) e)
+bracket-utf8 ls e u = by-bracket (either (begins (ascii "[") (first_text ls)) (begins (ascii "{") (first_text ls)) e)
   where
-    by-bracket : (begins ascii.open_bracket (first_text ls) ≡ true) ⊎ (begins ascii.open_brace (first_text ls) ≡ true) → AreUtf8 (behind 1 ls)
-    by-bracket (inl h) = first-utf8 ascii.open_bracket ls (omega arith) h u
-    by-bracket (inr h) = first-utf8 ascii.open_brace ls (omega arith) h u
+    by-bracket : (begins (ascii "[") (first_text ls) ≡ true) ⊎ (begins (ascii "{") (first_text ls) ≡ true) → AreUtf8 (behind 1 ls)
+    by-bracket (inl h) = first-utf8 (ascii "[") ls (omega arith) h u
+    by-bracket (inr h) = first-utf8 (ascii "{") ls (omega arith) h u
 
 -- ---- blanks, spaces and gaps
 
@@ -46,7 +46,7 @@ blanks-utf8 (l ∷ ls) u = (keeps-blanks l.text [] u.0, u.1)
 spaces-text : (cs : List Cell) → IsText cs → IsText (after_spaces cs)
 spaces-text [] u = u
 spaces-text (c ∷ cs) u =
-    choose IsText (c.0 == ascii.space) (λ e. spaces-text cs (split-behind c.0 (bytes_of cs) (equal-ascii c.0 32 (omega arith) e) u)) (λ _. u)
+    choose IsText (c.0 == ascii " ") (λ e. spaces-text cs (split-behind c.0 (bytes_of cs) (equal-ascii c.0 32 (omega arith) e) u)) (λ _. u)
 
 pub spaces-utf8 : (ls : List Line) → AreUtf8 ls → AreUtf8 (spaces_dropped ls)
 spaces-utf8 [] u = tt
@@ -65,23 +65,23 @@ no-blank a h (inl e) = let f = equal a 32 e in omega (arith, f, h)
 no-blank a h (inr e) = let f = equal a 9 e in omega (arith, f, h)
 
 -- a colon is no blank
-solid-colon : (cs : List Cell) → begins ascii.colon cs ≡ true → begins ascii.colon (after_blanks cs) ≡ true
+solid-colon : (cs : List Cell) → begins (ascii ":") cs ≡ true → begins (ascii ":") (after_blanks cs) ≡ true
 solid-colon [] e = e
 solid-colon (c ∷ cs) e =
-    choose (λ (t : List Cell). begins ascii.colon t ≡ true) (is_blank c)
-    (λ b. absurd (no-blank c.0 (equal c.0 58 e) (either (c.0 == ascii.space) (c.0 == ascii.tab) b))) (λ _. e)
+    choose (λ (t : List Cell). begins (ascii ":") t ≡ true) (is_blank c)
+    (λ b. absurd (no-blank c.0 (equal c.0 58 e) (either (c.0 == ascii " ") (c.0 == ascii "\t") b))) (λ _. e)
 
-pub first_colon-utf8 : (ls : List Line) → begins ascii.colon (first_text ls) ≡ true → AreUtf8 ls → AreUtf8 (behind 1 (blanks_dropped ls))
+pub first_colon-utf8 : (ls : List Line) → begins (ascii ":") (first_text ls) ≡ true → AreUtf8 ls → AreUtf8 (behind 1 (blanks_dropped ls))
 first_colon-utf8 [] e u = tt
-first_colon-utf8 (l ∷ ls) e u = first-utf8 ascii.colon (blanks_dropped (l ∷ ls)) (omega arith) (solid-colon l.text e) (blanks-utf8 (l ∷ ls) u)
+first_colon-utf8 (l ∷ ls) e u = first-utf8 (ascii ":") (blanks_dropped (l ∷ ls)) (omega arith) (solid-colon l.text e) (blanks-utf8 (l ∷ ls) u)
 
-colon-begins : (p : Context) (cs : List Cell) → is_value_colon p cs ≡ true → begins ascii.colon cs ≡ true
+colon-begins : (p : Context) (cs : List Cell) → is_value_colon p cs ≡ true → begins (ascii ":") cs ≡ true
 colon-begins p [] e = e
-colon-begins p (c ∷ cs) e = both-left (c.0 == ascii.colon) (ends_key p cs) e
+colon-begins p (c ∷ cs) e = both-left (c.0 == ascii ":") (ends_key p cs) e
 
 pub colon-utf8 : (p : Context) (ls : List Line) → is_value_colon p (after_blanks (first_text ls)) ≡ true → AreUtf8 ls → AreUtf8 (behind 1 (blanks_dropped ls))
 colon-utf8 p [] e u = tt
-colon-utf8 p (l ∷ ls) e u = first-utf8 ascii.colon (blanks_dropped (l ∷ ls)) (omega arith) (colon-begins p (after_blanks l.text) e) (blanks-utf8 (l ∷ ls) u)
+colon-utf8 p (l ∷ ls) e u = first-utf8 (ascii ":") (blanks_dropped (l ∷ ls)) (omega arith) (colon-begins p (after_blanks l.text) e) (blanks-utf8 (l ∷ ls) u)
 
 -- ---- names of anchors
 
@@ -101,11 +101,11 @@ property-text [] e u = IsUtf8-nil
 property-text (c ∷ cs) e u =
     let n = length (anchor_cells cs) in
     let same : n + 1 ≡ suc n = omega arith in
-    subst (λ (k : ℕ). IsText (drop k (c ∷ cs))) (sym same) (name-text [] cs (split-behind c.0 (bytes_of cs) (by-indicator (either (c.0 == ascii.ampersand) (c.0 == ascii.asterisk) e)) u))
+    subst (λ (k : ℕ). IsText (drop k (c ∷ cs))) (sym same) (name-text [] cs (split-behind c.0 (bytes_of cs) (by-indicator (either (c.0 == ascii "&") (c.0 == ascii "*") e)) u))
   where
-    by-indicator : ((c.0 == ascii.ampersand) ≡ true) ⊎ ((c.0 == ascii.asterisk) ≡ true) → c.0 < 128
-    by-indicator (inl h) = equal-ascii c.0 ascii.ampersand (omega arith) h
-    by-indicator (inr h) = equal-ascii c.0 ascii.asterisk (omega arith) h
+    by-indicator : ((c.0 == ascii "&") ≡ true) ⊎ ((c.0 == ascii "*") ≡ true) → c.0 < 128
+    by-indicator (inl h) = equal-ascii c.0 (ascii "&") (omega arith) h
+    by-indicator (inr h) = equal-ascii c.0 (ascii "*") (omega arith) h
 
 pub name-utf8 : (ls : List Line) → is_property (first_text ls) ≡ true → AreUtf8 ls → AreUtf8 (behind_name ls)
 name-utf8 [] e u = tt

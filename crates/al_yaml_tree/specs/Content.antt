@@ -5,7 +5,7 @@ use Rattle.std.specs.Prelude.{if◌then◌else◌, Option, Some, None, Result, O
 use Rattle.std.specs.Option.{option_or}
 use Rattle.al_base.specs.declared.codes.YamlCode.{YamlCode}
 use Rattle.al_base.specs.declared.codes.YamlCode.TheVariants as yaml
-use Rattle.al_base.specs.Ascii as ascii
+use Rattle.al_base.specs.Ascii.{ascii}
 use Rattle.al_base.specs.Limits.{longest_key}
 use Rattle.al_scalar.specs.Line.{Cell, Line, start, cut, is_blank, indent, is_empty, is_all_blank, begins, begins_blank}
 use Rattle.al_scalar.specs.Line.{is_blank_or_end, is_comment, is_document_marker, blanks_dropped, spaces_dropped}
@@ -52,7 +52,7 @@ abbrev pub content_line : List Line → Result Next Fault
 content_line ls =
     let left = spaces_dropped ls in
     if is_document_marker (first_text ls) then Ok ended
-    else (if begins ascii.tab (first_text left) then fault yaml.TabInIndentation (start left)
+    else (if begins (ascii "\t") (first_text left) then fault yaml.TabInIndentation (start left)
     else Ok (at_line (indent (first_text ls)) left))
 
 abbrev pub content : List Line → Result Next Fault
@@ -69,27 +69,27 @@ line_ended ls = if ends_line (first_text ls) then Ok (whole_lines ls) else fault
 -- the dash of a block sequence's entry (8.2.1)
 abbrev pub is_dash : List Cell → Bool
 is_dash [] = false
-is_dash (c ∷ cs) = (c.0 == ascii.dash) && is_blank_or_end cs
+is_dash (c ∷ cs) = (c.0 == ascii "-") && is_blank_or_end cs
 
 -- the first tab among the leading blanks
 abbrev pub tab_among : List Cell → Option ℕ
 tab_among [] = None
 tab_among (c ∷ cs) =
     let more = tab_among cs in
-    if c.0 == ascii.tab then Some c.1 else (if is_blank c then more else None)
+    if c.0 == ascii "\t" then Some c.1 else (if is_blank c then more else None)
 
 -- What a node's first character forbids, in both contexts: tags, explicit keys, and what begins no node.
 abbrev pub is_reserved : ℕ → Bool
 is_reserved b =
-    (b == ascii.comma) || (b == ascii.close_bracket) || (b == ascii.close_brace) || (b == ascii.percent) || (b == ascii.at_sign)
-    || (b == ascii.backtick)
+    (b == ascii ",") || (b == ascii "]") || (b == ascii "}") || (b == ascii "%") || (b == ascii "@")
+    || (b == ascii "`")
 
 -- alone says that a blank or the line's end stands behind the character
 abbrev pub start_fault : ℕ → Bool → Option YamlCode
 start_fault b alone =
-    if b == ascii.exclamation then Some yaml.Tag
-    else (if (b == ascii.question) && alone then Some yaml.ExplicitKey
-    else (if (b == ascii.colon) && alone then Some yaml.UnexpectedCharacter
+    if b == ascii "!" then Some yaml.Tag
+    else (if (b == ascii "?") && alone then Some yaml.ExplicitKey
+    else (if (b == ascii ":") && alone then Some yaml.UnexpectedCharacter
     else (if is_reserved b then Some yaml.UnexpectedCharacter else None)))
 
 abbrev pub block_fault : List Cell → Option YamlCode
@@ -99,8 +99,8 @@ block_fault (c ∷ cs) = start_fault c.0 (is_blank_or_end cs)
 -- in a flow collection also these; closed says that a flow indicator stands behind the character
 abbrev pub is_flow_misplaced : ℕ → Bool → Bool → Bool
 is_flow_misplaced b alone closed =
-    if (b == ascii.bar) || (b == ascii.greater) || (b == ascii.hash) then true
-    else (if b == ascii.dash then alone || closed else ((b == ascii.question) || (b == ascii.colon)) && closed)
+    if (b == ascii "|") || (b == ascii ">") || (b == ascii "#") then true
+    else (if b == ascii "-" then alone || closed else ((b == ascii "?") || (b == ascii ":")) && closed)
 
 abbrev pub flow_fault : List Cell → Option YamlCode
 flow_fault [] = None
@@ -114,14 +114,14 @@ unless None at r = r
 unless (Some code) at r = fails code at
 
 abbrev pub is_flow_start : List Cell → Bool
-is_flow_start cs = begins ascii.open_bracket cs || begins ascii.open_brace cs
+is_flow_start cs = begins (ascii "[") cs || begins (ascii "{") cs
 
 abbrev pub is_quote : List Cell → Bool
-is_quote cs = begins ascii.single_quote cs || begins ascii.double_quote cs
+is_quote cs = begins (ascii "'") cs || begins (ascii "\"") cs
 
 -- the indicator of an anchor (6.9.2) or of an alias (7.1)
 abbrev pub is_property : List Cell → Bool
-is_property cs = begins ascii.ampersand cs || begins ascii.asterisk cs
+is_property cs = begins (ascii "&") cs || begins (ascii "*") cs
 
 -- the name behind the indicator (6.9.2, ns-anchor-name), up to a blank, the line's end or a flow indicator
 abbrev pub anchor_cells : List Cell → List Cell

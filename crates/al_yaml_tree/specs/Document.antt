@@ -1,7 +1,7 @@
 -- A document (YAML 1.2.2, 9.1).
 use Rattle.std.specs.Prelude.{ℕ, suc, List, length, false, if◌then◌else◌, Result, Ok}
 use Rattle.al_base.specs.declared.codes.YamlCode.TheVariants as yaml
-use Rattle.al_base.specs.Ascii as ascii
+use Rattle.al_base.specs.Ascii.{ascii}
 use Rattle.al_scalar.specs.Line.{Line, start, begins, is_marker, blanks_dropped, spaces_dropped}
 use Rattle.al_scalar.specs.Places.{first_text}
 use Rattle.al_scalar.specs.Taken.{Fault, fault}
@@ -16,8 +16,8 @@ use Rattle.al_yaml_tree.specs.Blocks.{Slot, own_line, node_below, block_node}
 -- (6.8).
 abbrev pub first_line : List Line → Result (List Line) Fault
 first_line ls =
-    if begins ascii.percent (first_text ls) then fault yaml.Directive (start ls)
-    else (if is_marker ascii.dash (first_text ls) then line_ended (behind 3 ls) else Ok ls)
+    if begins (ascii "%") (first_text ls) then fault yaml.Directive (start ls)
+    else (if is_marker (ascii "-") (first_text ls) then line_ended (behind 3 ls) else Ok ls)
 
 abbrev pub document_start : List Line → Result (List Line) Fault
 document_start ls = first_line (text_line ls)
@@ -32,9 +32,9 @@ ended_behind ls =
 abbrev pub last_line : List Line → Result (Unit {0}) Fault
 last_line ls =
     let left = spaces_dropped ls in
-    if is_marker ascii.dash (first_text ls) then fault yaml.SecondDocument (start ls)
-    else (if is_marker ascii.dot (first_text ls) then ended_behind (behind 3 ls)
-    else (if begins ascii.tab (first_text left) then fault yaml.TabInIndentation (start left)
+    if is_marker (ascii "-") (first_text ls) then fault yaml.SecondDocument (start ls)
+    else (if is_marker (ascii ".") (first_text ls) then ended_behind (behind 3 ls)
+    else (if begins (ascii "\t") (first_text left) then fault yaml.TabInIndentation (start left)
     else fault yaml.WrongIndentation (start left)))
 
 abbrev pub document_end : List Line → Result (Unit {0}) Fault

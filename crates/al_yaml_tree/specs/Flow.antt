@@ -2,7 +2,7 @@
 use Rattle.std.specs.Prelude.{ℕ, zero, suc, ◌+◌, List, [], ◌∷◌, Bool, true, false, not, ◌&&◌}
 use Rattle.std.specs.Prelude.{◌||◌, if◌then◌else◌, Option, Some, None, Result, Ok}
 use Rattle.al_base.specs.declared.codes.YamlCode.TheVariants as yaml
-use Rattle.al_base.specs.Ascii as ascii
+use Rattle.al_base.specs.Ascii.{ascii}
 use Rattle.al_scalar.specs.Line.{Cell, Line, start, cut, after_blanks, is_empty, begins, begins_blank, blanks_dropped}
 use Rattle.al_scalar.specs.Places.{first_text}
 use Rattle.al_scalar.specs.Taken.{Fault, fault}
@@ -32,7 +32,7 @@ CollectionReader = ℕ → List Line → Reading (Part Node)
 
 -- what a gap takes to its end: a line without text but blanks, or a comment after a blank or at a line's start
 abbrev pub is_gap_line : Bool → List Cell → Bool
-is_gap_line at_start text = is_empty (after_blanks text) || (begins ascii.hash (after_blanks text) && (at_start || begins_blank text))
+is_gap_line at_start text = is_empty (after_blanks text) || (begins (ascii "#") (after_blanks text) && (at_start || begins_blank text))
 
 -- Blanks, breaks and comments are skipped (6.7). Behind them no text is left at the file's end alone.
 abbrev pub gap : Bool → List Line → List Line
@@ -50,7 +50,7 @@ abbrev pub rest_behind : {A : Type 0} → ℕ → (List Line → Reading (Part A
 rest_behind close more opening done left =
     let ls = gap false left in
     if is_file_end ls then fails yaml.UnclosedFlow opening
-    else (if begins ascii.comma (first_text ls) then more (gap false (behind 1 ls))
+    else (if begins (ascii ",") (first_text ls) then more (gap false (behind 1 ls))
     else (if begins close (first_text ls) then gives (part done (start ls + 1) (behind 1 ls))
     else fails yaml.UnexpectedCharacter (start ls)))
 
@@ -59,15 +59,15 @@ unfoldable pub flow_items : FlowReader → ℕ → ℕ → ℕ → Nodes → Lis
 flow_items node zero opening depth done ls = fails yaml.UnexpectedCharacter 0
 flow_items node (suc turns) opening depth done ls =
     if is_file_end ls then fails yaml.UnclosedFlow opening
-    else (if begins ascii.close_bracket (first_text ls) then gives (part done (start ls + 1) (behind 1 ls))
+    else (if begins (ascii "]") (first_text ls) then gives (part done (start ls + 1) (behind 1 ls))
     else (do
       x ← node (record { opening = opening; empty = None }) depth ls
-      rest_behind ascii.close_bracket (λ left. flow_items node turns opening depth (with_item done x.value) left) opening
+      rest_behind (ascii "]") (λ left. flow_items node turns opening depth (with_item done x.value) left) opening
           (with_item done x.value) x.left))
 
 -- The lines behind a key's colon, if one stands on its line. Behind a quoted key it needs nothing behind it.
 abbrev pub is_key_colon : Bool → List Line → Bool
-is_key_colon after_quote ls = (after_quote && begins ascii.colon (first_text ls)) || is_value_colon flow (after_blanks (first_text ls))
+is_key_colon after_quote ls = (after_quote && begins (ascii ":") (first_text ls)) || is_value_colon flow (after_blanks (first_text ls))
 
 abbrev pub behind_colon : Bool → List Line → Option (List Line)
 behind_colon after_quote ls = if is_key_colon after_quote ls then Some (behind 1 (blanks_dropped ls)) else None
@@ -76,7 +76,7 @@ behind_colon after_quote ls = if is_key_colon after_quote ls then Some (behind 1
 abbrev pub flow_value : FlowReader → FlowSlot → ℕ → List Line → Reading (Part Node)
 flow_value node slot depth ls =
     if is_file_end ls then fails yaml.UnclosedFlow slot.opening
-    else (if begins ascii.comma (first_text ls) || begins ascii.close_brace (first_text ls)
+    else (if begins (ascii ",") (first_text ls) || begins (ascii "}") (first_text ls)
     then elim slot.empty [ None ↦ fails yaml.UnexpectedCharacter (start ls) | Some at ↦ empty_node at ls ]
     else node slot depth ls)
 
@@ -87,7 +87,7 @@ pub record FlowKey : Type 0 where
 
 -- whether a colon begins a later line
 abbrev pub is_late_colon : List Line → Bool
-is_late_colon left = begins ascii.colon (first_text (gap false left)) && not (same_line left (gap false left))
+is_late_colon left = begins (ascii ":") (first_text (gap false left)) && not (same_line left (gap false left))
 
 -- The lines behind the colon of the key that a scalar is, which stands on one line. A colon that begins a later line is
 -- refused at the key.
@@ -125,11 +125,11 @@ unfoldable pub flow_entries : FlowReader → CollectionReader → ℕ → ℕ �
 flow_entries node collection zero opening depth done ls = fails yaml.UnexpectedCharacter 0
 flow_entries node collection (suc turns) opening depth done ls =
     if is_file_end ls then fails yaml.UnclosedFlow opening
-    else (if begins ascii.close_brace (first_text ls) then gives (part done (start ls + 1) (behind 1 ls))
+    else (if begins (ascii "}") (first_text ls) then gives (part done (start ls + 1) (behind 1 ls))
     else (do
       key ← flow_key collection depth ls
       x ← flow_entry_value node opening depth key
-      rest_behind ascii.close_brace (λ left. flow_entries node collection turns opening depth
+      rest_behind (ascii "}") (λ left. flow_entries node collection turns opening depth
           (with_entry done (scalar_node key.scalar) x.value) left) opening
           (with_entry done (scalar_node key.scalar) x.value) x.left))
 
@@ -152,7 +152,7 @@ property on_key ending node depth ls =
     let rest = behind_name ls in
     if has_no_name ls then fails yaml.UnexpectedCharacter at
     else (if on_key then fails yaml.AnchorOrAlias at
-    else (if begins ascii.asterisk (first_text ls)
+    else (if begins (ascii "*") (first_text ls)
     then (do
       n ← alias name at depth
       ending (part n (start rest) rest))
@@ -179,6 +179,6 @@ flow_collection (suc bound) depth ls =
     let at = start ls in
     let inside = gap false (behind 1 ls) in
     starting_collection at 1 depth (
-    if begins ascii.open_bracket (first_text ls)
+    if begins (ascii "[") (first_text ls)
     then with_span sequence at (flow_items node (suc bound) at (depth + 1) no_nodes inside)
     else with_span mapping at (flow_entries node collection (suc bound) at (depth + 1) no_entries inside))

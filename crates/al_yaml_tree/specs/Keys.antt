@@ -3,7 +3,7 @@ use Rattle.std.specs.Prelude.{ℕ, List, [], ◌∷◌, Bool, true, false, not, 
 use Rattle.std.specs.Prelude.{Option, Some, None, is_some, Result, Ok}
 use Rattle.al_base.specs.declared.codes.YamlCode.{YamlCode}
 use Rattle.al_base.specs.declared.codes.YamlCode.TheVariants as yaml
-use Rattle.al_base.specs.Ascii as ascii
+use Rattle.al_base.specs.Ascii.{ascii}
 use Rattle.al_scalar.specs.Line.{Cell, Line, start, cut, after_blanks, begins, blanks_dropped}
 use Rattle.al_scalar.specs.Places.{first_text}
 use Rattle.al_scalar.specs.Plain.{block, is_value_colon}
@@ -54,7 +54,7 @@ abbrev pub key_at : List Line → Result (Option Key) Fault
 key_at ls = and_then (key_scalar ls) (λ r. Ok (key_of r))
 
 abbrev pub is_block_start : List Cell → Bool
-is_block_start cs = begins ascii.bar cs || begins ascii.greater cs
+is_block_start cs = begins (ascii "|") cs || begins (ascii ">") cs
 
 -- whether a scalar on one line begins here and a colon follows it
 abbrev pub is_key : List Line → Bool
@@ -68,7 +68,7 @@ is_key_start cs = not (is_skipped cs || is_dash cs || is_property cs || is_block
 abbrev pub is_on_key : List Line → Bool
 is_on_key ls =
     let left = blanks_dropped (behind_name ls) in
-    if begins ascii.asterisk (first_text ls) then has_colon (behind_name ls)
+    if begins (ascii "*") (first_text ls) then has_colon (behind_name ls)
     else is_key_start (first_text left) && is_key left
 
 -- the fault of an anchor or alias where an entry of an open mapping is due

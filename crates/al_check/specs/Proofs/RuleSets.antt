@@ -8,7 +8,7 @@ use Rattle.al_graph.specs.Within.{leads}
 use Rattle.al_base.specs.NamePlaces.{name_place}
 use Rattle.al_base.specs.declared.faults.Fault.{Fault}
 use Rattle.al_rules.specs.Needs.{AreNeedsFaults, IsNeedFaults, Need, all_needs, and_need, cycle_fault}
-use Rattle.al_rules.specs.Needs.{leads_back, leads_on, named_by, needs_faults, no_needs, tested_faults, undefined_job}
+use Rattle.al_rules.specs.Needs.{leads_back, leads_on, needs_faults, no_needs, tested_faults, undefined_job}
 use Rattle.al_rules.specs.Rules.{AreRuleFaults}
 use Rattle.al_tree.specs.Keys.{keys_in}
 use Rattle.al_tree.specs.Files.{jobs_of}
@@ -28,11 +28,11 @@ module _ (graph : List (List ℕ)) where
 
   module _ (position : List ℕ → Option ℕ) where
     abbrev tested : Need → List Fault
-    tested n = tested_faults (λ j. leads graph j n.job) n (named_by position n.text)
+    tested n = tested_faults (λ j. leads graph j n.job) n (position n.text.text)
 
     needs_hold : (ns : List Need) → AreNeedsFaults position (Walk graph) ns (flat_map tested ns)
     needs_hold [] = no_needs
-    needs_hold (n ∷ ns) = and_need n ns (tested n) (flat_map tested ns) (need_holds n (named_by position n.text)) (needs_hold ns)
+    needs_hold (n ∷ ns) = and_need n ns (tested n) (flat_map tested ns) (need_holds n (position n.text.text)) (needs_hold ns)
 
 pub rules_hold : (file : FileKind) (root : Node) → AreRuleFaults file root (rule_faults file root)
 rules_hold kind.Workflow root = record {

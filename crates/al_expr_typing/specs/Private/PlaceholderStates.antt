@@ -2,7 +2,7 @@
 -- agree, `proofs/PlaceholderLemmas`.
 use Rattle.std.specs.Prelude.{ℕ, ◌+◌, ◌*◌, ◌-◌, List, [], ◌∷◌, Bool, true, ◌==◌, nat_lt, if◌then◌else◌, Option, Some, None, length}
 use Rattle.std.specs.Prelude.{slice_set}
-use Rattle.al_base.specs.Ascii as ascii
+use Rattle.al_base.specs.Ascii.{ascii}
 use Rattle.std.specs.Char.{is_ascii_digit}
 use Rattle.al_expr_typing.specs.declared.placeholders.PlaceholderState.{PlaceholderState}
 use Rattle.al_expr_typing.specs.declared.placeholders.PlaceholderState.TheVariants.{Outside, BehindOpening, InIndex, BehindClosing}
@@ -11,11 +11,11 @@ use Rattle.al_expr_typing.specs.declared.placeholders.Turn.TheVariants.{To, Name
 
 -- where a byte leads
 abbrev pub turn : PlaceholderState → ℕ → Turn
-turn Outside b = if b == ascii.open_brace then To BehindOpening else if b == ascii.close_brace then To BehindClosing else To Outside
-turn BehindOpening b = if b == ascii.open_brace then To Outside else if is_ascii_digit b then To (InIndex (b - ascii.digit_zero)) else Wrong
+turn Outside b = if b == ascii "{" then To BehindOpening else if b == ascii "}" then To BehindClosing else To Outside
+turn BehindOpening b = if b == ascii "{" then To Outside else if is_ascii_digit b then To (InIndex (b - ascii "0")) else Wrong
 turn (InIndex n) b =
-    if is_ascii_digit b then To (InIndex (10 * n + (b - ascii.digit_zero))) else if b == ascii.close_brace then Names n else Wrong
-turn BehindClosing b = if b == ascii.close_brace then To Outside else Wrong
+    if is_ascii_digit b then To (InIndex (10 * n + (b - ascii "0"))) else if b == ascii "}" then Names n else Wrong
+turn BehindClosing b = if b == ascii "}" then To Outside else Wrong
 
 abbrev pub after_turn : Turn → List Bool → (PlaceholderState → List Bool → Option (List Bool)) → Option (List Bool)
 after_turn (To p) used go = go p used

@@ -1,7 +1,7 @@
 -- Words of private contracts: the states of the code that reads a filter pattern. What a pattern is, `Patterns` says; that the two agree,
 -- `proofs/PatternLemmas`.
 use Rattle.std.specs.Prelude.{ℕ, List, [], ◌∷◌, Bool, true, false, ◌==◌, nat_lt, if◌then◌else◌, Option, Some, None, option_and_then}
-use Rattle.al_base.specs.Ascii as ascii
+use Rattle.al_base.specs.Ascii.{ascii}
 use Rattle.al_rules_formats.specs.Patterns.{is_mark}
 use Rattle.al_rules_formats.specs.declared.patterns.State.{State}
 use Rattle.al_rules_formats.specs.declared.patterns.State.TheVariants.{FirstItem, AfterItem, AfterEscape, ClassFirst, ClassNext, ClassLow}
@@ -10,8 +10,8 @@ use Rattle.al_rules_formats.specs.declared.patterns.State.TheVariants.{ClassDash
 -- outside a class, behind an item or not
 abbrev pub outside : Bool → ℕ → Option State
 outside is_behind c =
-    if c == ascii.backslash then Some AfterEscape
-    else if c == ascii.open_bracket then Some ClassFirst
+    if c == ascii "\\" then Some AfterEscape
+    else if c == ascii "[" then Some ClassFirst
     else if is_mark c then (if is_behind then Some AfterItem else None)
     else Some AfterItem
 
@@ -20,10 +20,10 @@ abbrev pub read : State → ℕ → Option State
 read FirstItem c = outside false c
 read AfterItem c = outside true c
 read AfterEscape c = Some AfterItem
-read ClassFirst c = if c == ascii.close_bracket then None else Some (ClassLow c)
-read ClassNext c = if c == ascii.close_bracket then Some AfterItem else Some (ClassLow c)
-read (ClassLow a) c = if c == ascii.close_bracket then Some AfterItem else if c == ascii.dash then Some (ClassDash a) else Some (ClassLow c)
-read (ClassDash a) c = if c == ascii.close_bracket then Some AfterItem else if nat_lt c a then None else Some ClassNext
+read ClassFirst c = if c == ascii "]" then None else Some (ClassLow c)
+read ClassNext c = if c == ascii "]" then Some AfterItem else Some (ClassLow c)
+read (ClassLow a) c = if c == ascii "]" then Some AfterItem else if c == ascii "-" then Some (ClassDash a) else Some (ClassLow c)
+read (ClassDash a) c = if c == ascii "]" then Some AfterItem else if nat_lt c a then None else Some ClassNext
 
 abbrev pub read_all : State → List ℕ → Option State
 read_all s [] = Some s

@@ -1,6 +1,6 @@
 -- Filter patterns that were worked out by hand.
 use Rattle.std.specs.Prelude.{ℕ, List, [], ◌∷◌, ◌++◌, codes}
-use Rattle.al_base.specs.Ascii.{backslash}
+use Rattle.al_base.specs.Ascii.{ascii}
 
 abbrev pub e_acute : ℕ
 e_acute = 233
@@ -13,8 +13,8 @@ abbrev pub wrong_names : List (List ℕ)
 wrong_names =
     [] ∷ (codes "+a") ∷ (codes "?") ∷ (codes "[]") ∷ (codes "[a") ∷ (codes "[a-]+.**[ ]?") ∷ (codes "[a-]-+?*:") ∷
     (codes "[a-]z*-feat/**~") ∷ (codes "[z-a]") ∷ (codes "[z-a]+") ∷ (codes "[{") ∷
-    (codes "[" ++ e_acute ∷ codes "-" ++ a_grave ∷ codes "]") ∷ (backslash ∷ []) ∷
-    (backslash ∷ codes " " ++ backslash ∷ codes "*[ ]bfeat/**[a" ++ backslash ∷ codes "]") ∷ (backslash ∷ codes "^[][a-].?") ∷
+    (codes "[" ++ e_acute ∷ codes "-" ++ a_grave ∷ codes "]") ∷ (codes "\\") ∷
+    (codes "\\ \\*[ ]bfeat/**[a\\]") ∷ (codes "\\^[][a-].?") ∷
     (codes "a b") ∷ (codes "a:b") ∷ (codes "a^") ∷ (codes "a~") ∷ []
 
 -- filters of branches and tags
@@ -23,8 +23,8 @@ right_names =
     (codes "!") ∷ (codes "!!a") ∷ (codes "!.") ∷ (codes "!./a") ∷ (codes "!?") ∷ (codes "!a") ∷ (codes "*") ∷ (codes "**") ∷
     (codes "**/x") ∷ (codes "**feat/**") ∷ (codes "-.a") ∷ (codes ".") ∷ (codes "..") ∷ (codes "./") ∷ (codes ".//a") ∷ (codes "./a") ∷
     (codes "/") ∷ (codes "[!a]") ∷ (codes "[--a]") ∷ (codes "[-a]") ∷ (codes "[0-9]") ∷ (codes "[?]+") ∷ (codes "[[]") ∷
-    (codes "[" ++ backslash ∷ codes "]]") ∷ (codes "[a-]") ∷ (codes "[a-b-c]") ∷ (codes "[a-z0-9]+") ∷ (codes "[a-z]") ∷
-    (codes "[" ++ a_grave ∷ codes "-" ++ e_acute ∷ codes "]") ∷ (backslash ∷ backslash ∷ codes "?") ∷ (backslash ∷ codes "a") ∷
+    (codes "[\\]]") ∷ (codes "[a-]") ∷ (codes "[a-b-c]") ∷ (codes "[a-z0-9]+") ∷ (codes "[a-z]") ∷
+    (codes "[" ++ a_grave ∷ codes "-" ++ e_acute ∷ codes "]") ∷ (codes "\\\\?") ∷ (codes "\\a") ∷
     (codes "a") ∷ (codes "a**?") ∷ (codes "a+?") ∷ (codes "a?") ∷ (codes "a[?]b") ∷ (codes "a]") ∷ (codes "v[0-9].*") ∷
     (codes "x[a-c]?+") ∷ (e_acute ∷ []) ∷ (e_acute ∷ codes "?") ∷ []
 
@@ -32,24 +32,24 @@ right_names =
 abbrev pub wrong_paths : List (List ℕ)
 wrong_paths =
     [] ∷ (codes "!./a") ∷ (codes "+") ∷ (codes "+a") ∷ (codes "./") ∷ (codes ".//a") ∷ (codes "./a") ∷ (codes "?") ∷
-    (codes "? [" ++ a_grave ∷ codes "-" ++ e_acute ∷ codes "]-") ∷ (codes "[]") ∷ (codes "[][]" ++ backslash ∷ codes " ") ∷
+    (codes "? [" ++ a_grave ∷ codes "-" ++ e_acute ∷ codes "]-") ∷ (codes "[]") ∷ (codes "[][]\\ ") ∷
     (codes "[a") ∷ (codes "[z-a]") ∷ (codes "[z-a]]") ∷ (codes "[z-a]z") ∷ (codes "[" ++ e_acute ∷ codes "-" ++ a_grave ∷ codes "]") ∷
-    (codes "[" ++ e_acute ∷ codes "-" ++ a_grave ∷ codes "]z[-a]") ∷ (backslash ∷ []) ∷ (backslash ∷ codes " b:-[]") ∷
-    (codes "a[z-a]./") ∷ (codes "b[]" ++ e_acute ∷ backslash ∷ codes "[a-][a-z]") ∷ (codes "b" ++ backslash ∷ codes " [][]") ∷ []
+    (codes "[" ++ e_acute ∷ codes "-" ++ a_grave ∷ codes "]z[-a]") ∷ (codes "\\") ∷ (codes "\\ b:-[]") ∷
+    (codes "a[z-a]./") ∷ (codes "b[]" ++ e_acute ∷ ascii "\\" ∷ codes "[a-][a-z]") ∷ (codes "b\\ [][]") ∷ []
 
 -- filters of paths
 abbrev pub right_paths : List (List ℕ)
 right_paths =
     (codes "!") ∷ (codes "!!a") ∷ (codes "!.") ∷ (codes "!?") ∷ (codes "!a") ∷ (codes "*") ∷ (codes "**") ∷ (codes "**/x") ∷
-    (codes "*feat/**") ∷ (codes ".") ∷ (codes "..") ∷ (codes "." ++ backslash ∷ codes " ") ∷ (codes "/") ∷
-    (codes "/[" ++ a_grave ∷ codes "-" ++ e_acute ∷ codes "]" ++ backslash ∷ codes "*") ∷
+    (codes "*feat/**") ∷ (codes ".") ∷ (codes "..") ∷ (codes ".\\ ") ∷ (codes "/") ∷
+    (codes "/[" ++ a_grave ∷ codes "-" ++ e_acute ∷ codes "]\\*") ∷
     (codes ":[" ++ a_grave ∷ codes "-" ++ e_acute ∷ codes "]") ∷ (codes "[!?[!a].{") ∷ (codes "[!a]") ∷ (codes "[!a][!a]") ∷
-    (codes "[!a]" ++ backslash ∷ codes "*^[ ]") ∷ (codes "[--a]") ∷ (codes "[-a]") ∷ (codes "[0-9]" ++ backslash ∷ codes " ]") ∷
+    (codes "[!a]\\*^[ ]") ∷ (codes "[--a]") ∷ (codes "[-a]") ∷ (codes "[0-9]\\ ]") ∷
     (codes "[0-9]~") ∷ (codes "[?]+") ∷ (codes "[[]") ∷ (codes "[[" ++ a_grave ∷ codes "-" ++ e_acute ∷ codes "]") ∷
-    (codes "[[" ++ a_grave ∷ codes "-" ++ e_acute ∷ codes "]/[a-]") ∷ (codes "[" ++ backslash ∷ codes "]]") ∷ (codes "[a-]") ∷
+    (codes "[[" ++ a_grave ∷ codes "-" ++ e_acute ∷ codes "]/[a-]") ∷ (codes "[\\]]") ∷ (codes "[a-]") ∷
     (codes "[a-]~") ∷ (codes "[a-b-c]") ∷ (codes "[a-c-e]") ∷ (codes "[a-z0-9]+") ∷ (codes "[a-z]") ∷ (codes "[a-z]./") ∷
     (codes "[" ++ a_grave ∷ codes "-" ++ e_acute ∷ codes "]") ∷ (codes "[" ++ a_grave ∷ codes "-" ++ e_acute ∷ codes "]+b~") ∷
-    (codes "[" ++ a_grave ∷ codes "-" ++ e_acute ∷ codes "].") ∷ (backslash ∷ codes " ") ∷ (backslash ∷ backslash ∷ codes "?") ∷
-    (backslash ∷ codes "a") ∷ (codes "]") ∷ (codes "^[-a]") ∷ (codes "^a[a-z][0-9]") ∷ (codes "a") ∷ (codes "a b") ∷ (codes "a**?") ∷
+    (codes "[" ++ a_grave ∷ codes "-" ++ e_acute ∷ codes "].") ∷ (codes "\\ ") ∷ (codes "\\\\?") ∷
+    (codes "\\a") ∷ (codes "]") ∷ (codes "^[-a]") ∷ (codes "^a[a-z][0-9]") ∷ (codes "a") ∷ (codes "a b") ∷ (codes "a**?") ∷
     (codes "a+?") ∷ (codes "a:b") ∷ (codes "a?") ∷ (codes "a[?]b") ∷ (codes "a]") ∷ (codes "a^") ∷ (codes "a~") ∷ (codes "v[0-9].*") ∷
     (codes "x[a-c]?+") ∷ (e_acute ∷ []) ∷ (e_acute ∷ codes "?") ∷ []

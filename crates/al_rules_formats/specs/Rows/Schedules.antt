@@ -1,6 +1,5 @@
 -- Schedules that were worked out by hand.
-use Rattle.std.specs.Prelude.{ℕ, List, [], ◌∷◌, ◌++◌, codes, Bool, false, not, Option, Some, None}
-use Rattle.al_base.specs.Ascii.{tab}
+use Rattle.std.specs.Prelude.{ℕ, List, [], ◌∷◌, codes, Bool, false, not, Option, Some, None}
 use Rattle.al_rules_formats.specs.Schedules.{is_too_often, schedule_of}
 use Rattle.al_rules_formats.specs.declared.schedules.Item.{Item}
 
@@ -38,9 +37,9 @@ wrong_schedules =
     (codes "* */24 * * *") ∷ (codes "1,,2 * * * *") ∷ (codes "1, * * * *") ∷ (codes ", * * * *") ∷ (codes "1-2-3 * * * *") ∷
     (codes "1/2/3 * * * *") ∷ (codes "*-5 * * * *") ∷ (codes "+5 * * * *") ∷ (codes "5- * * * *") ∷ (codes "-5 * * * *") ∷ [] ∷
     (codes "     ") ∷ (codes "a b c d e") ∷ (codes "* * JAN * *") ∷ (codes "* * * * jan") ∷ (codes "0 0 1 */13 *") ∷
-    (codes "0 0 1 1 */7") ∷ (codes "4294967296 * * * *") ∷ (codes "0" ++ tab ∷ codes "0 * * *") ∷ (codes "0 0 l * *") ∷
+    (codes "0 0 1 1 */7") ∷ (codes "4294967296 * * * *") ∷ (codes "0\t0 * * *") ∷ (codes "0 0 l * *") ∷
     (codes "@daily") ∷ (codes "* 17-13 1 * 3/15 ") ∷ (codes "49 * * * */7,2,3 ") ∷
-    (codes "*" ++ tab ∷ codes "0" ++ tab ∷ codes "1" ++ tab ∷ codes "1" ++ tab ∷ codes "*,6-1") ∷ (codes "3-16 */3/2,00--1 1 7-2/ 1") ∷
+    (codes "*\t0\t1\t1\t*,6-1") ∷ (codes "3-16 */3/2,00--1 1 7-2/ 1") ∷
     (codes " *,14-9/*,1-4 2 * * 1") ∷ (codes "0 * 30-31,16/32,+1 12-1/*,*,1.5/3/2 *") ∷ (codes "*,*,* 0 1 1-+1/1,*/12,*/x x-0,7,3") ∷
     (codes " * *,4-21,1.5-9 5/1 * *") ∷ (codes "0 * feb-5/x 1 *") ∷ (codes "0 0 * * */*,*/6 ") ∷ (codes "0 * * *,+1-0 *") ∷
     (codes "0 * -1,*,11 1 * *") ∷ (codes "11-9/*,*,31-45 0 * * 2/0,*/7") ∷ (codes " 7-53 * -1,* *-11/5,-1-7/12 1") ∷

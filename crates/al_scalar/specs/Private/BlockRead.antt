@@ -1,7 +1,7 @@
 -- What the reader of block scalars answers, in terms of offsets.
 use Rattle.std.specs.Prelude.{◌≡◌, ℕ, List, [], ◌∷◌, ◌++◌, length, Bool, true, false, Option, Some}
 use Rattle.std.specs.Prelude.{None, Result, Ok, Err, cond, nat_le, if◌then◌else◌}
-use Rattle.al_base.specs.Ascii as ascii
+use Rattle.al_base.specs.Ascii.{ascii}
 use Rattle.al_scalar.specs.Line.{Cell, Line, is_all_blank, indent}
 use Rattle.al_scalar.specs.Taken.{Fault, Taken, with_text}
 use Rattle.al_base.specs.declared.codes.YamlCode.TheVariants.{WrongBlockHeader}
@@ -19,7 +19,7 @@ use Rattle.al_scalar.specs.declared.block.RowsRead.{RowsRead}
 
 -- a row of which only that matters which the next row asks for
 abbrev pub row_like : Bool → List ℕ → BlockLine
-row_like spaced break = record { text = cond spaced ((ascii.space, 0) ∷ []) []; break = break }
+row_like spaced break = record { text = cond spaced ((ascii " ", 0) ∷ []) []; break = break }
 
 abbrev pub last_row : Option LastLine → Option BlockLine
 last_row None = None

@@ -1,7 +1,7 @@
 -- What the reader of double-quoted scalars answers, in terms of offsets.
 use Rattle.std.specs.Prelude.{◌≡◌, ◌⊎◌, ℕ, ◌+◌, ◌*◌, ◌∷◌, ◌<◌, ◌≤◌, List, [], ◌++◌}
 use Rattle.std.specs.Prelude.{length, slice_index, Bool, Option, Some, None, Result, Ok, Err, take}
-use Rattle.al_base.specs.Ascii as ascii
+use Rattle.al_base.specs.Ascii.{ascii}
 use Rattle.al_base.specs.declared.codes.YamlCode.TheVariants as yaml
 use Rattle.al_scalar.specs.Line.{Cell}
 use Rattle.al_scalar.specs.Places.{lines_at, text_at}
@@ -20,7 +20,7 @@ ReadsOn bytes at cells next = (quote : ℕ) → double_quoted quote (lines_at by
     ≡ before cells (double_quoted quote (lines_at bytes next))
 
 abbrev pub IsMarkByte : ℕ → Type 0
-IsMarkByte b = (b ≡ ascii.double_quote) ⊎ (b ≡ ascii.backslash)
+IsMarkByte b = (b ≡ ascii "\"") ⊎ (b ≡ ascii "\\")
 
 -- what ends characters that stand for themselves: a quote, a backslash, a break or the file's end
 abbrev pub EndsRun : List ℕ → ℕ → Type 0

@@ -1,7 +1,7 @@
 -- What a stack of open collections stands for: what is still to be read behind the node that is read now.
 use Rattle.std.specs.Prelude.{ℕ, ◌+◌, List, false, if◌then◌else◌, Option, Result, Ok}
 use Rattle.al_base.specs.declared.codes.YamlCode.TheVariants as yaml
-use Rattle.al_base.specs.Ascii as ascii
+use Rattle.al_base.specs.Ascii.{ascii}
 use Rattle.al_scalar.specs.Line.{Line, start, begins}
 use Rattle.al_scalar.specs.Places.{first_text}
 use Rattle.al_scalar.specs.Scalar.{ScalarRead}
@@ -20,7 +20,7 @@ pub data After : Type 0 where
 abbrev pub after_item : ℕ → ℕ → List Line → Result After Fault
 after_item opening close ls =
     if is_file_end ls then fault yaml.UnclosedFlow opening
-    else (if begins ascii.comma (first_text ls) then Ok (goes_on (gap false (behind 1 ls)))
+    else (if begins (ascii ",") (first_text ls) then Ok (goes_on (gap false (behind 1 ls)))
     else (if begins close (first_text ls) then Ok (closes (start ls + 1) (behind 1 ls))
     else fault yaml.UnexpectedCharacter (start ls)))
 
@@ -53,12 +53,12 @@ open_rest collection turns depth opening (entries done) ls =
 abbrev pub waiting_rest : CollectionReader → ℕ → ℕ → ℕ → Waiting → Part Node → Reading (Part Node)
 waiting_rest collection turns depth opening (item done) x =
     with_span sequence opening
-    (rest_behind ascii.close_bracket
+    (rest_behind (ascii "]")
     (λ left. flow_items (flow_node_over collection) turns opening depth (with_item done x.value) left) opening
     (with_item done x.value) x.left)
 waiting_rest collection turns depth opening (value done k) x =
     with_span mapping opening
-    (rest_behind ascii.close_brace (λ left. flow_entries (flow_node_over collection) collection turns opening depth
+    (rest_behind (ascii "}") (λ left. flow_entries (flow_node_over collection) collection turns opening depth
     (with_entry done (scalar_node k) x.value) left) opening
     (with_entry done (scalar_node k) x.value) x.left)
 waiting_rest collection turns depth opening (key at) x = fails yaml.WrongKey at

@@ -1,4 +1,4 @@
-use Rattle.std.proofs.Common.{◌++◌, get_or, string_bytes, map, sym, ◌∙◌, append-nil, append_assoc, arith}
+use Rattle.std.proofs.Common.{◌++◌, get_or, map, sym, ◌∙◌, append-nil, append_assoc, arith}
 use Rattle.std.proofs.lemmas.List.{at_drop_all, get_or_default}
 use Rattle.al_expr_grammar.proofs.RestItems.{rest_item}
 use Rattle.al_expr_types.specs.declared.ty.Base.TheVariants as base

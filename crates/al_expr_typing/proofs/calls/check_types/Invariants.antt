@@ -1,4 +1,4 @@
-use Rattle.std.proofs.Common.{◌≡◌, ◌++◌, List, map, drop, string_bytes}
+use Rattle.std.proofs.Common.{◌≡◌, ◌++◌, List, map, drop}
 use Rattle.al_expr_typing.specs.Arguments.{argument_in}
 use Rattle.al_types.specs.Types.{Parts}
 use Rattle.al_expr_typing.specs.Meaning.{wrong_arguments}

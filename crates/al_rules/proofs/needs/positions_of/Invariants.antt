@@ -1,7 +1,7 @@
 use Rattle.std.proofs.Common.{◌≡◌, ◌++◌, drop, map}
 use Rattle.std.specs.List.{filter_map}
 use Rattle.al_tree.specs.Values.{scalar_node_of}
-use Rattle.al_rules.specs.Needs.{named_by}
+use Rattle.al_rules.specs.Private.Components.{named_by}
 use Rattle.al_base.specs.NamePlaces.{name_position}
 use Rattle.al_rules_settings.specs.Words.{of_scalar}
 use Rattle.al_rules.proofs.needs.positions_of.Given as goal
