@@ -12,7 +12,7 @@ use Rattle.al_scalar.specs.Plain.{Context, flow, block, is_value_colon, ends_key
 use Rattle.al_scalar.proofs.MarkerLemmas.{begins-inside}
 use Rattle.al_yaml_tree.specs.Content.{same_line, characters, behind}
 use Rattle.al_yaml_tree.specs.Flow as items
-use Rattle.al_yaml_tree.specs.Keys as keys
+use Rattle.al_yaml_parts.specs.BlockReads as block_reads
 use Rattle.al_yaml_parts.specs.Places.{IsColon}
 use Rattle.al_yaml_parts.proofs.LineLemmas.{solid-lines, behind-one}
 use Rattle.al_scalar.proofs.LineParts.{blanks_dropped-stays, Kind, at_file_end, at_break, at_byte, kind, end-here}
@@ -242,7 +242,7 @@ module _ (bytes : List ℕ) (at solid : ℕ) (from : at ≤ solid) (inside : sol
       let value : (b || is_value_colon p (after_blanks (text_at bytes at))) ≡ true = ap (λ t. b || is_value_colon p t) text_solid ∙ ap (λ x. b || x) (sym h) ∙ or-true b in
       (ap (λ x. cond x (Some (behind 1 (blanks_dropped (lines_at bytes at)))) None) value ∙ ap (λ ls. Some (behind 1 ls)) e ∙ ap Some both.0, omega arith, omega arith)
 
-  pub block_found : true ≡ is_value_colon (block 0) (text_at bytes solid) → IsColon (keys.behind_colon (lines_at bytes at)) bytes at (Some (solid + 1))
+  pub block_found : true ≡ is_value_colon (block 0) (text_at bytes solid) → IsColon (block_reads.behind_colon (lines_at bytes at)) bytes at (Some (solid + 1))
   block_found h = found_by (block 0) false h
 
   pub flow_found : (q : Bool) → true ≡ is_value_colon flow (text_at bytes solid) → IsColon (items.behind_colon q (lines_at bytes at)) bytes at (Some (solid + 1))

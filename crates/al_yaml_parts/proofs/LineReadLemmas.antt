@@ -1,10 +1,10 @@
 -- What is read on a line of block context: keys, and scalars with the rest of their line.
 use Rattle.std.proofs.Common.{◌≡◌, ℕ, zero, suc, ◌+◌, ◌-◌, ◌<◌, ◌≤◌, List, [], ◌∷◌, length, take, slice_index, refl, sym, ap, ◌∙◌, arith}
-use Rattle.std.proofs.Common.{true, false, Option, Some, None, Result, Ok, Err, IfOk}
+use Rattle.std.proofs.Common.{Bool, true, false, cond, if◌then◌else◌, Option, Some, None, Result, Ok, Err, IfOk}
 use Rattle.std.proofs.lemmas.List.{get_or-take}
 use Rattle.std.proofs.lemmas.List.{length-take}
 use Rattle.al_scalar.specs.ReadScalar.{read_of}
-use Rattle.al_scalar.specs.Line.{Cell, Line, with_cell}
+use Rattle.al_scalar.specs.Line.{Cell, Line, blanks_dropped, with_cell}
 use Rattle.al_scalar.specs.Places.{first_text, first_end, lines_at, text_at}
 use Rattle.al_scalar.specs.LineEnds.{IsLineEnd}
 use Rattle.al_scalar.specs.Plain.{block}
@@ -13,13 +13,14 @@ use Rattle.al_scalar.specs.Scalar.{scalar_at}
 use Rattle.al_scalar.specs.Taken.{Fault}
 use Rattle.al_scalar.specs.declared.scalars.ScalarRead.{ScalarRead}
 use Rattle.al_yaml_tree.specs.Node as tree
-use Rattle.al_yaml_tree.specs.Reading.{Reading, Part, part, and_then, gives, of_result, with_start, start_of, ◌>>=◌}
+use Rattle.al_yaml_tree.specs.Reading.{Reading, Part, part, gives, of_result, with_start, start_of, ◌>>=◌}
 use Rattle.al_yaml_tree.specs.Limits.{broken_limit}
-use Rattle.al_yaml_tree.specs.Content.{is_quote}
-use Rattle.al_yaml_tree.specs.Blocks.{scalar_left, scalar_node_at}
+use Rattle.al_yaml_tree.specs.Content.{behind, is_quote, line_ended}
+use Rattle.al_yaml_tree.specs.Blocks.{ending_line, scalar_node_at}
 use Rattle.al_yaml_tree.specs.View.{view}
 use Rattle.al_yaml_parts.specs.declared.part.Part as code
-use Rattle.al_yaml_tree.specs.Keys.{Key, one_line, with_lines, plain_on_line, key_scalar, behind_colon, key_of}
+use Rattle.al_yaml_tree.specs.Keys.{Key, is_block_start, one_line, with_lines, plain_on_line, key_scalar, has_colon, key_of}
+use Rattle.al_yaml_parts.specs.BlockReads.{behind_colon, scalar_left}
 use Rattle.al_yaml_parts.specs.Places.{IsReadInside}
 use Rattle.al_yaml_parts.specs.Reads.{State, run, with_nodes, Stops, Refuses, Answers, part_of}
 use Rattle.al_yaml_parts.specs.declared.faults.ReadError.{ReadError}
@@ -53,7 +54,7 @@ with_lines-own [] = refl
 with_lines-own (l ∷ ls) = refl
 
 abbrev read_with_lines : List Line → Result value.ScalarRead Fault → Result value.ScalarRead Fault
-read_with_lines ls r = and_then r (λ r. Ok (record { scalar = r.scalar; span = r.span; left = with_lines r.left ls }))
+read_with_lines ls r = elim r [ Ok r ↦ Ok (record r { left = with_lines r.left ls }) | Err f ↦ Err f ]
 
 module _ (bytes : List ℕ) (e : ℕ) (inside : e ≤ length bytes) (ended : IsLineEnd bytes e) where
   short_length : length (take e bytes) ≡ e
@@ -147,16 +148,25 @@ module _ (bytes : List ℕ) (e : ℕ) (inside : e ≤ length bytes) (ended : IsL
 
 -- ---- keys
 
-pub key-stops : (asked : Result value.ScalarRead Fault) (e : ReadError) → Refuses asked e → Refuses (and_then asked (λ r. Ok (key_of r))) e
-key-stops asked (stop.Fault f) h = ap (λ a. and_then a (λ r. Ok (key_of r))) h
+abbrev keyed : Result value.ScalarRead Fault → Result (Option Key) Fault
+keyed asked = elim asked [ Ok r ↦ Ok (key_of r) | Err f ↦ Err f ]
+
+pub key-stops : (asked : Result value.ScalarRead Fault) (e : ReadError) → Refuses asked e → Refuses (keyed asked) e
+key-stops asked (stop.Fault f) h = ap keyed h
 key-stops asked stop.Memory h = tt
 
 abbrev pub key_with : value.ScalarRead → Option (List Line) → Option Key
 key_with r o = elim o [ None ↦ None | Some left ↦ Some (record { scalar = r; behind = left }) ]
 
+key-by : (r : value.ScalarRead) (left : List Line) (colon : Bool)
+    → cond colon (Some (record { scalar = r; behind = left })) None ≡ key_with r (cond colon (Some left) None)
+key-by r left true = refl
+key-by r left false = refl
+
 pub key-given : (asked : Result value.ScalarRead Fault) (r : value.ScalarRead) (o : Option (List Line)) → asked ≡ Ok r → behind_colon r.left ≡ o
-    → and_then asked (λ r. Ok (key_of r)) ≡ Ok (key_with r o)
-key-given asked r o h k = ap (λ a. and_then a (λ r. Ok (key_of r))) h ∙ ap (λ x. Ok (key_with r x)) k
+    → keyed asked ≡ Ok (key_with r o)
+key-given asked r o h k =
+    ap keyed h ∙ ap Ok (key-by r (behind 1 (blanks_dropped r.left)) (has_colon r.left)) ∙ ap (λ x. Ok (key_with r x)) k
 
 pub answers-same : (bytes : List ℕ) (asked other : Result value.ScalarRead Fault) (result : Result ScalarRead ReadError) → asked ≡ other
     → Answers (read_of bytes) other result → Answers (read_of bytes) asked result
@@ -172,9 +182,20 @@ key-plain ls h = if-false (is_quote (first_text ls)) _ _ h
 
 -- ---- a scalar with the rest of its line
 
+abbrev behind_scalar : Bool → Part tree.Node → Reading (Part tree.Node)
+behind_scalar is_block = if is_block then gives else ending_line
+
 module _ (within : ℕ) (n : State) (at : ℕ) (bytes : List ℕ) (inside : at ≤ length bytes) where
   abbrev pub left_of : value.ScalarRead → Reading (Part tree.Node)
-  left_of r = of_result (scalar_left (lines_at bytes at) r.left) >>= (λ left. gives (part (tree.scalar_node r) r.span.end left))
+  left_of r = behind_scalar (is_block_start (text_at bytes at)) (part (tree.scalar_node r) r.span.end r.left)
+
+  abbrev pub behind_of : value.ScalarRead → Reading (Part tree.Node)
+  behind_of r = of_result (scalar_left (lines_at bytes at) r.left) >>= (λ left. gives (part (tree.scalar_node r) r.span.end left))
+
+  left-by : (r : value.ScalarRead) (is_block : Bool) → behind_scalar is_block (part (tree.scalar_node r) r.span.end r.left)
+      ≡ (of_result (cond is_block (Ok r.left) (line_ended r.left)) >>= (λ left. gives (part (tree.scalar_node r) r.span.end left)))
+  left-by r true = refl
+  left-by r false = refl
 
   abbrev pub line_scalar : Reading (Part tree.Node)
   line_scalar = of_result (scalar_at (block within) (lines_at bytes at)) >>= left_of
@@ -193,8 +214,10 @@ module _ (within : ℕ) (n : State) (at : ℕ) (bytes : List ℕ) (inside : at �
     line-unread e h = stops-from _ _ n m e line-starts (stops-given (scalar_at (block within) (lines_at bytes at)) left_of m e h)
 
     module _ (r : ScalarRead) (read : scalar_at (block within) (lines_at bytes at) ≡ Ok (read_of bytes r)) where
-      line-read : run n (scalar_node_at within (lines_at bytes at)) ≡ run m (left_of (read_of bytes r))
-      line-read = line-starts ∙ given-ok (scalar_at (block within) (lines_at bytes at)) left_of m (read_of bytes r) read
+      line-read : run n (scalar_node_at within (lines_at bytes at)) ≡ run m (behind_of (read_of bytes r))
+      line-read =
+          line-starts ∙ given-ok (scalar_at (block within) (lines_at bytes at)) left_of m (read_of bytes r) read
+          ∙ ap (run m) (left-by (read_of bytes r) (is_block_start (text_at bytes at)))
 
       pub line-wrong : (f : Fault) → scalar_left (lines_at bytes at) (lines_at bytes r.next) ≡ Err f → run n (scalar_node_at within (lines_at bytes at)) ≡ Err f
       line-wrong f h =

@@ -1,9 +1,9 @@
 -- How contracts speak of keys and slots of block collections.
 use Rattle.std.specs.Prelude.{ℕ, ◌<◌, ◌≤◌, List, length, ◌==◌, nat_lt, if◌then◌else◌, Option, Some, None, IfSome, Result, Ok}
 use Rattle.al_base.specs.declared.codes.YamlCode.TheVariants as yaml
-use Rattle.al_scalar.specs.Line.{Line, start}
+use Rattle.al_scalar.specs.Line.{Line, start, blanks_dropped}
 use Rattle.al_scalar.specs.ReadScalar.{read_of}
-use Rattle.al_scalar.specs.Places.{lines_at}
+use Rattle.al_scalar.specs.Places.{first_text, lines_at}
 use Rattle.al_scalar.specs.Taken.{Fault, fault}
 use Rattle.al_yaml_tree.specs.Content as content
 use Rattle.al_yaml_tree.specs.Keys as keys
@@ -29,6 +29,14 @@ pub record IsKeyBehind (bytes : List ℕ) (at : ℕ) (key : Key) : Type 0 where
 abbrev pub IsOptionKey : List ℕ → ℕ → Option Key → Type 0
 IsOptionKey bytes at None = Unit {0}
 IsOptionKey bytes at (Some key) = IsKeyBehind bytes at key
+
+-- the lines behind the colon that follows a scalar
+abbrev pub behind_colon : List Line → Option (List Line)
+behind_colon ls = if keys.has_colon ls then Some (content.behind 1 (blanks_dropped ls)) else None
+
+-- what is left behind a scalar: a block scalar ends with its last line
+abbrev pub scalar_left : List Line → List Line → Result (List Line) Fault
+scalar_left ls left = if keys.is_block_start (first_text ls) then Ok left else content.line_ended left
 
 -- the next entry of a collection in a column, on the next content line, if there is one
 abbrev pub next_found : ℕ → content.Next → Result (Option (List Line)) Fault

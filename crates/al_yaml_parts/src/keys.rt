@@ -4,6 +4,7 @@ ghost use Rattle.al_scalar.specs.ReadScalar.{read_of};
 ghost use Rattle.al_scalar.specs.Line as line;
 ghost use Rattle.al_scalar.specs.Places.{lines_at, text_at};
 ghost use Rattle.al_scalar.specs.Plain as plain;
+ghost use Rattle.al_yaml_parts.specs.BlockReads as block_reads;
 ghost use Rattle.al_yaml_parts.specs.BlockReads.{IsOptionKey, option_key};
 ghost use Rattle.al_yaml_tree.specs.Content as content;
 ghost use Rattle.al_yaml_parts.specs.Files.{left_at, size};
@@ -67,7 +68,7 @@ fn is_block_colon(bytes: &[u8], at: usize) -> bool
 /// The offset behind the colon that parts a block mapping's key from its value, if one follows.
 pub fn behind_colon(bytes: &[u8], at: usize) -> Option<usize>
     requires { at ≤ length bytes.now }
-    ensures { IsColon (keys.behind_colon (lines_at bytes.now at)) bytes.now at result }
+    ensures { IsColon (block_reads.behind_colon (lines_at bytes.now at)) bytes.now at result }
 {
     let solid = blanks_end(bytes, at);
     if !is_block_colon(bytes, solid) {

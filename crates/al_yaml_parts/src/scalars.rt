@@ -3,6 +3,7 @@
 ghost use Rattle.al_scalar.specs.ReadScalar.{read_of, reading_at};
 ghost use Rattle.al_scalar.specs.Places.{lines_at};
 ghost use Rattle.al_yaml_tree.specs.Blocks as block;
+ghost use Rattle.al_yaml_parts.specs.BlockReads.{scalar_left};
 ghost use Rattle.al_yaml_parts.specs.Files.{left_at, size};
 ghost use Rattle.al_yaml_tree.specs.Flow as flow;
 ghost use Rattle.al_yaml_tree.specs.Node as tree;
@@ -79,7 +80,7 @@ fn line_behind_scalar(bytes: &[u8], at: usize, next: usize) -> Result<usize, Fau
     requires inside { next ≤ length bytes.now }
     ensures fault { IfErr result (λ f. f.at ≤ length bytes.now) }
     ensures is { Shows (lines_at bytes.now)
-        (block.scalar_left (lines_at bytes.now at) (lines_at bytes.now next)) result }
+        (scalar_left (lines_at bytes.now at) (lines_at bytes.now next)) result }
     ensures inside { IfOk result (λ left. left ≤ length bytes.now) }
     ensures from { IfOk result (λ left. next ≤ left) }
 {

@@ -1,5 +1,5 @@
 -- Block nodes keep to what is said of nodes.
-use Rattle.std.proofs.Common.{◌≡◌, ℕ, zero, suc, ◌+◌, ◌≤◌, List, [], ◌∷◌, refl, arith, Bool, true, not, ◌&&◌, ◌||◌, ◌==◌, nat_lt}
+use Rattle.std.proofs.Common.{◌≡◌, ℕ, zero, suc, ◌+◌, ◌≤◌, List, [], ◌∷◌, refl, arith, Bool, true, false, not, ◌&&◌, ◌||◌, ◌==◌, nat_lt}
 use Rattle.std.proofs.Common.{if◌then◌else◌, Option, Some, None}
 use Rattle.al_base.specs.declared.codes.YamlCode.TheVariants as yaml
 use Rattle.al_base.specs.Ascii.{ascii}
@@ -10,10 +10,10 @@ use Rattle.al_scalar.specs.Places.{first_text}
 use Rattle.al_scalar.specs.Plain.{block}
 use Rattle.al_scalar.specs.Scalar.{scalar_at}
 use Rattle.al_scalar.proofs.OffsetLemmas.{choose, climbing-order}
-use Rattle.al_yaml_tree.specs.Blocks.{Spot, own_line, compact, behind_key, Slot, at_spot, BlockReader, is_behind_key, tab_before}
+use Rattle.al_yaml_tree.specs.Blocks.{Spot, own_line, compact, behind_key, Slot, BlockReader, is_behind_key, tab_before}
 use Rattle.al_yaml_tree.specs.Blocks.{unless_tab, spot_behind, is_deeper, node_found, rest_node, rest_found, rest_below}
 use Rattle.al_yaml_tree.specs.Blocks.{entry_slot, sequence_entries, value_slot}
-use Rattle.al_yaml_tree.specs.Blocks.{mapping_entries, scalar_left, scalar_node_at, ending_line}
+use Rattle.al_yaml_tree.specs.Blocks.{mapping_entries, scalar_node_at, ending_line}
 use Rattle.al_yaml_tree.specs.Blocks.{block_sequence, block_mapping, block_content, block_property, block_node}
 use Rattle.al_yaml_tree.specs.Content.{Next, ended, at_line, is_skipped, content, line_ended, whole_lines, behind, is_dash}
 use Rattle.al_yaml_tree.specs.Content.{tab_among, block_fault, is_flow_start, is_property, same_line, characters, is_short_key}
@@ -30,7 +30,6 @@ use Rattle.al_yaml_tree.proofs.NodeReading.{IsDone, no-items, no-entries, IsPart
 use Rattle.al_yaml_tree.proofs.NodeReading.{whole-part, read-part, part-lower, part-back, item-done, entry-done, Reads, reads-value, reads-fault}
 use Rattle.al_yaml_tree.proofs.NodeReading.{reads-given, reads-then, reads-start, reads-unless, reads-by, reads-also, empty-reads, collected}
 use Rattle.al_yaml_tree.proofs.NodeReading.{alias-reads, anchored-reads}
-use Rattle.al_yaml_tree.proofs.ScalarSpans.{Answers}
 
 abbrev IsIn : File → Option ℕ → Type 0
 IsIn f None = Unit {0}
@@ -75,7 +74,7 @@ module _ {f : File} where
   first_tab-in low (l ∷ ls) h = tab_among-in f low l.end l.text h.stand.1.0 h.stand.0.0
 
   at_spot-in : {back : ℕ → ℕ} {low : ℕ} {slot : Slot} (spot : Spot) → TabIn f spot → SlotIn f back low slot
-      → SlotIn f back low (at_spot spot slot)
+      → SlotIn f back low (record slot { spot = spot })
   at_spot-in spot t s = record { tab = t; behind = s.behind; inside = s.inside; reach = s.reach; back_to = s.back_to }
 
   module _ (node : BlockReader) (n : BlockIn f node) where
@@ -83,7 +82,7 @@ module _ {f : File} where
         → (found : Next) → NextLeft f low found → Reads f (IsPart f itself back low) (node_found node slot depth ls found)
     found-in back slot depth low ls s h ended k = empty-reads s.behind s.inside (left-lower s.reach h)
     found-in back slot depth low ls s h (at_line i left) k =
-        reads-by (is_deeper slot i left) (λ _. n back (at_spot own_line slot) depth i low left (at_spot-in own_line tt s) k)
+        reads-by (is_deeper slot i left) (λ _. n back (record slot { spot = own_line }) depth i low left (at_spot-in own_line tt s) k)
         (λ _. empty-reads s.behind s.inside (left-lower s.reach h))
 
     rest-in : (back : ℕ → ℕ) (slot : Slot) (depth column low : ℕ) (ls rest : List Line) → SlotIn f back low slot → AreLeft f low rest
@@ -94,7 +93,7 @@ module _ {f : File} where
         reads-by (is_skipped (first_text rest))
         (λ _. reads-then (reads-given (NextLeft f low) (content (whole_lines rest)) (content-in low (whole_lines rest) (left-whole h)))
         (λ found k. found-in back slot depth low (whole_lines rest) s (left-whole h) found k))
-        (λ _. n back (at_spot spot slot) depth (column + characters (start left) (first_text ls)) low left
+        (λ _. n back (record slot { spot = spot }) depth (column + characters (start left) (first_text ls)) low left
         (at_spot-in spot (spot_behind-in f (first_text rest) slot.spot (first_tab-in low rest h) s.tab) s) (left-blanks h))
 
     -- what stands in a collection, where an empty node would stand at the lines
@@ -132,22 +131,21 @@ module _ {f : File} where
 
   -- ---- scalars and flow collections
 
-  scalar_left-in : (low : ℕ) (ls left : List Line) → AreLeft f low left → Answers f.size (AreLeft f low) (scalar_left ls left)
-  scalar_left-in low ls left h =
-      choose (Answers f.size (AreLeft f low)) (is_block_start (first_text ls)) (λ _. h) (λ _. line_ended-in low left h)
+  ending_line-in : (low : ℕ) (x : Part Node) → IsNode f low x → Reads f (IsNode f low) (ending_line x)
+  ending_line-in low x h =
+      reads-then {g = λ (left : List Line). gives (part x.value x.end left)}
+      (reads-given (AreLeft f x.end) (line_ended x.left) (line_ended-in x.end x.left h.left)) (λ left v. reads-value (whole-part h.done v))
+
+  behind_scalar-in : (is_block : Bool) (low : ℕ) (x : Part Node) → IsNode f low x
+      → Reads f (IsNode f low) ((if is_block then gives else ending_line) x)
+  behind_scalar-in true low x h = reads-value h
+  behind_scalar-in false low x h = ending_line-in low x h
 
   scalar_node-in : (within low : ℕ) (ls : List Line) → AreLeft f low ls → Reads f (IsNode f low) (scalar_node_at within ls)
   scalar_node-in within low ls h =
       reads-start (starts-in h)
       (reads-then (reads-given (IsRead f low) (scalar_at (block within) ls) (scalar-read (block within) low ls h))
-      (λ r k. reads-then {g = λ (left : List Line). gives (part (scalar_node r) r.span.end left)}
-      (reads-given (AreLeft f r.span.end) (scalar_left ls r.left) (scalar_left-in r.span.end ls r.left k.left))
-      (λ left v. reads-value (read-part k v))))
-
-  ending_line-in : (low : ℕ) (x : Part Node) → IsNode f low x → Reads f (IsNode f low) (ending_line x)
-  ending_line-in low x h =
-      reads-then {g = λ (left : List Line). gives (part x.value x.end left)}
-      (reads-given (AreLeft f x.end) (line_ended x.left) (line_ended-in x.end x.left h.left)) (λ left v. reads-value (whole-part h.done v))
+      (λ r k. behind_scalar-in (is_block_start (first_text ls)) low (part (scalar_node r) r.span.end r.left) (read-part k k.left)))
 
   behind_flow-in : (spot : Spot) (at low : ℕ) (x : Part Node) → at ≤ f.size → IsNode f low x
       → Reads f (IsNode f low) (if not (is_behind_key spot) && has_colon x.left then fails yaml.WrongKey at else ending_line x)

@@ -10,7 +10,8 @@ use Rattle.std.proofs.lemmas.Nat.{mod_below}
 use Rattle.std.proofs.lemmas.Str.{IsUtf8-append, IsUtf8-encode, IsUtf8-nil}
 use Rattle.std.specs.Char.{IsScalar}
 use Rattle.std.specs.Prelude.{IsUtf8}
-use Rattle.al_yaml_tree.specs.Bytes.{between, following, is_second, are_continuations, is_well_formed, ill_formed_at}
+use Rattle.std.specs.Int.{is_in_range}
+use Rattle.al_yaml_tree.specs.Bytes.{following, is_second, are_continuations, is_well_formed, ill_formed_at}
 use Rattle.al_scalar.proofs.OffsetLemmas.{choose}
 use Rattle.al_scalar.proofs.Utf8Lemmas.{both-left, either}
 use Rattle.al_scalar.proofs.Utf8Texts.{both-right, one-ascii}
@@ -114,7 +115,7 @@ four a b d g m n c ha hb hb' hd hd' hg hg' em en ec low s =
 
 -- ---- what the table says
 
-between-order : (low high b : ℕ) → between low high b ≡ true → (low ≤ b) × (b ≤ high)
+between-order : (low high b : ℕ) → is_in_range low high b ≡ true → (low ≤ b) × (b ≤ high)
 between-order low high b h = (grind (arith, nat_tests, h), grind (arith, nat_tests, h))
 
 pub equal : (a b : ℕ) → (a == b) ≡ true → a ≡ b
@@ -132,7 +133,8 @@ record IsSecond (a b : ℕ) : Type 0 where
   not_shorter : a ≡ 240 → 144 ≤ b
   in_range : a ≡ 244 → b < 144
 
-second-from : (a b low high : ℕ) → 128 ≤ low → high < 192 → (a ≡ 224 → 160 ≤ low) → (a ≡ 237 → high < 160) → (a ≡ 240 → 144 ≤ low) → (a ≡ 244 → high < 144) → between low high b ≡ true → IsSecond a b
+second-from : (a b low high : ℕ) → 128 ≤ low → high < 192 → (a ≡ 224 → 160 ≤ low) → (a ≡ 237 → high < 160) → (a ≡ 240 → 144 ≤ low) → (a ≡ 244 → high < 144)
+    → is_in_range low high b ≡ true → IsSecond a b
 second-from a b low high l m p q r s h =
     let o = between-order low high b h in
     let o0 = o.0 in
@@ -234,21 +236,21 @@ following-three a h =
     let g : nat_lt a 240 ≡ false = grind (arith, nat_tests) in
     rw (e, f, g) refl
 
-continuation : (d : ℕ) → between 128 191 d ≡ true → (128 ≤ d) × (d < 192)
+continuation : (d : ℕ) → is_in_range 128 191 d ≡ true → (128 ≤ d) × (d < 192)
 continuation d h = let o = between-order 128 191 d h in let o1 = o.1 in (o.0, omega (arith, o1))
 
 after-two : (a b : ℕ) (bs : List ℕ) → 224 ≤ a → a < 240 → IsSecond a b → are_continuations 1 bs ≡ true → IsUtf8 (drop 2 (b ∷ bs)) → IsUtf8 (a ∷ b ∷ bs)
 after-two a b [] h k s c u = absurd (false≢true c)
 after-two a b (d ∷ bs) h k s c u =
-    let o = continuation d (both-left (between 128 191 d) true c) in
+    let o = continuation d (both-left (is_in_range 128 191 d) true c) in
     IsUtf8-append (a ∷ b ∷ d ∷ []) bs (three-text a b d ((a - 224) * 64 + (b - 128)) (((a - 224) * 64 + (b - 128)) * 64 + (d - 128)) h k s o.0 o.1 refl refl) u
 
 after-three : (a b : ℕ) (bs : List ℕ) → 240 ≤ a → a ≤ 244 → IsSecond a b → are_continuations 2 bs ≡ true → IsUtf8 (drop 3 (b ∷ bs)) → IsUtf8 (a ∷ b ∷ bs)
 after-three a b [] h k s c u = absurd (false≢true c)
-after-three a b (d ∷ []) h k s c u = absurd (false≢true (both-right (between 128 191 d) false c))
+after-three a b (d ∷ []) h k s c u = absurd (false≢true (both-right (is_in_range 128 191 d) false c))
 after-three a b (d ∷ g ∷ bs) h k s c u =
-    let o = continuation d (both-left (between 128 191 d) (between 128 191 g && true) c) in
-    let p = continuation g (both-left (between 128 191 g) true (both-right (between 128 191 d) (between 128 191 g && true) c)) in
+    let o = continuation d (both-left (is_in_range 128 191 d) (is_in_range 128 191 g && true) c) in
+    let p = continuation g (both-left (is_in_range 128 191 g) true (both-right (is_in_range 128 191 d) (is_in_range 128 191 g && true) c)) in
     let m = (a - 240) * 64 + (b - 128) in
     let n = m * 64 + (d - 128) in
     IsUtf8-append (a ∷ b ∷ d ∷ g ∷ []) bs (four-text a b d g m n (n * 64 + (g - 128)) h k s o.0 o.1 p.0 p.1 refl refl refl) u
@@ -271,14 +273,15 @@ narrow a bs l u = IsUtf8-append (a ∷ []) bs (one-ascii a l) (subst (λ (n : �
 
 first-char : (a : ℕ) (bs : List ℕ) → is_well_formed (a ∷ bs) ≡ true → IsUtf8 (drop (following a) bs) → IsUtf8 (a ∷ bs)
 first-char a [] w u = one-ascii a (below-test a 128 w)
-first-char a (b ∷ bs) w u = by-form (either (nat_lt a 128) (between 0xc2 0xf4 a && is_second a b && are_continuations (following a - 1) bs) w)
+first-char a (b ∷ bs) w u = by-form (either (nat_lt a 128) (is_in_range 0xc2 0xf4 a && is_second a b && are_continuations (following a - 1) bs) w)
   where
-    by-form : (nat_lt a 128 ≡ true) ⊎ ((between 0xc2 0xf4 a && is_second a b && are_continuations (following a - 1) bs) ≡ true) → IsUtf8 (a ∷ b ∷ bs)
+    by-form : (nat_lt a 128 ≡ true) ⊎ ((is_in_range 0xc2 0xf4 a && is_second a b && are_continuations (following a - 1) bs) ≡ true) → IsUtf8 (a ∷ b ∷ bs)
     by-form (inl e) = narrow a (b ∷ bs) (below-test a 128 e) u
     by-form (inr e) =
-        let front = both-left (between 0xc2 0xf4 a && is_second a b) (are_continuations (following a - 1) bs) e in
-        let o = between-order 0xc2 0xf4 a (both-left (between 0xc2 0xf4 a) (is_second a b) front) in
-        wide a b bs o.0 o.1 (second a b (both-right (between 0xc2 0xf4 a) (is_second a b) front)) (both-right (between 0xc2 0xf4 a && is_second a b) (are_continuations (following a - 1) bs) e) u
+        let front = both-left (is_in_range 0xc2 0xf4 a && is_second a b) (are_continuations (following a - 1) bs) e in
+        let o = between-order 0xc2 0xf4 a (both-left (is_in_range 0xc2 0xf4 a) (is_second a b) front) in
+        wide a b bs o.0 o.1 (second a b (both-right (is_in_range 0xc2 0xf4 a) (is_second a b) front))
+        (both-right (is_in_range 0xc2 0xf4 a && is_second a b) (are_continuations (following a - 1) bs) e) u
 
 -- ---- all of them
 

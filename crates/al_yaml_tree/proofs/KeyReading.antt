@@ -14,12 +14,12 @@ use Rattle.al_scalar.proofs.Utf8Lemmas.{AreUtf8}
 use Rattle.al_scalar.proofs.Utf8Texts.{IsText}
 use Rattle.al_yaml_tree.specs.Content.{is_dash, block_fault, is_flow_start, is_quote, is_property, is_simple_key}
 use Rattle.al_yaml_tree.specs.Flow.{CollectionReader}
-use Rattle.al_yaml_tree.specs.Keys.{Key, one_line, with_lines, key_scalar, has_colon, behind_colon, key_of, key_at}
+use Rattle.al_yaml_tree.specs.Keys.{Key, one_line, with_lines, key_scalar, has_colon, key_of, key_at}
 use Rattle.al_yaml_tree.specs.Keys.{is_block_start, collection_fault, no_entry, found_key, entry_key}
 use Rattle.al_yaml_tree.specs.Node.{Node, scalar_node}
-use Rattle.al_yaml_tree.specs.Reading.{and_then, fails, Part, ◌>>=◌}
+use Rattle.al_yaml_tree.specs.Reading.{fails, Part, ◌>>=◌}
 use Rattle.al_yaml_tree.proofs.FlowReading.{CollectionIn}
-use Rattle.al_yaml_tree.proofs.LeftLines.{File, AreLeft, IsRead, OptionLeft, starts-in, left-colon, scalar-read}
+use Rattle.al_yaml_tree.proofs.LeftLines.{File, AreLeft, IsRead, starts-in, left-colon, scalar-read}
 use Rattle.al_yaml_tree.proofs.NodeReading.{Reads, reads-fault, reads-given, reads-then, reads-one, reads-unless, reads-by}
 use Rattle.al_yaml_tree.proofs.ScalarSpans.{Answers}
 use Rattle.al_yaml_tree.proofs.SpanLemmas.{placed-more}
@@ -48,7 +48,7 @@ abbrev up_to : File → Line → File
 up_to f l = record { size = l.end; is_utf8 = f.is_utf8; is_plain = f.is_plain }
 
 abbrev read_with_lines : List Line → Result ScalarRead Fault → Result ScalarRead Fault
-read_with_lines ls r = and_then r (λ r. Ok (record { scalar = r.scalar; span = r.span; left = with_lines r.left ls }))
+read_with_lines ls r = elim r [ Ok r ↦ Ok (record r { left = with_lines r.left ls }) | Err f ↦ Err f ]
 
 module _ {f : File} where
   one_line-left : (low : ℕ) (l : Line) (ls : List Line) → AreLeft f low (l ∷ ls) → AreLeft (up_to f l) low (one_line (l ∷ ls))
@@ -76,20 +76,13 @@ module _ {f : File} where
   key_scalar-in low ls h = choose (Answers f.size (IsRead f low)) (is_quote (first_text ls)) (λ _. scalar-read (block 0) low ls h)
       (λ _. plain-read low ls h)
 
-  -- ---- keys
-
-  behind_colon-in : (low : ℕ) (ls : List Line) → AreLeft f low ls → OptionLeft f low (behind_colon ls)
-  behind_colon-in low ls h = choose (OptionLeft f low) (has_colon ls) (λ e. left-colon (colon-utf8 (block 0) ls e) h) (λ _. tt)
-
-  key_by : (low : ℕ) (r : ScalarRead) → IsRead f low r → (o : Option (List Line)) → OptionLeft f r.span.end o
-      → OptionKeyIn f low (elim o [ None ↦ None | Some left ↦ Some (record { scalar = r; behind = left }) ])
-  key_by low r h None k = tt
-  key_by low r h (Some left) k = (h, k)
+-- ---- keys
 
 key_from-in : (f : File) (low : ℕ) (r : Result ScalarRead Fault) → Answers f.size (IsRead f low) r
-    → Answers f.size (OptionKeyIn f low) (and_then r (λ r. Ok (key_of r)))
+    → Answers f.size (OptionKeyIn f low) (elim r [ Ok r ↦ Ok (key_of r) | Err f ↦ Err f ])
 key_from-in f low (Err e) h = h
-key_from-in f low (Ok r) h = key_by low r h (behind_colon r.left) (behind_colon-in r.span.end r.left h.left)
+key_from-in f low (Ok r) h =
+    choose (OptionKeyIn f low) (has_colon r.left) (λ e. (h, left-colon (colon-utf8 (block 0) r.left e) h.left)) (λ _. tt)
 
 module _ {f : File} where
   pub key_at-in : (low : ℕ) (ls : List Line) → AreLeft f low ls → Answers f.size (OptionKeyIn f low) (key_at ls)

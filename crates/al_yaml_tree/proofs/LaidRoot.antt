@@ -1,6 +1,7 @@
 -- The tree of a file lies in it, and so does its first fault.
 use Rattle.std.proofs.Common.{◌≡◌, subst, ℕ, zero, suc, ◌+◌, ◌<◌, ◌≤◌, List, [], ◌∷◌, length, arith}
-use Rattle.std.proofs.Common.{Option, Some, None, is_some, cond, Result, Ok, Err, IfOk}
+use Rattle.std.proofs.Common.{Option, Some, None, is_some, option_map, cond, Result, Ok, Err, IfOk}
+use Rattle.std.specs.Option.{option_or}
 use Rattle.al_base.specs.Spans.{LiesIn}
 use Rattle.al_base.specs.declared.codes.YamlCode.TheVariants as yaml
 use Rattle.al_scalar.specs.Taken.{Fault}
@@ -77,13 +78,10 @@ module _ (bytes : List ℕ) where
   -- the tree, unless the bytes have a fault
 
   abbrev unprintable : Option ℕ → Option Fault
-  unprintable o = elim o [ None ↦ None | Some at ↦ Some (record { code = yaml.ControlCharacter; at = at }) ]
+  unprintable o = option_map (λ at. record { code = yaml.ControlCharacter; at = at }) o
 
   abbrev ill_formed : Option ℕ → Option Fault
-  ill_formed o = elim o [
-    | Some at ↦ Some (record { code = yaml.NotUtf8; at = at })
-    | None ↦ unprintable (unprintable_at 0 bytes)
-  ]
+  ill_formed o = option_or (option_map (λ at. record { code = yaml.NotUtf8; at = at }) o) (unprintable (unprintable_at 0 bytes))
 
   printed : (o : Option ℕ) → IsBelow (length bytes) o → LiesAmong None (unless_fault (unprintable o) (document_of bytes))
   printed None h = answer_lies (document_of bytes) document_of-in

@@ -1,7 +1,8 @@
 -- The texts of a document are UTF-8.
-use Rattle.std.proofs.Common.{◌≡◌, ℕ, List, length, refl, sym, subst, Option, Some, None, Result, Ok, IfOk}
+use Rattle.std.proofs.Common.{◌≡◌, ℕ, List, length, refl, sym, subst, Option, Some, None, option_map, Result, Ok, IfOk}
 use Rattle.std.specs.Prelude.{IfNone, IsUtf8}
 use Rattle.al_base.specs.declared.codes.YamlCode.TheVariants as yaml
+use Rattle.std.specs.Option.{option_or}
 use Rattle.al_scalar.specs.Taken.{Fault}
 use Rattle.al_scalar.specs.declared.faults.YamlFault.{YamlFault}
 use Rattle.al_yaml_tree.specs.Bytes.{ill_formed_at, unprintable_at, byte_fault}
@@ -22,10 +23,9 @@ abbrev IsNo : Option Fault → Type 0
 IsNo None = Unit {0}
 IsNo (Some f) = ⊥
 
-well-by : (more o : Option ℕ) → IsNo (elim o [
-  | Some at ↦ Some (record { code = yaml.NotUtf8; at = at })
-  | None ↦ elim more [ None ↦ None | Some at ↦ Some (record { code = yaml.ControlCharacter; at = at }) ]
-]) → o ≡ None
+well-by : (more o : Option ℕ)
+    → IsNo (option_or (option_map (λ at. record { code = yaml.NotUtf8; at = at }) o) (option_map (λ at. record { code = yaml.ControlCharacter; at = at }) more))
+    → o ≡ None
 well-by more (Some at) h = absurd h
 well-by more None h = refl
 

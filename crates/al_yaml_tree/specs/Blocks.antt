@@ -1,10 +1,9 @@
 -- Block nodes (YAML 1.2.2, 8.2).
 use Rattle.std.specs.Prelude.{ℕ, zero, suc, ◌+◌, List, Bool, true, false, not, ◌&&◌, ◌||◌, ◌==◌, nat_le}
-use Rattle.std.specs.Prelude.{nat_lt, if◌then◌else◌, Option, Some, None, Result, Ok}
+use Rattle.std.specs.Prelude.{nat_lt, if◌then◌else◌, Option, Some, None}
 use Rattle.al_base.specs.declared.codes.YamlCode.TheVariants as yaml
 use Rattle.al_scalar.specs.Line.{Cell, Line, start, blanks_dropped}
 use Rattle.al_scalar.specs.Places.{first_text}
-use Rattle.al_scalar.specs.Taken.{Fault}
 use Rattle.al_scalar.specs.Plain.{block}
 use Rattle.al_scalar.specs.Scalar.{scalar_at}
 use Rattle.al_yaml_tree.specs.Node.{Node, Nodes, Entries, sequence, mapping, no_nodes, with_item, no_entries, with_entry, scalar_node}
@@ -29,9 +28,6 @@ pub record Slot : Type 0 where
   pub within : ℕ
   pub in_mapping : Bool
   pub empty : ℕ
-
-abbrev pub at_spot : Spot → Slot → Slot
-at_spot spot s = record { spot = spot; within = s.within; in_mapping = s.in_mapping; empty = s.empty }
 
 -- Reads the node of this depth at the first character, which stands in this column.
 abbrev pub BlockReader : Type 0
@@ -63,7 +59,7 @@ is_deeper slot i left = nat_le slot.within i || (slot.in_mapping && (i + 1 == sl
 -- the node on the next content line, if it holds it, or else the empty node
 abbrev pub node_found : BlockReader → Slot → ℕ → List Line → Next → Reading (Part Node)
 node_found node slot depth ls ended = empty_node slot.empty ls
-node_found node slot depth ls (at_line i left) = if is_deeper slot i left then node (at_spot own_line slot) depth i left
+node_found node slot depth ls (at_line i left) = if is_deeper slot i left then node (record slot { spot = own_line }) depth i left
     else empty_node slot.empty ls
 
 abbrev pub node_below : BlockReader → Slot → ℕ → List Line → Reading (Part Node)
@@ -76,7 +72,7 @@ abbrev pub rest_node : BlockReader → Slot → ℕ → ℕ → List Line → Li
 rest_node node slot depth column ls rest =
     let left = blanks_dropped rest in
     if is_skipped (first_text rest) then node_below node slot depth (whole_lines rest)
-    else node (at_spot (spot_behind (first_text rest) slot.spot) slot) depth (column + characters (start left) (first_text ls)) left
+    else node (record slot { spot = spot_behind (first_text rest) slot.spot }) depth (column + characters (start left) (first_text ls)) left
 
 -- The rest of a collection in the column, given what was read of it so far: more reads from its next line on, and a line with less indent
 -- closes it.
@@ -116,23 +112,18 @@ mapping_entries node collection (suc turns) column depth done key = do
   rest_below column (part (with_entry done (scalar_node key.scalar) x.value) x.end x.left) (λ now left.
       entry_key collection depth left >>= (λ k. mapping_entries node collection turns column depth now.value k))
 
--- what is left behind a scalar: a block scalar ends with its last line
-abbrev pub scalar_left : List Line → List Line → Result (List Line) Fault
-scalar_left ls left = if is_block_start (first_text ls) then Ok left else line_ended left
-
--- a scalar, and the whole lines behind its line
-abbrev pub scalar_node_at : ℕ → List Line → Reading (Part Node)
-scalar_node_at within ls =
-    starting_scalar (start ls) (do
-      r ← of_result (scalar_at (block within) ls)
-      left ← of_result (scalar_left ls r.left)
-      gives (part (scalar_node r) r.span.end left))
-
 -- a node behind which nothing else stands on its line, and the whole lines left
 abbrev pub ending_line : Part Node → Reading (Part Node)
 ending_line x = do
   left ← of_result (line_ended x.left)
   gives (part x.value x.end left)
+
+-- A scalar, and the whole lines behind its line; a block scalar ends with its last line.
+abbrev pub scalar_node_at : ℕ → List Line → Reading (Part Node)
+scalar_node_at within ls =
+    starting_scalar (start ls) (do
+      r ← of_result (scalar_at (block within) ls)
+      (if is_block_start (first_text ls) then gives else ending_line) (part (scalar_node r) r.span.end r.left))
 
 -- a flow collection in block context: behind it no colon may stand that would make it a key
 abbrev pub flow_at : CollectionReader → Spot → ℕ → List Line → Reading (Part Node)

@@ -1,6 +1,6 @@
 -- Implicit keys of block mappings (YAML 1.2.2, 7.4, 8.2.2), and lines that begin no entry.
 use Rattle.std.specs.Prelude.{ℕ, List, [], ◌∷◌, Bool, true, false, not, ◌&&◌, ◌||◌, if◌then◌else◌}
-use Rattle.std.specs.Prelude.{Option, Some, None, is_some, Result, Ok}
+use Rattle.std.specs.Prelude.{Option, Some, None, is_some, Result, Ok, Err}
 use Rattle.al_base.specs.declared.codes.YamlCode.{YamlCode}
 use Rattle.al_base.specs.declared.codes.YamlCode.TheVariants as yaml
 use Rattle.al_base.specs.Ascii.{ascii}
@@ -9,7 +9,7 @@ use Rattle.al_scalar.specs.Places.{first_text}
 use Rattle.al_scalar.specs.Plain.{block, is_value_colon}
 use Rattle.al_scalar.specs.Scalar.{ScalarRead, scalar_at}
 use Rattle.al_scalar.specs.Taken.{Fault}
-use Rattle.al_yaml_tree.specs.Reading.{Reading, gives, fails, of_result, and_then, starting_scalar, ◌>>=◌}
+use Rattle.al_yaml_tree.specs.Reading.{Reading, gives, fails, of_result, starting_scalar, ◌>>=◌}
 use Rattle.al_yaml_tree.specs.Content.{is_skipped, behind, is_dash, block_fault, unless, is_flow_start, is_quote}
 use Rattle.al_yaml_tree.specs.Content.{is_property, behind_name, has_no_name, same_line, is_simple_key}
 use Rattle.al_yaml_tree.specs.Flow.{CollectionReader}
@@ -31,8 +31,7 @@ with_lines rest (l ∷ ls) = cut (first_text rest) l ls
 
 -- a plain scalar as far as it stands on its line
 abbrev pub plain_on_line : List Line → Result ScalarRead Fault
-plain_on_line ls =
-    and_then (scalar_at (block 0) (one_line ls)) (λ r. Ok (record { scalar = r.scalar; span = r.span; left = with_lines r.left ls }))
+plain_on_line ls = elim (scalar_at (block 0) (one_line ls)) [ Ok r ↦ Ok (record r { left = with_lines r.left ls }) | Err f ↦ Err f ]
 
 -- a scalar as far as it tells whether a key begins here: a plain one on its line, a quoted one whole
 abbrev pub key_scalar : List Line → Result ScalarRead Fault
@@ -42,16 +41,13 @@ key_scalar ls = if is_quote (first_text ls) then scalar_at (block 0) ls else pla
 abbrev pub has_colon : List Line → Bool
 has_colon ls = is_value_colon (block 0) (after_blanks (first_text ls))
 
--- the lines behind the colon that follows
-abbrev pub behind_colon : List Line → Option (List Line)
-behind_colon ls = if has_colon ls then Some (behind 1 (blanks_dropped ls)) else None
-
+-- the key that a scalar is, if a colon follows
 abbrev pub key_of : ScalarRead → Option Key
-key_of r = elim (behind_colon r.left) [ None ↦ None | Some left ↦ Some (record { scalar = r; behind = left }) ]
+key_of r = if has_colon r.left then Some (record { scalar = r; behind = behind 1 (blanks_dropped r.left) }) else None
 
 -- The key that begins here, if one does: a scalar with a colon behind it. It may be too long or span lines yet.
 abbrev pub key_at : List Line → Result (Option Key) Fault
-key_at ls = and_then (key_scalar ls) (λ r. Ok (key_of r))
+key_at ls = elim (key_scalar ls) [ Ok r ↦ Ok (key_of r) | Err f ↦ Err f ]
 
 abbrev pub is_block_start : List Cell → Bool
 is_block_start cs = begins (ascii "|") cs || begins (ascii ">") cs

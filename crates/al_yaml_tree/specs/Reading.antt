@@ -71,11 +71,6 @@ infixl 10 ◌>>=◌
 abbrev pub ◌>>=◌ : {A B : Type 0} → Reading A → (A → Reading B) → Reading B
 ◌>>=◌ r f known = next (r known) f
 
--- a further result, if there was no fault
-abbrev pub and_then : {A B : Type 0} → Result A Fault → (A → Result B Fault) → Result B Fault
-and_then (Err e) f = Err e
-and_then (Ok x) f = f x
-
 -- a start before what is read there
 abbrev pub with_start : {A : Type 0} → Start → Reading A → Reading A
 with_start s r known = after (s ∷ []) (r known)
