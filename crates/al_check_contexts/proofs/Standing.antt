@@ -3,7 +3,8 @@ use Rattle.std.proofs.Common.{map}
 use Rattle.al_base.specs.Growth.{BeginsWith}
 use Rattle.al_yaml_tree.specs.View.{view}
 use Rattle.al_tree.specs.Values.{member_of}
-use Rattle.al_check_places.specs.Positions.{before, section_view}
+use Rattle.al_check_places.specs.Positions.{section_view}
+use Rattle.al_check_places.specs.declared.positions.Seen.TheVariants.{Before as before}
 use Rattle.al_check_objects.specs.Fixed.{strategy_type}
 use Rattle.al_check_contexts.specs.Contexts.{job_in, owner_of, type_at}
 use Rattle.al_tree.specs.Files.{jobs_of}

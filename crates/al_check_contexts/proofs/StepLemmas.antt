@@ -12,7 +12,7 @@ use Rattle.al_base.specs.Growth.{BeginsWith}
 use Rattle.al_base.specs.Names.{same_name}
 use Rattle.al_types.specs.Puts.{Typed, firsts, put_all, put_new}
 use Rattle.al_yaml_tree.specs.Node.{Node}
-use Rattle.al_check_places.specs.Positions.{before}
+use Rattle.al_check_places.specs.declared.positions.Seen.TheVariants.{Before as before}
 use Rattle.al_check_contexts.specs.Contexts.{Known, Owner, step_field, steps_type}
 use Rattle.al_check_objects.specs.Objects.{strictly}
 use Rattle.al_types.specs.Types.{object_type}

@@ -7,7 +7,9 @@ use Rattle.al_types.specs.declared.names.Context.TheVariants as context
 use Rattle.al_yaml_tree.specs.Node.{Node}
 use Rattle.al_tree.specs.Files.{jobs_of}
 use Rattle.al_tree.specs.declared.files.FileKind.{FileKind}
-use Rattle.al_check_places.specs.Positions.{Section, Seen, apart, before}
+use Rattle.al_check_places.specs.Positions.{Section, apart}
+use Rattle.al_check_places.specs.declared.positions.Seen.{Seen}
+use Rattle.al_check_places.specs.declared.positions.Seen.TheVariants.{Before as before}
 use Rattle.al_check_contexts.specs.Contexts.{Known, job_in, type_at}
 use Rattle.al_check_objects.specs.Inputs.{inputs_type}
 use Rattle.al_expr_types.specs.Tables.{objects_of}

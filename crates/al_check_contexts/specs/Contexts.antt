@@ -14,7 +14,9 @@ use Rattle.al_tree.specs.Values.{entries_at, items_at, text_at, texts_at}
 use Rattle.al_tree.specs.Files.{jobs_of}
 use Rattle.al_tree.specs.declared.files.FileKind.{FileKind}
 use Rattle.al_tree.specs.declared.files.FileKind.TheVariants as kind
-use Rattle.al_check_places.specs.Positions.{Position, Section, apart, in_job, Seen, no_step, before, every_step}
+use Rattle.al_check_places.specs.Positions.{Position, Section, apart, in_job}
+use Rattle.al_check_places.specs.declared.positions.Seen.{Seen}
+use Rattle.al_check_places.specs.declared.positions.Seen.TheVariants.{Nothing as no_step, Before as before, Everything as every_step}
 use Rattle.al_tree_declarations.specs.Declarations.{action_steps, has_value, is_composite, names_of}
 use Rattle.al_check_objects.specs.Fixed.{github_type, runner_type, job_type, strategy_type}
 use Rattle.al_check_objects.specs.Inputs.{inputs_type}

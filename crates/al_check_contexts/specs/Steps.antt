@@ -2,7 +2,7 @@
 use Rattle.std.specs.Prelude.{◌≡◌, ◌+◌, ◌<◌, ◌≤◌, ℕ, List, [], ◌∷◌, true, Option, Some, None, codes, get_or, length, take}
 use Rattle.al_types.specs.Puts.{Typed}
 use Rattle.al_types.specs.Types.{Type', String}
-use Rattle.al_check_places.specs.Positions.{before}
+use Rattle.al_check_places.specs.declared.positions.Seen.TheVariants.{Before as before}
 use Rattle.al_check_contexts.specs.Contexts.{Known, Owner, steps_fields}
 use Rattle.al_check_objects.specs.Objects.{strictly}
 use Rattle.al_expr_types.specs.Prefixes.{HasPrefix, map_in}

@@ -3,7 +3,8 @@ use Rattle.std.specs.Prelude.{List, Option}
 use Rattle.al_types.specs.Types.{Type'}
 use Rattle.al_types.specs.declared.names.Context.{Context}
 use Rattle.al_yaml_tree.specs.Node.{Node}
-use Rattle.al_check_places.specs.Positions.{Position, Section, Seen}
+use Rattle.al_check_places.specs.Positions.{Position, Section}
+use Rattle.al_check_places.specs.declared.positions.Seen.{Seen}
 use Rattle.al_check_contexts.specs.Contexts.{Known, jobs_in, needs_type, type_in_job}
 use Rattle.al_check_objects.specs.Fixed.{github_type, job_type, runner_type, strategy_type}
 use Rattle.al_check_objects.specs.Matrix.{matrix_type}

@@ -2,7 +2,8 @@
 ghost use Rattle.std.specs.Prelude.{IfOk, OnOk};
 ghost use Rattle.al_base.specs.Growth.{BeginsWith};
 ghost use Rattle.al_check_contexts.specs.Contexts.{Known, type_at};
-ghost use Rattle.al_check_places.specs.Positions.{apart, before};
+ghost use Rattle.al_check_places.specs.Positions.{apart};
+ghost use Rattle.al_check_places.specs.declared.positions.Seen.TheVariants.{Before as before};
 ghost use Rattle.al_check_objects.specs.Numbers.{Means};
 ghost use Rattle.al_check_contexts.specs.Table.{AreFixed, Shows, position};
 ghost use Rattle.al_expr_types.specs.Tables.{objects_of};

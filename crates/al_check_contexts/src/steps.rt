@@ -4,7 +4,7 @@ ghost use Rattle.std.specs.Option.{option_copied, option_to_list};
 ghost use Rattle.al_base.specs.Growth.{BeginsWith};
 ghost use Rattle.al_check_contexts.specs.Contexts as contexts;
 ghost use Rattle.al_check_contexts.specs.Contexts.{Known, Owner as StepOwner, step_field, steps_type};
-ghost use Rattle.al_check_places.specs.Positions.{before};
+ghost use Rattle.al_check_places.specs.declared.positions.Seen.TheVariants.{Before as before};
 ghost use Rattle.al_check_contexts.specs.Lookups.{step_at};
 ghost use Rattle.al_check_contexts.specs.Made.{known_from};
 ghost use Rattle.al_check_contexts.specs.Caches.{Keeps};

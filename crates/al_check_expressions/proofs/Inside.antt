@@ -9,9 +9,7 @@ use Rattle.al_base.specs.Spans.{LiesIn}
 use Rattle.al_base.specs.declared.codes.ExpressionCode.TheVariants as code
 use Rattle.al_base.specs.declared.faults.Fault.{Fault}
 use Rattle.al_base.specs.declared.faults.Span.{Span}
-use Rattle.al_scalar.specs.Line.{Cell}
-use Rattle.al_scalar.specs.Offsets.{AreRising, IsFrom, IsPlaced, reach}
-use Rattle.al_scalar.specs.Private.Located.{offset_or}
+use Rattle.al_scalar.specs.Offsets.{IsFrom, IsPlaced, reach}
 use Rattle.al_scalar.specs.Scalar.{Scalar, offset_of, text_of}
 use Rattle.al_expr_grammar.specs.Chunks.{chunks_of}
 use Rattle.al_expr_grammar.specs.Extents.{extent}
@@ -39,21 +37,10 @@ use Rattle.al_check_expressions.specs.Inside.{IsThere}
 use Rattle.al_check_expressions.specs.Spelled.{tree_in, tree_of_content, tree_of_tokens}
 use Rattle.al_check_expressions.proofs.EndLemmas.{length_text}
 use Rattle.al_scalar.proofs.Locating.{offset_or-end}
+use Rattle.al_scalar.proofs.PlacedLemmas.{offset-order}
 use Rattle.al_check_expressions.proofs.Places.{places_there}
 
 -- ---- offsets
-
-from_low : (cs : List Cell) (low high end j : ℕ) → AreRising low high cs → j < length cs → low ≤ offset_or cs end j
-from_low [] low high end j r h = absurd (omega (arith, h))
-from_low (c ∷ cs) low high end zero r h = r.0
-from_low (c ∷ cs) low high end (suc j) r h = let first = r.0 in let rest = from_low cs c.1 high end j r.2 (omega (arith, h)) in omega (arith, first, rest)
-
-rise : (cs : List Cell) (low high end i j : ℕ) → AreRising low high cs → i ≤ j → j < length cs → offset_or cs end i ≤ offset_or cs end j
-rise [] low high end i j r o h = absurd (omega (arith, h))
-rise (c ∷ cs) low high end zero zero r o h = omega arith
-rise (c ∷ cs) low high end zero (suc j) r o h = from_low cs c.1 high end j r.2 (omega (arith, h))
-rise (c ∷ cs) low high end (suc i) zero r o h = absurd (omega (arith, o))
-rise (c ∷ cs) low high end (suc i) (suc j) r o h = rise cs c.1 high end i j r.2 (omega (arith, o)) (omega (arith, h))
 
 below_or_not : (j n : ℕ) → (j < n) ⊎ (n ≤ j)
 below_or_not j n = grind arith
@@ -80,7 +67,7 @@ module _ (size : ℕ) (s : Scalar) (at : Span) (there : LiesIn size at) (p : IsP
       let apart : i < j = grind (arith, nat_tests) in
       let same = length_text s.cells in
       let last : offset_of s (j - 1) < size = from (j - 1) (omega (arith, apart, h)) in
-      let up : offset_of s i ≤ offset_of s (j - 1) = rise s.cells at.start (reach 1048576 s.style s.end) s.end i (j - 1) p.rising (omega (arith, apart)) (omega (arith, apart, h, same)) in
+      let up : offset_of s i ≤ offset_of s (j - 1) = offset-order at.start (reach 1048576 s.style s.end) s.end s.cells i (j - 1) p.rising (omega (arith, apart)) (omega (arith, apart, h, same)) in
       record { ordered = omega (arith, up); inside = omega (arith, last) }
 
   located_lies : (i j : ℕ) → i ≤ j → j ≤ length (text_of s) → LiesIn size (span_in_file s i j)

@@ -9,7 +9,7 @@ use Rattle.al_base.specs.Names.{same_name}
 use Rattle.al_types.specs.FusedFields.{are_distinct}
 use Rattle.al_types.specs.Puts.{Typed, firsts, put_or_fuse, put_all, put_new}
 use Rattle.al_types.specs.Strings.{named_strings, strings}
-use Rattle.al_types.specs.Types.{Absent, ObjectOf, Optional, Present, String, common_in, fields_of, fuse_optional, fuse_type, optional}
+use Rattle.al_types.specs.Types.{Absent, ObjectOf, Optional, Present, String, common_in, fuse_optional, fuse_type, optional}
 use Rattle.al_types.proofs.FuseLaws.{last_turned, nothing_last, optional_assoc}
 use Rattle.al_types.proofs.GatheredFields.{firsts_found, found_in_both}
 use Rattle.al_check_objects.specs.Objects.{strictly}
@@ -70,7 +70,7 @@ put_string [] n = refl
 put_string (m ∷ ms) n = named_step (same_name m n) m ms (put_name ms n) (put_new (strings ms) (n, String)) (put_string ms n)
 
 abbrev common_of : List Typed → Optional
-common_of ts = common_in (fields_of ts)
+common_of ts = common_in ts
 
 common_step : (b : Bool) (m : List ℕ) (ms : List (List ℕ)) (ts : List Typed) → common_of ts ≡ fuse_optional (common_of (strings ms)) (Present String) →
     common_of (if b then (m, String) ∷ strings ms else (m, String) ∷ ts) ≡ fuse_optional (common_of (strings (m ∷ ms))) (Present String)
@@ -114,7 +114,7 @@ common_put_all ts (p ∷ us) =
     ∙ optional_assoc (common_of ts) (Present p.1) (common_of us)
 
 -- an object of the fields of two objects, fused at each name, is what these have in common
-pub put_together : (ts us : List Typed) → are_distinct (fields_of us) ≡ true → strictly (put_all put_or_fuse ts us) ≡ fuse_type (strictly ts) (strictly us)
+pub put_together : (ts us : List Typed) → are_distinct us ≡ true → strictly (put_all put_or_fuse ts us) ≡ fuse_type (strictly ts) (strictly us)
 put_together ts us h =
     λ d. ObjectOf (found_in_both ts us h d) Absent (all d)
   where

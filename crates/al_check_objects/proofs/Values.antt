@@ -6,7 +6,7 @@ use Rattle.al_tree.specs.Keys.{key_of, key_text}
 use Rattle.al_tree.specs.Names.{is_combination_key}
 use Rattle.al_types.specs.FusedFields.{are_distinct}
 use Rattle.al_types.specs.Puts.{Typed, put_or_fuse, put_all, put_new}
-use Rattle.al_types.specs.Types.{Optional, Present, fields_of, fuse_optional}
+use Rattle.al_types.specs.Types.{Optional, Present, fuse_optional}
 use Rattle.al_types.proofs.GatheredFields.{firsts_distinct}
 use Rattle.al_yaml_tree.specs.Node.{Entries, Node, entry, mapping, no_entries, scalar, sequence}
 use Rattle.al_yaml_tree.specs.View.{entries_of, entry_view, nodes_of, view}
@@ -27,10 +27,10 @@ unfolding listed
 entries_listed ts no_entries = refl
 entries_listed ts (entry k v es) = entries_listed (put_new ts (key_text k, node_type v)) es
 
-distinct_combination : (n : Node) → are_distinct (fields_of (combination n)) ≡ true
+distinct_combination : (n : Node) → are_distinct (combination n) ≡ true
 distinct_combination (scalar s at) = refl
 distinct_combination (sequence ns at) = refl
-distinct_combination (mapping es at) = ap (λ ts. are_distinct (fields_of ts)) (entries_listed [] es) ∙ firsts_distinct (listed es)
+distinct_combination (mapping es at) = ap are_distinct (entries_listed [] es) ∙ firsts_distinct (listed es)
 
 -- one combination more
 include_more : (ts : List Typed) (ns : List Node) (n : Node) → include_all ts (ns ++ n ∷ []) ≡ put_all put_or_fuse (include_all ts ns) (combination n)

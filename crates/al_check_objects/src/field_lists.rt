@@ -15,7 +15,7 @@ impl<'a> FieldList<'a> {
     ghost use Rattle.al_base.specs.Growth.{BeginsWith};
     ghost use Rattle.al_types.specs.Puts.{Typed, put_all, put_new};
     ghost use Rattle.al_types.specs.Strings.{strings};
-    ghost use Rattle.al_types.specs.Types.{Type', fields_of, object_with};
+    ghost use Rattle.al_types.specs.Types.{Type', object_with};
     ghost use Rattle.al_check_objects.specs.Numbers.{Lists, Means, is_map_below};
     ghost use Rattle.al_expr_types.specs.Once.{are_once};
     ghost use Rattle.al_expr_types.specs.Tables.{objects_of, type_at};
@@ -97,7 +97,7 @@ impl<'a> FieldList<'a> {
         requires fields { is_map_below (length types.old.objects.items) self.map ≡ true }
         requires rest { is_rest_below (length types.old.objects.items) rest ≡ true }
         ensures ty { IfOk result (λ t. (ts : List Typed) → Lists types.old self.entry ts
-            → Means types.new t (object_with (fields_of ts)
+            → Means types.new t (object_with ts
             (rest_in (objects_of types.old) rest))) }
         ensures kept { OnOk result (BeginsWith (objects_of types.new) (objects_of types.old)) }
     {

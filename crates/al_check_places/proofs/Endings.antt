@@ -4,8 +4,9 @@ use Rattle.std.proofs.lemmas.List.{take_more}
 use Rattle.std.proofs.Common.{◌≡◌, ℕ, suc, List, [], ◌∷◌, ◌++◌, length, map, ap, arith, refl, sym, Bool, true, false, cond, not, ◌&&◌, ◌||◌, ◌==◌, ◌-◌, ◌∙◌, Option, Some, None}
 use Rattle.std.proofs.lemmas.Bool.{eqb-true}
 use Rattle.std.specs.Prelude.{codes}
+use Rattle.std.specs.Option.{option_map_or}
 use Rattle.std.specs.Str.{bytes_eq}
-use Rattle.al_check_places.specs.Paths.{Path, path, begins, fits}
+use Rattle.al_check_places.specs.Paths.{Path, path, begins}
 use Rattle.al_check_places.specs.Places.{fits as fits_rule, has_expression, place_at, scalar_places, takes_scalars_only}
 use Rattle.al_scalar.specs.Scalar.{Scalar}
 use Rattle.al_tree.specs.Table.{Rule}
@@ -71,7 +72,7 @@ ends_with (q ∷ p) w [] h e k is = absurd cc
 ends_with (q ∷ []) w (l ∷ []) h e k is = absurd cc
 ends_with (q ∷ r ∷ p) w (l ∷ []) h e k is = absurd cc
 ends_with (q ∷ p) w (l ∷ m ∷ ks) h e k is =
-    ends_with p w (m ∷ ks) (both (fits q l) (begins (p ++ Some w ∷ []) (m ∷ ks)) h).1 (less (length (p ++ Some w ∷ [])) (length (m ∷ ks)) e) k is
+    ends_with p w (m ∷ ks) (both (option_map_or (λ name. bytes_eq name l) q true) (begins (p ++ Some w ∷ []) (m ∷ ks)) h).1 (less (length (p ++ Some w ∷ [])) (length (m ∷ ks)) e) k is
 
 along : (p : Path) (w : List ℕ) (ks : List (List ℕ)) → is_path ks (p ++ Some w ∷ []) ≡ true →
     (k : List ℕ) → last_key ks ≡ Some k → bytes_eq w k ≡ true

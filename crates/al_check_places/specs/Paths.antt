@@ -16,14 +16,11 @@ abbrev pub path : String → Path
 path text =
     map (λ k. if bytes_eq k (codes "*") then None else Some k) (slice_split (nat_eq 46) (codes text))
 
-abbrev pub fits : Option (List ℕ) → List ℕ → Bool
-fits p k = option_map_or (λ name. bytes_eq name k) p true
-
 -- the path begins the keys
 abbrev pub begins : Path → List (List ℕ) → Bool
 begins [] ks = true
 begins (p ∷ ps) [] = false
-begins (p ∷ ps) (k ∷ ks) = fits p k && begins ps ks
+begins (p ∷ ps) (k ∷ ks) = option_map_or (λ name. bytes_eq name k) p true && begins ps ks
 
 -- what the program's keys stand for
 abbrev pub key_of : Key → Option (List ℕ)

@@ -5,6 +5,8 @@ use Rattle.al_tree.specs.declared.files.FileKind.{FileKind}
 use Rattle.al_tree.specs.declared.files.FileKind.TheVariants as kind
 use Rattle.al_check_places.specs.Ways.{WayStep, under, nth}
 use Rattle.al_check_places.specs.declared.positions.Section as rust_section
+use Rattle.al_check_places.specs.declared.positions.Seen.{Seen}
+use Rattle.al_check_places.specs.declared.positions.Seen.TheVariants as steps
 use Rattle.al_check_places.specs.declared.positions.Position as rust
 
 -- below `on`, in a job with a key, or anywhere else
@@ -12,10 +14,6 @@ pub data Section : Type 0 where
   apart : Section
   in_on : Section
   in_job : List ℕ → Section
-
--- the steps that are seen: none, those before the nth, all
-pub use Rattle.al_check_places.specs.declared.positions.Seen.{Seen}
-pub use Rattle.al_check_places.specs.declared.positions.Seen.TheVariants.{Nothing as no_step, Before as before, Everything as every_step}
 
 pub record Position : Type 0 where
   pub section : Section
@@ -27,18 +25,19 @@ section_of _ = apart
 
 -- In a step those before it are seen; in a job's `outputs` and its `environment.url`, and in an action's `outputs`, all.
 abbrev pub seen_in_item : List ℕ → ℕ → Seen
-seen_in_item k i = if bytes_eq k (codes "steps") then before i else no_step
+seen_in_item k i = if bytes_eq k (codes "steps") then steps.Before i else steps.Nothing
 
 abbrev pub seen_below : List ℕ → List ℕ → Seen
 seen_below a b =
-    if bytes_eq a (codes "outputs") || (bytes_eq a (codes "environment") && bytes_eq b (codes "url")) then every_step else no_step
+    if bytes_eq a (codes "outputs") || (bytes_eq a (codes "environment") && bytes_eq b (codes "url")) then steps.Everything
+    else steps.Nothing
 
 abbrev pub seen_at : FileKind → List WayStep → Seen
 seen_at kind.Workflow (jobs ∷ job ∷ under a ∷ nth i ∷ more) = seen_in_item a i
 seen_at kind.Workflow (jobs ∷ job ∷ under a ∷ under b ∷ more) = seen_below a b
 seen_at kind.Action (under runs ∷ under a ∷ nth i ∷ more) = seen_in_item a i
 seen_at kind.Action (under a ∷ under b ∷ more) = seen_below a b
-seen_at _ _ = no_step
+seen_at _ _ = steps.Nothing
 
 abbrev pub position_of : FileKind → List WayStep → Position
 position_of k way = record { section = section_of way; seen = seen_at k way }

@@ -1,7 +1,9 @@
 //! Availability of contexts and special functions: the table, and its longest path.
-ghost use Rattle.std.specs.Prelude.{◌≡◌, IsTrue, map, option_map};
+ghost use Rattle.std.specs.Prelude.{◌≡◌, IsTrue, map, option_map, true};
 ghost use Rattle.al_check_places.specs.Availability.{availability, longer, row_of, table};
-ghost use Rattle.al_check_places.specs.Paths.{begins, fits, key_of};
+ghost use Rattle.al_check_places.specs.Paths.{begins, key_of};
+ghost use Rattle.std.specs.Option.{option_map_or};
+ghost use Rattle.std.specs.Str.{bytes_eq};
 
 use al_types::{Context, Function};
 
@@ -250,7 +252,7 @@ fn rows() -> &'static [Row]
 }
 
 fn key_fits(key: &Key, name: &[u8]) -> bool
-    ensures { result ≡ fits (key_of key.now) name.now }
+    ensures { result ≡ option_map_or (λ n. bytes_eq n name.now) (key_of key.now) true }
 {
     match key {
         Key::Id => true,

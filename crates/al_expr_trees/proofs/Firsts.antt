@@ -5,7 +5,7 @@ use Rattle.al_base.specs.Names.{same_name}
 use Rattle.al_types.specs.FusedFields.{are_distinct}
 use Rattle.al_types.specs.Indexes.{name_at}
 use Rattle.al_types.specs.Puts.{Typed, firsts, put_all, put_new}
-use Rattle.al_types.specs.Types.{Type', field_at, fields_of, has_field}
+use Rattle.al_types.specs.Types.{Type', field_at, has_field}
 use Rattle.al_types.proofs.GatheredFields.{firsts_found}
 use Rattle.al_types.proofs.JoinedFields.{first_apart, has_field_at, others_apart, same_turned}
 use Rattle.al_types.proofs.Puts.{put_new_behind, put_new_old}
@@ -18,9 +18,9 @@ place_step true t o f e = refl
 place_step false t None f e = e
 place_step false t (Some i) f e = e
 
-pub none_at : (ts : List Typed) (n : List ℕ) → is_none (name_at ts n) ≡ is_none (field_at n (fields_of ts))
+pub none_at : (ts : List Typed) (n : List ℕ) → is_none (name_at ts n) ≡ is_none (field_at n ts)
 none_at [] n = refl
-none_at (q ∷ qs) n = place_step (same_name q.0 n) q.1 (name_at qs n) (field_at n (fields_of qs)) (none_at qs n)
+none_at (q ∷ qs) n = place_step (same_name q.0 n) q.1 (name_at qs n) (field_at n qs) (none_at qs n)
 
 -- the same of those of which each is the first of its name
 pub none_first : (ts : List Typed) (n : List ℕ) → is_none (name_at (firsts ts) n) ≡ is_none (name_at ts n)
@@ -30,8 +30,8 @@ not_some : (f : Option Type') → is_none f ≡ not (is_some f)
 not_some None = refl
 not_some (Some t) = refl
 
-pub none_named : (ts : List Typed) (n : List ℕ) → is_none (name_at ts n) ≡ not (has_field n (fields_of ts))
-none_named ts n = none_at ts n ∙ not_some (field_at n (fields_of ts)) ∙ ap not (has_field_at n (fields_of ts))
+pub none_named : (ts : List Typed) (n : List ℕ) → is_none (name_at ts n) ≡ not (has_field n ts)
+none_named ts n = none_at ts n ∙ not_some (field_at n ts) ∙ ap not (has_field_at n ts)
 
 -- whether a search found none
 pub none_if : (o q : Option ℕ) (b r : Bool) → o ≡ q → is_some o ≡ not b → b ≡ r → is_none q ≡ r
@@ -64,30 +64,30 @@ neither true b e = absurd cc
 neither false b e = (refl, e)
 
 -- of distinct fields one has none of the names before it
-has_behind : (n : List ℕ) (ts us : List Typed) → has_field n (fields_of (ts ++ us)) ≡ has_field n (fields_of ts) || has_field n (fields_of us)
+has_behind : (n : List ℕ) (ts us : List Typed) → has_field n (ts ++ us) ≡ has_field n ts || has_field n us
 has_behind n [] us = refl
-has_behind n (q ∷ ts) us = ap (λ b. same_name q.0 n || b) (has_behind n ts us) ∙ or_assoc (same_name q.0 n) (has_field n (fields_of ts)) (has_field n (fields_of us))
+has_behind n (q ∷ ts) us = ap (λ b. same_name q.0 n || b) (has_behind n ts us) ∙ or_assoc (same_name q.0 n) (has_field n ts) (has_field n us)
   where
     or_assoc : (a b c : Bool) → a || (b || c) ≡ (a || b) || c
     or_assoc true b c = refl
     or_assoc false b c = refl
 
-last_apart : (ts us : List Typed) (p : Typed) → are_distinct (fields_of (ts ++ p ∷ us)) ≡ true → has_field p.0 (fields_of ts) ≡ false
+last_apart : (ts us : List Typed) (p : Typed) → are_distinct (ts ++ p ∷ us) ≡ true → has_field p.0 ts ≡ false
 last_apart [] us p d = refl
 last_apart (q ∷ ts) us p d =
-    let whole = fields_of (ts ++ p ∷ us) in
+    let whole = (ts ++ p ∷ us) in
     let none = sym (has_behind q.0 ts (p ∷ us)) ∙ first_apart (has_field q.0 whole) (are_distinct whole) d in
-    let behind = (neither (has_field q.0 (fields_of ts)) (has_field q.0 (fields_of (p ∷ us))) none).1 in
-    let other = (neither (same_name p.0 q.0) (has_field q.0 (fields_of us)) behind).0 in
+    let behind = (neither (has_field q.0 ts) (has_field q.0 (p ∷ us)) none).1 in
+    let other = (neither (same_name p.0 q.0) (has_field q.0 us) behind).0 in
     let more = last_apart ts us p (others_apart (has_field q.0 whole) (are_distinct whole) d) in
     λ i. (same_turned q.0 p.0 ∙ other) i || more i
 
-all_kept : (acc ts : List Typed) → are_distinct (fields_of (acc ++ ts)) ≡ true → put_all put_new acc ts ≡ acc ++ ts
+all_kept : (acc ts : List Typed) → are_distinct (acc ++ ts) ≡ true → put_all put_new acc ts ≡ acc ++ ts
 all_kept acc [] d = sym (append-nil acc)
 all_kept acc (p ∷ ts) d =
     let new : put_new acc p ≡ acc ++ p ∷ [] = put_new_behind acc p (none_named acc p.0 ∙ ap not (last_apart acc ts p d)) in
     let same : (acc ++ p ∷ []) ++ ts ≡ acc ++ p ∷ ts = append_assoc acc (p ∷ []) ts in
-    ap (λ xs. put_all put_new xs ts) new ∙ all_kept (acc ++ p ∷ []) ts (ap (λ xs. are_distinct (fields_of xs)) same ∙ d) ∙ same
+    ap (λ xs. put_all put_new xs ts) new ∙ all_kept (acc ++ p ∷ []) ts (ap are_distinct same ∙ d) ∙ same
 
-pub firsts_same : (ts : List Typed) → are_distinct (fields_of ts) ≡ true → firsts ts ≡ ts
+pub firsts_same : (ts : List Typed) → are_distinct ts ≡ true → firsts ts ≡ ts
 firsts_same ts d = all_kept [] ts d

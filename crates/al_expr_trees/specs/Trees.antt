@@ -3,7 +3,7 @@ use Rattle.std.specs.Prelude.{List, [], ◌∷◌, Option, Some, None, Box, stri
 use Rattle.std.specs.Global.{Global}
 use Rattle.al_types.specs.Puts.{Typed, firsts}
 use Rattle.al_types.specs.Types.{Type', Any, Null, Number, Bool', String, ArrayOf, Optional, Absent, Present, Parts}
-use Rattle.al_types.specs.Types.{FieldThen, NoField, fields_of, object_type, parts_with}
+use Rattle.al_types.specs.Types.{object_type, parts_with}
 use Rattle.al_expr_trees.specs.declared.trees.Ty.{Ty}
 use Rattle.al_expr_trees.specs.declared.trees.Ty as code
 use Rattle.al_expr_trees.specs.declared.trees.Field.{Field}
@@ -11,11 +11,11 @@ use Rattle.al_expr_trees.specs.declared.trees.Ty.{Row_of-Field, end_of-Field, mo
 
 -- an object of fields, of which the first of each name counts, and of others of a type where there may be others
 abbrev pub object_parts : List Typed → Optional → Parts
-object_parts ts rest = parts_with (fields_of (firsts ts)) rest
+object_parts ts rest = parts_with (firsts ts) rest
 
 -- an object of one field
 abbrev pub field_parts : Typed → Parts
-field_parts f = parts_with (FieldThen f.0 f.1 NoField) Absent
+field_parts f = parts_with (f ∷ []) Absent
 
 abbrev mutual
   pub ty_of : Ty → Type'

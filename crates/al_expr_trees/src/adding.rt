@@ -4,7 +4,7 @@ ghost use Rattle.std.specs.Prelude.{◌≡◌, List, IfOk, length, map, true, �
 ghost use Rattle.std.specs.List.{list_all};
 ghost use Rattle.al_base.specs.Growth.{BeginsWith};
 ghost use Rattle.al_types.specs.Puts.{firsts};
-ghost use Rattle.al_types.specs.Types.{ArrayOf, Parts, fields_of, object_type, parts_with};
+ghost use Rattle.al_types.specs.Types.{ArrayOf, Parts, object_type, parts_with};
 ghost use Rattle.al_expr_types.specs.Tables.{is_known, objects_of, type_at};
 ghost use Rattle.al_expr_types.specs.Types.{is_below, is_rest_below, rest_in, scalar_type, type_in};
 ghost use Rattle.al_expr_typing.specs.Scopes.{IsShown, scope_at};
@@ -128,7 +128,7 @@ fn add_object<'a>(
     requires fields { list_all (is_below (length types.old.objects.items)) map.types.items ≡ true }
     requires rest { is_rest_below (length types.old.objects.items) rest ≡ true }
     ensures ty { IfOk result (λ t. type_at types.new t ≡ object_type (parts_with
-        (fields_of (fields_at (objects_of types.old) map.entry))
+        (fields_at (objects_of types.old) map.entry)
         (rest_in (objects_of types.old) rest))) }
     ensures known { IfOk result (λ t. is_known types.new t ≡ true) }
     ensures kept { BeginsWith (objects_of types.new) (objects_of types.old) }

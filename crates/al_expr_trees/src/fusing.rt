@@ -1,9 +1,9 @@
 //! What two types have in common.
 
-ghost use Rattle.std.specs.Prelude.{◌≡◌, IfOk, Some, None, map};
+ghost use Rattle.std.specs.Prelude.{◌≡◌, IfOk, Some, None, map, []};
 ghost use Rattle.al_types.specs.Indexes.{name_at};
 ghost use Rattle.al_types.specs.Fused.{fuse_parts};
-ghost use Rattle.al_types.specs.Types.{Absent, NoField, fuse_optional, fuse_type, parts_with};
+ghost use Rattle.al_types.specs.Types.{Absent, fuse_optional, fuse_type, parts_with};
 ghost use Rattle.al_expr_types.specs.Types.{scalar_type};
 ghost use Rattle.al_expr_trees.specs.Listings.{parts_in};
 ghost use Rattle.al_expr_trees.specs.Trees.{field_of, field_parts, object_parts, rest_of, ty_of};
@@ -162,7 +162,7 @@ fn push(alloc: Global, field: &Field, sofar: Listing) -> Result<Listing, AllocEr
 #[cycle(fusing)]
 fn add_rest(alloc: Global, rest: &Option<Box<Ty>>, sofar: Listing) -> Result<Listing, AllocError>
     ensures { IfOk result
-        (λ l. parts_in l ≡ fuse_parts (parts_in sofar) (parts_with NoField (rest_of rest.now))) }
+        (λ l. parts_in l ≡ fuse_parts (parts_in sofar) (parts_with [] (rest_of rest.now))) }
 {
     let rest = fuse_rest(alloc, rest, &sofar.rest)?;
     Ok(Listing {

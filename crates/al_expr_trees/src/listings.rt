@@ -1,10 +1,9 @@
 //! The fields of an object while they are gathered.
 
-ghost use Rattle.std.specs.Prelude.{◌≡◌, IfOk, map, true};
+ghost use Rattle.std.specs.Prelude.{◌≡◌, IfOk, map, true, []};
 ghost use Rattle.al_types.specs.FusedFields.{are_distinct};
 ghost use Rattle.al_types.specs.Indexes.{name_at};
 ghost use Rattle.al_types.specs.Puts.{firsts};
-ghost use Rattle.al_types.specs.Types.{fields_of};
 ghost use Rattle.al_expr_trees.specs.Trees.{field_of};
 
 use crate::copying::{copy_field, copy_rest};
@@ -17,7 +16,7 @@ use std::alloc::{AllocError, Global};
 pub(crate) struct Listing {
     pub fields: Vec<Field>,
     pub rest: Option<Box<Ty>>,
-    ghost distinct: { are_distinct (fields_of (map field_of fields.items)) ≡ true },
+    ghost distinct: { are_distinct (map field_of fields.items) ≡ true },
 }
 
 /// The position of the field of a name, in any ASCII case.
@@ -47,13 +46,13 @@ fn first_fields(alloc: Global, fields: &[Field]) -> Result<Vec<Field>, AllocErro
 }
 
 impl Listing {
-    ghost use Rattle.al_types.specs.Types.{Absent, NoField, object_type, parts_with};
+    ghost use Rattle.al_types.specs.Types.{Absent, object_type, parts_with};
     ghost use Rattle.al_expr_trees.specs.Listings.{parts_in};
     ghost use Rattle.al_expr_trees.specs.Trees.{object_parts, rest_of, ty_of};
 
     /// No fields, and no others. Takes no memory.
     pub(crate) fn new(alloc: Global) -> Listing
-        ensures { parts_in result ≡ parts_with NoField Absent }
+        ensures { parts_in result ≡ parts_with [] Absent }
     {
         Listing {
             fields: Vec::new(alloc),

@@ -4,7 +4,7 @@ use Rattle.std.proofs.lemmas.List.{get_or_append_left}
 use Rattle.std.proofs.lemmas.Bool.Decides.{nat_tests}
 use Rattle.std.specs.Prelude.{◌&&◌, nat_lt, zip}
 use Rattle.std.specs.List.{list_all}
-use Rattle.al_types.specs.Types.{Parts, Present, fields_of, fuse_optional, object_type, parts_with}
+use Rattle.al_types.specs.Types.{Parts, Present, fuse_optional, object_type, parts_with}
 use Rattle.al_types.specs.Fused.{fuse_all}
 use Rattle.al_expr_types.specs.Names.{names_in}
 use Rattle.al_expr_types.specs.Types.{common_of, are_below, are_fields_below, arrays_of, base_type, fields_parts, is_base_below, is_below, is_extended_below, is_object_below, is_rest_below, no_parts}
@@ -117,7 +117,7 @@ fields_kept ms more f h =
     let first = all_taken (is_below (length ms)) f.count ts (left_of (list_all (is_below (length ms)) ts) _ h) in
     let types = types_kept ms more (take f.count ts) first in
     let rest = rest_kept ms more f.rest (right_of (list_all (is_below (length ms)) ts) (is_rest_below (length ms) f.rest) h) in
-    λ d. parts_with (fields_of (zip (names_in f.map.value.names) (types d))) (rest d)
+    λ d. parts_with (zip (names_in f.map.value.names) (types d)) (rest d)
 
 pub parts_kept : (ms more : List Parts) (o : Object) → is_object_below (length ms) o ≡ true → object_parts (ms ++ more) o ≡ object_parts ms o
 parts_kept ms more (object.Fields f) h = fields_kept ms more f h

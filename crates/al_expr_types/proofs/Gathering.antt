@@ -8,7 +8,7 @@ use Rattle.al_types.specs.Strings.{strings}
 use Rattle.al_types.proofs.StringFields.{common_strings, string_at}
 use Rattle.al_types.specs.Presence.{is_present}
 use Rattle.al_types.specs.TypeParts.{string_unless}
-use Rattle.al_types.specs.Types.{Type', String, Optional, Absent, Present, Parts, common_in, field_at, fields_of, fuse_optional, option_of, optional, or_else}
+use Rattle.al_types.specs.Types.{Type', String, Optional, Absent, Present, Parts, common_in, field_at, fuse_optional, option_of, optional, or_else}
 use Rattle.al_types.specs.Fused.{fuse_parts, fuse_all}
 use Rattle.al_types.proofs.FuseLaws.{fused_one_more, nothing_last, optional_assoc, optional_back}
 use Rattle.al_expr_types.specs.Parts.{part_in}
@@ -45,7 +45,7 @@ common_next g xs i x start sofar new lt e old step =
 
 -- names count nothing there
 pub common_zipped : {X : Type 0} (g : X → Type') (ns : List (List ℕ)) (xs : List X) → length xs ≤ length ns →
-    common_in (fields_of (zip ns (map g xs))) ≡ common_of (map g xs)
+    common_in (zip ns (map g xs)) ≡ common_of (map g xs)
 common_zipped g [] [] h = refl
 common_zipped g [] (x ∷ xs) h = absurd (omega (arith, h))
 common_zipped g (n ∷ ns) [] h = refl
@@ -83,14 +83,14 @@ string_of : (o : Option ℕ) → optional (option_map (λ i. String) o) ≡ stri
 string_of None = refl
 string_of (Some i) = refl
 
-pub named_string : (ns : List (List ℕ)) (n : List ℕ) (o : Option ℕ) → o ≡ name_place ns n → optional (field_at n (fields_of (strings ns))) ≡ string_unless (not (is_some o))
+pub named_string : (ns : List (List ℕ)) (n : List ℕ) (o : Option ℕ) → o ≡ name_place ns n → optional (field_at n (strings ns)) ≡ string_unless (not (is_some o))
 named_string ns n o e = ap optional (string_at ns n ∙ ap (option_map (λ i. String)) (sym e)) ∙ string_of o
 
 some_names : (n : ℕ) → nat_eq n 0 ≡ not (nat_lt 0 n)
 some_names n = grind (arith, nat_tests)
 
-pub all_strings : (ns : List (List ℕ)) (n : ℕ) → n ≡ length ns → fuse_optional (common_in (fields_of (strings ns))) Absent ≡ string_unless (not (nat_lt 0 n))
-all_strings ns n e = nothing_last (common_in (fields_of (strings ns))) ∙ common_strings ns ∙ ap string_unless (ap (λ k. nat_eq k 0) (sym e) ∙ some_names n)
+pub all_strings : (ns : List (List ℕ)) (n : ℕ) → n ≡ length ns → fuse_optional (common_in (strings ns)) Absent ≡ string_unless (not (nat_lt 0 n))
+all_strings ns n e = nothing_last (common_in (strings ns)) ∙ common_strings ns ∙ ap string_unless (ap (λ k. nat_eq k 0) (sym e) ∙ some_names n)
 
 -- ---- fields, and others behind them
 

@@ -4,7 +4,7 @@ use Rattle.std.specs.List.{list_all}
 use Rattle.std.specs.Prelude.{option_and_then, slice_get}
 use Rattle.al_base.specs.Growth.{BeginsWith}
 use Rattle.al_base.specs.NamePlaces.{name_place}
-use Rattle.al_types.specs.Types.{Type', Absent, Present, Parts, field_at, fields_of, optional}
+use Rattle.al_types.specs.Types.{Type', Absent, Present, Parts, field_at, optional}
 use Rattle.al_types.proofs.FieldsByName.{found_by_name}
 use Rattle.al_expr_types.specs.Joining.{join_in}
 use Rattle.al_expr_types.specs.Merging.{slot_in}
@@ -43,6 +43,6 @@ named_kept new old ts b h =
 
 -- what a name finds among them
 pub index_named : (ms now : List Parts) (ns : List (List ℕ)) (js : List Join) (ts : List Ty) → map (λ t. Present (type_in now t)) ts ≡ map (join_in ms) js →
-    (n : List ℕ) → optional (field_at n (fields_of (named_types now ns ts))) ≡ slot_in ms js (name_place ns n)
+    (n : List ℕ) → optional (field_at n (named_types now ns ts)) ≡ slot_in ms js (name_place ns n)
 index_named ms now ns js ts e n =
     ap optional (found_by_name ns (map (type_in now) ts) n) ∙ at_place ms (map (type_in now) ts) js (name_place ns n) (mapped_twice (type_in now) ts ∙ e)

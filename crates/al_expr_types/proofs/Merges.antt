@@ -11,7 +11,7 @@ use Rattle.std.specs.Str.{bytes_eq}
 use Rattle.al_base.specs.Names.{lower_case, same_name}
 use Rattle.al_base.specs.NamePlaces.{first_at, name_place}
 use Rattle.al_types.specs.Strings.{strings}
-use Rattle.al_types.specs.Types.{Type', String, Optional, Absent, Parts, Present, field_at, fields_of, fuse_optional, optional}
+use Rattle.al_types.specs.Types.{Type', String, Optional, Absent, Parts, Present, field_at, fuse_optional, optional}
 use Rattle.al_types.proofs.FieldsByName.{found_by_name}
 use Rattle.al_types.proofs.FuseLaws.{nothing_last}
 use Rattle.al_types.proofs.StringFields.{string_at}
@@ -190,7 +190,7 @@ upto_all g (x ∷ xs) d (suc k) (suc m) e =
     ap (λ c. if c then Present (g (get_or xs k d)) else Absent) same ∙ upto_all g xs d k m (omega (arith, e))
 
 pub fields_found : {X : Type 0} (g : X → Type') (ns : List (List ℕ)) (xs : List X) (d : X) (n : List ℕ) →
-    upto (λ k. Present (g (get_or xs k d))) (name_place ns n) (length xs) ≡ optional (field_at n (fields_of (zip ns (map g xs))))
+    upto (λ k. Present (g (get_or xs k d))) (name_place ns n) (length xs) ≡ optional (field_at n (zip ns (map g xs)))
 fields_found g ns xs d n =
     found_step (name_place ns n) ∙ sym (ap optional (found_by_name ns (map g xs) n))
   where
@@ -198,7 +198,7 @@ fields_found g ns xs d n =
     found_step None = refl
     found_step (Some k) = upto_all g xs d k (length xs) refl
 
-pub strings_found : (ns : List (List ℕ)) (n : List ℕ) (m : ℕ) → m ≡ length ns → upto (λ k. Present String) (name_place ns n) m ≡ optional (field_at n (fields_of (strings ns)))
+pub strings_found : (ns : List (List ℕ)) (n : List ℕ) (m : ℕ) → m ≡ length ns → upto (λ k. Present String) (name_place ns n) m ≡ optional (field_at n (strings ns))
 strings_found ns n m len =
     found_step (name_place ns n) (λ k there. first_within (λ x. same_name x n) ns k there) ∙ sym (ap optional (string_at ns n))
   where

@@ -4,7 +4,7 @@ use Rattle.std.proofs.lemmas.List.{length-take, map-append, take_more}
 use Rattle.std.specs.List.{list_all}
 use Rattle.std.specs.Prelude.{Contains, zip}
 use Rattle.al_base.specs.Growth.{BeginsWith}
-use Rattle.al_types.specs.Types.{Type', Absent, Optional, Parts, Present, common_in, fields_of, fuse_optional, parts_with}
+use Rattle.al_types.specs.Types.{Type', Absent, Optional, Parts, Present, common_in, fuse_optional, parts_with}
 use Rattle.al_types.proofs.FuseLaws.{last_turned, nothing_last, optional_assoc, optional_same}
 use Rattle.al_expr_types.specs.Names.{names_in}
 use Rattle.al_expr_types.specs.Prefixes.{HasPrefix, prefix_parts}
@@ -66,11 +66,11 @@ prefix_common ms m k =
     let ns = names_in m.names in
     let ts = take k m.types.items in
     let few : length ts ≤ length ns = omega (arith, length-take k m.types.items, m.even) in
-    nothing_last (common_in (fields_of (named_types ms ns ts))) ∙ common_zipped (type_in ms) ns ts few
+    nothing_last (common_in (named_types ms ns ts)) ∙ common_zipped (type_in ms) ns ts few
 
 -- fields of a map, and no others
 pub prefix_is : (ms : List Parts) (f : Fields) (m : FieldMap) (k : ℕ) → f.map.value ≡ m → f.count ≡ k → f.rest ≡ None → fields_parts ms f ≡ prefix_parts ms m k
-prefix_is ms f m k e n r = λ d. parts_with (fields_of (named_types ms (names_in (e d).names) (take (n d) (e d).types.items))) (rest_in ms (r d))
+prefix_is ms f m k e n r = λ d. parts_with (named_types ms (names_in (e d).names) (take (n d) (e d).types.items)) (rest_in ms (r d))
 
 -- fields by a prefix are what they are without it
 pub same_by : (ms : List Parts) (f : Fields) (b : Prefix) (own : List Ty) (m : FieldMap) (k : ℕ) → f.map.value ≡ m → f.count ≡ k → f.rest ≡ None →
@@ -94,7 +94,7 @@ prefix_kept new old m k b h =
     let ms : List Parts = parts_of_all old in
     let below = subst (λ n. list_all (is_below n) (take k m.types.items) ≡ true) (sym (length_after [] old)) (all_taken (is_below (length old)) k m.types.items h) in
     ap (λ l. prefix_parts l m k) b.is
-    ∙ (λ d. parts_with (fields_of (zip (names_in m.names) (types_kept ms b.more (take k m.types.items) below d))) Absent)
+    ∙ (λ d. parts_with (zip (names_in m.names) (types_kept ms b.more (take k m.types.items) below d)) Absent)
 
 pub prefix_longer : (new old : Types) (m : FieldMap) (o : Option Prefix) → BeginsWith (parts_of_all new.objects.items) (parts_of_all old.objects.items) →
     list_all (is_below (length old.objects.items)) m.types.items ≡ true → HasPrefix old m o → HasPrefix new m o

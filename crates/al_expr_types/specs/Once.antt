@@ -2,7 +2,6 @@
 use Rattle.std.specs.Prelude.{ℕ, List, Bool}
 use Rattle.al_types.specs.FusedFields.{are_distinct}
 use Rattle.al_types.specs.Strings.{strings}
-use Rattle.al_types.specs.Types.{fields_of}
 
 abbrev pub are_once : List (List ℕ) → Bool
-are_once ns = are_distinct (fields_of (strings ns))
+are_once ns = are_distinct (strings ns)

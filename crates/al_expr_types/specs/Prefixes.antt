@@ -1,6 +1,6 @@
 -- Prefixes of the fields of a map.
 use Rattle.std.specs.Prelude.{◌≡◌, ◌<◌, ◌≤◌, ℕ, List, length, take, Option, MatchOption}
-use Rattle.al_types.specs.Types.{Absent, Parts, fields_of, parts_with}
+use Rattle.al_types.specs.Types.{Absent, Parts, parts_with}
 use Rattle.al_expr_types.specs.Names.{names_in}
 use Rattle.al_expr_types.specs.Tables.{objects_of}
 use Rattle.al_expr_types.specs.Types.{named_types, object_in}
@@ -15,7 +15,7 @@ map_in p = p.map.value
 
 -- an object of the first so many fields, and no others
 abbrev pub prefix_parts : List Parts → FieldMap → ℕ → Parts
-prefix_parts ms m k = parts_with (fields_of (named_types ms (names_in m.names) (take k m.types.items))) Absent
+prefix_parts ms m k = parts_with (named_types ms (names_in m.names) (take k m.types.items)) Absent
 
 -- a number, where there is one, is that of an object of so many of the fields
 abbrev pub HasPrefix : Types → FieldMap → Option Prefix → Type 0

@@ -2,7 +2,7 @@
 use Rattle.std.specs.Prelude.{ℕ, zero, suc, List, [], ◌∷◌, ◌++◌, map, take, zip}
 use Rattle.std.specs.Prelude.{get_or, Bool, true, false, ◌&&◌, nat_lt, Option, Some, None}
 use Rattle.std.specs.List.{list_all}
-use Rattle.al_types.specs.Types.{Type', Any, Null, Number, Bool', String, ArrayOf, NoField, Optional, Absent, Present, Parts, fields_of}
+use Rattle.al_types.specs.Types.{Type', Any, Null, Number, Bool', String, ArrayOf, Optional, Absent, Present, Parts}
 use Rattle.al_types.specs.Types.{fuse_optional, object_type, parts_with}
 use Rattle.al_types.specs.Strings.{strings}
 use Rattle.al_types.specs.Fused.{fuse_all}
@@ -27,7 +27,7 @@ scalar_type scalar.String = String
 
 -- an object without fields
 abbrev pub no_parts : Parts
-no_parts = parts_with NoField Absent
+no_parts = parts_with [] Absent
 
 -- the object of a number, among these
 abbrev pub object_in : List Parts → ℕ → Parts
@@ -58,7 +58,7 @@ named_types ms ns ts = zip ns (map (type_in ms) ts)
 
 abbrev pub fields_parts : List Parts → Fields → Parts
 fields_parts ms f =
-    parts_with (fields_of (named_types ms (names_in f.map.value.names) (take f.count f.map.value.types.items))) (rest_in ms f.rest)
+    parts_with (named_types ms (names_in f.map.value.names) (take f.count f.map.value.types.items)) (rest_in ms f.rest)
 
 -- what types have in common
 abbrev pub common_of : List Type' → Optional
@@ -76,7 +76,7 @@ extension_parts ms e = parts_by ms e.fields e.base e.own.items
 
 -- strings of these names
 abbrev pub strings_parts : List (List ℕ) → Parts
-strings_parts ns = parts_with (fields_of (strings ns)) Absent
+strings_parts ns = parts_with (strings ns) Absent
 
 -- an object, among those before it
 abbrev pub object_parts : List Parts → Object → Parts

@@ -19,7 +19,7 @@ impl<'a> FieldMap<'a> {
     ghost use Rattle.std.specs.Prelude.{◌∷◌, ◌++◌, ◌<◌, [], List, IfOk, get_or, if◌then◌else◌, is_none};
     ghost use Rattle.std.specs.Prelude.{map, option_map, slice_get, take, true, ℕ};
     ghost use Rattle.al_base.specs.NamePlaces.{name_place};
-    ghost use Rattle.al_types.specs.Types.{Parts, field_at, fields_of};
+    ghost use Rattle.al_types.specs.Types.{Parts, field_at};
     ghost use Rattle.al_expr_types.specs.Once.{are_once};
     ghost use Rattle.al_expr_types.specs.Types.{is_below, is_rest_below, named_types, type_in};
     ghost use Rattle.std.specs.List.{list_all};
@@ -106,8 +106,7 @@ impl<'a> FieldMap<'a> {
     pub fn get(&self, alloc: Global, name: &[u8], count: usize) -> Result<Option<Ty>, AllocError>
         ensures ty { IfOk result (λ found. (ms : List Parts) → option_map (type_in ms) found
             ≡ field_at name.now
-            (fields_of
-            (named_types ms (names_in self.now.names) (take count self.now.types.items)))) }
+            (named_types ms (names_in self.now.names) (take count self.now.types.items))) }
         ensures below { IfOk result
             (λ found. (k : ℕ) → list_all (is_below k) self.now.types.items ≡ true
             → is_rest_below k found ≡ true) }

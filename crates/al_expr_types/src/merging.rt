@@ -24,7 +24,7 @@ impl<'a> FieldJoins<'a> {
     ghost use Rattle.std.specs.List.{list_all};
     ghost use Rattle.al_types.specs.Strings.{strings};
     ghost use Rattle.al_base.specs.NamePlaces.{name_place};
-    ghost use Rattle.al_types.specs.Types.{Absent, Parts, Present, field_at, fields_of, fuse_optional, optional};
+    ghost use Rattle.al_types.specs.Types.{Absent, Parts, Present, field_at, fuse_optional, optional};
     ghost use Rattle.al_expr_types.specs.Joining.{is_join_below, join_in};
     ghost use Rattle.al_expr_types.specs.Merging.{and_named, are_joins_below, found_in};
     ghost use Rattle.al_expr_types.specs.Types.{are_fields_below, fields_parts, is_below, named_types, type_in};
@@ -153,7 +153,7 @@ impl<'a> FieldJoins<'a> {
         requires { length types.now ≤ length (names_in names.now) }
         ensures found { IfOk result (λ m. (ms : List Parts) → found_in ms m
             ≡ λ n. fuse_optional (found_in ms self.entry n)
-            (optional (field_at n (fields_of (named_types ms (names_in names.now) types.now))))) }
+            (optional (field_at n (named_types ms (names_in names.now) types.now)))) }
         ensures below { IfOk result
             (λ m. (k : ℕ) → list_all (is_below k) types.now ≡ true
             → are_joins_below k self.entry ≡ true
@@ -175,7 +175,7 @@ impl<'a> FieldJoins<'a> {
     ) -> Result<FieldJoins<'a>, AllocError>
         ensures found { IfOk result (λ m. (ms : List Parts) → found_in ms m
             ≡ λ n. fuse_optional (found_in ms self.entry n)
-            (optional (field_at n (fields_of (strings names.now))))) }
+            (optional (field_at n (strings names.now)))) }
         ensures below { IfOk result
             (λ m. (k : ℕ) → are_joins_below k self.entry ≡ true → are_joins_below k m ≡ true) }
     {

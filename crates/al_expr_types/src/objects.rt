@@ -21,7 +21,7 @@ pub struct Fields<'a> {
 impl<'a> Fields<'a> {
     ghost use Rattle.std.specs.Prelude.{◌≡◌, List, IfOk, true, ℕ};
     ghost use Rattle.std.specs.List.{list_all};
-    ghost use Rattle.al_types.specs.Types.{Parts, field_at, fields_of, optional};
+    ghost use Rattle.al_types.specs.Types.{Parts, field_at, optional};
     ghost use Rattle.al_expr_types.specs.Names.{names_in};
     ghost use Rattle.al_expr_types.specs.Types.{are_fields_below, fields_parts, is_below, is_rest_below, named_types, rest_in};
 
@@ -35,7 +35,7 @@ impl<'a> Fields<'a> {
         requires { length (names_in names) ≡ length types.items }
         ensures named { IfOk result (λ f. (ms : List Parts) → (fields_parts ms f).0
             ≡ λ n. optional
-            (field_at n (fields_of (named_types ms (names_in names.entry) types.items)))) }
+            (field_at n (named_types ms (names_in names.entry) types.items))) }
         ensures rest { IfOk result
             (λ f. (ms : List Parts) → (fields_parts ms f).1 ≡ rest_in ms rest) }
         ensures below { IfOk result

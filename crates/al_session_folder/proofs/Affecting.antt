@@ -2,7 +2,7 @@
 use Rattle.std.proofs.Common.{zero, suc, ◌+◌, ◌<◌, ◌++◌, take, get_or, arith, ◌≡◌, ℕ, Bool, true, false, not, ◌&&◌, ◌||◌, cond, filter}
 use Rattle.std.proofs.Common.{List, [], ◌∷◌, length, Option, Some, None, is_some, refl, sym, ◌∙◌, ap, subst}
 use Rattle.std.specs.Prelude.{bytes_eq}
-use Rattle.std.proofs.Common.{Result, Ok, Err, IfOk, Bor}
+use Rattle.std.proofs.Common.{Bor}
 use Rattle.std.specs.Option.{option_copied}
 use Rattle.al_session_folder.specs.declared.kept.KeptFile.{KeptFile}
 use Rattle.std.specs.Option.{option_map, option_map_or, option_eq, option_or}
@@ -17,11 +17,13 @@ use Rattle.std.proofs.lemmas.Map.Text.{is_eq-slice_cmp}
 use Rattle.std.proofs.lemmas.Cmp.{nat_list_cmp_total}
 use Rattle.al_session_folder.specs.Meaning.{Meaning, candidates, is_candidate}
 use Rattle.std.proofs.lemmas.List.{take_more}
-use Rattle.al_session_folder.proofs.Missings.{with_one-sorted}
+use Rattle.std.proofs.lemmas.List.Folds.{list_any-append}
+use Rattle.al_session_folder.proofs.Missings.{paths_same}
 use Rattle.al_session_folder.specs.Folder.{Folder, without_file, bytes_at, paths_of, interface_in, first_of, answer}
 use Rattle.al_session_folder.specs.Affected.{is_untouched, affected_paths, is_affected, is_among}
 use Rattle.al_session_folder.specs.Kept.{with_bytes_at}
-use Rattle.al_base.specs.InOrder.{with_one}
+use Rattle.al_base.specs.InOrder.{in_order, with_one}
+use Rattle.al_base.proofs.InOrder.{IsStrictlySortedBy-in_order}
 use Rattle.al_session_folder.specs.declared.lint.Target.{Target}
 use Rattle.al_session_folder.proofs.Places.{by_ordering, exact_path, rest_sorted, sorted_put}
 use Rattle.al_session_folder.proofs.Views.{bytes_changed, bytes_same, bytes_self, none_behind}
@@ -334,9 +336,23 @@ among_put q n (r ∷ rs) = by_ordering (slice_cmp nat_cmp n r)
     there true a same = ap (λ x. bytes_eq q x || is_among q rs) (sym same) ∙ ap (λ t. t || is_among q rs) a ∙ sym (ap (λ t. t || is_among q (r ∷ rs)) a)
     there false a same = sym (ap (λ t. t || is_among q (r ∷ rs)) a)
 
+-- paths in order have the members that they had
+pub among_ordered : (q : List ℕ) (ps : List (List ℕ)) → is_among q (in_order (slice_cmp nat_cmp) ps) ≡ is_among q ps
+among_ordered q [] = refl
+among_ordered q (r ∷ rs) = among_put q r (in_order (slice_cmp nat_cmp) rs) ∙ ap (λ t. bytes_eq q r || t) (among_ordered q rs)
+
+among_last : (q n : List ℕ) (ps : List (List ℕ)) → is_among q (ps ++ n ∷ []) ≡ bytes_eq q n || is_among q ps
+among_last q n ps = list_any-append (bytes_eq q) ps (n ∷ []) ∙ turned (is_among q ps) (bytes_eq q n)
+  where
+    turned : (a b : Bool) → a || (b || false) ≡ b || a
+    turned true true = refl
+    turned true false = refl
+    turned false true = refl
+    turned false false = refl
+
 -- One path more among affected ones
 
-pub members_more : (q n p : List ℕ) (aff : List ℕ → Bool) (old new : List (List ℕ)) → new ≡ cond (not (bytes_eq n p) && aff n) (with_one (slice_cmp nat_cmp) n old) old
+pub members_more : (q n p : List ℕ) (aff : List ℕ → Bool) (old new : List (List ℕ)) → new ≡ cond (not (bytes_eq n p) && aff n) (old ++ n ∷ []) old
     → is_among q new ≡ (bytes_eq q n && (not (bytes_eq q p) && aff q)) || is_among q old
 members_more q n p aff old new e = ap (is_among q) e ∙ by (not (bytes_eq n p) && aff n) refl
   where
@@ -355,10 +371,10 @@ members_more q n p aff old new e = ap (is_among q) e ∙ by (not (bytes_eq n p) 
     and_false true = refl
     and_false false = refl
 
-    by : (t : Bool) → not (bytes_eq n p) && aff n ≡ t → is_among q (cond (not (bytes_eq n p) && aff n) (with_one (slice_cmp nat_cmp) n old) old)
+    by : (t : Bool) → not (bytes_eq n p) && aff n ≡ t → is_among q (cond (not (bytes_eq n p) && aff n) (old ++ n ∷ []) old)
         ≡ (bytes_eq q n && (not (bytes_eq q p) && aff q)) || is_among q old
-    by true a = ap (λ t. is_among q (cond t (with_one (slice_cmp nat_cmp) n old) old)) a ∙ among_put q n old ∙ sym (ap (λ t. t || is_among q old) (here true a ∙ and_true (bytes_eq q n)))
-    by false a = ap (λ t. is_among q (cond t (with_one (slice_cmp nat_cmp) n old) old)) a ∙ sym (ap (λ t. t || is_among q old) (here false a ∙ and_false (bytes_eq q n)))
+    by true a = ap (λ t. is_among q (cond t (old ++ n ∷ []) old)) a ∙ among_last q n old ∙ sym (ap (λ t. t || is_among q old) (here true a ∙ and_true (bytes_eq q n)))
+    by false a = ap (λ t. is_among q (cond t (old ++ n ∷ []) old)) a ∙ sym (ap (λ t. t || is_among q old) (here false a ∙ and_false (bytes_eq q n)))
 
 module _ {I : Type 0} (eq : I → I → Bool) (m : Meaning I) (f g : Folder) (ordered : IsStrictlySortedBy (slice_cmp nat_cmp) (paths_of g)) where
   pub affected_sorted : IsStrictlySortedBy (slice_cmp nat_cmp) (affected_paths eq m f g)
@@ -397,12 +413,7 @@ module _ (T : Target → Bool) where
       and_false true = refl
       and_false false = refl
 
-pub sorted_more : (n : List ℕ) (t : Bool) (old new : List (List ℕ)) → new ≡ cond t (with_one (slice_cmp nat_cmp) n old) old
-    → IsStrictlySortedBy (slice_cmp nat_cmp) old → IsStrictlySortedBy (slice_cmp nat_cmp) new
-sorted_more n true old new e s = subst (IsStrictlySortedBy (slice_cmp nat_cmp)) (sym e) (with_one-sorted n old s)
-sorted_more n false old new e s = subst (IsStrictlySortedBy (slice_cmp nat_cmp)) (sym e) s
-
-pub start_sorted : (t : Bool) (p : List ℕ) (ps : List (List ℕ)) → ps ≡ cond t (p ∷ []) [] → IsStrictlySortedBy (slice_cmp nat_cmp) ps
+start_sorted : (t : Bool) (p : List ℕ) (ps : List (List ℕ)) → ps ≡ cond t (p ∷ []) [] → IsStrictlySortedBy (slice_cmp nat_cmp) ps
 unfolding IsStrictlySortedBy
 start_sorted t p ps e = subst (IsStrictlySortedBy (slice_cmp nat_cmp)) (sym e) (by t)
   where
@@ -443,19 +454,26 @@ module _ {I : Type 0} (m : Meaning I) (eq : I → I → Bool) (itself : (x : I) 
   and_swap false true = refl
   and_swap false false = refl
 
-  pub affected_found : (start paths : List (List ℕ)) → start ≡ cond (is_some now) (p ∷ []) [] → IsStrictlySortedBy (slice_cmp nat_cmp) paths
+  affected_all : (start paths : List (List ℕ)) → start ≡ cond (is_some now) (p ∷ []) [] → IsStrictlySortedBy (slice_cmp nat_cmp) paths
       → ((q : List ℕ) → is_among q paths ≡ ((not (bytes_eq q p) && is_affected eq m f (with_bytes_at f p now) q) && any q) || is_among q start) → paths ≡ affected_paths eq m f (with_bytes_at f p now)
-  affected_found start paths e s members = affected_is eq m f (with_bytes_at f p now) (changed_sorted p f now ordered) paths s
+  affected_all start paths e s members = affected_is eq m f (with_bytes_at f p now) (changed_sorted p f now ordered) paths s
       (λ q. members q ∙ ap (λ t. t || is_among q start) (and_swap (not (bytes_eq q p) && is_affected eq m f (with_bytes_at f p now) q) (any q))
       ∙ ap (λ l. (any q && (not (bytes_eq q p) && is_affected eq m f (with_bytes_at f p now) q)) || is_among q l) e ∙ affected_members m p f now ordered eq itself q (any q) (calls q) other)
 
+  -- put in order
+  pub affected_found : (start paths : List (List ℕ)) → start ≡ cond (is_some now) (p ∷ []) []
+      → ((q : List ℕ) → is_among q paths ≡ ((not (bytes_eq q p) && is_affected eq m f (with_bytes_at f p now) q) && any q) || is_among q start)
+      → in_order (slice_cmp nat_cmp) paths ≡ affected_paths eq m f (with_bytes_at f p now)
+  affected_found start paths e members =
+      affected_all start (in_order (slice_cmp nat_cmp) paths) e (IsStrictlySortedBy-in_order nat_list_cmp_total paths_same paths) (λ q. among_ordered q paths ∙ members q)
+
   pub affected_none : (start : List (List ℕ)) → start ≡ cond (is_some now) (p ∷ []) [] → ((q : List ℕ) → any q ≡ false) → start ≡ affected_paths eq m f (with_bytes_at f p now)
-  affected_none start e none = affected_found start start e (start_sorted (is_some now) p start e)
+  affected_none start e none = affected_all start start e (start_sorted (is_some now) p start e)
       (λ q. sym (ap (λ t. ((not (bytes_eq q p) && is_affected eq m f (with_bytes_at f p now) q) && t) || is_among q start) (none q) ∙ ap (λ t. t || is_among q start) (and_swap _ false)))
 
   pub affected_still : (start : List (List ℕ)) → start ≡ cond (is_some now) (p ∷ []) []
       → interface_in m f p ≡ interface_in m (with_bytes_at f p now) p → start ≡ affected_paths eq m f (with_bytes_at f p now)
-  affected_still start e still = affected_found start start e (start_sorted (is_some now) p start e)
+  affected_still start e still = affected_all start start e (start_sorted (is_some now) p start e)
       (λ q. sym (ap (λ t. (t && any q) || is_among q start) (none_affected m p f now ordered eq itself still q)))
 
 pub same_answer_exact : {I : Type 0} (eq : I → I → Bool) → ((x y : I) → eq x y ≡ true → x ≡ y) → (a b : Option I) → option_eq eq a b ≡ true → a ≡ b
@@ -469,10 +487,6 @@ same_answer_exact eq exact (Some x) None h = absurd (wrong h)
   where
     wrong : false ≡ true → ⊥
     wrong h = cc
-
-pub if_ok2 : {A E : Type 0} {P Q R : A → Type 0} (r : Result A E) → ((v : A) → P v → Q v → R v) → IfOk r P → IfOk r Q → IfOk r R
-if_ok2 (Ok v) f p q = f v p q
-if_ok2 (Err e) f p q = p
 
 pub some_kept : {U I : Type 0} (now : Option (Bor (KeptFile U I))) → is_some now ≡ is_some (option_map (λ (file : KeptFile U I). file.bytes.items) (option_copied now))
 some_kept None = refl

@@ -2,24 +2,17 @@
 use Rattle.std.proofs.Common.{◌≡◌, ℕ, Bool, true, false, ◌&&◌, ◌||◌, List, [], ◌∷◌, refl, sym, ◌∙◌, ap}
 use Rattle.std.specs.Prelude.{bytes_eq}
 use Rattle.std.specs.List.{flat_map, list_any}
-use Rattle.std.specs.Ordering.{nat_cmp}
-use Rattle.std.specs.Cmp.Lexicographic.{slice_cmp}
 use Rattle.std.proofs.lemmas.List.Folds.{list_any-append}
 use Rattle.std.proofs.lemmas.Map.Views.{any-filter_same}
-use Rattle.al_base.specs.InOrder.{in_order}
 use Rattle.al_session_folder.specs.Affected.{is_among}
 use Rattle.al_session_folder.specs.Folder.{Folder}
 use Rattle.al_session_folder.specs.Meaning.{Meaning, candidates, is_candidate}
 use Rattle.al_session_folder.specs.Missing.{absent_candidates, is_absent, is_missing, missing_in}
 use Rattle.al_session_folder.specs.declared.lint.Target.{Target}
-use Rattle.al_session_folder.proofs.Affecting.{among_put}
+use Rattle.al_session_folder.proofs.Affecting.{among_ordered}
 use Rattle.al_session_folder.proofs.Views.{bytes_same}
 
 module _ (p : List ℕ) where
-  among_ordered : (ps : List (List ℕ)) → is_among p (in_order (slice_cmp nat_cmp) ps) ≡ is_among p ps
-  among_ordered [] = refl
-  among_ordered (q ∷ qs) = among_put p q (in_order (slice_cmp nat_cmp) qs) ∙ ap (λ t. bytes_eq p q || t) (among_ordered qs)
-
   among_candidates : (ts : List Target) → is_among p (flat_map candidates ts) ≡ is_candidate ts p
   among_candidates [] = refl
   among_candidates (t ∷ ts) =

@@ -1,13 +1,12 @@
 //! Which files a change of one path affects.
 
-ghost use Rattle.std.specs.Prelude.{◌≡◌, ◌≢◌, ℕ, List, [], ◌∷◌, not, ◌&&◌, ◌||◌};
+ghost use Rattle.std.specs.Prelude.{◌≡◌, ◌≢◌, ℕ, List, [], ◌∷◌, ◌++◌, not, ◌&&◌, ◌||◌};
 ghost use Rattle.std.specs.Prelude.{bytes_eq, string_bytes, cond, None, IfOk, OnOk};
 ghost use Rattle.std.specs.List.{list_all, list_any};
 ghost use Rattle.std.specs.List.Sorted.{IsStrictlySortedBy};
 ghost use Rattle.std.specs.Ordering.{nat_cmp};
 ghost use Rattle.std.specs.Cmp.Lexicographic.{slice_cmp};
 ghost use Rattle.std.specs.Option.{option_copied, option_eq};
-ghost use Rattle.al_base.specs.InOrder.{with_one};
 ghost use Rattle.al_base.specs.Paths.{path_fault_of};
 ghost use Rattle.al_session_folder.specs.Affected.{is_affected, is_among};
 ghost use Rattle.al_session_folder.specs.Folder.{answer, bytes_at, interface_in, paths_of};
@@ -16,7 +15,7 @@ ghost use Rattle.al_session_folder.specs.FolderViews.{affected_by, change_of, ch
 
 use crate::kept::{Callers, Files, KeptFile};
 use crate::lint::{Lint, Target};
-use crate::paths::{add_path, owned_path};
+use crate::paths::{owned_path, put_paths_in_order};
 use crate::view::FolderView;
 use al_base::Path;
 use std::alloc::{AllocError, Global};
@@ -117,17 +116,16 @@ impl<'a, L: Lint> PlannedChange<'a, L> {
         true
     }
 
-    // Adds the path of a caller, where the change affects it.
+    // Adds the path of a caller behind the others, where the change affects it.
     fn add_if_affected(
         &self,
         alloc: Global,
         name: &str,
         paths: &mut Vec<Path>,
     ) -> Result<(), AllocError>
-        requires { IsStrictlySortedBy (slice_cmp nat_cmp) paths.old.items }
         ensures { OnOk result (paths.new.items ≡ cond (not (bytes_eq name.now self.now.path)
             && is_affected L.Iface.eq L.meaning self.now.before (changed_by self.now) name.now)
-            (with_one (slice_cmp nat_cmp) name.now paths.old.items) paths.old.items) }
+            (paths.old.items ++ name.now ∷ []) paths.old.items) }
     {
         if name == self.path {
             return Ok(());
@@ -135,25 +133,23 @@ impl<'a, L: Lint> PlannedChange<'a, L> {
         match self.files.get(name) {
             Some(file) => {
                 if self.has_same_answers(&file.calls.targets) {
-                    Ok(())
-                } else {
-                    add_path(alloc, paths, name)
+                    return Ok(());
                 }
+                paths.push(owned_path(alloc, name)?)?;
+                Ok(())
             }
             None => Ok(()),
         }
     }
 
-    // Adds the paths of those of these callers that the change affects.
+    // Adds the paths of those of these callers that the change affects, in no order.
     fn add_affected(
         &self,
         alloc: Global,
         names: &[String],
         mut paths: Vec<Path>,
     ) -> Result<Vec<Path>, AllocError>
-        requires { IsStrictlySortedBy (slice_cmp nat_cmp) paths.items }
-        ensures sorted { IfOk result (λ r. IsStrictlySortedBy (slice_cmp nat_cmp) r.items) }
-        ensures members { IfOk result
+        ensures { IfOk result
             (λ r. (q : List ℕ) → is_among q r.items ≡ (((not (bytes_eq q self.now.path)
             && is_affected L.Iface.eq L.meaning self.now.before (changed_by self.now) q)
             && list_any (λ k. bytes_eq q (string_bytes k)) names.now) || is_among q paths.items)) }
@@ -181,7 +177,11 @@ impl<'a, L: Lint> PlannedChange<'a, L> {
             return Ok(paths);
         }
         match callers.get(self.path) {
-            Some(known) => self.add_affected(alloc, known.as_slice(), paths),
+            Some(known) => {
+                let mut affected = self.add_affected(alloc, known.as_slice(), paths)?;
+                put_paths_in_order(&mut affected);
+                Ok(affected)
+            }
             None => Ok(paths),
         }
     }

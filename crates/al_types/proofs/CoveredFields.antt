@@ -1,8 +1,8 @@
 -- That what all fields of an object have in common covers what each property finds: for the law `all_fields_cover_each`.
-use Rattle.std.proofs.Common.{◌≡◌, ℕ, List, Bool, true, false, sym, ap, ◌∙◌, Option, Some, None}
+use Rattle.std.proofs.Common.{◌≡◌, ℕ, List, Bool, true, false, sym, ap, ◌∙◌, Option, Some, None, [], ◌∷◌}
 use Rattle.std.specs.Prelude.{if◌then◌else◌}
 use Rattle.al_base.specs.Names.{same_name}
-use Rattle.al_types.specs.Types.{Type', Fields, NoField, FieldThen, Optional, Absent, Present, common_in, field_at, fuse_optional}
+use Rattle.al_types.specs.Types.{Type', Fields, Optional, Absent, Present, common_in, field_at, fuse_optional}
 use Rattle.al_types.specs.Types.{object_with, option_of, optional, or_else, property_in}
 use Rattle.al_types.proofs.FuseLaws.{optional_assoc, optional_same, optional_turned}
 
@@ -25,8 +25,8 @@ field_step true u t found c is behind =
 field_step false u t found c is behind = second_covered (Present t) (Present u) c (behind is)
 
 field_covered : (fs : Fields) (n : List ℕ) (t : Type') → field_at n fs ≡ Some t → fuse_optional (Present t) (common_in fs) ≡ common_in fs
-field_covered NoField n t is = absurd cc
-field_covered (FieldThen m u fs) n t is = field_step (same_name m n) u t (field_at n fs) (common_in fs) is (field_covered fs n t)
+field_covered [] n t is = absurd cc
+field_covered (f ∷ fs) n t is = field_step (same_name f.0 n) f.1 t (field_at n fs) (common_in fs) is (field_covered fs n t)
 
 either_covered : (o : Option Type') (rest c : Optional) (t : Type') → option_of (or_else (optional o) rest) ≡ Some t
     → (o ≡ Some t → fuse_optional (Present t) c ≡ c)

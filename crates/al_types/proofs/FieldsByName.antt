@@ -4,7 +4,7 @@ use Rattle.std.proofs.lemmas.Grind.{common_steps}
 use Rattle.std.specs.Prelude.{if◌then◌else◌, option_and_then, slice_get, zip}
 use Rattle.al_base.specs.Names.{same_name}
 use Rattle.al_base.specs.NamePlaces.{name_place}
-use Rattle.al_types.specs.Types.{Type', field_at, fields_of}
+use Rattle.al_types.specs.Types.{Type', field_at}
 
 found_step : (b : Bool) (t : Type') (ts : List Type') (found : Option Type') (place : Option ℕ) →
     found ≡ option_and_then (λ i. slice_get ts i) place →
@@ -22,7 +22,7 @@ none_left (Some i) = refl
 
 -- a name finds the type at its place
 pub found_by_name : (ns : List (List ℕ)) (ts : List Type') (n : List ℕ) →
-    field_at n (fields_of (zip ns ts)) ≡ option_and_then (λ i. slice_get ts i) (name_place ns n)
+    field_at n (zip ns ts) ≡ option_and_then (λ i. slice_get ts i) (name_place ns n)
 found_by_name [] ts n = refl
 found_by_name (m ∷ ns) [] n = none_left (name_place (m ∷ ns) n)
 found_by_name (m ∷ ns) (t ∷ ts) n = found_step (same_name m n) t ts _ (name_place ns n) (found_by_name ns ts n)
@@ -34,9 +34,9 @@ got_mapped g (x ∷ xs) (suc i) = got_mapped g xs i
 
 -- a name finds the type that stands at its place
 pub found_there : {X : Type 0} (g : X → Type') (ns : List (List ℕ)) (xs : List X) (n : List ℕ) (i : ℕ) → name_place ns n ≡ Some i →
-    option_map g (slice_get xs i) ≡ field_at n (fields_of (zip ns (map g xs)))
+    option_map g (slice_get xs i) ≡ field_at n (zip ns (map g xs))
 found_there g ns xs n i e =
     sym (found_by_name ns (map g xs) n ∙ ap (option_and_then (λ k. slice_get (map g xs) k)) e ∙ got_mapped g xs i)
 
-pub found_nowhere : (ns : List (List ℕ)) (ts : List Type') (n : List ℕ) → name_place ns n ≡ None → None ≡ field_at n (fields_of (zip ns ts))
+pub found_nowhere : (ns : List (List ℕ)) (ts : List Type') (n : List ℕ) → name_place ns n ≡ None → None ≡ field_at n (zip ns ts)
 found_nowhere ns ts n e = sym (found_by_name ns ts n ∙ ap (option_and_then (λ k. slice_get ts k)) e)

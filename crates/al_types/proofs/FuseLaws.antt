@@ -1,7 +1,7 @@
 -- What fusing keeps to: which of several types are fused first does not count, nor in which order they stand, nor how often one does,
 -- nor an object without fields.
 use Rattle.std.proofs.Common.{◌≡◌, List, [], ◌∷◌, ◌++◌, refl, sym, ap, ◌∙◌, Option, Some, None}
-use Rattle.al_types.specs.Types.{Type', Any, Null, Number, Bool', String, ArrayOf, ObjectOf, Optional, Absent, Present, NoField}
+use Rattle.al_types.specs.Types.{Type', Any, Null, Number, Bool', String, ArrayOf, ObjectOf, Optional, Absent, Present}
 use Rattle.al_types.specs.Types.{Parts, fuse_optional, fuse_type, option_of, optional, parts_with}
 use Rattle.al_types.specs.Fused.{fuse_parts, fused_with, fuse_all}
 use Rattle.al_types.specs.TypeParts.{common_type}
@@ -102,11 +102,11 @@ common_more t o u b e is =
 -- ---- objects
 
 -- an object without fields adds nothing to another, before it ..
-pub empty_first : (p : Parts) → fuse_parts (parts_with NoField Absent) p ≡ p
+pub empty_first : (p : Parts) → fuse_parts (parts_with [] Absent) p ≡ p
 empty_first p = refl
 
 -- .. or after it
-pub empty_last : (p : Parts) → fuse_parts p (parts_with NoField Absent) ≡ p
+pub empty_last : (p : Parts) → fuse_parts p (parts_with [] Absent) ≡ p
 empty_last p = λ d. (λ n. nothing_last (p.0 n) d, nothing_last p.1 d, nothing_last p.2 d)
 
 -- which two of three objects are fused first does not count
@@ -121,7 +121,7 @@ with_more p (r ∷ ps) qs = with_more (fuse_parts p r) ps qs
 
 -- objects and one more
 pub fused_one_more : (ps : List Parts) (q : Parts) → fuse_all (ps ++ q ∷ []) ≡ fuse_parts (fuse_all ps) q
-fused_one_more ps q = with_more (parts_with NoField Absent) ps (q ∷ [])
+fused_one_more ps q = with_more (parts_with [] Absent) ps (q ∷ [])
 
 with_before : (p q : Parts) (qs : List Parts) → fused_with (fuse_parts p q) qs ≡ fuse_parts p (fused_with q qs)
 with_before p q [] = refl
@@ -130,5 +130,5 @@ with_before p q (r ∷ qs) = ap (λ x. fused_with x qs) (parts_assoc p q r) ∙ 
 -- some objects and others: those fused, with these fused
 pub fused_both : (ps qs : List Parts) → fuse_all (ps ++ qs) ≡ fuse_parts (fuse_all ps) (fuse_all qs)
 fused_both ps qs =
-    with_more (parts_with NoField Absent) ps qs ∙ ap (λ x. fused_with x qs) (sym (empty_last (fuse_all ps)))
-    ∙ with_before (fuse_all ps) (parts_with NoField Absent) qs
+    with_more (parts_with [] Absent) ps qs ∙ ap (λ x. fused_with x qs) (sym (empty_last (fuse_all ps)))
+    ∙ with_before (fuse_all ps) (parts_with [] Absent) qs

@@ -7,7 +7,7 @@ use Rattle.std.specs.Str.{bytes_eq}
 use Rattle.al_base.specs.Names.{lower_case, same_name}
 use Rattle.al_types.specs.FusedFields.{are_distinct}
 use Rattle.al_types.specs.Puts.{Typed, firsts, put_or_fuse, put_all, put_new}
-use Rattle.al_types.specs.Types.{Type', Fields, Optional, field_at, fields_of, fuse_optional, fuse_type, has_field, optional}
+use Rattle.al_types.specs.Types.{Type', Fields, Optional, field_at, fuse_optional, fuse_type, has_field, optional}
 use Rattle.al_types.specs.TypeParts.{common_type}
 use Rattle.al_types.proofs.FuseLaws.{common_optional}
 use Rattle.al_types.proofs.JoinedFields.{first_apart, has_field_at, has_same, nothing_at, others_apart, same_turned}
@@ -39,17 +39,17 @@ apart_step true false t u o more h e = refl
 
 put_step : (same there here : Bool) (n : List ℕ) (q p : Typed) (qs more : List Typed) →
     (same ≡ true → there ≡ here) → (same ≡ false → there ≡ true → here ≡ false) →
-    there ≡ same_name q.0 n → field_at n (fields_of more) ≡ common_type (field_at n (fields_of qs)) (when here p.1) →
-    field_at n (fields_of (if same then (q.0, fuse_type q.1 p.1) ∷ qs else q ∷ more)) ≡ common_type (field_at n (fields_of (q ∷ qs))) (when here p.1)
+    there ≡ same_name q.0 n → field_at n more ≡ common_type (field_at n qs) (when here p.1) →
+    field_at n (if same then (q.0, fuse_type q.1 p.1) ∷ qs else q ∷ more) ≡ common_type (field_at n (q ∷ qs)) (when here p.1)
 put_step true there here n q p qs more h k is e =
-    ap (λ b. if b then Some (fuse_type q.1 p.1) else field_at n (fields_of qs)) (sym is) ∙ here_step there here q.1 p.1 (field_at n (fields_of qs)) (h refl)
-    ∙ ap (λ b. common_type (if b then Some q.1 else field_at n (fields_of qs)) (when here p.1)) is
+    ap (λ b. if b then Some (fuse_type q.1 p.1) else field_at n qs) (sym is) ∙ here_step there here q.1 p.1 (field_at n qs) (h refl)
+    ∙ ap (λ b. common_type (if b then Some q.1 else field_at n qs) (when here p.1)) is
 put_step false there here n q p qs more h k is e =
-    ap (λ b. if b then Some q.1 else field_at n (fields_of more)) (sym is) ∙ apart_step there here q.1 p.1 (field_at n (fields_of qs)) _ (k refl) e
-    ∙ ap (λ b. common_type (if b then Some q.1 else field_at n (fields_of qs)) (when here p.1)) is
+    ap (λ b. if b then Some q.1 else field_at n more) (sym is) ∙ apart_step there here q.1 p.1 (field_at n qs) _ (k refl) e
+    ∙ ap (λ b. common_type (if b then Some q.1 else field_at n qs) (when here p.1)) is
 
 pub found_put : (ts : List Typed) (p : Typed) (n : List ℕ) →
-    field_at n (fields_of (put_or_fuse ts p)) ≡ common_type (field_at n (fields_of ts)) (when (same_name p.0 n) p.1)
+    field_at n (put_or_fuse ts p) ≡ common_type (field_at n ts) (when (same_name p.0 n) p.1)
 found_put [] p n = refl
 found_put (q ∷ qs) p n =
     put_step (same_name q.0 p.0) (same_name q.0 n) (same_name p.0 n) n q p qs (put_or_fuse qs p) (λ s. ap (λ m. bytes_eq m (lower_case n)) ((bytes_decides _ _).0 s))
@@ -62,15 +62,15 @@ all_step : (b : Bool) (t : Type') (o more : Option Type') → (b ≡ true → mo
 all_step true t o more h = ap (common_type (common_type o (Some t))) (h refl) ∙ common_none (common_type o (Some t))
 all_step false t o more h = ap (λ x. common_type x more) (common_none o)
 
-found_all : (ts us : List Typed) (n : List ℕ) → are_distinct (fields_of us) ≡ true →
-    field_at n (fields_of (put_all put_or_fuse ts us)) ≡ common_type (field_at n (fields_of ts)) (field_at n (fields_of us))
-found_all ts [] n d = sym (common_none (field_at n (fields_of ts)))
+found_all : (ts us : List Typed) (n : List ℕ) → are_distinct us ≡ true →
+    field_at n (put_all put_or_fuse ts us) ≡ common_type (field_at n ts) (field_at n us)
+found_all ts [] n d = sym (common_none (field_at n ts))
 found_all ts (p ∷ us) n d =
-    let none : has_field p.0 (fields_of us) ≡ false = first_apart (has_field p.0 (fields_of us)) (are_distinct (fields_of us)) d in
-    found_all (put_or_fuse ts p) us n (others_apart (has_field p.0 (fields_of us)) (are_distinct (fields_of us)) d)
-    ∙ ap (λ o. common_type o (field_at n (fields_of us))) (found_put ts p n)
-    ∙ all_step (same_name p.0 n) p.1 (field_at n (fields_of ts)) (field_at n (fields_of us))
-    (λ s. nothing_at n (fields_of us) (has_same n p.0 (fields_of us) (sym ((bytes_decides _ _).0 s)) ∙ none))
+    let none : has_field p.0 us ≡ false = first_apart (has_field p.0 us) (are_distinct us) d in
+    found_all (put_or_fuse ts p) us n (others_apart (has_field p.0 us) (are_distinct us) d)
+    ∙ ap (λ o. common_type o (field_at n us)) (found_put ts p n)
+    ∙ all_step (same_name p.0 n) p.1 (field_at n ts) (field_at n us)
+    (λ s. nothing_at n us (has_same n p.0 us (sym ((bytes_decides _ _).0 s)) ∙ none))
 
 -- what each name finds
 abbrev pub found_in : Fields → List ℕ → Optional
@@ -80,9 +80,9 @@ abbrev pub found_in_either : Fields → Fields → List ℕ → Optional
 found_in_either fs gs = λ n. fuse_optional (found_in fs n) (found_in gs n)
 
 -- a name finds what the types of both have in common
-pub found_in_both : (ts us : List Typed) → are_distinct (fields_of us) ≡ true → found_in (fields_of (put_all put_or_fuse ts us)) ≡ found_in_either (fields_of ts) (fields_of us)
+pub found_in_both : (ts us : List Typed) → are_distinct us ≡ true → found_in (put_all put_or_fuse ts us) ≡ found_in_either ts us
 found_in_both ts us e =
-    λ d n. (ap optional (found_all ts us n e) ∙ common_optional (field_at n (fields_of ts)) (field_at n (fields_of us))) d
+    λ d n. (ap optional (found_all ts us n e) ∙ common_optional (field_at n ts) (field_at n us)) d
 
 -- ---- of equal names the first
 
@@ -100,18 +100,18 @@ later_step true t o more w e = refl
 later_step false t o more w e = e
 
 new_step : (same there here : Bool) (n : List ℕ) (q p : Typed) (qs more : List Typed) → (same ≡ true → there ≡ here) → there ≡ same_name q.0 n →
-    field_at n (fields_of more) ≡ option_or (field_at n (fields_of qs)) (when here p.1) →
-    field_at n (fields_of (if same then q ∷ qs else q ∷ more)) ≡ option_or (field_at n (fields_of (q ∷ qs))) (when here p.1)
+    field_at n more ≡ option_or (field_at n qs) (when here p.1) →
+    field_at n (if same then q ∷ qs else q ∷ more) ≡ option_or (field_at n (q ∷ qs)) (when here p.1)
 new_step true there here n q p qs more h is e =
-    let o = field_at n (fields_of qs) in
+    let o = field_at n qs in
     ap (λ b. if b then Some q.1 else o) (sym is) ∙ first_step there here q.1 p.1 o (h refl) ∙ ap (λ b. option_or (if b then Some q.1 else o) (when here p.1)) is
 new_step false there here n q p qs more h is e =
-    let o = field_at n (fields_of qs) in
-    ap (λ b. if b then Some q.1 else field_at n (fields_of more)) (sym is) ∙ later_step there q.1 o _ (when here p.1) e
+    let o = field_at n qs in
+    ap (λ b. if b then Some q.1 else field_at n more) (sym is) ∙ later_step there q.1 o _ (when here p.1) e
     ∙ ap (λ b. option_or (if b then Some q.1 else o) (when here p.1)) is
 
 found_new : (ts : List Typed) (p : Typed) (n : List ℕ) →
-    field_at n (fields_of (put_new ts p)) ≡ option_or (field_at n (fields_of ts)) (when (same_name p.0 n) p.1)
+    field_at n (put_new ts p) ≡ option_or (field_at n ts) (when (same_name p.0 n) p.1)
 found_new [] p n = refl
 found_new (q ∷ qs) p n =
     new_step (same_name q.0 p.0) (same_name q.0 n) (same_name p.0 n) n q p qs (put_new qs p) (λ s. ap (λ m. bytes_eq m (lower_case n)) ((bytes_decides _ _).0 s))
@@ -124,34 +124,34 @@ or_step false t None more = refl
 or_step false t (Some u) more = refl
 
 found_first : (ts us : List Typed) (n : List ℕ) →
-    field_at n (fields_of (put_all put_new ts us)) ≡ option_or (field_at n (fields_of ts)) (field_at n (fields_of us))
-found_first ts [] n = sym (or_none (field_at n (fields_of ts)))
+    field_at n (put_all put_new ts us) ≡ option_or (field_at n ts) (field_at n us)
+found_first ts [] n = sym (or_none (field_at n ts))
 found_first ts (p ∷ us) n =
-    found_first (put_new ts p) us n ∙ ap (λ o. option_or o (field_at n (fields_of us))) (found_new ts p n)
-    ∙ or_step (same_name p.0 n) p.1 (field_at n (fields_of ts)) (field_at n (fields_of us))
+    found_first (put_new ts p) us n ∙ ap (λ o. option_or o (field_at n us)) (found_new ts p n)
+    ∙ or_step (same_name p.0 n) p.1 (field_at n ts) (field_at n us)
 
 -- a name finds what it found among all
-pub firsts_found : (us : List Typed) (n : List ℕ) → field_at n (fields_of (firsts us)) ≡ field_at n (fields_of us)
+pub firsts_found : (us : List Typed) (n : List ℕ) → field_at n (firsts us) ≡ field_at n us
 firsts_found us n = found_first [] us n
 
-distinct_step : (same : Bool) (q : Typed) (qs more : List Typed) → are_distinct (fields_of (q ∷ qs)) ≡ true → (same ≡ false → has_field q.0 (fields_of more) ≡ false) →
-    are_distinct (fields_of more) ≡ true → are_distinct (fields_of (if same then q ∷ qs else q ∷ more)) ≡ true
+distinct_step : (same : Bool) (q : Typed) (qs more : List Typed) → are_distinct (q ∷ qs) ≡ true → (same ≡ false → has_field q.0 more ≡ false) →
+    are_distinct more ≡ true → are_distinct (if same then q ∷ qs else q ∷ more) ≡ true
 distinct_step true q qs more d h e = d
 distinct_step false q qs more d h e = λ i. not (h refl i) && e i
 
-new_distinct : (ts : List Typed) (p : Typed) → are_distinct (fields_of ts) ≡ true → are_distinct (fields_of (put_new ts p)) ≡ true
+new_distinct : (ts : List Typed) (p : Typed) → are_distinct ts ≡ true → are_distinct (put_new ts p) ≡ true
 new_distinct [] p d = refl
 new_distinct (q ∷ qs) p d =
-    let none : has_field q.0 (fields_of qs) ≡ false = first_apart (has_field q.0 (fields_of qs)) (are_distinct (fields_of qs)) d in
+    let none : has_field q.0 qs ≡ false = first_apart (has_field q.0 qs) (are_distinct qs) d in
     distinct_step (same_name q.0 p.0) q qs (put_new qs p) d
-    (λ f. sym (has_field_at q.0 (fields_of (put_new qs p))) ∙ ap is_some (found_new qs p q.0)
-    ∙ ap (λ o. is_some (option_or o (when (same_name p.0 q.0) p.1))) (nothing_at q.0 (fields_of qs) none)
+    (λ f. sym (has_field_at q.0 (put_new qs p)) ∙ ap is_some (found_new qs p q.0)
+    ∙ ap (λ o. is_some (option_or o (when (same_name p.0 q.0) p.1))) (nothing_at q.0 qs none)
     ∙ ap (λ b. is_some (when b p.1)) (same_turned p.0 q.0 ∙ f))
-    (new_distinct qs p (others_apart (has_field q.0 (fields_of qs)) (are_distinct (fields_of qs)) d))
+    (new_distinct qs p (others_apart (has_field q.0 qs) (are_distinct qs) d))
 
-all_distinct : (ts us : List Typed) → are_distinct (fields_of ts) ≡ true → are_distinct (fields_of (put_all put_new ts us)) ≡ true
+all_distinct : (ts us : List Typed) → are_distinct ts ≡ true → are_distinct (put_all put_new ts us) ≡ true
 all_distinct ts [] d = d
 all_distinct ts (p ∷ us) d = all_distinct (put_new ts p) us (new_distinct ts p d)
 
-pub firsts_distinct : (us : List Typed) → are_distinct (fields_of (firsts us)) ≡ true
+pub firsts_distinct : (us : List Typed) → are_distinct (firsts us) ≡ true
 firsts_distinct us = all_distinct [] us refl

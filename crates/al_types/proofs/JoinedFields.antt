@@ -7,10 +7,10 @@ use Rattle.std.specs.Option.{option_or}
 use Rattle.std.specs.Cmp.Lexicographic.{bytes_decides}
 use Rattle.std.specs.Str.{bytes_eq}
 use Rattle.al_base.specs.Names.{lower_case, same_name}
-use Rattle.al_types.specs.Types.{Type', Fields, NoField, FieldThen, Optional, Absent, Present, common_in, field_at, fields_of, fuse_optional}
+use Rattle.al_types.specs.Types.{Type', Fields, Optional, Absent, Present, common_in, field_at, fuse_optional}
 use Rattle.al_types.specs.Types.{fuse_type, has_field, optional, parts_with}
 use Rattle.al_types.specs.Fused.{fuse_parts}
-use Rattle.al_types.specs.FusedFields.{are_distinct, both, fuse_fields, join_fields, missing_fields, with_other}
+use Rattle.al_types.specs.FusedFields.{are_distinct, both, fuse_fields, missing_fields, with_other}
 use Rattle.al_types.specs.TypeParts.{common_type}
 use Rattle.al_types.proofs.FuseLaws.{common_optional, last_turned, middle_turned, optional_assoc, optional_same}
 
@@ -22,18 +22,18 @@ same_turned m n =
     same_from_decides (same_name m n) (same_name n m) (bytes_eq-Decides (lower_case m) (lower_case n)) (Decides-like (same_name n m) sym sym back)
 
 same_at : (m n : List ℕ) (fs : Fields) → lower_case m ≡ lower_case n → field_at m fs ≡ field_at n fs
-same_at m n NoField e = refl
-same_at m n (FieldThen k u fs) e =
-    ap (λ b. if b then Some u else field_at m fs) (ap (bytes_eq (lower_case k)) e)
-    ∙ ap (λ o. if same_name k n then Some u else o) (same_at m n fs e)
+same_at m n [] e = refl
+same_at m n (f ∷ fs) e =
+    ap (λ b. if b then Some f.1 else field_at m fs) (ap (bytes_eq (lower_case f.0)) e)
+    ∙ ap (λ o. if same_name f.0 n then Some f.1 else o) (same_at m n fs e)
 
 some_if : (b : Bool) (t : Type') (o : Option Type') → is_some (if b then Some t else o) ≡ b || is_some o
 some_if true t o = refl
 some_if false t o = refl
 
 pub has_field_at : (n : List ℕ) (fs : Fields) → is_some (field_at n fs) ≡ has_field n fs
-has_field_at n NoField = refl
-has_field_at n (FieldThen m t fs) = some_if (same_name m n) t (field_at n fs) ∙ ap (λ b. same_name m n || b) (has_field_at n fs)
+has_field_at n [] = refl
+has_field_at n (f ∷ fs) = some_if (same_name f.0 n) f.1 (field_at n fs) ∙ ap (λ b. same_name f.0 n || b) (has_field_at n fs)
 
 pub has_same : (m n : List ℕ) (fs : Fields) → lower_case m ≡ lower_case n → has_field m fs ≡ has_field n fs
 has_same m n fs e = sym (has_field_at m fs) ∙ ap is_some (same_at m n fs e) ∙ has_field_at n fs
@@ -53,10 +53,10 @@ join_step : (b : Bool) (t : Type') (o more : Option Type') →
 join_step true t o more = refl
 join_step false t o more = refl
 
-at_joined : (n : List ℕ) (fs gs : Fields) → field_at n (join_fields fs gs) ≡ option_or (field_at n fs) (field_at n gs)
-at_joined n NoField gs = refl
-at_joined n (FieldThen m t fs) gs =
-    ap (λ o. if same_name m n then Some t else o) (at_joined n fs gs) ∙ join_step (same_name m n) t (field_at n fs) (field_at n gs)
+at_joined : (n : List ℕ) (fs gs : Fields) → field_at n (fs ++ gs) ≡ option_or (field_at n fs) (field_at n gs)
+at_joined n [] gs = refl
+at_joined n (f ∷ fs) gs =
+    ap (λ o. if same_name f.0 n then Some f.1 else o) (at_joined n fs gs) ∙ join_step (same_name f.0 n) f.1 (field_at n fs) (field_at n gs)
 
 fused_step : (b : Bool) (t : Type') (o there here : Option Type') → (b ≡ true → there ≡ here) →
     (if b then Some (with_other t there) else option_map (λ u. with_other u here) o)
@@ -65,10 +65,10 @@ fused_step true t o there here e = ap (λ p. Some (with_other t p)) (e refl)
 fused_step false t o there here e = refl
 
 at_fused : (n : List ℕ) (fs gs : Fields) → field_at n (fuse_fields fs gs) ≡ option_map (λ t. with_other t (field_at n gs)) (field_at n fs)
-at_fused n NoField gs = refl
-at_fused n (FieldThen m t fs) gs =
-    ap (λ o. if same_name m n then Some (with_other t (field_at m gs)) else o) (at_fused n fs gs)
-    ∙ fused_step (same_name m n) t (field_at n fs) (field_at m gs) (field_at n gs) (λ s. same_at m n gs ((bytes_decides _ _).0 s))
+at_fused n [] gs = refl
+at_fused n (f ∷ fs) gs =
+    ap (λ o. if same_name f.0 n then Some (with_other f.1 (field_at f.0 gs)) else o) (at_fused n fs gs)
+    ∙ fused_step (same_name f.0 n) f.1 (field_at n fs) (field_at f.0 gs) (field_at n gs) (λ s. same_at f.0 n gs ((bytes_decides _ _).0 s))
 
 missing_step : (same has : Bool) (t : Type') (o : Option Type') → (same ≡ true → has ≡ false) →
     (if has then o else (if same then Some t else o)) ≡ (if same then Some t else o)
@@ -77,17 +77,17 @@ missing_step false true t o h = refl
 missing_step same false t o h = refl
 
 at_if : (has : Bool) (n m : List ℕ) (t : Type') (fs : Fields) →
-    field_at n (if has then fs else FieldThen m t fs) ≡ (if has then field_at n fs else (if same_name m n then Some t else field_at n fs))
+    field_at n (if has then fs else (m, t) ∷ fs) ≡ (if has then field_at n fs else (if same_name m n then Some t else field_at n fs))
 at_if true n m t fs = refl
 at_if false n m t fs = refl
 
 -- a field that the first fields have not
 at_missing : (n : List ℕ) (fs gs : Fields) → has_field n fs ≡ false → field_at n (missing_fields fs gs) ≡ field_at n gs
-at_missing n fs NoField h = refl
-at_missing n fs (FieldThen m t gs) h =
-    at_if (has_field m fs) n m t (missing_fields fs gs)
-    ∙ ap (λ o. if has_field m fs then o else (if same_name m n then Some t else o)) (at_missing n fs gs h)
-    ∙ missing_step (same_name m n) (has_field m fs) t (field_at n gs) (λ s. has_same m n fs ((bytes_decides _ _).0 s) ∙ h)
+at_missing n fs [] h = refl
+at_missing n fs (g ∷ gs) h =
+    at_if (has_field g.0 fs) n g.0 g.1 (missing_fields fs gs)
+    ∙ ap (λ o. if has_field g.0 fs then o else (if same_name g.0 n then Some g.1 else o)) (at_missing n fs gs h)
+    ∙ missing_step (same_name g.0 n) (has_field g.0 fs) g.1 (field_at n gs) (λ s. has_same g.0 n fs ((bytes_decides _ _).0 s) ∙ h)
 
 both_step : (o more other : Option Type') → (is_some o ≡ false → more ≡ other) →
     option_or (option_map (λ u. with_other u other) o) more ≡ common_type o other
@@ -103,18 +103,18 @@ at_both n fs gs =
 
 -- ---- what the fields of both have in common
 
-common_joined : (fs gs : Fields) → common_in (join_fields fs gs) ≡ fuse_optional (common_in fs) (common_in gs)
-common_joined NoField gs = refl
-common_joined (FieldThen n t fs) gs =
-    ap (fuse_optional (Present t)) (common_joined fs gs) ∙ sym (optional_assoc (Present t) (common_in fs) (common_in gs))
+common_joined : (fs gs : Fields) → common_in (fs ++ gs) ≡ fuse_optional (common_in fs) (common_in gs)
+common_joined [] gs = refl
+common_joined (f ∷ fs) gs =
+    ap (fuse_optional (Present f.1)) (common_joined fs gs) ∙ sym (optional_assoc (Present f.1) (common_in fs) (common_in gs))
 
 -- a type that may be there with a type, where that counts
 abbrev with_if : Bool → Optional → Type' → Optional
 with_if b o u = if b then fuse_optional o (Present u) else o
 
-fuse_none : (fs : Fields) → fuse_fields fs NoField ≡ fs
-fuse_none NoField = refl
-fuse_none (FieldThen n t fs) = ap (FieldThen n t) (fuse_none fs)
+fuse_none : (fs : Fields) → fuse_fields fs [] ≡ fs
+fuse_none [] = refl
+fuse_none (f ∷ fs) = ap (λ l. f ∷ l) (fuse_none fs)
 
 -- the field has the name itself: it takes the type in, once if others of the name do too
 here_step : (more : Bool) (t u : Type') (o : Optional) →
@@ -137,17 +137,17 @@ taken_step false more t u found o e = there_step more (with_other t found) u o
 
 -- fields that are fused with others and one before them, whose name these have not
 common_taken : (fs gs : Fields) (m : List ℕ) (u : Type') → has_field m gs ≡ false →
-    common_in (fuse_fields fs (FieldThen m u gs)) ≡ with_if (has_field m fs) (common_in (fuse_fields fs gs)) u
-common_taken NoField gs m u h = refl
-common_taken (FieldThen n t fs) gs m u h =
-    ap (fuse_optional (Present (with_other t (field_at n (FieldThen m u gs))))) (common_taken fs gs m u h)
-    ∙ ap (λ b. fuse_optional (Present (with_other t (if b then Some u else field_at n gs))) (with_if (has_field m fs) (common_in (fuse_fields fs gs)) u)) (same_turned m n)
-    ∙ taken_step (same_name n m) (has_field m fs) t u (field_at n gs) (common_in (fuse_fields fs gs))
-    (λ s. nothing_at n gs (has_same n m gs ((bytes_decides _ _).0 s) ∙ h))
+    common_in (fuse_fields fs ((m, u) ∷ gs)) ≡ with_if (has_field m fs) (common_in (fuse_fields fs gs)) u
+common_taken [] gs m u h = refl
+common_taken (f ∷ fs) gs m u h =
+    ap (fuse_optional (Present (with_other f.1 (field_at f.0 ((m, u) ∷ gs))))) (common_taken fs gs m u h)
+    ∙ ap (λ b. fuse_optional (Present (with_other f.1 (if b then Some u else field_at f.0 gs))) (with_if (has_field m fs) (common_in (fuse_fields fs gs)) u)) (same_turned m f.0)
+    ∙ taken_step (same_name f.0 m) (has_field m fs) f.1 u (field_at f.0 gs) (common_in (fuse_fields fs gs))
+    (λ s. nothing_at f.0 gs (has_same f.0 m gs ((bytes_decides _ _).0 s) ∙ h))
 
 missing_taken : (has : Bool) (o : Optional) (m : List ℕ) (u : Type') (more : Fields) (whole : Optional) →
     fuse_optional o (common_in more) ≡ whole →
-    fuse_optional (with_if has o u) (common_in (if has then more else FieldThen m u more)) ≡ fuse_optional whole (Present u)
+    fuse_optional (with_if has o u) (common_in (if has then more else (m, u) ∷ more)) ≡ fuse_optional whole (Present u)
 missing_taken true o m u more whole e = last_turned o (Present u) (common_in more) ∙ ap (λ x. fuse_optional x (Present u)) e
 missing_taken false o m u more whole e =
     sym (optional_assoc o (Present u) (common_in more)) ∙ last_turned o (Present u) (common_in more)
@@ -164,12 +164,12 @@ others_apart false rest e = e
 
 fused_missing : (fs gs : Fields) → are_distinct gs ≡ true →
     fuse_optional (common_in (fuse_fields fs gs)) (common_in (missing_fields fs gs)) ≡ fuse_optional (common_in fs) (common_in gs)
-fused_missing fs NoField d = ap (λ x. fuse_optional (common_in x) Absent) (fuse_none fs)
-fused_missing fs (FieldThen m u gs) d =
-    ap (λ x. fuse_optional x (common_in (missing_fields fs (FieldThen m u gs)))) (common_taken fs gs m u (first_apart (has_field m gs) (are_distinct gs) d))
-    ∙ missing_taken (has_field m fs) (common_in (fuse_fields fs gs)) m u (missing_fields fs gs) _
-    (fused_missing fs gs (others_apart (has_field m gs) (are_distinct gs) d))
-    ∙ last_turned (common_in fs) (common_in gs) (Present u) ∙ optional_assoc (common_in fs) (Present u) (common_in gs)
+fused_missing fs [] d = ap (λ x. fuse_optional (common_in x) Absent) (fuse_none fs)
+fused_missing fs (g ∷ gs) d =
+    ap (λ x. fuse_optional x (common_in (missing_fields fs (g ∷ gs)))) (common_taken fs gs g.0 g.1 (first_apart (has_field g.0 gs) (are_distinct gs) d))
+    ∙ missing_taken (has_field g.0 fs) (common_in (fuse_fields fs gs)) g.0 g.1 (missing_fields fs gs) _
+    (fused_missing fs gs (others_apart (has_field g.0 gs) (are_distinct gs) d))
+    ∙ last_turned (common_in fs) (common_in gs) (Present g.1) ∙ optional_assoc (common_in fs) (Present g.1) (common_in gs)
 
 common_both : (fs gs : Fields) → are_distinct gs ≡ true → common_in (both fs gs) ≡ fuse_optional (common_in fs) (common_in gs)
 common_both fs gs d = common_joined (fuse_fields fs gs) (missing_fields fs gs) ∙ fused_missing fs gs d
@@ -183,12 +183,6 @@ joined_parts fs gs r s d =
     ap (λ x. fuse_optional x (fuse_optional r s)) (common_both fs gs d) ∙ middle_turned (common_in fs) (common_in gs) r s in
     λ i. (λ n. (ap optional (at_both n fs gs) ∙ common_optional (field_at n fs) (field_at n gs)) i, fuse_optional r s, all i)
 
--- ---- the same as lists
-
-pub join_lists : (fs gs : List (List ℕ × Type')) → join_fields (fields_of fs) (fields_of gs) ≡ fields_of (fs ++ gs)
-join_lists [] gs = refl
-join_lists (f ∷ fs) gs = ap (FieldThen f.0 f.1) (join_lists fs gs)
-
 -- ---- whether names are distinct, one after the other
 
 or_none : (a : Bool) → a || false ≡ false || a
@@ -199,9 +193,9 @@ or_assoc : (a b c : Bool) → a || (b || c) ≡ (a || b) || c
 or_assoc true b c = refl
 or_assoc false b c = refl
 
-has_more : (n m : List ℕ) (t : Type') (fs : Fields) → has_field n (join_fields fs (FieldThen m t NoField)) ≡ has_field n fs || same_name m n
-has_more n m t NoField = or_none (same_name m n)
-has_more n m t (FieldThen k u fs) = ap (λ b. same_name k n || b) (has_more n m t fs) ∙ or_assoc (same_name k n) (has_field n fs) (same_name m n)
+has_more : (n m : List ℕ) (t : Type') (fs : Fields) → has_field n (fs ++ (m, t) ∷ []) ≡ has_field n fs || same_name m n
+has_more n m t [] = or_none (same_name m n)
+has_more n m t (f ∷ fs) = ap (λ b. same_name f.0 n || b) (has_more n m t fs) ∙ or_assoc (same_name f.0 n) (has_field n fs) (same_name m n)
 
 four_ands : (a b c d : Bool) → not (a || b) && (c && not d) ≡ (not a && c) && not (b || d)
 four_ands true b c d = refl
@@ -212,9 +206,9 @@ four_ands false false false d = refl
 
 -- fields and one more are distinct where these are and none of them has its name
 pub distinct_more : (fs : Fields) (n : List ℕ) (t : Type') →
-    are_distinct (join_fields fs (FieldThen n t NoField)) ≡ are_distinct fs && not (has_field n fs)
-distinct_more NoField n t = refl
-distinct_more (FieldThen m u fs) n t =
-    ap (λ b. not b && are_distinct (join_fields fs (FieldThen n t NoField))) (has_more m n t fs ∙ ap (λ b. has_field m fs || b) (same_turned n m))
-    ∙ ap (λ b. not (has_field m fs || same_name m n) && b) (distinct_more fs n t)
-    ∙ four_ands (has_field m fs) (same_name m n) (are_distinct fs) (has_field n fs)
+    are_distinct (fs ++ (n, t) ∷ []) ≡ are_distinct fs && not (has_field n fs)
+distinct_more [] n t = refl
+distinct_more (f ∷ fs) n t =
+    ap (λ b. not b && are_distinct (fs ++ (n, t) ∷ [])) (has_more f.0 n t fs ∙ ap (λ b. has_field f.0 fs || b) (same_turned n f.0))
+    ∙ ap (λ b. not (has_field f.0 fs || same_name f.0 n) && b) (distinct_more fs n t)
+    ∙ four_ands (has_field f.0 fs) (same_name f.0 n) (are_distinct fs) (has_field n fs)

@@ -6,7 +6,7 @@ use Rattle.al_base.specs.Names.{same_name}
 use Rattle.al_base.specs.NamePlaces.{name_place}
 use Rattle.al_types.specs.Strings.{strings}
 use Rattle.al_types.specs.Puts.{Typed, firsts, put_all, put_new}
-use Rattle.al_types.specs.Types.{Absent, Present, String, common_in, field_at, fields_of, fuse_optional, optional, parts_with}
+use Rattle.al_types.specs.Types.{Absent, Present, String, common_in, field_at, fuse_optional, optional, parts_with}
 use Rattle.al_types.proofs.GatheredFields.{firsts_found}
 use Rattle.al_types.specs.TypeParts.{string_unless}
 
@@ -17,7 +17,7 @@ at_step false None = refl
 at_step false (Some i) = refl
 
 -- a name finds a string where it is one of theirs
-pub string_at : (ns : List (List ℕ)) (n : List ℕ) → field_at n (fields_of (strings ns)) ≡ option_map (λ i. String) (name_place ns n)
+pub string_at : (ns : List (List ℕ)) (n : List ℕ) → field_at n (strings ns) ≡ option_map (λ i. String) (name_place ns n)
 string_at [] n = refl
 string_at (m ∷ ns) n = ap (λ o. if same_name m n then Some String else o) (string_at ns n) ∙ at_step (same_name m n) (name_place ns n)
 
@@ -28,14 +28,14 @@ one_more : (b : Bool) → fuse_optional (Present String) (string_unless b) ≡ P
 one_more true = refl
 one_more false = refl
 
-pub common_strings : (ns : List (List ℕ)) → common_in (fields_of (strings ns)) ≡ string_unless (nat_eq (length ns) 0)
+pub common_strings : (ns : List (List ℕ)) → common_in (strings ns) ≡ string_unless (nat_eq (length ns) 0)
 common_strings [] = refl
 common_strings (n ∷ ns) =
     let len : length (n ∷ ns) ≡ length ns + 1 = omega arith in
     ap (fuse_optional (Present String)) (common_strings ns) ∙ one_more (nat_eq (length ns) 0)
     ∙ ap string_unless (sym (ap (λ k. nat_eq k 0) len ∙ more_than_none (length ns)))
 
-common_some : (ns : List (List ℕ)) → fuse_optional (Present String) (common_in (fields_of (strings ns))) ≡ Present String
+common_some : (ns : List (List ℕ)) → fuse_optional (Present String) (common_in (strings ns)) ≡ Present String
 common_some ns = ap (fuse_optional (Present String)) (common_strings ns) ∙ one_more (nat_eq (length ns) 0)
 
 -- ---- of equal names the first
@@ -62,23 +62,23 @@ strings_put : (ms ns : List (List ℕ)) → put_all put_new (strings ms) (string
 strings_put ms [] = refl
 strings_put ms (n ∷ ns) = ap (λ ts. put_all put_new ts (strings ns)) (strings_new ms n) ∙ strings_put (name_new ms n) ns
 
-either_string : (b : Bool) (ms more ns : List (List ℕ)) → common_in (fields_of (strings (names_new ms ns))) ≡ Present String →
-    common_in (fields_of (strings (names_new more ns))) ≡ Present String →
-    common_in (fields_of (strings (names_new (if b then ms else more) ns))) ≡ Present String
+either_string : (b : Bool) (ms more ns : List (List ℕ)) → common_in (strings (names_new ms ns)) ≡ Present String →
+    common_in (strings (names_new more ns)) ≡ Present String →
+    common_in (strings (names_new (if b then ms else more) ns)) ≡ Present String
 either_string true ms more ns e f = e
 either_string false ms more ns e f = f
 
-some_string : (m : List ℕ) (ms ns : List (List ℕ)) → common_in (fields_of (strings (names_new (m ∷ ms) ns))) ≡ Present String
+some_string : (m : List ℕ) (ms ns : List (List ℕ)) → common_in (strings (names_new (m ∷ ms) ns)) ≡ Present String
 some_string m ms [] = common_some ms
 some_string m ms (n ∷ ns) =
     either_string (same_name m n) (m ∷ ms) (m ∷ name_new ms n) ns (some_string m ms ns) (some_string m (name_new ms n) ns)
 
-names_common : (ns : List (List ℕ)) → common_in (fields_of (strings (names_new [] ns))) ≡ common_in (fields_of (strings ns))
+names_common : (ns : List (List ℕ)) → common_in (strings (names_new [] ns)) ≡ common_in (strings ns)
 names_common [] = refl
 names_common (n ∷ ns) = some_string n [] ns ∙ sym (common_some ns)
 
 -- an object of the first of each name is the one of all
-pub first_strings : (ns : List (List ℕ)) → parts_with (fields_of (firsts (strings ns))) Absent ≡ parts_with (fields_of (strings ns)) Absent
+pub first_strings : (ns : List (List ℕ)) → parts_with (firsts (strings ns)) Absent ≡ parts_with (strings ns) Absent
 first_strings ns =
-    let common = ap (λ ts. common_in (fields_of ts)) (strings_put [] ns) ∙ names_common ns in
+    let common = ap common_in (strings_put [] ns) ∙ names_common ns in
     λ d. ((λ n. optional (firsts_found (strings ns) n d)), Absent, fuse_optional (common d) Absent)

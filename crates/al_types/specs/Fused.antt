@@ -1,6 +1,6 @@
 -- What several objects have in common.
 use Rattle.std.specs.Prelude.{List, [], ◌∷◌}
-use Rattle.al_types.specs.Types.{NoField, Absent, Parts, fuse_optional, parts_with}
+use Rattle.al_types.specs.Types.{Absent, Parts, fuse_optional, parts_with}
 
 -- the parts of what two objects have in common
 abbrev pub fuse_parts : Parts → Parts → Parts
@@ -12,4 +12,4 @@ fused_with p (q ∷ qs) = fused_with (fuse_parts p q) qs
 
 -- objects as one, fused in turn: of none an object without fields
 abbrev pub fuse_all : List Parts → Parts
-fuse_all qs = fused_with (parts_with NoField Absent) qs
+fuse_all qs = fused_with (parts_with [] Absent) qs

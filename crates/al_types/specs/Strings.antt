@@ -1,9 +1,9 @@
 -- Object types whose fields are strings.
 use Rattle.std.specs.Prelude.{ℕ, List, map}
-use Rattle.al_types.specs.Types.{Type', String, Absent, fields_of, object_with}
+use Rattle.al_types.specs.Types.{Type', String, Absent, object_with}
 
 abbrev pub strings : List (List ℕ) → List (List ℕ × Type')
 strings = map (λ k. (k, String))
 
 abbrev pub named_strings : List (List ℕ) → Type'
-named_strings ns = object_with (fields_of (strings ns)) Absent
+named_strings ns = object_with (strings ns) Absent

@@ -75,28 +75,22 @@ abbrev mutual
   fuse_optional (Present t) (Present u) = Present (fuse_type t u)
 
 -- fields in order, each with its name
-pub data Fields : Type 0 where
-  NoField : Fields
-  FieldThen : List ℕ → Type' → Fields → Fields
-
--- fields as a list
-abbrev pub fields_of : List (List ℕ × Type') → Fields
-fields_of [] = NoField
-fields_of (f ∷ fs) = FieldThen f.0 f.1 (fields_of fs)
+abbrev pub Fields : Type 0
+Fields = List (List ℕ × Type')
 
 -- the type of the first field of a name
 abbrev pub field_at : List ℕ → Fields → Option Type'
-field_at n NoField = None
-field_at n (FieldThen m t fs) = if same_name m n then Some t else field_at n fs
+field_at n [] = None
+field_at n (f ∷ fs) = if same_name f.0 n then Some f.1 else field_at n fs
 
 abbrev pub has_field : List ℕ → Fields → Bool
-has_field n NoField = false
-has_field n (FieldThen m t fs) = same_name m n || has_field n fs
+has_field n [] = false
+has_field n (f ∷ fs) = same_name f.0 n || has_field n fs
 
 -- what all fields have in common
 abbrev pub common_in : Fields → Optional
-common_in NoField = Absent
-common_in (FieldThen n t fs) = fuse_optional (Present t) (common_in fs)
+common_in [] = Absent
+common_in (f ∷ fs) = fuse_optional (Present f.1) (common_in fs)
 
 -- an object by the type of the field of each name, that of every other field, and what all of them have in common
 abbrev pub Parts : Type 0

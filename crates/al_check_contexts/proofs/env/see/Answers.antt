@@ -1,5 +1,6 @@
 use Rattle.std.proofs.Common.{map}
-use Rattle.al_check_places.specs.Positions.{before, section_view}
+use Rattle.al_check_places.specs.Positions.{section_view}
+use Rattle.al_check_places.specs.declared.positions.Seen.TheVariants.{Before as before}
 use Rattle.al_check_objects.specs.Fixed.{strategy_type}
 use Rattle.al_check_contexts.specs.Contexts.{job_in, owner_of}
 use Rattle.al_tree.specs.Files.{jobs_of}

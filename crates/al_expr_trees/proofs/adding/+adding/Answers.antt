@@ -1,7 +1,7 @@
 use Rattle.std.proofs.Common.{◌≡◌, ◌∙◌, ap, length, map, sym, take}
 use Rattle.al_base.proofs.Growing.{begins_trans}
 use Rattle.al_types.specs.Puts.{firsts, put_new}
-use Rattle.al_types.specs.Types.{fields_of, object_type, parts_with}
+use Rattle.al_types.specs.Types.{object_type, parts_with}
 use Rattle.al_expr_types.specs.Tables.{objects_of}
 use Rattle.al_expr_trees.specs.Tables.{fields_at}
 use Rattle.al_expr_trees.specs.Trees.{field_of, ty_of}
@@ -21,7 +21,7 @@ add-returns-in_ok-all-in-Object-clause-ty t c =
     let fields : fields_at (objects_of c.add_rest.new.types) c.in_ok-map-in-Object.map ≡ firsts (map field_of c.in-Object.fields.items) =
     map_stays c.add_rest.new.types c.add_fields.new.types c.in_ok-map-in-Object.map c.in_ok-others-in-Object.ensures.kept c.in_ok-map-in-Object.ensures.known
     ∙ c.in_ok-map-in-Object.ensures.fields ∙ ap (λ xs. firsts (map field_of xs)) c.deref-in-Object.ensures.value in
-    c.in_ok-all-in-Object.ensures.ty ∙ (λ d. object_type (parts_with (fields_of (fields d)) (c.in_ok-others-in-Object.ensures.ty d)))
+    c.in_ok-all-in-Object.ensures.ty ∙ (λ d. object_type (parts_with (fields d) (c.in_ok-others-in-Object.ensures.ty d)))
     ∙ sym (ap ty_of c.in-Object.is ∙ object_view c.in-Object.fields c.in-Object.rest)
 
 pub add_fields-loop-field-preserved : goal.add_fields-loop-field-preserved

@@ -6,7 +6,7 @@ use Rattle.al_types.specs.FusedFields.{are_distinct}
 use Rattle.al_types.specs.Indexes.{name_at, named_as}
 use Rattle.al_types.specs.Puts.{Typed}
 use Rattle.al_types.specs.Fused.{fuse_parts}
-use Rattle.al_types.specs.Types.{Absent, Parts, fields_of, fuse_type, object_type, parts_with}
+use Rattle.al_types.specs.Types.{Absent, Parts, fuse_type, object_type, parts_with}
 use Rattle.al_types.proofs.Puts.{put_over}
 use Rattle.al_expr_trees.specs.Listings.{parts_in}
 use Rattle.al_expr_trees.specs.Trees.{field_of, object_parts, rest_of, ty_of}
@@ -40,7 +40,7 @@ add_fields-loop-i-preserved t c =
 pub add_rest-returns : goal.add_rest-returns
 add_rest-returns t c =
     let ts : List Typed = map field_of c.args.sofar.fields.items in
-    ap (parts_with (fields_of ts)) c.in_ok-rest.ensures
+    ap (parts_with ts) c.in_ok-rest.ensures
     ∙ with_rest (parts_in c.args.sofar) ts (rest_of c.args.sofar.rest) (rest_of c.args.rest.now) refl
 
 pub fuse_at-index-requires : goal.fuse_at-index-requires
@@ -65,7 +65,7 @@ fuse_at-invariant_of-result t c =
     let got : get_or ts i (field_of r) ≡ field_of r = get_or-map field_of items i r ∙ ap field_of (sym c.index_mut.ensures.value) in
     let ty = c.in_ok-ty.ensures ∙ ap (λ f. fuse_type (field_of f).1 p.1) was in
     record {
-      distinct = ap (λ us. are_distinct (fields_of us)) (map-set field_of items i _ ∙ put_over ts p (field_of (record r { ty = c.in_ok-ty.ty })) (field_of r) i c.requires got refl ty)
+      distinct = ap are_distinct (map-set field_of items i _ ∙ put_over ts p (field_of (record r { ty = c.in_ok-ty.ty })) (field_of r) i c.requires got refl ty)
           ∙ put_distinct ts p c.args.sofar.distinct;
     }
 
@@ -81,7 +81,7 @@ fuse_at-returns t c =
     let got : get_or ts i (field_of r) ≡ field_of r = get_or-map field_of items i r ∙ ap field_of (sym c.index_mut.ensures.value) in
     let ty = c.in_ok-ty.ensures ∙ ap (λ f. fuse_type (field_of f).1 p.1) was in
     let rest = rest_of c.args.sofar.rest in
-    ap (λ us. parts_with (fields_of us) rest) (map-set field_of items i _ ∙ put_over ts p (field_of (record r { ty = c.in_ok-ty.ty })) (field_of r) i c.requires got refl ty)
+    ap (λ us. parts_with us rest) (map-set field_of items i _ ∙ put_over ts p (field_of (record r { ty = c.in_ok-ty.ty })) (field_of r) i c.requires got refl ty)
     ∙ parts_put ts p rest
 
 pub fuse_more-returns-in_ok-whole-in-Object-more-2 : goal.fuse_more-returns-in_ok-whole-in-Object-more-2

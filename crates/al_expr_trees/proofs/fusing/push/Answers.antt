@@ -3,7 +3,7 @@ use Rattle.std.proofs.lemmas.List.{map-append}
 use Rattle.std.specs.Prelude.{is_none}
 use Rattle.al_types.specs.FusedFields.{are_distinct}
 use Rattle.al_types.specs.Puts.{Typed, put_or_fuse}
-use Rattle.al_types.specs.Types.{fields_of, parts_with}
+use Rattle.al_types.specs.Types.{parts_with}
 use Rattle.al_types.proofs.Puts.{put_behind, put_new_behind}
 use Rattle.al_expr_trees.specs.Trees.{field_of, rest_of}
 use Rattle.al_expr_trees.proofs.Added.{parts_put, put_distinct}
@@ -16,7 +16,7 @@ invariant_of-result c =
     let list : map field_of c.push.new.self.items ≡ put_or_fuse ts p =
     ap (map field_of) c.in_ok-push.ensures.items ∙ map-append field_of c.args.sofar.fields.items (c.in_ok-copy.copy ∷ [])
     ∙ ap (λ q. ts ++ q ∷ []) c.in_ok-copy.ensures ∙ sym (put_behind ts p c.requires ∙ put_new_behind ts p (ap is_none c.requires)) in
-    record { distinct = ap (λ us. are_distinct (fields_of us)) list ∙ put_distinct ts p c.args.sofar.distinct }
+    record { distinct = ap are_distinct list ∙ put_distinct ts p c.args.sofar.distinct }
 
 pub returns : goal.returns
 returns c =
@@ -26,4 +26,4 @@ returns c =
     let list : map field_of c.push.new.self.items ≡ put_or_fuse ts p =
     ap (map field_of) c.in_ok-push.ensures.items ∙ map-append field_of c.args.sofar.fields.items (c.in_ok-copy.copy ∷ [])
     ∙ ap (λ q. ts ++ q ∷ []) c.in_ok-copy.ensures ∙ sym (put_behind ts p c.requires ∙ put_new_behind ts p (ap is_none c.requires)) in
-    ap (λ us. parts_with (fields_of us) r) list ∙ parts_put ts p r
+    ap (λ us. parts_with us r) list ∙ parts_put ts p r

@@ -2,7 +2,7 @@ use Rattle.std.proofs.Common.{◌≡◌, ◌<◌, ◌∷◌, ◌++◌, [], ℕ, 
 use Rattle.std.proofs.lemmas.List.{get_or_default, map-append}
 use Rattle.al_types.specs.FusedFields.{are_distinct}
 use Rattle.al_types.specs.Fused.{fuse_parts, fuse_all}
-use Rattle.al_types.specs.Types.{Parts, fields_of, parts_with}
+use Rattle.al_types.specs.Types.{Parts, parts_with}
 use Rattle.al_types.proofs.FuseLaws.{fused_one_more}
 use Rattle.al_expr_types.specs.Names.{names_in}
 use Rattle.al_expr_types.specs.Tables.{objects_of}
@@ -40,7 +40,7 @@ fields_listing-invariant_of-result t c =
     let f = c.args.fields.now in
     let m = f.map.value in
     record {
-      distinct = ap (λ us. are_distinct (fields_of us)) c.in_ok-trees.ensures
+      distinct = ap are_distinct c.in_ok-trees.ensures
           ∙ once_distinct (names_in m.names) (map (type_in (objects_of c.args.types.now)) (take f.count m.types.items)) m.names.once;
     }
 
@@ -53,6 +53,6 @@ object_listing-loop-m-preserved t c =
     let one = c.in_ok-one-in-Common.one in
     let rest = rest_of one.rest in
     let same = ap (λ xs. object_parts (map field_of xs) rest) c.as_slice.ensures.value
-    ∙ ap (λ us. parts_with (fields_of us) rest) (firsts_same (map field_of one.fields.items) one.distinct) ∙ c.in_ok-one-in-Common.ensures in
+    ∙ ap (λ us. parts_with us rest) (firsts_same (map field_of one.fields.items) one.distinct) ∙ c.in_ok-one-in-Common.ensures in
     c.in_ok-more-in-Common.ensures ∙ (λ d. fuse_parts (c.loop-m.invariant d) (same d))
     ∙ sym (ap fuse_all (mapped_more f ns i m c.loop-m-test.true (get_or_default ns i 0 m c.loop-m-test.true)) ∙ fused_one_more (map f (take i ns)) (f m))

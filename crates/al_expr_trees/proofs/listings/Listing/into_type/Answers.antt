@@ -1,5 +1,5 @@
 use Rattle.std.proofs.Common.{ap, map, ◌∙◌}
-use Rattle.al_types.specs.Types.{fields_of, object_type, parts_with}
+use Rattle.al_types.specs.Types.{object_type, parts_with}
 use Rattle.al_expr_trees.specs.Trees.{field_of, rest_of}
 use Rattle.al_expr_trees.proofs.Firsts.{firsts_same}
 use Rattle.al_expr_trees.proofs.TreeViews.{object_view}
@@ -9,4 +9,4 @@ pub returns : goal.returns
 returns c =
     let l = c.args.self in
     object_view l.fields l.rest
-    ∙ ap (λ ts. object_type (parts_with (fields_of ts) (rest_of l.rest))) (firsts_same (map field_of l.fields.items) l.distinct)
+    ∙ ap (λ ts. object_type (parts_with ts (rest_of l.rest))) (firsts_same (map field_of l.fields.items) l.distinct)

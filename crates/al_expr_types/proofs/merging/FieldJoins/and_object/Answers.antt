@@ -1,6 +1,6 @@
 use Rattle.std.proofs.Common.{◌∙◌, ap, take}
 use Rattle.std.specs.List.{list_all}
-use Rattle.al_types.specs.Types.{field_at, fields_of, fuse_optional, optional}
+use Rattle.al_types.specs.Types.{field_at, fuse_optional, optional}
 use Rattle.al_expr_types.specs.Merging.{found_in}
 use Rattle.al_expr_types.specs.Names.{names_in}
 use Rattle.al_expr_types.specs.Types.{is_below, named_types}
@@ -13,7 +13,7 @@ returns-clause-found c = λ ms.
     let types = c.as_slice.ensures.value ∙ ap (λ m. m.types.items) c.deref-map.ensures in
     c.in_ok-merged.ensures.found ms
     ∙ (λ d n. fuse_optional (found_in ms c.args.self n)
-    (optional (field_at n (fields_of (named_types ms (names_in (c.deref-map.ensures d).names) (take f.count (types d)))))))
+    (optional (field_at n (named_types ms (names_in (c.deref-map.ensures d).names) (take f.count (types d))))))
 
 pub returns-clause-below : goal.returns-clause-below
 returns-clause-below c = λ k h g.

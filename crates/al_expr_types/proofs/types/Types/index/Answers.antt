@@ -2,7 +2,7 @@ use Rattle.std.proofs.Common.{◌∙◌, ap, arith, length, refl, sym}
 use Rattle.std.proofs.lemmas.List.{length-map}
 use Rattle.std.specs.Prelude.{zip}
 use Rattle.al_base.proofs.Growing.{begins_trans}
-use Rattle.al_types.specs.Types.{Present, field_at, fields_of, fuse_optional, optional}
+use Rattle.al_types.specs.Types.{Present, field_at, fuse_optional, optional}
 use Rattle.al_expr_types.specs.Joining.{join_in}
 use Rattle.al_expr_types.specs.Names.{names_in}
 use Rattle.al_expr_types.specs.Types.{is_below, named_types, object_in, parts_of_all, type_in}
@@ -51,8 +51,8 @@ returns-clause-index c =
       (
         c.in_ok-fields.ensures.named (parts_of_all two)
             ∙ (λ d n.
-            (ap (λ l. optional (field_at n (fields_of (named_types (parts_of_all two) l ts)))) c.into_names.ensures
-            ∙ ap (λ us. optional (field_at n (fields_of (zip ns us)))) (named_kept two one ts rest.kept types.known)
+            (ap (λ l. optional (field_at n (named_types (parts_of_all two) l ts))) c.into_names.ensures
+            ∙ ap (λ us. optional (field_at n (zip ns us))) (named_kept two one ts rest.kept types.known)
             ∙ index_named (parts_of_all entry) (parts_of_all one) ns merging.joins.items ts types.types n
             ∙ ap (λ f. f n) c.in_ok-merging.ensures.found
             ∙ ap (λ f. fuse_optional (f n) ((object_in (parts_of_all entry) c.args.n).0 n)) (c.new.ensures.found (parts_of_all entry))

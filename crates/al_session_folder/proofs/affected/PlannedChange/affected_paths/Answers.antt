@@ -3,29 +3,25 @@ use Rattle.std.specs.Prelude.{bytes_eq, string_bytes}
 use Rattle.std.specs.List.{list_any}
 use Rattle.std.specs.Option.{option_copied, option_map}
 use Rattle.al_session_folder.specs.Kept.{folder_of, is_caller}
-use Rattle.al_session_folder.proofs.Affecting.{affected_found, affected_none, affected_still, same_answer_exact, start_sorted, if_ok2, some_kept}
+use Rattle.al_session_folder.proofs.Affecting.{affected_found, affected_none, affected_still, same_answer_exact, some_kept}
 use Rattle.al_session_folder.proofs.Indexing.{known_at, none_at}
 use Rattle.al_session_folder.proofs.Views.{bytes_self}
 use Rattle.al_session_folder.proofs.affected.PlannedChange.affected_paths.Goals as goal
 
-pub add_affected-requires : goal.add_affected-requires
-add_affected-requires g c = start_sorted c.is_some.result c.self.inside.path.now _ c.in_ok-paths.ensures
-
-pub returns-in-Some : goal.returns-in-Some
-returns-in-Some g c =
+pub returns-in_ok-affected-in-Some : goal.returns-in_ok-affected-in-Some
+returns-in_ok-affected-in-Some g c =
     let m = g.L.Lint.meaning in
     let v = c.self.inside in
     let p = v.path.now in
     let index = rw (← c.self.view_is) at c.requires.index in
     let other = rw (← c.self.view_is) at c.requires.other in
-    let members = rw (← c.self.view_is) at c.add_affected.ensures.members in
+    let members = rw (← c.self.view_is) at c.in_ok-affected-in-Some.ensures in
     let start = c.in_ok-paths.ensures ∙ ap (λ t. cond t (p ∷ []) []) (c.is_some.ensures ∙ some_kept v.next) in
-    rw (← c.self.view_is) (if_ok2 c.add_affected.result (λ r s members. affected_found m g.L.Iface.PartialEq.eq g.met.L.Iface.Eq.laws.refl p (folder_of v.files.now.entries)
+    rw (← c.self.view_is) (c.put_paths_in_order.ensures ∙ affected_found m g.L.Iface.PartialEq.eq g.met.L.Iface.Eq.laws.refl p (folder_of v.files.now.entries)
     (option_map (λ file. file.bytes.items) (option_copied v.next)) c.self.invariant.view.kept.ordered other
     (λ q. list_any (λ k. bytes_eq q (string_bytes k)) c.as_slice.result.now)
     (λ q. ap (list_any (λ k. bytes_eq q (string_bytes k))) c.as_slice.ensures.keys
-    ∙ known_at c.args.callers.now p _ (sym c.in-Some.ensures.value) p q (bytes_self p) ∙ index p q) c.in_ok-paths.paths.items r.items
-    start s members) c.add_affected.ensures.sorted members)
+    ∙ known_at c.args.callers.now p _ (sym c.in-Some.ensures.value) p q (bytes_self p) ∙ index p q) c.in_ok-paths.paths.items c.in_ok-affected-in-Some.affected.items start members)
 
 pub returns-in-None : goal.returns-in-None
 returns-in-None g c =
