@@ -1,8 +1,9 @@
 -- What a path of the folder is: parts with single slashes between them, none of them `.` or `..`.
-use Rattle.std.specs.Prelude.{ℕ, Bool, true, false, ◌||◌, ◌==◌, nat_lt, List, [], ◌∷◌, length, slice_index, Option, None, Some}
+use Rattle.std.specs.Prelude.{ℕ, Bool, codes, ◌||◌, ◌==◌, nat_lt, List, [], ◌∷◌, length, slice_index, Option, None, Some}
 use Rattle.std.specs.Prelude.{if◌then◌else◌}
 use Rattle.std.specs.Char.{is_ascii_control}
 use Rattle.std.specs.List.{list_any, slice_split}
+use Rattle.std.specs.Str.{bytes_eq}
 use Rattle.al_base.specs.Ascii.{ascii}
 use Rattle.al_base.specs.Limits.{longest_path}
 use Rattle.al_base.specs.declared.paths.PathFault.{PathFault}
@@ -13,10 +14,7 @@ abbrev pub parts : List ℕ → List (List ℕ)
 parts path = slice_split (λ b. b == ascii "/") path
 
 abbrev pub bad_part : List ℕ → Bool
-bad_part [] = true
-bad_part (b ∷ []) = b == ascii "."
-bad_part (b ∷ c ∷ []) = if b == ascii "." then c == ascii "." else false
-bad_part (b ∷ c ∷ d ∷ rest) = false
+bad_part part = list_any (bytes_eq part) ([] ∷ codes "." ∷ codes ".." ∷ [])
 
 abbrev pub is_bad_byte : ℕ → Bool
 is_bad_byte b = is_ascii_control b || b == ascii "\\"
