@@ -10,13 +10,6 @@ count_below-mono : (p : ℕ → Bool) (n d : ℕ) → count_below p n ≤ count_
 count_below-mono p n zero = rw add-zero (omega arith)
 count_below-mono p n (suc d) = rw add-suc (let h = count_below-mono p n d in omega arith)
 
-count_below-same : (p q : ℕ → Bool) (n : ℕ) → ((k : ℕ) → k < n → p k ≡ q k) → count_below p n ≡ count_below q n
-count_below-same p q zero h = refl
-count_below-same p q (suc n) h =
-    let first = count_below-same p q n (λ k l. h k (omega arith)) in
-    let last : p n ≡ q n = h n (omega arith) in
-    rw (first, last) refl
-
 count_below-none : (p : ℕ → Bool) (n : ℕ) → ((k : ℕ) → k < n → p k ≡ false) → count_below p n ≡ 0
 count_below-none p zero h = refl
 count_below-none p (suc n) h =

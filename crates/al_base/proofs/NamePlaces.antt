@@ -1,8 +1,8 @@
 -- Where the first of a list stands that passes a test, also with one more behind the list.
-use Rattle.std.proofs.Common.{◌≡◌, ℕ, ◌+◌, ◌<◌, get_or, map, Bool, true, false, List, [], ◌∷◌, ◌++◌, length, refl, sym, ap, ◌∙◌, arith, Option, Some, None, option_map, suc, take}
+use Rattle.std.proofs.Common.{◌≡◌, ℕ, ◌+◌, ◌<◌, get_or, map, Bool, true, false, List, [], ◌∷◌, ◌++◌, length, refl, sym, ap, ◌∙◌, arith, Option, Some, None, option_map, suc}
 use Rattle.std.specs.Prelude.{find, if◌then◌else◌}
 use Rattle.std.proofs.Math.ListN.{get_or-map}
-use Rattle.std.proofs.lemmas.List.{length-map, length-take, map-append, take_more}
+use Rattle.std.proofs.lemmas.List.{length-map}
 use Rattle.std.specs.Option.{option_or}
 use Rattle.al_base.specs.NamePlaces.{first_at}
 
@@ -46,20 +46,6 @@ module _ {A : Type 0} (test : A → Bool) where
   pub find_first : (xs : List A) (d : A) → find test xs ≡ option_map (λ i. get_or xs i d) (first_at test xs)
   find_first [] d = refl
   find_first (x ∷ xs) d = find_step (test x) (first_at test xs) x d xs (find test xs) (find_first xs d)
-
--- where elements of a list first stand by their texts, with the element at an index
-pub position_next : {X A : Type 0} (g : X → A) (key : A → List ℕ) (same : List ℕ → List ℕ → Bool) (xs : List X) (i : ℕ) (x : X) (old new : List ℕ → Option ℕ) →
-    i < length xs → x ≡ get_or xs i x → old ≡ (λ t. first_at (λ a. same (key a) t) (map g (take i xs))) →
-    new ≡ (λ t. option_or (old t) (if same (key (g x)) t then Some i else None)) → new ≡ (λ t. first_at (λ a. same (key a) t) (map g (take (i + 1) xs)))
-position_next {X} {A} g key same xs i x old new h e o n =
-    let front : List A = map g (take i xs) in
-    let len : i ≡ length front = omega (arith, length-map (take i xs) g, length-take i xs, h) in
-    n ∙ ap (λ (f : List ℕ → Option ℕ). λ t. option_or (f t) (if same (key (g x)) t then Some i else None)) o
-    ∙ ap (λ k. λ t. option_or (first_at (λ a. same (key a) t) front) (if same (key (g x)) t then Some k else None)) len
-    ∙ sym (λ d t. first_more (λ a. same (key a) t) front (g x) d)
-    ∙ ap (λ (y : X). λ t. first_at (λ a. same (key a) t) (front ++ g y ∷ [])) e
-    ∙ ap (λ (ys : List A). λ t. first_at (λ a. same (key a) t) ys) (sym (map-append g (take i xs) (get_or xs i x ∷ [])))
-    ∙ ap (λ (ys : List X). λ t. first_at (λ a. same (key a) t) (map g ys)) (sym (take_more xs i x h))
 
 -- the position at which an element was found is one of the list, and the element is the one there
 pub found_within : {X A : Type 0} (g : X → A) (test : A → Bool) (xs : List X) (i : ℕ) → first_at test (map g xs) ≡ Some i → i < length xs
