@@ -1,4 +1,5 @@
 //! Files as they are read, and the faults of each.
+ghost use Rattle.std.specs.List.{flat_map};
 ghost use Rattle.std.specs.Prelude.{◌≡◌, ◌≤◌, ◌++◌, [], ◌∷◌, length, map, IfOk, OnOk};
 ghost use Rattle.std.specs.Option.{option_copied};
 ghost use Rattle.al_tree.specs.Faults.{root_faults};
@@ -84,7 +85,7 @@ fn document_calls(alloc: Global, tree: &Tree, own: &mut Vec<Fault>) -> Result<Ve
     ensures calls { IfOk result
         (λ calls. AreCallsOf (kind_in tree.now) (root_of tree.now) calls.items) }
     ensures own { OnOk result (own.new.items ≡ own.old.items
-        ++ meant.wrong_uses_in (kind_in tree.now) (root_of tree.now)) }
+        ++ flat_map uses.wrong_uses (uses.calls_in (kind_in tree.now) (root_of tree.now))) }
 {
     let sites = sites_in(alloc, tree.kind(), tree.root())?;
     let mut wrong = FaultSink::new(alloc);

@@ -13,10 +13,11 @@ use Rattle.al_tree.specs.Values.{text_at}
 use Rattle.al_tree.specs.declared.files.FileKind.{FileKind}
 use Rattle.al_check_interfaces.specs.declared.interfaces.Interface.{Interface}
 use Rattle.al_check_interfaces.specs.FolderCalls.{AreCallsOf, FolderCall, as_folder_call, folder_call}
-use Rattle.al_check_interfaces.specs.Uses.{Call, Site, call_at, call_by, calls_in, sites_in, target_in, that_uses}
+use Rattle.al_check_interfaces.specs.Uses.{Call, Site, call_at, calls_in, sites_in, target_in, that_uses}
 use Rattle.al_check_interfaces.specs.declared.calls.Call as code
-use Rattle.al_check_calls.specs.Answers.{Answered, calls_with_answers, answered_by, first_answer}
-use Rattle.al_check_calls.specs.Private.AnswerViews.{answered_at, call_of_site}
+use Rattle.al_check_calls.specs.Answers.{Answered, calls_with_answers, first_answer}
+use Rattle.al_check_calls.specs.Private.AnswerViews.{answered_at, call_of_site, answered_by}
+use Rattle.al_check_interfaces.specs.CallViews.{call_by}
 
 -- ---- a call is the one of its site
 

@@ -31,12 +31,13 @@ use Rattle.al_session_folder.specs.declared.lint.Target.{Target}
 use Rattle.al_check_interfaces.proofs.Inside.{AtLies, calls_lie, inside_kept}
 use Rattle.al_base.proofs.Elements.{each_both, each_either, each_of}
 use Rattle.al_check_interfaces.proofs.Parts.{entries_kept}
-use Rattle.al_check_calls.specs.Answers.{Answered, Typing, calls_with_answers, answered_by, answered_faults, first_answer, values_in}
+use Rattle.al_check_calls.specs.Answers.{Answered, Typing, calls_with_answers, answered_faults, first_answer, values_in}
 use Rattle.al_check_calls.specs.CallFaults.{Given, absent_faults, call_faults, callable_signature, called_name, caller_of, fault}
 use Rattle.al_check_calls.specs.CallFaults.{given_by, is_callable, is_taken, missing_code, missing_name}
-use Rattle.al_check_calls.specs.CallFaults.{missing_names, name_faults, names_against, names_of_kind, signature_for, type_faults, undefined_code}
-use Rattle.al_check_calls.specs.CallFaults.{undefined_name, undefined_names, uses_faults, value_faults, values_against, values_of, wrong_input}
+use Rattle.al_check_calls.specs.CallFaults.{name_faults, names_against, names_of_kind, signature_for, type_faults, undefined_code}
+use Rattle.al_check_calls.specs.CallFaults.{undefined_name, uses_faults, value_faults, values_against, values_of, wrong_input}
 use Rattle.al_check_calls.specs.Laws.{CallFaultsLie}
+use Rattle.al_check_calls.specs.Private.AnswerViews.{answered_by}
 
 module _ (size : ℕ) where
   abbrev Lies : Fault → Type 0
@@ -88,7 +89,7 @@ module _ (size : ℕ) where
 
   names_lie : (k : ParameterKind) (c : Call) (s : Signature) → CallLies c → AllLie (names_against k c s)
   names_lie k c s p =
-      each_both Lies (undefined_names k c s) (missing_names k c s)
+      each_both Lies (flat_map (undefined_name k c s) (given_by k c.site.node)) (flat_map (missing_name k c s) (mandatory_of (parameters_of k s)))
       (each_of Pair Lies (undefined_name k c s) (undefined_lies k c s) (given_by k c.site.node) (given_lie k c.site.node p.1))
       (same_for_all (missing_name k c s) (missing_lies k c s p.0) (mandatory_of (parameters_of k s)))
 

@@ -15,16 +15,18 @@ use Rattle.std.proofs.lemmas.Slice.Eq.{bytes_eq-Decides}
 use Rattle.al_base.specs.declared.codes.Caller.TheVariants as caller
 use Rattle.al_check_calls.specs.Answers.{Answered}
 use Rattle.al_check_calls.specs.CallFaults.{callable_signature, caller_of}
-use Rattle.al_check_calls.specs.Outputs.{outputs_behind, outputs_in}
+use Rattle.al_check_interfaces.specs.declared.interfaces.Signature.{Signature}
+use Rattle.al_check_calls.specs.Outputs.{outputs_behind, shows_outputs}
 use Rattle.al_check_calls.specs.Private.AnswerViews.{answered_of}
 use Rattle.al_check_calls.specs.declared.answers.Answered as code
 use Rattle.al_check_contexts.specs.Answered.{Behind, behind_of}
 use Rattle.al_check_contexts.specs.declared.known.Answer.{Answer}
-use Rattle.al_check_calls.specs.FileCalls.{behind}
 use Rattle.al_check_calls.specs.Private.KnownLists.{ArePlaced, Naming, StandsAt, Takes, lists_of, position_of}
 use Rattle.al_check_calls.specs.Private.Comparing.{AreToldByUses}
 use Rattle.al_check_calls.specs.declared.known.Lists.{Lists}
 use Rattle.al_check_calls.proofs.Told.{told_back}
+use Rattle.std.specs.Bool.{then_some}
+use Rattle.al_check_calls.specs.Private.KnownLists.{behind}
 
 abbrev Names : Type 0
 Names = List (List ℕ)
@@ -176,6 +178,9 @@ one_known answered i a old new known now position within is takes pushed before 
           ap (map seen) pushed ∙ map-append seen known (answer ∷ [])
           ∙ (λ j. so_far j ++ here j ∷ []) ∙ sym behinds,
     )
+
+abbrev outputs_in : Signature → Option (List (List ℕ))
+outputs_in s = then_some (shows_outputs s.role) s.outputs
 
 abbrev naming_of : (found : List Answered) → AreToldByUses found → Naming
 naming_of found told of_step text =

@@ -8,8 +8,8 @@ use Rattle.al_expr_grammar.specs.Chunks.{chunks_of, span_of_chunk}
 use Rattle.al_expr_grammar.specs.declared.chunk.Chunk.{Chunk}
 use Rattle.al_types.specs.Scopes.{Scope}
 use Rattle.al_check_expressions.specs.Contents.{is_one_chunk, is_whole_span}
-use Rattle.al_check_calls.specs.Private.Contents.{content_where_one}
-use Rattle.al_check_calls.specs.Types.{content_type, lone_content, scalar_type, text_type}
+use Rattle.al_check_calls.specs.Private.Contents.{content_where_one, lone_content}
+use Rattle.al_check_calls.specs.Types.{content_type, scalar_type, text_type}
 
 not_whole : (len : ℕ) (spans : List Span) → length spans ≢ 1 → is_whole_span len spans ≡ false
 not_whole len [] h = refl

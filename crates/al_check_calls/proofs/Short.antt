@@ -19,9 +19,9 @@ use Rattle.al_check_expressions.proofs.Places.{readable}
 use Rattle.al_check_interfaces.specs.declared.interfaces.Interface.{Interface}
 use Rattle.al_check_interfaces.specs.Uses.{Call, calls_in, target_in}
 use Rattle.al_check_interfaces.proofs.Parts.{IsKept, calls_kept, entries_kept}
-use Rattle.al_check_calls.specs.Private.AnswerViews.{answered_of}
+use Rattle.al_check_calls.specs.Private.AnswerViews.{answered_of, answered_by}
 use Rattle.al_session_folder.specs.declared.lint.Target.{Target}
-use Rattle.al_check_calls.specs.Answers.{Answered, calls_with_answers, answered_by, first_answer}
+use Rattle.al_check_calls.specs.Answers.{Answered, calls_with_answers, first_answer}
 use Rattle.al_check_calls.specs.declared.answers.Answered as code
 use Rattle.al_check_calls.specs.FileCalls.{AreShort, EntriesShort, IsShort, ItemsShort}
 

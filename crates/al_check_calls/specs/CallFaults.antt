@@ -99,14 +99,9 @@ missing_name k c s p =
     if named_among (names_of (given_by k c.site.node)) p.name then []
     else fault (missing_code k) c c.at (p.name ∷ called_name c s ∷ []) ∷ []
 
-abbrev pub undefined_names : ParameterKind → Call → Signature → List Fault
-undefined_names k c s = flat_map (undefined_name k c s) (given_by k c.site.node)
-
-abbrev pub missing_names : ParameterKind → Call → Signature → List Fault
-missing_names k c s = flat_map (missing_name k c s) (mandatory_of (parameters_of k s))
-
 abbrev pub names_against : ParameterKind → Call → Signature → List Fault
-names_against k c s = undefined_names k c s ++ missing_names k c s
+names_against k c s =
+    flat_map (undefined_name k c s) (given_by k c.site.node) ++ flat_map (missing_name k c s) (mandatory_of (parameters_of k s))
 
 abbrev pub is_inherit : Node → Bool
 is_inherit job = option_map_or (λ t. bytes_eq (text_of t.0) (codes "inherit")) (text_at (codes "secrets") job) false
@@ -142,11 +137,8 @@ type_faults c e t i =
 abbrev pub Given : Type 0
 Given = (Node × Node) × Type'
 
-abbrev pub given_type : (Node → Scalar → Type') → Node × Node → Type'
-given_type type_of e = option_map_or (type_of e.0) (scalar_in e.1) Any
-
 abbrev pub values_of : (Node → Scalar → Type') → List (Node × Node) → List Given
-values_of type_of = map (λ e. (e, given_type type_of e))
+values_of type_of = map (λ e. (e, option_map_or (type_of e.0) (scalar_in e.1) Any))
 
 -- C4: a value of a wrong type
 abbrev pub wrong_input : Call → List Parameter → Given → List Fault

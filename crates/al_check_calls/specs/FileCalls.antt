@@ -11,7 +11,7 @@ use Rattle.al_tree.specs.declared.files.FileKind.{FileKind}
 use Rattle.al_tree.specs.declared.files.FileKind.TheVariants as kind
 use Rattle.al_check_places.specs.Places.{Place, place_at}
 use Rattle.al_check_places.specs.Ways.{under}
-use Rattle.al_check_contexts.specs.Answered.{Behind, known_in}
+use Rattle.al_check_contexts.specs.Answered.{known_in}
 use Rattle.al_check_contexts.specs.Contexts.{Known}
 use Rattle.al_check_contexts.specs.Scopes.{scope_at}
 use Rattle.al_check_expressions.specs.FileExpressions.{expression_faults}
@@ -21,12 +21,9 @@ use Rattle.al_check_calls.specs.Answers.{Answered, Typing, calls_with_answers, a
 use Rattle.al_check_calls.specs.Outputs.{outputs_behind}
 use Rattle.al_check_calls.specs.Types.{scalar_type}
 
--- what is known of the outputs behind a call
-abbrev pub behind : Answered → Behind
-behind a = record { job = a.call.site.job; step = a.call.site.step; names = outputs_behind a }
-
+-- what is known of the outputs behind calls
 abbrev pub known_by : List Answered → Known
-known_by found = known_in (map behind found)
+known_by found = known_in (map (λ a. record { job = a.call.site.job; step = a.call.site.step; names = outputs_behind a }) found)
 
 -- the place of what a job gives under a key of `with`
 abbrev pub place_of_value : List ℕ → Node → Scalar → Place

@@ -16,13 +16,10 @@ abbrev pub content_type : Scope → List ℕ → Type'
 content_type sc content =
     option_map_or (λ f. Any) (fault_of_content content) (option_map_or (λ t. type_in (meaning_of sc t)) (tree_of_content content) Any)
 
--- the content of a text that is one chunk
-abbrev pub lone_content : List ℕ → List ℕ
-lone_content text = slice_range text 3 (length text - 2)
-
 -- of any other text: with expressions in it a string, else by its class
 abbrev pub text_type : Scalar → Type'
 text_type s = if has_chunk (text_of s) then String else class_type s.class
 
 abbrev pub scalar_type : Scope → Scalar → Type'
-scalar_type sc s = if is_one_chunk (text_of s) then content_type sc (lone_content (text_of s)) else text_type s
+scalar_type sc s =
+    if is_one_chunk (text_of s) then content_type sc (slice_range (text_of s) 3 (length (text_of s) - 2)) else text_type s

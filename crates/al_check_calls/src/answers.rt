@@ -3,7 +3,7 @@ ghost use Rattle.std.specs.Prelude.{◌≡◌, ◌++◌, [], drop, map, option_m
 ghost use Rattle.std.specs.List.{cons_option};
 ghost use Rattle.std.specs.Option.{option_copied};
 ghost use Rattle.al_check_calls.specs.Answers as answering;
-ghost use Rattle.al_check_calls.specs.Private.AnswerViews.{answered_at, answered_of, call_of, call_of_site};
+ghost use Rattle.al_check_calls.specs.Private.AnswerViews.{answered_at, answered_by, answered_of, call_of, call_of_site};
 ghost use Rattle.al_tree.specs.declared.files.FileKind.{FileKind};
 ghost use Rattle.al_check_interfaces.specs.FolderCalls.{AreCallsOf};
 ghost use Rattle.al_check_interfaces.specs.CallViews.{site_of};
@@ -80,7 +80,7 @@ fn add_answered<'a>(
     found: &mut Vec<Answered<'a>>,
 ) -> Result<(), AllocError>
     ensures { OnOk result (map answered_of found.new.items ≡ map answered_of found.old.items
-        ++ cons_option (option_map (λ c. answering.answered_by c (option_copied answer.entry))
+        ++ cons_option (option_map (λ c. answered_by c (option_copied answer.entry))
         (call_of_site (map site_of sites.now) number)) []) }
 {
     match call_of_site(sites, number) {

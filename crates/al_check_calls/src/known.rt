@@ -3,7 +3,7 @@ ghost use Rattle.std.specs.Prelude.{◌≡◌, map, is_some, IfOk, Some};
 ghost use Rattle.al_check_calls.specs.Outputs.{outputs_behind};
 ghost use Rattle.al_check_calls.specs.Private.AnswerViews.{answered_of};
 ghost use Rattle.al_check_contexts.specs.Answered.{known_in, known_of};
-ghost use Rattle.al_check_calls.specs.FileCalls.{behind};
+ghost use Rattle.al_check_calls.specs.Private.KnownLists.{behind};
 ghost use Rattle.al_check_calls.specs.Private.KnownLists.{ArePlaced, Naming, Takes, behind_all, position_of};
 ghost use Rattle.al_check_calls.specs.Private.Comparing.{AreToldByUses};
 ghost use Rattle.al_yaml_tree.specs.View.{view};

@@ -2,8 +2,7 @@
 ghost use Rattle.std.specs.Prelude.{◌≡◌, [], map, true, unwrap_or, IfOk, OnOk};
 ghost use Rattle.std.specs.Option.{option_copied};
 ghost use Rattle.al_base.specs.Growth.{BeginsWith};
-ghost use Rattle.al_check_calls.specs.Private.AnswerViews.{call_of, given_at, typing_in};
-ghost use Rattle.al_check_calls.specs.CallFaults.{given_type};
+ghost use Rattle.al_check_calls.specs.Private.AnswerViews.{call_of, given_at, typing_in, given_type};
 ghost use Rattle.al_check_contexts.specs.Answered.{known_of};
 ghost use Rattle.al_check_contexts.specs.Standing.{Stands};
 ghost use Rattle.al_check_calls.specs.FileCalls as file_calls;

@@ -5,7 +5,8 @@ use Rattle.std.proofs.lemmas.List.{get_or-drop, length-drop, take_all, take_more
 use Rattle.std.specs.List.{list_all, list_any, onto_first, range_with_len}
 use Rattle.al_base.specs.Ascii.{ascii}
 use Rattle.al_base.specs.Paths.{parts}
-use Rattle.al_check_interfaces.specs.Forms.{is_some_text, is_cut, is_cut_at, is_some_cut}
+use Rattle.al_check_interfaces.specs.Forms.{is_some_text, is_cut_at, is_some_cut}
+use Rattle.al_check_interfaces.specs.Private.Texts.{is_cut}
 
 -- a text has a first part
 pub record HasFirst (ps : List (List ℕ)) : Type 0 where

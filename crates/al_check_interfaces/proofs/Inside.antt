@@ -10,10 +10,11 @@ use Rattle.al_yaml_tree.specs.Access.{entries, nodes}
 use Rattle.al_yaml_tree.specs.Node.{Nodes, Entries, no_nodes, item, no_entries, entry}
 use Rattle.al_yaml_tree.specs.Spans.{IsInside, AreInside, EntriesInside}
 use Rattle.al_check_interfaces.specs.Laws.{CallsLie}
-use Rattle.al_check_interfaces.specs.Uses.{Call, wrong_by, wrong_uses}
+use Rattle.al_check_interfaces.specs.Uses.{Call, wrong_uses}
 use Rattle.al_check_interfaces.specs.declared.forms.Form.{Form}
 use Rattle.al_check_interfaces.specs.declared.forms.Form.TheVariants.{Local, Other, Wrong}
 use Rattle.al_check_interfaces.proofs.Parts.{IsKept, calls_kept}
+use Rattle.al_check_interfaces.specs.Private.Texts.{wrong_by}
 
 items_inside : (size : ℕ) (ns : Nodes) → AreInside size ns → AllByRecursion (IsInside size) (nodes ns)
 items_inside size no_nodes i = tt

@@ -21,12 +21,13 @@ use Rattle.al_tree_declarations.specs.Declarations.{declared_below, declared_in,
 use Rattle.al_tree_declarations.specs.Inputs.{input_named, input_of}
 use Rattle.al_tree_declarations.specs.declared.inputs.InputType.TheVariants as input
 use Rattle.al_check_interfaces.specs.Interfaces.{has_default, is_required, is_true, name_of}
-use Rattle.al_check_interfaces.specs.Interfaces.{names_call, parameter, parameters, says_call, signature_of, type_taken}
+use Rattle.al_check_interfaces.specs.Interfaces.{names_call, parameter, parameters, signature_of, type_taken}
 use Rattle.al_check_interfaces.specs.Placeless.{ShowsNoPlaces, ShowsNothingElse, placeless, placeless_entries, placeless_items, placeless_scalar}
 use Rattle.al_check_interfaces.specs.declared.interfaces.Interface.TheVariants.{Readable}
 use Rattle.al_check_interfaces.specs.declared.interfaces.Role.TheVariants as role
 use Rattle.al_check_interfaces.specs.declared.signatures.Declaring.{Declaring}
 use Rattle.al_check_interfaces.specs.declared.signatures.Declaring.TheVariants as declared
+use Rattle.al_check_interfaces.specs.Private.Texts.{says_call}
 
 abbrev placeless_entry : Node × Node → Node × Node
 placeless_entry e = (placeless e.0, placeless e.1)

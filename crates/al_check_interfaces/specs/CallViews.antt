@@ -1,10 +1,13 @@
 -- What the program's sites stand for.
 use Rattle.std.specs.Prelude.{ℕ, List, Option, option_and_then, option_map}
 use Rattle.std.specs.Borrow.{Bor}
+use Rattle.al_base.specs.declared.faults.Span.{Span}
+use Rattle.al_scalar.specs.Scalar.{Scalar, text_of}
 use Rattle.al_tree.specs.Values.{scalar_node_of}
 use Rattle.al_yaml_tree.specs.View.{view}
 use Rattle.al_check_interfaces.specs.FolderCalls.{FolderCall, as_folder_call}
-use Rattle.al_check_interfaces.specs.Uses.{Call, Site, call_at, call_by}
+use Rattle.al_check_interfaces.specs.Forms.{form_by}
+use Rattle.al_check_interfaces.specs.Uses.{Call, Site, call_at, caller_of}
 use Rattle.al_check_interfaces.specs.declared.calls.Uses as code_uses
 use Rattle.al_check_interfaces.specs.declared.sites.Site as code_sites
 
@@ -13,6 +16,9 @@ bytes_of o = option_map (λ b. b.now) o
 
 abbrev pub site_of : code_sites.Site → Site
 site_of s = record { job = bytes_of s.job; step = s.step; node = view s.node.now }
+
+abbrev pub call_by : Site → Scalar × Span → Call
+call_by s t = record { site = s; at = t.1; text = text_of t.0; form = form_by (caller_of s) (text_of t.0) }
 
 abbrev pub uses_of : code_uses.Uses → Call
 uses_of u = call_by (site_of u.site) (scalar_node_of u.text)

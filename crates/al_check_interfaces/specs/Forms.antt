@@ -17,15 +17,11 @@ use Rattle.al_check_interfaces.specs.declared.forms.Form.TheVariants.{Local, Oth
 abbrev pub is_some_text : List ℕ → Bool
 is_some_text bs = nat_lt 0 (length bs)
 
--- What cuts a REF off from the parts before it, which have to pass a test: an `@` with something behind it.
-abbrev pub is_cut : (List (List ℕ) → Bool) → List (List ℕ) → ℕ → List ℕ → Bool
-is_cut test before b ref = b == ascii "@" && is_some_text ref && test before
-
--- the byte at this place of a text does
+-- Whether the byte at this place cuts a REF off from the parts before it, which have to pass a test: an `@` with something behind it.
 abbrev pub is_cut_at : (List (List ℕ) → Bool) → List ℕ → ℕ → Bool
-is_cut_at test bs place = is_cut test (parts (take place bs)) (slice_index bs place) (drop (place + 1) bs)
+is_cut_at test bs place = slice_index bs place == ascii "@" && is_some_text (drop (place + 1) bs) && test (parts (take place bs))
 
--- some byte of it does
+-- some byte does
 abbrev pub is_some_cut : (List (List ℕ) → Bool) → List ℕ → Bool
 is_some_cut test bs = list_any (is_cut_at test bs) (range_with_len 0 (length bs))
 
@@ -47,16 +43,13 @@ path_in bs = if is_utf8 bs && is_none (path_fault_of bs) then Some bs else None
 abbrev pub folder_of : List ℕ → List ℕ
 folder_of rest = if ends_with nat_eq rest (codes "/") then take (length rest - 1) rest else rest
 
-abbrev pub in_folder : List ℕ → List ℕ → List ℕ
-in_folder dir file = if is_some_text dir then dir ++ codes "/" ++ file else file
-
 -- both candidates, if they are paths
 abbrev pub first_of : Option (List ℕ) → Option (List ℕ) → Form
 first_of (Some a) (Some b) = Local (FirstOf a b)
 first_of _ _ = Other
 
 abbrev pub file_in : List ℕ → List ℕ → Option (List ℕ)
-file_in dir file = path_in (in_folder dir file)
+file_in dir file = path_in (if is_some_text dir then dir ++ codes "/" ++ file else file)
 
 abbrev pub local_step : List ℕ → Form
 local_step dir = first_of (file_in dir (codes "action.yml")) (file_in dir (codes "action.yaml"))
@@ -68,14 +61,11 @@ local_job rest =
 abbrev pub remote : Caller → List ℕ → Form
 remote c bs = if is_some_cut (is_remote c) bs then Other else Wrong
 
-abbrev pub is_image : List ℕ → Bool
-is_image bs = starts_with nat_eq bs (codes "docker://") && nat_lt 9 (length bs)
-
 abbrev pub form_by : Caller → List ℕ → Form
 form_by caller.Step bs =
     if has_chunk bs then Wrong
     else if starts_with nat_eq bs (codes "./") then local_step (folder_of (drop 2 bs))
-    else if is_image bs then Other
+    else if starts_with nat_eq bs (codes "docker://") && nat_lt 9 (length bs) then Other
     else remote caller.Step bs
 form_by caller.Job bs =
     if has_chunk bs then Wrong

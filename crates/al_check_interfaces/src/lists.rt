@@ -2,8 +2,8 @@
 ghost use Rattle.std.specs.Prelude.{◌≡◌, ◌<◌, find, length, map, slice_index_or, IfOk};
 ghost use Rattle.std.specs.Option.{option_copied};
 ghost use Rattle.al_base.specs.NamePlaces.{name_place, name_position};
-ghost use Rattle.al_check_interfaces.specs.Parameters.{has_parameter, is_mandatory, is_parameter, mandatory_of};
-ghost use Rattle.al_check_interfaces.specs.Private.Places.{StandAt};
+ghost use Rattle.al_check_interfaces.specs.Parameters.{has_parameter, is_parameter, mandatory_of};
+ghost use Rattle.al_check_interfaces.specs.Private.Places.{StandAt, is_mandatory};
 
 use crate::interfaces::Parameter;
 use al_base::NamePositions;
@@ -24,7 +24,7 @@ impl Model for Parameters {
     ghost use Rattle.al_base.specs.NamePlaces.{name_place, name_position};
     ghost use Rattle.al_check_interfaces.specs.declared.interfaces.Parameter.{Parameter};
     ghost use Rattle.al_check_interfaces.specs.Parameters.{mandatory_of};
-    ghost use Rattle.al_check_interfaces.specs.Private.Places.{StandAt};
+    ghost use Rattle.al_check_interfaces.specs.Private.Places.{StandAt, is_mandatory};
 
     ghost Value = { List Parameter };
 

@@ -8,6 +8,7 @@ ghost use Rattle.al_tree.specs.Values.{member_of, scalar_node_of};
 ghost use Rattle.al_tree.specs.declared.files.FileKind.TheVariants as kind;
 ghost use Rattle.al_yaml_tree.specs.View.{view};
 ghost use Rattle.al_check_interfaces.specs.Interfaces as interfaces;
+ghost use Rattle.al_check_interfaces.specs.Private.Texts.{says_call};
 
 use crate::interfaces::{Interface, Parameter, Role, Signature};
 use crate::lists::Parameters;
@@ -152,14 +153,14 @@ fn name_of(alloc: Global, root: &Node) -> Result<Option<Name>, AllocError>
 
 /// Whether a scalar is `workflow_call`.
 fn says_call(text: ScalarNode<'_>) -> bool
-    ensures { result ≡ interfaces.says_call (scalar_node_of text.entry) }
+    ensures { result ≡ says_call (scalar_node_of text.entry) }
 {
     text.scalar.text() == b"workflow_call".as_slice()
 }
 
 /// Whether one of some scalars is `workflow_call`.
 fn has_call(texts: &[ScalarNode<'_>]) -> bool
-    ensures { result ≡ list_any interfaces.says_call (map scalar_node_of texts.now) }
+    ensures { result ≡ list_any says_call (map scalar_node_of texts.now) }
 {
     for text in texts {
         if says_call(*text) {

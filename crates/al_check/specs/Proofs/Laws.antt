@@ -34,9 +34,12 @@ use Rattle.al_check_calls.specs.FileCalls.{behind_faults, known_by, typing}
 use Rattle.al_expr_typing.proofs.Inside.{both_lie}
 use Rattle.al_rules.proofs.Lying.{rules_lie}
 use Rattle.al_tree.specs.Faults.{root_faults}
-use Rattle.al_check.specs.FileFaults.{Answers, document_faults, faults_given, file_faults, own_faults, printed_fault, wrong_uses_in}
+use Rattle.al_check.specs.FileFaults.{Answers, document_faults, file_faults, own_faults, printed_fault}
 use Rattle.al_check.specs.RuleFaults.{rule_faults}
 use Rattle.al_check.specs.Proofs.RuleSets.{rules_hold}
+use Rattle.al_check_interfaces.specs.Uses.{wrong_uses}
+use Rattle.al_base.specs.declared.codes.Code.TheVariants as code
+use Rattle.al_yaml_tree.specs.ByteFaults.{fault_span}
 
 abbrev AllLie : ℕ → List Fault → Type 0
 AllLie size faults = AllByRecursion (λ (f : Fault). LiesIn size f.span) faults
@@ -65,7 +68,7 @@ module _ (size : ℕ) (kind : FileKind) (root : Node) (i : IsInside size root) (
   found_lie : AllLie size all_faults
   found_lie =
       both_lie size (own_faults kind root) (behind_faults kind root answers)
-      (both_lie size (root_faults (shape_of kind) root ++ rule_faults kind root) (wrong_uses_in kind root)
+      (both_lie size (root_faults (shape_of kind) root ++ rule_faults kind root) (flat_map wrong_uses (calls_in kind root))
       (both_lie size (root_faults (shape_of kind) root) (rule_faults kind root)
       (recursion_from_All (λ (x : Fault). LiesIn size x.span) (root_faults (shape_of kind) root)
       (root_lies size (shape_of kind) root i))
@@ -77,6 +80,12 @@ module _ (size : ℕ) (kind : FileKind) (root : Node) (i : IsInside size root) (
   document_lies =
       AllByRecursion-fault_list (λ (x : Fault). LiesIn size x.span) (map printed_fault all_faults)
       (printed_lie size all_faults found_lie)
+
+abbrev faults_given : FileKind → List ℕ → Answers → Result Node yaml.Fault → List Fault
+faults_given kind bytes answers read = elim read [
+  | Ok root ↦ document_faults kind root answers
+  | Err fault ↦ record { span = fault_span bytes fault.at; code = code.Yaml fault.code; args = [] } ∷ []
+]
 
 given_lies : (kind : FileKind) (bytes : List ℕ) (answers : Answers) (read : Result Node yaml.Fault) → IsTreeLaid bytes read →
     IfOk read (IsInside (length bytes)) → IfOk read (IsLaid (length bytes)) → IfOk read (AreFrom (length bytes)) →

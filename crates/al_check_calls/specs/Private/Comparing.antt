@@ -1,7 +1,7 @@
 -- The faults of a call by itself; and how those of names are found, for all calls of a file together.
 use Rattle.std.specs.Prelude.{◌≡◌, ◌⊎◌, List, [], ◌∷◌, ◌++◌, Bool, ◌&&◌, Contains, map, Option, option_map, if◌then◌else◌}
 use Rattle.std.specs.Prelude.{ℕ}
-use Rattle.std.specs.List.{AllByRecursion, cons_option}
+use Rattle.std.specs.List.{AllByRecursion, cons_option, flat_map}
 use Rattle.std.specs.Str.{bytes_eq}
 use Rattle.al_base.specs.contracts.codes.CallerPartialEq.TheImpl as caller
 use Rattle.al_base.specs.contracts.faults.SpanPartialEq.TheImpl as span
@@ -20,8 +20,8 @@ use Rattle.al_check_interfaces.specs.declared.interfaces.ParameterKind.TheVarian
 use Rattle.al_check_interfaces.specs.declared.interfaces.Signature.{Signature}
 use Rattle.al_check_interfaces.specs.Uses.{Call}
 use Rattle.al_check_calls.specs.Answers.{Answered, Typing, values_in}
-use Rattle.al_check_calls.specs.CallFaults.{called_name, caller_of, fault, given_by, missing_code, missing_name, missing_names, name_faults}
-use Rattle.al_check_calls.specs.CallFaults.{names_against, signature_for, undefined_name, undefined_names, uses_faults, value_faults}
+use Rattle.al_check_calls.specs.CallFaults.{called_name, caller_of, fault, given_by, missing_code, missing_name, name_faults}
+use Rattle.al_check_calls.specs.CallFaults.{names_against, signature_for, undefined_name, uses_faults, value_faults}
 
 -- all but those of names
 abbrev pub faults_but_names : Typing → Answered → List Fault
@@ -51,10 +51,10 @@ abbrev pub name_faults_of : Comparison → List Fault
 name_faults_of q = names_against q.kind q.call q.signature
 
 abbrev pub undefined_of : Comparison → List Fault
-undefined_of q = undefined_names q.kind q.call q.signature
+undefined_of q = flat_map (undefined_name q.kind q.call q.signature) (given_by q.kind q.call.site.node)
 
 abbrev pub missing_of : Comparison → List Fault
-missing_of q = missing_names q.kind q.call q.signature
+missing_of q = flat_map (missing_name q.kind q.call q.signature) (mandatory_of (parameters_of q.kind q.signature))
 
 -- who calls, and by which text, tells what is shown
 abbrev pub HaveOneSignature : Comparison → Comparison → Type 0

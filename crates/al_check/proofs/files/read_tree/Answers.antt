@@ -10,8 +10,11 @@ use Rattle.al_yaml_tree.specs.View.{view}
 use Rattle.al_tree.specs.Files.{kind_in, root_of, shape_of}
 use Rattle.al_base.proofs.Growing.{same_set}
 use Rattle.al_base.proofs.Sets.{set_more, set_trans}
-use Rattle.al_check.specs.FileFaults.{own_faults, wrong_uses_in}
+use Rattle.al_check.specs.FileFaults.{own_faults}
 use Rattle.al_check.specs.RuleFaults.{rule_faults}
+use Rattle.std.specs.List.{flat_map}
+use Rattle.al_check_interfaces.specs.Uses.{wrong_uses}
+use Rattle.al_check_interfaces.specs.Uses.{calls_in}
 use Rattle.al_check.proofs.files.read_tree.Goals as goal
 
 pub returns : goal.returns
@@ -30,9 +33,10 @@ returns c =
         texts = subst HasTexts same c.requires.texts;
         from = subst (AreFrom (length c.args.source.bytes.now)) same c.requires.from;
       };
-      own = set_trans c.document_calls.new.own.items (c.in_ok-own.own.items ++ wrong_uses_in (kind_in tree) (root_of tree)) (own_faults (kind_in tree) (root_of tree))
+      own = set_trans c.document_calls.new.own.items (c.in_ok-own.own.items ++ flat_map wrong_uses (calls_in (kind_in tree) (root_of tree))) (own_faults (kind_in tree) (root_of tree))
           (same_set _ _ c.in_ok-calls.ensures.own)
-          (set_more c.in_ok-own.own.items (root_faults (shape_of (kind_in tree)) (root_of tree) ++ rule_faults (kind_in tree) (root_of tree)) (wrong_uses_in (kind_in tree) (root_of tree))
+          (set_more c.in_ok-own.own.items (root_faults (shape_of (kind_in tree)) (root_of tree) ++ rule_faults (kind_in tree) (root_of tree))
+          (flat_map wrong_uses (calls_in (kind_in tree) (root_of tree)))
           (subst (λ list. SameSet c.in_ok-own.own.items (list ++ rule_faults (kind_in tree) (root_of tree))) keys c.in_ok-own.ensures));
       calls = c.in_ok-calls.ensures.calls;
     }

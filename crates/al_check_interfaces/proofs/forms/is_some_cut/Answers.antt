@@ -3,6 +3,7 @@ use Rattle.std.specs.List.{slice_range}
 use Rattle.std.proofs.lemmas.List.{map-append}
 use Rattle.al_check_interfaces.specs.Forms as forms
 use Rattle.al_check_interfaces.proofs.Cuts.{at_other, cut_there, cuts_as, rest_is, slash_cuts_nothing, slash_kept, uncut, uncut_on, whole_kept}
+use Rattle.al_check_interfaces.specs.Private.Texts.{is_cut}
 use Rattle.al_check_interfaces.proofs.forms.is_some_cut.Goals as goal
 use Rattle.al_check_interfaces.proofs.forms.is_some_cut.Goals.{then-byte-eq47+in_ok-push, else-byte-eq47+else-is_cut}
 
@@ -31,7 +32,7 @@ loop-i-preserved c =
             uncut = uncut_on (forms.is_remote c.args.caller) c.args.text.now c.loop-i.i c.loop-i.invariant.uncut
                 (cuts_as (forms.is_remote c.args.caller) c.args.text.now c.loop-i.i _ _ w.is_cut.result c.loop-i.invariant.parts (rest_is c.args.text.now (c.loop-i.i + 1))
                 (w.is_cut.ensures
-                ∙ ap (λ l. forms.is_cut (forms.is_remote c.args.caller)
+                ∙ ap (λ l. is_cut (forms.is_remote c.args.caller)
                 (map (λ p. p.now) l ++ slice_range c.args.text.now c.loop-i.start c.loop-i.i ∷ []) (get_or c.args.text.now c.loop-i.i 0)
                 (take (length c.args.text.now - (c.loop-i.i + 1)) (drop (c.loop-i.i + 1) c.args.text.now))) w.as_slice-parts.ensures.value) ∙ search rules);
           }
@@ -43,7 +44,7 @@ returns-then-is_cut c =
     cut_there (forms.is_remote c.args.caller) c.args.text.now c.loop-i.i room
     (cuts_as (forms.is_remote c.args.caller) c.args.text.now c.loop-i.i _ _ c.is_cut.result c.loop-i.invariant.parts (rest_is c.args.text.now (c.loop-i.i + 1))
     (c.is_cut.ensures
-    ∙ ap (λ l. forms.is_cut (forms.is_remote c.args.caller)
+    ∙ ap (λ l. is_cut (forms.is_remote c.args.caller)
     (map (λ p. p.now) l ++ slice_range c.args.text.now c.loop-i.start c.loop-i.i ∷ []) (get_or c.args.text.now c.loop-i.i 0)
     (take (length c.args.text.now - (c.loop-i.i + 1)) (drop (c.loop-i.i + 1) c.args.text.now))) c.as_slice-parts.ensures.value) ∙ search rules)
 

@@ -1,7 +1,8 @@
 use Rattle.std.proofs.Common.{ap, subst, sym, take, ◌+◌, ◌∙◌}
-use Rattle.al_check_interfaces.specs.Parameters.{is_mandatory, mandatory_of}
+use Rattle.al_check_interfaces.specs.Parameters.{mandatory_of}
 use Rattle.al_check_interfaces.specs.Private.Places.{StandAt}
 use Rattle.al_check_interfaces.proofs.Places.{no_more, one_more}
+use Rattle.al_check_interfaces.specs.Private.Places.{is_mandatory}
 use Rattle.al_check_interfaces.proofs.lists.mandatory_places.Goals as goal
 use Rattle.al_check_interfaces.proofs.lists.mandatory_places.Goals.{then-is_mandatory+in_ok-push, else-is_mandatory}
 
