@@ -34,12 +34,13 @@ use Rattle.al_check_calls.specs.FileCalls.{behind_faults, known_by, typing}
 use Rattle.al_expr_typing.proofs.Inside.{both_lie}
 use Rattle.al_rules.proofs.Lying.{rules_lie}
 use Rattle.al_tree.specs.Faults.{root_faults}
-use Rattle.al_check.specs.FileFaults.{Answers, document_faults, file_faults, own_faults, printed_fault}
+use Rattle.al_check.specs.FileFaults.{document_faults, file_faults, own_faults, printed_fault}
 use Rattle.al_check.specs.RuleFaults.{rule_faults}
 use Rattle.al_check.specs.Proofs.RuleSets.{rules_hold}
 use Rattle.al_check_interfaces.specs.Uses.{wrong_uses}
 use Rattle.al_base.specs.declared.codes.Code.TheVariants as code
 use Rattle.al_yaml_tree.specs.ByteFaults.{fault_span}
+use Rattle.al_check_interfaces.specs.declared.interfaces.Interface.{Interface}
 
 abbrev AllLie : ℕ → List Fault → Type 0
 AllLie size faults = AllByRecursion (λ (f : Fault). LiesIn size f.span) faults
@@ -52,7 +53,7 @@ abbrev CallLies : ℕ → Call → Type 0
 CallLies size c = LiesIn size c.at × IsInside size c.site.node
 
 module _ (size : ℕ) (kind : FileKind) (root : Node) (i : IsInside size root) (w : IsLaid size root) (f : AreFrom size root)
-    (answers : Answers) where
+    (answers : List (Option Interface)) where
   abbrev calls : List Answered
   calls = calls_with_answers (calls_in kind root) answers
 
@@ -81,19 +82,19 @@ module _ (size : ℕ) (kind : FileKind) (root : Node) (i : IsInside size root) (
       AllByRecursion-fault_list (λ (x : Fault). LiesIn size x.span) (map printed_fault all_faults)
       (printed_lie size all_faults found_lie)
 
-abbrev faults_given : FileKind → List ℕ → Answers → Result Node yaml.Fault → List Fault
+abbrev faults_given : FileKind → List ℕ → List (Option Interface) → Result Node yaml.Fault → List Fault
 faults_given kind bytes answers read = elim read [
   | Ok root ↦ document_faults kind root answers
   | Err fault ↦ record { span = fault_span bytes fault.at; code = code.Yaml fault.code; args = [] } ∷ []
 ]
 
-given_lies : (kind : FileKind) (bytes : List ℕ) (answers : Answers) (read : Result Node yaml.Fault) → IsTreeLaid bytes read →
-    IfOk read (IsInside (length bytes)) → IfOk read (IsLaid (length bytes)) → IfOk read (AreFrom (length bytes)) →
+given_lies : (kind : FileKind) (bytes : List ℕ) (answers : List (Option Interface)) (read : Result Node yaml.Fault) →
+    IsTreeLaid bytes read → IfOk read (IsInside (length bytes)) → IfOk read (IsLaid (length bytes)) → IfOk read (AreFrom (length bytes)) →
     AllLie (length bytes) (faults_given kind bytes answers read)
 given_lies kind bytes answers (Ok root) there i w f = document_lies (length bytes) kind root i w f answers
 given_lies kind bytes answers (Err fault) there i w f = (there, tt)
 
-pub faults_inside : (kind : FileKind) (bytes : List ℕ) (answers : Answers) → length bytes ≤ largest_file →
+pub faults_inside : (kind : FileKind) (bytes : List ℕ) (answers : List (Option Interface)) → length bytes ≤ largest_file →
     AllLie (length bytes) (file_faults kind bytes answers)
 faults_inside kind bytes answers small =
     given_lies kind bytes answers (tree_of bytes) (tree-laid_in bytes) (tree-inside bytes) (tree-laid bytes small) (tree-from bytes)
@@ -102,13 +103,13 @@ one_sorted : (f : Fault) → IsStrictlySortedBy fault_cmp (f ∷ [])
 unfolding IsStrictlySortedBy
 one_sorted f = (tt, tt)
 
-given_ordered : (kind : FileKind) (bytes : List ℕ) (answers : Answers) (read : Result Node yaml.Fault) →
+given_ordered : (kind : FileKind) (bytes : List ℕ) (answers : List (Option Interface)) (read : Result Node yaml.Fault) →
     IsStrictlySortedBy fault_cmp (faults_given kind bytes answers read)
 given_ordered kind bytes answers (Ok root) =
     IsStrictlySortedBy-fault_list (map printed_fault (own_faults kind root ++ behind_faults kind root answers))
 given_ordered kind bytes answers (Err fault) = one_sorted _
 
-pub faults_ordered : (kind : FileKind) (bytes : List ℕ) (answers : Answers) →
+pub faults_ordered : (kind : FileKind) (bytes : List ℕ) (answers : List (Option Interface)) →
     IsStrictlySortedBy fault_cmp (file_faults kind bytes answers)
 faults_ordered kind bytes answers = given_ordered kind bytes answers (tree_of bytes)
 
