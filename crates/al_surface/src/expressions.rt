@@ -59,11 +59,19 @@ fn is_name(expr: &Expr<'_>, text: &str) -> bool {
     }
 }
 
+/// Whether a step goes to the property `b`.
+fn is_step_to_b(step: &PathStep<'_>) -> bool {
+    match step {
+        PathStep::Property(_, word) => is_word(word, "b"),
+        _ => false,
+    }
+}
+
 /// Whether it is the property `b` of `a`.
 fn is_property(expr: &Expr<'_>) -> bool {
     match expr {
         Expr::Path(base, steps) => match steps.as_slice() {
-            [PathStep::Property(_, word)] => is_name(base, "a") && is_word(word, "b"),
+            [step] => is_name(base, "a") && is_step_to_b(step),
             _ => false,
         },
         _ => false,
