@@ -3,8 +3,8 @@ or a build of crates/actionlint. BEFORE is a program of another version, which t
 
 It needs a C compiler, both libraries with their headers (Debian's libyaml-dev and libfyaml-dev) and valgrind. Each file is put into a
 session that reports; a peer reads it and keeps nothing. Ratios are to libyaml. Times are the least processor time of several runs that take turns, start of the process included; instructions
-are counted by callgrind, since times on a shared machine move by half. Folders are linted without a word, beside the peers on all of their
-bytes at once; and beside yamllint on the same files, where Debian's package of it is installed.
+are counted by callgrind, since times on a shared machine move by half. Folders are linted without a word, beside the peers on the same
+files, each opened by its name; and beside yamllint, where Debian's package of it is installed.
 """
 
 import functools
@@ -102,13 +102,14 @@ def shapes():
 
 
 def fill(folder, count, jobs_of_each):
-    """Puts so many workflows of so many jobs into a folder, and answers all of their bytes."""
+    """Puts so many workflows of so many jobs into a folder, and answers their paths and how many bytes they have."""
     workflows = pathlib.Path(folder, ".github", "workflows")
     workflows.mkdir(parents=True)
     text = workflow(jobs_of_each).encode()
-    for number in range(count):
-        (workflows / f"{number:04}.yml").write_bytes(text)
-    return b"".join(b"---\n" + text for _ in range(count))
+    paths = [workflows / f"{number:04}.yml" for number in range(count)]
+    for path in paths:
+        path.write_bytes(text)
+    return paths, count * len(text)
 
 
 def seconds(command, data, folder):
@@ -129,13 +130,13 @@ def instructions(command, data, folder):
     return int(re.search(rb"Collected : (\d+)", run.stderr)[1]) / 1e6
 
 
-def compare(name, commands, files, folder=None):
-    """Prints the times and instructions of the commands, each on its own bytes."""
-    measures = [functools.partial(seconds, *it, folder) for it in zip(commands, files)]
+def compare(name, size, commands, inputs, folder=None):
+    """Prints the times and instructions of the commands on files of so many bytes, each with its own standard input."""
+    measures = [functools.partial(seconds, *it, folder) for it in zip(commands, inputs)]
     first, *others = least_in_turns(RUNS, measures)
-    counted = [instructions(*it, folder) for it in zip(commands, files)]
+    counted = [instructions(*it, folder) for it in zip(commands, inputs)]
     cells = "".join(f" {took:8.3f}s {took / first:6.2f} {count:9.1f}M" for took, count in zip(others, counted[1:]))
-    print(f"{name:42} {len(files[0]):9} {first:8.3f}s {counted[0]:8.1f}M{cells}", flush=True)
+    print(f"{name:42} {size:9} {first:8.3f}s {counted[0]:8.1f}M{cells}", flush=True)
 
 
 def compare_with_yamllint(program_path, made):
@@ -143,7 +144,7 @@ def compare_with_yamllint(program_path, made):
     print(f"\n{'folder':42} {'bytes':>9} {'yamllint':>9} {'this':>9} {'ratio':>6}")
     for count, jobs_of_each in ((1, 5), (1, 1_336), (200, 5)):
         folder = pathlib.Path(made) / f"yamllint-{count}-{jobs_of_each}"
-        size = len(fill(folder, count, jobs_of_each))
+        _, size = fill(folder, count, jobs_of_each)
         theirs, ours = least_in_turns(YAMLLINT_RUNS, [functools.partial(seconds, command, b"", folder) for command in (YAMLLINT, [program_path])])
         print(f"{count:,} workflows of {jobs_of_each:,} jobs {size:9} {theirs:8.3f}s {ours:8.3f}s {theirs / ours:6.0f}", flush=True)
 
@@ -158,12 +159,13 @@ def main():
         print(f"{'file':42} {'bytes':>9} {'libyaml':>9} {'':9}{columns}")
         for name, text in shapes():
             script = put_commands([(WORKFLOW, text)]) + b"report\n"
-            data = [text.encode()] * len(others) + [script] * len(programs)
-            compare(name, others + [[it, *SESSION] for it in programs], data)
+            inputs = [text.encode()] * len(others) + [script] * len(programs)
+            compare(name, len(text), others + [[it, *SESSION] for it in programs], inputs)
         for count, jobs_of_each in ((200, 5), (4_096, 1)):
             folder = pathlib.Path(made) / str(count)
-            data = [fill(folder, count, jobs_of_each)] * len(others) + [b""] * len(programs)
-            compare(f"a folder of {count:,} workflows", others + [[it] for it in programs], data, folder)
+            paths, size = fill(folder, count, jobs_of_each)
+            commands = [[*it, *paths] for it in others] + [[it] for it in programs]
+            compare(f"a folder of {count:,} workflows", size, commands, [b""] * len(commands), folder)
         if shutil.which(YAMLLINT[0]):
             compare_with_yamllint(programs[0], made)
 
