@@ -4,7 +4,7 @@ The page names the definitions that the public theorems rest on, each module beh
 names that a function's contract uses, by the `use` lines of its file, and then the names that each of these definitions uses
 (`definitions.py`). None of them may stand in `specs/Private`, which holds words of private contracts. Where an `impl` names proofs of its
 trait's laws (`specs/Proofs`), what counts are the laws, which the trait states. Modules that use one another stand side by side, and the
-page says so.
+page says so. No name stands for two of these definitions.
 """
 
 import pathlib
@@ -41,6 +41,8 @@ THEOREMS = (
     ("S", "the output of a script", (("al_cli_scripts", "run.rt", ("pub fn run_session",)),)),
     ("F", "the report and status of a folder", (("al_cli", "linted.rt", ("pub fn lint_all",)),)),
 )
+# the one name that two of the definitions have: what is done with what was read, where lines are left and where anchors are known
+SHARED = {"◌>>=◌"}
 # the trait whose laws a theorem's `impl` proves: its crate, its file, and its opening
 LAWS = {"L": ("al_session_folder", "lint.rt", ("pub trait Lint",))}
 
@@ -148,6 +150,11 @@ class Page:
             says += f" Uses and is used by {', '.join(f'`{it}`' for it in others)}."
         return f"| `{short(module)}` | {lines} | {all_lines} | {letters} | {says} |"
 
+    def shared_names(self):
+        """The names that stand for two of the definitions and more."""
+        names = [it for items in self.items.values() for it in items]
+        return {it for it in names if names.count(it) > 1} - SHARED
+
     def library_words(self):
         """The words of libraries that the definitions use, an operator without the places of its arguments."""
         own = {it.partition(".")[0] for it in self.definitions.modules}
@@ -181,6 +188,8 @@ def main(folder, option=None):
     text = page.read_text()
     head, mark, _ = text.partition(MARK)
     made_of = Page(top)
+    if shared := sorted(made_of.shared_names()):
+        sys.exit(f"these names stand for two definitions: {' '.join(shared)}")
     explained = set(re.split(r"[\s◌,]+", " ".join(re.findall(r"`([^`]+)`", head.replace("\\|", "|")))))
     if missing := sorted(set(made_of.library_words()) - explained):
         sys.exit(f"{PAGE} doesn't say what these words of libraries mean: {' '.join(missing)}")

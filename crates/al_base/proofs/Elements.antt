@@ -1,6 +1,6 @@
 -- What holds of each element of a list or of an option, through maps and searches.
 use Rattle.std.specs.Prelude.{Bool, true, false, List, [], ◌∷◌, ◌++◌, map, Option, Some, None, IfSome, find, option_and_then, option_map}
-use Rattle.std.proofs.Common.{◌+◌, cond}
+use Rattle.std.proofs.Common.{cond}
 use Rattle.std.specs.List.{AllByRecursion, cons_option, filter_map, flat_map}
 use Rattle.std.specs.Option.{option_map_or, option_to_list}
 

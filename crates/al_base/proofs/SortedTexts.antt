@@ -19,7 +19,7 @@ use Rattle.std.proofs.lemmas.List.Sorted.{ranks_by, searchable_from_sorted}
 use Rattle.std.proofs.lemmas.Map.Text.{is_eq-slice_cmp}
 use Rattle.al_base.specs.Names.{lower_case}
 use Rattle.al_base.specs.NamePlaces.{name_place, text_place}
-use Rattle.al_base.specs.SortedTexts.{AreSorted, Key, entry_key, key_cmp, key_of, number_of, position_among}
+use Rattle.al_base.specs.SortedTexts.{AreSorted, Key, entry_key, key_cmp, position_among, sort_key, tail_number}
 use Rattle.al_base.specs.declared.sorted_texts.Entry.{Entry}
 use Rattle.al_base.proofs.NamePlaces.{first_more}
 
@@ -32,13 +32,13 @@ and_right false true h = h refl
 and_right false false h = refl
 
 -- keys are equal where the texts are
-pub same_key : (u t : List ℕ) → is_eq (key_cmp (key_of u) (key_of t)) ≡ bytes_eq u t
+pub same_key : (u t : List ℕ) → is_eq (key_cmp (sort_key u) (sort_key t)) ≡ bytes_eq u t
 same_key u t =
-    let n : ℕ = number_of u in
-    sym (tied_then (nat_cmp n (number_of t)) (slice_cmp nat_cmp u t))
-    ∙ ap (λ b. is_eq (nat_cmp n (number_of t)) && b) (is_eq-slice_cmp u t)
-    ∙ and_right (is_eq (nat_cmp n (number_of t))) (bytes_eq u t)
-    (λ e. ap (λ v. is_eq (nat_cmp n (number_of v))) (sym ((bytes_decides u t).0 e)) ∙ ap is_eq (tied_itself nat_cmp_total n))
+    let n : ℕ = tail_number u in
+    sym (tied_then (nat_cmp n (tail_number t)) (slice_cmp nat_cmp u t))
+    ∙ ap (λ b. is_eq (nat_cmp n (tail_number t)) && b) (is_eq-slice_cmp u t)
+    ∙ and_right (is_eq (nat_cmp n (tail_number t))) (bytes_eq u t)
+    (λ e. ap (λ v. is_eq (nat_cmp n (tail_number v))) (sym ((bytes_decides u t).0 e)) ∙ ap is_eq (tied_itself nat_cmp_total n))
 
 -- ---- with one more entry
 
@@ -53,14 +53,14 @@ module _ {T : Type 0} (bytes : T → List ℕ) where
   one_alone false true e i h p = absurd cc
   one_alone false false e i h p = refl
 
-  pub entry_more : (es : List (Entry T)) (e : Entry T) (u : List ℕ) (i : ℕ) → entry_key bytes e ≡ key_of u → e.position ≡ i →
+  pub entry_more : (es : List (Entry T)) (e : Entry T) (u : List ℕ) (i : ℕ) → entry_key bytes e ≡ sort_key u → e.position ≡ i →
       position_among bytes (es ++ e ∷ []) ≡ (λ t. option_or (position_among bytes es t) (if bytes_eq u t then Some i else None))
   entry_more es e u i k p =
       λ d t.
-      (ap (option_map (λ (x : Entry T). x.position)) (find-append (λ x. is_eq (key_cmp (entry_key bytes x) (key_of t))) es (e ∷ []))
-      ∙ or_mapped (find (λ x. is_eq (key_cmp (entry_key bytes x) (key_of t))) es) (find (λ x. is_eq (key_cmp (entry_key bytes x) (key_of t))) (e ∷ []))
+      (ap (option_map (λ (x : Entry T). x.position)) (find-append (λ x. is_eq (key_cmp (entry_key bytes x) (sort_key t))) es (e ∷ []))
+      ∙ or_mapped (find (λ x. is_eq (key_cmp (entry_key bytes x) (sort_key t))) es) (find (λ x. is_eq (key_cmp (entry_key bytes x) (sort_key t))) (e ∷ []))
       ∙ ap (option_or (position_among bytes es t))
-      (one_alone (is_eq (key_cmp (entry_key bytes e) (key_of t))) (bytes_eq u t) e i (ap (λ n. is_eq (key_cmp n (key_of t))) k ∙ same_key u t) p)) d
+      (one_alone (is_eq (key_cmp (entry_key bytes e) (sort_key t))) (bytes_eq u t) e i (ap (λ n. is_eq (key_cmp n (sort_key t))) k ∙ same_key u t) p)) d
 
 -- ---- after a sort that keeps the order of those that tie
 
@@ -143,7 +143,7 @@ module _ {T : Type 0} (bytes : T → List ℕ) where
   sorted_positions old new stable =
       λ d text.
       ap (option_map (λ (e : Entry T). e.position))
-      (find_stable (λ e. is_eq (key_cmp (entry_key bytes e) (key_of text))) is_before old new (ties_at key_cmp_total (entry_key bytes) (key_of text)) stable) d
+      (find_stable (λ e. is_eq (key_cmp (entry_key bytes e) (sort_key text))) is_before old new (ties_at key_cmp_total (entry_key bytes) (sort_key text)) stable) d
 
 -- ---- behind a binary search
 
@@ -196,7 +196,7 @@ module _ {X : Type 0} (rank : X → Ordering) (xs : List X) (up : IsNonDecreasin
     pub past : length xs ≤ i → find (λ y. is_eq (rank y)) xs ≡ None
     past l = find_nowhere (λ y. is_eq (rank y)) xs (λ k d z n. front k d z (omega (arith, l, n)))
 
-module _ {T : Type 0} (bytes : T → List ℕ) (es : List (Entry T)) (text : List ℕ) (number : ℕ) (is : number ≡ number_of text) (sorted : AreSorted bytes es) where
+module _ {T : Type 0} (bytes : T → List ℕ) (es : List (Entry T)) (text : List ℕ) (number : ℕ) (is : number ≡ tail_number text) (sorted : AreSorted bytes es) where
   abbrev rank : Entry T → Ordering
   rank e = key_cmp (entry_key bytes e) (number, text)
 
@@ -222,7 +222,7 @@ module _ {T : Type 0} (bytes : T → List ℕ) (es : List (Entry T)) (text : Lis
 -- ---- the entries of a list, one after another
 
 pub entries_next : {T X : Type 0} (bytes : T → List ℕ) (g : X → List ℕ) (xs : List X) (i : ℕ) (d : X) (old new : List (Entry T)) (e : Entry T) → i < length xs →
-    position_among bytes old ≡ text_place (map g (take i xs)) → new ≡ old ++ e ∷ [] → entry_key bytes e ≡ key_of (g (get_or xs i d)) → e.position ≡ i →
+    position_among bytes old ≡ text_place (map g (take i xs)) → new ≡ old ++ e ∷ [] → entry_key bytes e ≡ sort_key (g (get_or xs i d)) → e.position ≡ i →
     position_among bytes new ≡ text_place (map g (take (i + 1) xs))
 entries_next bytes g xs i d old new e l h n k p =
     let u : List ℕ = g (get_or xs i d) in

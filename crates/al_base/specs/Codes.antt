@@ -50,8 +50,8 @@ abbrev pub call_kind : Caller → Text
 call_kind caller.Job = "workflow-call"
 call_kind caller.Step = "action"
 
-abbrev pub call : Caller → ℕ → Text → Text → Text → CodeRow
-call by number = row (2 * number + turn by) (call_kind by)
+abbrev pub row_of_call : Caller → ℕ → Text → Text → Text → CodeRow
+row_of_call by number = row (2 * number + turn by) (call_kind by)
 
 abbrev pub code_row : Code → CodeRow
 -- Y, reading a file as YAML
@@ -126,12 +126,12 @@ code_row (C.Expression NotText) = expression 18 "object or array in a text" "" "
 code_row (C.Expression Untrusted) = expression 19 "\"" "\" is untrusted, pass it by env" ""
 code_row (C.Expression UnclosedChunk) = expression 20 "braces of expression are not closed" "" ""
 -- C, calls
-code_row (C.Call NoWorkflow by) = call by 1 "workflow \"" "\" is not in the folder" ""
-code_row (C.Call UndefinedInput by) = call by 2 "input \"" "\" is not defined in \"" "\""
-code_row (C.Call MissingInput by) = call by 3 "required input \"" "\" of \"" "\" is missing"
-code_row (C.Call WrongInput by) = call by 4 "input \"" "\" must be " ""
-code_row (C.Call UndefinedSecret by) = call by 5 "secret \"" "\" is not defined in \"" "\""
-code_row (C.Call MissingSecret by) = call by 6 "required secret \"" "\" of \"" "\" is missing"
-code_row (C.Call WrongUses by) = call by 7 "\"" "\" is not a valid uses" ""
-code_row (C.Call NotCallable by) = call by 8 "\"" "\" cannot be called here" ""
-code_row (C.Call LeadsBack by) = call by 9 "call of \"" "\" leads back to this file" ""
+code_row (C.Call NoWorkflow by) = row_of_call by 1 "workflow \"" "\" is not in the folder" ""
+code_row (C.Call UndefinedInput by) = row_of_call by 2 "input \"" "\" is not defined in \"" "\""
+code_row (C.Call MissingInput by) = row_of_call by 3 "required input \"" "\" of \"" "\" is missing"
+code_row (C.Call WrongInput by) = row_of_call by 4 "input \"" "\" must be " ""
+code_row (C.Call UndefinedSecret by) = row_of_call by 5 "secret \"" "\" is not defined in \"" "\""
+code_row (C.Call MissingSecret by) = row_of_call by 6 "required secret \"" "\" of \"" "\" is missing"
+code_row (C.Call WrongUses by) = row_of_call by 7 "\"" "\" is not a valid uses" ""
+code_row (C.Call NotCallable by) = row_of_call by 8 "\"" "\" cannot be called here" ""
+code_row (C.Call LeadsBack by) = row_of_call by 9 "call of \"" "\" leads back to this file" ""

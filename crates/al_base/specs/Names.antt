@@ -1,7 +1,12 @@
--- Names and texts in which ASCII case does not count.
+-- Texts among others, and names and texts in which ASCII case does not count.
 use Rattle.std.specs.Prelude.{ℕ, List, Bool, map}
 use Rattle.std.specs.Char.{to_ascii_lowercase}
+use Rattle.std.specs.List.{list_any}
 use Rattle.std.specs.Str.{bytes_eq}
+
+-- whether a text is one of these
+abbrev pub among : List (List ℕ) → List ℕ → Bool
+among texts text = list_any (bytes_eq text) texts
 
 -- a text in lower case
 abbrev pub lower_case : List ℕ → List ℕ

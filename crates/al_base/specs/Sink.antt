@@ -4,5 +4,5 @@ use Rattle.al_base.specs.declared.codes.Code.{Code}
 use Rattle.al_base.specs.declared.faults.Fault.{Fault}
 use Rattle.al_base.specs.declared.faults.Span.{Span}
 
-abbrev pub fault_of : Span → Code → List (List ℕ) → Fault
-fault_of at code texts = record { span = at; code = code; args = texts }
+abbrev pub fault_from : Span → Code → List (List ℕ) → Fault
+fault_from at code texts = record { span = at; code = code; args = texts }

@@ -42,7 +42,7 @@ pub use faults::{Fault, Span};
 pub use lines::Lines;
 pub use lists::{fault_list, fault_lists};
 pub use name_positions::{NamePositions, TextPositions, in_lower_case};
-pub use names::is_same_name;
+pub use names::{is_among, is_same_name};
 pub use paths::{Path, PathFault, path_fault};
 pub use positions::{Location, is_char_start, location_of, position};
 pub use sink::FaultSink;

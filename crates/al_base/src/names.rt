@@ -1,6 +1,18 @@
-//! Names and texts in which ASCII case does not count.
-ghost use Rattle.std.specs.Prelude.{◌≡◌, IsTrue};
-ghost use Rattle.al_base.specs.Names.{same_name};
+//! Texts among others, and names and texts in which ASCII case does not count.
+ghost use Rattle.std.specs.Prelude.{◌≡◌, IsTrue, map};
+ghost use Rattle.al_base.specs.Names.{among, same_name};
+
+/// Whether a text is one of some others.
+pub fn is_among(text: &[u8], others: &[&str]) -> bool
+    ensures { result ≡ among (map (λ t. t.now) others.now) text.now }
+{
+    for other in others {
+        if text == other.as_bytes() {
+            return true;
+        }
+    }
+    false
+}
 
 /// Whether two names, or two texts, are the same, but for ASCII case.
 pub fn is_same_name(a: &[u8], b: &[u8]) -> bool

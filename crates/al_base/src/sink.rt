@@ -2,7 +2,7 @@
 
 ghost use Rattle.std.specs.Prelude.{◌≡◌, [], ◌∷◌, ◌++◌, if◌then◌else◌, is_ok, OnOk};
 ghost use Rattle.std.specs.Str.Lossy.{utf8_lossy};
-ghost use Rattle.al_base.specs.Sink.{fault_of};
+ghost use Rattle.al_base.specs.Sink.{fault_from};
 
 use crate::args::Args;
 use crate::codes::Code;
@@ -55,14 +55,14 @@ impl FaultSink {
 
     /// Adds a fault whose message names these texts.
     pub fn report(&mut self, span: Span, code: Code, args: Args) -> Result<(), AllocError>
-        ensures { OnOk result (self.new ≡ self.old ++ fault_of span code args ∷ []) }
+        ensures { OnOk result (self.new ≡ self.old ++ fault_from span code args ∷ []) }
     {
         self.push(Fault { span, code, args })
     }
 
     /// Adds a fault whose message names no text.
     pub fn report_plain(&mut self, span: Span, code: Code) -> Result<(), AllocError>
-        ensures { OnOk result (self.new ≡ self.old ++ fault_of span code [] ∷ []) }
+        ensures { OnOk result (self.new ≡ self.old ++ fault_from span code [] ∷ []) }
     {
         self.report(span, code, Args::none())
     }
@@ -70,7 +70,7 @@ impl FaultSink {
     /// Adds a fault whose message names one text. Bytes of it that aren't UTF-8 become U+FFFD.
     pub fn report_text(&mut self, span: Span, code: Code, text: &[u8]) -> Result<(), AllocError>
         ensures { OnOk result
-            (self.new ≡ self.old ++ fault_of span code (utf8_lossy text.now ∷ []) ∷ []) }
+            (self.new ≡ self.old ++ fault_from span code (utf8_lossy text.now ∷ []) ∷ []) }
     {
         let args = Args::one_lossy(self.alloc, text)?;
         self.report(span, code, args)
@@ -86,7 +86,7 @@ impl FaultSink {
     ) -> Result<(), AllocError>
         ensures { OnOk result
             (self.new
-            ≡ self.old ++ fault_of span code (utf8_lossy first.now ∷ utf8_lossy second.now ∷ [])
+            ≡ self.old ++ fault_from span code (utf8_lossy first.now ∷ utf8_lossy second.now ∷ [])
             ∷ []) }
     {
         let args = Args::two_lossy(self.alloc, first, second)?;

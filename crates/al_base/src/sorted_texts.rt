@@ -1,7 +1,7 @@
 //! Texts in order, each with where it stands in the list that it comes from.
 
 ghost use Rattle.std.specs.Prelude.{◌≡◌, IfOk};
-ghost use Rattle.al_base.specs.SortedTexts.{AreSorted, entry_key, key_cmp, key_of, number_of, position_among};
+ghost use Rattle.al_base.specs.SortedTexts.{AreSorted, entry_key, key_cmp, position_among, sort_key, tail_number};
 
 use std::alloc::AllocError;
 use std::cmp::Ordering;
@@ -9,7 +9,7 @@ use std::convert::AsSlice;
 
 /// The last eight bytes of a text as one number, which tells most texts apart at once.
 pub fn last_bytes(text: &[u8]) -> u64
-    ensures { result ≡ number_of text.now }
+    ensures { result ≡ tail_number text.now }
 {
     let mut number: u64 = 0;
     for byte in text {
@@ -29,7 +29,7 @@ pub(crate) struct Entry<T> {
 impl<T: AsSlice<u8> + Drop> Entry<T> {
     /// A text at a position.
     pub(crate) fn new(text: T, position: usize) -> Entry<T>
-        ensures key { entry_key T.items result ≡ key_of (T.items text) }
+        ensures key { entry_key T.items result ≡ sort_key (T.items text) }
         ensures position { result.position ≡ position }
     {
         let number = last_bytes(text.as_slice());

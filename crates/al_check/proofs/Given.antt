@@ -11,7 +11,7 @@ use Rattle.std.proofs.lemmas.Option.{slice_get-get_or, slice_get-map}
 use Rattle.al_base.proofs.Sets.{mapped_in}
 use Rattle.al_base.specs.declared.codes.CallCode.TheVariants.{LeadsBack}
 use Rattle.al_base.specs.declared.faults.Fault.{Fault}
-use Rattle.al_scalar.specs.Taken as yaml
+use Rattle.al_scalar.specs.declared.faults.FaultAt.{FaultAt}
 use Rattle.al_scalar.specs.declared.faults.YamlFault.{YamlFault}
 use Rattle.al_yaml_tree.specs.Document.{tree_of}
 use Rattle.al_yaml_tree.specs.Node.{Node}
@@ -23,9 +23,9 @@ use Rattle.al_check_interfaces.proofs.CallLists.{kept_faults, kept_targets}
 use Rattle.al_check_interfaces.specs.Interfaces.{interface_of}
 use Rattle.al_check_interfaces.specs.declared.interfaces.Interface.TheVariants.{Unreadable}
 use Rattle.al_check_interfaces.specs.Uses as uses
-use Rattle.al_check_interfaces.specs.Uses.{calls_in, loop_faults, sites_in, target_in, that_uses}
+use Rattle.al_check_interfaces.specs.Uses.{calls_in, cycle_faults, sites_in, target_in, that_uses}
 use Rattle.al_check_interfaces.specs.declared.calls.Call.{Call}
-use Rattle.al_check.specs.Calling.{file_interface, file_targets, shown_by, shown_read, targets_of, targets_read}
+use Rattle.al_check.specs.Calling.{call_targets, file_interface, file_targets, shown_by, shown_read, targets_read}
 use Rattle.al_check.specs.Reading.{CallsGiven, IsGiven, IsRead}
 use Rattle.al_check.specs.Sites.{file_sites}
 use Rattle.al_check.specs.Units.{HasCalls, IsUnit, calls_kept, interface_kept}
@@ -35,7 +35,7 @@ use Rattle.al_check.specs.declared.units.Unit.TheVariants as unit
 
 -- what the reading of some bytes gives, as definitions say it of the bytes
 module _ {A : Type 0} (f : FileKind → Node → A) (none : A) where
-  abbrev of_reading : FileKind → Result Node yaml.Fault → A
+  abbrev of_reading : FileKind → Result Node FaultAt → A
   of_reading kind read = option_map_or (f kind) (result_ok read) none
 
   of_tree : (kind : FileKind) (bytes : List ℕ) (t : Tree) → IsGiven kind bytes (Ok t) → f (kind_in t) (root_of t) ≡ of_reading kind (tree_of bytes)
@@ -48,7 +48,7 @@ abbrev targets_in_tree : FileKind → Node → List Target
 targets_in_tree kind root = uses.targets_of (calls_in kind root)
 
 abbrev sites_in_tree : FileKind → Node → List Fault
-sites_in_tree kind root = loop_faults (calls_in kind root)
+sites_in_tree kind root = cycle_faults (calls_in kind root)
 
 targets_are : (kind : FileKind) (bytes : List ℕ) (read : Result Tree YamlFault) → IsGiven kind bytes read → targets_read read ≡ file_targets kind bytes
 targets_are kind bytes (Ok t) is = of_tree targets_in_tree [] kind bytes t is
@@ -58,7 +58,7 @@ interface_is : (kind : FileKind) (bytes : List ℕ) (read : Result Tree YamlFaul
 interface_is kind bytes (Ok t) is = of_tree interface_of Unreadable kind bytes t is
 interface_is kind bytes (Err fault) is = of_fault interface_of Unreadable kind bytes fault is
 
-pub targets_called : (file : ReadFile) (kind : FileKind) (bytes : List ℕ) → IsRead file kind bytes → targets_of file ≡ file_targets kind bytes
+pub targets_called : (file : ReadFile) (kind : FileKind) (bytes : List ℕ) → IsRead file kind bytes → call_targets file ≡ file_targets kind bytes
 targets_called file kind bytes is = targets_are kind bytes file.tree is.given
 
 pub interface_shown : (file : ReadFile) (kind : FileKind) (bytes : List ℕ) → IsRead file kind bytes → shown_by file ≡ file_interface kind bytes
@@ -110,15 +110,15 @@ pub record IsNamed (fault : Fault) : Type 0 where
   pub text : List ℕ
   pub is : fault.args ≡ text ∷ []
 
-loops_named : (cs : List uses.Call) → AllByRecursion IsNamed (loop_faults cs)
+loops_named : (cs : List uses.Call) → AllByRecursion IsNamed (cycle_faults cs)
 loops_named [] = tt
 loops_named (c ∷ cs) = put (target_in c.form) (loops_named cs)
   where
-    put : (o : Option Target) → AllByRecursion IsNamed (loop_faults cs) → AllByRecursion IsNamed (cons_option (option_map (λ t. that_uses LeadsBack c) o) (loop_faults cs))
+    put : (o : Option Target) → AllByRecursion IsNamed (cycle_faults cs) → AllByRecursion IsNamed (cons_option (option_map (λ t. that_uses LeadsBack c) o) (cycle_faults cs))
     put None rest = rest
     put (Some t) rest = (record { text = utf8_lossy c.text; is = refl }, rest)
 
-sites_named : (kind : FileKind) (read : Result Node yaml.Fault) → AllByRecursion IsNamed (of_reading sites_in_tree [] kind read)
+sites_named : (kind : FileKind) (read : Result Node FaultAt) → AllByRecursion IsNamed (of_reading sites_in_tree [] kind read)
 sites_named kind (Ok root) = loops_named (calls_in kind root)
 sites_named kind (Err fault) = tt
 

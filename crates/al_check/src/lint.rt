@@ -5,7 +5,7 @@ ghost use Rattle.al_check.specs.Linting.{linting};
 ghost use Rattle.al_check.specs.Units.{IsUnit};
 ghost use Rattle.al_check_interfaces.proofs.Exact.{exact};
 ghost use Rattle.al_check.specs.Proofs.Laws.{each_sited, faults_inside, faults_ordered, sites_inside};
-ghost use Rattle.al_session_folder.specs.Sites.{fault_of};
+ghost use Rattle.al_session_folder.specs.Sites.{site_fault};
 
 use crate::files::{Source, read_file};
 use crate::units::{Unit, brief_of, call_at, unit_faults, unit_interface, unit_targets};
@@ -27,7 +27,7 @@ fn first_text(args: &Args) -> &str
 
 /// What is said of a call on a call cycle.
 fn site_of(call: &Call) -> Site<'_>
-    ensures { (text : List ℕ) → call.now.fault.args ≡ text ∷ [] → fault_of result ≡ call.now.fault }
+    ensures { (text : List ℕ) → call.now.fault.args ≡ text ∷ [] → site_fault result ≡ call.now.fault }
 {
     Site {
         code: call.fault.code,

@@ -9,7 +9,7 @@ use Rattle.al_base.specs.declared.faults.Span.{Span}
 use Rattle.al_session_folder.specs.declared.lint.Target.{Target}
 use Rattle.al_scalar.specs.Scalar.{Scalar}
 use Rattle.al_yaml_tree.specs.Node.{Node}
-use Rattle.al_tree.specs.Values.{text_at}
+use Rattle.al_tree.specs.Values.{text_at_key}
 use Rattle.al_tree.specs.declared.files.FileKind.{FileKind}
 use Rattle.al_check_interfaces.specs.declared.interfaces.Interface.{Interface}
 use Rattle.al_check_interfaces.specs.FolderCalls.{AreCallsOf, FolderCall, as_folder_call, folder_call}
@@ -24,7 +24,7 @@ use Rattle.al_check_interfaces.specs.CallViews.{call_by}
 abbrev IsAtSite : Call → Type 0
 IsAtSite c = call_at c.site ≡ Some c
 
-at_site : (s : Site) (o : Option (Scalar × Span)) → text_at (codes "uses") s.node ≡ o → IfSome (option_map (call_by s) o) IsAtSite
+at_site : (s : Site) (o : Option (Scalar × Span)) → text_at_key (codes "uses") s.node ≡ o → IfSome (option_map (call_by s) o) IsAtSite
 at_site s None is = tt
 at_site s (Some t) is = ap (option_map (call_by s)) is
 
@@ -34,7 +34,7 @@ put P (Some x) xs p ps = (p, ps)
 
 all_at_sites : (sites : List Site) → AllByRecursion IsAtSite (filter_map call_at sites)
 all_at_sites [] = tt
-all_at_sites (s ∷ sites) = put IsAtSite (call_at s) (filter_map call_at sites) (at_site s (text_at (codes "uses") s.node) refl) (all_at_sites sites)
+all_at_sites (s ∷ sites) = put IsAtSite (call_at s) (filter_map call_at sites) (at_site s (text_at_key (codes "uses") s.node) refl) (all_at_sites sites)
 
 -- ---- those that are kept
 

@@ -32,7 +32,7 @@ use Rattle.al_check_interfaces.proofs.Inside.{AtLies, calls_lie, inside_kept}
 use Rattle.al_base.proofs.Elements.{each_both, each_either, each_of}
 use Rattle.al_check_interfaces.proofs.Parts.{entries_kept}
 use Rattle.al_check_calls.specs.Answers.{Answered, Typing, calls_with_answers, answered_faults, first_answer, values_in}
-use Rattle.al_check_calls.specs.CallFaults.{Given, absent_faults, call_faults, callable_signature, called_name, caller_of, fault}
+use Rattle.al_check_calls.specs.CallFaults.{Given, absent_faults, call_fault, call_faults, callable_signature, called_name, caller_of}
 use Rattle.al_check_calls.specs.CallFaults.{given_by, is_callable, is_taken, missing_code, missing_name}
 use Rattle.al_check_calls.specs.CallFaults.{name_faults, names_against, names_of_kind, signature_for, type_faults, undefined_code}
 use Rattle.al_check_calls.specs.CallFaults.{undefined_name, uses_faults, value_faults, values_against, values_of, wrong_input}
@@ -63,7 +63,7 @@ module _ (size : ℕ) where
   unless : (b : Bool) (fs : List Fault) → AllLie fs → AllLie (cond b [] fs)
   unless b fs p = each_either Lies b [] fs tt p
 
-  one_lies : (f : CallCode) (c : Call) (at : Span) (texts : List (List ℕ)) → LiesIn size at → AllLie (fault f c at texts ∷ [])
+  one_lies : (f : CallCode) (c : Call) (at : Span) (texts : List (List ℕ)) → LiesIn size at → AllLie (call_fault f c at texts ∷ [])
   one_lies f c at texts i = (i, tt)
 
   same_for_all : {X : Type 0} (f : X → List Fault) → ((x : X) → AllLie (f x)) → (xs : List X) → AllLie (flat_map f xs)
@@ -72,12 +72,12 @@ module _ (size : ℕ) where
 
   undefined_lies : (k : ParameterKind) (c : Call) (s : Signature) (e : Node × Node) → Pair e → AllLie (undefined_name k c s e)
   undefined_lies k c s e p =
-      unless (is_taken k c s (key_of e)) (fault (undefined_code k) c (span_of e.0) (key_of e ∷ called_name c s ∷ []) ∷ [])
+      unless (is_taken k c s (key_of e)) (call_fault (undefined_code k) c (span_of e.0) (key_of e ∷ called_name c s ∷ []) ∷ [])
       (one_lies (undefined_code k) c (span_of e.0) (key_of e ∷ called_name c s ∷ []) (node_lies e.0 p.0))
 
   missing_lies : (k : ParameterKind) (c : Call) (s : Signature) → LiesIn size c.at → (i : Parameter) → AllLie (missing_name k c s i)
   missing_lies k c s at i =
-      unless (named_among (names_of (given_by k c.site.node)) i.name) (fault (missing_code k) c c.at (i.name ∷ called_name c s ∷ []) ∷ [])
+      unless (named_among (names_of (given_by k c.site.node)) i.name) (call_fault (missing_code k) c c.at (i.name ∷ called_name c s ∷ []) ∷ [])
       (one_lies (missing_code k) c c.at (i.name ∷ called_name c s ∷ []) at)
 
   entries_lie : (k : List ℕ) (n : Node) → IsInside size n → AllByRecursion Pair (entries_at k n)

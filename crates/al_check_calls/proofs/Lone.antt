@@ -9,7 +9,7 @@ use Rattle.al_expr_grammar.specs.declared.chunk.Chunk.{Chunk}
 use Rattle.al_types.specs.Scopes.{Scope}
 use Rattle.al_check_expressions.specs.Contents.{is_one_chunk, is_whole_span}
 use Rattle.al_check_calls.specs.Private.Contents.{content_where_one, lone_content}
-use Rattle.al_check_calls.specs.Types.{content_type, scalar_type, text_type}
+use Rattle.al_check_calls.specs.Types.{content_type, text_type, type_of_given}
 
 not_whole : (len : ℕ) (spans : List Span) → length spans ≢ 1 → is_whole_span len spans ≡ false
 not_whole len [] h = refl
@@ -26,7 +26,7 @@ either f y true x = refl
 either f y false x = refl
 
 pub typed : (sc : Scope) (s : Scalar) (o : Option (List ℕ)) → o ≡ content_where_one (text_of s) →
-    option_map_or (content_type sc) o (text_type s) ≡ scalar_type sc s
+    option_map_or (content_type sc) o (text_type s) ≡ type_of_given sc s
 typed sc s o e =
     ap (λ p. option_map_or (content_type sc) p (text_type s)) e
     ∙ either (content_type sc) (text_type s) (is_one_chunk (text_of s)) (lone_content (text_of s))

@@ -9,7 +9,7 @@ use Rattle.al_session_folder.specs.Meaning.{AreAnswers}
 use Rattle.al_session_folder.specs.declared.lint.Target.{Target}
 use Rattle.al_scalar.specs.Scalar.{Scalar}
 use Rattle.al_yaml_tree.specs.Node.{Node}
-use Rattle.al_tree.specs.Values.{text_at}
+use Rattle.al_tree.specs.Values.{text_at_key}
 use Rattle.al_tree.specs.declared.files.FileKind.{FileKind}
 use Rattle.al_check_interfaces.specs.declared.interfaces.Interface.{Interface}
 use Rattle.al_check_interfaces.specs.Forms.{form_by}
@@ -32,7 +32,7 @@ put_formed s (Some t) cs h = (refl, h)
 
 sites_formed : (sites : List Site) → AllByRecursion IsFormed (filter_map call_at sites)
 sites_formed [] = tt
-sites_formed (s ∷ sites) = put_formed s (text_at (codes "uses") s.node) (filter_map call_at sites) (sites_formed sites)
+sites_formed (s ∷ sites) = put_formed s (text_at_key (codes "uses") s.node) (filter_map call_at sites) (sites_formed sites)
 
 -- ---- what answers
 

@@ -13,7 +13,7 @@ use Rattle.al_expr_types.specs.Tables.{is_known, objects_of, type_at}
 use Rattle.al_expr_types.specs.declared.ty.Ty.{Ty}
 use Rattle.al_expr_types.specs.declared.types.Types.{Types}
 use Rattle.al_expr_types.proofs.Below.{all_more, all_weaker, same_mapped}
-use Rattle.al_expr_typing.proofs.Shown.{known_stays, type_stays}
+use Rattle.al_expr_types.proofs.Stays.{known_stays, type_stays}
 use Rattle.al_check_interfaces.specs.Uses.{Call}
 use Rattle.al_check_interfaces.specs.declared.interfaces.Signature.{Signature}
 use Rattle.al_check_calls.specs.CallFaults.{Given, values_against, values_of}

@@ -39,6 +39,6 @@ abbrev pub answered_faults : Typing → Answered → List Fault
 answered_faults typing a = call_faults a.call (values_in typing a.call) a.answer
 
 -- The faults of all calls of files of the folder that a file has, given their answers in order.
-abbrev pub faults_in : FileKind → Typing → Node → List (Option Interface) → List Fault
-faults_in kind typing root answers =
+abbrev pub call_faults_in : FileKind → Typing → Node → List (Option Interface) → List Fault
+call_faults_in kind typing root answers =
     flat_map (answered_faults typing) (calls_with_answers (calls_in kind root) answers)

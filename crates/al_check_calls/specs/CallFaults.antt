@@ -17,7 +17,7 @@ use Rattle.al_types.specs.Types.{Type', Any, assignable_type}
 use Rattle.al_yaml_tree.specs.Access.{scalar_in}
 use Rattle.al_yaml_tree.specs.Node.{Node, span_of}
 use Rattle.al_tree.specs.Keys.{key_of}
-use Rattle.al_tree.specs.Values.{entries_at, text_at}
+use Rattle.al_tree.specs.Values.{entries_at, text_at_key}
 use Rattle.al_tree_declarations.specs.Declarations.{named_among, names_of}
 use Rattle.al_check_objects.specs.Inputs.{input_type}
 use Rattle.al_tree_declarations.specs.declared.inputs.InputType.{InputType}
@@ -36,10 +36,10 @@ use Rattle.al_check_interfaces.specs.Uses as uses
 use Rattle.al_check_interfaces.specs.Uses.{Call, that_uses}
 
 abbrev pub caller_of : Call → Caller
-caller_of c = uses.caller_of c.site
+caller_of c = uses.site_caller c.site
 
-abbrev pub fault : CallCode → Call → Span → List (List ℕ) → Fault
-fault f c at texts = record { span = at; code = kind_of_code.Call f (caller_of c); args = map utf8_lossy texts }
+abbrev pub call_fault : CallCode → Call → Span → List (List ℕ) → Fault
+call_fault f c at texts = record { span = at; code = kind_of_code.Call f (caller_of c); args = map utf8_lossy texts }
 
 -- which files a step may call, and which a job
 abbrev pub is_callable : Caller → Role → Bool
@@ -92,19 +92,19 @@ is_taken k c s name = has_parameter (parameters_of k s) name || is_free_for k (c
 
 abbrev pub undefined_name : ParameterKind → Call → Signature → Node × Node → List Fault
 undefined_name k c s e =
-    if is_taken k c s (key_of e) then [] else fault (undefined_code k) c (span_of e.0) (key_of e ∷ called_name c s ∷ []) ∷ []
+    if is_taken k c s (key_of e) then [] else call_fault (undefined_code k) c (span_of e.0) (key_of e ∷ called_name c s ∷ []) ∷ []
 
 abbrev pub missing_name : ParameterKind → Call → Signature → Parameter → List Fault
 missing_name k c s p =
     if named_among (names_of (given_by k c.site.node)) p.name then []
-    else fault (missing_code k) c c.at (p.name ∷ called_name c s ∷ []) ∷ []
+    else call_fault (missing_code k) c c.at (p.name ∷ called_name c s ∷ []) ∷ []
 
 abbrev pub names_against : ParameterKind → Call → Signature → List Fault
 names_against k c s =
     flat_map (undefined_name k c s) (given_by k c.site.node) ++ flat_map (missing_name k c s) (mandatory_of (parameters_of k s))
 
 abbrev pub is_inherit : Node → Bool
-is_inherit job = option_map_or (λ t. bytes_eq (text_of t.0) (codes "inherit")) (text_at (codes "secrets") job) false
+is_inherit job = option_map_or (λ t. bytes_eq (text_of t.0) (codes "inherit")) (text_at_key (codes "secrets") job) false
 
 -- what is compared by name: of a step no secrets, and of a job none that it inherits
 abbrev pub is_compared : ParameterKind → Caller → Node → Bool
@@ -131,7 +131,7 @@ type_name input.String = codes "string"
 abbrev pub type_faults : Call → Node × Node → Type' → Parameter → List Fault
 type_faults c e t i =
     if assignable_type t (input_type i.takes) then []
-    else fault code.WrongInput c (span_of e.1) (i.name ∷ type_name i.takes ∷ []) ∷ []
+    else call_fault code.WrongInput c (span_of e.1) (i.name ∷ type_name i.takes ∷ []) ∷ []
 
 -- a value that is given, with its type; what is no scalar is any
 abbrev pub Given : Type 0

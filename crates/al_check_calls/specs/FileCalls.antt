@@ -12,18 +12,18 @@ use Rattle.al_tree.specs.declared.files.FileKind.TheVariants as kind
 use Rattle.al_check_places.specs.Places.{Place, place_at}
 use Rattle.al_check_places.specs.Ways.{under}
 use Rattle.al_check_contexts.specs.Answered.{known_in}
-use Rattle.al_check_contexts.specs.Contexts.{Known}
+use Rattle.al_check_contexts.specs.Contexts.{OutputNames}
 use Rattle.al_check_contexts.specs.Scopes.{scope_at}
 use Rattle.al_check_expressions.specs.FileExpressions.{expression_faults}
 use Rattle.al_check_interfaces.specs.declared.interfaces.Interface.{Interface}
 use Rattle.al_check_interfaces.specs.Uses.{calls_in}
 use Rattle.al_check_calls.specs.Answers.{Answered, Typing, calls_with_answers, answered_faults}
 use Rattle.al_check_calls.specs.Outputs.{outputs_behind}
-use Rattle.al_check_calls.specs.Types.{scalar_type}
+use Rattle.al_check_calls.specs.Types.{type_of_given}
 
 -- what is known of the outputs behind calls
-abbrev pub known_by : List Answered → Known
-known_by found = known_in (map (λ a. record { job = a.call.site.job; step = a.call.site.step; names = outputs_behind a }) found)
+abbrev pub known_from_calls : List Answered → OutputNames
+known_from_calls found = known_in (map (λ a. record { job = a.call.site.job; step = a.call.site.step; names = outputs_behind a }) found)
 
 -- the place of what a job gives under a key of `with`
 abbrev pub place_of_value : List ℕ → Node → Scalar → Place
@@ -32,19 +32,19 @@ place_of_value job key s =
     place_at kind.Workflow way true s (span_of key)
 
 -- its type, under what can be referred to there
-abbrev pub type_in_job : FileKind → Known → Node → List ℕ → Node → Scalar → Type'
-type_in_job kind known root job key s = scalar_type (scope_at kind known root (place_of_value job key s)) s
+abbrev pub value_type_in_job : FileKind → OutputNames → Node → List ℕ → Node → Scalar → Type'
+value_type_in_job kind known root job key s = type_of_given (scope_at kind known root (place_of_value job key s)) s
 
 -- the types of what calls give; those of steps' calls aren't looked at
-abbrev pub typing : FileKind → Known → Node → Typing
-typing kind known root site = type_in_job kind known root (unwrap_or site.job [])
+abbrev pub typing : FileKind → OutputNames → Node → Typing
+typing kind known root site = value_type_in_job kind known root (unwrap_or site.job [])
 
 -- The faults that depend on what answers a file's calls: those of its expressions, which see the outputs that answers make known, and
 -- those of its calls.
 abbrev pub faults_by : FileKind → Node → List Answered → List Fault
 faults_by kind root found =
-    expression_faults kind (known_by found) root
-    ++ flat_map (answered_faults (typing kind (known_by found) root)) found
+    expression_faults kind (known_from_calls found) root
+    ++ flat_map (answered_faults (typing kind (known_from_calls found) root)) found
 
 abbrev pub behind_faults : FileKind → Node → List (Option Interface) → List Fault
 behind_faults kind root answers =

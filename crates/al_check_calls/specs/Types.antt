@@ -5,7 +5,7 @@ use Rattle.al_scalar.specs.Scalar.{Scalar, text_of}
 use Rattle.al_expr_grammar.specs.Refusal.{fault_of_content}
 use Rattle.al_types.specs.Scopes.{Scope}
 use Rattle.al_types.specs.Types.{Type', Any, String}
-use Rattle.al_expr_typing.specs.Meaning.{meaning_of, type_in}
+use Rattle.al_expr_typing.specs.Meaning.{meaning_of, type_found}
 use Rattle.al_tree.specs.Faults.{has_chunk}
 use Rattle.al_check_objects.specs.Matrix.{class_type}
 use Rattle.al_check_expressions.specs.Contents.{is_one_chunk}
@@ -14,12 +14,12 @@ use Rattle.al_check_expressions.specs.Spelled.{tree_of_content}
 -- of the content of an expression: any where it has a fault of its own
 abbrev pub content_type : Scope → List ℕ → Type'
 content_type sc content =
-    option_map_or (λ f. Any) (fault_of_content content) (option_map_or (λ t. type_in (meaning_of sc t)) (tree_of_content content) Any)
+    option_map_or (λ f. Any) (fault_of_content content) (option_map_or (λ t. type_found (meaning_of sc t)) (tree_of_content content) Any)
 
 -- of any other text: with expressions in it a string, else by its class
 abbrev pub text_type : Scalar → Type'
 text_type s = if has_chunk (text_of s) then String else class_type s.class
 
-abbrev pub scalar_type : Scope → Scalar → Type'
-scalar_type sc s =
+abbrev pub type_of_given : Scope → Scalar → Type'
+type_of_given sc s =
     if is_one_chunk (text_of s) then content_type sc (slice_range (text_of s) 3 (length (text_of s) - 2)) else text_type s

@@ -8,7 +8,7 @@ ghost use Rattle.al_check_calls.specs.Private.Contents.{content_where_one};
 ghost use Rattle.al_expr_grammar.specs.Chunks.{IsCutFrom, chunks_of, span_of_chunk};
 ghost use Rattle.al_expr_types.specs.Tables.{is_known, objects_of, type_at};
 ghost use Rattle.al_expr_types.specs.Types.{is_below, type_in};
-ghost use Rattle.al_expr_typing.specs.Scopes.{IsShown, scope_at};
+ghost use Rattle.al_expr_typing.specs.Scopes.{IsShown, scope_view};
 ghost use Rattle.al_scalar.specs.Scalar.{text_of};
 ghost use Rattle.al_types.specs.Types.{Parts};
 
@@ -31,7 +31,7 @@ fn content_type(
 ) -> Result<Ty, AllocError>
     requires { IsShown types.old scope.now }
     ensures ty { IfOk result (λ t. type_at types.new t
-        ≡ meant.content_type (scope_at types.old scope.now) content.now) }
+        ≡ meant.content_type (scope_view types.old scope.now) content.now) }
     ensures known { IfOk result (λ t. is_known types.new t ≡ true) }
     ensures kept { BeginsWith (objects_of types.new) (objects_of types.old) }
 {
@@ -97,7 +97,7 @@ pub(crate) fn scalar_type(
     requires utf8 { IsUtf8 (text_of scalar.now) }
     requires small { length (text_of scalar.now) ≤ longest_text }
     ensures ty { IfOk result (λ t. type_at types.new t
-        ≡ meant.scalar_type (scope_at types.old scope.now) scalar.now) }
+        ≡ meant.type_of_given (scope_view types.old scope.now) scalar.now) }
     ensures known { IfOk result (λ t. is_known types.new t ≡ true) }
     ensures kept { BeginsWith (objects_of types.new) (objects_of types.old) }
 {

@@ -6,7 +6,7 @@ ghost use Rattle.al_check_calls.specs.Private.AnswerViews.{call_of, given_at, ty
 ghost use Rattle.al_check_contexts.specs.Answered.{known_of};
 ghost use Rattle.al_check_contexts.specs.Standing.{Stands};
 ghost use Rattle.al_check_calls.specs.FileCalls as file_calls;
-ghost use Rattle.al_check_calls.specs.FileCalls.{AreShort, type_in_job};
+ghost use Rattle.al_check_calls.specs.FileCalls.{AreShort, value_type_in_job};
 ghost use Rattle.al_check_calls.specs.Answers.{values_in};
 ghost use Rattle.al_check_places.specs.Places.{place_of};
 ghost use Rattle.al_expr_types.specs.Tables.{is_known, objects_of, type_at};
@@ -63,7 +63,7 @@ fn value_type<'a>(
     ensures stands { OnOk result (Stands file.entry env.new) }
     ensures ty { let f = file.entry in let g = given.entry in IfOk result
         (λ t. type_at (env.new).types t
-        ≡ given_type (type_in_job f.kind (known_of f.known) (view f.root.now) g.job.now)
+        ≡ given_type (value_type_in_job f.kind (known_of f.known) (view f.root.now) g.job.now)
         (member_of g.member)) }
     ensures known { IfOk result (λ t. is_known (env.new).types t ≡ true) }
     ensures kept { OnOk result

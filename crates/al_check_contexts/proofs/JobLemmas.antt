@@ -15,7 +15,7 @@ use Rattle.al_tree.specs.Keys.{key_of}
 use Rattle.al_tree.specs.Values.{entries_at}
 use Rattle.al_tree_declarations.specs.Declarations.{has_value, names_of}
 use Rattle.al_check_objects.specs.Objects.{loose_any}
-use Rattle.al_check_contexts.specs.Contexts.{Known, outputs_type, dependency, job_field}
+use Rattle.al_check_contexts.specs.Contexts.{OutputNames, outputs_type, dependency, job_field}
 use Rattle.al_base.specs.Growth.{BeginsWith}
 use Rattle.al_expr_types.specs.Tables.{objects_of}
 use Rattle.al_expr_types.specs.declared.ty.Ty.{Ty}
@@ -42,23 +42,23 @@ same_there g xs ys i x e lt is =
 pub shown_there : (known : Outputs) (js : List (Node × Node)) (i : ℕ) (j : Node × Node) → slice_get js i ≡ Some j → (job_field (known_by known) j).1 ≡ shown_at known js i
 shown_there known js i j e = sym (ap (λ o. option_map_or (λ j. (job_field (known_by known) j).1) o Any) e)
 
-pub dependency_at : (k : Known) (js : List (Node × Node)) (n : List ℕ) (i : ℕ) (j : Node × Node) → first_at (λ j. same_name (key_of j) n) js ≡ Some i →
+pub dependency_at : (k : OutputNames) (js : List (Node × Node)) (n : List ℕ) (i : ℕ) (j : Node × Node) → first_at (λ j. same_name (key_of j) n) js ≡ Some i →
     slice_get js i ≡ Some j → dependency k js n ≡ Some (job_field k j)
 dependency_at k js n i j e h =
     ap (option_map (job_field k))
     (find_first (λ j. same_name (key_of j) n) js j ∙ ap (option_map (λ m. get_or js m j)) e ∙ ap Some (get_or_from_slice_get js i j j h))
 
-pub no_dependency : (k : Known) (js : List (Node × Node)) (n : List ℕ) → first_at (λ j. same_name (key_of j) n) js ≡ None → dependency k js n ≡ None
+pub no_dependency : (k : OutputNames) (js : List (Node × Node)) (n : List ℕ) → first_at (λ j. same_name (key_of j) n) js ≡ None → dependency k js n ≡ None
 no_dependency k [] n e = refl
 no_dependency k (x ∷ js) n e =
     ap (option_map (job_field k)) (find_first (λ j. same_name (key_of j) n) (x ∷ js) x ∙ ap (option_map (λ m. get_or (x ∷ js) m x)) e)
 
 -- what a job shows that calls a workflow, and one that doesn't
-pub shown_called : (k : Known) (j : Node × Node) → has_value (codes "uses") j.1 ≡ true → shown_with (outputs_type loose_any (k (Some (key_of j)) None)) ≡ (job_field k j).1
+pub shown_called : (k : OutputNames) (j : Node × Node) → has_value (codes "uses") j.1 ≡ true → shown_with (outputs_type loose_any (k (Some (key_of j)) None)) ≡ (job_field k j).1
 shown_called k j e =
     sym (ap (λ b. shown_with (if b then outputs_type loose_any (k (Some (key_of j)) None) else named_strings (names_of (entries_at (codes "outputs") j.1)))) e)
 
-pub shown_own : (k : Known) (j : Node × Node) → has_value (codes "uses") j.1 ≡ false →
+pub shown_own : (k : OutputNames) (j : Node × Node) → has_value (codes "uses") j.1 ≡ false →
     shown_with (named_strings (names_of (entries_at (codes "outputs") j.1))) ≡ (job_field k j).1
 shown_own k j e =
     sym (ap (λ b. shown_with (if b then outputs_type loose_any (k (Some (key_of j)) None) else named_strings (names_of (entries_at (codes "outputs") j.1)))) e)

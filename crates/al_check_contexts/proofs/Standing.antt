@@ -6,7 +6,7 @@ use Rattle.al_tree.specs.Values.{member_of}
 use Rattle.al_check_places.specs.Positions.{section_view}
 use Rattle.al_check_places.specs.declared.positions.Seen.TheVariants.{Before as before}
 use Rattle.al_check_objects.specs.Fixed.{strategy_type}
-use Rattle.al_check_contexts.specs.Contexts.{job_in, owner_of, type_at}
+use Rattle.al_check_contexts.specs.Contexts.{context_type_at, job_in, owner_of}
 use Rattle.al_tree.specs.Files.{jobs_of}
 use Rattle.al_check_contexts.specs.Lookups.{known_by, step_at}
 use Rattle.al_check_contexts.specs.Standing.{Stands}
@@ -30,7 +30,7 @@ stands_stays f old types h b =
     record {
       members = h.members;
       known = h.known;
-      shows = shows_stays types old.types old.scope.types (type_at f.kind known root (position section (before old.seen))) b h.shows;
+      shows = shows_stays types old.types old.scope.types (context_type_at f.kind known root (position section (before old.seen))) b h.shows;
       steps = steps_stay types old.types known (owner_of f.kind root (job_in (jobs_of root) section)) old.steps b h.prefixes h.steps;
       prefixes = prefixes_stay types old.types old.steps b h.prefixes;
       strategy = means_stays types old.types old.strategy strategy_type b h.strategy;

@@ -10,10 +10,10 @@ use Rattle.std.specs.Option.{option_to_list}
 use Rattle.std.specs.Prelude.{if◌then◌else◌, zip}
 use Rattle.al_base.specs.Growth.{BeginsWith}
 use Rattle.al_base.specs.Names.{same_name}
-use Rattle.al_types.specs.Puts.{Typed, firsts, put_all, put_new}
+use Rattle.al_types.specs.Puts.{TypedName, firsts, put_all, put_new}
 use Rattle.al_yaml_tree.specs.Node.{Node}
 use Rattle.al_check_places.specs.declared.positions.Seen.TheVariants.{Before as before}
-use Rattle.al_check_contexts.specs.Contexts.{Known, Owner, step_field, steps_type}
+use Rattle.al_check_contexts.specs.Contexts.{OutputNames, Owner, step_field, steps_type}
 use Rattle.al_check_objects.specs.Objects.{strictly}
 use Rattle.al_types.specs.Types.{object_type}
 use Rattle.al_expr_types.specs.Names.{names_in}
@@ -32,25 +32,25 @@ use Rattle.al_check_objects.proofs.Numbers.{fields_stay}
 
 -- ---- the first of fields, where more are put behind them
 
-kept_step : (b : Bool) (n : ℕ) (q : Typed) (qs more : List Typed) → take n more ≡ take n qs → take (suc n) (if b then q ∷ qs else q ∷ more) ≡ take (suc n) (q ∷ qs)
+kept_step : (b : Bool) (n : ℕ) (q : TypedName) (qs more : List TypedName) → take n more ≡ take n qs → take (suc n) (if b then q ∷ qs else q ∷ more) ≡ take (suc n) (q ∷ qs)
 kept_step true n q qs more e = refl
 kept_step false n q qs more e = ap (λ us. q ∷ us) e
 
-first_kept : (ts : List Typed) (p : Typed) (n : ℕ) → n ≤ length ts → take n (put_new ts p) ≡ take n ts
+first_kept : (ts : List TypedName) (p : TypedName) (n : ℕ) → n ≤ length ts → take n (put_new ts p) ≡ take n ts
 first_kept ts p zero h = refl
 first_kept [] p (suc n) h = absurd (omega (arith, h))
 first_kept (q ∷ qs) p (suc n) h = kept_step (same_name q.0 p.0) n q qs (put_new qs p) (first_kept qs p n (omega (arith, h)))
 
-long_step : (b : Bool) (q : Typed) (qs more : List Typed) → length qs ≤ length more → length (q ∷ qs) ≤ length (if b then q ∷ qs else q ∷ more)
+long_step : (b : Bool) (q : TypedName) (qs more : List TypedName) → length qs ≤ length more → length (q ∷ qs) ≤ length (if b then q ∷ qs else q ∷ more)
 long_step true q qs more h = omega arith
 long_step false q qs more h = omega (arith, h)
 
-no_shorter : (ts : List Typed) (p : Typed) → length ts ≤ length (put_new ts p)
+no_shorter : (ts : List TypedName) (p : TypedName) → length ts ≤ length (put_new ts p)
 no_shorter [] p = omega arith
 no_shorter (q ∷ qs) p = long_step (same_name q.0 p.0) q qs (put_new qs p) (no_shorter qs p)
 
 -- stay
-firsts_kept : (ts ps : List Typed) (n : ℕ) → n ≤ length ts → (n ≤ length (put_all put_new ts ps)) × (take n (put_all put_new ts ps) ≡ take n ts)
+firsts_kept : (ts ps : List TypedName) (n : ℕ) → n ≤ length ts → (n ≤ length (put_all put_new ts ps)) × (take n (put_all put_new ts ps) ≡ take n ts)
 firsts_kept ts [] n h = (h, refl)
 firsts_kept ts (p ∷ ps) n h =
     let longer = no_shorter ts p in
@@ -66,7 +66,7 @@ prefixes_stay new old s b h = record {
   inside = h.inside;
 }
 
-pub owned_steps_stay : (new old : Types) (known : Known) (o : Owner) (s : StepFields) → BeginsWith (objects_of new) (objects_of old) → ArePrefixes old s →
+pub owned_steps_stay : (new old : Types) (known : OutputNames) (o : Owner) (s : StepFields) → BeginsWith (objects_of new) (objects_of old) → ArePrefixes old s →
     AreSteps old known o s → AreSteps new known o s
 owned_steps_stay new old known o s b p h = record {
   all = h.all;
@@ -74,7 +74,7 @@ owned_steps_stay new old known o s b p h = record {
       (h.counts k lt);
 }
 
-pub steps_stay : (new old : Types) (known : Known) (o : Option Owner) (s : StepFields) → BeginsWith (objects_of new) (objects_of old) → ArePrefixes old s →
+pub steps_stay : (new old : Types) (known : OutputNames) (o : Option Owner) (s : StepFields) → BeginsWith (objects_of new) (objects_of old) → ArePrefixes old s →
     AreStepsOf old known o s → AreStepsOf new known o s
 steps_stay new old known None s b p h = h
 steps_stay new old known (Some o) s b p h = owned_steps_stay new old known o s b p h
@@ -87,12 +87,12 @@ numbered_more n (t ∷ ss) s =
     let e : (n + 1) + length ss ≡ n + length (t ∷ ss) = omega arith in
     ap (λ us. (n, t) ∷ us) (numbered_more (n + 1) ss s ∙ ap (λ m. enumerate_from (n + 1) ss ++ (m, s) ∷ []) e)
 
-alone : (o : Option Typed) → cons_option o [] ≡ option_to_list o
+alone : (o : Option TypedName) → cons_option o [] ≡ option_to_list o
 alone None = refl
 alone (Some p) = refl
 
-module _ {X : Type 0} (g : X → Node) (known : Known) (job : Option (List ℕ)) where
-  abbrev fields_of_first : List X → ℕ → List Typed
+module _ {X : Type 0} (g : X → Node) (known : OutputNames) (job : Option (List ℕ)) where
+  abbrev fields_of_first : List X → ℕ → List TypedName
   fields_of_first xs k = firsts (filter_map (step_field known job) (enumerate_from 0 (take k (map g xs))))
 
   pub fields_next : (xs : List X) (i : ℕ) (x : X) → i < length xs → x ≡ get_or xs i x →
@@ -100,7 +100,7 @@ module _ {X : Type 0} (g : X → Node) (known : Known) (job : Option (List ℕ))
   fields_next xs i x lt e =
       let ss = take i (map g xs) in
       let field = step_field known job in
-      let before : List Typed = filter_map field (enumerate_from 0 ss) in
+      let before : List TypedName = filter_map field (enumerate_from 0 ss) in
       let within : i < length (map g xs) = omega (arith, lt, length-map xs g) in
       let len : 0 + length ss ≡ i = omega (arith, length-take i (map g xs), within) in
       ap (λ us. firsts (filter_map field (enumerate_from 0 us)))
@@ -114,7 +114,7 @@ module _ {X : Type 0} (g : X → Node) (known : Known) (job : Option (List ℕ))
 -- ---- counts
 
 -- a count so far, and those of more steps
-pub counts_more : (at : ℕ → List Typed) (cs new : List ℕ) (n i : ℕ) (p : Option Typed) → length cs ≡ i + 1 → new ≡ cs ++ n ∷ [] →
+pub counts_more : (at : ℕ → List TypedName) (cs new : List ℕ) (n i : ℕ) (p : Option TypedName) → length cs ≡ i + 1 → new ≡ cs ++ n ∷ [] →
     at (i + 1) ≡ put_all put_new (at i) (option_to_list p) → n ≡ length (at (i + 1)) →
     ((k : ℕ) → k < length cs → IsCount (at i) (get_or cs k 0) (at k)) → (k : ℕ) → k < length new → IsCount (at (i + 1)) (get_or new k 0) (at k)
 counts_more at cs new n i p len is next long each k lt =
@@ -142,7 +142,7 @@ first_zipped f (suc n) (x ∷ xs) [] = refl
 first_zipped f (suc n) (x ∷ xs) (y ∷ ys) = ap (λ zs. (x, f y) ∷ zs) (first_zipped f n xs ys)
 
 -- a number of an object of the first so many fields stands for the type of `steps`
-pub first_means : (new old : Types) (known : Known) (o : Option Owner) (s : StepFields) (k n : ℕ) (t : Ty) → k < length s.counts.items →
+pub first_means : (new old : Types) (known : OutputNames) (o : Option Owner) (s : StepFields) (k n : ℕ) (t : Ty) → k < length s.counts.items →
     n ≡ get_or s.counts.items k 0 → is_known new t ≡ true → type_at new t ≡ object_type (prefix_parts (objects_of old) (map_in s.prefixes) n) →
     AreStepsOf old known o s → Means new t (steps_type known o (before k))
 first_means new old known None s k n t lt e there is h = let no : length s.counts.items ≡ 0 = ap length h in absurd (omega (arith, lt, no))
@@ -155,7 +155,7 @@ first_means new old known (Some o) s k n t lt e there is h =
     }
 
 -- the same fields with another base
-pub steps_with : (types : Types) (known : Known) (o : Option Owner) (s : StepFields) (p : Prefixes) → map_in p ≡ map_in s.prefixes → AreStepsOf types known o s →
+pub steps_with : (types : Types) (known : OutputNames) (o : Option Owner) (s : StepFields) (p : Prefixes) → map_in p ≡ map_in s.prefixes → AreStepsOf types known o s →
     AreStepsOf types known o (record s { prefixes = p })
 steps_with types known None s p e h = h
 steps_with types known (Some o) s p e h = record {

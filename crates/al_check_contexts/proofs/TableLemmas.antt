@@ -10,12 +10,12 @@ use Rattle.al_tree.specs.declared.files.FileKind.{FileKind}
 use Rattle.al_check_places.specs.Positions.{Section, apart}
 use Rattle.al_check_places.specs.declared.positions.Seen.{Seen}
 use Rattle.al_check_places.specs.declared.positions.Seen.TheVariants.{Before as before}
-use Rattle.al_check_contexts.specs.Contexts.{Known, job_in, type_at}
+use Rattle.al_check_contexts.specs.Contexts.{OutputNames, context_type_at, job_in}
 use Rattle.al_check_objects.specs.Inputs.{inputs_type}
 use Rattle.al_expr_types.specs.Tables.{objects_of}
 use Rattle.al_expr_types.specs.declared.ty.Ty.{Ty}
 use Rattle.al_expr_types.specs.declared.types.Types.{Types}
-use Rattle.al_expr_typing.specs.Scopes.{number_of}
+use Rattle.al_expr_typing.specs.Scopes.{context_number}
 use Rattle.al_expr_typing.specs.declared.scope.ContextTypes.{ContextTypes}
 use Rattle.al_check_objects.specs.Numbers.{Means}
 use Rattle.al_check_contexts.specs.Table.{AreFixed, AreOfSection, Shows, position}
@@ -26,16 +26,16 @@ use Rattle.al_check_objects.proofs.Numbers.{any, any_means, means_as, means_stay
 -- ---- from one position to the next
 
 pub shows_stays : (new old : Types) (ts : ContextTypes) (m : Context → Type') → BeginsWith (objects_of new) (objects_of old) → Shows old ts m → Shows new ts m
-shows_stays new old ts m b h = record { each = λ c. means_stays new old (number_of ts c) (m c) b (h.each c) }
+shows_stays new old ts m b h = record { each = λ c. means_stays new old (context_number ts c) (m c) b (h.each c) }
 
 -- `steps` alone changes where more or fewer steps are seen
-pub steps_changed : (new old : Types) (ts : ContextTypes) (t : Ty) (k : FileKind) (known : Known) (root : Node) (s : Section) (seen now : Seen) →
-    BeginsWith (objects_of new) (objects_of old) → Means new t (type_at k known root (position s now) context.Steps) →
-    Shows old ts (type_at k known root (position s seen)) →
-    Shows new (record ts { steps = t }) (type_at k known root (position s now))
+pub steps_changed : (new old : Types) (ts : ContextTypes) (t : Ty) (k : FileKind) (known : OutputNames) (root : Node) (s : Section) (seen now : Seen) →
+    BeginsWith (objects_of new) (objects_of old) → Means new t (context_type_at k known root (position s now) context.Steps) →
+    Shows old ts (context_type_at k known root (position s seen)) →
+    Shows new (record ts { steps = t }) (context_type_at k known root (position s now))
 steps_changed new old ts t k known root s seen now b m h = record { each = each }
   where
-    each : (c : Context) → Means new (number_of (record ts { steps = t }) c) (type_at k known root (position s now) c)
+    each : (c : Context) → Means new (context_number (record ts { steps = t }) c) (context_type_at k known root (position s now) c)
     each context.Github = means_stays new old _ _ b (h.each context.Github)
     each context.Env = means_stays new old _ _ b (h.each context.Env)
     each context.Vars = means_stays new old _ _ b (h.each context.Vars)
@@ -50,12 +50,12 @@ steps_changed new old ts t k known root s seen now b m h = record { each = each 
     each context.Inputs = means_stays new old _ _ b (h.each context.Inputs)
 
 -- where the same is seen all stay
-pub same_seen : (types : Types) (ts : ContextTypes) (k : FileKind) (known : Known) (root : Node) (s : Section) (seen now : Seen) →
-    type_at k known root (position s now) context.Steps ≡ type_at k known root (position s seen) context.Steps →
-    Shows types ts (type_at k known root (position s seen)) → Shows types ts (type_at k known root (position s now))
+pub same_seen : (types : Types) (ts : ContextTypes) (k : FileKind) (known : OutputNames) (root : Node) (s : Section) (seen now : Seen) →
+    context_type_at k known root (position s now) context.Steps ≡ context_type_at k known root (position s seen) context.Steps →
+    Shows types ts (context_type_at k known root (position s seen)) → Shows types ts (context_type_at k known root (position s now))
 same_seen types ts k known root s seen now e h = record { each = each }
   where
-    each : (c : Context) → Means types (number_of ts c) (type_at k known root (position s now) c)
+    each : (c : Context) → Means types (context_number ts c) (context_type_at k known root (position s now) c)
     each context.Github = h.each context.Github
     each context.Env = h.each context.Env
     each context.Vars = h.each context.Vars
@@ -70,19 +70,19 @@ same_seen types ts k known root s seen now e h = record { each = each }
     each context.Inputs = h.each context.Inputs
 
 -- the types of another section of a file with these jobs
-pub section_changed : (new old : Types) (ts : ContextTypes) (st : SectionTypes) (t : Ty) (k : FileKind) (known : Known) (root : Node) (s now : Section) (seen : Seen) →
+pub section_changed : (new old : Types) (ts : ContextTypes) (st : SectionTypes) (t : Ty) (k : FileKind) (known : OutputNames) (root : Node) (s now : Section) (seen : Seen) →
     BeginsWith (objects_of new) (objects_of old) →
     AreOfSection new known (jobs_of root) now (job_in (jobs_of root) now) st →
-    Means new t (type_at k known root (position now (before 0)) context.Steps) →
-    Shows old ts (type_at k known root (position s seen)) →
+    Means new t (context_type_at k known root (position now (before 0)) context.Steps) →
+    Shows old ts (context_type_at k known root (position s seen)) →
     Shows new (record ts { strategy = st.strategy; needs = st.needs; jobs = st.jobs; matrix = st.matrix; steps = t })
-    (type_at k known root (position now (before 0)))
+    (context_type_at k known root (position now (before 0)))
 section_changed new old ts st t k known root s now seen b a m h = record { each = each }
   where
     all : ContextTypes
     all = record ts { strategy = st.strategy; needs = st.needs; jobs = st.jobs; matrix = st.matrix; steps = t }
 
-    each : (c : Context) → Means new (number_of all c) (type_at k known root (position now (before 0)) c)
+    each : (c : Context) → Means new (context_number all c) (context_type_at k known root (position now (before 0)) c)
     each context.Github = means_stays new old _ _ b (h.each context.Github)
     each context.Env = means_stays new old _ _ b (h.each context.Env)
     each context.Vars = means_stays new old _ _ b (h.each context.Vars)
@@ -98,41 +98,28 @@ section_changed new old ts st t k known root s now seen b a m h = record { each 
 
 -- ---- the start of a file
 
-pub shows_first : (types : Types) (f : FixedTypes) (inputs steps : Ty) (k : FileKind) (known : Known) (root : Node) → AreFixed types f →
-    Means types inputs (inputs_type k root) → Means types steps (type_at k known root (position apart (before 0)) context.Steps) →
-    Shows types (record {
-      github = f.github;
-      env = f.strings;
-      vars = f.strings;
-      secrets = f.strings;
-      runner = f.runner;
-      job = f.job;
-      strategy = any;
-      needs = any;
-      jobs = any;
-      steps = steps;
-      matrix = any;
-      inputs = inputs;
-    }) (type_at k known root (position apart (before 0)))
+abbrev pub first_types : FixedTypes → Ty → Ty → ContextTypes
+first_types f inputs steps = record {
+  github = f.github;
+  env = f.strings;
+  vars = f.strings;
+  secrets = f.strings;
+  runner = f.runner;
+  job = f.job;
+  strategy = any;
+  needs = any;
+  jobs = any;
+  steps = steps;
+  matrix = any;
+  inputs = inputs;
+}
+
+pub shows_first : (types : Types) (f : FixedTypes) (inputs steps : Ty) (k : FileKind) (known : OutputNames) (root : Node) → AreFixed types f →
+    Means types inputs (inputs_type k root) → Means types steps (context_type_at k known root (position apart (before 0)) context.Steps) →
+    Shows types (first_types f inputs steps) (context_type_at k known root (position apart (before 0)))
 shows_first types f inputs steps k known root fixed i s = record { each = each }
   where
-    all : ContextTypes
-    all = record {
-      github = f.github;
-      env = f.strings;
-      vars = f.strings;
-      secrets = f.strings;
-      runner = f.runner;
-      job = f.job;
-      strategy = any;
-      needs = any;
-      jobs = any;
-      steps = steps;
-      matrix = any;
-      inputs = inputs;
-    }
-
-    each : (c : Context) → Means types (number_of all c) (type_at k known root (position apart (before 0)) c)
+    each : (c : Context) → Means types (context_number (first_types f inputs steps) c) (context_type_at k known root (position apart (before 0)) c)
     each context.Github = fixed.github
     each context.Env = fixed.strings
     each context.Vars = fixed.strings
@@ -154,7 +141,7 @@ fixed_stay new old f b h = record {
   job = means_stays new old f.job _ b h.job;
 }
 
-pub section_stays : (new old : Types) (known : Known) (js : List (Node × Node)) (s : Section) (job : Option (Node × Node)) (st : SectionTypes) →
+pub section_stays : (new old : Types) (known : OutputNames) (js : List (Node × Node)) (s : Section) (job : Option (Node × Node)) (st : SectionTypes) →
     BeginsWith (objects_of new) (objects_of old) → AreOfSection old known js s job st → AreOfSection new known js s job st
 section_stays new old known js s job st b h = record {
   strategy = means_stays new old st.strategy _ b h.strategy;

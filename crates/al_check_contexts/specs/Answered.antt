@@ -2,7 +2,7 @@
 use Rattle.std.specs.Prelude.{ℕ, List, Bool, ◌&&◌, ◌==◌, Option, option_and_then, find, map, slice_get}
 use Rattle.std.specs.Option.{option_copied, option_eq}
 use Rattle.std.specs.Str.{bytes_eq}
-use Rattle.al_check_contexts.specs.Contexts.{Known}
+use Rattle.al_check_contexts.specs.Contexts.{OutputNames}
 use Rattle.al_check_contexts.specs.declared.known.Answer.{Answer}
 use Rattle.al_check_contexts.specs.declared.known.Answers.{Answers}
 
@@ -17,12 +17,12 @@ abbrev pub is_at : Option (List ℕ) → Option ℕ → Behind → Bool
 is_at job step b = option_eq (λ i k. i == k) b.step step && option_eq bytes_eq b.job job
 
 -- the names that the first at a place has
-abbrev pub known_in : List Behind → Known
+abbrev pub known_in : List Behind → OutputNames
 known_in bs job step = option_and_then (λ b. b.names) (find (is_at job step) bs)
 
 -- how an answer of the code is seen, by the lists of names that it has a position in
 abbrev pub behind_of : List (List (List ℕ)) → Answer → Behind
 behind_of lists a = record { job = option_copied a.job; step = a.step; names = option_and_then (slice_get lists) a.names }
 
-abbrev pub known_of : Answers → Known
+abbrev pub known_of : Answers → OutputNames
 known_of known = known_in (map (behind_of (map (λ l. l.now) known.lists.now)) known.answers.now)

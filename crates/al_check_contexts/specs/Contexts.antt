@@ -10,7 +10,7 @@ use Rattle.al_types.specs.declared.names.Context.{Context}
 use Rattle.al_types.specs.declared.names.Context.TheVariants as context
 use Rattle.al_yaml_tree.specs.Node.{Node}
 use Rattle.al_tree.specs.Keys.{key_of}
-use Rattle.al_tree.specs.Values.{entries_at, items_at, text_at, texts_at}
+use Rattle.al_tree.specs.Values.{entries_at, items_at, text_at_key, texts_at}
 use Rattle.al_tree.specs.Files.{jobs_of}
 use Rattle.al_tree.specs.declared.files.FileKind.{FileKind}
 use Rattle.al_tree.specs.declared.files.FileKind.TheVariants as kind
@@ -23,14 +23,14 @@ use Rattle.al_check_objects.specs.Inputs.{inputs_type}
 use Rattle.al_check_objects.specs.Matrix.{matrix_type}
 use Rattle.al_types.specs.Strings.{named_strings}
 use Rattle.al_check_objects.specs.Objects.{strictly, loose_strings, loose_any}
-use Rattle.al_types.specs.Puts.{Typed, firsts}
+use Rattle.al_types.specs.Puts.{TypedName, firsts}
 
 -- What is known of the names of outputs behind calls: of a job by its key, and with an index of a step of a job or, without a key, of
 -- an action. None where nothing is.
-abbrev pub Known : Type 0
-Known = Option (List ℕ) → Option ℕ → Option (List (List ℕ))
+abbrev pub OutputNames : Type 0
+OutputNames = Option (List ℕ) → Option ℕ → Option (List (List ℕ))
 
-abbrev pub nothing_known : Known
+abbrev pub nothing_known : OutputNames
 nothing_known job step = None
 
 -- outputs, by what is known of their names
@@ -42,9 +42,9 @@ abbrev pub step_type : Option (List (List ℕ)) → Type'
 step_type names =
     strictly ((codes "conclusion", String) ∷ (codes "outcome", String) ∷ (codes "outputs", outputs_type loose_strings names) ∷ [])
 
-abbrev pub step_field : Known → Option (List ℕ) → ℕ × Node → Option Typed
+abbrev pub step_field : OutputNames → Option (List ℕ) → ℕ × Node → Option TypedName
 step_field known job s =
-    option_map (λ id. (text_of id.0, step_type (known job (Some s.0)))) (text_at (codes "id") s.1)
+    option_map (λ id. (text_of id.0, step_type (known job (Some s.0)))) (text_at_key (codes "id") s.1)
 
 abbrev pub seen_of : Seen → List Node → List Node
 seen_of no_step steps = []
@@ -55,28 +55,28 @@ seen_of every_step steps = steps
 abbrev pub Owner : Type 0
 Owner = Option (List ℕ) × List Node
 
-abbrev pub steps_fields : Known → Owner → Seen → List Typed
+abbrev pub steps_fields : OutputNames → Owner → Seen → List TypedName
 steps_fields known o seen =
     firsts (filter_map (step_field known o.0) (enumerate_from 0 (seen_of seen o.1)))
 
 -- what a job shows to others: its result, and its outputs, those of the called workflow where it calls one
-abbrev pub job_outputs : Known → Node × Node → Type'
+abbrev pub job_outputs : OutputNames → Node × Node → Type'
 job_outputs known j =
     if has_value (codes "uses") j.1 then outputs_type loose_any (known (Some (key_of j)) None)
     else named_strings (names_of (entries_at (codes "outputs") j.1))
 
-abbrev pub job_field : Known → Node × Node → Typed
+abbrev pub job_field : OutputNames → Node × Node → TypedName
 job_field known j =
     (key_of j, strictly ((codes "result", String) ∷ (codes "outputs", job_outputs known j) ∷ []))
 
-abbrev pub jobs_type : Known → List (Node × Node) → Type'
+abbrev pub jobs_type : OutputNames → List (Node × Node) → Type'
 jobs_type known jobs = strictly (firsts (map (job_field known) jobs))
 
 -- `needs`: the direct dependencies that exist; a name means the first such job, in any ASCII case
-abbrev pub dependency : Known → List (Node × Node) → List ℕ → Option Typed
+abbrev pub dependency : OutputNames → List (Node × Node) → List ℕ → Option TypedName
 dependency known jobs name = option_map (job_field known) (find (λ j. same_name (key_of j) name) jobs)
 
-abbrev pub needs_type : Known → List (Node × Node) → Node → Type'
+abbrev pub needs_type : OutputNames → List (Node × Node) → Node → Type'
 needs_type known jobs job =
     strictly (firsts (filter_map (λ t. dependency known jobs (text_of t.0)) (texts_at (codes "needs") job)))
 
@@ -95,26 +95,26 @@ owner_of kind.Action root job = if is_composite root then Some (None, action_ste
 abbrev pub type_in_job : (Node × Node → Type') → Option (Node × Node) → Type'
 type_in_job of job = option_map_or of job Any
 
-abbrev pub jobs_in : Known → List (Node × Node) → Section → Type'
+abbrev pub jobs_in : OutputNames → List (Node × Node) → Section → Type'
 jobs_in known jobs apart = Any
 jobs_in known jobs _ = jobs_type known jobs
 
-abbrev pub steps_type : Known → Option Owner → Seen → Type'
+abbrev pub steps_type : OutputNames → Option Owner → Seen → Type'
 steps_type known owner seen = option_map_or (λ o. strictly (steps_fields known o seen)) owner Any
 
 -- The table of contexts. Some are the same in every file.
-abbrev pub type_at : FileKind → Known → Node → Position → Context → Type'
-type_at k known root p context.Github = github_type
-type_at k known root p context.Env = loose_strings
-type_at k known root p context.Vars = loose_strings
-type_at k known root p context.Secrets = loose_strings
-type_at k known root p context.Runner = runner_type
-type_at k known root p context.Job = job_type
-type_at k known root p context.Strategy = type_in_job (λ j. strategy_type) (job_in (jobs_of root) p.section)
-type_at k known root p context.Needs =
+abbrev pub context_type_at : FileKind → OutputNames → Node → Position → Context → Type'
+context_type_at k known root p context.Github = github_type
+context_type_at k known root p context.Env = loose_strings
+context_type_at k known root p context.Vars = loose_strings
+context_type_at k known root p context.Secrets = loose_strings
+context_type_at k known root p context.Runner = runner_type
+context_type_at k known root p context.Job = job_type
+context_type_at k known root p context.Strategy = type_in_job (λ j. strategy_type) (job_in (jobs_of root) p.section)
+context_type_at k known root p context.Needs =
     type_in_job (λ j. needs_type known (jobs_of root) j.1) (job_in (jobs_of root) p.section)
-type_at k known root p context.Jobs = jobs_in known (jobs_of root) p.section
-type_at k known root p context.Steps =
+context_type_at k known root p context.Jobs = jobs_in known (jobs_of root) p.section
+context_type_at k known root p context.Steps =
     steps_type known (owner_of k root (job_in (jobs_of root) p.section)) p.seen
-type_at k known root p context.Matrix = type_in_job (λ j. matrix_type j.1) (job_in (jobs_of root) p.section)
-type_at k known root p context.Inputs = inputs_type k root
+context_type_at k known root p context.Matrix = type_in_job (λ j. matrix_type j.1) (job_in (jobs_of root) p.section)
+context_type_at k known root p context.Inputs = inputs_type k root

@@ -7,7 +7,7 @@ use Rattle.std.specs.Ordering.{nat_cmp, ordering_then}
 use Rattle.al_types.specs.Types.{Type', Any, String}
 use Rattle.al_yaml_tree.specs.Node.{Node}
 use Rattle.al_check_contexts.specs.Answered.{Behind, is_at}
-use Rattle.al_check_contexts.specs.Contexts.{Known, job_field, outputs_type, step_type}
+use Rattle.al_check_contexts.specs.Contexts.{OutputNames, job_field, outputs_type, step_type}
 use Rattle.al_check_objects.specs.Objects.{loose_any, strictly}
 use Rattle.al_check_contexts.specs.declared.known.Outputs.{Outputs}
 
@@ -31,7 +31,7 @@ found_at o job step =
 abbrev pub and_found : Behind → Found → Found
 and_found b found job step = if is_at job step b then Some b.names else found job step
 
-abbrev pub known_by : Outputs → Known
+abbrev pub known_by : Outputs → OutputNames
 known_by o job step = option_and_then (λ names. names) (found_at o job step)
 
 -- the type of a step by the position of the names of its outputs

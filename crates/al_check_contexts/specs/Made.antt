@@ -2,7 +2,7 @@
 use Rattle.std.specs.Prelude.{◌≡◌, List, [], Option, Some, map}
 use Rattle.al_yaml_tree.specs.Node.{Node}
 use Rattle.al_tree.specs.Values.{member_of}
-use Rattle.al_check_contexts.specs.Contexts.{Known, jobs_type}
+use Rattle.al_check_contexts.specs.Contexts.{OutputNames, jobs_type}
 use Rattle.al_expr_types.specs.declared.ty.Ty.{Ty}
 use Rattle.al_expr_types.specs.declared.types.Types.{Types}
 use Rattle.al_types.specs.Strings.{named_strings}
@@ -28,7 +28,7 @@ pub record KeepsJobs (types : Types) (known : Outputs) (js : List (Node × Node)
 abbrev pub jobs_from : Basis → List (Node × Node)
 jobs_from b = map member_of b.jobs.now.members.items
 
-abbrev pub known_from : Basis → Known
+abbrev pub known_from : Basis → OutputNames
 known_from b = known_by b.outputs.now
 
 abbrev pub KeepsJobsOf : Types → Basis → JobTypes → Type 0

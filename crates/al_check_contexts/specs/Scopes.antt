@@ -14,7 +14,7 @@ use Rattle.al_tree.specs.declared.files.FileKind.{FileKind}
 use Rattle.al_tree.specs.declared.files.FileKind.TheVariants as kind
 use Rattle.al_check_places.specs.Availability.{Row, status}
 use Rattle.al_check_places.specs.Places.{Place}
-use Rattle.al_check_contexts.specs.Contexts.{Known, type_at}
+use Rattle.al_check_contexts.specs.Contexts.{OutputNames, context_type_at}
 
 -- one of these has the name of this
 abbrev pub is_listed : {A : Type 0} → (A → List ℕ) → List A → A → Bool
@@ -37,6 +37,6 @@ abbrev pub available_at : FileKind → Option Row → Bool → Available
 available_at kind.Workflow row is_condition = option_map_or (λ r. available r.contexts r.special) row (available contexts [])
 available_at kind.Action row is_condition = available of_action (HashFiles ∷ (if is_condition then status else []))
 
-abbrev pub scope_at : FileKind → Known → Node → Place → Scope
+abbrev pub scope_at : FileKind → OutputNames → Node → Place → Scope
 scope_at k known root p =
-    record { types = type_at k known root p.position; available = available_at k p.available p.is_condition; in_run = p.is_script }
+    record { types = context_type_at k known root p.position; available = available_at k p.available p.is_condition; in_run = p.is_script }

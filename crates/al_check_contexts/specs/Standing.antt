@@ -6,7 +6,7 @@ use Rattle.al_tree.specs.Files.{jobs_of}
 use Rattle.al_check_places.specs.Positions.{section_view}
 use Rattle.al_check_places.specs.declared.positions.Seen.TheVariants.{Before as before}
 use Rattle.al_check_objects.specs.Fixed.{strategy_type}
-use Rattle.al_check_contexts.specs.Contexts.{job_in, owner_of, type_at}
+use Rattle.al_check_contexts.specs.Contexts.{context_type_at, job_in, owner_of}
 use Rattle.al_check_contexts.specs.Answered.{known_of}
 use Rattle.al_check_contexts.specs.Lookups.{known_by, step_at}
 use Rattle.al_check_contexts.specs.Made.{KeepsJobs}
@@ -23,7 +23,7 @@ pub record Stands (f : File) (e : Env) : Type 0 where
   pub members : map member_of e.jobs.members.items ≡ jobs_of (view f.root.now)
   pub known : known_by e.outputs ≡ known_of f.known
   pub shows : Shows e.types e.scope.types
-      (type_at f.kind (known_by e.outputs) (view f.root.now) (position (section_view e.section) (before e.seen)))
+      (context_type_at f.kind (known_by e.outputs) (view f.root.now) (position (section_view e.section) (before e.seen)))
   pub steps : AreStepsOf e.types (known_by e.outputs)
       (owner_of f.kind (view f.root.now) (job_in (jobs_of (view f.root.now)) (section_view e.section))) e.steps
   pub prefixes : ArePrefixes e.types e.steps

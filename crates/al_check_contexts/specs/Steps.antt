@@ -1,9 +1,9 @@
 -- The fields of `steps` by counts of steps.
 use Rattle.std.specs.Prelude.{◌≡◌, ◌+◌, ◌<◌, ◌≤◌, ℕ, List, [], ◌∷◌, true, Option, Some, None, codes, get_or, length, take}
-use Rattle.al_types.specs.Puts.{Typed}
+use Rattle.al_types.specs.Puts.{TypedName}
 use Rattle.al_types.specs.Types.{Type', String}
 use Rattle.al_check_places.specs.declared.positions.Seen.TheVariants.{Before as before}
-use Rattle.al_check_contexts.specs.Contexts.{Known, Owner, steps_fields}
+use Rattle.al_check_contexts.specs.Contexts.{OutputNames, Owner, steps_fields}
 use Rattle.al_check_objects.specs.Objects.{strictly}
 use Rattle.al_expr_types.specs.Prefixes.{HasPrefix, map_in}
 use Rattle.al_expr_types.specs.Tables.{objects_of}
@@ -16,21 +16,21 @@ abbrev pub step_with : Type' → Type'
 step_with outputs = strictly ((codes "conclusion", String) ∷ (codes "outcome", String) ∷ (codes "outputs", outputs) ∷ [])
 
 -- the fields of the first so many steps
-abbrev pub first_fields : Known → Owner → ℕ → List Typed
+abbrev pub first_fields : OutputNames → Owner → ℕ → List TypedName
 first_fields known o k = steps_fields known o (before k)
 
 -- so many fields are there, and the first so many are these
-abbrev pub IsCount : List Typed → ℕ → List Typed → Type 0
+abbrev pub IsCount : List TypedName → ℕ → List TypedName → Type 0
 IsCount ts n us = (n ≤ length ts) × (take n ts ≡ us)
 
--- there is a count of each front of some steps, by which their fields are found
-pub record AreSteps (types : Types) (known : Known) (o : Owner) (s : StepFields) : Type 0 where
+-- there is a count of each prefix of some steps, by which their fields are found
+pub record AreSteps (types : Types) (known : OutputNames) (o : Owner) (s : StepFields) : Type 0 where
   pub all : length s.counts.items ≡ length o.1 + 1
   pub counts : (k : ℕ) → k < length s.counts.items →
       IsCount (fields_in (objects_of types) (map_in s.prefixes)) (get_or s.counts.items k 0) (first_fields known o k)
 
 -- of an owner's steps; of nobody's there are no counts
-abbrev pub AreStepsOf : Types → Known → Option Owner → StepFields → Type 0
+abbrev pub AreStepsOf : Types → OutputNames → Option Owner → StepFields → Type 0
 AreStepsOf types known None s = s.counts.items ≡ []
 AreStepsOf types known (Some o) s = AreSteps types known o s
 

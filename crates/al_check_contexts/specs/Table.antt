@@ -5,12 +5,12 @@ use Rattle.al_types.specs.declared.names.Context.{Context}
 use Rattle.al_yaml_tree.specs.Node.{Node}
 use Rattle.al_check_places.specs.Positions.{Position, Section}
 use Rattle.al_check_places.specs.declared.positions.Seen.{Seen}
-use Rattle.al_check_contexts.specs.Contexts.{Known, jobs_in, needs_type, type_in_job}
+use Rattle.al_check_contexts.specs.Contexts.{OutputNames, jobs_in, needs_type, type_in_job}
 use Rattle.al_check_objects.specs.Fixed.{github_type, job_type, runner_type, strategy_type}
 use Rattle.al_check_objects.specs.Matrix.{matrix_type}
 use Rattle.al_check_objects.specs.Objects.{loose_strings}
 use Rattle.al_expr_types.specs.declared.types.Types.{Types}
-use Rattle.al_expr_typing.specs.Scopes.{number_of}
+use Rattle.al_expr_typing.specs.Scopes.{context_number}
 use Rattle.al_expr_typing.specs.declared.scope.ContextTypes.{ContextTypes}
 use Rattle.al_check_objects.specs.Numbers.{Means}
 use Rattle.al_check_contexts.specs.declared.sections.SectionTypes.{SectionTypes}
@@ -21,7 +21,7 @@ position s seen = record { section = s; seen = seen }
 
 -- each context's number stands for its type
 pub record Shows (types : Types) (ts : ContextTypes) (m : Context → Type') : Type 0 where
-  pub each : (c : Context) → Means types (number_of ts c) (m c)
+  pub each : (c : Context) → Means types (context_number ts c) (m c)
 
 -- the types that are the same in every file
 pub record AreFixed (types : Types) (ts : FixedTypes) : Type 0 where
@@ -31,7 +31,7 @@ pub record AreFixed (types : Types) (ts : FixedTypes) : Type 0 where
   pub job : Means types ts.job job_type
 
 -- the types of a section of a workflow with these jobs, of which this is the section's
-pub record AreOfSection (types : Types) (known : Known) (js : List (Node × Node)) (s : Section)
+pub record AreOfSection (types : Types) (known : OutputNames) (js : List (Node × Node)) (s : Section)
     (job : Option (Node × Node)) (st : SectionTypes) : Type 0 where
   pub strategy : Means types st.strategy (type_in_job (λ j. strategy_type) job)
   pub needs : Means types st.needs (type_in_job (λ j. needs_type known js j.1) job)

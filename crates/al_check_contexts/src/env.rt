@@ -5,12 +5,12 @@ ghost use Rattle.al_check_contexts.specs.Scopes as scopes;
 ghost use Rattle.al_check_places.specs.Places.{place_of};
 ghost use Rattle.al_check_places.specs.Positions.{position_view, section_view};
 ghost use Rattle.al_check_contexts.specs.Answered.{known_of};
-ghost use Rattle.al_check_contexts.specs.Contexts.{type_at};
+ghost use Rattle.al_check_contexts.specs.Contexts.{context_type_at};
 ghost use Rattle.al_check_contexts.specs.Lookups.{known_by};
 ghost use Rattle.al_check_contexts.specs.Standing.{Stands};
 ghost use Rattle.al_check_contexts.specs.Table.{Shows, position};
 ghost use Rattle.al_expr_types.specs.Tables.{objects_of};
-ghost use Rattle.al_expr_typing.specs.Scopes.{IsShown, scope_at};
+ghost use Rattle.al_expr_typing.specs.Scopes.{IsShown, scope_view};
 ghost use Rattle.al_yaml_tree.specs.View.{view};
 
 use crate::basis::Basis;
@@ -22,7 +22,7 @@ use crate::scopes::{available, available_at};
 use crate::sections::{owner_at, section_types};
 use crate::start::first_types;
 use crate::steps::StepFields;
-use al_check_objects::strategy;
+use al_check_objects::strategy_type;
 use al_check_places::{Place, Position, Section, Seen};
 use al_expr_types::{Ty, Types};
 use al_expr_typing::Scope;
@@ -140,7 +140,7 @@ fn see<'a>(file: File<'a>, env: &mut Env<'a>, seen: Seen) -> Result<(), AllocErr
     ensures same { OnOk result (section_view (env.new).section ≡ section_view (env.old).section) }
     ensures shows { OnOk result
         (Shows (env.new).types (env.new).scope.types
-        (type_at (file.entry).kind (known_by (env.new).outputs) (view (file.entry).root.now)
+        (context_type_at (file.entry).kind (known_by (env.new).outputs) (view (file.entry).root.now)
         (position (section_view (env.old).section) seen))) }
     ensures kept { OnOk result
         (BeginsWith (objects_of (env.new).types) (objects_of (env.old).types)) }
@@ -166,7 +166,7 @@ fn go<'a>(
     ensures stands { OnOk result (Stands file.entry env.new) }
     ensures shows { OnOk result
         (Shows (env.new).types (env.new).scope.types
-        (type_at (file.entry).kind (known_of (file.entry).known) (view (file.entry).root.now)
+        (context_type_at (file.entry).kind (known_of (file.entry).known) (view (file.entry).root.now)
         (position_view position.entry))) }
     ensures kept { OnOk result
         (BeginsWith (objects_of (env.new).types) (objects_of (env.old).types)) }
@@ -190,7 +190,7 @@ impl<'a> Env<'a> {
         let job_types = JobTypes::new(alloc, positions, jobs.as_slice().len())?;
         let mut step_types = TypeCache::new(alloc, positions)?;
         let mut types = Types::new(alloc);
-        let strategy = strategy(alloc, &mut types)?;
+        let strategy = strategy_type(alloc, &mut types)?;
         let basis = Basis {
             alloc,
             jobs: &jobs,
@@ -233,7 +233,7 @@ impl<'a> Env<'a> {
         ensures stands { OnOk result (Stands file.entry self.new) }
         ensures shown { OnOk result (IsShown (self.new).types (self.new).scope) }
         ensures scope { OnOk result
-            (scope_at (self.new).types (self.new).scope ≡ scopes.scope_at (file.entry).kind
+            (scope_view (self.new).types (self.new).scope ≡ scopes.scope_at (file.entry).kind
             (known_of (file.entry).known) (view (file.entry).root.now) (place_of place.entry)) }
         ensures kept { OnOk result
             (BeginsWith (objects_of (self.new).types) (objects_of (self.old).types)) }

@@ -13,7 +13,7 @@ ghost use Rattle.al_expr_types.specs.declared.types.Types as declared;
 ghost use Rattle.al_check_contexts.specs.declared.known.Outputs as outputs;
 ghost use Rattle.al_tree.specs.Values.{entries_at, member_of};
 ghost use Rattle.al_tree_declarations.specs.Declarations.{names_of};
-ghost use Rattle.al_types.specs.Puts.{Typed, put_all, put_new};
+ghost use Rattle.al_types.specs.Puts.{TypedName, put_all, put_new};
 ghost use Rattle.al_types.specs.Strings.{named_strings};
 ghost use Rattle.al_yaml_tree.specs.Node as tree;
 ghost use Rattle.al_yaml_tree.specs.View.{view};
@@ -253,7 +253,7 @@ impl JobTypes {
     ) -> Result<FieldList<'a>, AllocError>
         requires { KeepsJobsOf types.old basis.now self.old }
         ensures fields { IfOk result
-            (λ l. (ts : List Typed) → Lists types.old fields.entry ts → Lists types.new l
+            (λ l. (ts : List TypedName) → Lists types.old fields.entry ts → Lists types.new l
             (put_all put_new ts (option_to_list
             (dependency (known_from basis.now) (jobs_from basis.now) name.now)))) }
         ensures keeps { OnOk result (KeepsJobsOf types.new basis.now self.new) }

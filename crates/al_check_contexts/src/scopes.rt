@@ -3,7 +3,7 @@ ghost use Rattle.std.specs.Prelude.{◌≡◌, option_map};
 ghost use Rattle.al_check_contexts.specs.Scopes as scopes;
 ghost use Rattle.al_check_contexts.specs.Scopes.{is_listed};
 ghost use Rattle.al_types.specs.Names.{context_name, function_name};
-ghost use Rattle.al_check_places.specs.Availability.{row_of};
+ghost use Rattle.al_check_places.specs.Availability.{row_view};
 ghost use Rattle.al_types.specs.Scopes.{available_of, is_allowed, is_available};
 ghost use Rattle.al_types.specs.declared.names.Context as context_names;
 ghost use Rattle.al_types.specs.declared.names.Function as function_names;
@@ -111,7 +111,7 @@ pub(crate) fn available_at(
     is_condition: bool,
 ) -> Available
     ensures { available_of result
-        ≡ scopes.available_at kind (option_map (λ r. row_of r.now) row.entry) is_condition }
+        ≡ scopes.available_at kind (option_map (λ r. row_view r.now) row.entry) is_condition }
 {
     match kind {
         FileKind::Workflow => match row {

@@ -1,7 +1,7 @@
 //! The types of contexts at the start of a file.
 ghost use Rattle.std.specs.Prelude.{IfOk, OnOk};
 ghost use Rattle.al_base.specs.Growth.{BeginsWith};
-ghost use Rattle.al_check_contexts.specs.Contexts.{Known, type_at};
+ghost use Rattle.al_check_contexts.specs.Contexts.{OutputNames, context_type_at};
 ghost use Rattle.al_check_places.specs.Positions.{apart};
 ghost use Rattle.al_check_places.specs.declared.positions.Seen.TheVariants.{Before as before};
 ghost use Rattle.al_check_objects.specs.Numbers.{Means};
@@ -11,7 +11,7 @@ ghost use Rattle.al_types.specs.declared.names.Context.TheVariants as context;
 ghost use Rattle.al_yaml_tree.specs.View.{view};
 
 use crate::env::File;
-use al_check_objects::{github, inputs_type, job, loose_strings, runner};
+use al_check_objects::{github_type, inputs_type, job_type, loose_strings, runner_type};
 use al_expr_types::{Ty, Types};
 use al_expr_typing::ContextTypes;
 use std::alloc::{AllocError, Global};
@@ -30,10 +30,10 @@ fn fixed_types(alloc: Global, types: &mut Types<'_>) -> Result<FixedTypes, Alloc
     ensures fixed { IfOk result (λ ts. AreFixed types.new ts) }
     ensures kept { OnOk result (BeginsWith (objects_of types.new) (objects_of types.old)) }
 {
-    let github = github(alloc, types)?;
+    let github = github_type(alloc, types)?;
     let strings = loose_strings(alloc, types)?;
-    let runner = runner(alloc, types)?;
-    let job = job(alloc, types)?;
+    let runner = runner_type(alloc, types)?;
+    let job = job_type(alloc, types)?;
     Ok(FixedTypes {
         github,
         strings,
@@ -49,11 +49,11 @@ pub(crate) fn first_types<'a>(
     file: File<'a>,
     steps: Ty,
 ) -> Result<ContextTypes, AllocError>
-    ensures types { IfOk result (λ ts. (known : Known)
+    ensures types { IfOk result (λ ts. (known : OutputNames)
         → Means types.old steps
-        (type_at (file.entry).kind known (view (file.entry).root.now) (position apart (before 0))
+        (context_type_at (file.entry).kind known (view (file.entry).root.now) (position apart (before 0))
         context.Steps)
-        → Shows types.new ts (type_at (file.entry).kind known (view (file.entry).root.now)
+        → Shows types.new ts (context_type_at (file.entry).kind known (view (file.entry).root.now)
         (position apart (before 0)))) }
     ensures kept { OnOk result (BeginsWith (objects_of types.new) (objects_of types.old)) }
 {

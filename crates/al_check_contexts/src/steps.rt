@@ -3,7 +3,7 @@ ghost use Rattle.std.specs.Prelude.{◌≡◌, ◌-◌, ◌≤◌, IfOk, List, N
 ghost use Rattle.std.specs.Option.{option_copied, option_to_list};
 ghost use Rattle.al_base.specs.Growth.{BeginsWith};
 ghost use Rattle.al_check_contexts.specs.Contexts as contexts;
-ghost use Rattle.al_check_contexts.specs.Contexts.{Known, Owner as StepOwner, step_field, steps_type};
+ghost use Rattle.al_check_contexts.specs.Contexts.{OutputNames, Owner as StepOwner, step_field, steps_type};
 ghost use Rattle.al_check_places.specs.declared.positions.Seen.TheVariants.{Before as before};
 ghost use Rattle.al_check_contexts.specs.Lookups.{step_at};
 ghost use Rattle.al_check_contexts.specs.Made.{known_from};
@@ -15,7 +15,7 @@ ghost use Rattle.al_check_contexts.specs.Steps as specs;
 ghost use Rattle.al_check_contexts.specs.Private.Owners.{owner_view};
 ghost use Rattle.al_expr_types.specs.Tables.{is_known, objects_of, type_at};
 ghost use Rattle.al_expr_types.specs.declared.types.Types as declared;
-ghost use Rattle.al_types.specs.Puts.{Typed, put_all, put_new};
+ghost use Rattle.al_types.specs.Puts.{TypedName, put_all, put_new};
 ghost use Rattle.al_yaml_tree.specs.View.{view};
 
 use crate::basis::Basis;
@@ -100,7 +100,7 @@ fn and_step<'a>(
 ) -> Result<FieldList<'a>, AllocError>
     requires { Keeps types.old (step_at basis.now.outputs.now) made.old }
     ensures fields { IfOk result
-        (λ l. (ts : List Typed) → Lists types.old fields.entry ts → Lists types.new l
+        (λ l. (ts : List TypedName) → Lists types.old fields.entry ts → Lists types.new l
         (put_all put_new ts (option_to_list
         (step_field (known_from basis.now) (option_copied (step.entry).job)
         ((step.entry).index, view (step.entry).node.now))))) }
@@ -122,7 +122,7 @@ impl<'a> StepFields<'a> {
     /// Where `steps` is nobody's.
     fn none(alloc: Global) -> Result<StepFields<'a>, AllocError>
         ensures steps { IfOk result
-            (λ s. (types : declared.Types) (known : Known) → AreStepsOf types known None s) }
+            (λ s. (types : declared.Types) (known : OutputNames) → AreStepsOf types known None s) }
         ensures prefixes { IfOk result (λ s. (types : declared.Types) → ArePrefixes types s) }
     {
         let prefixes = Prefixes::new(alloc, FieldMap::new(alloc))?;
@@ -190,7 +190,7 @@ impl<'a> StepFields<'a> {
 
     /// How many steps are seen.
     pub(crate) fn seen_count(&self, seen: Seen) -> usize
-        ensures seen { (types : declared.Types) (known : Known) (o : Option StepOwner)
+        ensures seen { (types : declared.Types) (known : OutputNames) (o : Option StepOwner)
             → AreStepsOf types known o self.now
             → steps_type known o seen ≡ steps_type known o (before result) }
         ensures inside { result ≤ length self.now.counts.items - 1 }
@@ -208,11 +208,11 @@ impl<'a> StepFields<'a> {
         requires prefixes { ArePrefixes types.old self.old }
         requires inside { count ≤ length (self.old).counts.items - 1 }
         ensures ty { IfOk result
-            (λ t. (known : Known) (o : Option StepOwner)
+            (λ t. (known : OutputNames) (o : Option StepOwner)
             → AreStepsOf types.old known o self.old
             → Means types.new t (steps_type known o (before count))) }
         ensures steps { OnOk result
-            ((known : Known) (o : Option StepOwner) → AreStepsOf types.old known o self.old
+            ((known : OutputNames) (o : Option StepOwner) → AreStepsOf types.old known o self.old
             → AreStepsOf types.new known o self.new) }
         ensures prefixes { OnOk result (ArePrefixes types.new self.new) }
         ensures kept { OnOk result (BeginsWith (objects_of types.new) (objects_of types.old)) }

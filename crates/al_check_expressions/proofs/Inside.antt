@@ -15,20 +15,20 @@ use Rattle.al_expr_grammar.specs.Chunks.{chunks_of}
 use Rattle.al_expr_grammar.specs.Extents.{extent}
 use Rattle.al_expr_grammar.specs.Grammar.{Binary}
 use Rattle.al_expr_grammar.specs.Lexeme.{Lexeme}
-use Rattle.al_expr_grammar.specs.Refusal.{fault, fault_of_content}
+use Rattle.al_expr_grammar.specs.Refusal.{expression_fault, fault_of_content}
 use Rattle.al_expr_grammar.specs.Tokens.{Lexed, AllRead, Bad, Unclosed, tokens_of}
 use Rattle.al_expr_grammar.specs.Tree.{Tree}
 use Rattle.al_expr_grammar.proofs.Inside.{TreeLies, chunks_lie, content_fault_lies, extent_lies, tree_lies}
-use Rattle.al_expr_grammar.proofs.Total.{Outcome, read, refused, all}
+use Rattle.al_expr_grammar.proofs.Total.{Outcome, outcome_of, read, refused}
 use Rattle.al_types.specs.Scopes.{Scope}
 use Rattle.al_types.specs.Types.{Type', is_collection}
-use Rattle.al_expr_typing.specs.Meaning.{faults_in, meaning_of, type_in}
+use Rattle.al_expr_typing.specs.Meaning.{faults_found, meaning_of, type_found}
 use Rattle.al_expr_typing.proofs.Inside.{both_lie, meaning_lies}
 use Rattle.al_yaml_tree.specs.Node.{Node}
 use Rattle.al_yaml_tree.specs.Spans.{AreFrom, IsLaid}
 use Rattle.al_tree.specs.declared.files.FileKind.{FileKind}
 use Rattle.al_check_places.specs.Places.{Place, places_of}
-use Rattle.al_check_contexts.specs.Contexts.{Known}
+use Rattle.al_check_contexts.specs.Contexts.{OutputNames}
 use Rattle.al_check_contexts.specs.Scopes.{scope_at}
 use Rattle.al_check_expressions.specs.FileExpressions.{expression_faults}
 use Rattle.al_check_expressions.specs.Contents.{chunk_faults, chunked_faults, collection_faults, content_faults, is_one_chunk, is_whole, span_in_file, fault_in_file, place_faults, tree_faults}
@@ -101,17 +101,17 @@ outcome_lies content ts (read u rest p) t e is =
 outcome_lies content ts (refused x i r) t e is = absurd cc
 
 lexed_lies : (content : List ℕ) (r : Lexed) (t : Tree) → tokens_of content ≡ r → tree_of_tokens r ≡ Some t → TreeLies (length content) 0 t
-lexed_lies content (AllRead ts) t e is = outcome_lies content ts (all (suc (length ts)) 50 ts (omega arith)) t e is
+lexed_lies content (AllRead ts) t e is = outcome_lies content ts (outcome_of ts) t e is
 lexed_lies content (Bad s) t e is = absurd cc
 lexed_lies content Unclosed t e is = absurd cc
 
 collection_lies : (n : ℕ) (alone only : Bool) (ty : Type') (t : Tree) → TreeLies n 0 t → AllLie n (collection_faults alone only ty t)
-collection_lies n alone only ty t l = if_lie n (is_collection ty && (not alone || only)) (fault code.NotText (extent t) [] ∷ []) [] (extent_lies n t l, tt) tt
+collection_lies n alone only ty t l = if_lie n (is_collection ty && (not alone || only)) (expression_fault code.NotText (extent t) [] ∷ []) [] (extent_lies n t l, tt) tt
 
 tree_faults_lie : (n : ℕ) (sc : Scope) (alone only : Bool) (t : Tree) → TreeLies n 0 t → AllLie n (tree_faults sc alone only t)
 tree_faults_lie n sc alone only t l =
-    both_lie n (faults_in (meaning_of sc t)) (collection_faults alone only (type_in (meaning_of sc t)) t) (meaning_lies n t sc false 0 l)
-    (collection_lies n alone only (type_in (meaning_of sc t)) t l)
+    both_lie n (faults_found (meaning_of sc t)) (collection_faults alone only (type_found (meaning_of sc t)) t) (meaning_lies n t sc false 0 l)
+    (collection_lies n alone only (type_found (meaning_of sc t)) t l)
 
 content_lies : (sc : Scope) (alone only : Bool) (content : List ℕ) → AllLie (length content) (content_faults sc alone only content)
 content_lies sc alone only content =
@@ -158,5 +158,5 @@ all_places : (size : ℕ) (f : Place → Scope) (ps : List Place) → AllByRecur
 all_places size f [] h = tt
 all_places size f (p ∷ ps) h = both_lie size (place_faults (f p) p) (flat_map (λ p. place_faults (f p) p) ps) (place_lies size (f p) p h.0) (all_places size f ps h.1)
 
-pub expression_faults_lie : (size : ℕ) (kind : FileKind) (known : Known) (root : Node) → IsLaid size root → AreFrom size root → AllLie size (expression_faults kind known root)
+pub expression_faults_lie : (size : ℕ) (kind : FileKind) (known : OutputNames) (root : Node) → IsLaid size root → AreFrom size root → AllLie size (expression_faults kind known root)
 expression_faults_lie size kind known root w f = all_places size (scope_at kind known root) (places_of kind root) (places_there size kind root w f)

@@ -8,8 +8,7 @@ use Rattle.al_base.specs.Spans.{LiesIn}
 use Rattle.al_base.specs.declared.faults.Span.{Span}
 use Rattle.al_scalar.specs.Line.{Cell}
 use Rattle.al_scalar.specs.Offsets.{AreRising, IsFrom, IsPlaced, is_block, reach}
-use Rattle.al_scalar.specs.Private.Located.{offset_or}
-use Rattle.al_scalar.specs.Scalar.{Scalar, text_of}
+use Rattle.al_scalar.specs.Scalar.{Scalar, offset_or, text_of}
 use Rattle.al_scalar.specs.declared.styles.Style.{Style}
 use Rattle.al_yaml_tree.specs.Access.{entries}
 use Rattle.al_yaml_tree.specs.Node.{Node, Nodes, Entries, scalar, sequence, mapping, no_nodes, item, no_entries, entry}
@@ -17,7 +16,7 @@ use Rattle.al_yaml_tree.specs.Spans.{AreFrom, AreLaid, EntriesFrom, EntriesLaid,
 use Rattle.al_yaml_tree.specs.Texts.{EntriesHaveTexts, HasTexts, HaveTexts}
 use Rattle.al_tree.specs.Faults.{Standing, repeated, unexpected, ignored, expected, standing, mapping_shape}
 use Rattle.al_tree.specs.Keys.{key_text, keys_in}
-use Rattle.al_tree.specs.Names.{among}
+use Rattle.al_base.specs.Names.{among}
 use Rattle.al_tree.specs.Table.{Keys, rule}
 use Rattle.al_tree.specs.declared.table.Shape.{Shape}
 use Rattle.al_tree.specs.Files.{shape_of}

@@ -14,7 +14,7 @@ use Rattle.al_expr_grammar.specs.Table.{Verdict, Fine, Early, Unexpected, TooDee
 use Rattle.al_expr_grammar.specs.declared.token.TokenKind.{TokenKind}
 use Rattle.al_expr_grammar.specs.declared.token.TokenKind.TheVariants.{Dot, OpenIndex, Infix}
 use Rattle.al_expr_grammar.specs.declared.parser.ParseError.TheVariants as error
-use Rattle.al_expr_grammar.proofs.Total.{Outcome, read, refused, all}
+use Rattle.al_expr_grammar.proofs.Total.{Outcome, outcome_of, read, refused}
 use Rattle.al_check_expressions.specs.Spelled.{tree_in, tree_of_content, tree_of_tokens}
 
 -- Where an operand was read and neither fault is left, nothing is left.
@@ -96,14 +96,14 @@ spelled one content t none s =
     let ts = s.tokens in
     let here = not_long (nat_lt 21000 (length content)) _ (fault_of_tokens content (tokens_of content)) none in
     let there = sym (ap (fault_of_tokens content) s.reads) ∙ here in
-    ap tree_of_tokens s.reads ∙ constructed one ts t s.derives (are_fine (length content) ts there) (all (suc (length ts)) 50 ts (omega arith))
+    ap tree_of_tokens s.reads ∙ constructed one ts t s.derives (are_fine (length content) ts there) (outcome_of ts)
 
 -- and spells the tree that it has
 module _ (one : OneTree) (some : SomeTree) (content : List ℕ) (t : Tree) where
   spelled_by : (l : Lexed) → tokens_of content ≡ l → fault_of_tokens content l ≡ None → tree_of_tokens l ≡ Some t → Spells content t
   spelled_by (AllRead ts) reads none has =
       let there = some ts (are_fine (length content) ts none) in
-      let made = constructed one ts there.0 there.1 (are_fine (length content) ts none) (all (suc (length ts)) 50 ts (omega arith)) in
+      let made = constructed one ts there.0 there.1 (are_fine (length content) ts none) (outcome_of ts) in
       let both : Some there.0 ≡ Some t = sym made ∙ has in
       let same : there.0 ≡ t = cc in
       record { tokens = ts; reads = reads; derives = subst (λ u. IsTreeOf u ts) same there.1 }

@@ -9,11 +9,11 @@ use Rattle.al_base.specs.declared.faults.Span.{Span}
 use Rattle.al_scalar.specs.Scalar.{Scalar, offset_of, text_of}
 use Rattle.al_expr_grammar.specs.Chunks.{Chunked, chunks_of}
 use Rattle.al_expr_grammar.specs.Extents.{extent}
-use Rattle.al_expr_grammar.specs.Refusal.{fault, fault_of_content}
+use Rattle.al_expr_grammar.specs.Refusal.{expression_fault, fault_of_content}
 use Rattle.al_expr_grammar.specs.Tree.{Tree}
 use Rattle.al_types.specs.Scopes.{Scope}
 use Rattle.al_types.specs.Types.{Type', is_collection}
-use Rattle.al_expr_typing.specs.Meaning.{faults_in, meaning_of, type_in}
+use Rattle.al_expr_typing.specs.Meaning.{faults_found, meaning_of, type_found}
 use Rattle.al_tree.specs.Faults.{has_chunk}
 use Rattle.al_check_places.specs.Places.{Place}
 use Rattle.al_check_expressions.specs.Spelled.{tree_of_content}
@@ -43,11 +43,11 @@ fault_in_file s by f = record f { span = span_in_file s (by + f.span.start) (by 
 -- X18: an object or array, beside other text or where only a scalar is taken
 abbrev pub collection_faults : Bool → Bool → Type' → Tree → List Fault
 collection_faults is_alone is_scalar_only t tree =
-    if is_collection t && (not is_alone || is_scalar_only) then fault code.NotText (extent tree) [] ∷ [] else []
+    if is_collection t && (not is_alone || is_scalar_only) then expression_fault code.NotText (extent tree) [] ∷ [] else []
 
 abbrev pub tree_faults : Scope → Bool → Bool → Tree → List Fault
 tree_faults sc is_alone is_scalar_only tree =
-    faults_in (meaning_of sc tree) ++ collection_faults is_alone is_scalar_only (type_in (meaning_of sc tree)) tree
+    faults_found (meaning_of sc tree) ++ collection_faults is_alone is_scalar_only (type_found (meaning_of sc tree)) tree
 
 -- X1 to X6 stand alone
 abbrev pub content_faults : Scope → Bool → Bool → List ℕ → List Fault

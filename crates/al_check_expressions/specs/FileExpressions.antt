@@ -9,21 +9,21 @@ use Rattle.al_yaml_tree.specs.Node.{Node}
 use Rattle.al_yaml_tree.specs.Spans.{AreFrom, IsLaid}
 use Rattle.al_tree.specs.declared.files.FileKind.{FileKind}
 use Rattle.al_check_places.specs.Places.{Place, places_of}
-use Rattle.al_check_contexts.specs.Contexts.{Known}
+use Rattle.al_check_contexts.specs.Contexts.{OutputNames}
 use Rattle.al_check_contexts.specs.Scopes.{scope_at}
 use Rattle.al_check_expressions.specs.Contents.{place_faults}
 use Rattle.al_expr_grammar.specs.Inside.{AllLie}
 
 -- at a place of the file, under what can be referred to there
-abbrev pub faults_at : FileKind → Known → Node → Place → List Fault
-faults_at kind known root p = place_faults (scope_at kind known root p) p
+abbrev pub expression_faults_at : FileKind → OutputNames → Node → Place → List Fault
+expression_faults_at kind known root p = place_faults (scope_at kind known root p) p
 
-abbrev pub expression_faults : FileKind → Known → Node → List Fault
-expression_faults kind known root = flat_map (faults_at kind known root) (places_of kind root)
+abbrev pub expression_faults : FileKind → OutputNames → Node → List Fault
+expression_faults kind known root = flat_map (expression_faults_at kind known root) (places_of kind root)
 
 -- where the tree's nodes lie in a file of so many bytes, and each byte of its texts comes from there
 abbrev pub ExpressionFaultsLie : Type 0
-ExpressionFaultsLie = (size : ℕ) (kind : FileKind) (known : Known) (root : Node) → IsLaid size root → AreFrom size root →
+ExpressionFaultsLie = (size : ℕ) (kind : FileKind) (known : OutputNames) (root : Node) → IsLaid size root → AreFrom size root →
     AllLie size (expression_faults kind known root)
 
 -- a text without `${{` that is no condition has no fault, wherever it stands: so it is right that it has no place

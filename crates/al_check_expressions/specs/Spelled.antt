@@ -1,20 +1,20 @@
 -- The tree of a content. The law of the grammar says that a content without a fault spells exactly one; its proof is by a construction,
 -- and this is the tree that it constructs. Which one it is, `TreeIsSpelled` says without that proof.
-use Rattle.std.specs.Prelude.{◌≡◌, ◌↔◌, ℕ, suc, List, length, Option, Some, None}
-use Rattle.std.proofs.Common.{arith}
+use Rattle.std.specs.Prelude.{◌≡◌, ◌↔◌, ℕ, List, Option, Some, None}
+use Rattle.al_base.specs.Limits.{deepest_expression}
 use Rattle.al_expr_grammar.specs.Lexeme.{Lexeme}
 use Rattle.al_expr_grammar.specs.Tokens.{Lexed, AllRead, tokens_of}
 use Rattle.al_expr_grammar.specs.Tree.{Tree}
 use Rattle.al_expr_grammar.specs.Refusal.{Spells, fault_of_content}
 use Rattle.al_expr_grammar.specs.Grammar.{Binary}
-use Rattle.al_expr_grammar.proofs.Total.{Outcome, read, refused, all}
+use Rattle.al_expr_grammar.proofs.Total.{Outcome, outcome_of, read, refused}
 
-abbrev pub tree_in : (ts : List Lexeme) → Outcome (Binary 0) 50 ts → Option Tree
+abbrev pub tree_in : (ts : List Lexeme) → Outcome (Binary 0) deepest_expression ts → Option Tree
 tree_in ts (read t rest p) = Some t
 tree_in ts (refused e i r) = None
 
 abbrev pub tree_of_tokens : Lexed → Option Tree
-tree_of_tokens (AllRead ts) = tree_in ts (all (suc (length ts)) 50 ts (omega arith))
+tree_of_tokens (AllRead ts) = tree_in ts (outcome_of ts)
 tree_of_tokens other = None
 
 abbrev pub tree_of_content : List ℕ → Option Tree

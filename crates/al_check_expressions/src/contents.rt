@@ -4,11 +4,11 @@
 ghost use Rattle.std.specs.List.{flat_map};
 ghost use Rattle.std.specs.Prelude.{true, ◌≡◌, List, ◌++◌, ◌<◌, ◌^◌, map, All, OnOk};
 ghost use Rattle.al_scalar.specs.Scalar.{offset_of, text_of};
-ghost use Rattle.al_expr_grammar.specs.View.{tree_of};
+ghost use Rattle.al_expr_grammar.specs.View.{expr_view};
 ghost use Rattle.al_types.specs.Types.{Parts, is_collection};
 ghost use Rattle.al_expr_types.specs.Tables.{objects_of};
 ghost use Rattle.al_expr_types.specs.Types.{type_in};
-ghost use Rattle.al_expr_typing.specs.Scopes.{IsShown, scope_at};
+ghost use Rattle.al_expr_typing.specs.Scopes.{IsShown, scope_view};
 ghost use Rattle.al_check_expressions.specs.Contents as contents;
 ghost use Rattle.al_check_expressions.specs.Contents.{chunk_faults, chunked_faults, content_faults, is_one_chunk};
 ghost use Rattle.al_check_expressions.specs.Contents.{is_whole_span, fault_in_file, place_faults, tree_faults, HasRoom};
@@ -90,8 +90,8 @@ fn check_tree(
 ) -> Result<(), AllocError>
     requires { IsShown types.old text.now.scope.now }
     ensures ok { OnOk result
-        (faults.new ≡ faults.old ++ tree_faults (scope_at types.old text.now.scope.now)
-        text.now.is_alone text.now.is_scalar_only (tree_of expr.now)) }
+        (faults.new ≡ faults.old ++ tree_faults (scope_view types.old text.now.scope.now)
+        text.now.is_alone text.now.is_scalar_only (expr_view expr.now)) }
     ensures kept { BeginsWith (objects_of types.new) (objects_of types.old) }
 {
     let ty = type_of(types, text.scope, expr, faults)?;
@@ -110,7 +110,7 @@ fn check_content(
 ) -> Result<(), AllocError>
     requires { IsShown types.old text.now.scope.now }
     ensures ok { OnOk result
-        (faults.new ≡ faults.old ++ content_faults (scope_at types.old text.now.scope.now)
+        (faults.new ≡ faults.old ++ content_faults (scope_view types.old text.now.scope.now)
         text.now.is_alone text.now.is_scalar_only content.now) }
     ensures kept { BeginsWith (objects_of types.new) (objects_of types.old) }
 {
@@ -177,7 +177,7 @@ fn check_chunk(
     requires cut { IsCutFrom (text_of text.now.scalar.now) chunk.now }
     requires alone { text.now.is_alone ≡ is_one_chunk (text_of text.now.scalar.now) }
     ensures ok { OnOk result
-        (faults.new ≡ faults.old ++ chunk_faults (scope_at types.old text.now.scope.now)
+        (faults.new ≡ faults.old ++ chunk_faults (scope_view types.old text.now.scope.now)
         text.now.is_scalar_only text.now.scalar.now (span_of_chunk chunk.now)) }
     ensures kept { BeginsWith (objects_of types.new) (objects_of types.old) }
 {
@@ -203,7 +203,7 @@ fn check_each(
     requires cut { All (IsCutFrom (text_of text.now.scalar.now)) chunks.now }
     requires alone { text.now.is_alone ≡ is_one_chunk (text_of text.now.scalar.now) }
     ensures ok { OnOk result
-        (faults.new ≡ faults.old ++ flat_map (chunk_faults (scope_at types.old text.now.scope.now)
+        (faults.new ≡ faults.old ++ flat_map (chunk_faults (scope_view types.old text.now.scope.now)
         text.now.is_scalar_only text.now.scalar.now) (map span_of_chunk chunks.now)) }
     ensures kept { BeginsWith (objects_of types.new) (objects_of types.old) }
 {
@@ -223,7 +223,7 @@ fn check_chunks(
     requires shown { IsShown types.old scope.now }
     requires readable { IsReadable (place_of place.now) }
     ensures ok { OnOk result
-        (faults.new ≡ faults.old ++ chunked_faults (scope_at types.old scope.now)
+        (faults.new ≡ faults.old ++ chunked_faults (scope_view types.old scope.now)
         place.now.is_scalar_only place.now.scalar.now (chunks_of (text_of place.now.scalar.now))) }
     ensures kept { BeginsWith (objects_of types.new) (objects_of types.old) }
 {
@@ -253,7 +253,7 @@ fn check_whole(
     requires readable { IsReadable (place_of place.now) }
     ensures ok { OnOk result
         (faults.new ≡ faults.old ++ map (fault_in_file place.now.scalar.now 0) (content_faults
-        (scope_at types.old scope.now) true place.now.is_scalar_only
+        (scope_view types.old scope.now) true place.now.is_scalar_only
         (text_of place.now.scalar.now))) }
     ensures kept { BeginsWith (objects_of types.new) (objects_of types.old) }
 {
@@ -286,7 +286,7 @@ pub(crate) fn check_place(
     requires readable { IsReadable (place_of place.now) }
     ensures ok { OnOk result
         (faults.new ≡ faults.old
-        ++ place_faults (scope_at types.old scope.now) (place_of place.now)) }
+        ++ place_faults (scope_view types.old scope.now) (place_of place.now)) }
     ensures kept { BeginsWith (objects_of types.new) (objects_of types.old) }
 {
     if is_whole(place) {

@@ -4,7 +4,7 @@
 ghost use Rattle.std.specs.List.{flat_map};
 ghost use Rattle.std.specs.Prelude.{◌≡◌, ◌++◌, ◌+◌, map, All, OnOk};
 ghost use Rattle.al_check_expressions.specs.FileExpressions as file;
-ghost use Rattle.al_check_expressions.specs.FileExpressions.{expression_faults as faults_in, faults_at};
+ghost use Rattle.al_check_expressions.specs.FileExpressions.{expression_faults as faults_in, expression_faults_at};
 ghost use Rattle.al_check_expressions.specs.Inside.{IsReadable};
 ghost use Rattle.al_check_contexts.specs.Answered.{known_of};
 ghost use Rattle.al_check_contexts.specs.Standing.{Stands};
@@ -33,7 +33,7 @@ fn check_at<'a>(
     requires readable { IsReadable (place_of place) }
     ensures stands { OnOk result (Stands file.entry env.new) }
     ensures faults { OnOk result (faults.new ≡ faults.old
-        ++ faults_at (file.entry).kind (known_of (file.entry).known) (view (file.entry).root.now)
+        ++ expression_faults_at (file.entry).kind (known_of (file.entry).known) (view (file.entry).root.now)
         (place_of place.entry)) }
     ensures kept { OnOk result
         (BeginsWith (objects_of (env.new).types) (objects_of (env.old).types)) }
@@ -54,7 +54,7 @@ fn check_each<'a>(
     requires readable { All (λ p. IsReadable (place_of p)) places.now }
     ensures stands { OnOk result (Stands file.entry env.new) }
     ensures ok { OnOk result (faults.new ≡ faults.old
-        ++ flat_map (faults_at (file.entry).kind (known_of (file.entry).known)
+        ++ flat_map (expression_faults_at (file.entry).kind (known_of (file.entry).known)
         (view (file.entry).root.now))
         (map place_of places.now)) }
     ensures kept { OnOk result

@@ -9,7 +9,7 @@ use Rattle.al_base.specs.declared.codes.CallCode.TheVariants as code
 use Rattle.al_base.specs.declared.faults.Fault.{Fault}
 use Rattle.al_session_folder.specs.declared.lint.Target.{Target}
 use Rattle.al_check_interfaces.specs.FolderCalls.{FolderCall, as_folder_call, folder_call}
-use Rattle.al_check_interfaces.specs.Uses.{Call, Site, loop_faults, target_in, targets_of, that_uses}
+use Rattle.al_check_interfaces.specs.Uses.{Call, Site, cycle_faults, target_in, targets_of, that_uses}
 use Rattle.al_check_interfaces.specs.declared.calls.Call as code_calls
 use Rattle.al_check_interfaces.specs.declared.forms.Form.TheVariants.{Local}
 
@@ -81,7 +81,7 @@ module _ (all : List Site) (cs : List Call) (calls : List code_calls.Call) (are 
       by None c = refl
       by (Some t) c = refl
 
-  pub kept_faults : map (λ c. c.fault) calls ≡ loop_faults cs
+  pub kept_faults : map (λ c. c.fault) calls ≡ cycle_faults cs
   kept_faults =
       sym (map_seen (λ k. k.2) all calls) ∙ ap (map (λ k. k.2)) are
       ∙ of_kept (λ k. k.2) (λ c. option_map (λ t. that_uses code.LeadsBack c) (target_in c.form)) (λ c. by (target_in c.form) c) cs

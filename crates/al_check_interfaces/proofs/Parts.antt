@@ -8,10 +8,10 @@ use Rattle.al_scalar.specs.Scalar.{Scalar}
 use Rattle.al_yaml_tree.specs.Access.{entries, mapping_in, nodes, scalar_in, sequence_in}
 use Rattle.al_yaml_tree.specs.Node.{Node, Nodes, Entries, scalar, sequence, mapping, span_of}
 use Rattle.al_tree.proofs.Lists.{firsts_kept}
-use Rattle.al_tree.specs.Names.{among}
+use Rattle.al_base.specs.Names.{among}
 use Rattle.al_tree.specs.Faults.{is_key, is_null, value_in}
 use Rattle.al_tree.specs.Keys.{key_of}
-use Rattle.al_tree.specs.Values.{entries_at, entries_in, firsts_by, items_at, items_in, text_at, text_in, value_at}
+use Rattle.al_tree.specs.Values.{entries_at, entries_in, firsts_by, items_at, items_in, text_at_key, text_in, value_at}
 use Rattle.al_tree.specs.Files.{jobs_of}
 use Rattle.al_tree.specs.declared.files.FileKind.{FileKind}
 use Rattle.al_tree.specs.declared.files.FileKind.TheVariants as kind
@@ -64,7 +64,7 @@ module _ (P : Node → Type 0) (Q : Scalar × Span → Type 0) (kept : IsKept P)
       and_some (λ s. Q (s, span_of n)) Q (λ s. then_some (not (is_null s)) (s, span_of n)) (λ s q. either_some (is_null s) (s, span_of n) q)
       (scalar_in n) (scalar_kept n p)
 
-  text_kept : (k : List ℕ) (n : Node) → P n → IfSome (text_at k n) Q
+  text_kept : (k : List ℕ) (n : Node) → P n → IfSome (text_at_key k n) Q
   text_kept k n p = and_some P Q text_in text_in_kept (value_at k n) (value_kept k n p)
 
   entries_in_kept : (n : Node) → P n → AllByRecursion Pair (entries_in n)
@@ -104,5 +104,5 @@ module _ (P : Node → Type 0) (Q : Scalar × Span → Type 0) (kept : IsKept P)
   pub calls_kept : (R : Span → Type 0) → ((t : Scalar × Span) → Q t → R t.1) → (k : FileKind) (root : Node) → P root → AllByRecursion (IsCallKept R) (calls_in k root)
   calls_kept R h k root p =
       each_some IsSiteKept (IsCallKept R) call_at
-      (λ s q. map_some Q (IsCallKept R) (call_by s) (λ t w. (h t w, q)) (text_at (codes "uses") s.node) (text_kept (codes "uses") s.node q))
+      (λ s q. map_some Q (IsCallKept R) (call_by s) (λ t w. (h t w, q)) (text_at_key (codes "uses") s.node) (text_kept (codes "uses") s.node q))
       (sites_in k root) (sites_kept k root p)

@@ -5,16 +5,16 @@ use Rattle.std.specs.Bool.{then_some}
 use Rattle.std.specs.List.{cons_option, filter_map, list_any}
 use Rattle.std.specs.Option.{option_map_or, option_to_list}
 use Rattle.std.specs.Str.{bytes_eq}
-use Rattle.al_base.specs.Names.{same_name}
+use Rattle.al_base.specs.Names.{among, same_name}
 use Rattle.al_base.specs.declared.faults.Span.{Span}
 use Rattle.al_scalar.specs.Line.{Cell}
-use Rattle.al_scalar.specs.Scalar.{Scalar, span, text_of}
+use Rattle.al_scalar.specs.Scalar.{Scalar, text_of}
+use Rattle.al_base.specs.Spans.{span}
 use Rattle.al_yaml_tree.specs.Access.{entries, mapping_in, nodes, scalar_in, sequence_in}
 use Rattle.al_yaml_tree.specs.Node.{Node, Nodes, Entries, scalar, sequence, mapping, no_nodes, item, no_entries, entry}
 use Rattle.al_tree.specs.Faults.{is_key, is_null, value_in}
 use Rattle.al_tree.specs.Keys.{key_of, key_text}
-use Rattle.al_tree.specs.Names.{among}
-use Rattle.al_tree.specs.Values.{entries_in, firsts_by, text_at, text_in, texts_in, value_at, value_below}
+use Rattle.al_tree.specs.Values.{entries_in, firsts_by, text_at_key, text_in, texts_in, value_at, value_below}
 use Rattle.al_tree.specs.declared.files.FileKind.{FileKind}
 use Rattle.al_tree.specs.declared.files.FileKind.TheVariants as kind
 use Rattle.al_tree_declarations.specs.Declarations.{declared_below, declared_in, has_value, named_among, names_of, says}
@@ -143,7 +143,7 @@ text_of_value : (o : Option Node) → option_and_then text_in (option_map placel
 text_of_value None = refl
 text_of_value (Some n) = text_part n
 
-text_at_same : (k : List ℕ) (n : Node) → text_at k (placeless n) ≡ option_map placeless_text (text_at k n)
+text_at_same : (k : List ℕ) (n : Node) → text_at_key k (placeless n) ≡ option_map placeless_text (text_at_key k n)
 text_at_same k n = ap (option_and_then text_in) (value_same k n) ∙ text_of_value (value_at k n)
 
 cons_same : (o : Option (Scalar × Span)) (ts : List (Scalar × Span)) →
@@ -236,7 +236,7 @@ input_of_text (Some t) = ap input_named (text_same t.0)
 input_same : (n : Node) → input_of (placeless n) ≡ input_of n
 input_same n =
     ap (λ o. option_map_or (λ t. input_named (text_of t.0)) o input.String) (text_at_same (codes "type") n)
-    ∙ input_of_text (text_at (codes "type") n)
+    ∙ input_of_text (text_at_key (codes "type") n)
 
 taken_same : (by : Declaring) (n : Node) → type_taken by (placeless n) ≡ type_taken by n
 taken_same declared.CallInputs n = input_same n
@@ -264,7 +264,7 @@ name_of_text None = refl
 name_of_text (Some t) = ap Some (text_same t.0)
 
 name_same : (n : Node) → name_of (placeless n) ≡ name_of n
-name_same n = ap (option_map (λ t. text_of t.0)) (text_at_same (codes "name") n) ∙ name_of_text (text_at (codes "name") n)
+name_same n = ap (option_map (λ t. text_of t.0)) (text_at_same (codes "name") n) ∙ name_of_text (text_at_key (codes "name") n)
 
 any_call : (ts : List (Scalar × Span)) → list_any says_call (map placeless_text ts) ≡ list_any says_call ts
 any_call [] = refl

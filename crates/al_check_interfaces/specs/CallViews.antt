@@ -7,7 +7,7 @@ use Rattle.al_tree.specs.Values.{scalar_node_of}
 use Rattle.al_yaml_tree.specs.View.{view}
 use Rattle.al_check_interfaces.specs.FolderCalls.{FolderCall, as_folder_call}
 use Rattle.al_check_interfaces.specs.Forms.{form_by}
-use Rattle.al_check_interfaces.specs.Uses.{Call, Site, call_at, caller_of}
+use Rattle.al_check_interfaces.specs.Uses.{Call, Site, call_at, site_caller}
 use Rattle.al_check_interfaces.specs.declared.calls.Uses as code_uses
 use Rattle.al_check_interfaces.specs.declared.sites.Site as code_sites
 
@@ -18,7 +18,7 @@ abbrev pub site_of : code_sites.Site → Site
 site_of s = record { job = bytes_of s.job; step = s.step; node = view s.node.now }
 
 abbrev pub call_by : Site → Scalar × Span → Call
-call_by s t = record { site = s; at = t.1; text = text_of t.0; form = form_by (caller_of s) (text_of t.0) }
+call_by s t = record { site = s; at = t.1; text = text_of t.0; form = form_by (site_caller s) (text_of t.0) }
 
 abbrev pub uses_of : code_uses.Uses → Call
 uses_of u = call_by (site_of u.site) (scalar_node_of u.text)

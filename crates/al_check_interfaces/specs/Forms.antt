@@ -40,19 +40,19 @@ abbrev pub path_in : List ℕ → Option (List ℕ)
 path_in bs = if is_utf8 bs && is_none (path_fault_of bs) then Some bs else None
 
 -- `./DIR`, a trailing slash dropped
-abbrev pub folder_of : List ℕ → List ℕ
-folder_of rest = if ends_with nat_eq rest (codes "/") then take (length rest - 1) rest else rest
+abbrev pub without_slash : List ℕ → List ℕ
+without_slash rest = if ends_with nat_eq rest (codes "/") then take (length rest - 1) rest else rest
 
 -- both candidates, if they are paths
-abbrev pub first_of : Option (List ℕ) → Option (List ℕ) → Form
-first_of (Some a) (Some b) = Local (FirstOf a b)
-first_of _ _ = Other
+abbrev pub local_form : Option (List ℕ) → Option (List ℕ) → Form
+local_form (Some a) (Some b) = Local (FirstOf a b)
+local_form _ _ = Other
 
 abbrev pub file_in : List ℕ → List ℕ → Option (List ℕ)
 file_in dir file = path_in (if is_some_text dir then dir ++ codes "/" ++ file else file)
 
 abbrev pub local_step : List ℕ → Form
-local_step dir = first_of (file_in dir (codes "action.yml")) (file_in dir (codes "action.yaml"))
+local_step dir = local_form (file_in dir (codes "action.yml")) (file_in dir (codes "action.yaml"))
 
 abbrev pub local_job : List ℕ → Form
 local_job rest =
@@ -64,7 +64,7 @@ remote c bs = if is_some_cut (is_remote c) bs then Other else Wrong
 abbrev pub form_by : Caller → List ℕ → Form
 form_by caller.Step bs =
     if has_chunk bs then Wrong
-    else if starts_with nat_eq bs (codes "./") then local_step (folder_of (drop 2 bs))
+    else if starts_with nat_eq bs (codes "./") then local_step (without_slash (drop 2 bs))
     else if starts_with nat_eq bs (codes "docker://") && nat_lt 9 (length bs) then Other
     else remote caller.Step bs
 form_by caller.Job bs =

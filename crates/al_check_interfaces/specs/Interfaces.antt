@@ -9,7 +9,7 @@ use Rattle.al_base.specs.Names.{same_name}
 use Rattle.al_yaml_tree.specs.Access.{scalar_in}
 use Rattle.al_yaml_tree.specs.Node.{Node, mapping}
 use Rattle.al_tree.specs.Keys.{key_of}
-use Rattle.al_tree.specs.Values.{text_at, texts_in, value_at}
+use Rattle.al_tree.specs.Values.{text_at_key, texts_in, value_at}
 use Rattle.al_tree.specs.declared.files.FileKind.{FileKind}
 use Rattle.al_tree.specs.declared.files.FileKind.TheVariants as kind
 use Rattle.al_tree_declarations.specs.Declarations.{declared_below, has_value, is_composite, names_of}
@@ -48,7 +48,7 @@ abbrev pub parameters : Declaring → List (List ℕ) → Node → List Paramete
 parameters by ks n = map (parameter by) (declared_below ks n)
 
 abbrev pub name_of : Node → Option (List ℕ)
-name_of n = option_map (λ t. text_of t.0) (text_at (codes "name") n)
+name_of n = option_map (λ t. text_of t.0) (text_at_key (codes "name") n)
 
 -- `on` names `workflow_call` in any form
 abbrev pub names_call : Node → Bool

@@ -1,7 +1,8 @@
 -- Trees without their places, and that an interface has none: neither spans nor, under an input, anything but what calls see.
 use Rattle.std.specs.Prelude.{◌≡◌, codes, map}
 use Rattle.al_scalar.specs.Line.{Cell}
-use Rattle.al_scalar.specs.Scalar.{Scalar, span}
+use Rattle.al_scalar.specs.Scalar.{Scalar}
+use Rattle.al_base.specs.Spans.{span}
 use Rattle.al_yaml_tree.specs.Node.{Node, Nodes, Entries, scalar, sequence, mapping, no_nodes, item, no_entries, entry}
 use Rattle.al_tree.specs.Keys.{key_of}
 use Rattle.al_tree.specs.Values.{value_at}

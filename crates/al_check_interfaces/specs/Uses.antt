@@ -13,7 +13,7 @@ use Rattle.al_scalar.specs.Scalar.{text_of}
 use Rattle.al_yaml_tree.specs.Node.{Node}
 use Rattle.al_session_folder.specs.declared.lint.Target.{Target}
 use Rattle.al_tree.specs.Keys.{key_of}
-use Rattle.al_tree.specs.Values.{items_at, text_at}
+use Rattle.al_tree.specs.Values.{items_at, text_at_key}
 use Rattle.al_tree.specs.Files.{jobs_of}
 use Rattle.al_tree.specs.declared.files.FileKind.{FileKind}
 use Rattle.al_tree.specs.declared.files.FileKind.TheVariants as kind
@@ -28,8 +28,8 @@ pub record Site : Type 0 where
   pub step : Option ℕ
   pub node : Node
 
-abbrev pub caller_of : Site → Caller
-caller_of s = if is_some s.step then caller.Step else caller.Job
+abbrev pub site_caller : Site → Caller
+site_caller s = if is_some s.step then caller.Step else caller.Job
 
 abbrev pub step_sites : Option (List ℕ) → List Node → List Site
 step_sites job steps =
@@ -53,15 +53,15 @@ pub record Call : Type 0 where
   pub form : Form
 
 abbrev pub call_at : Site → Option Call
-call_at s = option_map (λ t. record { site = s; at = t.1; text = text_of t.0; form = form_by (caller_of s) (text_of t.0) })
-    (text_at (codes "uses") s.node)
+call_at s = option_map (λ t. record { site = s; at = t.1; text = text_of t.0; form = form_by (site_caller s) (text_of t.0) })
+    (text_at_key (codes "uses") s.node)
 
 abbrev pub calls_in : FileKind → Node → List Call
 calls_in kind root = filter_map call_at (sites_in kind root)
 
 -- a fault at `uses` that names its text
 abbrev pub that_uses : CallCode → Call → Fault
-that_uses f c = record { span = c.at; code = kind_of_code.Call f (caller_of c.site); args = utf8_lossy c.text ∷ [] }
+that_uses f c = record { span = c.at; code = kind_of_code.Call f (site_caller c.site); args = utf8_lossy c.text ∷ [] }
 
 -- C7
 abbrev pub wrong_uses : Call → List Fault
@@ -76,5 +76,5 @@ abbrev pub targets_of : List Call → List Target
 targets_of = filter_map (λ c. target_in c.form)
 
 -- what is said of each such call where it is on a call cycle, C9
-abbrev pub loop_faults : List Call → List Fault
-loop_faults = filter_map (λ c. option_map (λ t. that_uses code.LeadsBack c) (target_in c.form))
+abbrev pub cycle_faults : List Call → List Fault
+cycle_faults = filter_map (λ c. option_map (λ t. that_uses code.LeadsBack c) (target_in c.form))

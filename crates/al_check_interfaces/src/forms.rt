@@ -172,7 +172,7 @@ fn path_in(alloc: Global, bytes: &[u8]) -> Result<Option<Path>, AllocError>
 
 /// A folder without the slash that ends it.
 fn folder_of(rest: &[u8]) -> &[u8]
-    ensures { result.now ≡ forms.folder_of rest.now }
+    ensures { result.now ≡ forms.without_slash rest.now }
 {
     if rest.ends_with(b"/") {
         &rest[..rest.len() - 1]
@@ -203,7 +203,7 @@ fn file_in(alloc: Global, folder: &[u8], file: &[u8]) -> Result<Option<Path>, Al
 
 /// Both candidates, if they are paths.
 fn first_of(first: Option<Path>, second: Option<Path>) -> Form
-    ensures { result ≡ forms.first_of first second }
+    ensures { result ≡ forms.local_form first second }
 {
     match first {
         None => Form::Other,

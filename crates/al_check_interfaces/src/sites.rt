@@ -25,7 +25,7 @@ pub struct Site<'a> {
 
 /// Whether a step or a job stands there.
 pub fn caller_of(site: Site<'_>) -> Caller
-    ensures { result ≡ calling.caller_of (site_of site.entry) }
+    ensures { result ≡ calling.site_caller (site_of site.entry) }
 {
     match site.step {
         Some(_) => Caller::Step,

@@ -7,7 +7,7 @@ use Rattle.std.specs.Option.{option_to_list}
 use Rattle.std.specs.Prelude.{if◌then◌else◌}
 use Rattle.al_base.specs.Names.{same_name}
 use Rattle.al_types.specs.FusedFields.{are_distinct}
-use Rattle.al_types.specs.Puts.{Typed, firsts, put_or_fuse, put_all, put_new}
+use Rattle.al_types.specs.Puts.{TypedName, firsts, put_or_fuse, put_all, put_new}
 use Rattle.al_types.specs.Strings.{named_strings, strings}
 use Rattle.al_types.specs.Types.{Absent, ObjectOf, Optional, Present, String, common_in, fuse_optional, fuse_type, optional}
 use Rattle.al_types.proofs.FuseLaws.{last_turned, nothing_last, optional_assoc}
@@ -16,7 +16,7 @@ use Rattle.al_check_objects.specs.Objects.{strictly}
 
 -- ---- several that are put
 
-pub put_all_more : (put_or_fuse : List Typed → Typed → List Typed) (ts ps qs : List Typed) → put_all put_or_fuse ts (ps ++ qs) ≡ put_all put_or_fuse (put_all put_or_fuse ts ps) qs
+pub put_all_more : (put_or_fuse : List TypedName → TypedName → List TypedName) (ts ps qs : List TypedName) → put_all put_or_fuse ts (ps ++ qs) ≡ put_all put_or_fuse (put_all put_or_fuse ts ps) qs
 put_all_more put_or_fuse ts [] qs = refl
 put_all_more put_or_fuse ts (p ∷ ps) qs = put_all_more put_or_fuse (put_or_fuse ts p) ps qs
 
@@ -26,7 +26,7 @@ module _ {X Y : Type 0} (g : X → Y) where
       ap (map g) (take_more xs i x lt) ∙ ap (λ y. map g (take i xs ++ y ∷ [])) (sym e) ∙ map-append g (take i xs) (x ∷ [])
 
   -- one more of those that are put
-  pub put_next : (f : Y → Typed) (ts : List Typed) (xs : List X) (i : ℕ) (x : X) → i < length xs → x ≡ get_or xs i x →
+  pub put_next : (f : Y → TypedName) (ts : List TypedName) (xs : List X) (i : ℕ) (x : X) → i < length xs → x ≡ get_or xs i x →
       put_all put_new ts (map f (map g (take (i + 1) xs))) ≡ put_new (put_all put_new ts (map f (map g (take i xs)))) (f (g x))
   put_next f ts xs i x lt e =
       ap (λ ys. put_all put_new ts (map f ys)) (mapped_more xs i x lt e)
@@ -34,12 +34,12 @@ module _ {X Y : Type 0} (g : X → Y) where
       ∙ put_all_more put_new ts (map f (map g (take i xs))) (f (g x) ∷ [])
 
   -- likewise where it is told by its index
-  pub put_at : (f : Y → Typed) (ts : List Typed) (xs : List X) (i : ℕ) (d : X) → i < length xs →
+  pub put_at : (f : Y → TypedName) (ts : List TypedName) (xs : List X) (i : ℕ) (d : X) → i < length xs →
       put_all put_new ts (map f (map g (take (i + 1) xs))) ≡ put_new (put_all put_new ts (map f (map g (take i xs)))) (f (g (get_or xs i d)))
   put_at f ts xs i d lt = put_next f ts xs i (get_or xs i d) lt (get_or_default xs i d (get_or xs i d) lt)
 
   -- or none
-  pub put_if_next : (f : Y → Option Typed) (ts : List Typed) (xs : List X) (i : ℕ) (x : X) → i < length xs → x ≡ get_or xs i x →
+  pub put_if_next : (f : Y → Option TypedName) (ts : List TypedName) (xs : List X) (i : ℕ) (x : X) → i < length xs → x ≡ get_or xs i x →
       put_all put_new ts (filter_map f (map g (take (i + 1) xs)))
       ≡ put_all put_new (put_all put_new ts (filter_map f (map g (take i xs)))) (option_to_list (f (g x)))
   put_if_next f ts xs i x lt e =
@@ -48,7 +48,7 @@ module _ {X Y : Type 0} (g : X → Y) where
       ∙ put_all_more put_new ts (filter_map f (map g (take i xs))) (filter_map f (g x ∷ []))
       ∙ ap (put_all put_new (put_all put_new ts (filter_map f (map g (take i xs))))) (alone (f (g x)))
     where
-      alone : (o : Option Typed) → cons_option o [] ≡ option_to_list o
+      alone : (o : Option TypedName) → cons_option o [] ≡ option_to_list o
       alone None = refl
       alone (Some p) = refl
 
@@ -59,7 +59,7 @@ put_name : List (List ℕ) → List ℕ → List (List ℕ)
 put_name [] n = n ∷ []
 put_name (m ∷ ms) n = if same_name m n then m ∷ ms else m ∷ put_name ms n
 
-named_step : (b : Bool) (m : List ℕ) (ms more : List (List ℕ)) (ts : List Typed) → ts ≡ strings more →
+named_step : (b : Bool) (m : List ℕ) (ms more : List (List ℕ)) (ts : List TypedName) → ts ≡ strings more →
     (if b then (m, String) ∷ strings ms else (m, String) ∷ ts) ≡ strings (if b then m ∷ ms else m ∷ more)
 named_step true m ms more ts e = refl
 named_step false m ms more ts e = ap (λ us. (m, String) ∷ us) e
@@ -69,10 +69,10 @@ unfolding put_name
 put_string [] n = refl
 put_string (m ∷ ms) n = named_step (same_name m n) m ms (put_name ms n) (put_new (strings ms) (n, String)) (put_string ms n)
 
-abbrev common_of : List Typed → Optional
+abbrev common_of : List TypedName → Optional
 common_of ts = common_in ts
 
-common_step : (b : Bool) (m : List ℕ) (ms : List (List ℕ)) (ts : List Typed) → common_of ts ≡ fuse_optional (common_of (strings ms)) (Present String) →
+common_step : (b : Bool) (m : List ℕ) (ms : List (List ℕ)) (ts : List TypedName) → common_of ts ≡ fuse_optional (common_of (strings ms)) (Present String) →
     common_of (if b then (m, String) ∷ strings ms else (m, String) ∷ ts) ≡ fuse_optional (common_of (strings (m ∷ ms))) (Present String)
 common_step true m ms ts e = sym (last_turned (Present String) (common_of (strings ms)) (Present String))
 common_step false m ms ts e =
@@ -97,24 +97,24 @@ strings_once ns =
 
 -- ---- objects of which the fields are put together
 
-put_step : (b : Bool) (q p : Typed) (qs more : List Typed) → common_of more ≡ fuse_optional (common_of qs) (Present p.1) →
+put_step : (b : Bool) (q p : TypedName) (qs more : List TypedName) → common_of more ≡ fuse_optional (common_of qs) (Present p.1) →
     common_of (if b then (q.0, fuse_type q.1 p.1) ∷ qs else q ∷ more) ≡ fuse_optional (common_of (q ∷ qs)) (Present p.1)
 put_step true q p qs more e = last_turned (Present q.1) (Present p.1) (common_of qs)
 put_step false q p qs more e =
     ap (fuse_optional (Present q.1)) e ∙ sym (optional_assoc (Present q.1) (common_of qs) (Present p.1))
 
-common_put : (ts : List Typed) (p : Typed) → common_of (put_or_fuse ts p) ≡ fuse_optional (common_of ts) (Present p.1)
+common_put : (ts : List TypedName) (p : TypedName) → common_of (put_or_fuse ts p) ≡ fuse_optional (common_of ts) (Present p.1)
 common_put [] p = refl
 common_put (q ∷ qs) p = put_step (same_name q.0 p.0) q p qs (put_or_fuse qs p) (common_put qs p)
 
-common_put_all : (ts us : List Typed) → common_of (put_all put_or_fuse ts us) ≡ fuse_optional (common_of ts) (common_of us)
+common_put_all : (ts us : List TypedName) → common_of (put_all put_or_fuse ts us) ≡ fuse_optional (common_of ts) (common_of us)
 common_put_all ts [] = sym (nothing_last (common_of ts))
 common_put_all ts (p ∷ us) =
     common_put_all (put_or_fuse ts p) us ∙ ap (λ o. fuse_optional o (common_of us)) (common_put ts p)
     ∙ optional_assoc (common_of ts) (Present p.1) (common_of us)
 
 -- an object of the fields of two objects, fused at each name, is what these have in common
-pub put_together : (ts us : List Typed) → are_distinct us ≡ true → strictly (put_all put_or_fuse ts us) ≡ fuse_type (strictly ts) (strictly us)
+pub put_together : (ts us : List TypedName) → are_distinct us ≡ true → strictly (put_all put_or_fuse ts us) ≡ fuse_type (strictly ts) (strictly us)
 put_together ts us h =
     λ d. ObjectOf (found_in_both ts us h d) Absent (all d)
   where

@@ -9,7 +9,7 @@ use Rattle.al_tree.specs.Values.{entries_in, firsts_by, value_at, value_below}
 use Rattle.al_tree_declarations.specs.Declarations.{declared_in, named_among}
 use Rattle.al_check_objects.specs.Inputs.{input_type, event_inputs, input_field}
 use Rattle.al_tree_declarations.specs.Inputs.{input_of}
-use Rattle.al_types.specs.Puts.{Typed, firsts, put_or_fuse, put_all, put_new}
+use Rattle.al_types.specs.Puts.{TypedName, firsts, put_or_fuse, put_all, put_new}
 use Rattle.al_types.specs.Types.{Type', fuse_type}
 use Rattle.al_types.proofs.GatheredFields.{firsts_distinct}
 use Rattle.al_yaml_tree.specs.Node.{Node}
@@ -17,7 +17,7 @@ use Rattle.al_check_objects.specs.Objects.{strictly}
 use Rattle.al_check_objects.proofs.FieldLists.{put_together}
 
 -- a field of a name is among some
-abbrev has_name : List Typed → List ℕ → Bool
+abbrev has_name : List TypedName → List ℕ → Bool
 has_name ts n = list_any (λ q. same_name q.0 n) ts
 
 or_assoc : (a b c : Bool) → (a || b) || c ≡ a || (b || c)
@@ -32,18 +32,18 @@ any_more test [] x = alone (test x)
     alone false = refl
 any_more test (y ∷ xs) x = ap (λ b. test y || b) (any_more test xs x) ∙ sym (or_assoc (test y) (list_any test xs) (test x))
 
-last_step : (b had : Bool) (q p : Typed) (qs more : List Typed) → (b || had) ≡ false → (had ≡ false → more ≡ qs ++ p ∷ []) →
+last_step : (b had : Bool) (q p : TypedName) (qs more : List TypedName) → (b || had) ≡ false → (had ≡ false → more ≡ qs ++ p ∷ []) →
     (if b then q ∷ qs else q ∷ more) ≡ (q ∷ qs) ++ p ∷ []
 last_step true had q p qs more e h = absurd cc
 last_step false had q p qs more e h = ap (λ us. q ∷ us) (h e)
 
 -- one that is new goes behind the others
-put_last : (ts : List Typed) (p : Typed) → has_name ts p.0 ≡ false → put_new ts p ≡ ts ++ p ∷ []
+put_last : (ts : List TypedName) (p : TypedName) → has_name ts p.0 ≡ false → put_new ts p ≡ ts ++ p ∷ []
 put_last [] p e = refl
 put_last (q ∷ qs) p e = last_step (same_name q.0 p.0) (has_name qs p.0) q p qs (put_new qs p) e (put_last qs p)
 
 -- the names of fields are among these
-abbrev AreAmong : List Typed → List (List ℕ) → Type 0
+abbrev AreAmong : List TypedName → List (List ℕ) → Type 0
 AreAmong ts ns = (n : List ℕ) → has_name ts n ≡ true → named_among ns n ≡ true
 
 either : (a b c : Bool) → (a ≡ true → b ≡ true) → (a || c) ≡ true → (b || c) ≡ true
@@ -55,12 +55,12 @@ left : (a c : Bool) → a ≡ true → (a || c) ≡ true
 left true c e = refl
 left false c e = absurd cc
 
-among_more : (ts : List Typed) (ns : List (List ℕ)) (p : Typed) → AreAmong ts ns → AreAmong (ts ++ p ∷ []) (ns ++ p.0 ∷ [])
+among_more : (ts : List TypedName) (ns : List (List ℕ)) (p : TypedName) → AreAmong ts ns → AreAmong (ts ++ p ∷ []) (ns ++ p.0 ∷ [])
 among_more ts ns p h n e =
     any_more (λ m. same_name m n) ns p.0
-    ∙ either (has_name ts n) (named_among ns n) (same_name p.0 n) (h n) (sym (any_more (λ (q : Typed). same_name q.0 n) ts p) ∙ e)
+    ∙ either (has_name ts n) (named_among ns n) (same_name p.0 n) (h n) (sym (any_more (λ (q : TypedName). same_name q.0 n) ts p) ∙ e)
 
-among_wider : (ts : List Typed) (ns : List (List ℕ)) (m : List ℕ) → AreAmong ts ns → AreAmong ts (ns ++ m ∷ [])
+among_wider : (ts : List TypedName) (ns : List (List ℕ)) (m : List ℕ) → AreAmong ts ns → AreAmong ts (ns ++ m ∷ [])
 among_wider ts ns m h n e = any_more (λ k. same_name k n) ns m ∙ left (named_among ns n) (same_name m n) (h n e)
 
 none_among : (a b : Bool) → (a ≡ true → b ≡ true) → b ≡ false → a ≡ false
@@ -68,11 +68,11 @@ none_among true b h e = absurd (cc (h refl))
 none_among false b h e = refl
 
 module _ (ty : Node × Node → Type') where
-  abbrev field : Node × Node → Typed
+  abbrev field : Node × Node → TypedName
   field e = (key_of e, ty e)
 
-  named_step : (seen : List (List ℕ)) (ts : List Typed) (e : Node × Node) (rest : List (Node × Node)) (b : Bool) → named_among seen (key_of e) ≡ b →
-      AreAmong ts seen → ((us : List Typed) → AreAmong us (seen ++ key_of e ∷ []) → put_all put_new us (map field rest) ≡ us ++ map field rest) →
+  named_step : (seen : List (List ℕ)) (ts : List TypedName) (e : Node × Node) (rest : List (Node × Node)) (b : Bool) → named_among seen (key_of e) ≡ b →
+      AreAmong ts seen → ((us : List TypedName) → AreAmong us (seen ++ key_of e ∷ []) → put_all put_new us (map field rest) ≡ us ++ map field rest) →
       put_all put_new ts (map field ((if b then [] else e ∷ []) ++ rest)) ≡ ts ++ map field ((if b then [] else e ∷ []) ++ rest)
   named_step seen ts e rest true is h more = more ts (among_wider ts seen (key_of e) h)
   named_step seen ts e rest false is h more =
@@ -81,7 +81,7 @@ module _ (ty : Node × Node → Type') where
       ∙ more (ts ++ field e ∷ []) (among_more ts seen (field e) h)
       ∙ append_assoc ts (field e ∷ []) (map field rest)
 
-  put_named : (seen : List (List ℕ)) (ts : List Typed) (es : List (Node × Node)) → AreAmong ts seen →
+  put_named : (seen : List (List ℕ)) (ts : List TypedName) (es : List (Node × Node)) → AreAmong ts seen →
       put_all put_new ts (map field (firsts_by named_among seen es)) ≡ ts ++ map field (firsts_by named_among seen es)
   put_named seen ts [] h = sym (append-nil ts)
   put_named seen ts (e ∷ es) h =

@@ -6,7 +6,7 @@ use Rattle.std.specs.Prelude.{if◌then◌else◌, is_none, zip}
 use Rattle.al_base.specs.Growth.{BeginsWith}
 use Rattle.al_base.specs.Names.{same_name}
 use Rattle.al_base.specs.NamePlaces.{name_place}
-use Rattle.al_types.specs.Puts.{Typed, put_new}
+use Rattle.al_types.specs.Puts.{TypedName, put_new}
 use Rattle.al_types.specs.Types.{Any, Parts, String, Type'}
 use Rattle.al_expr_types.specs.Names.{names_in}
 use Rattle.al_expr_types.specs.Tables.{is_known, objects_of, type_at}
@@ -19,7 +19,7 @@ use Rattle.al_expr_types.specs.declared.types.Types.{Types}
 use Rattle.al_expr_types.proofs.Below.{all_more, types_kept}
 use Rattle.al_expr_types.proofs.PrefixLemmas.{types_wider}
 use Rattle.al_expr_types.proofs.Tables.{length_after}
-use Rattle.al_expr_typing.proofs.Shown.{known_stays, type_stays}
+use Rattle.al_expr_types.proofs.Stays.{known_stays, type_stays}
 use Rattle.al_check_objects.specs.Numbers.{Lists, Means, fields_in, is_map_below}
 use Rattle.al_check_objects.specs.declared.field_lists.FieldList.{FieldList}
 
@@ -55,7 +55,7 @@ fields_stay new old l b h =
     let below = ap (λ n. is_map_below n l) (length_after [] old.objects.items) ∙ h in
     ap (λ ms. fields_in ms l) b.is ∙ ap (zip (names_in l.names)) (types_kept (objects_of old) b.more l.types.items below)
 
-pub lists_stay : (new old : Types) (l : FieldList) (ts : List Typed) → BeginsWith (objects_of new) (objects_of old) → Lists old l ts → Lists new l ts
+pub lists_stay : (new old : Types) (l : FieldList) (ts : List TypedName) → BeginsWith (objects_of new) (objects_of old) → Lists old l ts → Lists new l ts
 lists_stay new old l ts b h = record {
   known = types_wider new.objects.items old.objects.items l.map b h.known;
   are = fields_stay new old l.map b h.known ∙ h.are;
@@ -63,7 +63,7 @@ lists_stay new old l ts b h = record {
 
 -- ---- one field more
 
-put_step : (b : Bool) (o : Option ℕ) (m n : List ℕ) (u t : Type') (ns : List (List ℕ)) (us : List Type') (more : List Typed) →
+put_step : (b : Bool) (o : Option ℕ) (m n : List ℕ) (u t : Type') (ns : List (List ℕ)) (us : List Type') (more : List TypedName) →
     zip (if is_none o then ns ++ n ∷ [] else ns) (if is_none o then us ++ t ∷ [] else us) ≡ more →
     zip (if is_none (if b then Some 0 else option_map (λ i. i + 1) o) then (m ∷ ns) ++ n ∷ [] else m ∷ ns)
     (if is_none (if b then Some 0 else option_map (λ i. i + 1) o) then (u ∷ us) ++ t ∷ [] else u ∷ us)
@@ -102,7 +102,7 @@ all_if test true xs x h k = all_more test xs x h k
 all_if test false xs x h k = h
 
 -- a list with one more field, unless one has its name
-pub lists_more : (types : Types) (old new : FieldList) (n : List ℕ) (t : Ty) (ts : List Typed) (m : Type') →
+pub lists_more : (types : Types) (old new : FieldList) (n : List ℕ) (t : Ty) (ts : List TypedName) (m : Type') →
     names_in new.map.names ≡ (if is_none (name_place (names_in old.map.names) n) then names_in old.map.names ++ n ∷ [] else names_in old.map.names) →
     new.map.types.items ≡ (if is_none (name_place (names_in old.map.names) n) then old.map.types.items ++ t ∷ [] else old.map.types.items) →
     Lists types old ts → Means types t m → Lists types new (put_new ts (n, m))
@@ -129,7 +129,7 @@ zip_long [] (u ∷ us) e = absurd (omega (arith, e))
 zip_long (n ∷ ns) [] e = refl
 zip_long (n ∷ ns) (u ∷ us) e = ap suc (zip_long ns us (omega (arith, e)))
 
-pub list_long : (types : Types) (l : FieldList) (ts : List Typed) → Lists types l ts → length l.map.types.items ≡ length ts
+pub list_long : (types : Types) (l : FieldList) (ts : List TypedName) → Lists types l ts → length l.map.types.items ≡ length ts
 list_long types l ts h =
     let us = map (type_in (objects_of types)) l.map.types.items in
     let same : length us ≡ length l.map.types.items = length-map l.map.types.items (type_in (objects_of types)) in

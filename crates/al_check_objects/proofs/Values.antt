@@ -5,7 +5,7 @@ use Rattle.std.specs.Prelude.{if◌then◌else◌}
 use Rattle.al_tree.specs.Keys.{key_of, key_text}
 use Rattle.al_tree.specs.Names.{is_combination_key}
 use Rattle.al_types.specs.FusedFields.{are_distinct}
-use Rattle.al_types.specs.Puts.{Typed, put_or_fuse, put_all, put_new}
+use Rattle.al_types.specs.Puts.{TypedName, put_or_fuse, put_all, put_new}
 use Rattle.al_types.specs.Types.{Optional, Present, fuse_optional}
 use Rattle.al_types.proofs.GatheredFields.{firsts_distinct}
 use Rattle.al_yaml_tree.specs.Node.{Entries, Node, entry, mapping, no_entries, scalar, sequence}
@@ -18,11 +18,11 @@ use Rattle.al_check_objects.proofs.FieldLists.{put_together}
 
 -- ---- fields that entries are
 
-listed : Entries → List Typed
+listed : Entries → List TypedName
 listed no_entries = []
 listed (entry k v es) = (key_text k, node_type v) ∷ listed es
 
-entries_listed : (ts : List Typed) (es : Entries) → entries_types ts es ≡ put_all put_new ts (listed es)
+entries_listed : (ts : List TypedName) (es : Entries) → entries_types ts es ≡ put_all put_new ts (listed es)
 unfolding listed
 entries_listed ts no_entries = refl
 entries_listed ts (entry k v es) = entries_listed (put_new ts (key_text k, node_type v)) es
@@ -33,19 +33,19 @@ distinct_combination (sequence ns at) = refl
 distinct_combination (mapping es at) = ap are_distinct (entries_listed [] es) ∙ firsts_distinct (listed es)
 
 -- one combination more
-include_more : (ts : List Typed) (ns : List Node) (n : Node) → include_all ts (ns ++ n ∷ []) ≡ put_all put_or_fuse (include_all ts ns) (combination n)
+include_more : (ts : List TypedName) (ns : List Node) (n : Node) → include_all ts (ns ++ n ∷ []) ≡ put_all put_or_fuse (include_all ts ns) (combination n)
 include_more ts [] n = refl
 include_more ts (m ∷ ns) n = include_more (put_all put_or_fuse ts (combination m)) ns n
 
 -- of an object of rows and one of each combination, with one more
-pub include_next : {X : Type 0} (g : X → Node) (ts : List Typed) (xs : List X) (i : ℕ) (x : X) (sofar new : Optional) → i < length xs → x ≡ get_or xs i x →
+pub include_next : {X : Type 0} (g : X → Node) (ts : List TypedName) (xs : List X) (i : ℕ) (x : X) (sofar new : Optional) → i < length xs → x ≡ get_or xs i x →
     sofar ≡ Present (strictly (include_all ts (map g (take i xs)))) → new ≡ fuse_optional sofar (Present (strictly (combination (g x)))) →
     new ≡ Present (strictly (include_all ts (map g (take (i + 1) xs))))
 include_next g ts xs i x sofar new lt e old step =
-    let front = map g (take i xs) in
+    let prefix = map g (take i xs) in
     step ∙ ap (λ o. fuse_optional o (Present (strictly (combination (g x))))) old
-    ∙ ap Present (sym (put_together (include_all ts front) (combination (g x)) (distinct_combination (g x))))
-    ∙ ap (λ us. Present (strictly us)) (sym (include_more ts front (g x)))
+    ∙ ap Present (sym (put_together (include_all ts prefix) (combination (g x)) (distinct_combination (g x))))
+    ∙ ap (λ us. Present (strictly us)) (sym (include_more ts prefix (g x)))
     ∙ ap (λ ns. Present (strictly (include_all ts ns)))
     (sym (ap (map g) (take_more xs i x lt) ∙ ap (λ y. map g (take i xs ++ y ∷ [])) (sym e) ∙ map-append g (take i xs) (x ∷ [])))
 
@@ -61,7 +61,7 @@ items_next g xs i x sofar new lt e step =
 
 -- ---- fields of entries, with those of one more
 
-pub entries_next : (es : List code_entry.Entry) (i : ℕ) (x : code_entry.Entry) (ts us : List Typed) → i < length es → x ≡ get_or es i x →
+pub entries_next : (es : List code_entry.Entry) (i : ℕ) (x : code_entry.Entry) (ts us : List TypedName) → i < length es → x ≡ get_or es i x →
     us ≡ put_new ts (key_text (view x.key), node_type (view x.value)) →
     entries_types us (entries_of (map entry_view (drop (i + 1) es))) ≡ entries_types ts (entries_of (map entry_view (drop i es)))
 entries_next es i x ts us lt e is =

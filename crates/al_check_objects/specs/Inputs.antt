@@ -11,7 +11,7 @@ use Rattle.al_tree_declarations.specs.declared.inputs.InputType.{InputType}
 use Rattle.al_tree_declarations.specs.declared.inputs.InputType.TheVariants as input
 use Rattle.al_types.specs.Strings.{named_strings}
 use Rattle.al_check_objects.specs.Objects.{strictly}
-use Rattle.al_types.specs.Puts.{Typed, put_or_fuse, put_all}
+use Rattle.al_types.specs.Puts.{TypedName, put_or_fuse, put_all}
 
 -- the type of expressions that an input has
 abbrev pub input_type : InputType → Type'
@@ -19,11 +19,11 @@ input_type input.Boolean = Bool'
 input_type input.Number = Number
 input_type input.String = String
 
-abbrev pub input_field : Node × Node → Typed
+abbrev pub input_field : Node × Node → TypedName
 input_field e = (key_of e, input_type (input_of e.1))
 
 -- the inputs that an event declares
-abbrev pub event_inputs : List ℕ → Node → List Typed
+abbrev pub event_inputs : List ℕ → Node → List TypedName
 event_inputs event root = map input_field (declared_below (codes "on" ∷ event ∷ codes "inputs" ∷ []) root)
 
 -- of a workflow those of a call, and those of a dispatch fused in; of an action strings

@@ -16,7 +16,7 @@ use Rattle.al_tree.specs.Keys.{key_of, key_text}
 use Rattle.al_tree.specs.Names.{is_combination_key}
 use Rattle.al_tree.specs.Values.{entries_in, items_in, value_at, value_below}
 use Rattle.al_check_objects.specs.Objects.{loose_any, strictly}
-use Rattle.al_types.specs.Puts.{Typed, firsts, put_or_fuse, put_all, put_new}
+use Rattle.al_types.specs.Puts.{TypedName, firsts, put_or_fuse, put_all, put_new}
 
 -- a scalar by its class; one with `${{` is any where it is one expression, else a string
 abbrev pub class_type : Class → Type'
@@ -26,13 +26,13 @@ class_type class.Int = Number
 class_type class.Float = Number
 class_type class.Str = String
 
-abbrev pub scalar_type : Scalar → Type'
-scalar_type s = if has_chunk (text_of s) then (if is_lone_chunk Nothing (text_of s) then Any else String) else class_type s.class
+abbrev pub matrix_scalar_type : Scalar → Type'
+matrix_scalar_type s = if has_chunk (text_of s) then (if is_lone_chunk Nothing (text_of s) then Any else String) else class_type s.class
 
 -- The type of a value: of a list an array of what its items have in common, of a mapping a strict object, of equal names the first.
 abbrev mutual
   pub node_type : Node → Type'
-  node_type (scalar s at) = scalar_type s
+  node_type (scalar s at) = matrix_scalar_type s
   node_type (sequence ns at) = ArrayOf (or_any (option_of (items_type Absent ns)))
   node_type (mapping es at) = strictly (entries_types [] es)
 
@@ -42,7 +42,7 @@ abbrev mutual
   items_type sofar (item n ns) = items_type (fuse_optional sofar (Present (node_type n))) ns
 
   -- fields, and those of these entries
-  pub entries_types : List Typed → Entries → List Typed
+  pub entries_types : List TypedName → Entries → List TypedName
   entries_types ts no_entries = ts
   entries_types ts (entry k v es) = entries_types (put_new ts (key_text k, node_type v)) es
 
@@ -52,18 +52,18 @@ row_type (sequence ns at) = or_any (option_of (items_type Absent ns))
 row_type _ = Any
 
 -- the rows of a matrix, of which each has a name
-abbrev pub row_field : Node × Node → Option Typed
+abbrev pub row_field : Node × Node → Option TypedName
 row_field e = if is_combination_key (key_of e) then None else Some (key_of e, row_type e.1)
 
-abbrev pub rows_of : Node → List Typed
+abbrev pub rows_of : Node → List TypedName
 rows_of n = firsts (filter_map row_field (entries_in n))
 
 -- the entries of one combination
-abbrev pub combination : Node → List Typed
+abbrev pub combination : Node → List TypedName
 combination (mapping es at) = entries_types [] es
 combination _ = []
 
-abbrev pub include_all : List Typed → List Node → List Typed
+abbrev pub include_all : List TypedName → List Node → List TypedName
 include_all = fold (λ ts n. put_all put_or_fuse ts (combination n))
 
 abbrev pub is_scalar : Node → Bool
@@ -74,7 +74,7 @@ abbrev pub is_open_include : Node → Bool
 is_open_include n = is_scalar n || list_any is_scalar (items_in n)
 
 -- the rows, and what each combination of `include` adds to them
-abbrev pub with_combinations : List Typed → Option Node → Type'
+abbrev pub with_combinations : List TypedName → Option Node → Type'
 with_combinations rows None = strictly rows
 with_combinations rows (Some n) = if is_open_include n then loose_any else strictly (include_all rows (items_in n))
 

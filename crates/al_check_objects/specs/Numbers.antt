@@ -1,7 +1,7 @@
 -- What numbers of a table of types stand for.
 use Rattle.std.specs.Prelude.{◌≡◌, ℕ, List, Bool, true, length}
 use Rattle.std.specs.List.{list_all}
-use Rattle.al_types.specs.Puts.{Typed}
+use Rattle.al_types.specs.Puts.{TypedName}
 use Rattle.al_types.specs.Types.{Parts, Type'}
 use Rattle.al_expr_types.specs.Names.{names_in}
 use Rattle.al_expr_types.specs.Tables.{is_known, objects_of, type_at}
@@ -17,13 +17,13 @@ pub record Means (types : Types) (t : Ty) (m : Type') : Type 0 where
   pub is : type_at types t ≡ m
 
 -- the fields of a map with their types
-abbrev pub fields_in : List Parts → FieldMap → List Typed
+abbrev pub fields_in : List Parts → FieldMap → List TypedName
 fields_in ms m = named_types ms (names_in m.names) m.types.items
 
 abbrev pub is_map_below : ℕ → FieldMap → Bool
 is_map_below n m = list_all (is_below n) m.types.items
 
 -- fields whose types are of the table, and that are these
-pub record Lists (types : Types) (l : FieldList) (ts : List Typed) : Type 0 where
+pub record Lists (types : Types) (l : FieldList) (ts : List TypedName) : Type 0 where
   pub known : is_map_below (length types.objects.items) l.map ≡ true
   pub are : fields_in (objects_of types) l.map ≡ ts

@@ -13,7 +13,7 @@ pub struct FieldList<'a> {
 impl<'a> FieldList<'a> {
     ghost use Rattle.std.specs.Prelude.{◌≡◌, [], List, IfOk, OnOk, length, map, true};
     ghost use Rattle.al_base.specs.Growth.{BeginsWith};
-    ghost use Rattle.al_types.specs.Puts.{Typed, put_all, put_new};
+    ghost use Rattle.al_types.specs.Puts.{TypedName, put_all, put_new};
     ghost use Rattle.al_types.specs.Strings.{strings};
     ghost use Rattle.al_types.specs.Types.{Type', object_with};
     ghost use Rattle.al_check_objects.specs.Numbers.{Lists, Means, is_map_below};
@@ -47,7 +47,7 @@ impl<'a> FieldList<'a> {
     /// The fields, and one more behind them unless one has its name.
     pub fn and(self, alloc: Global, name: &'a [u8], ty: Ty) -> Result<FieldList<'a>, AllocError>
         ensures { IfOk result
-            (λ l. (types : declared.Types) (ts : List Typed) (m : Type') → Lists types self.entry ts
+            (λ l. (types : declared.Types) (ts : List TypedName) (m : Type') → Lists types self.entry ts
             → Means types ty m
             → Lists types l (put_new ts (name.now, m))) }
     {
@@ -62,7 +62,7 @@ impl<'a> FieldList<'a> {
         names: &[&'a [u8]],
     ) -> Result<FieldList<'a>, AllocError>
         ensures { IfOk result
-            (λ l. (types : declared.Types) (ts : List Typed) → Lists types self.entry ts
+            (λ l. (types : declared.Types) (ts : List TypedName) → Lists types self.entry ts
             → Lists types l (put_all put_new ts (strings (map (λ n. n.now) names.now)))) }
     {
         let mut all = self;
@@ -96,7 +96,7 @@ impl<'a> FieldList<'a> {
     ) -> Result<Ty, AllocError>
         requires fields { is_map_below (length types.old.objects.items) self.map ≡ true }
         requires rest { is_rest_below (length types.old.objects.items) rest ≡ true }
-        ensures ty { IfOk result (λ t. (ts : List Typed) → Lists types.old self.entry ts
+        ensures ty { IfOk result (λ t. (ts : List TypedName) → Lists types.old self.entry ts
             → Means types.new t (object_with ts
             (rest_in (objects_of types.old) rest))) }
         ensures kept { OnOk result (BeginsWith (objects_of types.new) (objects_of types.old)) }

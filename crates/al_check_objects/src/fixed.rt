@@ -3,7 +3,6 @@ ghost use Rattle.std.specs.List.{list_all};
 ghost use Rattle.std.specs.Prelude.{◌≡◌, ◌∷◌, IfOk, OnOk, codes, map, true, ℕ};
 ghost use Rattle.al_base.specs.Growth.{BeginsWith};
 ghost use Rattle.al_check_objects.specs.Fixed as fixed;
-ghost use Rattle.al_check_objects.specs.Fixed.{github_type, job_type, runner_type, strategy_type};
 ghost use Rattle.al_check_objects.specs.Numbers.{Means};
 ghost use Rattle.al_expr_types.specs.Once.{are_once};
 ghost use Rattle.al_expr_types.specs.Tables.{objects_of, type_at};
@@ -95,8 +94,8 @@ fn runner_names() -> &'static [&'static [u8]]
 }
 
 /// The type of `github`. Fails with `AllocError` when out of memory, as all here.
-pub fn github(alloc: Global, types: &mut Types<'_>) -> Result<Ty, AllocError>
-    ensures ty { IfOk result (λ t. Means types.new t github_type) }
+pub fn github_type(alloc: Global, types: &mut Types<'_>) -> Result<Ty, AllocError>
+    ensures ty { IfOk result (λ t. Means types.new t fixed.github_type) }
     ensures kept { OnOk result (BeginsWith (objects_of types.new) (objects_of types.old)) }
 {
     let all = FieldList::of(alloc, github_fields())?;
@@ -105,8 +104,8 @@ pub fn github(alloc: Global, types: &mut Types<'_>) -> Result<Ty, AllocError>
 }
 
 /// The type of `runner`.
-pub fn runner(alloc: Global, types: &mut Types<'_>) -> Result<Ty, AllocError>
-    ensures ty { IfOk result (λ t. Means types.new t runner_type) }
+pub fn runner_type(alloc: Global, types: &mut Types<'_>) -> Result<Ty, AllocError>
+    ensures ty { IfOk result (λ t. Means types.new t fixed.runner_type) }
     ensures kept { OnOk result (BeginsWith (objects_of types.new) (objects_of types.old)) }
 {
     let all = FieldList::new(alloc).and_strings(alloc, runner_names())?;
@@ -115,8 +114,8 @@ pub fn runner(alloc: Global, types: &mut Types<'_>) -> Result<Ty, AllocError>
 }
 
 /// The type of `job`.
-pub fn job(alloc: Global, types: &mut Types<'_>) -> Result<Ty, AllocError>
-    ensures ty { IfOk result (λ t. Means types.new t job_type) }
+pub fn job_type(alloc: Global, types: &mut Types<'_>) -> Result<Ty, AllocError>
+    ensures ty { IfOk result (λ t. Means types.new t fixed.job_type) }
     ensures kept { OnOk result (BeginsWith (objects_of types.new) (objects_of types.old)) }
 {
     let status = FieldList::new(alloc).and(alloc, b"status", Ty::STRING)?;
@@ -125,8 +124,8 @@ pub fn job(alloc: Global, types: &mut Types<'_>) -> Result<Ty, AllocError>
 }
 
 /// The type of `strategy` in a job.
-pub fn strategy(alloc: Global, types: &mut Types<'_>) -> Result<Ty, AllocError>
-    ensures ty { IfOk result (λ t. Means types.new t strategy_type) }
+pub fn strategy_type(alloc: Global, types: &mut Types<'_>) -> Result<Ty, AllocError>
+    ensures ty { IfOk result (λ t. Means types.new t fixed.strategy_type) }
     ensures kept { OnOk result (BeginsWith (objects_of types.new) (objects_of types.old)) }
 {
     let one = FieldList::new(alloc).and(alloc, b"fail-fast", scalar(Scalar::Bool))?;

@@ -10,7 +10,7 @@ mod objects;
 mod scalars;
 
 pub use field_lists::FieldList;
-pub use fixed::{github, job, runner, strategy};
+pub use fixed::{github_type, job_type, runner_type, strategy_type};
 pub use inputs::inputs_type;
 pub use matrix::matrix_type;
 pub use objects::{declared_strings, key_texts, loose_any, loose_strings, no_fields};

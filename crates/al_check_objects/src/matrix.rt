@@ -10,7 +10,7 @@ ghost use Rattle.al_check_objects.specs.Numbers.{Lists, Means};
 ghost use Rattle.al_expr_types.specs.Tables.{is_known, objects_of};
 ghost use Rattle.al_expr_types.specs.declared.types.Types as declared;
 ghost use Rattle.al_tree.specs.Values.{member_of, value_at};
-ghost use Rattle.al_types.specs.Puts.{Typed, put_all, put_new};
+ghost use Rattle.al_types.specs.Puts.{TypedName, put_all, put_new};
 ghost use Rattle.al_types.specs.Types.{Absent, ArrayOf, Type', option_of, or_any};
 ghost use Rattle.al_yaml_tree.specs.View.{entries_of, entry_view, nodes_of, view};
 
@@ -30,7 +30,7 @@ use std::alloc::{AllocError, Global};
 /// The type of a scalar. Fails with `AllocError` when out of memory, as all here.
 fn scalar_type(alloc: Global, scalar: &Scalar) -> Result<Ty, AllocError>
     ensures { IfOk result
-        (λ t. (types : declared.Types) → Means types t (matrix.scalar_type scalar.now)) }
+        (λ t. (types : declared.Types) → Means types t (matrix.matrix_scalar_type scalar.now)) }
 {
     if !contains_chunk(scalar.text()) {
         return Ok(scalar_ty(class_type_of(scalar.class())));
@@ -140,7 +140,7 @@ fn and_row<'a>(
     entry: Member<'a>,
     rows: FieldList<'a>,
 ) -> Result<FieldList<'a>, AllocError>
-    ensures fields { IfOk result (λ l. (ts : List Typed) → Lists types.old rows.entry ts
+    ensures fields { IfOk result (λ l. (ts : List TypedName) → Lists types.old rows.entry ts
         → Lists types.new l (put_all put_new ts
         (option_to_list (row_field (member_of entry.entry))))) }
     ensures kept { OnOk result (BeginsWith (objects_of types.new) (objects_of types.old)) }
@@ -192,7 +192,7 @@ fn include<'a>(
     nodes: &'a [Node],
 ) -> Result<Ty, AllocError>
     requires { is_known types.old rows ≡ true }
-    ensures ty { IfOk result (λ t. (ts : List Typed) → Means types.old rows (strictly ts)
+    ensures ty { IfOk result (λ t. (ts : List TypedName) → Means types.old rows (strictly ts)
         → Means types.new t (strictly (include_all ts (map view nodes.entry.now)))) }
     ensures kept { OnOk result (BeginsWith (objects_of types.new) (objects_of types.old)) }
 {
@@ -238,7 +238,7 @@ fn with_combinations<'a>(
     combinations: Option<&'a Node>,
 ) -> Result<Ty, AllocError>
     requires { is_known types.old rows ≡ true }
-    ensures ty { IfOk result (λ t. (ts : List Typed) → Means types.old rows (strictly ts)
+    ensures ty { IfOk result (λ t. (ts : List TypedName) → Means types.old rows (strictly ts)
         → Means types.new t (matrix.with_combinations ts
         (option_map (λ n. view n.now) combinations.entry))) }
     ensures kept { OnOk result (BeginsWith (objects_of types.new) (objects_of types.old)) }

@@ -6,14 +6,14 @@ use Rattle.std.proofs.lemmas.Bool.{eqb-true}
 use Rattle.std.specs.Prelude.{codes}
 use Rattle.std.specs.Option.{option_map_or}
 use Rattle.std.specs.Str.{bytes_eq}
-use Rattle.al_check_places.specs.Paths.{Path, path, begins}
+use Rattle.al_check_places.specs.Paths.{Path, path, is_path_prefix}
 use Rattle.al_check_places.specs.Places.{fits as fits_rule, has_expression, place_at, scalar_places, takes_scalars_only}
 use Rattle.al_scalar.specs.Scalar.{Scalar}
 use Rattle.al_tree.specs.Table.{Rule}
 use Rattle.al_base.specs.declared.faults.Span.{Span}
 use Rattle.al_tree.specs.declared.files.FileKind.{FileKind}
 use Rattle.al_check_places.specs.Private.Endings.{is_condition_key}
-use Rattle.al_check_places.specs.Ways.{conditions, WayStep, is_checked, is_one, keys_of, step_of, under}
+use Rattle.al_check_places.specs.Ways.{conditions, WayStep, is_checked, is_one, keys_of, way_step_view, under}
 use Rattle.al_check_places.specs.declared.ways.WayStep as rust
 use Rattle.al_check_places.specs.declared.ways.WayStep.TheVariants.{Nth, Under}
 
@@ -32,26 +32,26 @@ behind : (k : List ℕ) (ks : List (List ℕ)) (l : List ℕ) → last_key ks �
 behind k [] l h = absurd cc
 behind k (m ∷ ks) l h = h
 
-front : (s : rust.WayStep) (way : List rust.WayStep) (l : List ℕ) → last_key (keys_of (map step_of way)) ≡ Some l →
-    last_key (keys_of (map step_of (s ∷ way))) ≡ Some l
-front (Under k) way l h = behind k.now (keys_of (map step_of way)) l h
+front : (s : rust.WayStep) (way : List rust.WayStep) (l : List ℕ) → last_key (keys_of (map way_step_view way)) ≡ Some l →
+    last_key (keys_of (map way_step_view (s ∷ way))) ≡ Some l
+front (Under k) way l h = behind k.now (keys_of (map way_step_view way)) l h
 front (Nth i) way l h = h
 
 -- the first steps of a way, one more of them
 pub one_step_more : (way : List rust.WayStep) (n : ℕ) (d s : rust.WayStep) → 0 < n → n ≤ length way → get_or way (n - 1) d ≡ s →
-    keys_of (map step_of (take n way)) ≡ keys_of (map step_of (take (n - 1) way ++ s ∷ []))
+    keys_of (map way_step_view (take n way)) ≡ keys_of (map way_step_view (take (n - 1) way ++ s ∷ []))
 one_step_more way n d s some within e =
     let count : n ≡ n - 1 + 1 = omega (arith, some) in
-    ap (λ k. keys_of (map step_of (take k way))) count
-    ∙ ap (λ l. keys_of (map step_of l)) (take_more way (n - 1) d (omega (arith, some, within)) ∙ ap (λ t. take (n - 1) way ++ t ∷ []) e)
+    ap (λ k. keys_of (map way_step_view (take k way))) count
+    ∙ ap (λ l. keys_of (map way_step_view l)) (take_more way (n - 1) d (omega (arith, some, within)) ∙ ap (λ t. take (n - 1) way ++ t ∷ []) e)
 
 -- positions at the end of a way have no keys
-pub keys_before_nth : (way : List rust.WayStep) (i : ℕ) → keys_of (map step_of (way ++ Nth i ∷ [])) ≡ keys_of (map step_of way)
+pub keys_before_nth : (way : List rust.WayStep) (i : ℕ) → keys_of (map way_step_view (way ++ Nth i ∷ [])) ≡ keys_of (map way_step_view way)
 keys_before_nth [] i = refl
 keys_before_nth (Under k ∷ way) i = ap (λ ks. k.now ∷ ks) (keys_before_nth way i)
 keys_before_nth (Nth j ∷ way) i = keys_before_nth way i
 
-last_under : (way : List rust.WayStep) (s : rust.WayStep) (k : List ℕ) → step_of s ≡ under k → last_key (keys_of (map step_of (way ++ s ∷ []))) ≡ Some k
+last_under : (way : List rust.WayStep) (s : rust.WayStep) (k : List ℕ) → way_step_view s ≡ under k → last_key (keys_of (map way_step_view (way ++ s ∷ []))) ≡ Some k
 last_under [] s k e = ap (λ u. last_key (keys_of (u ∷ []))) e
 last_under (t ∷ way) s k e = front t (way ++ s ∷ []) k (last_under way s k e)
 
@@ -60,10 +60,10 @@ both true b h = (refl, h)
 both false b h = absurd cc
 
 abbrev is_path : List (List ℕ) → Path → Bool
-is_path ks p = begins p ks && (length p == length ks)
+is_path ks p = is_path_prefix p ks && (length p == length ks)
 
 -- the last key of a way along a path is the path's
-ends_with : (p : Path) (w : List ℕ) (ks : List (List ℕ)) → begins (p ++ Some w ∷ []) ks ≡ true → length (p ++ Some w ∷ []) ≡ length ks →
+ends_with : (p : Path) (w : List ℕ) (ks : List (List ℕ)) → is_path_prefix (p ++ Some w ∷ []) ks ≡ true → length (p ++ Some w ∷ []) ≡ length ks →
     (k : List ℕ) → last_key ks ≡ Some k → bytes_eq w k ≡ true
 ends_with [] w [] h e k is = absurd cc
 ends_with [] w (l ∷ []) h e k is = sym (ap (bytes_eq w) (same l k is)) ∙ (both (bytes_eq w l) true h).0
@@ -72,12 +72,12 @@ ends_with (q ∷ p) w [] h e k is = absurd cc
 ends_with (q ∷ []) w (l ∷ []) h e k is = absurd cc
 ends_with (q ∷ r ∷ p) w (l ∷ []) h e k is = absurd cc
 ends_with (q ∷ p) w (l ∷ m ∷ ks) h e k is =
-    ends_with p w (m ∷ ks) (both (option_map_or (λ name. bytes_eq name l) q true) (begins (p ++ Some w ∷ []) (m ∷ ks)) h).1 (less (length (p ++ Some w ∷ [])) (length (m ∷ ks)) e) k is
+    ends_with p w (m ∷ ks) (both (option_map_or (λ name. bytes_eq name l) q true) (is_path_prefix (p ++ Some w ∷ []) (m ∷ ks)) h).1 (less (length (p ++ Some w ∷ [])) (length (m ∷ ks)) e) k is
 
 along : (p : Path) (w : List ℕ) (ks : List (List ℕ)) → is_path ks (p ++ Some w ∷ []) ≡ true →
     (k : List ℕ) → last_key ks ≡ Some k → bytes_eq w k ≡ true
 along p w ks h k is =
-    let parts = both (begins (p ++ Some w ∷ []) ks) (length (p ++ Some w ∷ []) == length ks) h in
+    let parts = both (is_path_prefix (p ++ Some w ∷ []) ks) (length (p ++ Some w ∷ []) == length ks) h in
     ends_with p w ks parts.0 (eqb-true (length (p ++ Some w ∷ [])) (length ks) parts.1) k is
 
 either : (a b c : Bool) → (a || b) ≡ true → (a ≡ true → c ≡ true) → (b ≡ true → c ≡ true) → c ≡ true
@@ -116,9 +116,9 @@ last_of_condition ks k is h =
     either f false all h5 (λ e. after (along (path "runs") (codes "post-if") ks e k is)) (λ h6. absurd (false_is_true h6))))))
 
 -- what is said of the last key of a way
-pub last_is_under : (way before : List rust.WayStep) (s : rust.WayStep) (k : List ℕ) → keys_of (map step_of way) ≡ keys_of (map step_of (before ++ s ∷ [])) →
-    step_of s ≡ under k → is_one conditions (keys_of (map step_of way)) ≡ true → is_condition_key k ≡ true
-last_is_under way before s k h e is = last_of_condition (keys_of (map step_of way)) k (ap last_key h ∙ last_under before s k e) is
+pub last_is_under : (way before : List rust.WayStep) (s : rust.WayStep) (k : List ℕ) → keys_of (map way_step_view way) ≡ keys_of (map way_step_view (before ++ s ∷ [])) →
+    way_step_view s ≡ under k → is_one conditions (keys_of (map way_step_view way)) ≡ true → is_condition_key k ≡ true
+last_is_under way before s k h e is = last_of_condition (keys_of (map way_step_view way)) k (ap last_key h ∙ last_under before s k e) is
 
 -- ---- scalars without an expression
 

@@ -9,7 +9,7 @@ use Rattle.al_yaml_tree.specs.declared.node.Node.{Node}
 use Rattle.al_yaml_tree.proofs.ViewLemmas.{entries_again, view_mapping, view_sequence}
 use Rattle.al_tree.specs.Faults.{mapping_shape}
 use Rattle.al_tree.specs.Keys.{keys_in}
-use Rattle.al_tree.specs.Names.{among}
+use Rattle.al_base.specs.Names.{among}
 use Rattle.al_tree.specs.Table.{rule}
 use Rattle.al_tree.specs.declared.table.Shape.{Shape}
 use Rattle.al_tree.specs.declared.files.FileKind.{FileKind}

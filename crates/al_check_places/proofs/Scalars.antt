@@ -11,7 +11,7 @@ use Rattle.al_yaml_tree.specs.Spans.{AreLaid, EntriesLaid, IsLaid}
 use Rattle.al_yaml_tree.specs.Texts.{EntriesHaveTexts, HasTexts, HaveTexts}
 use Rattle.al_tree.specs.Faults.{Standing, repeated, unexpected, ignored, expected, mapping_shape, standing}
 use Rattle.al_tree.specs.Keys.{key_text, keys_in}
-use Rattle.al_tree.specs.Names.{among}
+use Rattle.al_base.specs.Names.{among}
 use Rattle.al_tree.specs.Table.{Keys, Rule, rule}
 use Rattle.al_tree.specs.declared.table.Shape.{Shape}
 use Rattle.al_tree.specs.Files.{shape_of}

@@ -8,7 +8,7 @@ use Rattle.al_types.specs.declared.names.Context.TheVariants.{Github, Needs, Var
 use Rattle.al_types.specs.declared.names.Context.TheVariants.{Runner, Env, Secrets, Steps, Jobs}
 use Rattle.al_types.specs.declared.names.Function.{Function}
 use Rattle.al_types.specs.declared.names.Function.TheVariants.{HashFiles, Success, Always, Cancelled, Failure}
-use Rattle.al_check_places.specs.Paths.{Path, path, begins, key_of}
+use Rattle.al_check_places.specs.Paths.{Path, path, is_path_prefix, key_view}
 use Rattle.al_check_places.specs.declared.table.Row as rust
 
 -- a path, with the contexts and special functions there
@@ -67,8 +67,8 @@ longer (Some q) r = if nat_lt (length q.path) (length r.path) then Some r else S
 
 -- the longest of the rows whose path begins the keys; None where everything is available
 abbrev pub availability : List (List ℕ) → Option Row
-availability ks = fold longer None (filter (λ r. begins r.path ks) table)
+availability ks = fold longer None (filter (λ r. is_path_prefix r.path ks) table)
 
 -- what the program's rows stand for
-abbrev pub row_of : rust.Row → Row
-row_of r = record { path = map key_of r.path.now; contexts = r.contexts.now; special = r.special.now }
+abbrev pub row_view : rust.Row → Row
+row_view r = record { path = map key_view r.path.now; contexts = r.contexts.now; special = r.special.now }

@@ -17,12 +17,12 @@ path text =
     map (λ k. if bytes_eq k (codes "*") then None else Some k) (slice_split (nat_eq 46) (codes text))
 
 -- the path begins the keys
-abbrev pub begins : Path → List (List ℕ) → Bool
-begins [] ks = true
-begins (p ∷ ps) [] = false
-begins (p ∷ ps) (k ∷ ks) = option_map_or (λ name. bytes_eq name k) p true && begins ps ks
+abbrev pub is_path_prefix : Path → List (List ℕ) → Bool
+is_path_prefix [] ks = true
+is_path_prefix (p ∷ ps) [] = false
+is_path_prefix (p ∷ ps) (k ∷ ks) = option_map_or (λ name. bytes_eq name k) p true && is_path_prefix ps ks
 
 -- what the program's keys stand for
-abbrev pub key_of : Key → Option (List ℕ)
-key_of Id = None
-key_of (Named k) = Some k.now
+abbrev pub key_view : Key → Option (List ℕ)
+key_view Id = None
+key_view (Named k) = Some k.now

@@ -9,7 +9,7 @@ use Rattle.al_yaml_tree.specs.Access.{entries}
 use Rattle.al_yaml_tree.specs.Node.{Node, Nodes, Entries, scalar, sequence, mapping, no_nodes, item, no_entries, entry}
 use Rattle.al_tree.specs.Faults.{Standing, expected, standing, mapping_shape, scalar_fault, has_chunk, is_null}
 use Rattle.al_tree.specs.Keys.{key_text, keys_in}
-use Rattle.al_tree.specs.Names.{among}
+use Rattle.al_base.specs.Names.{among}
 use Rattle.al_tree.specs.Table.{Rule, Keys, no_keys, free, rule}
 use Rattle.al_tree.specs.declared.table.Shape.{Shape}
 use Rattle.al_tree.specs.declared.table.Shape.TheVariants.{Any}
@@ -17,7 +17,7 @@ use Rattle.al_tree.specs.declared.table.ScalarSet.TheVariants.{AnyScalar}
 use Rattle.al_tree.specs.Files.{shape_of}
 use Rattle.al_tree.specs.declared.files.FileKind.{FileKind}
 use Rattle.al_tree.specs.declared.files.FileKind.TheVariants as kind
-use Rattle.al_check_places.specs.Availability.{Row, availability, row_of}
+use Rattle.al_check_places.specs.Availability.{Row, availability, row_view}
 use Rattle.al_check_places.specs.Ways.{WayStep, under, nth, keys_of, is_checked, is_one, conditions, scripts}
 use Rattle.al_check_places.specs.Positions.{Position, position_of, position_view}
 use Rattle.al_check_places.specs.declared.walk.Place as rust
@@ -44,16 +44,16 @@ has_no_keys _ = false
 abbrev pub takes_scalars_only : Rule → Bool
 takes_scalars_only r = is_none r.items && has_no_keys r.keys_of
 
-abbrev pub available_at : FileKind → List WayStep → Option Row
-available_at kind.Workflow way = availability (keys_of way)
-available_at kind.Action way = None
+abbrev pub row_of_way : FileKind → List WayStep → Option Row
+row_of_way kind.Workflow way = availability (keys_of way)
+row_of_way kind.Action way = None
 
 abbrev pub place_at : FileKind → List WayStep → Bool → Scalar → Span → Place
 place_at k way only s at = record {
   word = s;
   at = at;
   is_scalar_only = only;
-  available = available_at k way;
+  available = row_of_way k way;
   is_condition = is_one conditions (keys_of way);
   is_script = is_one scripts (keys_of way);
   position = position_of k way;
@@ -108,7 +108,7 @@ place_of p = record {
   word = p.scalar.now;
   at = p.span;
   is_scalar_only = p.is_scalar_only;
-  available = option_map (λ r. row_of r.now) p.available;
+  available = option_map (λ r. row_view r.now) p.available;
   is_condition = p.is_condition;
   is_script = p.is_script;
   position = position_view p.position;

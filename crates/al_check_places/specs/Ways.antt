@@ -3,7 +3,7 @@ use Rattle.std.specs.Prelude.{ℕ, List, [], ◌∷◌, Bool, ◌&&◌, ◌==◌
 use Rattle.std.specs.List.{filter_map, list_any}
 use Rattle.al_tree.specs.declared.files.FileKind.{FileKind}
 use Rattle.al_tree.specs.declared.files.FileKind.TheVariants as kind
-use Rattle.al_check_places.specs.Paths.{Path, path, begins}
+use Rattle.al_check_places.specs.Paths.{Path, path, is_path_prefix}
 use Rattle.al_check_places.specs.declared.ways.WayStep as rust
 
 -- a step of a way: to the value under a key, or to the nth item of a list
@@ -11,31 +11,32 @@ pub data WayStep : Type 0 where
   under : List ℕ → WayStep
   nth : ℕ → WayStep
 
-abbrev pub key_of : WayStep → Option (List ℕ)
-key_of (under k) = Some k
-key_of (nth i) = None
+abbrev pub step_key : WayStep → Option (List ℕ)
+step_key (under k) = Some k
+step_key (nth i) = None
 
 -- the keys of a way, positions dropped
 abbrev pub keys_of : List WayStep → List (List ℕ)
-keys_of = filter_map key_of
+keys_of = filter_map step_key
 
 abbrev pub begins_one : List Path → List (List ℕ) → Bool
-begins_one paths ks = list_any (λ p. begins p ks) paths
+begins_one paths ks = list_any (λ p. is_path_prefix p ks) paths
 
 abbrev pub is_one : List Path → List (List ℕ) → Bool
-is_one paths ks = list_any (λ p. begins p ks && (length p == length ks)) paths
+is_one paths ks = list_any (λ p. is_path_prefix p ks && (length p == length ks)) paths
 
 -- Of a workflow: all but `needs`, `id` and `uses`, and of `on` the defaults and values of a call.
 abbrev pub is_checked_in_workflow : List (List ℕ) → Bool
 is_checked_in_workflow ks =
-    if begins (path "on") ks then begins_one (map path ("on.workflow_call.inputs.*.default" ∷ "on.workflow_call.outputs.*.value" ∷ [])) ks
+    if is_path_prefix (path "on") ks
+    then begins_one (map path ("on.workflow_call.inputs.*.default" ∷ "on.workflow_call.outputs.*.value" ∷ [])) ks
     else not (begins_one (map path ("jobs.*.needs" ∷ "jobs.*.uses" ∷ "jobs.*.steps.id" ∷ "jobs.*.steps.uses" ∷ [])) ks)
 
 -- Of an action: the defaults of inputs, the values of outputs, and below `runs` all but `using`, `id` and `uses`. A default or value
 -- is checked where it is itself a scalar: its way has no further key and no position.
 abbrev pub is_checked_in_action : ℕ → List (List ℕ) → Bool
 is_checked_in_action steps ks =
-    if begins (path "runs") ks then not (begins_one (map path ("runs.using" ∷ "runs.steps.id" ∷ "runs.steps.uses" ∷ [])) ks)
+    if is_path_prefix (path "runs") ks then not (begins_one (map path ("runs.using" ∷ "runs.steps.id" ∷ "runs.steps.uses" ∷ [])) ks)
     else begins_one (map path ("inputs.*.default" ∷ "outputs.*.value" ∷ [])) ks && (steps == 3)
 
 abbrev pub is_checked : FileKind → List WayStep → Bool
@@ -51,6 +52,6 @@ abbrev pub scripts : List Path
 scripts = map path ("jobs.*.steps.run" ∷ "runs.steps.run" ∷ [])
 
 -- what a step of the program's ways stands for
-abbrev pub step_of : rust.WayStep → WayStep
-step_of (rust.TheVariants.Under k) = under k.now
-step_of (rust.TheVariants.Nth i) = nth i
+abbrev pub way_step_view : rust.WayStep → WayStep
+way_step_view (rust.TheVariants.Under k) = under k.now
+way_step_view (rust.TheVariants.Nth i) = nth i

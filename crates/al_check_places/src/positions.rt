@@ -2,7 +2,7 @@
 ghost use Rattle.std.specs.Prelude.{◌≡◌, map};
 ghost use Rattle.al_check_places.specs.Positions as positions;
 ghost use Rattle.al_check_places.specs.Positions.{position_view, section_view};
-ghost use Rattle.al_check_places.specs.Ways.{step_of};
+ghost use Rattle.al_check_places.specs.Ways.{way_step_view};
 
 use crate::ways::WayStep;
 use al_tree::FileKind;
@@ -30,7 +30,7 @@ pub struct Position<'a> {
 }
 
 fn section_at<'a>(way: &[WayStep<'a>]) -> Section<'a>
-    ensures { section_view result ≡ positions.section_of (map step_of way.now) }
+    ensures { section_view result ≡ positions.section_of (map way_step_view way.now) }
 {
     match way {
         [WayStep::Under(first), WayStep::Under(second), ..] => {
@@ -72,7 +72,7 @@ fn seen_below(first: &[u8], second: &[u8]) -> Seen
 
 /// The steps that are seen where a way leads in a file of a kind.
 fn seen_at(kind: FileKind, way: &[WayStep<'_>]) -> Seen
-    ensures { result ≡ positions.seen_at kind (map step_of way.now) }
+    ensures { result ≡ positions.seen_at kind (map way_step_view way.now) }
 {
     match kind {
         FileKind::Workflow => match way {
@@ -95,7 +95,7 @@ fn seen_at(kind: FileKind, way: &[WayStep<'_>]) -> Seen
 
 /// Where a way leads in a file of a kind.
 pub(crate) fn position_at<'a>(kind: FileKind, way: &[WayStep<'a>]) -> Position<'a>
-    ensures { position_view result ≡ positions.position_of kind (map step_of way.now) }
+    ensures { position_view result ≡ positions.position_of kind (map way_step_view way.now) }
 {
     Position {
         section: section_at(way),

@@ -1,7 +1,7 @@
 //! Availability of contexts and special functions: the table, and its longest path.
 ghost use Rattle.std.specs.Prelude.{◌≡◌, IsTrue, map, option_map, true};
-ghost use Rattle.al_check_places.specs.Availability.{availability, longer, row_of, table};
-ghost use Rattle.al_check_places.specs.Paths.{begins, key_of};
+ghost use Rattle.al_check_places.specs.Availability.{availability, longer, row_view, table};
+ghost use Rattle.al_check_places.specs.Paths.{is_path_prefix, key_view};
 ghost use Rattle.std.specs.Option.{option_map_or};
 ghost use Rattle.std.specs.Str.{bytes_eq};
 
@@ -246,13 +246,13 @@ const TABLE: &[Row] = &[
 ];
 
 fn rows() -> &'static [Row]
-    ensures { map row_of result.now ≡ table }
+    ensures { map row_view result.now ≡ table }
 {
     TABLE
 }
 
 fn key_fits(key: &Key, name: &[u8]) -> bool
-    ensures { result ≡ option_map_or (λ n. bytes_eq n name.now) (key_of key.now) true }
+    ensures { result ≡ option_map_or (λ n. bytes_eq n name.now) (key_view key.now) true }
 {
     match key {
         Key::Id => true,
@@ -262,7 +262,7 @@ fn key_fits(key: &Key, name: &[u8]) -> bool
 
 /// Whether a path begins the keys.
 pub(crate) fn begins_keys(path: &[Key], keys: &[&[u8]]) -> bool
-    ensures { result ≡ begins (map key_of path.now) (map (λ k. k.now) keys.now) }
+    ensures { result ≡ is_path_prefix (map key_view path.now) (map (λ k. k.now) keys.now) }
 {
     match path.split_first() {
         None => true,
@@ -275,7 +275,7 @@ pub(crate) fn begins_keys(path: &[Key], keys: &[&[u8]]) -> bool
 
 /// Whether the third key of a path, where both have one, fits the third of the keys. That tells most rows of jobs apart.
 fn third_fits(path: &[Key], keys: &[&[u8]]) -> bool
-    ensures { IsTrue (begins (map key_of path.now) (map (λ k. k.now) keys.now)) → IsTrue result }
+    ensures { IsTrue (is_path_prefix (map key_view path.now) (map (λ k. k.now) keys.now)) → IsTrue result }
 {
     match path {
         [_, _, key, ..] => match keys {
@@ -288,7 +288,7 @@ fn third_fits(path: &[Key], keys: &[&[u8]]) -> bool
 
 /// The same of the fourth keys, which tell the rows of steps apart.
 fn fourth_fits(path: &[Key], keys: &[&[u8]]) -> bool
-    ensures { IsTrue (begins (map key_of path.now) (map (λ k. k.now) keys.now)) → IsTrue result }
+    ensures { IsTrue (is_path_prefix (map key_view path.now) (map (λ k. k.now) keys.now)) → IsTrue result }
 {
     match path {
         [_, _, _, key, ..] => match keys {
@@ -301,14 +301,14 @@ fn fourth_fits(path: &[Key], keys: &[&[u8]]) -> bool
 
 /// Whether the path of a row begins the keys.
 fn leads_to(row: &Row, keys: &[&[u8]]) -> bool
-    ensures { result ≡ begins (row_of row.now).path (map (λ k. k.now) keys.now) }
+    ensures { result ≡ is_path_prefix (row_view row.now).path (map (λ k. k.now) keys.now) }
 {
     third_fits(row.path, keys) && fourth_fits(row.path, keys) && begins_keys(row.path, keys)
 }
 
 fn better(best: Option<&'static Row>, row: &'static Row) -> Option<&'static Row>
-    ensures { option_map (λ r. row_of r.now) result
-        ≡ longer (option_map (λ r. row_of r.now) best.entry) (row_of row.now) }
+    ensures { option_map (λ r. row_view r.now) result
+        ≡ longer (option_map (λ r. row_view r.now) best.entry) (row_view row.now) }
 {
     match best {
         Some(old) => if old.path.len() < row.path.len() {
@@ -322,7 +322,7 @@ fn better(best: Option<&'static Row>, row: &'static Row) -> Option<&'static Row>
 
 /// The row of a place, by the keys on the way to it; None where everything is available.
 pub fn available(keys: &[&[u8]]) -> Option<&'static Row>
-    ensures { option_map (λ r. row_of r.now) result ≡ availability (map (λ k. k.now) keys.now) }
+    ensures { option_map (λ r. row_view r.now) result ≡ availability (map (λ k. k.now) keys.now) }
 {
     let rows = rows();
     let mut best: Option<&'static Row> = None;

@@ -2,14 +2,14 @@
 ghost use Rattle.std.specs.Prelude.{◌≡◌, ◌||◌, ◌++◌, ◌∷◌, [], false, map, option_map, IfOk, IsTrue, OnOk};
 ghost use Rattle.al_tree.specs.Faults.{standing_view};
 ghost use Rattle.al_tree.specs.Keys.{key_of as key_in, keys_in};
-ghost use Rattle.al_tree.specs.Names.{among};
+ghost use Rattle.al_base.specs.Names.{among};
 ghost use Rattle.al_tree.specs.Table.{keys_view, rule_view, rule as table_rule};
-ghost use Rattle.al_check_places.specs.Availability.{row_of};
+ghost use Rattle.al_check_places.specs.Availability.{row_view};
 ghost use Rattle.al_check_places.specs.Places as places;
-ghost use Rattle.al_check_places.specs.Places.{available_at, entry_places, place_of, places_of_node, places_of_entries};
+ghost use Rattle.al_check_places.specs.Places.{row_of_way, entry_places, place_of, places_of_node, places_of_entries};
 ghost use Rattle.al_check_places.specs.Places.{places_of_items, places_of, rule_or_any, scalar_places};
 ghost use Rattle.al_check_places.specs.Private.Walks.{places_in, way_in};
-ghost use Rattle.al_check_places.specs.Ways.{conditions, is_one, keys_of, step_of, under};
+ghost use Rattle.al_check_places.specs.Ways.{conditions, is_one, keys_of, under, way_step_view};
 ghost use Rattle.al_tree.specs.Files.{shape_of as file_shape};
 ghost use Rattle.al_yaml_tree.specs.View.{entries_of, entry_view, nodes_of, view};
 
@@ -91,8 +91,8 @@ fn takes_scalars_only(rule: Rule) -> bool
 
 /// What stands at the end of a way with these keys.
 fn available_in(kind: FileKind, way: &[WayStep<'_>], keys: &[&[u8]]) -> Option<&'static Row>
-    requires { map (λ k. k.now) keys.now ≡ keys_of (map step_of way.now) }
-    ensures { option_map (λ r. row_of r.now) result ≡ available_at kind (map step_of way.now) }
+    requires { map (λ k. k.now) keys.now ≡ keys_of (map way_step_view way.now) }
+    ensures { option_map (λ r. row_view r.now) result ≡ row_of_way kind (map way_step_view way.now) }
 {
     match kind {
         FileKind::Workflow => available(keys),
@@ -134,7 +134,7 @@ fn fits(rule: Rule, scalar: &Scalar) -> bool
 
 /// Whether a text at the end of a way, where it may have a `${{`, may have an expression. Most don't, and nothing more is asked of those.
 fn may_have_expression(way: &[WayStep<'_>], has_chunk: bool) -> bool
-    ensures { IsTrue (is_one conditions (keys_of (map step_of way.now)) || has_chunk)
+    ensures { IsTrue (is_one conditions (keys_of (map way_step_view way.now)) || has_chunk)
         → IsTrue result }
 {
     has_chunk || ends_as_condition(way)

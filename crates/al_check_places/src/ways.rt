@@ -1,9 +1,9 @@
 //! Ways from the root of a file to a scalar, and which of them lead to an expression.
 ghost use Rattle.std.specs.Prelude.{◌≡◌, [], ◌∷◌, map, IfOk, IsTrue};
-ghost use Rattle.al_check_places.specs.Paths.{key_of, path};
+ghost use Rattle.al_check_places.specs.Paths.{key_view, path};
 ghost use Rattle.al_check_places.specs.Ways as ways;
 ghost use Rattle.al_check_places.specs.Private.Endings.{is_condition_key};
-ghost use Rattle.al_check_places.specs.Ways.{begins_one, is_one, keys_of, step_of};
+ghost use Rattle.al_check_places.specs.Ways.{begins_one, is_one, keys_of, way_step_view};
 
 use crate::table::Key::{Id, Named};
 use crate::table::{Key, begins_keys};
@@ -19,7 +19,7 @@ pub enum WayStep<'a> {
 
 /// The keys of a way, positions dropped. Fails with `AllocError` when out of memory.
 pub fn keys<'a>(alloc: Global, way: &[WayStep<'a>]) -> Result<Vec<&'a [u8]>, AllocError>
-    ensures { IfOk result (λ v. map (λ k. k.now) v.items ≡ keys_of (map step_of way.now)) }
+    ensures { IfOk result (λ v. map (λ k. k.now) v.items ≡ keys_of (map way_step_view way.now)) }
 {
     let mut keys = Vec::with_capacity(alloc, way.len())?;
     for step in way {
@@ -79,41 +79,41 @@ const SCRIPTS: &[&[Key]] = &[
 ];
 
 fn of_call() -> &'static [&'static [Key]]
-    ensures { map (λ p. map key_of p.now) result.now
+    ensures { map (λ p. map key_view p.now) result.now
         ≡ map path ("on.workflow_call.inputs.*.default" ∷ "on.workflow_call.outputs.*.value" ∷ []) }
 {
     OF_CALL
 }
 
 fn not_in_workflow() -> &'static [&'static [Key]]
-    ensures { map (λ p. map key_of p.now) result.now
+    ensures { map (λ p. map key_view p.now) result.now
         ≡ map path ("jobs.*.needs" ∷ "jobs.*.uses" ∷ "jobs.*.steps.id" ∷ "jobs.*.steps.uses" ∷ []) }
 {
     NOT_IN_WORKFLOW
 }
 
 fn of_interface() -> &'static [&'static [Key]]
-    ensures { map (λ p. map key_of p.now) result.now
+    ensures { map (λ p. map key_view p.now) result.now
         ≡ map path ("inputs.*.default" ∷ "outputs.*.value" ∷ []) }
 {
     OF_INTERFACE
 }
 
 fn not_in_runs() -> &'static [&'static [Key]]
-    ensures { map (λ p. map key_of p.now) result.now
+    ensures { map (λ p. map key_view p.now) result.now
         ≡ map path ("runs.using" ∷ "runs.steps.id" ∷ "runs.steps.uses" ∷ []) }
 {
     NOT_IN_RUNS
 }
 
 fn conditions() -> &'static [&'static [Key]]
-    ensures { map (λ p. map key_of p.now) result.now ≡ ways.conditions }
+    ensures { map (λ p. map key_view p.now) result.now ≡ ways.conditions }
 {
     CONDITIONS
 }
 
 fn scripts() -> &'static [&'static [Key]]
-    ensures { map (λ p. map key_of p.now) result.now ≡ ways.scripts }
+    ensures { map (λ p. map key_view p.now) result.now ≡ ways.scripts }
 {
     SCRIPTS
 }
@@ -121,7 +121,7 @@ fn scripts() -> &'static [&'static [Key]]
 /// Whether one of these paths begins the keys.
 fn begins_any(paths: &[&[Key]], keys: &[&[u8]]) -> bool
     ensures { result
-        ≡ begins_one (map (λ p. map key_of p.now) paths.now) (map (λ k. k.now) keys.now) }
+        ≡ begins_one (map (λ p. map key_view p.now) paths.now) (map (λ k. k.now) keys.now) }
 {
     for path in paths {
         if begins_keys(path, keys) {
@@ -133,7 +133,7 @@ fn begins_any(paths: &[&[Key]], keys: &[&[u8]]) -> bool
 
 /// Whether the keys are one of these paths.
 fn is_any(paths: &[&[Key]], keys: &[&[u8]]) -> bool
-    ensures { result ≡ is_one (map (λ p. map key_of p.now) paths.now) (map (λ k. k.now) keys.now) }
+    ensures { result ≡ is_one (map (λ p. map key_view p.now) paths.now) (map (λ k. k.now) keys.now) }
 {
     for path in paths {
         if begins_keys(path, keys) && path.len() == keys.len() {
@@ -167,8 +167,8 @@ fn is_checked_in_action(steps: usize, keys: &[&[u8]]) -> bool
 
 /// Whether a place is checked, by the way to it and the keys on that.
 pub(crate) fn is_checked(kind: FileKind, way: &[WayStep<'_>], keys: &[&[u8]]) -> bool
-    requires { map (λ k. k.now) keys.now ≡ keys_of (map step_of way.now) }
-    ensures { result ≡ ways.is_checked kind (map step_of way.now) }
+    requires { map (λ k. k.now) keys.now ≡ keys_of (map way_step_view way.now) }
+    ensures { result ≡ ways.is_checked kind (map way_step_view way.now) }
 {
     match kind {
         FileKind::Workflow => is_checked_in_workflow(keys),
@@ -192,7 +192,7 @@ fn is_condition_key(key: &[u8]) -> bool
 
 /// Whether the last key of a way is one of conditions, whatever positions stand behind it. So it is where the way leads to a condition.
 pub(crate) fn ends_as_condition(way: &[WayStep<'_>]) -> bool
-    ensures { IsTrue (is_one ways.conditions (keys_of (map step_of way.now))) → IsTrue result }
+    ensures { IsTrue (is_one ways.conditions (keys_of (map way_step_view way.now))) → IsTrue result }
 {
     let mut count = way.len();
     'steps: while count > 0 {

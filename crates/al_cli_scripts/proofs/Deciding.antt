@@ -9,7 +9,7 @@ use Rattle.std.proofs.lemmas.Bool.{false≢true}
 use Rattle.std.proofs.lemmas.List.{take_at, drop_at}
 use Rattle.std.proofs.lemmas.List.Elements.{All-cons, All-nil, All-tail}
 use Rattle.std.proofs.lemmas.Slice.Eq.{bytes_eq-Decides}
-use Rattle.al_cli_scripts.specs.Script.{Command, Put, Delete, Report, Line, PutLine, DeleteLine, ReportLine, line_bytes, line_of}
+use Rattle.al_cli_scripts.specs.Script.{Command, Put, Delete, Report, ScriptLine, PutLine, DeleteLine, ReportLine, line_bytes, line_of}
 use Rattle.al_cli_scripts.specs.Script.{HasNoBreak, HasWords, IsPathText, IsLine, IsCommand, command_bytes, BeginsWithCommand}
 
 abbrev pub Decided : Type 0 → Type 0
@@ -63,12 +63,12 @@ path_text path =
       | inr never ↦ inr (λ t. never (t.nonempty, (t.utf8, t.one_line)))
     ]
 
-words : (l : Line) → Decided (HasWords l)
+words : (l : ScriptLine) → Decided (HasWords l)
 words (PutLine path len) = both (path_text path) (below len (10 ^ 7))
 words (DeleteLine path) = path_text path
 words ReportLine = inl tt
 
-line : (l : Line) → Decided (IsLine l)
+line : (l : ScriptLine) → Decided (IsLine l)
 line l = elim (both (words l) (below (length (line_bytes l)) 2049)) [
   | inl h ↦ let s = h.1 in inl (record { words = h.0; short = omega (arith, s) })
   | inr never ↦ inr (λ t. let s = t.short in never (t.words, omega (arith, s)))

@@ -8,7 +8,7 @@ use lib.Ieee.Fits.{and_l, and_r}
 use Rattle.std.specs.Fmt.{decimal}
 use Rattle.std.proofs.lemmas.Fmt.{decimal_injective, decimal_by_steps}
 use Rattle.std.proofs.lemmas.List.Elements.{All-tail, All-append, All-cons, All-nil}
-use Rattle.al_cli_scripts.specs.Script.{Command, Put, Delete, Report, Line, PutLine, DeleteLine, ReportLine, IsLine, line_bytes, line_of}
+use Rattle.al_cli_scripts.specs.Script.{Command, Put, Delete, Report, ScriptLine, PutLine, DeleteLine, ReportLine, IsLine, line_bytes, line_of}
 use Rattle.al_cli_scripts.specs.Script.{body_of, HasNoBreak, command_bytes, IsCommand, IsWrong, BeginsWithCommand}
 
 -- the first k of a list splits it in one way
@@ -58,7 +58,7 @@ unbroken (b ∷ bs) h =
     let first : 10 < b = ltb-true 10 b (T-true (ltb 10 b) (and_l (ltb 10 b) (high bs) h)) in
     All-cons (λ c. c ≢ 10) b bs (λ e. omega arith) (unbroken bs (and_r (ltb 10 b) (high bs) h))
 
-pub line_unbroken : (l : Line) → IsLine l → HasNoBreak (line_bytes l)
+pub line_unbroken : (l : ScriptLine) → IsLine l → HasNoBreak (line_bytes l)
 line_unbroken (PutLine path len) l =
     let digits : HasNoBreak (decimal len) = digits_without 10 len (omega arith) (let h : len < 10 ^ 7 = l.words.1 in omega arith) in
     All-append (λ b. b ≢ 10) ((codes "put " ++ path) ++ codes " ") (decimal len)
@@ -69,7 +69,7 @@ line_unbroken ReportLine l = unbroken (codes "report") tt
 first_byte : (xs ys : List ℕ) → xs ≡ ys → get_or xs 0 0 ≡ get_or ys 0 0
 first_byte xs ys e = ap (λ l. get_or l 0 0) e
 
-pub line_unique : (l m : Line) → IsLine l → IsLine m → line_bytes l ≡ line_bytes m → l ≡ m
+pub line_unique : (l m : ScriptLine) → IsLine l → IsLine m → line_bytes l ≡ line_bytes m → l ≡ m
 line_unique (PutLine p n) (PutLine q m) a b e =
     let f : (p ++ 32 ∷ []) ++ decimal n ≡ (q ++ 32 ∷ []) ++ decimal m = ap (drop 4) e in
     let g : p ++ 32 ∷ decimal n ≡ q ++ 32 ∷ decimal m = sym (append_assoc p (32 ∷ []) (decimal n)) ∙ f ∙ append_assoc q (32 ∷ []) (decimal m) in
@@ -88,14 +88,14 @@ line_unique ReportLine (PutLine q m) a b e = absurd (let h : 114 ≡ 112 = first
 line_unique ReportLine (DeleteLine q) a b e = absurd (let h : 114 ≡ 100 = first_byte _ _ e in omega arith)
 line_unique ReportLine ReportLine a b e = refl
 
-same_front : (a b x y : List ℕ) → length a ≡ length b → a ++ x ≡ b ++ y → (a ≡ b) × (x ≡ y)
-same_front [] [] x y l e = (refl, e)
-same_front [] (d ∷ b) x y l e = absurd (omega arith)
-same_front (c ∷ a) [] x y l e = absurd (omega arith)
-same_front (c ∷ a) (d ∷ b) x y l e =
+same_prefix : (a b x y : List ℕ) → length a ≡ length b → a ++ x ≡ b ++ y → (a ≡ b) × (x ≡ y)
+same_prefix [] [] x y l e = (refl, e)
+same_prefix [] (d ∷ b) x y l e = absurd (omega arith)
+same_prefix (c ∷ a) [] x y l e = absurd (omega arith)
+same_prefix (c ∷ a) (d ∷ b) x y l e =
     let rest : a ++ x ≡ b ++ y = cc in
     let n : length a ≡ length b = omega arith in
-    let more = same_front a b x y n rest in
+    let more = same_prefix a b x y n rest in
     let f : a ≡ b = more.0 in (cc, more.1)
 
 body_unique : (c d : Command) (x y : List ℕ) → line_of c ≡ line_of d → body_of c ++ x ≡ body_of d ++ y → (c ≡ d) × (x ≡ y)
@@ -103,8 +103,8 @@ body_unique (Put p b) (Put q a) x y l e =
     let same : p ≡ q = cc in
     let n : length b ≡ length a = cc in
     let m : length (b ++ 10 ∷ []) ≡ length (a ++ 10 ∷ []) = omega (arith, n, length-append b (10 ∷ []), length-append a (10 ∷ [])) in
-    let s = same_front (b ++ 10 ∷ []) (a ++ 10 ∷ []) x y m e in
-    let t = same_front b a (10 ∷ []) (10 ∷ []) n s.0 in
+    let s = same_prefix (b ++ 10 ∷ []) (a ++ 10 ∷ []) x y m e in
+    let t = same_prefix b a (10 ∷ []) (10 ∷ []) n s.0 in
     let f : b ≡ a = t.0 in (cc, s.1)
 body_unique (Put p b) (Delete q) x y l e = absurd cc
 body_unique (Put p b) Report x y l e = absurd cc
@@ -132,7 +132,7 @@ no_early k m bytes more line rest long none short e =
     let inside : n < length (take m bytes) = omega (arith, length-take m bytes) in
     none n 0 inside (taken ∙ sym there ∙ ap (λ l. get_or l n 0) e ∙ here)
 
-wrong_line : (bytes more line more' : List ℕ) → bytes ≡ line ++ 10 ∷ more' → HasNoBreak line → ((l : Line) → IsLine l → line ≢ line_bytes l) → BeginsWithCommand (bytes ++ more) → ⊥
+wrong_line : (bytes more line more' : List ℕ) → bytes ≡ line ++ 10 ∷ more' → HasNoBreak line → ((l : ScriptLine) → IsLine l → line ≢ line_bytes l) → BeginsWithCommand (bytes ++ more) → ⊥
 wrong_line bytes more line more' e plain never b =
     let c : Command = b.0 in
     let f : line ++ 10 ∷ (more' ++ more) ≡ line_bytes (line_of c) ++ 10 ∷ (body_of c ++ b.1) =
@@ -143,7 +143,7 @@ end_of : (c : Command) (path put : List ℕ) (end : ℕ) (x y : List ℕ) → li
 end_of (Put p b) path put end x y l e =
     let n : length put ≡ length b = cc in
     let f : put ++ end ∷ x ≡ b ++ 10 ∷ y = e ∙ append_assoc b (10 ∷ []) y in
-    let s = same_front put b (end ∷ x) (10 ∷ y) n f in
+    let s = same_prefix put b (end ∷ x) (10 ∷ y) n f in
     let t : end ∷ x ≡ 10 ∷ y = s.1 in cc
 end_of (Delete p) path put end x y l e = absurd cc
 end_of Report path put end x y l e = absurd cc

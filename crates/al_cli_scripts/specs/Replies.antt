@@ -16,19 +16,19 @@ use Rattle.al_cli_scripts.specs.Script.{Command, Put, Delete, Report}
 use Rattle.al_cli_scripts.specs.Runs.{Steps}
 
 -- the number that a reply gives
-abbrev pub number_of : Refused → ℕ
-number_of BadPath = 1
-number_of NotAccepted = 2
-number_of TooLarge = 3
-number_of Full = 4
-number_of NoSuchFile = 5
-number_of Memory = 6
+abbrev pub refusal_number : Refused → ℕ
+refusal_number BadPath = 1
+refusal_number NotAccepted = 2
+refusal_number TooLarge = 3
+refusal_number Full = 4
+refusal_number NoSuchFile = 5
+refusal_number Memory = 6
 
 abbrev pub accepted_reply : ℕ → List ℕ
 accepted_reply files = codes "ok " ++ decimal files ++ codes "\n"
 
 abbrev pub refused_reply : Refused → List ℕ
-refused_reply refused = codes "refused E" ++ decimal (number_of refused) ++ codes "\n"
+refused_reply refused = codes "refused E" ++ decimal (refusal_number refused) ++ codes "\n"
 
 -- an edit that may be refused leaves the folder as it was, or another one
 abbrev pub edit_result : Option Refused → Folder → Folder → Folder

@@ -134,7 +134,7 @@ impl Run {
         match answer_all(&mut self.session, &self.waiting, writer, self.oneline)? {
             Progress::Bad => Ok(Some(2)),
             Progress::Waits(done) => {
-                drop_front(&mut self.waiting, done);
+                drop_prefix(&mut self.waiting, done);
                 writer.flush()?;
                 Ok(None)
             }
@@ -143,7 +143,7 @@ impl Run {
 }
 
 // Drops the bytes that were answered.
-fn drop_front(waiting: &mut Vec<u8>, done: usize)
+fn drop_prefix(waiting: &mut Vec<u8>, done: usize)
     requires { done ≤ length waiting.old.items }
     ensures { waiting.new.items ≡ drop done waiting.old.items }
 {
@@ -265,7 +265,7 @@ fn write_reply<W: Write>(writer: &mut Output<W>, reply: Result<Edit, Refused>) -
 
 /// The number of a refusal (E1 to E6).
 pub fn number_of(refused: Refused) -> u64
-    ensures { result ≡ replies.number_of refused }
+    ensures { result ≡ replies.refusal_number refused }
 {
     match refused {
         Refused::BadPath => 1,

@@ -13,7 +13,7 @@ use Rattle.al_expr_grammar.specs.Tree.{Sign, sign, Tree, Negated, Path, Chain, S
 use Rattle.al_expr_grammar.specs.Grammar.{Binary, Unary, Postfix, Primary, level_of, below, single, chain, positive, negated, bare, path}
 use Rattle.al_expr_grammar.specs.Grammar.{Operators, no_more, one_more, Walks, arrived, to_property, to_keyword, to_all, to_each, to_index}
 use Rattle.al_expr_grammar.specs.Table.{Verdict, TooDeep, E, O, Frame, outside, scan}
-use Rattle.al_expr_grammar.specs.Parsed.{StartsAt, Goes, EndsPath, EndsLevel, Stops, Parsed, Refused, PartOfChain, PartOfPath, StepRead, StepRefused, NoOperator}
+use Rattle.al_expr_grammar.specs.Parsed.{StartsAt, Goes, EndsPath, EndsLevel, EndsRule, Parsed, Refused, PartOfChain, PartOfPath, StepRead, StepRefused, NoOperator}
 use Rattle.al_expr_grammar.proofs.Rules.{not_deeper, too_deep, settled, same_length, refused_map, path_refused_map}
 
 -- a negation
@@ -117,7 +117,7 @@ tightest [] h n = tt
 tightest (Infix o ∷ ts) h n = not_looser 3 o (at_most_three o) n
 tightest (t ∷ ts) h n = h
 
-pub ends_below : (l : ℕ) (ts : List TokenKind) → l < 4 → Stops (below l) ts → NoOperator l ts → EndsLevel l ts
+pub ends_below : (l : ℕ) (ts : List TokenKind) → l < 4 → EndsRule (below l) ts → NoOperator l ts → EndsLevel l ts
 ends_below zero ts h s n = looser 0 ts s n
 ends_below (suc zero) ts h s n = looser 1 ts s n
 ends_below (suc (suc zero)) ts h s n = looser 2 ts s n
@@ -143,7 +143,7 @@ single_read l room ts rest t h p never = record {
 }
 
 pub chain_read : (l room : ℕ) (ts mid rest : List Lexeme) (t : Tree) (o : Sign × Tree) (os : List (Sign × Tree)) → l < 4
-    → Parsed (below l) room ts t mid → PartOfChain l room mid (o ∷ os) rest → Stops (below l) (kinds rest) → NoOperator l (kinds rest)
+    → Parsed (below l) room ts t mid → PartOfChain l room mid (o ∷ os) rest → EndsRule (below l) (kinds rest) → NoOperator l (kinds rest)
     → Parsed (Binary l) room ts (Chain t (operands_of (o ∷ os))) rest
 chain_read l room ts mid rest t o os h p c s never = record {
   derives = chain p.derives c.derives;
@@ -174,7 +174,7 @@ operators_none no_more e = refl
 operators_none (one_more a d w) e = cc
 
 pub operands_read : (l room : ℕ) (ts mid rest : List Lexeme) (t : Tree) (os : List (Sign × Tree)) → l < 4 → Parsed (below l) room ts t mid
-    → PartOfChain l room mid os rest → Stops (below l) (kinds rest) → NoOperator l (kinds rest)
+    → PartOfChain l room mid os rest → EndsRule (below l) (kinds rest) → NoOperator l (kinds rest)
     → Parsed (Binary l) room ts (chain_of t os) rest
 operands_read l room ts mid rest t [] h p c s never = single_read l room ts rest t h (subst (λ m. Parsed (below l) room ts t m) (operators_none c.derives refl) p) never
 operands_read l room ts mid rest t (o ∷ os) h p c s never = chain_read l room ts mid rest t o os h p c s never

@@ -9,8 +9,9 @@ use Rattle.al_base.specs.declared.faults.Fault.{Fault}
 use Rattle.al_expr_grammar.specs.declared.chunk.ChunkState.{ChunkState}
 use Rattle.al_expr_grammar.specs.declared.chunk.ChunkState.TheVariants.{Outside, Inside, Quoted}
 use Rattle.al_expr_grammar.specs.declared.chunk.Move.TheVariants.{On, End}
-use Rattle.al_expr_grammar.specs.Tokens.{add_to, is_quote, last_quote, span}
-use Rattle.al_expr_grammar.specs.Chunks.{Chunked, opens, closes, is_outside_quotes, before_opening, before_closing, no_chunks}
+use Rattle.al_expr_grammar.specs.Tokens.{add_to, is_quote, last_quote}
+use Rattle.al_base.specs.Spans.{span}
+use Rattle.al_expr_grammar.specs.Chunks.{Chunked, opens, closes, is_outside_quotes, before_opening, closing_position, no_chunks}
 use Rattle.al_expr_grammar.specs.Chunks.{then_chunk, open_fault, with_content, with_opening, chunks_within, chunks_of}
 use Rattle.al_expr_grammar.specs.Refusal.{open_text}
 use Rattle.al_expr_grammar.specs.Private.ChunkStates.{before_closing_on, chunks_from, end_fault, after_move}
@@ -206,7 +207,7 @@ from_opening n at bs (Some before) h f =
     let shorter : length (drop (before + 3) bs) ≤ suc n = omega (arith, d) in
     (all_read (drop (before + 3) bs)).0 [] (at + before + 3) (at + before + 3) here refl
     ∙ ap (closed (at + before + 3) [] (drop (before + 3) bs)) (closing_is (drop (before + 3) bs))
-    ∙ from_content n (at + before + 3) (drop (before + 3) bs) (before_closing (drop (before + 3) bs)) shorter f
+    ∙ from_content n (at + before + 3) (drop (before + 3) bs) (closing_position (drop (before + 3) bs)) shorter f
 
 within : (n : ℕ) → AreWithin n
 within zero at [] h = refl

@@ -15,7 +15,8 @@ use Rattle.al_expr_grammar.specs.declared.chunk.Move.{Move}
 use Rattle.al_expr_grammar.specs.declared.chunk.Move.TheVariants.{On, End}
 use Rattle.al_base.specs.Ascii.{ascii}
 use Rattle.al_base.specs.FirstBytes.{first_is}
-use Rattle.al_expr_grammar.specs.Tokens.{is_quote, span}
+use Rattle.al_expr_grammar.specs.Tokens.{is_quote}
+use Rattle.al_base.specs.Spans.{span}
 use Rattle.al_expr_grammar.specs.Chunks.{Chunked, opens, closes, then_chunk, IsCutFrom}
 use Rattle.al_expr_grammar.specs.Private.ChunkStates.{move, after_move, chunks_from, behind_chunks, Opens, StandsIn}
 

@@ -3,7 +3,7 @@ use Rattle.std.proofs.Common.{◌≡◌, ℕ, zero, suc, ◌+◌, List, [], ◌�
 use Rattle.std.proofs.Common.{add-one, Bool, true, false, cond, ◌&&◌, Option, Some}
 use Rattle.std.specs.Prelude.{find, option_map}
 use Rattle.std.specs.List.{range_with_len}
-use Rattle.al_expr_grammar.specs.Chunks.{before_closing, closes, is_outside_quotes}
+use Rattle.al_expr_grammar.specs.Chunks.{closes, closing_position, is_outside_quotes}
 use Rattle.al_expr_grammar.specs.Private.ChunkStates.{before_closing_on}
 
 find_same : (p q : ℕ → Bool) (xs : List ℕ) → ((k : ℕ) → p k ≡ q k) → find p xs ≡ find q xs
@@ -36,5 +36,5 @@ closings front (b ∷ bs) =
     ∙ ap (cond (is_outside_quotes front && closes (b ∷ bs)) (Some 0)) (sym (find_further (closes_on front (b ∷ bs)) 0 (length bs)))
     ∙ ap (λ l. cond (is_outside_quotes l && closes (b ∷ bs)) (Some 0) (find (closes_on front (b ∷ bs)) (range_with_len (0 + 1) (length bs)))) (sym (append-nil front))
 
-pub closing_is : (bs : List ℕ) → before_closing_on [] bs ≡ before_closing bs
+pub closing_is : (bs : List ℕ) → before_closing_on [] bs ≡ closing_position bs
 closing_is bs = closings [] bs

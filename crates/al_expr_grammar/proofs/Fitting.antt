@@ -8,7 +8,8 @@ use Rattle.std.specs.Prelude.{codes, slice_index}
 use Rattle.std.specs.Char.{is_ascii_digit, is_ascii_hexdigit}
 use Rattle.std.specs.List.{prefix_len, starts_with}
 use Rattle.al_base.specs.FirstBytes.{begins_with, first_is}
-use Rattle.al_expr_grammar.specs.Tokens.{is_sign, begins_name, goes_on_name, with_digits, hex_len, fraction_len}
+use Rattle.al_expr_grammar.specs.Tokens.{begins_name, goes_on_name, with_digits, hex_len, fraction_len}
+use Rattle.al_base.specs.Ascii.{is_sign}
 use Rattle.al_expr_grammar.specs.Tokens.{exponent_len, decimal_tail, decimal_len, unsigned_len, number_len, add_to, text_tail}
 use Rattle.al_expr_grammar.specs.Private.TextTails.{after_byte, tail_from}
 use Rattle.al_expr_grammar.proofs.TextTails.{tail_is}
@@ -16,18 +17,18 @@ use Rattle.al_expr_grammar.specs.Private.TokenStates.{Fits}
 use Rattle.al_expr_grammar.specs.Tokens.{text_read, number_read, name_read}
 
 -- Where it isn't empty, a part of so many bytes at the front lies in them and ends with an ASCII byte.
-pub record Ends (bs : List ℕ) (n : ℕ) : Type 0 where
+pub record EndsRule (bs : List ℕ) (n : ℕ) : Type 0 where
   within : n ≤ length bs
   last : 0 < n → slice_index bs (n - 1) < 128
 
-nothing : (bs : List ℕ) → Ends bs 0
+nothing : (bs : List ℕ) → EndsRule bs 0
 nothing bs = record { within = omega arith; last = λ h. absurd (omega arith) }
 
 max_is : (x y : ℕ) → (max x y ≡ x) ⊎ (max x y ≡ y)
 max_is x y = grind arith
 
 -- one part behind another
-further : (bs : List ℕ) (k m : ℕ) → Ends bs k → Ends (drop k bs) m → Ends bs (k + m)
+further : (bs : List ℕ) (k m : ℕ) → EndsRule bs k → EndsRule (drop k bs) m → EndsRule bs (k + m)
 further bs k zero a b = rw add-zero a
 further bs k (suc m) a b =
     let within : suc m ≤ length (drop k bs) = b.within in
@@ -48,14 +49,14 @@ name_ascii b h = grind (arith, nat_tests)
 name_goes_on : (b : ℕ) → begins_name b ≡ true → goes_on_name b ≡ true
 name_goes_on b h = grind (arith, nat_tests)
 
-run_ends : (p : ℕ → Bool) (bs : List ℕ) → ((b : ℕ) → p b ≡ true → b < 128) → Ends bs (prefix_len p bs)
+run_ends : (p : ℕ → Bool) (bs : List ℕ) → ((b : ℕ) → p b ≡ true → b < 128) → EndsRule bs (prefix_len p bs)
 run_ends p bs f = record {
   within = prefix_len-le-length p bs;
   last = λ h. f _ (prefix_len_passes p bs (prefix_len p bs - 1) 0 (omega arith));
 }
 
 -- a part that is there only with a digit
-with_ends : (bs : List ℕ) (lead d : ℕ) → lead ≤ length bs → Ends (drop lead bs) d → Ends bs (with_digits lead d)
+with_ends : (bs : List ℕ) (lead d : ℕ) → lead ≤ length bs → EndsRule (drop lead bs) d → EndsRule bs (with_digits lead d)
 with_ends bs lead zero h e = nothing bs
 with_ends bs lead (suc d) h e =
     let within : suc d ≤ length (drop lead bs) = e.within in
@@ -63,7 +64,7 @@ with_ends bs lead (suc d) h e =
     let last : slice_index (drop lead bs) (suc d - 1) < 128 = e.last (omega arith) in
     record { within = omega (arith, length-drop lead bs); last = λ h. rw (i, ← get_or-drop lead bs (suc d - 1) 0) last }
 
-either : (bs : List ℕ) (t : Bool) (x y : ℕ) → (t ≡ true → Ends bs x) → Ends bs y → Ends bs (cond t x y)
+either : (bs : List ℕ) (t : Bool) (x y : ℕ) → (t ≡ true → EndsRule bs x) → EndsRule bs y → EndsRule bs (cond t x y)
 either bs true x y f g = f refl
 either bs false x y f g = g
 
@@ -85,36 +86,36 @@ text_within [] bs h = omega arith
 text_within (c ∷ text) [] h = absurd cc
 text_within (c ∷ text) (b ∷ bs) h = let i = text_within text bs (later (nat_eq c b) _ h) in omega (arith, i)
 
-fraction_ends : (bs : List ℕ) → Ends bs (fraction_len bs)
+fraction_ends : (bs : List ℕ) → EndsRule bs (fraction_len bs)
 fraction_ends bs = either bs _ _ _ (λ h. with_ends bs 1 _ (begun _ bs h) (run_ends is_ascii_digit (drop 1 bs) digit_ascii)) (nothing bs)
 
 signed_ends : (bs : List ℕ) (sign : Bool) → first_is is_sign (drop 1 bs) ≡ sign → 1 ≤ length bs
-    → Ends bs (with_digits (cond sign 2 1) (prefix_len is_ascii_digit (drop (cond sign 2 1) bs)))
+    → EndsRule bs (with_digits (cond sign 2 1) (prefix_len is_ascii_digit (drop (cond sign 2 1) bs)))
 signed_ends bs true s h = with_ends bs 2 _ (let n = one_byte _ (drop 1 bs) s in omega (arith, n, length-drop 1 bs)) (run_ends is_ascii_digit (drop 2 bs) digit_ascii)
 signed_ends bs false s h = with_ends bs 1 _ h (run_ends is_ascii_digit (drop 1 bs) digit_ascii)
 
-exponent_ends : (bs : List ℕ) → Ends bs (exponent_len bs)
+exponent_ends : (bs : List ℕ) → EndsRule bs (exponent_len bs)
 exponent_ends bs = either bs _ _ _ (λ h. signed_ends bs (first_is is_sign (drop 1 bs)) refl (one_byte _ bs h)) (nothing bs)
 
-hex_ends : (bs : List ℕ) → Ends bs (hex_len bs)
+hex_ends : (bs : List ℕ) → EndsRule bs (hex_len bs)
 hex_ends bs = either bs _ _ _ (λ h. with_ends bs 2 _ (text_within (codes "0x") bs h) (run_ends is_ascii_hexdigit (drop 2 bs) hex_ascii)) (nothing bs)
 
-tail_ends : (bs : List ℕ) → Ends bs (decimal_tail bs)
+tail_ends : (bs : List ℕ) → EndsRule bs (decimal_tail bs)
 tail_ends bs = further bs (fraction_len bs) _ (fraction_ends bs) (exponent_ends (drop (fraction_len bs) bs))
 
-decimal_ends : (bs : List ℕ) → Ends bs (decimal_len bs)
+decimal_ends : (bs : List ℕ) → EndsRule bs (decimal_len bs)
 decimal_ends bs = either bs _ _ _ (λ h. further bs (prefix_len is_ascii_digit bs) _ (run_ends is_ascii_digit bs digit_ascii) (tail_ends (drop (prefix_len is_ascii_digit bs) bs))) (nothing bs)
 
-greater : (bs : List ℕ) (x y : ℕ) → Ends bs x → Ends bs y → Ends bs (max x y)
+greater : (bs : List ℕ) (x y : ℕ) → EndsRule bs x → EndsRule bs y → EndsRule bs (max x y)
 greater bs x y a b = elim (max_is x y) [ inl e ↦ rw e a | inr e ↦ rw e b ]
 
-unsigned_ends : (bs : List ℕ) → Ends bs (unsigned_len bs)
+unsigned_ends : (bs : List ℕ) → EndsRule bs (unsigned_len bs)
 unsigned_ends bs = greater bs (hex_len bs) (decimal_len bs) (hex_ends bs) (decimal_ends bs)
 
-number_ends : (bs : List ℕ) → Ends bs (number_len bs)
+number_ends : (bs : List ℕ) → EndsRule bs (number_len bs)
 number_ends bs = either bs _ _ _ (λ h. with_ends bs 1 _ (one_byte _ bs h) (unsigned_ends (drop 1 bs))) (unsigned_ends bs)
 
-number_fits_at : (bs : List ℕ) (n : ℕ) → Ends bs n → Fits bs (number_read n)
+number_fits_at : (bs : List ℕ) (n : ℕ) → EndsRule bs n → Fits bs (number_read n)
 number_fits_at bs zero e = tt
 number_fits_at bs (suc n) e = (omega arith, e.within, e.last (omega arith))
 

@@ -6,7 +6,7 @@ use Rattle.std.specs.Option.{option_map, option_to_list}
 use Rattle.std.proofs.lemmas.Bool.Decides.{nat_tests}
 use Rattle.std.proofs.lemmas.List.Sums.{prefix_len-le-length}
 use Rattle.std.specs.Option.{option_or}
-use Rattle.al_base.specs.Spans.{LiesIn}
+use Rattle.al_base.specs.Spans.{LiesIn, span}
 use Rattle.al_base.specs.declared.faults.Fault.{Fault}
 use Rattle.al_base.specs.declared.faults.Span.{Span}
 use Rattle.al_expr_grammar.specs.declared.chunk.Move.{Move}
@@ -32,7 +32,7 @@ use Rattle.al_expr_grammar.specs.Table.{Verdict, Fine, Early, Unexpected, TooDee
 use Rattle.al_base.specs.FirstBytes.{first_is}
 use Rattle.al_expr_grammar.specs.Tokens.{Lexed, AllRead, Bad, Unclosed}
 use Rattle.al_expr_grammar.specs.Tokens.{is_quote, last_quote, read}
-use Rattle.al_expr_grammar.specs.Tokens.{span, then_token, tokens_of}
+use Rattle.al_expr_grammar.specs.Tokens.{then_token, tokens_of}
 use Rattle.al_expr_grammar.specs.Tree as tree
 use Rattle.al_expr_grammar.specs.Tree.{Sign, sign, Tree, Constant, Named, Call, Group, Negated, Path, Chain, Steps, NoStep, PropertyThen}
 use Rattle.al_expr_grammar.specs.Tree.{AllThen, IndexThen, StepTree, Operands, NoOperand, OperandThen, Arguments, NoArgument, ArgumentThen}

@@ -6,7 +6,7 @@ use Rattle.al_base.specs.declared.faults.Span.{Span}
 use Rattle.al_base.specs.declared.faults.Fault.{Fault}
 use Rattle.al_expr_grammar.specs.declared.token.TokenKind.{TokenKind}
 use Rattle.al_expr_grammar.specs.declared.token.Token.{Token}
-use Rattle.al_expr_grammar.specs.Lexeme.{Lexeme, lexeme, kinds, text_of, span_of, seen}
+use Rattle.al_expr_grammar.specs.Lexeme.{Lexeme, lexeme, kinds, lexeme_text, lexeme_span, seen}
 use Rattle.al_expr_grammar.specs.Refusal.{fault_at}
 use Rattle.al_expr_grammar.specs.Table.{Verdict, Unexpected, TooDeep, Mode, E, O, N, Frame, Transition, Stuck, Go, Deeper, step, onward, finish, scan, verdict_of}
 
@@ -50,7 +50,7 @@ too_deep_lies ts n e =
     (h.0, omega (arith, h.1, length-map {A = Lexeme} {B = TokenKind}, length-map {A = Token} {B = Lexeme}))
 
 -- the fault at the token with this index
-pub fault_at_token : (make : Span → List ℕ → Fault) (ts : List Lexeme) (i : ℕ) (t : Lexeme) → slice_get ts i ≡ Some t → fault_at make (drop i ts) ≡ Some (make (span_of t) (text_of t))
+pub fault_at_token : (make : Span → List ℕ → Fault) (ts : List Lexeme) (i : ℕ) (t : Lexeme) → slice_get ts i ≡ Some t → fault_at make (drop i ts) ≡ Some (make (lexeme_span t) (lexeme_text t))
 fault_at_token make [] i t e = absurd cc
 fault_at_token make (lexeme k b s ∷ ts) zero (lexeme j c u) e = cc
 fault_at_token make (u ∷ ts) (suc i) t e = fault_at_token make ts i t e

@@ -7,7 +7,8 @@ use Rattle.al_expr_grammar.specs.declared.token.TokenKind.{TokenKind}
 use Rattle.al_expr_grammar.specs.declared.lexer.Read.TheVariants.{Token}
 use Rattle.al_expr_grammar.specs.Lexeme.{Lexeme, lexeme}
 use Rattle.al_expr_grammar.specs.Private.TokenStates.{behind, continue_with, tokens_from}
-use Rattle.al_expr_grammar.specs.Tokens.{Lexed, AllRead, Bad, Unclosed, read, then_token, span}
+use Rattle.al_expr_grammar.specs.Tokens.{Lexed, AllRead, Bad, Unclosed, read, then_token}
+use Rattle.al_base.specs.Spans.{span}
 
 pub skipped : (n at : ℕ) (bs : List ℕ) → n ≤ length bs → tokens_from n at bs ≡ tokens_from 0 (at + n) (drop n bs)
 skipped zero at bs h = sym (ap (λ a. tokens_from 0 a bs) (add-zero at))

@@ -8,7 +8,8 @@ use Rattle.std.specs.Prelude.{find}
 use Rattle.al_expr_grammar.specs.declared.lexer.Read.{Read}
 use Rattle.al_expr_grammar.specs.declared.lexer.Read.TheVariants.{Blank, Token, BadCharacter, OpenText}
 use Rattle.al_expr_grammar.specs.declared.token.TokenKind.{TokenKind}
-use Rattle.al_expr_grammar.specs.Tokens.{begins_name, is_blank, is_sign, mark, marks, name_read, number_len, number_read}
+use Rattle.al_expr_grammar.specs.Tokens.{begins_name, is_blank_byte, mark, marks, name_read, number_len, number_read}
+use Rattle.al_base.specs.Ascii.{is_sign}
 use Rattle.al_expr_grammar.specs.Tokens.{read, text_read, text_tail}
 use Rattle.al_expr_grammar.specs.Private.TokenStates.{Fits}
 use Rattle.al_expr_grammar.proofs.Fitting.{name_fits, number_fits, text_fits, text_within}
@@ -65,7 +66,7 @@ text_short b bs e =
 
 pub read_short : (b : ℕ) (bs : List ℕ) → Short (b ∷ bs) (read (b ∷ bs))
 read_short b bs =
-    if_short (b ∷ bs) (is_blank b) Blank _ tt
+    if_short (b ∷ bs) (is_blank_byte b) Blank _ tt
     (if_given (b ∷ bs) (begins_name b) (name_read (b ∷ bs)) _ (λ e. fits_short (b ∷ bs) (name_read (b ∷ bs)) (name_fits b bs e))
     (if_given (b ∷ bs) (nat_eq b 39) (text_read (text_tail bs)) _ (text_short b bs)
     (if_short (b ∷ bs) (is_ascii_digit b || is_sign b) (number_read (number_len (b ∷ bs))) (mark (b ∷ bs))

@@ -12,7 +12,7 @@ use Rattle.al_expr_grammar.specs.Grammar.{Nonterminal, Binary, Primary, level_of
 use Rattle.al_expr_grammar.specs.Grammar.{name, call_empty, call, group}
 use Rattle.al_expr_grammar.specs.Grammar.{to_property, to_keyword, to_all, to_each, to_index, Lists, listed, and_next}
 use Rattle.al_expr_grammar.specs.Table.{Verdict, Early, Unexpected, TooDeep, E, A, I, S, O, N, Frame, Group, Call, Index, outside, scan}
-use Rattle.al_expr_grammar.specs.Parsed.{Goes, EndsPath, EndsLevel, Parsed, Refused, PartOfCall, StepRead, GoesAfter, StepRefused, fault_at, NoClose}
+use Rattle.al_expr_grammar.specs.Parsed.{Goes, EndsPath, EndsLevel, Parsed, Refused, PartOfCall, StepRead, GoesAfter, StepRefused, error_at, NoClose}
 use Rattle.al_expr_grammar.proofs.Shape.{NoCall}
 use Rattle.std.proofs.lemmas.Bool.Decides.{nat_tests}
 
@@ -96,11 +96,11 @@ abbrev pub stray : List Lexeme → Verdict
 stray [] = Early
 stray (t ∷ ts) = Unexpected (length (t ∷ ts))
 
-pub refused_stray : (p : Nonterminal) (room : ℕ) (ts us : List Lexeme) → Goes p room ts (λ k st. stray us) → Refused p room ts (fault_at us)
+pub refused_stray : (p : Nonterminal) (room : ℕ) (ts us : List Lexeme) → Goes p room ts (λ k st. stray us) → Refused p room ts (error_at us)
 refused_stray p room ts [] g = g
 refused_stray p room ts (u ∷ us) g = g
 
-pub step_stray : (room : ℕ) (ts us : List Lexeme) → GoesAfter room ts (stray us) → StepRefused room ts (fault_at us)
+pub step_stray : (room : ℕ) (ts us : List Lexeme) → GoesAfter room ts (stray us) → StepRefused room ts (error_at us)
 step_stray room ts [] g = g
 step_stray room ts (u ∷ us) g = g
 
@@ -174,7 +174,7 @@ module _ (room inner : ℕ) (b : List ℕ) (s : Span) (ts : List Lexeme) (one : 
   pub group_refused : (e : ParseError) → Refused (Binary 0) inner ts e → Refused Primary room (lexeme Open b s ∷ ts) e
   group_refused e r = refused_map (Binary 0) Primary inner room ts (lexeme Open b s ∷ ts) e (λ v g k st a h. in_group k st h ∙ g 0 (Group k ∷ st) refl (omega arith)) r
 
-  pub group_stray : (mid : List Lexeme) (t : Tree) → Parsed (Binary 0) inner ts t mid → NoClose (kinds mid) → Refused Primary room (lexeme Open b s ∷ ts) (fault_at mid)
+  pub group_stray : (mid : List Lexeme) (t : Tree) → Parsed (Binary 0) inner ts t mid → NoClose (kinds mid) → Refused Primary room (lexeme Open b s ∷ ts) (error_at mid)
   group_stray mid t p never = refused_stray Primary room (lexeme Open b s ∷ ts) mid (λ k st a h. in_group k st h ∙ p.goes 0 (Group k ∷ st) refl (omega arith) ∙ stray_in_group k st mid p.stops never)
 
   -- an index
@@ -192,7 +192,7 @@ module _ (room inner : ℕ) (b : List ℕ) (s : Span) (ts : List Lexeme) (one : 
   pub index_refused : (e : ParseError) → NoStar (kinds ts) → Refused (Binary 0) inner ts e → StepRefused room (lexeme OpenIndex b s ∷ ts) e
   index_refused e n r = step_refused_map (Binary 0) inner room ts (lexeme OpenIndex b s ∷ ts) e (λ v g k st h. to_inside k st n h ∙ g 0 (Index k ∷ st) refl (omega arith)) r
 
-  pub index_stray : (mid : List Lexeme) (t : Tree) → NoStar (kinds ts) → Parsed (Binary 0) inner ts t mid → NoCloseIndex (kinds mid) → StepRefused room (lexeme OpenIndex b s ∷ ts) (fault_at mid)
+  pub index_stray : (mid : List Lexeme) (t : Tree) → NoStar (kinds ts) → Parsed (Binary 0) inner ts t mid → NoCloseIndex (kinds mid) → StepRefused room (lexeme OpenIndex b s ∷ ts) (error_at mid)
   index_stray mid t n p never = step_stray room (lexeme OpenIndex b s ∷ ts) mid (λ k st h. to_inside k st n h ∙ p.goes 0 (Index k ∷ st) refl (omega arith) ∙ stray_in_index k st mid p.stops never)
 
 -- brackets without room
@@ -232,7 +232,7 @@ module _ (room inner : ℕ) (b c : List ℕ) (s u : Span) (ts : List Lexeme) (on
     }
 
     pub call_stray : (left : List Lexeme) (more : List Tree) → PartOfCall inner mid more left → EndsArguments (kinds left) →
-        Refused Primary room (lexeme Name b s ∷ lexeme Open c u ∷ ts) (fault_at left)
+        Refused Primary room (lexeme Name b s ∷ lexeme Open c u ∷ ts) (error_at left)
     call_stray left more w never = refused_stray Primary room (lexeme Name b s ∷ lexeme Open c u ∷ ts) left
         (λ k st a h. first_argument k st h ∙ w.goes k st (omega arith) ∙ stray_in_call k st left w.stops never)
 
@@ -283,7 +283,7 @@ NoProperty (Keyword w ∷ ts) = ⊥
 NoProperty (Star ∷ ts) = ⊥
 NoProperty _ = Unit {0}
 
-pub dot_stray : (room : ℕ) (c : List ℕ) (d : Span) (us : List Lexeme) → NoProperty (kinds us) → StepRefused room (lexeme Dot c d ∷ us) (fault_at us)
+pub dot_stray : (room : ℕ) (c : List ℕ) (d : Span) (us : List Lexeme) → NoProperty (kinds us) → StepRefused room (lexeme Dot c d ∷ us) (error_at us)
 dot_stray room c d [] n = λ k st h. refl
 dot_stray room c d (lexeme Name b s ∷ us) n = absurd n
 dot_stray room c d (lexeme (Keyword w) b s ∷ us) n = absurd n
@@ -296,5 +296,5 @@ after_star k st (lexeme CloseIndex b s ∷ us) n = absurd n
 after_star k st (lexeme t b s ∷ us) n = unexpected us
 
 pub star_stray : (room inner : ℕ) (b c : List ℕ) (s d : Span) (us : List Lexeme) → inner + 1 ≡ room → NoCloseIndex (kinds us)
-    → StepRefused room (lexeme OpenIndex c d ∷ lexeme Star b s ∷ us) (fault_at us)
+    → StepRefused room (lexeme OpenIndex c d ∷ lexeme Star b s ∷ us) (error_at us)
 star_stray room inner b c s d us one n = step_stray room (lexeme OpenIndex c d ∷ lexeme Star b s ∷ us) us (λ k st h. not_deeper (k + outside st) _ _ (omega arith) ∙ after_star k st us n)

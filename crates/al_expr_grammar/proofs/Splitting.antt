@@ -4,7 +4,8 @@ use Rattle.al_expr_grammar.specs.declared.lexer.Read.{Read}
 use Rattle.al_expr_grammar.specs.declared.lexer.Read.TheVariants.{Blank, Token, BadCharacter, OpenText}
 use Rattle.al_expr_grammar.specs.Lexeme.{lexeme}
 use Rattle.al_expr_grammar.specs.Private.TokenStates.{continue_with, tokens_from}
-use Rattle.al_expr_grammar.specs.Tokens.{Lexed, read, span, then_token, tokens_within, with_first}
+use Rattle.al_expr_grammar.specs.Tokens.{Lexed, read, then_token, tokens_within, with_first}
+use Rattle.al_base.specs.Spans.{span}
 use Rattle.al_expr_grammar.proofs.Lexing.{skipped}
 use Rattle.al_expr_grammar.proofs.Reading.{Short, read_short}
 

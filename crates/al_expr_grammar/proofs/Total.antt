@@ -7,7 +7,7 @@ use Rattle.al_expr_grammar.specs.declared.parser.ParseError.TheVariants as error
 use Rattle.al_expr_grammar.specs.Lexeme.{Lexeme, lexeme, kinds}
 use Rattle.al_expr_grammar.specs.Tree.{Sign, sign, Tree, StepTree, path_of, chain_of}
 use Rattle.al_expr_grammar.specs.Grammar.{Nonterminal, Binary, Unary, Postfix, Primary, level_of, below}
-use Rattle.al_expr_grammar.specs.Parsed.{Parsed, Refused, NoBang, EndsPath, Stops, PartOfPath, PartOfChain, PartOfCall, StepRead, StepRefused, NoOperator, fault_at, GoesOn, NoClose}
+use Rattle.al_expr_grammar.specs.Parsed.{Parsed, Refused, NoBang, EndsPath, EndsRule, PartOfPath, PartOfChain, PartOfCall, StepRead, StepRefused, NoOperator, error_at, GoesOn, NoClose}
 use Rattle.al_expr_grammar.proofs.Rules.{constant_read, number_read, text_read, name_read, group_read, group_refused, group_stray, group_deep}
 use Rattle.al_expr_grammar.proofs.Rules.{call_empty_read, call_read, call_refused, call_stray, call_deep, argument_refused, arguments_begin}
 use Rattle.al_expr_grammar.proofs.Rules.{arguments_go_on, index_read, index_refused, index_stray, index_deep, each_read, star_stray}
@@ -19,7 +19,7 @@ abbrev pub IsFault : ParseError → Type 0
 IsFault error.Memory = ⊥
 IsFault _ = Unit {0}
 
-abbrev pub is_fault : (ts : List Lexeme) → IsFault (fault_at ts)
+abbrev pub is_fault : (ts : List Lexeme) → IsFault (error_at ts)
 is_fault [] = tt
 is_fault (t ∷ ts) = tt
 
@@ -39,8 +39,8 @@ Inner n = (room : ℕ) (ts : List Lexeme) → length ts < n → Outcome (Binary 
 module _ (room : ℕ) (b : List ℕ) (s : Span) (ts : List Lexeme) where
   abbrev pub group_ends : (t : Tree) (mid : List Lexeme) → Parsed (Binary 0) room ts t mid → Outcome Primary (suc room) (lexeme Open b s ∷ ts)
   group_ends t (lexeme Close c e ∷ rest) p = read _ rest (group_read (suc room) room b s ts (omega arith) c e rest t p)
-  group_ends t [] p = refused (fault_at []) tt (group_stray (suc room) room b s ts (omega arith) [] t p tt)
-  group_ends t (lexeme k c e ∷ rest) p = refused (fault_at (lexeme k c e ∷ rest)) tt (group_stray (suc room) room b s ts (omega arith) (lexeme k c e ∷ rest) t p tt)
+  group_ends t [] p = refused (error_at []) tt (group_stray (suc room) room b s ts (omega arith) [] t p tt)
+  group_ends t (lexeme k c e ∷ rest) p = refused (error_at (lexeme k c e ∷ rest)) tt (group_stray (suc room) room b s ts (omega arith) (lexeme k c e ∷ rest) t p tt)
 
   abbrev pub grouped : Outcome (Binary 0) room ts → Outcome Primary (suc room) (lexeme Open b s ∷ ts)
   grouped (refused e i r) = refused e i (group_refused (suc room) room b s ts (omega arith) e r)
@@ -48,8 +48,8 @@ module _ (room : ℕ) (b : List ℕ) (s : Span) (ts : List Lexeme) where
 
   abbrev pub index_ends : NoStar (kinds ts) → (t : Tree) (mid : List Lexeme) → Parsed (Binary 0) room ts t mid → StepOutcome (suc room) (lexeme OpenIndex b s ∷ ts)
   index_ends n t (lexeme CloseIndex c e ∷ rest) p = step_read _ rest (index_read (suc room) room b s ts (omega arith) c e rest t n p)
-  index_ends n t [] p = step_refused (fault_at []) tt (index_stray (suc room) room b s ts (omega arith) [] t n p tt)
-  index_ends n t (lexeme k c e ∷ rest) p = step_refused (fault_at (lexeme k c e ∷ rest)) tt (index_stray (suc room) room b s ts (omega arith) (lexeme k c e ∷ rest) t n p tt)
+  index_ends n t [] p = step_refused (error_at []) tt (index_stray (suc room) room b s ts (omega arith) [] t n p tt)
+  index_ends n t (lexeme k c e ∷ rest) p = step_refused (error_at (lexeme k c e ∷ rest)) tt (index_stray (suc room) room b s ts (omega arith) (lexeme k c e ∷ rest) t n p tt)
 
   abbrev pub indexed : NoStar (kinds ts) → Outcome (Binary 0) room ts → StepOutcome (suc room) (lexeme OpenIndex b s ∷ ts)
   indexed n (refused e i r) = step_refused e i (index_refused (suc room) room b s ts (omega arith) e n r)
@@ -64,8 +64,8 @@ module _ (n room : ℕ) (b c : List ℕ) (s u : Span) (ts mid : List Lexeme) (t 
     | refused e i r ↦ refused e i (argument_refused (suc room) room b c s u ts (omega arith) mid t some p d x us more e w r)
     | read v rest q ↦ arguments fuel rest (more ++ v ∷ []) (arguments_go_on room mid us rest d x more v w q) (let y = q.shorter in omega arith)
   ]
-  arguments fuel [] more w f = refused (fault_at []) tt (call_stray (suc room) room b c s u ts (omega arith) mid t some p [] more w tt)
-  arguments fuel (lexeme k d e ∷ rest) more w f = refused (fault_at (lexeme k d e ∷ rest)) tt (call_stray (suc room) room b c s u ts (omega arith) mid t some p (lexeme k d e ∷ rest) more w tt)
+  arguments fuel [] more w f = refused (error_at []) tt (call_stray (suc room) room b c s u ts (omega arith) mid t some p [] more w tt)
+  arguments fuel (lexeme k d e ∷ rest) more w f = refused (error_at (lexeme k d e ∷ rest)) tt (call_stray (suc room) room b c s u ts (omega arith) mid t some p (lexeme k d e ∷ rest) more w tt)
 
 abbrev pub called : (n room : ℕ) (b c : List ℕ) (s u : Span) (ts : List Lexeme) → Inner n → length ts < n → NoClose (kinds ts)
     → Outcome (Binary 0) room ts → Outcome Primary (suc room) (lexeme Name b s ∷ lexeme Open c u ∷ ts)
@@ -96,11 +96,11 @@ step n room (lexeme Dot c d ∷ []) inner h g = step_refused error.Early tt (dot
 step n room (lexeme Dot c d ∷ lexeme Name b s ∷ ts) inner h g = step_read _ ts (property_read room b c s d ts)
 step n room (lexeme Dot c d ∷ lexeme (Keyword w) b s ∷ ts) inner h g = step_read _ ts (keyword_read room w b c s d ts)
 step n room (lexeme Dot c d ∷ lexeme Star b s ∷ ts) inner h g = step_read _ ts (all_read room b c s d ts)
-step n room (lexeme Dot c d ∷ lexeme k b s ∷ ts) inner h g = step_refused (fault_at (lexeme k b s ∷ ts)) tt (dot_stray room c d (lexeme k b s ∷ ts) tt)
+step n room (lexeme Dot c d ∷ lexeme k b s ∷ ts) inner h g = step_refused (error_at (lexeme k b s ∷ ts)) tt (dot_stray room c d (lexeme k b s ∷ ts) tt)
 step n zero (lexeme OpenIndex c d ∷ ts) inner h g = step_refused (error.TooDeep (suc (length ts))) tt (index_deep c d ts)
 step n (suc room) (lexeme OpenIndex c d ∷ lexeme Star b s ∷ []) inner h g = step_refused error.Early tt (star_stray (suc room) room b c s d [] (omega arith) tt)
 step n (suc room) (lexeme OpenIndex c d ∷ lexeme Star b s ∷ lexeme CloseIndex a e ∷ ts) inner h g = step_read _ ts (each_read (suc room) room a b c s d e ts (omega arith))
-step n (suc room) (lexeme OpenIndex c d ∷ lexeme Star b s ∷ lexeme k a e ∷ ts) inner h g = step_refused (fault_at (lexeme k a e ∷ ts)) tt
+step n (suc room) (lexeme OpenIndex c d ∷ lexeme Star b s ∷ lexeme k a e ∷ ts) inner h g = step_refused (error_at (lexeme k a e ∷ ts)) tt
     (star_stray (suc room) room b c s d (lexeme k a e ∷ ts) (omega arith) tt)
 step n (suc room) (lexeme OpenIndex c d ∷ []) inner h g = indexed room c d [] tt (inner room [] (omega arith))
 step n (suc room) (lexeme OpenIndex c d ∷ lexeme k b s ∷ ts) inner h g = indexed room c d (lexeme k b s ∷ ts) tt (inner room (lexeme k b s ∷ ts) (omega arith))
@@ -165,10 +165,10 @@ decide (suc n) (suc m) = elim (decide n m) [ inl e ↦ inl (ap suc e) | inr e �
 
 module _ (l n room : ℕ) (low : l < 4) (operand : (us : List Lexeme) → length us ≤ n → Outcome (below l) room us) (ts mid : List Lexeme)
     (t : Tree) (h : length ts ≤ n) (p : Parsed (below l) room ts t mid) where
-  abbrev pub chain_ends : (left : List Lexeme) (os : List (Sign × Tree)) → PartOfChain l room mid os left → Stops (below l) (kinds left) → NoOperator l (kinds left) → Outcome (Binary l) room ts
+  abbrev pub chain_ends : (left : List Lexeme) (os : List (Sign × Tree)) → PartOfChain l room mid os left → EndsRule (below l) (kinds left) → NoOperator l (kinds left) → Outcome (Binary l) room ts
   chain_ends left os c s none = read (chain_of t os) left (operands_read l room ts mid left t os low p c s none)
 
-  abbrev pub chain_walk : (fuel : ℕ) (left : List Lexeme) (os : List (Sign × Tree)) → PartOfChain l room mid os left → Stops (below l) (kinds left) → length left ≤ fuel → Outcome (Binary l) room ts
+  abbrev pub chain_walk : (fuel : ℕ) (left : List Lexeme) (os : List (Sign × Tree)) → PartOfChain l room mid os left → EndsRule (below l) (kinds left) → length left ≤ fuel → Outcome (Binary l) room ts
   chain_walk zero (lexeme (Infix o) b x ∷ us) os c s f = absurd (omega (arith, f))
   chain_walk (suc fuel) (lexeme (Infix o) b x ∷ us) os c s f = elim (decide (level_of o) l) [
     | inr other ↦ chain_ends (lexeme (Infix o) b x ∷ us) os c s other
@@ -194,3 +194,7 @@ all (suc n) room ts h =
     (λ us f. level 1 n room (omega arith)
     (λ vs g. level 2 n room (omega arith)
     (λ ws i. level 3 n room (omega arith) (λ xs j. unary xs n room (all n) j) ws i) vs g) us f) ts (omega arith)
+
+-- what becomes of the tokens of an expression
+abbrev pub outcome_of : (ts : List Lexeme) → Outcome (Binary 0) 50 ts
+outcome_of ts = all (suc (length ts)) 50 ts (omega arith)

@@ -25,11 +25,11 @@ NoMoreAt l (Open ∷ ts) = ⊥
 NoMoreAt l (Infix o ∷ ts) = level_of o < l
 NoMoreAt l _ = Unit {0}
 
-abbrev pub Ends : Nonterminal → List TokenKind → Type 0
-Ends (Binary l) ts = NoMoreAt l ts
-Ends Unary ts = NoMore ts
-Ends Postfix ts = NoMore ts
-Ends Primary ts = NoCall ts
+abbrev pub EndsRule : Nonterminal → List TokenKind → Type 0
+EndsRule (Binary l) ts = NoMoreAt l ts
+EndsRule Unary ts = NoMore ts
+EndsRule Postfix ts = NoMore ts
+EndsRule Primary ts = NoCall ts
 
 abbrev IsClose : List TokenKind → Type 0
 IsClose (Close ∷ ts) = Unit {0}
@@ -50,19 +50,19 @@ no_path [] h = tt
 no_path (Open ∷ ts) h = h
 no_path (t ∷ ts) h = tt
 
-ends_below : (l : ℕ) (ts : List TokenKind) → NoMoreAt l ts → Ends (below l) ts
+ends_below : (l : ℕ) (ts : List TokenKind) → NoMoreAt l ts → EndsRule (below l) ts
 ends_below zero ts h = tighter 0 ts h
 ends_below (suc zero) ts h = tighter 1 ts h
 ends_below (suc (suc zero)) ts h = tighter 2 ts h
 ends_below (suc (suc (suc l))) ts h = no_operator (suc (suc (suc l))) ts h
 
-ends_at : (l : ℕ) (o : Operator) (ts : List TokenKind) → level_of o ≡ l → Ends (below l) (Infix o ∷ ts)
+ends_at : (l : ℕ) (o : Operator) (ts : List TokenKind) → level_of o ≡ l → EndsRule (below l) (Infix o ∷ ts)
 ends_at zero o ts e = omega (arith, e)
 ends_at (suc zero) o ts e = omega (arith, e)
 ends_at (suc (suc zero)) o ts e = omega (arith, e)
 ends_at (suc (suc (suc l))) o ts e = tt
 
-before_ops : {l : ℕ} {ts rest : List Lexeme} {os : List (Sign × Tree)} → Operators l ts os rest → NoMoreAt l (kinds rest) → Ends (below l) (kinds ts)
+before_ops : {l : ℕ} {ts rest : List Lexeme} {os : List (Sign × Tree)} → Operators l ts os rest → NoMoreAt l (kinds rest) → EndsRule (below l) (kinds ts)
 before_ops {l = l} {ts = ts} no_more h = ends_below l (kinds ts) h
 before_ops {l = l} (one_more {o = o} {ts = ts} e d w) h = ends_at l o (kinds ts) e
 
@@ -93,8 +93,8 @@ not_bang (bare d) = elim d [ ]
 not_bang (path d w) = elim d [ ]
 
 mutual
-  pub unique : {p : Nonterminal} {ts rest : List Lexeme} {t : Tree} → Derives p ts t rest → Ends p (kinds rest)
-      → {u : Tree} {after : List Lexeme} → Derives p ts u after → Ends p (kinds after) → (t ≡ u) × (rest ≡ after)
+  pub unique : {p : Nonterminal} {ts rest : List Lexeme} {t : Tree} → Derives p ts t rest → EndsRule p (kinds rest)
+      → {u : Tree} {after : List Lexeme} → Derives p ts u after → EndsRule p (kinds after) → (t ≡ u) × (rest ≡ after)
   unique (single {l = l} d) h (single d') h' = unique d (ends_below l _ h) d' (ends_below l _ h')
   unique (single {l = l} d) h (chain d' w') h' =
       let same = unique d (ends_below l _ h) d' (before_ops w' h') in

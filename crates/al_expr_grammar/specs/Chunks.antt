@@ -12,8 +12,9 @@ use Rattle.al_base.specs.declared.codes.ExpressionCode.TheVariants as code
 use Rattle.al_base.specs.declared.faults.Fault.{Fault}
 use Rattle.al_base.specs.declared.faults.Span.{Span}
 use Rattle.al_expr_grammar.specs.declared.chunk.Chunk.{Chunk}
-use Rattle.al_expr_grammar.specs.Tokens.{add_to, is_quote, last_quote, span}
-use Rattle.al_expr_grammar.specs.Refusal.{fault, open_text}
+use Rattle.al_expr_grammar.specs.Tokens.{add_to, is_quote, last_quote}
+use Rattle.al_base.specs.Spans.{span}
+use Rattle.al_expr_grammar.specs.Refusal.{expression_fault, open_text}
 
 -- where the contents of the chunks lie, and what is wrong at the text's end
 pub record Chunked : Type 0 where
@@ -39,8 +40,8 @@ before_opening [] = None
 before_opening (b ∷ bs) = let later = option_map suc (before_opening bs) in if opens (b ∷ bs) then Some 0 else later
 
 -- how many bytes of a content stand before the first `}}` outside quotes
-abbrev pub before_closing : List ℕ → Option ℕ
-before_closing bs =
+abbrev pub closing_position : List ℕ → Option ℕ
+closing_position bs =
     find (λ n. is_outside_quotes (take n bs) && closes (drop n bs)) (range_with_len 0 (length bs))
 
 abbrev pub no_chunks : Option Fault → Chunked
@@ -53,7 +54,7 @@ then_chunk s c = record { chunks = s ∷ c.chunks; fault = c.fault }
 -- opening is X20.
 abbrev pub open_fault : ℕ → List ℕ → Option Fault
 open_fault start content =
-    if is_outside_quotes content then Some (fault code.UnclosedChunk (span (start - 3) start) [])
+    if is_outside_quotes content then Some (expression_fault code.UnclosedChunk (span (start - 3) start) [])
     else open_text (add_to start (last_quote content))
 
 -- the content from a place on, up to its closing, and the chunks of the rest
@@ -65,7 +66,7 @@ with_content rest start bs (Some len) = then_chunk (span start (start + len)) (r
 abbrev pub with_opening : (ℕ → List ℕ → Chunked) → ℕ → List ℕ → Option ℕ → Chunked
 with_opening rest at bs None = no_chunks None
 with_opening rest at bs (Some before) =
-    with_content rest (at + before + 3) (drop (before + 3) bs) (before_closing (drop (before + 3) bs))
+    with_content rest (at + before + 3) (drop (before + 3) bs) (closing_position (drop (before + 3) bs))
 
 -- the chunks of a text whose first byte stands at this place: at most so many
 abbrev pub chunks_within : ℕ → ℕ → List ℕ → Chunked

@@ -1,6 +1,6 @@
 -- Where an expression stands, its own brackets included.
 use Rattle.al_base.specs.declared.faults.Span.{Span}
-use Rattle.al_expr_grammar.specs.Tokens.{span}
+use Rattle.al_base.specs.Spans.{span}
 use Rattle.al_expr_grammar.specs.Tree as tree
 use Rattle.al_expr_grammar.specs.Tree.{Tree, Constant, Named, Call, Group, Negated, Path}
 use Rattle.al_expr_grammar.specs.Tree.{Chain, Steps, NoStep, PropertyThen, AllThen, IndexThen}

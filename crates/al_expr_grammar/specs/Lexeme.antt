@@ -10,11 +10,11 @@ pub data Lexeme : Type 0 where
 abbrev pub kind_of : Lexeme → TokenKind
 kind_of (lexeme k b s) = k
 
-abbrev pub text_of : Lexeme → List ℕ
-text_of (lexeme k b s) = b
+abbrev pub lexeme_text : Lexeme → List ℕ
+lexeme_text (lexeme k b s) = b
 
-abbrev pub span_of : Lexeme → Span
-span_of (lexeme k b s) = s
+abbrev pub lexeme_span : Lexeme → Span
+lexeme_span (lexeme k b s) = s
 
 abbrev pub kinds : List Lexeme → List TokenKind
 kinds ts = map kind_of ts

@@ -12,7 +12,7 @@ use Rattle.al_base.specs.declared.faults.Span.{Span}
 use Rattle.al_expr_grammar.specs.Lexeme.{Lexeme, lexeme, kinds, seen}
 use Rattle.al_expr_grammar.specs.Tree.{Sign, Tree, StepTree}
 use Rattle.al_expr_grammar.specs.Grammar.{Nonterminal, Binary, Unary, Postfix, Primary, level_of, Derives, Operators, Walks, Lists}
-use Rattle.al_expr_grammar.specs.View.{tree_of, step_of}
+use Rattle.al_expr_grammar.specs.View.{expr_view, step_of}
 use Rattle.al_expr_grammar.specs.Table.{Verdict, Early, Unexpected, TooDeep, E, O, Frame, Call, outside, scan}
 
 -- No negation stands open in the innermost bracket where a chain of operators begins.
@@ -37,16 +37,16 @@ EndsLevel l (OpenIndex ∷ ts) = ⊥
 EndsLevel l (Infix o ∷ ts) = level_of o < l
 EndsLevel l _ = Unit {0}
 
-abbrev pub Stops : Nonterminal → List TokenKind → Type 0
-Stops (Binary l) ts = EndsLevel l ts
-Stops Unary ts = EndsPath ts
-Stops Postfix ts = EndsPath ts
-Stops Primary ts = Unit {0}
+abbrev pub EndsRule : Nonterminal → List TokenKind → Type 0
+EndsRule (Binary l) ts = EndsLevel l ts
+EndsRule Unary ts = EndsPath ts
+EndsRule Postfix ts = EndsPath ts
+EndsRule Primary ts = Unit {0}
 
 pub record Parsed (p : Nonterminal) (room : ℕ) (ts : List Lexeme) (t : Tree) (rest : List Lexeme) : Type 0 where
   pub derives : Derives p ts t rest
   pub goes : Goes p room ts (λ k st. scan O k st (kinds rest))
-  pub stops : Stops p (kinds rest)
+  pub stops : EndsRule p (kinds rest)
   pub shorter : length rest < length ts
 
 -- Unless memory ran out, the fault is the table's.
@@ -59,7 +59,7 @@ Refused p room ts (error.TooDeep left) = Goes p room ts (λ k st. TooDeep left)
 -- What a reader of expressions answers: a tree of this kind at the front of the tokens, with those left, or its fault.
 abbrev pub Parses : Nonterminal → ℕ → List Lexeme → Result (Expr × Bor (List Token)) ParseError → Type 0
 Parses p room ts result =
-    MatchResult result (λ x. Parsed p room ts (tree_of x.0) (map seen x.1.now)) (λ e. Refused p room ts e)
+    MatchResult result (λ x. Parsed p room ts (expr_view x.0) (map seen x.1.now)) (λ e. Refused p room ts e)
 
 -- A chain of operators, as far as it was read.
 pub record PartOfChain (l room : ℕ) (ts : List Lexeme) (os : List (Sign × Tree)) (rest : List Lexeme) : Type 0 where
@@ -108,9 +108,9 @@ ParsesStep room ts result =
     MatchResult result (λ x. StepRead room ts (step_of x.0) (map seen x.1.now)) (λ e. StepRefused room ts e)
 
 -- the fault where the first token may not stand here
-abbrev pub fault_at : List Lexeme → ParseError
-fault_at [] = error.Early
-fault_at (t ∷ ts) = error.Unexpected (length (t ∷ ts))
+abbrev pub error_at : List Lexeme → ParseError
+error_at [] = error.Early
+error_at (t ∷ ts) = error.Unexpected (length (t ∷ ts))
 
 -- No comma comes first.
 abbrev pub NoComma : List TokenKind → Type 0
@@ -153,7 +153,7 @@ NoClose _ = Unit {0}
 
 -- The token that has to come first isn't of this kind.
 pub record IsStray (ts : List Lexeme) (k : TokenKind) (e : ParseError) : Type 0 where
-  pub fault : e ≡ fault_at ts
+  pub fault : e ≡ error_at ts
   pub other : (rest : List TokenKind) → kinds ts ≢ k ∷ rest
 
 -- Unless memory ran out, the table comes to this fault.

@@ -7,14 +7,15 @@ use Rattle.al_base.specs.declared.faults.Fault.{Fault}
 use Rattle.al_base.specs.declared.faults.Span.{Span}
 use Rattle.al_base.specs.Limits.{longest_expression}
 use Rattle.al_expr_grammar.specs.Lexeme.{Lexeme, lexeme, kinds}
-use Rattle.al_expr_grammar.specs.Tokens.{Lexed, AllRead, Bad, Unclosed, tokens_of, last_quote, span}
+use Rattle.al_expr_grammar.specs.Tokens.{Lexed, AllRead, Bad, Unclosed, tokens_of, last_quote}
+use Rattle.al_base.specs.Spans.{span}
 use Rattle.al_expr_grammar.specs.Tree.{Tree}
 use Rattle.al_expr_grammar.specs.Grammar.{IsTreeOf}
 use Rattle.al_expr_grammar.specs.Table.{Verdict, Fine, Early, Unexpected, TooDeep, verdict_of}
 
 -- a fault of an expression: what it is, where it stands, and its arguments
-abbrev pub fault : codes.ExpressionCode → Span → List (List ℕ) → Fault
-fault x s args = record { span = s; code = Expression x; args = args }
+abbrev pub expression_fault : codes.ExpressionCode → Span → List (List ℕ) → Fault
+expression_fault x s args = record { span = s; code = Expression x; args = args }
 
 -- the fault at the first of these tokens
 abbrev pub fault_at : (Span → List ℕ → Fault) → List Lexeme → Option Fault
@@ -24,16 +25,16 @@ fault_at make (lexeme k b s ∷ ts) = Some (make s b)
 -- what the table finds, where it stands, in a content of so many bytes
 abbrev pub fault_of_verdict : ℕ → List Lexeme → Verdict → Option Fault
 fault_of_verdict len ts Fine = None
-fault_of_verdict len ts Early = Some (fault code.EndsEarly (span len len) [])
-fault_of_verdict len ts (Unexpected left) = fault_at (λ s b. fault code.UnexpectedToken s (b ∷ [])) (drop (length ts - left) ts)
-fault_of_verdict len ts (TooDeep left) = fault_at (λ s b. fault code.TooDeep s []) (drop (length ts - left) ts)
+fault_of_verdict len ts Early = Some (expression_fault code.EndsEarly (span len len) [])
+fault_of_verdict len ts (Unexpected left) = fault_at (λ s b. expression_fault code.UnexpectedToken s (b ∷ [])) (drop (length ts - left) ts)
+fault_of_verdict len ts (TooDeep left) = fault_at (λ s b. expression_fault code.TooDeep s []) (drop (length ts - left) ts)
 
 abbrev pub open_text : Option ℕ → Option Fault
-open_text = option_map (λ quote. fault code.UnclosedText (span quote (quote + 1)) [])
+open_text = option_map (λ quote. expression_fault code.UnclosedText (span quote (quote + 1)) [])
 
 -- X1 or X2, where the tokens are not all read
 abbrev pub fault_of_lexed : List ℕ → Lexed → Option Fault
-fault_of_lexed content (Bad s) = Some (fault code.BadCharacter s [])
+fault_of_lexed content (Bad s) = Some (expression_fault code.BadCharacter s [])
 fault_of_lexed content Unclosed = open_text (last_quote content)
 fault_of_lexed content (AllRead ts) = None
 
@@ -44,7 +45,7 @@ fault_of_tokens content other = fault_of_lexed content other
 -- X5, else X1 or X2, else X3 or X6, else X4
 abbrev pub fault_of_content : List ℕ → Option Fault
 fault_of_content content =
-    if nat_lt longest_expression (length content) then Some (fault code.TooLong (span 0 1) [])
+    if nat_lt longest_expression (length content) then Some (expression_fault code.TooLong (span 0 1) [])
     else fault_of_tokens content (tokens_of content)
 
 -- an expression of this tree

@@ -2,7 +2,7 @@
 --
 -- A content splits into what stands first and the rest behind it, whose tokens follow: a blank, or a token, the longest that begins there.
 -- Else its first character begins none, or a text is never closed.
-use Rattle.al_base.specs.Ascii.{ascii}
+use Rattle.al_base.specs.Ascii.{ascii, is_sign}
 use Rattle.al_base.specs.FirstBytes.{first_is, begins_with}
 use Rattle.al_expr_grammar.specs.declared.token.Operator.TheVariants.{Or, And, Equal, NotEqual, Less, LessEqual, Greater, GreaterEqual}
 use Rattle.al_expr_grammar.specs.declared.token.Keyword.TheVariants as keyword
@@ -11,6 +11,7 @@ use Rattle.al_expr_grammar.specs.declared.lexer.Read.TheVariants.{Blank, Token, 
 use Rattle.al_expr_grammar.specs.declared.token.TokenKind.{TokenKind}
 use Rattle.al_expr_grammar.specs.declared.token.TokenKind.TheVariants.{Name, Keyword, Number, Text, Open, Close, OpenIndex, CloseIndex, Dot}
 use Rattle.al_expr_grammar.specs.declared.token.TokenKind.TheVariants.{Comma, Star, Bang, Infix}
+use Rattle.al_base.specs.Spans.{span}
 use Rattle.al_base.specs.declared.faults.Span.{Span}
 use Rattle.al_expr_grammar.specs.Lexeme.{Lexeme, lexeme}
 use Rattle.std.specs.Char.{is_ascii_alphabetic, is_ascii_digit, is_ascii_hexdigit}
@@ -27,11 +28,8 @@ begins_name b = is_ascii_alphabetic b || b == ascii "_"
 abbrev pub goes_on_name : ℕ → Bool
 goes_on_name b = begins_name b || is_ascii_digit b || b == ascii "-"
 
-abbrev pub is_blank : ℕ → Bool
-is_blank b = b == ascii " " || b == ascii "\t" || b == ascii "\n" || b == ascii "\r"
-
-abbrev pub is_sign : ℕ → Bool
-is_sign b = b == ascii "+" || b == ascii "-"
+abbrev pub is_blank_byte : ℕ → Bool
+is_blank_byte b = b == ascii " " || b == ascii "\t" || b == ascii "\n" || b == ascii "\r"
 
 abbrev pub is_quote : ℕ → Bool
 is_quote b = b == ascii "'"
@@ -112,7 +110,7 @@ name_read bs = Token (word_kind (take (prefix_len goes_on_name bs) bs)) (prefix_
 abbrev pub read : List ℕ → Read
 read [] = BadCharacter
 read (b ∷ bs) =
-    if is_blank b then Blank
+    if is_blank_byte b then Blank
     else if begins_name b then name_read (b ∷ bs)
     else if is_quote b then text_read (text_tail bs)
     else if is_ascii_digit b || is_sign b then number_read (number_len (b ∷ bs))
@@ -129,18 +127,15 @@ abbrev pub then_token : Lexeme → Lexed → Lexed
 then_token t (AllRead ts) = AllRead (t ∷ ts)
 then_token t other = other
 
-abbrev pub span : ℕ → ℕ → Span
-span a b = record { start = a; end = b }
-
 -- the character that bytes begin with which stand at a place: bytes from 128 to 191 continue it
-abbrev pub character_at : ℕ → List ℕ → Span
-character_at at bs = span at (at + 1 + prefix_len (is_in_range 128 191) (drop 1 bs))
+abbrev pub character_span : ℕ → List ℕ → Span
+character_span at bs = span at (at + 1 + prefix_len (is_in_range 128 191) (drop 1 bs))
 
 -- what bytes begin with, and the rest behind it
 abbrev pub with_first : (ℕ → List ℕ → Lexed) → Read → ℕ → List ℕ → Lexed
 with_first rest Blank at bs = rest (at + 1) (drop 1 bs)
 with_first rest (Token k n) at bs = then_token (lexeme k (take n bs) (span at (at + n))) (rest (at + n) (drop n bs))
-with_first rest BadCharacter at bs = Bad (character_at at bs)
+with_first rest BadCharacter at bs = Bad (character_span at bs)
 with_first rest OpenText at bs = Unclosed
 
 -- the tokens of bytes that stand at a place: at most so many, each blank counted too

@@ -27,8 +27,8 @@ step_layer (layer.Index a t b) = Index a t b
 abbrev pub operand_layer : layer.Operand-F Tree StepTree (Sign × Tree) → (Sign × Tree)
 operand_layer o = (sign o.operator o.at, o.expr)
 
-unfoldable pub tree_of : Expr → Tree
-tree_of = fold-Expr Tree StepTree (Sign × Tree) expr_layer step_layer operand_layer
+unfoldable pub expr_view : Expr → Tree
+expr_view = fold-Expr Tree StepTree (Sign × Tree) expr_layer step_layer operand_layer
 
 unfoldable pub step_of : PathStep → StepTree
 step_of = fold-PathStep Tree StepTree (Sign × Tree) expr_layer step_layer operand_layer

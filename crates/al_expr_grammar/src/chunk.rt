@@ -3,7 +3,7 @@
 ghost use Rattle.std.specs.Prelude.{◌≡◌, ◌≤◌, ◌<◌, ◌+◌, ◌^◌, IfOk, All, map, length};
 ghost use Rattle.std.specs.Str.{IsCharBoundary};
 ghost use Rattle.al_base.specs.Limits.{longest_text};
-ghost use Rattle.al_expr_grammar.specs.Tokens.{span};
+ghost use Rattle.al_base.specs.Spans.{span};
 ghost use Rattle.al_expr_grammar.specs.Chunks.{chunks_of, closes, opens, span_of_chunk, IsCutFrom};
 ghost use Rattle.al_expr_grammar.specs.Private.ChunkStates.{end_fault as fault_at_end, move, EndFits, MoveFits};
 

@@ -5,7 +5,7 @@ ghost use Rattle.al_expr_grammar.specs.Lexeme.{seen, kinds};
 ghost use Rattle.al_expr_grammar.specs.Parsed.{IsVerdict};
 ghost use Rattle.al_expr_grammar.specs.Refusal.{fault_of_content, fault_of_verdict, Spells};
 ghost use Rattle.al_expr_grammar.specs.Table.{verdict_of};
-ghost use Rattle.al_expr_grammar.specs.View.{tree_of};
+ghost use Rattle.al_expr_grammar.specs.View.{expr_view};
 ghost use Rattle.al_expr_grammar.specs.declared.parser.ParseError.TheVariants.{Memory};
 
 use crate::ast::Expr;
@@ -69,7 +69,7 @@ fn parse_fault(
 /// that no expression's tokens go on with, X3, or at the token that makes the nesting 51, X6; else X4 at the content's
 /// end, where its tokens end too early. The outer error: out of memory.
 pub fn parse_expr(alloc: Global, content: &str) -> Result<Result<Expr<'_>, Fault>, AllocError>
-    ensures tree { IfOk result (λ r. IfOk r (λ e. Spells content.now (tree_of e))) }
+    ensures tree { IfOk result (λ r. IfOk r (λ e. Spells content.now (expr_view e))) }
     ensures none { IfOk result (λ r. IfOk r (λ e. fault_of_content content.now ≡ None)) }
     ensures fault { IfOk result (λ r. IfErr r (λ f. fault_of_content content.now ≡ Some f)) }
 {

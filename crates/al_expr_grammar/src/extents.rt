@@ -5,7 +5,7 @@ ghost use Rattle.al_base.specs.declared.faults.Span.{Span};
 ghost use Rattle.al_expr_grammar.specs.Extents as extents;
 ghost use Rattle.al_expr_grammar.specs.Extents.{extent, with_operands, with_steps};
 ghost use Rattle.al_expr_grammar.specs.Tree.{Path, StepTree, steps_of, operands_of};
-ghost use Rattle.al_expr_grammar.specs.View.{tree_of, step_of, operand_of};
+ghost use Rattle.al_expr_grammar.specs.View.{expr_view, step_of, operand_of};
 
 use crate::ast::{Expr, Operand, PathStep};
 use al_base::Span;
@@ -14,7 +14,7 @@ use al_base::Span;
 #[tactic(auto, using(crate::proofs::TreeViews::tree_views))]
 #[cycle(extents)]
 pub fn extent(expr: &Expr<'_>) -> Span
-    ensures { result ≡ extent (tree_of expr.now) }
+    ensures { result ≡ extent (expr_view expr.now) }
 {
     match expr {
         Expr::Keyword(_, span) => *span,
@@ -31,7 +31,7 @@ pub fn extent(expr: &Expr<'_>) -> Span
 
 /// Where a path stands.
 pub fn path_extent(base: &Expr<'_>, steps: &[PathStep<'_>]) -> Span
-    ensures { result ≡ extent (Path (tree_of base.now) (steps_of (map step_of steps.now))) }
+    ensures { result ≡ extent (Path (expr_view base.now) (steps_of (map step_of steps.now))) }
 {
     with_steps(extent(base), steps)
 }

@@ -1,14 +1,14 @@
 //! Faults of expressions, with and without a name in their message.
 
 ghost use Rattle.std.specs.Prelude.{◌≡◌, IfOk, [], ◌∷◌};
-ghost use Rattle.al_expr_grammar.specs.Refusal.{fault};
+ghost use Rattle.al_expr_grammar.specs.Refusal.{expression_fault};
 
 use al_base::{Args, Code, ExpressionCode, Fault, Span};
 use std::alloc::{AllocError, Global};
 
 /// A fault whose message names nothing.
 pub fn plain_fault(code: ExpressionCode, span: Span) -> Fault
-    ensures { result ≡ fault code span [] }
+    ensures { result ≡ expression_fault code span [] }
 {
     Fault {
         span,
@@ -24,7 +24,7 @@ pub fn named_fault(
     span: Span,
     name: &str,
 ) -> Result<Fault, AllocError>
-    ensures { IfOk result (λ f. f ≡ fault code span (name.now ∷ [])) }
+    ensures { IfOk result (λ f. f ≡ expression_fault code span (name.now ∷ [])) }
 {
     Ok(Fault {
         span,

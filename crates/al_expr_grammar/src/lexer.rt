@@ -4,7 +4,8 @@ ghost use Rattle.std.specs.Prelude.{map, IfOk, IfSome, MatchOption, MatchResult,
 ghost use Rattle.std.specs.Int.{is_in_range};
 ghost use Rattle.std.specs.List.{prefix_len};
 ghost use Rattle.al_expr_grammar.specs.Lexeme.{seen};
-ghost use Rattle.al_expr_grammar.specs.Tokens.{begins_name, goes_on_name, is_blank, is_sign, mark};
+ghost use Rattle.al_expr_grammar.specs.Tokens.{begins_name, goes_on_name, is_blank_byte, mark};
+ghost use Rattle.al_base.specs.Ascii.{is_sign};
 ghost use Rattle.al_base.specs.Limits.{longest_text};
 ghost use Rattle.al_expr_grammar.specs.Tokens.{word_kind, text_tail, text_read, name_read, number_read};
 ghost use Rattle.al_expr_grammar.specs.Tokens.{number_len, read, tokens_of, AllRead};
@@ -42,7 +43,7 @@ enum LexError {
 
 /// Whether a byte separates tokens: a blank or a part of a break.
 fn blank(b: u8) -> bool
-    ensures { result ≡ is_blank b }
+    ensures { result ≡ is_blank_byte b }
 {
     b == b' ' || b == b'\t' || b == b'\n' || b == b'\r'
 }

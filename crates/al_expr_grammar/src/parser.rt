@@ -1,11 +1,11 @@
 //! The tree that tokens spell, level by level of the operators.
 
 ghost use Rattle.std.specs.Prelude.{map, IfOk, ◌≡◌, ◌≢◌, ◌+◌, ◌<◌, MatchOption, MatchResult, List, [], ◌∷◌};
-ghost use Rattle.al_expr_grammar.specs.Lexeme.{seen, kinds, kind_of, text_of, span_of};
+ghost use Rattle.al_expr_grammar.specs.Lexeme.{seen, kinds, kind_of, lexeme_text, lexeme_span};
 ghost use Rattle.al_expr_grammar.specs.Parsed.{EndsPath, IsStray, NoOperator, Parses};
 ghost use Rattle.al_expr_grammar.specs.Parsed.{ParsesStep, StepRead, StepRefused, ArgumentsRead};
 ghost use Rattle.al_expr_grammar.specs.Parsed.{ArgumentsRefused, NoClose, NoBang, IsVerdict};
-ghost use Rattle.al_expr_grammar.specs.View.{tree_of, step_of, operand_of};
+ghost use Rattle.al_expr_grammar.specs.View.{expr_view, step_of, operand_of};
 ghost use Rattle.al_expr_grammar.specs.Tree.{path_of, chain_of};
 ghost use Rattle.al_expr_grammar.specs.Grammar.{Binary, Unary, Postfix, Primary, level_of, below, IsTreeOf};
 ghost use Rattle.al_expr_grammar.specs.Table.{Fine, verdict_of};
@@ -68,8 +68,8 @@ fn split<'t, 'a>(tokens: &'t [Token<'a>]) -> Option<(Token<'a>, &'t [Token<'a>])
 
 /// A token's text with its place.
 fn word<'a>(token: Token<'a>) -> Word<'a>
-    ensures text { result.text.now ≡ text_of (seen token.entry) }
-    ensures span { result.span ≡ span_of (seen token.entry) }
+    ensures text { result.text.now ≡ lexeme_text (seen token.entry) }
+    ensures span { result.span ≡ lexeme_span (seen token.entry) }
 {
     Word {
         text: token.text,
@@ -83,7 +83,7 @@ fn with_steps<'a>(
     base: Expr<'a>,
     steps: Vec<PathStep<'a>>,
 ) -> Result<Expr<'a>, AllocError>
-    ensures { IfOk result (λ e. tree_of e ≡ path_of (tree_of base.entry) (map step_of (steps.entry).items)) }
+    ensures { IfOk result (λ e. expr_view e ≡ path_of (expr_view base.entry) (map step_of (steps.entry).items)) }
 {
     if steps.len() == 0 {
         return Ok(base);
@@ -97,7 +97,7 @@ fn with_operands<'a>(
     first: Expr<'a>,
     more: Vec<Operand<'a>>,
 ) -> Result<Expr<'a>, AllocError>
-    ensures { IfOk result (λ e. tree_of e ≡ chain_of (tree_of first.entry) (map operand_of (more.entry).items)) }
+    ensures { IfOk result (λ e. expr_view e ≡ chain_of (expr_view first.entry) (map operand_of (more.entry).items)) }
 {
     if more.len() == 0 {
         return Ok(first);
@@ -271,7 +271,7 @@ fn arguments<'t, 'a>(
 ) -> Result<(Vec<Expr<'a>>, &'t [Token<'a>]), ParseError>
     requires { NoClose (kinds (map seen tokens.now)) }
     ensures { MatchResult result
-        (λ x. ArgumentsRead room (map seen tokens.now) (map tree_of x.0.items) (map seen x.1.now))
+        (λ x. ArgumentsRead room (map seen tokens.now) (map expr_view x.0.items) (map seen x.1.now))
         (λ e. ArgumentsRefused room (map seen tokens.now) e) }
 {
     let (first, mut left) = binary(alloc, 0, tokens, room)?;
@@ -410,7 +410,7 @@ fn operand<'t, 'a>(
 pub fn parse<'a>(alloc: Global, tokens: &[Token<'a>]) -> Result<Expr<'a>, ParseError>
     ensures { MatchResult result
         (λ e. (verdict_of (kinds (map seen tokens.now)) ≡ Fine)
-        × IsTreeOf (tree_of e) (map seen tokens.now))
+        × IsTreeOf (expr_view e) (map seen tokens.now))
         (λ e. IsVerdict e (verdict_of (kinds (map seen tokens.now)))) }
 {
     let (expr, rest) = binary(alloc, 0, tokens, DEEPEST_EXPRESSION)?;

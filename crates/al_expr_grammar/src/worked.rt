@@ -2,7 +2,8 @@
 ghost use Rattle.al_expr_grammar.specs.Rows.Chunks.{closed, cut_off};
 ghost use Rattle.al_expr_grammar.specs.Rows.Tokens as row;
 ghost use Rattle.al_expr_grammar.specs.Chunks.{chunks_of};
-ghost use Rattle.al_expr_grammar.specs.Tokens.{AllRead, Bad, Unclosed, last_quote, span, tokens_of};
+ghost use Rattle.al_expr_grammar.specs.Tokens.{AllRead, Bad, Unclosed, last_quote, tokens_of};
+ghost use Rattle.al_base.specs.Spans.{span};
 ghost use Rattle.al_base.specs.declared.codes.ExpressionCode.TheVariants.{UnclosedChunk, UnclosedText};
 ghost use Rattle.std.specs.Prelude.{◌≡◌, [], ◌∷◌, codes, None, Some};
 

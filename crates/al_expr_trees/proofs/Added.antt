@@ -6,14 +6,14 @@ use Rattle.al_base.specs.Names.{same_name}
 use Rattle.al_types.specs.FusedFields.{are_distinct}
 use Rattle.al_types.specs.Indexes.{name_at}
 use Rattle.al_types.specs.TypeParts.{common_type}
-use Rattle.al_types.specs.Puts.{Typed, firsts, put_or_fuse}
+use Rattle.al_types.specs.Puts.{TypedName, firsts, put_or_fuse}
 use Rattle.al_types.specs.Fused.{fuse_parts}
 use Rattle.al_types.specs.Types.{Type', Optional, Absent, Present, Parts, common_in, field_at, fuse_optional, fuse_type, has_field, optional, parts_with}
 use Rattle.al_types.proofs.FuseLaws.{common_optional, last_turned, nothing_last, optional_assoc, parts_assoc}
 use Rattle.al_types.proofs.GatheredFields.{found_put}
 use Rattle.al_types.proofs.JoinedFields.{first_apart, has_field_at, nothing_at, others_apart, same_turned}
 use Rattle.al_types.proofs.Puts.{put_behind}
-use Rattle.al_expr_trees.specs.Trees.{field_parts, object_parts}
+use Rattle.al_expr_trees.specs.Trees.{field_parts, listed_parts}
 use Rattle.al_expr_trees.proofs.Firsts.{firsts_more, firsts_old, none_first}
 
 -- ---- a field that is put to others
@@ -23,19 +23,19 @@ put_step : (b : Bool) (t u : Type') (o more : Optional) → more ≡ fuse_option
 put_step true t u o more e = last_turned (Present t) (Present u) o
 put_step false t u o more e = ap (fuse_optional (Present t)) e ∙ sym (optional_assoc (Present t) o (Present u))
 
-common_if : (b : Bool) (n : List ℕ) (t u : Type') (qs more : List Typed) →
+common_if : (b : Bool) (n : List ℕ) (t u : Type') (qs more : List TypedName) →
     common_in (if b then (n, u) ∷ qs else (n, t) ∷ more)
     ≡ (if b then fuse_optional (Present u) (common_in qs) else fuse_optional (Present t) (common_in more))
 common_if true n t u qs more = refl
 common_if false n t u qs more = refl
 
-common_put : (ts : List Typed) (p : Typed) → common_in (put_or_fuse ts p) ≡ fuse_optional (common_in ts) (Present p.1)
+common_put : (ts : List TypedName) (p : TypedName) → common_in (put_or_fuse ts p) ≡ fuse_optional (common_in ts) (Present p.1)
 common_put [] p = refl
 common_put (q ∷ qs) p =
     common_if (same_name q.0 p.0) q.0 q.1 (fuse_type q.1 p.1) qs (put_or_fuse qs p)
     ∙ put_step (same_name q.0 p.0) q.1 p.1 (common_in qs) (common_in (put_or_fuse qs p)) (common_put qs p)
 
-pub parts_put : (ts : List Typed) (p : Typed) (r : Optional) → parts_with (put_or_fuse ts p) r ≡ fuse_parts (parts_with ts r) (field_parts p)
+pub parts_put : (ts : List TypedName) (p : TypedName) (r : Optional) → parts_with (put_or_fuse ts p) r ≡ fuse_parts (parts_with ts r) (field_parts p)
 parts_put ts p r =
     let at : (n : List ℕ) → optional (field_at n (put_or_fuse ts p)) ≡ fuse_optional (optional (field_at n ts)) (optional (field_at n (p ∷ []))) =
     λ n. ap optional (found_put ts p n) ∙ common_optional (field_at n ts) (field_at n (p ∷ [])) in
@@ -43,12 +43,12 @@ parts_put ts p r =
     ap (λ o. fuse_optional o r) (common_put ts p) ∙ last_turned (common_in ts) (Present p.1) r in
     λ d. (λ n. at n d, sym (nothing_last r) d, all d)
 
-distinct_if : (same : Bool) (q p : Typed) (qs more : List Typed) → are_distinct (q ∷ qs) ≡ true → (same ≡ false → has_field q.0 more ≡ false) →
+distinct_if : (same : Bool) (q p : TypedName) (qs more : List TypedName) → are_distinct (q ∷ qs) ≡ true → (same ≡ false → has_field q.0 more ≡ false) →
     are_distinct more ≡ true → are_distinct (if same then (q.0, fuse_type q.1 p.1) ∷ qs else q ∷ more) ≡ true
 distinct_if true q p qs more d h e = d
 distinct_if false q p qs more d h e = λ i. not (h refl i) && e i
 
-pub put_distinct : (ts : List Typed) (p : Typed) → are_distinct ts ≡ true → are_distinct (put_or_fuse ts p) ≡ true
+pub put_distinct : (ts : List TypedName) (p : TypedName) → are_distinct ts ≡ true → are_distinct (put_or_fuse ts p) ≡ true
 put_distinct [] p d = refl
 put_distinct (q ∷ qs) p d =
     let none : has_field q.0 qs ≡ false = first_apart (has_field q.0 qs) (are_distinct qs) d in
@@ -65,20 +65,20 @@ none_is (Some i) e = absurd cc
 -- ---- fields one after another
 
 -- one that is the first of its name
-pub added_first : (ts : List Typed) (p : Typed) (start old new : Parts) → is_none (name_at ts p.0) ≡ true →
-    old ≡ fuse_parts start (object_parts ts Absent) → new ≡ fuse_parts old (field_parts p) → new ≡ fuse_parts start (object_parts (ts ++ p ∷ []) Absent)
+pub added_first : (ts : List TypedName) (p : TypedName) (start old new : Parts) → is_none (name_at ts p.0) ≡ true →
+    old ≡ fuse_parts start (listed_parts ts Absent) → new ≡ fuse_parts old (field_parts p) → new ≡ fuse_parts start (listed_parts (ts ++ p ∷ []) Absent)
 added_first ts p start old new first was is =
     let none = none_is (name_at (firsts ts) p.0) (none_first ts p.0 ∙ first) in
-    is ∙ ap (λ q. fuse_parts q (field_parts p)) was ∙ parts_assoc start (object_parts ts Absent) (field_parts p)
+    is ∙ ap (λ q. fuse_parts q (field_parts p)) was ∙ parts_assoc start (listed_parts ts Absent) (field_parts p)
     ∙ ap (fuse_parts start) (sym (parts_put (firsts ts) p Absent) ∙ ap (λ us. parts_with us Absent) (put_behind (firsts ts) p none ∙ sym (firsts_more ts p)))
 
 -- one that isn't
-pub added_later : (ts : List Typed) (p : Typed) (start old : Parts) → is_none (name_at ts p.0) ≡ false →
-    old ≡ fuse_parts start (object_parts ts Absent) → old ≡ fuse_parts start (object_parts (ts ++ p ∷ []) Absent)
+pub added_later : (ts : List TypedName) (p : TypedName) (start old : Parts) → is_none (name_at ts p.0) ≡ false →
+    old ≡ fuse_parts start (listed_parts ts Absent) → old ≡ fuse_parts start (listed_parts (ts ++ p ∷ []) Absent)
 added_later ts p start old later was = was ∙ ap (λ us. fuse_parts start (parts_with us Absent)) (sym (firsts_old ts p later))
 
 -- no field
-pub added_none : (start : Parts) → start ≡ fuse_parts start (object_parts [] Absent)
+pub added_none : (start : Parts) → start ≡ fuse_parts start (listed_parts [] Absent)
 added_none start = λ d. (λ n. sym (nothing_last (start.0 n)) d, sym (nothing_last start.1) d, sym (nothing_last start.2) d)
 
 -- the first elements of a list and one more, by what they are seen as
@@ -90,14 +90,14 @@ mapped_more g xs i x lt e =
 -- ---- the type of other fields
 
 -- an object, and others that it may have
-pub with_rest : (p : Parts) (ts : List Typed) (r s : Optional) → p ≡ parts_with ts r → parts_with ts (fuse_optional r s) ≡ fuse_parts p (parts_with [] s)
+pub with_rest : (p : Parts) (ts : List TypedName) (r s : Optional) → p ≡ parts_with ts r → parts_with ts (fuse_optional r s) ≡ fuse_parts p (parts_with [] s)
 with_rest p ts r s e =
     (λ d. (λ n. sym (nothing_last (optional (field_at n ts))) d, fuse_optional r s, sym (optional_assoc (common_in ts) r s) d))
     ∙ ap (λ q. fuse_parts q (parts_with [] s)) (sym e)
 
 -- fields, and then others
-pub whole : (p q new : Parts) (ts : List Typed) (s : Optional) → q ≡ fuse_parts p (object_parts ts Absent) → new ≡ fuse_parts q (parts_with [] s) →
-    new ≡ fuse_parts p (object_parts ts s)
+pub whole : (p q new : Parts) (ts : List TypedName) (s : Optional) → q ≡ fuse_parts p (listed_parts ts Absent) → new ≡ fuse_parts q (parts_with [] s) →
+    new ≡ fuse_parts p (listed_parts ts s)
 whole p q new ts s e is =
-    is ∙ ap (λ x. fuse_parts x (parts_with [] s)) e ∙ parts_assoc p (object_parts ts Absent) (parts_with [] s)
-    ∙ ap (fuse_parts p) (sym (with_rest (object_parts ts Absent) (firsts ts) Absent s refl))
+    is ∙ ap (λ x. fuse_parts x (parts_with [] s)) e ∙ parts_assoc p (listed_parts ts Absent) (parts_with [] s)
+    ∙ ap (fuse_parts p) (sym (with_rest (listed_parts ts Absent) (firsts ts) Absent s refl))

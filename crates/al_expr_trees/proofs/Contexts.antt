@@ -7,7 +7,7 @@ use Rattle.al_types.specs.declared.names.Context.TheVariants as context
 use Rattle.al_expr_types.specs.Tables.{is_known, objects_of, type_at}
 use Rattle.al_expr_types.specs.declared.ty.Ty.{Ty}
 use Rattle.al_expr_types.specs.declared.types.Types.{Types}
-use Rattle.al_expr_typing.proofs.Shown.{type_stays}
+use Rattle.al_expr_types.proofs.Stays.{type_stays}
 
 pub each_context : (P : Context → Type 0) → P context.Github → P context.Env → P context.Vars → P context.Secrets → P context.Runner → P context.Job →
     P context.Strategy → P context.Needs → P context.Jobs → P context.Steps → P context.Matrix → P context.Inputs → (x : Context) → P x

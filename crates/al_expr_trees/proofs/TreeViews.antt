@@ -3,7 +3,7 @@ use Rattle.std.proofs.Common.{◌≡◌, ◌∷◌, map, refl, ap, ◌∙◌, Op
 use Rattle.std.specs.Global.{Global}
 use Rattle.std.specs.Prelude.{Box, Vec, string_bytes}
 use Rattle.al_types.specs.Types.{object_type}
-use Rattle.al_expr_trees.specs.Trees.{field_of, fields_in, object_parts, rest_in, rest_of, ty_of}
+use Rattle.al_expr_trees.specs.Trees.{field_of, fields_in, listed_parts, rest_in, rest_of, ty_of}
 use Rattle.al_expr_trees.specs.declared.trees.Ty.{Ty}
 use Rattle.al_expr_trees.specs.declared.trees.Ty as code
 use Rattle.al_expr_trees.specs.declared.trees.Field.{Field}
@@ -18,7 +18,7 @@ rest_held : (r : Option (Box Ty Global)) → rest_in (back-Ty-Object-1 r) ≡ re
 rest_held None = refl
 rest_held (Some b) = refl
 
-pub object_view : (fs : Vec Field Global) (rest : Option (Box Ty Global)) → ty_of (code.Object fs rest) ≡ object_type (object_parts (map field_of fs.items) (rest_of rest))
+pub object_view : (fs : Vec Field Global) (rest : Option (Box Ty Global)) → ty_of (code.Object fs rest) ≡ object_type (listed_parts (map field_of fs.items) (rest_of rest))
 object_view fs rest =
     let fields = fields_listed _ (hidden-the_row-Field-0 fs) ∙ ap (map field_of) (items_hidden-the_row-Field-0 fs) in
-    λ d. object_type (object_parts (fields d) (rest_held rest d))
+    λ d. object_type (listed_parts (fields d) (rest_held rest d))

@@ -6,7 +6,7 @@ use Rattle.al_types.specs.declared.names.Context.{Context}
 use Rattle.al_types.specs.declared.names.Context.TheVariants as context
 use Rattle.al_expr_types.specs.Tables.{is_known, type_at}
 use Rattle.al_expr_types.specs.declared.types.Types.{Types}
-use Rattle.al_expr_typing.specs.Scopes.{number_of}
+use Rattle.al_expr_typing.specs.Scopes.{context_number}
 use Rattle.al_expr_typing.specs.declared.scope.ContextTypes as numbers
 use Rattle.al_expr_trees.specs.Trees.{ty_of}
 use Rattle.al_expr_trees.specs.declared.scope.ContextTypes.{ContextTypes}
@@ -30,10 +30,7 @@ abbrev pub scope_of : code.Scope → Scope
 scope_of s =
     record { types = type_of_context s.types; available = available_of s.available; in_run = s.in_run }
 
--- numbers that stand for the types of the contexts
-pub record AreAt (types : Types) (ns : numbers.ContextTypes) (ts : ContextTypes) : Type 0 where
-  pub at : (c : Context) → type_at types (number_of ns c) ≡ type_of_context ts c
-
--- numbers that stand for something
-pub record AreKnown (types : Types) (ns : numbers.ContextTypes) : Type 0 where
-  pub known : (c : Context) → is_known types (number_of ns c) ≡ true
+-- numbers of the table that stand for the types of the contexts
+pub record StandFor (types : Types) (ns : numbers.ContextTypes) (ts : ContextTypes) : Type 0 where
+  pub known : (c : Context) → is_known types (context_number ns c) ≡ true
+  pub are : (c : Context) → type_at types (context_number ns c) ≡ type_of_context ts c

@@ -7,8 +7,8 @@ ghost use Rattle.al_types.specs.Puts.{firsts};
 ghost use Rattle.al_types.specs.Types.{ArrayOf, Parts, object_type, parts_with};
 ghost use Rattle.al_expr_types.specs.Tables.{is_known, objects_of, type_at};
 ghost use Rattle.al_expr_types.specs.Types.{is_below, is_rest_below, rest_in, scalar_type, type_in};
-ghost use Rattle.al_expr_typing.specs.Scopes.{IsShown, scope_at};
-ghost use Rattle.al_expr_trees.specs.Scopes.{AreAt, AreKnown, scope_of};
+ghost use Rattle.al_expr_typing.specs.Scopes.{IsShown, scope_view};
+ghost use Rattle.al_expr_trees.specs.Scopes.{StandFor, scope_of};
 ghost use Rattle.al_expr_trees.specs.Tables.{fields_at};
 ghost use Rattle.al_expr_trees.specs.Trees.{field_of, rest_of, ty_of};
 
@@ -146,8 +146,7 @@ fn add_contexts<'a>(
     types: &mut Types<'a>,
     contexts: &'a ContextTypes,
 ) -> Result<al_expr_typing::ContextTypes, AllocError>
-    ensures same { IfOk result (λ t. AreAt types.new t contexts.now) }
-    ensures known { IfOk result (λ t. AreKnown types.new t) }
+    ensures { IfOk result (λ t. StandFor types.new t contexts.now) }
 {
     let github = add(alloc, types, &contexts.github)?;
     let env = add(alloc, types, &contexts.env)?;
@@ -183,7 +182,7 @@ pub(crate) fn add_scope<'a>(
     types: &mut Types<'a>,
     scope: &'a Scope,
 ) -> Result<al_expr_typing::Scope, AllocError>
-    ensures same { IfOk result (λ s. scope_at types.new s ≡ scope_of scope.now) }
+    ensures same { IfOk result (λ s. scope_view types.new s ≡ scope_of scope.now) }
     ensures shown { IfOk result (λ s. IsShown types.new s) }
 {
     let contexts = add_contexts(alloc, types, &scope.types)?;

@@ -6,7 +6,7 @@ ghost use Rattle.al_types.specs.Fused.{fuse_parts};
 ghost use Rattle.al_types.specs.Types.{Absent, fuse_optional, fuse_type, parts_with};
 ghost use Rattle.al_expr_types.specs.Types.{scalar_type};
 ghost use Rattle.al_expr_trees.specs.Listings.{parts_in};
-ghost use Rattle.al_expr_trees.specs.Trees.{field_of, field_parts, object_parts, rest_of, ty_of};
+ghost use Rattle.al_expr_trees.specs.Trees.{field_of, field_parts, listed_parts, rest_of, ty_of};
 
 use crate::copying::{copy, copy_field, copy_rest};
 use crate::listings::{Listing, position};
@@ -85,7 +85,7 @@ pub(crate) fn add_object(
 ) -> Result<Listing, AllocError>
     ensures { IfOk result
         (λ l. parts_in l
-        ≡ fuse_parts (parts_in sofar) (object_parts (map field_of fields.now) (rest_of rest.now))) }
+        ≡ fuse_parts (parts_in sofar) (listed_parts (map field_of fields.now) (rest_of rest.now))) }
 {
     let both = add_fields(alloc, fields, sofar)?;
     let whole = add_rest(alloc, rest, both)?;
@@ -97,7 +97,7 @@ pub(crate) fn add_object(
 fn add_fields(alloc: Global, fields: &[Field], sofar: Listing) -> Result<Listing, AllocError>
     ensures { IfOk result
         (λ l. parts_in l
-        ≡ fuse_parts (parts_in sofar) (object_parts (map field_of fields.now) Absent)) }
+        ≡ fuse_parts (parts_in sofar) (listed_parts (map field_of fields.now) Absent)) }
 {
     let mut all = sofar;
     for (i, field) in fields.iter().enumerate() {

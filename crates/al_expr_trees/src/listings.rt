@@ -48,7 +48,7 @@ fn first_fields(alloc: Global, fields: &[Field]) -> Result<Vec<Field>, AllocErro
 impl Listing {
     ghost use Rattle.al_types.specs.Types.{Absent, object_type, parts_with};
     ghost use Rattle.al_expr_trees.specs.Listings.{parts_in};
-    ghost use Rattle.al_expr_trees.specs.Trees.{object_parts, rest_of, ty_of};
+    ghost use Rattle.al_expr_trees.specs.Trees.{listed_parts, rest_of, ty_of};
 
     /// No fields, and no others. Takes no memory.
     pub(crate) fn new(alloc: Global) -> Listing
@@ -67,7 +67,7 @@ impl Listing {
         rest: &Option<Box<Ty>>,
     ) -> Result<Listing, AllocError>
         ensures { IfOk result
-            (λ l. parts_in l ≡ object_parts (map field_of fields.now) (rest_of rest.now)) }
+            (λ l. parts_in l ≡ listed_parts (map field_of fields.now) (rest_of rest.now)) }
     {
         let fields = first_fields(alloc, fields)?;
         let rest = copy_rest(alloc, rest)?;

@@ -2,8 +2,8 @@
 
 ghost use Rattle.std.specs.Prelude.{◌≡◌, ◌++◌, IfOk, OnOk};
 ghost use Rattle.al_base.specs.Growth.{BeginsWith};
-ghost use Rattle.al_expr_grammar.specs.View.{tree_of};
-ghost use Rattle.al_expr_typing.specs.Meaning.{faults_in, meaning_of, type_in};
+ghost use Rattle.al_expr_grammar.specs.View.{expr_view};
+ghost use Rattle.al_expr_typing.specs.Meaning.{faults_found, meaning_of, type_found};
 ghost use Rattle.al_expr_trees.specs.Scopes.{scope_of};
 ghost use Rattle.al_expr_trees.specs.Trees.{ty_of};
 
@@ -26,10 +26,10 @@ pub fn type_of(
     out: &mut Vec<Fault>,
 ) -> Result<Ty, AllocError>
     ensures ty { IfOk result
-        (λ t. ty_of t ≡ type_in (meaning_of (scope_of env.now) (tree_of expr.now))) }
+        (λ t. ty_of t ≡ type_found (meaning_of (scope_of env.now) (expr_view expr.now))) }
     ensures faults { OnOk result
         (out.new.items
-        ≡ out.old.items ++ faults_in (meaning_of (scope_of env.now) (tree_of expr.now))) }
+        ≡ out.old.items ++ faults_found (meaning_of (scope_of env.now) (expr_view expr.now))) }
     ensures begins { BeginsWith out.new.items out.old.items }
 {
     let mut types = Types::new(alloc);

@@ -70,10 +70,10 @@ pub gathered_next : (p : Part) (f : ℕ → Parts) (ns : List ℕ) (i n : ℕ) (
     sofar ≡ fuse_optional start (part_in p (fuse_all (map f (take i ns)))) → new ≡ fuse_optional sofar (part_in p (f n)) →
     new ≡ fuse_optional start (part_in p (fuse_all (map f (take (i + 1) ns))))
 gathered_next p f ns i n start sofar new lt e old step =
-    let front : List Parts = map f (take i ns) in
-    step ∙ ap (λ o. fuse_optional o (part_in p (f n))) old ∙ optional_assoc start (part_in p (fuse_all front)) (part_in p (f n))
-    ∙ ap (fuse_optional start) (sym (part_fused p (fuse_all front) (f n))) ∙ ap (λ q. fuse_optional start (part_in p q)) (sym (fused_one_more front (f n)))
-    ∙ ap (λ m. fuse_optional start (part_in p (fuse_all (front ++ f m ∷ [])))) e
+    let prefix : List Parts = map f (take i ns) in
+    step ∙ ap (λ o. fuse_optional o (part_in p (f n))) old ∙ optional_assoc start (part_in p (fuse_all prefix)) (part_in p (f n))
+    ∙ ap (fuse_optional start) (sym (part_fused p (fuse_all prefix) (f n))) ∙ ap (λ q. fuse_optional start (part_in p q)) (sym (fused_one_more prefix (f n)))
+    ∙ ap (λ m. fuse_optional start (part_in p (fuse_all (prefix ++ f m ∷ [])))) e
     ∙ ap (λ qs. fuse_optional start (part_in p (fuse_all qs))) (sym (map-append f (take i ns) (get_or ns i n ∷ [])))
     ∙ ap (λ ms. fuse_optional start (part_in p (fuse_all (map f ms)))) (sym (take_more ns i n lt))
 
@@ -103,9 +103,9 @@ pub named_next : (n : List ℕ) (f : ℕ → Parts) (ns : List ℕ) (i m : ℕ) 
     sofar ≡ fuse_optional start ((fuse_all (map f (take i ns))).0 n) → new ≡ fuse_optional sofar ((f m).0 n) →
     new ≡ fuse_optional start ((fuse_all (map f (take (i + 1) ns))).0 n)
 named_next n f ns i m start sofar new lt e old step =
-    let front : List Parts = map f (take i ns) in
-    step ∙ ap (λ o. fuse_optional o ((f m).0 n)) old ∙ optional_assoc start ((fuse_all front).0 n) ((f m).0 n)
-    ∙ ap (λ q. fuse_optional start (q.0 n)) (sym (fused_one_more front (f m)))
-    ∙ ap (λ k. fuse_optional start ((fuse_all (front ++ f k ∷ [])).0 n)) e
+    let prefix : List Parts = map f (take i ns) in
+    step ∙ ap (λ o. fuse_optional o ((f m).0 n)) old ∙ optional_assoc start ((fuse_all prefix).0 n) ((f m).0 n)
+    ∙ ap (λ q. fuse_optional start (q.0 n)) (sym (fused_one_more prefix (f m)))
+    ∙ ap (λ k. fuse_optional start ((fuse_all (prefix ++ f k ∷ [])).0 n)) e
     ∙ ap (λ qs. fuse_optional start ((fuse_all qs).0 n)) (sym (map-append f (take i ns) (get_or ns i m ∷ [])))
     ∙ ap (λ ms. fuse_optional start ((fuse_all (map f ms)).0 n)) (sym (take_more ns i m lt))

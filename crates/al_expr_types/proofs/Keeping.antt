@@ -12,7 +12,7 @@ use Rattle.al_types.specs.Fused.{fuse_all}
 use Rattle.al_expr_types.specs.Joining.{is_join_below, join_in}
 use Rattle.al_expr_types.specs.declared.joining.Join.{Join}
 use Rattle.al_expr_types.specs.declared.joining.Join.TheVariants as joined
-use Rattle.al_expr_types.specs.Marks.{AreIndexed, AreRight, IsCommon, IsIndex}
+use Rattle.al_expr_types.specs.Marks.{AreIndexed, AreRight, IsCommon, IsFieldIndex}
 use Rattle.al_expr_types.specs.declared.marks.Index.{Index}
 use Rattle.al_expr_types.specs.declared.marks.Index.TheVariants as index
 use Rattle.al_expr_types.specs.declared.objects.Fields.{Fields}
@@ -121,16 +121,16 @@ made_next entry now next js i j ts new t kept more lt e below known is old step 
     let len = length_after [] now in
     let each : (u : Ty) → is_below (length now) u ≡ true → all u ≡ Present (type_in (parts_of_all now) u) =
     λ u h. ap Present (ap (λ ms. type_in ms u) more.is ∙ type_kept (parts_of_all now) more.more u (subst (λ k. is_below k u ≡ true) (sym len) h)) in
-    let front = same_mapped (is_below (length now)) all (λ u. Present (type_in (parts_of_all now) u)) each ts known ∙ old in
+    let prefix = same_mapped (is_below (length now)) all (λ u. Present (type_in (parts_of_all now) u)) each ts known ∙ old in
     let last = step ∙ joined_longer now entry j kept below in
-    ap (map all) is ∙ map-append all ts (t ∷ []) ∙ (λ d. front d ++ last d ∷ [])
+    ap (map all) is ∙ map-append all ts (t ∷ []) ∙ (λ d. prefix d ++ last d ∷ [])
     ∙ ap (λ y. map (join_in (parts_of_all entry)) (take i js) ++ join_in (parts_of_all entry) y ∷ []) e
     ∙ sym (map-append (join_in (parts_of_all entry)) (take i js) (get_or js i j ∷ []))
     ∙ ap (map (join_in (parts_of_all entry))) (sym (take_more js i j lt))
 
 -- ---- indexes
 
-index_longer : (new old : List Object) (n : ℕ) (f : Fields) → BeginsWith (parts_of_all new) (parts_of_all old) → IsIndex old n f → IsIndex new n f
+index_longer : (new old : List Object) (n : ℕ) (f : Fields) → BeginsWith (parts_of_all new) (parts_of_all old) → IsFieldIndex old n f → IsFieldIndex new n f
 index_longer new old n f b h =
     let len = length_after [] old in
     let le = longer new old b in
@@ -160,12 +160,12 @@ indexed_if false os new old e h = subst (AreIndexed os) (sym e) h
 same_index : (f g : Fields) → index.Fields f ≡ index.Fields g → f ≡ g
 same_index f g e = cc
 
-pub indexed_set : (os : List Object) (is : List Index) (n : ℕ) (f : Fields) → n < length is → IsIndex os n f → AreIndexed os is → AreIndexed os (set is n (index.Fields f))
+pub indexed_set : (os : List Object) (is : List Index) (n : ℕ) (f : Fields) → n < length is → IsFieldIndex os n f → AreIndexed os is → AreIndexed os (set is n (index.Fields f))
 indexed_set os is n f lt h indexed m g e =
     ⊎_elim
     (λ (same : m ≡ n).
     let there = sym (ap (λ k. get_or (set is n (index.Fields f)) k (index.Looks 0)) same ∙ get_or-set_same is n (index.Fields f) (index.Looks 0) lt) ∙ e in
-    subst (λ k. IsIndex os k g) (sym same) (subst (IsIndex os n) (same_index f g there) h))
+    subst (λ k. IsFieldIndex os k g) (sym same) (subst (IsFieldIndex os n) (same_index f g there) h))
     (λ (ne : m ≢ n). indexed m g (sym (get_or-set_other is n m (index.Fields f) (index.Looks 0) ne) ∙ e))
     (cases_eq m n)
 

@@ -10,3 +10,4 @@ pub mod PrefixLemmas
 pub mod OnceLemmas
 pub mod Scans
 pub mod NameIndexes
+pub mod Stays

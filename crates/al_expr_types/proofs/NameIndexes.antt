@@ -10,7 +10,7 @@ use Rattle.std.specs.Ordering.{is_eq}
 use Rattle.std.specs.Prelude.{if◌then◌else◌, is_none}
 use Rattle.al_base.specs.Names.{lower_case, same_name}
 use Rattle.al_base.specs.NamePlaces.{name_place}
-use Rattle.al_base.specs.SortedTexts.{Key, key_cmp, key_of}
+use Rattle.al_base.specs.SortedTexts.{Key, key_cmp, sort_key}
 use Rattle.al_base.proofs.NamePlaces.{first_more}
 use Rattle.al_base.proofs.SortedTexts.{key_cmp_total, same_key}
 use Rattle.al_expr_types.specs.Places.{IsNameIndex, and_place, place_in}
@@ -46,11 +46,11 @@ abbrev pub entry_at : NameIndex → Key → Option ℕ
 entry_at index key = get_by (λ k. key_cmp key (key_in k)) index.positions
 
 -- names that are the same have one key
-one_key : (name other : List ℕ) → same_name name other ≡ true → key_of (lower_case name) ≡ key_of (lower_case other)
-one_key name other y = ap key_of ((bytes_decides (lower_case name) (lower_case other)).0 y)
+one_key : (name other : List ℕ) → same_name name other ≡ true → sort_key (lower_case name) ≡ sort_key (lower_case other)
+one_key name other y = ap sort_key ((bytes_decides (lower_case name) (lower_case other)).0 y)
 
 -- a name that is added
-pub added : (old new : NameIndex) (key : Keyed) (name : List ℕ) (i : ℕ) → key_in key ≡ key_of (lower_case name) → entry_at old (key_in key) ≡ None →
+pub added : (old new : NameIndex) (key : Keyed) (name : List ℕ) (i : ℕ) → key_in key ≡ sort_key (lower_case name) → entry_at old (key_in key) ≡ None →
     UpdatesBy (λ (a b : Keyed). key_cmp (key_in a) (key_in b)) (λ (k : Keyed). key_cmp (key_in key) (key_in k)) old.positions new.positions (Some i) →
     place_in new ≡ and_place (place_in old) name i
 unfolding place_in
@@ -60,10 +60,10 @@ added old new key name i e none u =
     (λ y. ap (entry_at old) (sym (e ∙ one_key name other y)) ∙ none)
     (λ y. ap (entry_at new) (sym (e ∙ one_key name other y)) ∙ u.1)
     (λ n.
-    other_entries _ _ _ _ u.3 (at_key (key_of (lower_case other)))
-    (λ x y. (eq_by_cmp_equiv key_cmp_total).congr (key_of (lower_case other)) (key_in x) (key_in y))
-    (λ k. apart (key_in key) (key_of (lower_case other)) (key_in k)
-    (ap (λ q. is_eq (key_cmp q (key_of (lower_case other)))) e ∙ same_key (lower_case name) (lower_case other) ∙ n))) d
+    other_entries _ _ _ _ u.3 (at_key (sort_key (lower_case other)))
+    (λ x y. (eq_by_cmp_equiv key_cmp_total).congr (sort_key (lower_case other)) (key_in x) (key_in y))
+    (λ k. apart (key_in key) (sort_key (lower_case other)) (key_in k)
+    (ap (λ q. is_eq (key_cmp q (sort_key (lower_case other)))) e ∙ same_key (lower_case name) (lower_case other) ∙ n))) d
 
 pub none_there : (o : Option ℕ) → true ≡ is_none o → o ≡ None
 none_there None h = refl
@@ -75,7 +75,7 @@ was_there true None i h = absurd (cc (h refl))
 was_there false None i h = refl
 
 -- a name that is there
-pub kept : (index : NameIndex) (key : Key) (name : List ℕ) (i : ℕ) → key ≡ key_of (lower_case name) → is_none (entry_at index key) ≡ false →
+pub kept : (index : NameIndex) (key : Key) (name : List ℕ) (i : ℕ) → key ≡ sort_key (lower_case name) → is_none (entry_at index key) ≡ false →
     and_place (place_in index) name i ≡ place_in index
 unfolding place_in
 kept index key name i e h =
@@ -85,7 +85,7 @@ kept index key name i e h =
 -- where nothing was added
 pub same_places : (old new : NameIndex) → new.positions.entries ≡ old.positions.entries → place_in new ≡ place_in old
 unfolding place_in
-same_places old new e = λ d name. lookup (at_key (key_of (lower_case name))) (e d)
+same_places old new e = λ d name. lookup (at_key (sort_key (lower_case name))) (e d)
 
 -- where names stand, with one more behind them
 pub placed_new : (old new : NameIndex) (ns : List (List ℕ)) (n : List ℕ) (i : ℕ) → IsNameIndex old ns → i ≡ length ns →

@@ -35,10 +35,10 @@ module _ {X : Type 0} (g : X → List ℕ) where
   pub missed_here : (xs : List X) (n : List ℕ) (i : ℕ) (d : X) → i < length xs → name_place (map g (take i xs)) n ≡ None →
       same_name (g (get_or xs i d)) n ≡ false → name_place (map g (take (i + 1) xs)) n ≡ None
   missed_here xs n i d lt none isnt =
-      let front = map g (take i xs) in
-      ap (λ ns. name_place ns n) (mapped_more xs i d lt) ∙ first_more (λ m. same_name m n) front (g (get_or xs i d))
-      ∙ ap (λ o. option_or o (if same_name (g (get_or xs i d)) n then Some (length front) else None)) none
-      ∙ ap (λ b. if b then Some (length front) else None) isnt
+      let prefix = map g (take i xs) in
+      ap (λ ns. name_place ns n) (mapped_more xs i d lt) ∙ first_more (λ m. same_name m n) prefix (g (get_or xs i d))
+      ∙ ap (λ o. option_or o (if same_name (g (get_or xs i d)) n then Some (length prefix) else None)) none
+      ∙ ap (λ b. if b then Some (length prefix) else None) isnt
 
   -- an index of the names up to a position, and of the one there
   pub indexed_more : (old new : NameIndex) (xs : List X) (i : ℕ) (d : X) → i < length xs → IsNameIndex old (map g (take i xs)) →

@@ -17,8 +17,8 @@ abbrev pub IsCommon : List Object → ℕ → Option Ty → Type 0
 IsCommon os n t = (n < length os) × (is_rest_below (length os) t ≡ true) × (rest_in (parts_of_all os) t ≡ (object_in (parts_of_all os) n).2)
 
 -- the fields of an object by their names, and the type of others
-abbrev pub IsIndex : List Object → ℕ → Fields → Type 0
-IsIndex os n f =
+abbrev pub IsFieldIndex : List Object → ℕ → Fields → Type 0
+IsFieldIndex os n f =
     let ms = parts_of_all os in
     ((n < length os) × (are_fields_below (length os) f ≡ true))
     × (((fields_parts ms f).0 ≡ (object_in ms n).0) × ((fields_parts ms f).1 ≡ (object_in ms n).1))
@@ -31,7 +31,7 @@ pub AreRight-prop : (os : List Object) (ks : List Mark) → IsProp (AreRight os 
 AreRight-prop os ks = Π_prop (λ n. Π_prop (λ t. →_prop (×₃_prop le_prop (Bool-set _ _) (Optional-set _ _))))
 
 abbrev pub AreIndexed : List Object → List Index → Type 0
-AreIndexed os is = (n : ℕ) (f : Fields) → get_or is n (index.Looks 0) ≡ index.Fields f → IsIndex os n f
+AreIndexed os is = (n : ℕ) (f : Fields) → get_or is n (index.Looks 0) ≡ index.Fields f → IsFieldIndex os n f
 
 pub AreIndexed-prop : (os : List Object) (is : List Index) → IsProp (AreIndexed os is)
 AreIndexed-prop os is =

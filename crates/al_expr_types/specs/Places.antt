@@ -4,12 +4,12 @@ use Rattle.std.specs.BTreeMap.{get_by}
 use Rattle.std.specs.Option.{option_or}
 use Rattle.al_base.specs.Names.{lower_case, same_name}
 use Rattle.al_base.specs.NamePlaces.{name_place}
-use Rattle.al_base.specs.SortedTexts.{key_cmp, key_of}
+use Rattle.al_base.specs.SortedTexts.{key_cmp, sort_key}
 use Rattle.al_expr_types.specs.declared.name_index.NameIndex.{NameIndex}
 
 -- where a name first stands by an index
 unfoldable pub place_in : NameIndex → List ℕ → Option ℕ
-place_in index name = get_by (λ k. key_cmp (key_of (lower_case name)) (k.0, k.1.items)) index.positions
+place_in index name = get_by (λ k. key_cmp (sort_key (lower_case name)) (k.0, k.1.items)) index.positions
 
 -- an index that tells of each name where it first stands among names
 abbrev pub IsNameIndex : NameIndex → List (List ℕ) → Type 0

@@ -5,7 +5,7 @@ ghost use Rattle.std.specs.List.{list_all};
 ghost use Rattle.al_base.specs.Growth.{BeginsWith};
 ghost use Rattle.al_types.specs.Types.{Present, fuse_optional};
 ghost use Rattle.al_expr_types.specs.Joining.{join_in};
-ghost use Rattle.al_expr_types.specs.Marks.{IsIndex};
+ghost use Rattle.al_expr_types.specs.Marks.{IsFieldIndex};
 ghost use Rattle.al_expr_types.specs.Merging.{are_joins_below, found_in};
 ghost use Rattle.al_expr_types.specs.Tables.{objects_of, type_at};
 ghost use Rattle.al_expr_types.specs.Types.{is_below, object_in};
@@ -83,7 +83,7 @@ impl<'a> Types<'a> {
     /// The fields of an object by their names, and the type of others: as one list.
     pub fn index(&mut self, n: u32) -> Result<Fields<'a>, AllocError>
         requires { n < length self.old.objects.items }
-        ensures index { IfOk result (λ f. IsIndex self.new.objects.items n f) }
+        ensures index { IfOk result (λ f. IsFieldIndex self.new.objects.items n f) }
         ensures kept { BeginsWith (objects_of self.new) (objects_of self.old) }
     {
         let merging = self.merge(n, FieldJoins::new(self.alloc))?;

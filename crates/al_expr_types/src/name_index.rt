@@ -2,7 +2,7 @@
 
 ghost use Rattle.std.specs.Prelude.{◌≡◌, IfOk, None, OnOk};
 ghost use Rattle.al_base.specs.Names.{lower_case};
-ghost use Rattle.al_base.specs.SortedTexts.{key_of};
+ghost use Rattle.al_base.specs.SortedTexts.{sort_key};
 ghost use Rattle.al_expr_types.specs.Places.{and_place, place_in};
 
 use al_base::{in_lower_case, last_bytes};
@@ -20,7 +20,7 @@ pub(crate) struct NameIndex {
 
 /// What a name is found by. Fails with `AllocError` when out of memory, as all here.
 fn key_of(alloc: Global, name: &[u8]) -> Result<(u64, Vec<u8>), AllocError>
-    ensures { IfOk result (λ k. (k.0, k.1.items) ≡ key_of (lower_case name.now)) }
+    ensures { IfOk result (λ k. (k.0, k.1.items) ≡ sort_key (lower_case name.now)) }
 {
     let lower = in_lower_case(alloc, name)?;
     Ok((last_bytes(lower.as_slice()), lower))

@@ -29,7 +29,7 @@ const OFTEN: usize = 2;
 impl<'a> Types<'a> {
     ghost use Rattle.std.specs.Prelude.{◌∷◌, ◌++◌, ◌<◌, [], IfOk, IfSome, OnOk, get_or, length, option_map};
     ghost use Rattle.al_expr_types.specs.declared.objects.Object.TheVariants as object;
-    ghost use Rattle.al_expr_types.specs.Marks.{IsCommon, IsIndex};
+    ghost use Rattle.al_expr_types.specs.Marks.{IsCommon, IsFieldIndex};
     ghost use Rattle.al_expr_types.specs.declared.marks.Mark.TheVariants as mark;
     ghost use Rattle.al_base.specs.Growth.{BeginsWith};
     ghost use Rattle.al_types.specs.Strings.{named_strings};
@@ -101,7 +101,7 @@ impl<'a> Types<'a> {
 
     /// Keeps the index of an object.
     pub(crate) fn set_index(&mut self, n: u32, index: Fields<'a>)
-        requires { IsIndex self.old.objects.items n index }
+        requires { IsFieldIndex self.old.objects.items n index }
         ensures { (self.new).objects ≡ (self.old).objects }
     {
         if (n as usize) < self.indexes.len() {
@@ -127,7 +127,7 @@ impl<'a> Types<'a> {
 
     /// The index of an object, where it was made.
     pub(crate) fn index_of(&self, n: u32) -> Option<&Fields<'a>>
-        ensures { IfSome result (λ f. IsIndex self.now.objects.items n f.now) }
+        ensures { IfSome result (λ f. IsFieldIndex self.now.objects.items n f.now) }
     {
         if n as usize >= self.indexes.len() {
             return None;

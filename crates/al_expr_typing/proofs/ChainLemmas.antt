@@ -5,10 +5,10 @@ use Rattle.al_base.specs.Growth.{BeginsWith}
 use Rattle.al_base.specs.declared.codes.ExpressionCode.TheVariants as code
 use Rattle.al_base.specs.declared.faults.Fault.{Fault}
 use Rattle.al_base.specs.declared.faults.Span.{Span}
-use Rattle.al_expr_grammar.specs.Refusal.{fault}
+use Rattle.al_expr_grammar.specs.Refusal.{expression_fault}
 use Rattle.al_expr_grammar.specs.declared.token.Operator.{Operator}
 use Rattle.al_expr_typing.specs.Comparison.{comparable_types}
-use Rattle.al_expr_typing.specs.Meaning.{typed, behind, give, is_logic, operation}
+use Rattle.al_expr_typing.specs.Meaning.{typed, faults_then, give, is_logic, operation}
 use Rattle.al_expr_typing.proofs.TypedSteps.{unchanged}
 use Rattle.al_types.specs.Presence.{is_present}
 use Rattle.al_types.specs.Types.{Type', Bool', Optional, Absent, Present, fuse_optional, fuse_type, option_of, or_any}
@@ -28,16 +28,16 @@ pub more_present : (o new : Optional) (t : Type') → is_present o ≡ true → 
 more_present Absent new t h e = absurd cc
 more_present (Present u) new t h e = ap is_present e
 
-pub chosen : (o : Operator) (s : Span) (t u v : Type') (old : List Fault) → is_logic o ≡ true → v ≡ fuse_type t u → typed v old ≡ behind old (operation o s t u)
+pub chosen : (o : Operator) (s : Span) (t u v : Type') (old : List Fault) → is_logic o ≡ true → v ≡ fuse_type t u → typed v old ≡ faults_then old (operation o s t u)
 chosen o s t u v old h e =
     ap (λ x. typed x old) e ∙ unchanged (fuse_type t u) old
-    ∙ ap (λ b. behind old (if b then typed (fuse_type t u) [] else typed Bool' (give (not (comparable_types o t u)) (fault code.NotComparable s [])))) (sym h)
+    ∙ ap (λ b. faults_then old (if b then typed (fuse_type t u) [] else typed Bool' (give (not (comparable_types o t u)) (expression_fault code.NotComparable s [])))) (sym h)
 
 pub compared : (o : Operator) (s : Span) (t u : Type') (old new : List Fault) → is_logic o ≡ false →
-    new ≡ old ++ give (not (comparable_types o t u)) (fault code.NotComparable s []) → typed Bool' new ≡ behind old (operation o s t u)
+    new ≡ old ++ give (not (comparable_types o t u)) (expression_fault code.NotComparable s []) → typed Bool' new ≡ faults_then old (operation o s t u)
 compared o s t u old new h e =
     ap (typed Bool') e
-    ∙ ap (λ b. behind old (if b then typed (fuse_type t u) [] else typed Bool' (give (not (comparable_types o t u)) (fault code.NotComparable s [])))) (sym h)
+    ∙ ap (λ b. faults_then old (if b then typed (fuse_type t u) [] else typed Bool' (give (not (comparable_types o t u)) (expression_fault code.NotComparable s [])))) (sym h)
 
 -- ---- in a longer table
 

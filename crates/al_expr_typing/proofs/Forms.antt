@@ -6,7 +6,7 @@ use Rattle.al_types.specs.Types.{Type', ArrayOf}
 use Rattle.al_expr_types.specs.Types.{arrays_of, scalar_type}
 use Rattle.al_expr_types.specs.declared.ty.Scalar.{Scalar}
 use Rattle.al_expr_types.specs.declared.ty.Scalar.TheVariants as scalar
-use Rattle.al_expr_typing.specs.Meaning.{Typed, typed, behind, and_then, property_of, all_of, index_of}
+use Rattle.al_expr_typing.specs.Meaning.{Typed, typed, faults_then, and_then, property_of, all_of, index_of}
 
 abbrev pub in_arrays : ℕ → Typed → Typed
 in_arrays n (typed t fs) = typed (arrays_of n t) fs
@@ -20,7 +20,7 @@ in_array x = and_then x (λ u. typed (ArrayOf u) [])
 in_one_more : (k : ℕ) (x : Typed) → in_array (in_arrays k x) ≡ in_arrays (suc k) x
 in_one_more k (typed t fs) = ap (typed (arrays_of (suc k) t)) (append-nil fs)
 
-pub behind_arrays : (k : ℕ) (old : List Fault) (x : Typed) → in_arrays k (behind old x) ≡ behind old (in_arrays k x)
+pub behind_arrays : (k : ℕ) (old : List Fault) (x : Typed) → in_arrays k (faults_then old x) ≡ faults_then old (in_arrays k x)
 behind_arrays k old (typed t fs) = refl
 
 pub property_arrays : (k : ℕ) (n : List ℕ) (at whole : Span) (t : Type') → property_of n at whole (arrays_of k t) ≡ in_arrays k (property_of n at whole t)

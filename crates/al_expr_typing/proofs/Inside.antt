@@ -9,7 +9,7 @@ use Rattle.al_base.specs.declared.faults.Fault.{Fault}
 use Rattle.al_base.specs.declared.faults.Span.{Span}
 use Rattle.al_expr_grammar.specs.Extents.{across, extent}
 use Rattle.al_expr_grammar.specs.Inside.{AllLie}
-use Rattle.al_expr_grammar.specs.Refusal.{fault}
+use Rattle.al_expr_grammar.specs.Refusal.{expression_fault}
 use Rattle.al_expr_grammar.specs.Tree as tree
 use Rattle.al_expr_grammar.specs.Tree.{Tree, sign, Constant, Named, Call, Group, Negated, Path, Chain, Steps, NoStep, PropertyThen, AllThen}
 use Rattle.al_expr_grammar.specs.Tree.{IndexThen, Operands, NoOperand, OperandThen, Arguments, NoArgument, ArgumentThen}
@@ -17,7 +17,7 @@ use Rattle.al_expr_grammar.specs.declared.token.Operator.{Operator}
 use Rattle.al_expr_grammar.proofs.Inside.{TreeLies, StepsLie, OperandsLie, ArgumentsLie, start_of, whole_lies}
 use Rattle.al_types.specs.Names.{context_of, function_of}
 use Rattle.al_types.specs.Scopes.{Scope}
-use Rattle.al_types.specs.Signatures.{accepts, signature, takes, parameter_at}
+use Rattle.al_types.specs.Signatures.{accepts, signature, takes_count, parameter_at}
 use Rattle.al_types.specs.Types.{Type', Any, Number, Bool', ArrayOf, ObjectOf, option_of, or_else}
 use Rattle.al_types.specs.declared.names.Context.{Context}
 use Rattle.al_types.specs.declared.names.Function.{Function}
@@ -26,7 +26,7 @@ use Rattle.al_types.specs.declared.signatures.Parameters.{Parameters}
 use Rattle.al_expr_typing.specs.Comparison.{comparable_types}
 use Rattle.al_expr_typing.specs.Literals.{literal_text}
 use Rattle.al_expr_typing.specs.Meaning.{Typed, typed, all_of, and_then, argument_faults, argument_then}
-use Rattle.al_expr_typing.specs.Meaning.{begins_logic, behind, call, call_from, operations, faults_in, format_faults}
+use Rattle.al_expr_typing.specs.Meaning.{begins_logic, faults_then, call, call_from, operations, faults_found, format_faults}
 use Rattle.al_expr_typing.specs.Meaning.{give, index_of, index_from, is_logic, is_test, meaning, meanings, name_type, operation, or_fault, parts_of}
 use Rattle.al_expr_typing.specs.Meaning.{placeholder_faults, property_of, untrusted_faults}
 use Rattle.al_expr_typing.specs.Meaning.{unused_arguments, walk, wrong_arguments}
@@ -35,7 +35,7 @@ use Rattle.al_expr_typing.specs.Untrusted.{untrusted_chain}
 
 module _ (size : ℕ) where
   abbrev TypedLies : Typed → Type 0
-  TypedLies x = AllLie size (faults_in x)
+  TypedLies x = AllLie size (faults_found x)
 
   abbrev ArgsLie : List (Type' × Span) → Type 0
   ArgsLie as' = AllByRecursion (λ (a : Type' × Span). LiesIn size a.1) as'
@@ -59,7 +59,7 @@ module _ (size : ℕ) where
   if_typed true x y a b = a
   if_typed false x y a b = b
 
-  behind_lies : (fs : List Fault) (x : Typed) → AllLie size fs → TypedLies x → TypedLies (behind fs x)
+  behind_lies : (fs : List Fault) (x : Typed) → AllLie size fs → TypedLies x → TypedLies (faults_then fs x)
   behind_lies fs (typed t gs) a b = both_lie fs gs a b
 
   then_lies : (x : Typed) (go : Type' → Typed) → TypedLies x → ((u : Type') → TypedLies (go u)) → TypedLies (and_then x go)
@@ -71,7 +71,7 @@ module _ (size : ℕ) where
 
   named_lies : (sc : Scope) (b : List ℕ) (s : Span) (o : Option Context) → LiesIn size s → TypedLies (name_type sc b s o)
   named_lies sc b s None i = (i, tt)
-  named_lies sc b s (Some c) i = if_typed (sc.available.contexts c) (typed (sc.types c) []) (typed Any (fault code.UnavailableContext s (b ∷ []) ∷ [])) tt (i, tt)
+  named_lies sc b s (Some c) i = if_typed (sc.available.contexts c) (typed (sc.types c) []) (typed Any (expression_fault code.UnavailableContext s (b ∷ []) ∷ [])) tt (i, tt)
 
   or_lies : (f : Fault) (o : Option Type') → LiesIn size f.span → TypedLies (or_fault f o)
   or_lies f None i = (i, tt)
@@ -79,7 +79,7 @@ module _ (size : ℕ) where
 
   property_lies : (n : List ℕ) (at whole : Span) (u : Type') → LiesIn size at → LiesIn size whole → TypedLies (property_of n at whole u)
   property_lies n at whole Any i j = tt
-  property_lies n at whole (ObjectOf fields rest all) i j = or_lies (fault code.UndefinedProperty at (n ∷ [])) (option_of (or_else (fields n) rest)) i
+  property_lies n at whole (ObjectOf fields rest all) i j = or_lies (expression_fault code.UndefinedProperty at (n ∷ [])) (option_of (or_else (fields n) rest)) i
   property_lies n at whole (ArrayOf t) i j = then_lies (property_of n at whole t) (λ u. typed (ArrayOf u) []) (property_lies n at whole t i j) (λ u. tt)
   property_lies n at whole _ i j = (j, tt)
 
@@ -114,7 +114,7 @@ module _ (size : ℕ) where
   across_lies : (a b : Span) → a.start ≤ b.start → LiesIn size b → LiesIn size (across a b)
   across_lies a b h i = let o : b.start ≤ b.end = i.ordered in record { ordered = omega (arith, h, o); inside = i.inside }
 
-  chain_lies : (whole : Span) (o : Option (List ℕ)) → LiesIn size whole → AllLie size (option_map_or (λ c. fault code.Untrusted whole (c ∷ []) ∷ []) o [])
+  chain_lies : (whole : Span) (o : Option (List ℕ)) → LiesIn size whole → AllLie size (option_map_or (λ c. expression_fault code.Untrusted whole (c ∷ []) ∷ []) o [])
   chain_lies whole None i = tt
   chain_lies whole (Some c) i = (i, tt)
 
@@ -124,29 +124,29 @@ module _ (size : ℕ) where
 
   operated_lies : (o : Operator) (s : Span) (t u : Type') → LiesIn size s → TypedLies (operation o s t u)
   operated_lies o s t u i =
-      if_typed (is_logic o) _ (typed Bool' (give (not (comparable_types o t u)) (fault code.NotComparable s []))) tt
-      (give_lies (not (comparable_types o t u)) (fault code.NotComparable s []) i)
+      if_typed (is_logic o) _ (typed Bool' (give (not (comparable_types o t u)) (expression_fault code.NotComparable s []))) tt
+      (give_lies (not (comparable_types o t u)) (expression_fault code.NotComparable s []) i)
 
   -- ---- calls
 
   wrong_lie : (name : List ℕ) (ps : Parameters) (n : ℕ) (as' : List (Type' × Span)) → ArgsLie as' → AllLie size (wrong_arguments name ps n as')
   wrong_lie name ps n [] l = tt
   wrong_lie name ps n (a ∷ as') l =
-      both_lie (give (not (accepts (parameter_at ps n) a.0)) (fault code.ArgumentType a.1 (decimal (n + 1) ∷ name ∷ []))) (wrong_arguments name ps (n + 1) as')
-      (give_lies (not (accepts (parameter_at ps n) a.0)) (fault code.ArgumentType a.1 (decimal (n + 1) ∷ name ∷ [])) l.0) (wrong_lie name ps (n + 1) as' l.1)
+      both_lie (give (not (accepts (parameter_at ps n) a.0)) (expression_fault code.ArgumentType a.1 (decimal (n + 1) ∷ name ∷ []))) (wrong_arguments name ps (n + 1) as')
+      (give_lies (not (accepts (parameter_at ps n) a.0)) (expression_fault code.ArgumentType a.1 (decimal (n + 1) ∷ name ∷ [])) l.0) (wrong_lie name ps (n + 1) as' l.1)
 
   arguments_lie : (name : List ℕ) (at : Span) (ps : Parameters) (as' : List (Type' × Span)) → LiesIn size at → ArgsLie as' → AllLie size (argument_faults name at ps as')
-  arguments_lie name at ps as' i l = if_lie (takes ps (length as')) (wrong_arguments name ps 0 as') (fault code.ArgumentCount at (name ∷ []) ∷ []) (wrong_lie name ps 0 as' l) (i, tt)
+  arguments_lie name at ps as' i l = if_lie (takes_count ps (length as')) (wrong_arguments name ps 0 as') (expression_fault code.ArgumentCount at (name ∷ []) ∷ []) (wrong_lie name ps 0 as' l) (i, tt)
 
   unused_lie : (n : ℕ) (us : List Bool) (as' : List (Type' × Span)) → ArgsLie as' → AllLie size (unused_arguments n us as')
   unused_lie n [] as' l = tt
   unused_lie n (u ∷ us) [] l = tt
   unused_lie n (u ∷ us) (a ∷ as') l =
-      both_lie (give (not u) (fault code.UnusedArgument a.1 (decimal (n + 2) ∷ []))) (unused_arguments (n + 1) us as')
-      (give_lies (not u) (fault code.UnusedArgument a.1 (decimal (n + 2) ∷ [])) l.0) (unused_lie (n + 1) us as' l.1)
+      both_lie (give (not u) (expression_fault code.UnusedArgument a.1 (decimal (n + 2) ∷ []))) (unused_arguments (n + 1) us as')
+      (give_lies (not u) (expression_fault code.UnusedArgument a.1 (decimal (n + 2) ∷ [])) l.0) (unused_lie (n + 1) us as' l.1)
 
   placeholders_lie : (at : Span) (o : Option (List Bool)) (as' : List (Type' × Span)) → LiesIn size at → ArgsLie as'
-      → AllLie size (option_map_or (λ us. unused_arguments 0 us as') o (fault code.WrongPlaceholder at [] ∷ []))
+      → AllLie size (option_map_or (λ us. unused_arguments 0 us as') o (expression_fault code.WrongPlaceholder at [] ∷ []))
   placeholders_lie at None as' i l = (i, tt)
   placeholders_lie at (Some us) as' i l = unused_lie 0 us as' l
 
@@ -167,9 +167,9 @@ module _ (size : ℕ) where
       LiesIn size s → ArgumentsLie size low ts → ArgsLie as' → TypedLies (call_from sc b s o ts as')
   with_lies sc b s None ts low as' i h l = (i, tt)
   with_lies sc b s (Some f) ts low as' i h l =
-      both_lie (give (not (sc.available.functions f)) (fault code.UnavailableFunction s (b ∷ [])) ++ argument_faults b s (signature f).parameters as') (format_faults f ts as')
-      (both_lie (give (not (sc.available.functions f)) (fault code.UnavailableFunction s (b ∷ []))) (argument_faults b s (signature f).parameters as')
-      (give_lies (not (sc.available.functions f)) (fault code.UnavailableFunction s (b ∷ [])) i) (arguments_lie b s (signature f).parameters as' i l))
+      both_lie (give (not (sc.available.functions f)) (expression_fault code.UnavailableFunction s (b ∷ [])) ++ argument_faults b s (signature f).parameters as') (format_faults f ts as')
+      (both_lie (give (not (sc.available.functions f)) (expression_fault code.UnavailableFunction s (b ∷ []))) (argument_faults b s (signature f).parameters as')
+      (give_lies (not (sc.available.functions f)) (expression_fault code.UnavailableFunction s (b ∷ [])) i) (arguments_lie b s (signature f).parameters as' i l))
       (format_lie f ts low as' h l)
 
   called_lies : (sc : Scope) (b : List ℕ) (s : Span) (o : Option Function) (ts : Arguments) (low : ℕ) (all : List (Type' × Span) × List Fault) →

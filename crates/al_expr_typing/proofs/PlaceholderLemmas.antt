@@ -11,7 +11,7 @@ use Rattle.std.specs.Char.{is_ascii_digit}
 use Rattle.al_expr_typing.specs.declared.placeholders.PlaceholderState.TheVariants.{Outside, BehindOpening, InIndex, BehindClosing}
 use Rattle.al_expr_typing.specs.declared.placeholders.Turn.{Turn}
 use Rattle.al_expr_typing.specs.declared.placeholders.Turn.TheVariants.{To, Names, Wrong}
-use Rattle.al_expr_typing.specs.Placeholders.{Piece, Plain, Argument, NoPiece, index_of, piece_of, used_with, used_within}
+use Rattle.al_expr_typing.specs.Placeholders.{Piece, Plain, Argument, NoPiece, argument_piece, piece_of, used_with, used_within}
 use Rattle.al_expr_typing.specs.Private.PlaceholderStates.{after_turn, used_from}
 
 -- ---- the digits at the start, byte by byte
@@ -41,10 +41,10 @@ digits_dropped [] = refl
 digits_dropped (b ∷ bs) = dropped_if (is_ascii_digit b) b (prefix_len is_ascii_digit bs) bs (behind_digits bs) (digits_dropped bs)
 
 abbrev index_front : List ℕ → Piece
-index_front bs = index_of (take (prefix_len is_ascii_digit bs) bs) (drop (prefix_len is_ascii_digit bs) bs)
+index_front bs = argument_piece (take (prefix_len is_ascii_digit bs) bs) (drop (prefix_len is_ascii_digit bs) bs)
 
-index_is : (bs : List ℕ) → index_of (digits_of bs) (behind_digits bs) ≡ index_front bs
-index_is bs = ap (λ ds. index_of ds (behind_digits bs)) (digits_taken bs) ∙ ap (index_of (take (prefix_len is_ascii_digit bs) bs)) (digits_dropped bs)
+index_is : (bs : List ℕ) → argument_piece (digits_of bs) (behind_digits bs) ≡ index_front bs
+index_is bs = ap (λ ds. argument_piece ds (behind_digits bs)) (digits_taken bs) ∙ ap (argument_piece (take (prefix_len is_ascii_digit bs) bs)) (digits_dropped bs)
 
 -- ---- states
 
@@ -80,7 +80,7 @@ index used n (b ∷ bs) = index_at used n b bs (is_ascii_digit b) (b == ascii "}
 
 opening_at : (used : List Bool) (b : ℕ) (bs : List ℕ) (opens digit : Bool)
     → goes used bs (cond opens (To Outside) (cond digit (To (InIndex (b - ascii "0"))) Wrong))
-    ≡ behind used (cond opens (Plain bs) (index_of (cond digit (b ∷ digits_of bs) []) (cond digit (behind_digits bs) (b ∷ bs))))
+    ≡ behind used (cond opens (Plain bs) (argument_piece (cond digit (b ∷ digits_of bs) []) (cond digit (behind_digits bs) (b ∷ bs))))
 opening_at used b bs true digit = refl
 opening_at used b bs false true =
     let e : b - ascii "0" ≡ 0 * 10 + (b - ascii "0") = omega arith in
@@ -130,7 +130,7 @@ drop_within : (bs : List ℕ) (n : ℕ) → length bs ≤ n → length (drop 1 b
 drop_within [] n h = h
 drop_within (b ∷ bs) n h = omega arith
 
-index_within : (ds rest : List ℕ) (n : ℕ) → length rest ≤ n → IsWithin n (index_of ds rest)
+index_within : (ds rest : List ℕ) (n : ℕ) → length rest ≤ n → IsWithin n (argument_piece ds rest)
 index_within [] rest n h = tt
 index_within (d ∷ ds) rest n h = within_cond (begins_with (ascii "}") rest) (Argument (decimal (d ∷ ds)) (drop 1 rest)) NoPiece n (drop_within rest n h) tt
 

@@ -1,37 +1,26 @@
--- What numbers stand for, and what a scope shows, where the table has grown.
-use Rattle.std.proofs.Common.{◌≡◌, List, [], length, map, true, ap, ◌∙◌}
+-- What a scope and arguments show, where the table has grown.
+use Rattle.std.proofs.Common.{◌≡◌, List, map, true}
 use Rattle.al_base.specs.Growth.{BeginsWith}
 use Rattle.al_types.specs.Scopes.{available_of}
-use Rattle.al_expr_types.specs.Tables.{is_known, objects_of, type_at}
-use Rattle.al_expr_types.specs.Types.{is_below, type_in}
-use Rattle.al_expr_types.specs.declared.ty.Ty.{Ty}
+use Rattle.al_expr_types.specs.Tables.{is_known, objects_of}
 use Rattle.al_expr_types.specs.declared.types.Types.{Types}
-use Rattle.al_expr_types.proofs.Below.{all_weaker, below_wider, same_mapped, type_kept}
-use Rattle.al_expr_types.proofs.Keeping.{longer}
-use Rattle.al_expr_types.proofs.Tables.{length_after}
+use Rattle.al_expr_types.proofs.Below.{all_weaker, same_mapped}
+use Rattle.al_expr_types.proofs.Stays.{known_stays, type_stays}
 use Rattle.al_expr_typing.specs.Arguments.{are_known, argument_at}
 use Rattle.al_expr_typing.specs.declared.calls.Argument.{Argument}
-use Rattle.al_expr_typing.specs.Scopes.{IsShown, number_of, scope_at}
+use Rattle.al_expr_typing.specs.Scopes.{IsShown, context_number, scope_view}
 use Rattle.al_expr_typing.specs.declared.scope.Scope as code
 
-pub type_stays : (new old : Types) (t : Ty) → BeginsWith (objects_of new) (objects_of old) → is_known old t ≡ true → type_at new t ≡ type_at old t
-type_stays new old t b h =
-    ap (λ ms. type_in ms t) b.is ∙ type_kept (objects_of old) b.more t (ap (λ n. is_below n t) (length_after [] old.objects.items) ∙ h)
-
-pub known_stays : (new old : Types) (t : Ty) → BeginsWith (objects_of new) (objects_of old) → is_known old t ≡ true → is_known new t ≡ true
-known_stays new old t b h =
-    below_wider (length old.objects.items) (length new.objects.items) (longer new.objects.items old.objects.items b) t h
-
-pub scope_stays : (new old : Types) (s : code.Scope) → BeginsWith (objects_of new) (objects_of old) → IsShown old s → scope_at new s ≡ scope_at old s
+pub scope_stays : (new old : Types) (s : code.Scope) → BeginsWith (objects_of new) (objects_of old) → IsShown old s → scope_view new s ≡ scope_view old s
 scope_stays new old s b h =
     λ d. record {
-      types = λ c. type_stays new old (number_of s.types c) b (h.known c) d;
+      types = λ c. type_stays new old (context_number s.types c) b (h.known c) d;
       available = available_of s.available;
       in_run = s.in_run;
     }
 
 pub shown_stays : (new old : Types) (s : code.Scope) → IsShown old s → BeginsWith (objects_of new) (objects_of old) → IsShown new s
-shown_stays new old s h b = record { known = λ c. known_stays new old (number_of s.types c) b (h.known c) }
+shown_stays new old s h b = record { known = λ c. known_stays new old (context_number s.types c) b (h.known c) }
 
 pub ruleset shown = (shown_stays)
 

@@ -2,19 +2,19 @@
 use Rattle.std.proofs.Common.{◌≡◌, List, [], ◌++◌, sym, ap, ◌∙◌, append_assoc, append-nil}
 use Rattle.al_base.specs.declared.faults.Fault.{Fault}
 use Rattle.al_types.specs.Types.{Type'}
-use Rattle.al_expr_typing.specs.Meaning.{Typed, typed, behind, and_then}
+use Rattle.al_expr_typing.specs.Meaning.{Typed, typed, faults_then, and_then}
 
-pub unchanged : (t : Type') (old : List Fault) → typed t old ≡ behind old (typed t [])
+pub unchanged : (t : Type') (old : List Fault) → typed t old ≡ faults_then old (typed t [])
 unchanged t old = ap (typed t) (sym (append-nil old))
 
-pub behind-behind : (fs gs : List Fault) (x : Typed) → behind (fs ++ gs) x ≡ behind fs (behind gs x)
+pub behind-behind : (fs gs : List Fault) (x : Typed) → faults_then (fs ++ gs) x ≡ faults_then fs (faults_then gs x)
 behind-behind fs gs (typed t hs) = ap (typed t) (append_assoc fs gs hs)
 
-pub behind-and_then : (fs : List Fault) (x : Typed) (go : Type' → Typed) → and_then (behind fs x) go ≡ behind fs (and_then x go)
+pub behind-and_then : (fs : List Fault) (x : Typed) (go : Type' → Typed) → and_then (faults_then fs x) go ≡ faults_then fs (and_then x go)
 behind-and_then fs (typed t gs) go = behind-behind fs gs (go t)
 
 -- what goes on behind a type that was found
-pub follows : (old mid : List Fault) (t : Type') (x : Typed) (go : Type' → Typed) → typed t mid ≡ behind old x → behind mid (go t) ≡ behind old (and_then x go)
+pub follows : (old mid : List Fault) (t : Type') (x : Typed) (go : Type' → Typed) → typed t mid ≡ faults_then old x → faults_then mid (go t) ≡ faults_then old (and_then x go)
 follows old mid t x go e = ap (λ y. and_then y go) e ∙ behind-and_then old x go
 
 pub ruleset typing = (unchanged)

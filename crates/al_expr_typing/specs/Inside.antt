@@ -4,7 +4,7 @@ use Rattle.al_expr_grammar.specs.Inside.{AllLie}
 use Rattle.al_expr_grammar.specs.Refusal.{Spells}
 use Rattle.al_expr_grammar.specs.Tree.{Tree}
 use Rattle.al_types.specs.Scopes.{Scope}
-use Rattle.al_expr_typing.specs.Meaning.{faults_in, meaning_of}
+use Rattle.al_expr_typing.specs.Meaning.{faults_found, meaning_of}
 
 abbrev pub MeaningFaultsLie : Type 0
-MeaningFaultsLie = (content : List ℕ) (t : Tree) (sc : Scope) → Spells content t → AllLie (length content) (faults_in (meaning_of sc t))
+MeaningFaultsLie = (content : List ℕ) (t : Tree) (sc : Scope) → Spells content t → AllLie (length content) (faults_found (meaning_of sc t))

@@ -12,12 +12,12 @@ use Rattle.al_types.specs.declared.names.Context.{Context}
 use Rattle.al_types.specs.declared.names.Function.{Function}
 use Rattle.al_types.specs.declared.names.Function.TheVariants as function
 use Rattle.al_types.specs.declared.signatures.Parameters.{Parameters}
-use Rattle.al_expr_grammar.specs.Refusal.{fault}
+use Rattle.al_expr_grammar.specs.Refusal.{expression_fault}
 use Rattle.al_types.specs.Names.{context_of, function_of}
 use Rattle.al_expr_typing.specs.Placeholders.{used_arguments}
 use Rattle.al_types.specs.Types.{Type', Any, Number, Bool', String, ArrayOf, ObjectOf, fuse_type, option_of, or_any, or_else}
 use Rattle.al_expr_typing.specs.Comparison.{comparable_types}
-use Rattle.al_types.specs.Signatures.{signature, takes, parameter_at, accepts, returned_type}
+use Rattle.al_types.specs.Signatures.{signature, takes_count, parameter_at, accepts, returned_type}
 use Rattle.al_types.specs.Scopes.{Scope}
 use Rattle.al_expr_grammar.specs.Extents.{extent, across}
 use Rattle.al_expr_typing.specs.Literals.{literal_text, type_of_keyword}
@@ -31,41 +31,41 @@ use Rattle.al_expr_grammar.specs.Tree.{OperandThen, Arguments, NoArgument, Argum
 pub data Typed : Type 0 where
   typed : Type' → List Fault → Typed
 
-abbrev pub type_in : Typed → Type'
-type_in (typed t fs) = t
+abbrev pub type_found : Typed → Type'
+type_found (typed t fs) = t
 
-abbrev pub faults_in : Typed → List Fault
-faults_in (typed t fs) = fs
+abbrev pub faults_found : Typed → List Fault
+faults_found (typed t fs) = fs
 
 -- the same with these faults before the others
-abbrev pub behind : List Fault → Typed → Typed
-behind fs (typed t gs) = typed t (fs ++ gs)
+abbrev pub faults_then : List Fault → Typed → Typed
+faults_then fs (typed t gs) = typed t (fs ++ gs)
 
 abbrev pub and_then : Typed → (Type' → Typed) → Typed
-and_then (typed t fs) go = behind fs (go t)
+and_then (typed t fs) go = faults_then fs (go t)
 
 abbrev pub give : Bool → Fault → List Fault
 give b f = if b then f ∷ [] else []
 
 -- A name is a context: X7 where there is none of it, X8 where it isn't available here.
 abbrev pub name_type : Scope → List ℕ → Span → Option Context → Typed
-name_type sc b s None = typed Any (fault code.UndefinedContext s (b ∷ []) ∷ [])
+name_type sc b s None = typed Any (expression_fault code.UndefinedContext s (b ∷ []) ∷ [])
 name_type sc b s (Some c) =
-    if sc.available.contexts c then typed (sc.types c) [] else typed Any (fault code.UnavailableContext s (b ∷ []) ∷ [])
+    if sc.available.contexts c then typed (sc.types c) [] else typed Any (expression_fault code.UnavailableContext s (b ∷ []) ∷ [])
 
 abbrev pub or_fault : Fault → Option Type' → Typed
 or_fault f found = option_map_or (λ t. typed t []) found (typed Any (f ∷ []))
 
 -- X14
 abbrev pub not_indexable : Span → Typed
-not_indexable whole = typed Any (fault code.NotIndexable whole [] ∷ [])
+not_indexable whole = typed Any (expression_fault code.NotIndexable whole [] ∷ [])
 
 -- A property: the field, else the type of other fields, else X13. Of an array, an array of the elements' property. A
 -- scalar has none: X14.
 abbrev pub property_of : List ℕ → Span → Span → Type' → Typed
 property_of n at whole Any = typed Any []
 property_of n at whole (ObjectOf fields rest all) =
-    or_fault (fault code.UndefinedProperty at (n ∷ [])) (option_of (or_else (fields n) rest))
+    or_fault (expression_fault code.UndefinedProperty at (n ∷ [])) (option_of (or_else (fields n) rest))
 property_of n at whole (ArrayOf t) = and_then (property_of n at whole t) (λ u. typed (ArrayOf u) [])
 property_of n at whole _ = not_indexable whole
 
@@ -98,7 +98,7 @@ parts_of (IndexThen a t b ss) = option_map_or (λ text. text.0) (literal_text t)
 -- X19: a whole path that is an untrusted chain, where a text could do harm. It begins with a name: a bracket ends a chain.
 abbrev pub untrusted_faults : Bool → Tree → Steps → List Fault
 untrusted_faults true (Named b s) ss =
-    option_map_or (λ c. fault code.Untrusted (extent (Path (Named b s) ss)) (c ∷ []) ∷ []) (untrusted_chain (b ∷ parts_of ss)) []
+    option_map_or (λ c. expression_fault code.Untrusted (extent (Path (Named b s) ss)) (c ∷ []) ∷ []) (untrusted_chain (b ∷ parts_of ss)) []
 untrusted_faults _ t ss = []
 
 abbrev pub is_logic : Operator → Bool
@@ -113,7 +113,8 @@ begins_logic (OperandThen (sign o s) t os) = is_logic o
 -- One more operand: `&&` and `||` fuse, the others compare, X15 where the two can't be compared.
 abbrev pub operation : Operator → Span → Type' → Type' → Typed
 operation o s t u =
-    if is_logic o then typed (fuse_type t u) [] else typed Bool' (give (not (comparable_types o t u)) (fault code.NotComparable s []))
+    if is_logic o then typed (fuse_type t u) []
+    else typed Bool' (give (not (comparable_types o t u)) (expression_fault code.NotComparable s []))
 
 -- functions that only test their arguments, so that no text of theirs gets into a script
 abbrev pub is_test : Option Function → Bool
@@ -130,24 +131,25 @@ argument_then (typed t fs) s more = ((t, s) ∷ more.0, fs ++ more.1)
 abbrev pub wrong_arguments : List ℕ → Parameters → ℕ → List (Type' × Span) → List Fault
 wrong_arguments name ps n [] = []
 wrong_arguments name ps n (a ∷ as') =
-    give (not (accepts (parameter_at ps n) a.0)) (fault code.ArgumentType a.1 (decimal (n + 1) ∷ name ∷ []))
+    give (not (accepts (parameter_at ps n) a.0)) (expression_fault code.ArgumentType a.1 (decimal (n + 1) ∷ name ∷ []))
     ++ wrong_arguments name ps (n + 1) as'
 
 -- X11 where the number of arguments is wrong, else X12
 abbrev pub argument_faults : List ℕ → Span → Parameters → List (Type' × Span) → List Fault
 argument_faults name at ps as' =
-    if takes ps (length as') then wrong_arguments name ps 0 as' else fault code.ArgumentCount at (name ∷ []) ∷ []
+    if takes_count ps (length as') then wrong_arguments name ps 0 as' else expression_fault code.ArgumentCount at (name ∷ []) ∷ []
 
 -- X17 at each argument that no placeholder names. The first behind the text has index 0 and number 2.
 abbrev pub unused_arguments : ℕ → List Bool → List (Type' × Span) → List Fault
 unused_arguments n (u ∷ us) (a ∷ as') =
-    give (not u) (fault code.UnusedArgument a.1 (decimal (n + 2) ∷ [])) ++ unused_arguments (n + 1) us as'
+    give (not u) (expression_fault code.UnusedArgument a.1 (decimal (n + 2) ∷ [])) ++ unused_arguments (n + 1) us as'
 unused_arguments n _ _ = []
 
 -- X16 where a placeholder is wrong, else X17
 abbrev pub placeholder_faults : List ℕ × Span → List (Type' × Span) → List Fault
 placeholder_faults text as' =
-    option_map_or (λ us. unused_arguments 0 us as') (used_arguments (length as') text.0) (fault code.WrongPlaceholder text.1 [] ∷ [])
+    option_map_or (λ us. unused_arguments 0 us as') (used_arguments (length as') text.0)
+    (expression_fault code.WrongPlaceholder text.1 [] ∷ [])
 
 -- `format`, where its first argument is a text literal
 abbrev pub format_faults : Function → Arguments → List (Type' × Span) → List Fault
@@ -156,14 +158,14 @@ format_faults _ ts as' = []
 
 -- A call: X9 where there is no such function, X10 where it isn't available here.
 abbrev pub call_from : Scope → List ℕ → Span → Option Function → Arguments → List (Type' × Span) → Typed
-call_from sc b s None ts as' = typed Any (fault code.UndefinedFunction s (b ∷ []) ∷ [])
+call_from sc b s None ts as' = typed Any (expression_fault code.UndefinedFunction s (b ∷ []) ∷ [])
 call_from sc b s (Some f) ts as' =
     typed (returned_type (signature f).returned)
-    (give (not (sc.available.functions f)) (fault code.UnavailableFunction s (b ∷ []))
+    (give (not (sc.available.functions f)) (expression_fault code.UnavailableFunction s (b ∷ []))
     ++ argument_faults b s (signature f).parameters as' ++ format_faults f ts as')
 
 abbrev pub call : Scope → List ℕ → Span → Option Function → Arguments → List (Type' × Span) × List Fault → Typed
-call sc b s f ts given = behind given.1 (call_from sc b s f ts given.0)
+call sc b s f ts given = faults_then given.1 (call_from sc b s f ts given.0)
 
 -- The type of an expression, with its faults. The flag: whether it stands where X19 isn't given, in an argument of a
 -- function that only tests it, or in an operand of a comparison or of `!`.

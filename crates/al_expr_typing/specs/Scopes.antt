@@ -11,27 +11,27 @@ use Rattle.al_expr_types.specs.declared.types.Types.{Types}
 use Rattle.al_expr_typing.specs.declared.scope.ContextTypes.{ContextTypes}
 use Rattle.al_expr_typing.specs.declared.scope.Scope as code
 
-abbrev pub number_of : ContextTypes → Context → Ty
-number_of ts context.Github = ts.github
-number_of ts context.Env = ts.env
-number_of ts context.Vars = ts.vars
-number_of ts context.Secrets = ts.secrets
-number_of ts context.Runner = ts.runner
-number_of ts context.Job = ts.job
-number_of ts context.Strategy = ts.strategy
-number_of ts context.Needs = ts.needs
-number_of ts context.Jobs = ts.jobs
-number_of ts context.Steps = ts.steps
-number_of ts context.Matrix = ts.matrix
-number_of ts context.Inputs = ts.inputs
+abbrev pub context_number : ContextTypes → Context → Ty
+context_number ts context.Github = ts.github
+context_number ts context.Env = ts.env
+context_number ts context.Vars = ts.vars
+context_number ts context.Secrets = ts.secrets
+context_number ts context.Runner = ts.runner
+context_number ts context.Job = ts.job
+context_number ts context.Strategy = ts.strategy
+context_number ts context.Needs = ts.needs
+context_number ts context.Jobs = ts.jobs
+context_number ts context.Steps = ts.steps
+context_number ts context.Matrix = ts.matrix
+context_number ts context.Inputs = ts.inputs
 
 abbrev pub scope_in : List Parts → code.Scope → Scope
 scope_in ms s =
-    record { types = λ c. type_in ms (number_of s.types c); available = available_of s.available; in_run = s.in_run }
+    record { types = λ c. type_in ms (context_number s.types c); available = available_of s.available; in_run = s.in_run }
 
-abbrev pub scope_at : Types → code.Scope → Scope
-scope_at types s = scope_in (objects_of types) s
+abbrev pub scope_view : Types → code.Scope → Scope
+scope_view types s = scope_in (objects_of types) s
 
 -- each context's type is one of the table
 pub record IsShown (types : Types) (s : code.Scope) : Type 0 where
-  pub known : (c : Context) → is_known types (number_of s.types c) ≡ true
+  pub known : (c : Context) → is_known types (context_number s.types c) ≡ true

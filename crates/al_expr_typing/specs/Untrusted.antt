@@ -21,10 +21,10 @@ untrusted_chains =
     codes "github.event.head_commit.author.email" ∷ []
 
 -- a step as a part of a chain: `['x']` as `x`, every other index as `*`
-abbrev pub part_of : StepTree → List ℕ
-part_of (Property d b s) = b
-part_of (All a b) = codes "*"
-part_of (Index a t b) = option_map_or (λ text. text.0) (literal_text t) (codes "*")
+abbrev pub chain_part : StepTree → List ℕ
+chain_part (Property d b s) = b
+chain_part (All a b) = codes "*"
+chain_part (Index a t b) = option_map_or (λ text. text.0) (literal_text t) (codes "*")
 
 -- the chain that has these parts between its dots
 abbrev pub untrusted_chain : List (List ℕ) → Option (List ℕ)

@@ -1,9 +1,10 @@
 //! Calls of functions: whether one is known and may stand here, and what is wrong with its arguments.
 
 ghost use Rattle.std.specs.Prelude.{◌≡◌, ◌++◌, ◌+◌, ◌^◌, ◌<◌, IfOk, OnOk, List, not, map, string_bytes, drop, true, ◌∷◌, [], ℕ};
-ghost use Rattle.al_expr_typing.specs.Meaning.{typed, behind, give, is_test, call_from, argument_faults, wrong_arguments, format_faults};
+ghost use Rattle.al_expr_typing.specs.Meaning.{typed, faults_then, give, is_test, call_from};
+ghost use Rattle.al_expr_typing.specs.Meaning.{argument_faults, wrong_arguments, format_faults};
 ghost use Rattle.al_expr_typing.specs.Meaning.{placeholder_faults, unused_arguments};
-ghost use Rattle.al_expr_grammar.specs.Refusal.{fault};
+ghost use Rattle.al_expr_grammar.specs.Refusal.{expression_fault};
 ghost use Rattle.al_expr_typing.specs.Arguments.{argument_in};
 ghost use Rattle.al_types.specs.Scopes.{is_allowed};
 ghost use Rattle.al_expr_typing.specs.Scopes.{scope_in};
@@ -11,7 +12,7 @@ ghost use Rattle.al_types.specs.Signatures.{accepts, returned_type, parameter_at
 ghost use Rattle.al_expr_grammar.specs.Tree.{arguments_of};
 ghost use Rattle.al_types.specs.Types.{Parts, is_array, is_object};
 ghost use Rattle.al_expr_types.specs.Types.{is_below, type_in};
-ghost use Rattle.al_expr_grammar.specs.View.{tree_of};
+ghost use Rattle.al_expr_grammar.specs.View.{expr_view};
 ghost use Rattle.std.specs.Fmt.{decimal};
 ghost use Rattle.al_base.specs.declared.codes.ExpressionCode.TheVariants as code;
 
@@ -82,11 +83,11 @@ pub(crate) fn call_from(
     faults: &mut FaultSink,
 ) -> Result<Ty, AllocError>
     ensures ok { IfOk result
-        (λ t. (ms : List Parts) → typed (type_in ms t) faults.new ≡ behind faults.old
+        (λ t. (ms : List Parts) → typed (type_in ms t) faults.new ≡ faults_then faults.old
         (call_from (scope_in ms scope.now) (call.entry).name.text.now
         (call.entry).name.span
         (call.entry).function
-        (arguments_of (map tree_of (call.entry).arguments.now))
+        (arguments_of (map expr_view (call.entry).arguments.now))
         (map (argument_in ms) arguments.now))) }
     ensures known { IfOk result (λ t. (k : ℕ) → is_below k t ≡ true) }
 {
@@ -116,7 +117,7 @@ fn check_available(
     ensures { OnOk result
         (faults.new ≡ faults.old
         ++ give (not (is_allowed scope.now.available.functions function))
-        (fault code.UnavailableFunction (name.entry).span ((name.entry).text.now ∷ []))) }
+        (expression_fault code.UnavailableFunction (name.entry).span ((name.entry).text.now ∷ []))) }
 {
     if !scope.available.functions.allows(function) {
         report_text(
@@ -174,7 +175,7 @@ fn check_type(
 ) -> Result<(), AllocError>
     ensures { OnOk result ((ms : List Parts) → faults.new ≡ faults.old ++
         give (not (accepts (parameter.entry).parameter_at (type_in ms argument.now.ty)))
-        (fault code.ArgumentType argument.now.span
+        (expression_fault code.ArgumentType argument.now.span
         (decimal (parameter.entry).number ∷ (parameter.entry).of.text.now ∷ []))) }
 {
     if !accepts(parameter.parameter_at, argument.ty) {
@@ -194,7 +195,7 @@ fn check_format(
     faults: &mut FaultSink,
 ) -> Result<(), AllocError>
     ensures { OnOk result ((ms : List Parts) → faults.new ≡ faults.old ++
-        format_faults function (arguments_of (map tree_of exprs.now))
+        format_faults function (arguments_of (map expr_view exprs.now))
         (map (argument_in ms) arguments.now)) }
 {
     if function != Function::Format {
@@ -261,7 +262,7 @@ fn check_argument(
 ) -> Result<(), AllocError>
     requires { index + 2 < 2 ^ 64 }
     ensures { OnOk result (faults.new ≡ faults.old ++
-        give (not used) (fault code.UnusedArgument span (decimal (index + 2) ∷ []))) }
+        give (not used) (expression_fault code.UnusedArgument span (decimal (index + 2) ∷ []))) }
 {
     if !used {
         let number = (index + 2).to_string(faults.alloc())?;

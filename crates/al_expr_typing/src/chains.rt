@@ -3,11 +3,11 @@
 ghost use Rattle.std.specs.Prelude.{◌≡◌, ◌++◌, not, [], List, IfOk, OnOk, map, true};
 ghost use Rattle.al_base.specs.Growth.{BeginsWith};
 ghost use Rattle.al_base.specs.declared.codes.ExpressionCode.TheVariants as code;
-ghost use Rattle.al_expr_grammar.specs.Refusal.{fault};
+ghost use Rattle.al_expr_grammar.specs.Refusal.{expression_fault};
 ghost use Rattle.al_expr_grammar.specs.Tree.{operands_of};
 ghost use Rattle.al_expr_grammar.specs.View.{operand_of};
 ghost use Rattle.al_expr_typing.specs.Comparison.{comparable_types};
-ghost use Rattle.al_expr_typing.specs.Meaning.{begins_logic, behind, give, is_logic, operation, typed};
+ghost use Rattle.al_expr_typing.specs.Meaning.{begins_logic, give, is_logic, operation, typed, faults_then};
 ghost use Rattle.al_expr_types.specs.Tables.{is_known, objects_of, type_at};
 ghost use Rattle.al_expr_types.specs.Types.{type_in};
 ghost use Rattle.al_types.specs.Types.{Parts};
@@ -40,7 +40,7 @@ pub(crate) fn operation(
     requires below { is_join_known types.old sofar ≡ true }
     requires present { has_operand types.old sofar ≡ true }
     requires other { is_known types.old operand.ty ≡ true }
-    ensures ok { IfOk result (λ j. typed (type_so_far types.new j) faults.new ≡ behind faults.old
+    ensures ok { IfOk result (λ j. typed (type_so_far types.new j) faults.new ≡ faults_then faults.old
         (operation operand.operator operand.at (type_so_far types.old sofar)
         (type_at types.old operand.ty))) }
     ensures below { IfOk result (λ j. is_join_known types.new j ≡ true) }
@@ -63,7 +63,7 @@ fn check_comparison(
 ) -> Result<(), AllocError>
     ensures { OnOk result ((ms : List Parts) → faults.new ≡ faults.old
         ++ give (not (comparable_types operand.operator (type_in ms first) (type_in ms operand.ty)))
-        (fault code.NotComparable operand.at [])) }
+        (expression_fault code.NotComparable operand.at [])) }
 {
     if !comparable(operand.operator, first, operand.ty) {
         let code = Code::Expression(ExpressionCode::NotComparable);

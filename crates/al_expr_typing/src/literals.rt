@@ -7,7 +7,7 @@ ghost use Rattle.al_expr_typing.specs.Literals.{literal_text, text_value, type_o
 ghost use Rattle.al_expr_typing.specs.Private.QuotingStates.{adds, moves};
 ghost use Rattle.al_expr_typing.specs.Private.LiteralViews.{literal_of};
 ghost use Rattle.al_expr_types.specs.Types.{scalar_type};
-ghost use Rattle.al_expr_grammar.specs.View.{tree_of};
+ghost use Rattle.al_expr_grammar.specs.View.{expr_view};
 
 use al_base::Span;
 use al_expr_grammar::{Expr, Keyword};
@@ -32,7 +32,7 @@ pub(crate) enum Quoting {
 /// The value of a text literal, in brackets or not: none where the expression is no such literal.
 #[tactic(auto, using(al_expr_grammar::proofs::TreeViews::tree_views))]
 pub(crate) fn literal_text(alloc: Global, expr: &Expr<'_>) -> Result<Option<Literal>, AllocError>
-    ensures { IfOk result (λ l. option_map literal_of l ≡ literal_text (tree_of expr.now)) }
+    ensures { IfOk result (λ l. option_map literal_of l ≡ literal_text (expr_view expr.now)) }
 {
     match expr {
         Expr::Text(word) => {

@@ -1,7 +1,7 @@
 //! Faults whose message names a text.
 
 ghost use Rattle.std.specs.Prelude.{◌≡◌, ◌++◌, ◌∷◌, [], OnOk};
-ghost use Rattle.al_expr_grammar.specs.Refusal.{fault};
+ghost use Rattle.al_expr_grammar.specs.Refusal.{expression_fault};
 
 use al_base::{Args, Code, ExpressionCode, FaultSink, Span};
 use std::alloc::AllocError;
@@ -13,7 +13,7 @@ pub(crate) fn report_text(
     text: &str,
     faults: &mut FaultSink,
 ) -> Result<(), AllocError>
-    ensures { OnOk result (faults.new ≡ faults.old ++ fault code span (text.now ∷ []) ∷ []) }
+    ensures { OnOk result (faults.new ≡ faults.old ++ expression_fault code span (text.now ∷ []) ∷ []) }
 {
     let args = Args::one(String::from_str(faults.alloc(), text)?);
     faults.report(span, Code::Expression(code), args)

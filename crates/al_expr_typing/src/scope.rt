@@ -1,7 +1,7 @@
 //! What an expression can name at its place, its types by numbers.
 
 ghost use Rattle.std.specs.Prelude.{◌≡◌};
-ghost use Rattle.al_expr_typing.specs.Scopes.{number_of};
+ghost use Rattle.al_expr_typing.specs.Scopes.{context_number};
 
 use al_expr_types::Ty;
 use al_types::{Available, Context};
@@ -35,7 +35,7 @@ pub struct ContextTypes {
 impl ContextTypes {
     /// The type of a context.
     pub fn get(self, context: Context) -> Ty
-        ensures { result ≡ number_of self context }
+        ensures { result ≡ context_number self context }
     {
         match context {
             Context::Github => self.github,

@@ -3,8 +3,8 @@
 ghost use Rattle.std.specs.Prelude.{◌≡◌, ◌<◌, ◌∷◌, [], IfOk, List, None, length, option_map, true, ℕ};
 ghost use Rattle.al_base.specs.Growth.{BeginsWith};
 ghost use Rattle.al_base.specs.declared.codes.ExpressionCode.TheVariants as code;
-ghost use Rattle.al_expr_grammar.specs.Refusal.{fault};
-ghost use Rattle.al_expr_typing.specs.Meaning.{typed, behind, or_fault, property_of, all_of, index_of, not_indexable};
+ghost use Rattle.al_expr_grammar.specs.Refusal.{expression_fault};
+ghost use Rattle.al_expr_typing.specs.Meaning.{typed, faults_then, or_fault, property_of, all_of, index_of, not_indexable};
 ghost use Rattle.al_types.specs.Types.{ArrayOf, Parts, Type', object_type, or_any, property_in};
 ghost use Rattle.al_expr_typing.specs.Steps.{is_index};
 ghost use Rattle.al_expr_types.specs.Tables.{is_known, objects_of, type_at};
@@ -52,7 +52,7 @@ pub(crate) fn property(
 ) -> Result<Ty, AllocError>
     requires { is_known types.old ty ≡ true }
     ensures ok { IfOk result (λ t. typed (type_at types.new t) faults.new
-        ≡ behind faults.old
+        ≡ faults_then faults.old
         (property_of (step.entry).name.now (step.entry).at (step.entry).whole
         (type_at types.old ty))) }
     ensures known { IfOk result (λ t. is_known types.new t ≡ true) }
@@ -73,7 +73,7 @@ fn base_property(
 ) -> Result<Ty, AllocError>
     requires { is_base_below (length types.old.objects.items) base ≡ true }
     ensures ok { IfOk result (λ t. typed (type_at types.new t) faults.new
-        ≡ behind faults.old
+        ≡ faults_then faults.old
         (property_of (step.entry).name.now (step.entry).at (step.entry).whole
         (base_type (objects_of types.old) base))) }
     ensures known { IfOk result (λ t. is_known types.new t ≡ true) }
@@ -100,8 +100,8 @@ fn object_property(
     faults: &mut FaultSink,
 ) -> Result<Ty, AllocError>
     requires { n < length types.old.objects.items }
-    ensures ok { IfOk result (λ t. typed (type_at types.new t) faults.new ≡ behind faults.old
-        (or_fault (fault code.UndefinedProperty (step.entry).at ((step.entry).name.now ∷ []))
+    ensures ok { IfOk result (λ t. typed (type_at types.new t) faults.new ≡ faults_then faults.old
+        (or_fault (expression_fault code.UndefinedProperty (step.entry).at ((step.entry).name.now ∷ []))
         (property_in (step.entry).name.now (object_type (object_in (objects_of types.old) n))))) }
     ensures known { IfOk result (λ t. is_known types.new t ≡ true) }
     ensures kept { BeginsWith (objects_of types.new) (objects_of types.old) }
@@ -125,7 +125,7 @@ fn object_property(
 #[tactic(auto, using(crate::proofs::TypedSteps::typing))]
 fn scalar_step(scalar: Scalar, whole: Span, faults: &mut FaultSink) -> Result<Ty, AllocError>
     ensures ok { IfOk result (λ t. (ms : List Parts) → typed (type_in ms t) faults.new
-        ≡ behind faults.old (all_of whole (scalar_type scalar))) }
+        ≡ faults_then faults.old (all_of whole (scalar_type scalar))) }
     ensures known { IfOk result (λ t. (k : ℕ) → is_below k t ≡ true) }
 {
     match scalar {
@@ -139,7 +139,7 @@ fn scalar_step(scalar: Scalar, whole: Span, faults: &mut FaultSink) -> Result<Ty
 
 fn not_indexable(whole: Span, faults: &mut FaultSink) -> Result<Ty, AllocError>
     ensures ok { IfOk result (λ t. (ms : List Parts) → typed (type_in ms t) faults.new
-        ≡ behind faults.old (not_indexable whole)) }
+        ≡ faults_then faults.old (not_indexable whole)) }
     ensures known { IfOk result (λ t. (k : ℕ) → is_below k t ≡ true) }
 {
     faults.report_plain(whole, Code::Expression(ExpressionCode::NotIndexable))?;
@@ -150,7 +150,7 @@ fn not_indexable(whole: Span, faults: &mut FaultSink) -> Result<Ty, AllocError>
 #[tactic(auto, using(crate::proofs::TypedSteps::typing, crate::proofs::Forms::scalar_steps))]
 pub(crate) fn element(ty: Ty, by: Ty, whole: Span, faults: &mut FaultSink) -> Result<Ty, AllocError>
     ensures ok { IfOk result (λ t. (ms : List Parts) → typed (type_in ms t) faults.new
-        ≡ behind faults.old (index_of whole (type_in ms ty) (type_in ms by))) }
+        ≡ faults_then faults.old (index_of whole (type_in ms ty) (type_in ms by))) }
     ensures known { IfOk result (λ t. (k : ℕ) → is_below k ty ≡ true → is_below k t ≡ true) }
 {
     if ty.arrays > 0 {
@@ -169,7 +169,7 @@ pub(crate) fn element(ty: Ty, by: Ty, whole: Span, faults: &mut FaultSink) -> Re
 #[tactic(auto, using(crate::proofs::TypedSteps::typing, crate::proofs::Forms::scalar_steps))]
 fn base_element(base: Base, whole: Span, faults: &mut FaultSink) -> Result<Ty, AllocError>
     ensures ok { IfOk result (λ t. (ms : List Parts) (i : Type') → typed (type_in ms t) faults.new
-        ≡ behind faults.old (index_of whole (base_type ms base) i)) }
+        ≡ faults_then faults.old (index_of whole (base_type ms base) i)) }
     ensures known { IfOk result (λ t. (k : ℕ) → is_below k t ≡ true) }
 {
     match base {
@@ -185,7 +185,7 @@ fn base_element(base: Base, whole: Span, faults: &mut FaultSink) -> Result<Ty, A
 #[tactic(auto, using(crate::proofs::TypedSteps::typing, crate::proofs::Forms::scalar_steps))]
 fn element_of(of: Ty, by: Ty, whole: Span, faults: &mut FaultSink) -> Result<Ty, AllocError>
     ensures ok { IfOk result (λ t. (ms : List Parts) → typed (type_in ms t) faults.new
-        ≡ behind faults.old (index_of whole (ArrayOf (type_in ms of)) (type_in ms by))) }
+        ≡ faults_then faults.old (index_of whole (ArrayOf (type_in ms of)) (type_in ms by))) }
     ensures known { IfOk result (λ t. (k : ℕ) → is_below k of ≡ true → is_below k t ≡ true) }
 {
     if is_index(by) {
@@ -219,7 +219,7 @@ pub(crate) fn all(
 ) -> Result<Ty, AllocError>
     requires { is_known types.old ty ≡ true }
     ensures ok { IfOk result (λ t. typed (type_at types.new t) faults.new
-        ≡ behind faults.old (all_of whole (type_at types.old ty))) }
+        ≡ faults_then faults.old (all_of whole (type_at types.old ty))) }
     ensures known { IfOk result (λ t. is_known types.new t ≡ true) }
     ensures kept { BeginsWith (objects_of types.new) (objects_of types.old) }
 {
@@ -240,7 +240,7 @@ fn base_all(
 ) -> Result<Ty, AllocError>
     requires { is_base_below (length types.old.objects.items) base ≡ true }
     ensures ok { IfOk result (λ t. typed (type_at types.new t) faults.new
-        ≡ behind faults.old (all_of whole (base_type (objects_of types.old) base))) }
+        ≡ faults_then faults.old (all_of whole (base_type (objects_of types.old) base))) }
     ensures known { IfOk result (λ t. is_known types.new t ≡ true) }
     ensures kept { BeginsWith (objects_of types.new) (objects_of types.old) }
 {

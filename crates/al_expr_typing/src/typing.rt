@@ -2,20 +2,20 @@
 
 ghost use Rattle.std.specs.Prelude.{◌≡◌, ◌++◌, ◌||◌, ◌&&◌, not, [], List, IfOk, OnOk, map, option_map, true, ℕ};
 ghost use Rattle.al_expr_typing.specs.Arguments.{are_known, argument_at};
-ghost use Rattle.al_expr_typing.specs.Scopes.{IsShown, scope_at, scope_in};
+ghost use Rattle.al_expr_typing.specs.Scopes.{IsShown, scope_in, scope_view};
 ghost use Rattle.al_types.specs.Types.{Parts};
 ghost use Rattle.al_expr_types.specs.Types.{is_below, scalar_type};
 ghost use Rattle.al_expr_types.specs.Types as numbers;
 ghost use Rattle.al_expr_types.specs.Tables.{is_known, objects_of, type_at};
 ghost use Rattle.al_base.specs.Growth.{BeginsWith};
-ghost use Rattle.al_expr_typing.specs.Meaning.{typed, type_in, faults_in, behind, meaning_of, walk, operations, meanings};
+ghost use Rattle.al_expr_typing.specs.Meaning.{typed, type_found, faults_found, faults_then, meaning_of, walk, operations, meanings};
 ghost use Rattle.al_expr_typing.specs.Meaning.{begins_logic, untrusted_faults, all_behind, step_from, index_from};
 ghost use Rattle.al_expr_typing.specs.Steps.{base_name};
 ghost use Rattle.al_expr_typing.specs.Meaning as meaning;
 ghost use Rattle.al_expr_typing.specs.Literals.{literal_text};
 ghost use Rattle.al_types.specs.Names.{context_of, function_of};
 ghost use Rattle.al_expr_grammar.specs.Tree.{steps_of, operands_of, arguments_of};
-ghost use Rattle.al_expr_grammar.specs.View.{tree_of, step_of, operand_of};
+ghost use Rattle.al_expr_grammar.specs.View.{expr_view, step_of, operand_of};
 
 use crate::calls::{Argument, CallExpr, call_from, is_test};
 use crate::chains::{TypedOperand, begins_logic, operation};
@@ -41,10 +41,10 @@ pub fn type_of(
     requires { IsShown types.old scope.now }
     ensures ty { IfOk result
         (λ t. type_at types.new t
-        ≡ type_in (meaning_of (scope_at types.old scope.now) (tree_of expr.now))) }
+        ≡ type_found (meaning_of (scope_view types.old scope.now) (expr_view expr.now))) }
     ensures faults { OnOk result
         (faults.new
-        ≡ faults.old ++ faults_in (meaning_of (scope_at types.old scope.now) (tree_of expr.now))) }
+        ≡ faults.old ++ faults_found (meaning_of (scope_view types.old scope.now) (expr_view expr.now))) }
     ensures known { IfOk result (λ t. is_known types.new t ≡ true) }
     ensures kept { BeginsWith (objects_of types.new) (objects_of types.old) }
 {
@@ -77,9 +77,9 @@ fn expression(
     faults: &mut FaultSink,
 ) -> Result<Ty, AllocError>
     requires shown { IsShown types.old around.scope.now }
-    ensures ok { IfOk result (λ t. typed (type_at types.new t) faults.new ≡ behind faults.old
-        (meaning.meaning (scope_at types.old (around.entry).scope.now) (around.entry).safe
-        (tree_of expr.now))) }
+    ensures ok { IfOk result (λ t. typed (type_at types.new t) faults.new ≡ faults_then faults.old
+        (meaning.meaning (scope_view types.old (around.entry).scope.now) (around.entry).safe
+        (expr_view expr.now))) }
     ensures known { IfOk result (λ t. is_known types.new t ≡ true) }
     ensures shown { IsShown types.new (around.entry).scope.now }
     ensures kept { BeginsWith (objects_of types.new) (objects_of types.old) }
@@ -147,13 +147,13 @@ fn call<'a, 'e>(
     faults: &mut FaultSink,
 ) -> Result<Ty, AllocError>
     requires shown { IsShown types.old around.scope.now }
-    ensures ok { IfOk result (λ t. typed (type_at types.new t) faults.new ≡ behind faults.old
-        (meaning.call (scope_at types.old (around.entry).scope.now)
+    ensures ok { IfOk result (λ t. typed (type_at types.new t) faults.new ≡ faults_then faults.old
+        (meaning.call (scope_view types.old (around.entry).scope.now)
         (name.entry).text.now (name.entry).span
-        (function_of (name.entry).text.now) (arguments_of (map tree_of arguments.now))
-        (meanings (scope_at types.old (around.entry).scope.now)
+        (function_of (name.entry).text.now) (arguments_of (map expr_view arguments.now))
+        (meanings (scope_view types.old (around.entry).scope.now)
         ((around.entry).safe || meaning.is_test (function_of (name.entry).text.now))
-        (arguments_of (map tree_of arguments.now))))) }
+        (arguments_of (map expr_view arguments.now))))) }
     ensures known { IfOk result (λ t. is_known types.new t ≡ true) }
     ensures shown { IsShown types.new (around.entry).scope.now }
     ensures kept { BeginsWith (objects_of types.new) (objects_of types.old) }
@@ -194,7 +194,7 @@ fn is_exposed(around: Surroundings<'_>) -> bool
 #[tactic(auto, using(crate::proofs::TypedSteps::typing))]
 fn name_type(scope: &Scope, word: Word<'_>, faults: &mut FaultSink) -> Result<Ty, AllocError>
     ensures ok { IfOk result
-        (λ t. (ms : List Parts) → typed (numbers.type_in ms t) faults.new ≡ behind faults.old
+        (λ t. (ms : List Parts) → typed (numbers.type_in ms t) faults.new ≡ faults_then faults.old
         (meaning.name_type (scope_in ms scope.now) (word.entry).text.now (word.entry).span
         (context_of (word.entry).text.now))) }
     ensures known { IfOk result
@@ -225,8 +225,8 @@ fn walk(
 ) -> Result<Ty, AllocError>
     requires shown { IsShown types.old left.around.scope.now }
     requires known { is_known types.old left.ty ≡ true }
-    ensures ok { IfOk result (λ t. typed (type_at types.new t) faults.new ≡ behind faults.old
-        (walk (scope_at types.old (left.entry).around.scope.now) (left.entry).around.safe
+    ensures ok { IfOk result (λ t. typed (type_at types.new t) faults.new ≡ faults_then faults.old
+        (walk (scope_view types.old (left.entry).around.scope.now) (left.entry).around.safe
         (steps_of (map step_of steps.now))
         (type_at types.old (left.entry).ty))) }
     ensures known { IfOk result (λ t. is_known types.new t ≡ true) }
@@ -256,8 +256,8 @@ fn step_from(
 ) -> Result<Ty, AllocError>
     requires shown { IsShown types.old left.around.scope.now }
     requires known { is_known types.old left.ty ≡ true }
-    ensures ok { IfOk result (λ t. typed (type_at types.new t) faults.new ≡ behind faults.old
-        (step_from (scope_at types.old (left.entry).around.scope.now) (left.entry).around.safe
+    ensures ok { IfOk result (λ t. typed (type_at types.new t) faults.new ≡ faults_then faults.old
+        (step_from (scope_view types.old (left.entry).around.scope.now) (left.entry).around.safe
         (step_of step.now) (type_at types.old (left.entry).ty))) }
     ensures known { IfOk result (λ t. is_known types.new t ≡ true) }
     ensures shown { IsShown types.new (left.entry).around.scope.now }
@@ -292,10 +292,10 @@ fn index_from(
 ) -> Result<Ty, AllocError>
     requires shown { IsShown types.old left.around.scope.now }
     requires known { is_known types.old left.ty ≡ true }
-    ensures ok { IfOk result (λ t. typed (type_at types.new t) faults.new ≡ behind faults.old
-        (index_from (literal_text (tree_of index.now)) whole (type_at types.old (left.entry).ty)
-        (meaning.meaning (scope_at types.old (left.entry).around.scope.now) (left.entry).around.safe
-        (tree_of index.now)))) }
+    ensures ok { IfOk result (λ t. typed (type_at types.new t) faults.new ≡ faults_then faults.old
+        (index_from (literal_text (expr_view index.now)) whole (type_at types.old (left.entry).ty)
+        (meaning.meaning (scope_view types.old (left.entry).around.scope.now) (left.entry).around.safe
+        (expr_view index.now)))) }
     ensures known { IfOk result (λ t. is_known types.new t ≡ true) }
     ensures shown { IsShown types.new (left.entry).around.scope.now }
     ensures kept { BeginsWith (objects_of types.new) (objects_of types.old) }
@@ -329,8 +329,8 @@ fn operations(
 ) -> Result<Ty, AllocError>
     requires shown { IsShown types.old left.around.scope.now }
     requires known { is_known types.old left.ty ≡ true }
-    ensures ok { IfOk result (λ t. typed (type_at types.new t) faults.new ≡ behind faults.old
-        (operations (scope_at types.old (left.entry).around.scope.now) (left.entry).around.safe
+    ensures ok { IfOk result (λ t. typed (type_at types.new t) faults.new ≡ faults_then faults.old
+        (operations (scope_view types.old (left.entry).around.scope.now) (left.entry).around.safe
         (operands_of (map operand_of operands.now))
         (type_at types.old (left.entry).ty))) }
     ensures known { IfOk result (λ t. is_known types.new t ≡ true) }
@@ -364,8 +364,8 @@ fn typed_arguments(
     requires shown { IsShown types.old around.scope.now }
     ensures ok { IfOk result
         (λ v. (map (argument_at types.new) v.items, faults.new) ≡ all_behind [] faults.old
-        (meanings (scope_at types.old (around.entry).scope.now) (around.entry).safe
-        (arguments_of (map tree_of exprs.now)))) }
+        (meanings (scope_view types.old (around.entry).scope.now) (around.entry).safe
+        (arguments_of (map expr_view exprs.now)))) }
     ensures known { IfOk result (λ v. are_known types.new v.items ≡ true) }
     ensures shown { IsShown types.new (around.entry).scope.now }
     ensures kept { BeginsWith (objects_of types.new) (objects_of types.old) }
@@ -391,7 +391,7 @@ fn check_untrusted(
 ) -> Result<(), AllocError>
     ensures { OnOk result
         (faults.new
-        ≡ faults.old ++ untrusted_faults exposed (tree_of base.now) (steps_of (map step_of steps.now))) }
+        ≡ faults.old ++ untrusted_faults exposed (expr_view base.now) (steps_of (map step_of steps.now))) }
 {
     if !exposed {
         return Ok(());
@@ -412,7 +412,7 @@ fn check_untrusted(
 // The name that a path begins with: a bracket ends a chain.
 #[tactic(auto, using(al_expr_grammar::proofs::TreeViews::tree_views))]
 fn base_name<'a>(base: &Expr<'a>) -> Option<&'a str>
-    ensures { option_map (λ n. n.now) result ≡ base_name (tree_of base.now) }
+    ensures { option_map (λ n. n.now) result ≡ base_name (expr_view base.now) }
 {
     match base {
         Expr::Name(word) => Some(word.text),

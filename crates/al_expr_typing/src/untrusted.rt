@@ -4,7 +4,7 @@ ghost use Rattle.std.specs.Prelude.{◌≡◌, ◌∷◌, IfOk, find, length, ma
 ghost use Rattle.std.specs.Cmp.Lexicographic.{pointwise};
 ghost use Rattle.std.specs.List.{join_with_byte};
 ghost use Rattle.al_base.specs.Ascii.{ascii};
-ghost use Rattle.al_expr_typing.specs.Untrusted.{untrusted_chain, part_of};
+ghost use Rattle.al_expr_typing.specs.Untrusted.{untrusted_chain, chain_part};
 ghost use Rattle.al_base.specs.Names.{same_name};
 ghost use Rattle.al_expr_grammar.specs.View.{step_of};
 
@@ -44,7 +44,7 @@ pub(crate) fn untrusted_chain(
     steps: &[PathStep<'_>],
 ) -> Result<Option<String>, AllocError>
     ensures { IfOk result (λ c. option_map string_bytes c
-        ≡ untrusted_chain (name.now ∷ map part_of (map step_of steps.now))) }
+        ≡ untrusted_chain (name.now ∷ map chain_part (map step_of steps.now))) }
 {
     let found = find_chain(alloc, &UNTRUSTED, name, steps)?;
     let text = chain_text(alloc, found)?;
@@ -70,7 +70,7 @@ fn find_chain<'c>(
     steps: &[PathStep<'_>],
 ) -> Result<Option<Parts>, AllocError>
     ensures { IfOk result (λ c. option_map (λ p. map (λ q. q.now) p.now) c
-        ≡ find (λ p. pointwise same_name p (name.now ∷ map part_of (map step_of steps.now)))
+        ≡ find (λ p. pointwise same_name p (name.now ∷ map chain_part (map step_of steps.now)))
         (map (λ p. map (λ q. q.now) p.now) chains.now)) }
 {
     for chain in chains {
@@ -89,7 +89,7 @@ fn is_chain(
 ) -> Result<bool, AllocError>
     ensures { IfOk result
         (λ b. b ≡ pointwise same_name (map (λ p. p.now) chain.now)
-        (name.now ∷ map part_of (map step_of steps.now))) }
+        (name.now ∷ map chain_part (map step_of steps.now))) }
 {
     let [first, rest @ ..] = chain else {
         return Ok(false);
@@ -106,7 +106,7 @@ fn is_chain(
 fn are_parts(alloc: Global, parts: &[&str], steps: &[PathStep<'_>]) -> Result<bool, AllocError>
     requires { length parts.now ≡ length steps.now }
     ensures { IfOk result
-        (λ b. b ≡ pointwise same_name (map (λ p. p.now) parts.now) (map part_of (map step_of steps.now))) }
+        (λ b. b ≡ pointwise same_name (map (λ p. p.now) parts.now) (map chain_part (map step_of steps.now))) }
 {
     for (index, step) in steps.iter().enumerate() {
         if !is_part(alloc, parts[index], step)? {
@@ -118,7 +118,7 @@ fn are_parts(alloc: Global, parts: &[&str], steps: &[PathStep<'_>]) -> Result<bo
 
 #[tactic(auto, using(al_expr_grammar::proofs::TreeViews::step_views))]
 fn is_part(alloc: Global, part: &str, step: &PathStep<'_>) -> Result<bool, AllocError>
-    ensures { IfOk result (λ b. b ≡ same_name part.now (part_of (step_of step.now))) }
+    ensures { IfOk result (λ b. b ≡ same_name part.now (chain_part (step_of step.now))) }
 {
     let part = part.as_bytes();
     match step {

@@ -11,10 +11,11 @@ use Rattle.al_rules_formats.specs.declared.patterns.Filter.TheVariants.{Names, P
 use Rattle.al_rules_formats.specs.declared.schedules.Item.{Item}
 use Rattle.al_scalar.specs.Scalar.{text_of}
 use Rattle.al_yaml_tree.specs.Node.{Node}
-use Rattle.al_tree.specs.Names.{among, is_event}
-use Rattle.al_tree.specs.Values.{entries_at, entries_in, items_in, text_at, texts_at, texts_in}
+use Rattle.al_tree.specs.Names.{is_event}
+use Rattle.al_base.specs.Names.{among}
+use Rattle.al_tree.specs.Values.{entries_at, entries_in, items_in, text_at_key, texts_at, texts_in}
 use Rattle.al_rules.specs.Events.{cron_faults, event_faults, filter_faults, filters_faults, input_faults, inputs_faults}
-use Rattle.al_rules.specs.Events.{name_faults, named_faults, on_faults, schedule_faults, type_faults}
+use Rattle.al_rules.specs.Events.{activity_type_faults, event_name_faults, named_faults, on_faults, schedule_faults}
 use Rattle.al_rules.specs.Names.{activities_of, call_types, dispatch_types}
 use Rattle.al_rules_settings.specs.Words.{Named, of_key, of_scalar, unless, unless_among}
 use Rattle.al_base.proofs.Elements.{each_of, map_or}
@@ -30,7 +31,7 @@ module _ (size : ℕ) where
       (λ s t. unless_lies size (among types (text_of s.0)) UnknownActivity (of_scalar s) t.place) (texts_at (codes "types") event)
       (texts_at_fine size (codes "types") event f)
 
-  types_lie : (name : List ℕ) (event : Node) → Fine size event → Are size (type_faults name event)
+  types_lie : (name : List ℕ) (event : Node) → Fine size event → Are size (activity_type_faults name event)
   types_lie name event f = types_of (activities_of name) event f
 
   filter_lies : (filter : Filter) (event : Node) (key : List ℕ) → Fine size event → Are size (filter_faults filter event key)
@@ -55,12 +56,12 @@ module _ (size : ℕ) where
   cron_lies : (entry : Node) → Fine size entry → Are size (cron_faults entry)
   cron_lies entry f =
       map_or (Text size) (Lies size) (λ s. schedule_faults (schedule_of (of_scalar s).text) (of_scalar s)) (λ s t. schedule_lies (schedule_of (text_of s.0)) (of_scalar s) t.place)
-      (text_at (codes "cron") entry) (text_at_fine size (codes "cron") entry f)
+      (text_at_key (codes "cron") entry) (text_at_fine size (codes "cron") entry f)
 
   input_lies : (types : List (List ℕ)) (m : Node × Node) → Pair size m → Are size (input_faults types m)
   input_lies types m p =
       map_or (Text size) (Lies size) (λ s. unless_among UnknownInputType types (of_scalar s)) (λ s t. unless_lies size (among types (text_of s.0)) UnknownInputType (of_scalar s) t.place)
-      (text_at (codes "type") m.1) (text_at_fine size (codes "type") m.1 p.1)
+      (text_at_key (codes "type") m.1) (text_at_fine size (codes "type") m.1 p.1)
 
   inputs_lie : (types : List (List ℕ)) (event : Node) → Fine size event → Are size (inputs_faults types event)
   inputs_lie types event f = each_of (Pair size) (Lies size) (input_faults types) (input_lies types) (entries_at (codes "inputs") event) (entries_at_fine size (codes "inputs") event f)
@@ -70,7 +71,7 @@ module _ (size : ℕ) where
       or_lies size (bytes_eq name (codes "schedule")) _ _ (each_of (Fine size) (Lies size) cron_faults cron_lies (items_in event) (items_in_fine size event f))
       (or_lies size (bytes_eq name (codes "workflow_call")) _ _ (inputs_lie call_types event f)
       (or_lies size (bytes_eq name (codes "workflow_dispatch")) _ _ (inputs_lie dispatch_types event f)
-      (or_lies size (bytes_eq name (codes "image_version")) [] _ tt (both size (type_faults name event) (filters_faults event) (types_lie name event f) (filters_lie event f)))))
+      (or_lies size (bytes_eq name (codes "image_version")) [] _ tt (both size (activity_type_faults name event) (filters_faults event) (types_lie name event f) (filters_lie event f)))))
 
   named_lies : (m : Node × Node) → Pair size m → Are size (named_faults m)
   named_lies m p =
@@ -78,6 +79,7 @@ module _ (size : ℕ) where
 
   pub on_lies : (on : Node) → Fine size on → Are size (on_faults on)
   on_lies on f =
-      both size (flat_map (λ s. name_faults (of_scalar s)) (texts_in on)) (flat_map named_faults (entries_in on))
-      (each_of (Text size) (Lies size) (λ s. name_faults (of_scalar s)) (λ s t. unless_lies size (is_event (text_of s.0)) UnknownEvent (of_scalar s) t.place) (texts_in on) (texts_in_fine size on f))
+      both size (flat_map (λ s. event_name_faults (of_scalar s)) (texts_in on)) (flat_map named_faults (entries_in on))
+      (each_of (Text size) (Lies size) (λ s. event_name_faults (of_scalar s)) (λ s t. unless_lies size (is_event (text_of s.0)) UnknownEvent (of_scalar s) t.place)
+      (texts_in on) (texts_in_fine size on f))
       (each_of (Pair size) (Lies size) named_faults named_lies (entries_in on) (entries_in_fine size on f))

@@ -18,7 +18,7 @@ use Rattle.al_base.specs.declared.faults.Span.{Span}
 use Rattle.al_tree.specs.Values.{texts_at}
 use Rattle.al_rules.specs.Private.Components.{has_label_of, labelled_fault, labelled_faults, named_by}
 use Rattle.al_rules.specs.Needs.{AddsAllNeeds, AddsNeeds, AreNeedsFaults, undefined_job, leads_back, leads_on, no_needs, and_need}
-use Rattle.al_rules.specs.Needs.{IsNeedFaults, Need, all_needs, cycle_fault, needs_in, needs_lists, needs_of}
+use Rattle.al_rules.specs.Needs.{IsNeedFaults, NeedEntry, all_needs, cycle_fault, needs_in, needs_lists, needs_of}
 use Rattle.al_base.specs.NamePlaces.{name_place}
 use Rattle.al_tree.specs.Keys.{keys_in}
 use Rattle.al_base.specs.Names.{same_name}
@@ -42,7 +42,7 @@ needs_to seen jobs i d h =
     ∙ needs_and (map seen (take i jobs)) (seen (get_or jobs i d)) ∙ ap (λ k. all_needs (map seen (take i jobs)) ++ needs_in (k, seen (get_or jobs i d))) len
 
 module _ (position : List ℕ → Option ℕ) (Leads : ℕ → ℕ → Type 0) where
-  more : (ns ms : List Need) (fs gs : List Fault) → AreNeedsFaults position Leads ns fs → AreNeedsFaults position Leads ms gs → AreNeedsFaults position Leads (ns ++ ms) (fs ++ gs)
+  more : (ns ms : List NeedEntry) (fs gs : List Fault) → AreNeedsFaults position Leads ns fs → AreNeedsFaults position Leads ms gs → AreNeedsFaults position Leads (ns ++ ms) (fs ++ gs)
   more _ ms _ gs no_needs b = b
   more _ ms _ gs (and_need n ns first rest one are) b =
       subst (AreNeedsFaults position Leads (n ∷ ns ++ ms)) (sym (append_assoc first rest gs)) (and_need n (ns ++ ms) first (rest ++ gs) one (more ns ms rest gs are b))
@@ -52,12 +52,12 @@ module _ (position : List ℕ → Option ℕ) (graph : List (List ℕ)) (labels 
     (exact : (j k : ℕ) → j < length graph → k < length graph
     → (get_or labels j None ≡ get_or labels k None) ↔ StronglyConnected graph j k)
     (below : (j k : ℕ) → Edge graph j k → k < length graph) where
-  by_label : (n : Need) (j : ℕ) (b : Bool) → (b ≡ true → Walk graph j n.job) → (Walk graph j n.job → b ≡ true)
+  by_label : (n : NeedEntry) (j : ℕ) (b : Bool) → (b ≡ true → Walk graph j n.job) → (Walk graph j n.job → b ≡ true)
       → IsNeedFaults (Walk graph) n (Some j) (cond b (cycle_fault n ∷ []) [])
   by_label n j true f g = leads_back j (f refl)
   by_label n j false f g = leads_on j (λ w. absurd (cc (g w)))
 
-  entry_is : (n : Need) (o : Option ℕ) → n.job < length graph → ((j : ℕ) → o ≡ Some j → Edge graph n.job j)
+  entry_is : (n : NeedEntry) (o : Option ℕ) → n.job < length graph → ((j : ℕ) → o ≡ Some j → Edge graph n.job j)
       → IsNeedFaults (Walk graph) n o (labelled_fault labels n o)
   entry_is n None inside led = undefined_job
   entry_is n (Some j) inside led =
@@ -73,8 +73,8 @@ module _ (position : List ℕ → Option ℕ) (graph : List (List ℕ)) (labels 
       (labelled_faults position labels (map (λ n. record { job = i; key = key; text = n }) ns))
   entries_are i key [] inside led = no_needs
   entries_are i key (t ∷ ts) inside led =
-      let n : Need = record { job = i; key = key; text = t } in
-      let ns : List Need = map (λ n. record { job = i; key = key; text = n }) ts in
+      let n : NeedEntry = record { job = i; key = key; text = t } in
+      let ns : List NeedEntry = map (λ n. record { job = i; key = key; text = n }) ts in
       and_need n ns (labelled_fault labels n (named_by position t)) (labelled_faults position labels ns)
       (entry_is n (named_by position t) inside led.0) (entries_are i key ts inside led.1)
 
@@ -123,7 +123,7 @@ module _ (position : List ℕ → Option ℕ) (labels : List (Option ℕ)) {X : 
       → new ≡ mid ++ labelled_faults position labels (needs_in (i, seen x))
       → new ≡ old ++ labelled_faults position labels (all_needs (map seen (take (i + 1) jobs)))
   found_next i x old mid new h e o n =
-      let found : List Need → List Fault = labelled_faults position labels in
+      let found : List NeedEntry → List Fault = labelled_faults position labels in
       let before = all_needs (map seen (take i jobs)) in
       n ∙ ap (λ fs. fs ++ found (needs_in (i, seen x))) o ∙ append_assoc old (found before) (found (needs_in (i, seen x)))
       ∙ ap (λ fs. old ++ fs) (sym (flat_map-append (λ n. labelled_fault labels n (named_by position n.text)) before (needs_in (i, seen x)))
@@ -178,7 +178,7 @@ edges_below jobs lists e j k has =
     let b : length lists ≡ length jobs = lists_length jobs lists e in omega (arith, below, a, b)
 
 -- the entries of a job
-pub needs_are : {X : Type 0} (seen : X → Scalar × Span) (i : ℕ) (job : Node × Node) (key : Named) (xs : List X) (ns : List Need) → ns
+pub needs_are : {X : Type 0} (seen : X → Scalar × Span) (i : ℕ) (job : Node × Node) (key : Named) (xs : List X) (ns : List NeedEntry) → ns
     ≡ map (λ n. record { job = i; key = key; text = n }) (map of_scalar (map seen xs))
     → map seen xs ≡ texts_at (codes "needs") job.1 → key ≡ of_key job.0 → ns ≡ needs_in (i, job)
 needs_are {X} seen i job key xs ns e t k =

@@ -10,7 +10,7 @@ use Rattle.al_base.specs.declared.faults.Span.{Span}
 use Rattle.al_scalar.specs.Scalar.{Scalar}
 use Rattle.al_yaml_tree.specs.Node.{Node}
 use Rattle.al_tree.specs.Names.{is_event}
-use Rattle.al_tree.specs.Values.{text_at, texts_in, texts_at, entries_in, entries_at, items_in}
+use Rattle.al_tree.specs.Values.{text_at_key, texts_in, texts_at, entries_in, entries_at, items_in}
 use Rattle.al_rules.specs.Names.{activities_of, call_types, dispatch_types}
 use Rattle.al_rules_settings.specs.Words.{Named, about, of_key, of_scalar, unless, unless_among}
 use Rattle.al_rules_formats.specs.Patterns.{is_pattern}
@@ -23,8 +23,9 @@ use Rattle.al_rules_formats.specs.declared.schedules.Item.{Item}
 abbrev pub activity_faults : List (List ℕ) → Scalar × Span → List Fault
 activity_faults types s = unless_among UnknownActivity types (of_scalar s)
 
-abbrev pub type_faults : List ℕ → Node → List Fault
-type_faults name event = option_map_or (λ types. flat_map (activity_faults types) (texts_at (codes "types") event)) (activities_of name) []
+abbrev pub activity_type_faults : List ℕ → Node → List Fault
+activity_type_faults name event =
+    option_map_or (λ types. flat_map (activity_faults types) (texts_at (codes "types") event)) (activities_of name) []
 
 -- a filter that is no pattern
 abbrev pub filter_faults : Filter → Node → List ℕ → List Fault
@@ -42,11 +43,12 @@ schedule_faults None n = about WrongSchedule n
 schedule_faults (Some items) n = unless (not (is_too_often items)) ScheduleTooOften n
 
 abbrev pub cron_faults : Node → List Fault
-cron_faults entry = option_map_or (λ s. schedule_faults (schedule_of (of_scalar s).text) (of_scalar s)) (text_at (codes "cron") entry) []
+cron_faults entry =
+    option_map_or (λ s. schedule_faults (schedule_of (of_scalar s).text) (of_scalar s)) (text_at_key (codes "cron") entry) []
 
 -- an input of an unknown type
 abbrev pub input_faults : List (List ℕ) → Node × Node → List Fault
-input_faults types m = option_map_or (λ s. unless_among UnknownInputType types (of_scalar s)) (text_at (codes "type") m.1) []
+input_faults types m = option_map_or (λ s. unless_among UnknownInputType types (of_scalar s)) (text_at_key (codes "type") m.1) []
 
 abbrev pub inputs_faults : List (List ℕ) → Node → List Fault
 inputs_faults types event = flat_map (input_faults types) (entries_at (codes "inputs") event)
@@ -58,15 +60,15 @@ event_faults name event =
     else if bytes_eq name (codes "workflow_call") then inputs_faults call_types event
     else if bytes_eq name (codes "workflow_dispatch") then inputs_faults dispatch_types event
     else if bytes_eq name (codes "image_version") then []
-    else type_faults name event ++ filters_faults event
+    else activity_type_faults name event ++ filters_faults event
 
 -- an event that isn't known; its value isn't looked at
-abbrev pub name_faults : Named → List Fault
-name_faults n = unless (is_event n.text) UnknownEvent n
+abbrev pub event_name_faults : Named → List Fault
+event_name_faults n = unless (is_event n.text) UnknownEvent n
 
 abbrev pub named_faults : Node × Node → List Fault
 named_faults m = if is_event (of_key m.0).text then event_faults (of_key m.0).text m.1 else about UnknownEvent (of_key m.0)
 
 -- of what stands under `on`
 abbrev pub on_faults : Node → List Fault
-on_faults on = flat_map (λ s. name_faults (of_scalar s)) (texts_in on) ++ flat_map named_faults (entries_in on)
+on_faults on = flat_map (λ s. event_name_faults (of_scalar s)) (texts_in on) ++ flat_map named_faults (entries_in on)

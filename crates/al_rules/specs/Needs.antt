@@ -8,11 +8,11 @@ use Rattle.al_tree.specs.Keys.{keys_in}
 use Rattle.al_tree.specs.Values.{texts_at}
 use Rattle.al_base.specs.NamePlaces.{name_place}
 use Rattle.al_graph.specs.Graphs.{Walk}
-use Rattle.al_rules_settings.specs.Words.{Named, about, fault, of_key, of_scalar}
+use Rattle.al_rules_settings.specs.Words.{Named, about, of_key, of_scalar, rule_fault}
 
 -- the keys of the jobs
-abbrev pub keys_of : List (Node × Node) → List Named
-keys_of jobs = map (λ j. of_key j.0) jobs
+abbrev pub job_keys : List (Node × Node) → List Named
+job_keys jobs = map (λ j. of_key j.0) jobs
 
 -- the texts of a job's `needs`
 abbrev pub needs_of : Node × Node → List Named
@@ -23,30 +23,30 @@ abbrev pub needs_lists : (List ℕ → Option ℕ) → List (Node × Node) → L
 needs_lists position jobs = map (λ j. filter_map (λ n. position n.text) (needs_of j)) jobs
 
 -- an entry of `needs`: its text, and the position and the key of its job
-pub record Need : Type 0 where
+pub record NeedEntry : Type 0 where
   pub job : ℕ
   pub key : Named
   pub text : Named
 
-abbrev pub needs_in : ℕ × (Node × Node) → List Need
+abbrev pub needs_in : ℕ × (Node × Node) → List NeedEntry
 needs_in p = map (λ n. record { job = p.0; key = of_key p.1.0; text = n }) (needs_of p.1)
 
-abbrev pub all_needs : List (Node × Node) → List Need
+abbrev pub all_needs : List (Node × Node) → List NeedEntry
 all_needs jobs = flat_map needs_in (enumerate_from 0 jobs)
 
-abbrev pub cycle_fault : Need → Fault
-cycle_fault n = fault NeedsCycle n.text.span (n.key.text ∷ n.text.text ∷ [])
+abbrev pub cycle_fault : NeedEntry → Fault
+cycle_fault n = rule_fault NeedsCycle n.text.span (n.key.text ∷ n.text.text ∷ [])
 
 -- What an entry gives: a job that isn't there; one from which a walk of needs comes back to this job; nothing.
-pub data IsNeedFaults (Leads : ℕ → ℕ → Type 0) (n : Need) : Option ℕ → List Fault → Type 0 where
+pub data IsNeedFaults (Leads : ℕ → ℕ → Type 0) (n : NeedEntry) : Option ℕ → List Fault → Type 0 where
   undefined_job : IsNeedFaults Leads n None (about UndefinedJob n.text)
   leads_back : (j : ℕ) → Leads j n.job → IsNeedFaults Leads n (Some j) (cycle_fault n ∷ [])
   leads_on : (j : ℕ) → ¬ Leads j n.job → IsNeedFaults Leads n (Some j) []
 
 -- what entries give, one after another
-pub data AreNeedsFaults (position : List ℕ → Option ℕ) (Leads : ℕ → ℕ → Type 0) : List Need → List Fault → Type 0 where
+pub data AreNeedsFaults (position : List ℕ → Option ℕ) (Leads : ℕ → ℕ → Type 0) : List NeedEntry → List Fault → Type 0 where
   no_needs : AreNeedsFaults position Leads [] []
-  and_need : (n : Need) (ns : List Need) (first rest : List Fault) → IsNeedFaults Leads n (position n.text.text) first
+  and_need : (n : NeedEntry) (ns : List NeedEntry) (first rest : List Fault) → IsNeedFaults Leads n (position n.text.text) first
       → AreNeedsFaults position Leads ns rest
       → AreNeedsFaults position Leads (n ∷ ns) (first ++ rest)
 
@@ -55,7 +55,7 @@ IsNeedsFaults jobs found =
     let position = name_place (keys_in jobs) in AreNeedsFaults position (Walk (needs_lists position jobs)) (all_needs jobs) found
 
 -- what is added for some entries, and for all
-pub record AddsNeeds (position : List ℕ → Option ℕ) (Leads : ℕ → ℕ → Type 0) (ns : List Need) (old new : List Fault) : Type 0 where
+pub record AddsNeeds (position : List ℕ → Option ℕ) (Leads : ℕ → ℕ → Type 0) (ns : List NeedEntry) (old new : List Fault) : Type 0 where
   pub found : List Fault
   pub are : AreNeedsFaults position Leads ns found
   pub grows : new ≡ old ++ found
@@ -65,7 +65,7 @@ AddsAllNeeds jobs old new =
     let position = name_place (keys_in jobs) in AddsNeeds position (Walk (needs_lists position jobs)) (all_needs jobs) old new
 
 -- To compute rows with: what an entry gives, where a test says from which jobs a walk comes back
-abbrev pub tested_faults : (ℕ → Bool) → Need → Option ℕ → List Fault
+abbrev pub tested_faults : (ℕ → Bool) → NeedEntry → Option ℕ → List Fault
 tested_faults leads n None = about UndefinedJob n.text
 tested_faults leads n (Some j) = if leads j then cycle_fault n ∷ [] else []
 

@@ -8,7 +8,7 @@ use Rattle.al_base.specs.declared.faults.Fault.{Fault}
 use Rattle.al_yaml_tree.specs.Access.{scalar_in}
 use Rattle.al_yaml_tree.specs.Node.{Node, span_of}
 use Rattle.al_tree.specs.Faults.{runs_of}
-use Rattle.al_tree.specs.Values.{entries_at, items_at, key_at, text_at, text_below, value_at, value_below}
+use Rattle.al_tree.specs.Values.{entries_at, items_at, key_at, text_at_key, text_below, value_at, value_below}
 use Rattle.al_tree.specs.Files.{jobs_of, kind_in, root_of}
 use Rattle.al_tree.specs.declared.table.Shape.{Shape}
 use Rattle.al_tree.specs.declared.table.Shape.TheVariants.{CompositeRuns, DockerRuns, NodeRuns}
@@ -18,19 +18,19 @@ use Rattle.al_tree.specs.declared.files.Tree.{Tree}
 use Rattle.al_rules.specs.Events.{on_faults}
 use Rattle.al_rules_settings.specs.Ids.{ids_faults}
 use Rattle.al_rules_settings.specs.Matrix.{matrix_faults}
-use Rattle.al_rules.specs.Needs.{IsNeedsFaults, keys_of}
+use Rattle.al_rules.specs.Needs.{IsNeedsFaults, job_keys}
 use Rattle.al_rules_settings.specs.Settings.{condition_faults, credentials_faults, env_faults}
 use Rattle.al_rules_settings.specs.Settings.{permissions_faults, script_faults, shell_faults}
-use Rattle.al_rules_settings.specs.Words.{Named, about, fault, of_key, of_scalar}
+use Rattle.al_rules_settings.specs.Words.{Named, about, of_key, of_scalar, rule_fault}
 
 -- of a step
 abbrev pub step_faults : Node → List Fault
 step_faults step =
-    env_faults step ++ condition_faults (text_at (codes "if") step) ++ shell_faults (text_at (codes "shell") step)
-    ++ script_faults (text_at (codes "run") step)
+    env_faults step ++ condition_faults (text_at_key (codes "if") step) ++ shell_faults (text_at_key (codes "shell") step)
+    ++ script_faults (text_at_key (codes "run") step)
 
 abbrev pub step_ids : List Node → List Named
-step_ids steps = map of_scalar (filter_map (text_at (codes "id")) steps)
+step_ids steps = map of_scalar (filter_map (text_at_key (codes "id")) steps)
 
 abbrev pub steps_faults : List Node → List Fault
 steps_faults steps = ids_faults (step_ids steps) ++ flat_map step_faults steps
@@ -50,7 +50,7 @@ containers_faults job =
 
 abbrev pub settings_faults : Node → List Fault
 settings_faults job =
-    section_faults job ++ condition_faults (text_at (codes "if") job)
+    section_faults job ++ condition_faults (text_at_key (codes "if") job)
     ++ option_map_or matrix_faults (value_below (codes "strategy" ∷ codes "matrix" ∷ []) job) []
 
 abbrev pub job_faults : Node × Node → List Fault
@@ -59,14 +59,14 @@ job_faults j = settings_faults j.1 ++ containers_faults j.1 ++ steps_faults (ite
 -- of a workflow, given the faults of what its jobs need
 abbrev pub workflow_faults : List Fault → Node → List Fault
 workflow_faults needs root =
-    option_map_or on_faults (value_at (codes "on") root) [] ++ section_faults root ++ ids_faults (keys_of (jobs_of root)) ++ needs
+    option_map_or on_faults (value_at (codes "on") root) [] ++ section_faults root ++ ids_faults (job_keys (jobs_of root)) ++ needs
     ++ flat_map job_faults (jobs_of root)
 
 -- a step of a composite action that runs a script and names no shell
 abbrev pub no_shell_faults : Node → List Fault
 no_shell_faults step =
     if is_some (value_at (codes "shell") step) then []
-    else option_map_or (λ key. fault MissingShell (span_of key) [] ∷ []) (key_at (codes "run") step) []
+    else option_map_or (λ key. rule_fault MissingShell (span_of key) [] ∷ []) (key_at (codes "run") step) []
 
 -- an output of a composite action without a value
 abbrev pub output_faults : Node × Node → List Fault
@@ -78,7 +78,7 @@ composite_faults root runs =
     ++ flat_map output_faults (entries_at (codes "outputs") root)
 
 abbrev pub hooks_faults : Node → List Fault
-hooks_faults runs = condition_faults (text_at (codes "pre-if") runs) ++ condition_faults (text_at (codes "post-if") runs)
+hooks_faults runs = condition_faults (text_at_key (codes "pre-if") runs) ++ condition_faults (text_at_key (codes "post-if") runs)
 
 -- by the section that `runs` is; where that isn't known, only `using` is checked
 abbrev pub using_faults : Node → Node → Named → Shape → List Fault
@@ -108,7 +108,7 @@ pub record IsWorkflowFaults (root : Node) (found : List Fault) : Type 0 where
 pub record AddsJobs (jobs : List (Node × Node)) (old new : List Fault) : Type 0 where
   pub needs : List Fault
   pub of_needs : IsNeedsFaults jobs needs
-  pub grows : new ≡ old ++ (ids_faults (keys_of jobs) ++ needs ++ flat_map job_faults jobs)
+  pub grows : new ≡ old ++ (ids_faults (job_keys jobs) ++ needs ++ flat_map job_faults jobs)
 
 pub record AddsWorkflow (root : Node) (old new : List Fault) : Type 0 where
   pub found : List Fault

@@ -2,7 +2,7 @@
 
 ghost use Rattle.al_base.specs.declared.codes.RuleCode.TheVariants.{WrongPattern};
 ghost use Rattle.al_rules.specs.Events.{activity_faults, cron_faults, event_faults, filter_faults, filters_faults, input_faults};
-ghost use Rattle.al_rules.specs.Events.{inputs_faults, name_faults, named_faults, on_faults, schedule_faults, type_faults};
+ghost use Rattle.al_rules.specs.Events.{activity_type_faults, event_name_faults, inputs_faults, named_faults, on_faults, schedule_faults};
 ghost use Rattle.al_rules_formats.specs.Patterns.{is_pattern as means_pattern};
 ghost use Rattle.al_rules_formats.specs.Schedules.{schedule_of};
 ghost use Rattle.al_rules_settings.specs.Views.{named_of};
@@ -52,7 +52,7 @@ fn check_types(
 
 /// Adds the wrong activity types of an event.
 fn check_activities(name: &[u8], event: &Node, faults: &mut FaultSink) -> Result<(), AllocError>
-    ensures { OnOk result (faults.new ≡ faults.old ++ type_faults name.now (view event.now)) }
+    ensures { OnOk result (faults.new ≡ faults.old ++ activity_type_faults name.now (view event.now)) }
 {
     match activities_of(name) {
         None => Ok(()),
@@ -271,7 +271,7 @@ fn check_events(events: &[Member<'_>], faults: &mut FaultSink) -> Result<(), All
 /// Adds the names that are no events.
 fn check_names(names: &[ScalarNode<'_>], faults: &mut FaultSink) -> Result<(), AllocError>
     ensures { OnOk result (faults.new ≡ faults.old
-        ++ flat_map (λ s. name_faults (of_scalar s)) (map scalar_node_of names.now)) }
+        ++ flat_map (λ s. event_name_faults (of_scalar s)) (map scalar_node_of names.now)) }
 {
     for name in names {
         let name = named_text(*name);

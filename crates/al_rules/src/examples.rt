@@ -3,7 +3,7 @@
 ghost use Rattle.al_rules.specs.Rows.Files as file;
 ghost use Rattle.al_rules.specs.Rows.Files.{at, needs_by_steps};
 ghost use Rattle.al_rules.specs.Rules.{action_faults, workflow_faults};
-ghost use Rattle.al_rules_settings.specs.Words.{fault};
+ghost use Rattle.al_rules_settings.specs.Words.{rule_fault};
 ghost use Rattle.al_base.specs.declared.codes.RuleCode.TheVariants.{AlwaysTrue, DeprecatedCommand, MissingOutputValue, MissingShell};
 ghost use Rattle.al_base.specs.declared.codes.RuleCode.TheVariants.{NeedsCycle, PasswordNotExpression, RepeatedId, ScheduleTooOften};
 ghost use Rattle.al_base.specs.declared.codes.RuleCode.TheVariants.{UndefinedJob, UnknownActivity, UnknownEvent, UnknownInputType};
@@ -15,40 +15,40 @@ ghost use Rattle.std.specs.Prelude.{◌≡◌, [], ◌∷◌, codes};
 /// The faults of some small files, as the definitions give them. Does nothing.
 pub fn rows()
     ensures unknown_event { workflow_faults (needs_by_steps file.unknown_event) file.unknown_event ≡
-        fault UnknownEvent (at 4 7) (codes "pus" ∷ []) ∷ [] }
+        rule_fault UnknownEvent (at 4 7) (codes "pus" ∷ []) ∷ [] }
     ensures wrong_activity { workflow_faults (needs_by_steps file.wrong_activity) file.wrong_activity
-        ≡ fault UnknownActivity (at 34 39) (codes "close" ∷ []) ∷ [] }
+        ≡ rule_fault UnknownActivity (at 34 39) (codes "close" ∷ []) ∷ [] }
     ensures wrong_patterns { workflow_faults (needs_by_steps file.wrong_patterns) file.wrong_patterns
-        ≡ fault WrongPattern (at 27 32) (codes "a[b" ∷ []) ∷
-        fault WrongPattern (at 51 57) (codes "!./x" ∷ []) ∷ [] }
+        ≡ rule_fault WrongPattern (at 27 32) (codes "a[b" ∷ []) ∷
+        rule_fault WrongPattern (at 51 57) (codes "!./x" ∷ []) ∷ [] }
     ensures schedules { workflow_faults (needs_by_steps file.schedules) file.schedules ≡
-        fault WrongSchedule (at 28 37) (codes "0 0 * * 7" ∷ []) ∷
-        fault ScheduleTooOften (at 50 63) (codes "*/4 * * * *" ∷ []) ∷ [] }
+        rule_fault WrongSchedule (at 28 37) (codes "0 0 * * 7" ∷ []) ∷
+        rule_fault ScheduleTooOften (at 50 63) (codes "*/4 * * * *" ∷ []) ∷ [] }
     ensures input_types { workflow_faults (needs_by_steps file.input_types) file.input_types ≡
-        fault UnknownInputType (at 64 68) (codes "text" ∷ []) ∷ [] }
+        rule_fault UnknownInputType (at 64 68) (codes "text" ∷ []) ∷ [] }
     ensures ids { workflow_faults (needs_by_steps file.ids) file.ids ≡
-        fault WrongId (at 17 20) (codes "1st" ∷ []) ∷
-        fault RepeatedId (at 59 60) (codes "A" ∷ []) ∷ [] }
+        rule_fault WrongId (at 17 20) (codes "1st" ∷ []) ∷
+        rule_fault RepeatedId (at 59 60) (codes "A" ∷ []) ∷ [] }
     ensures needs { workflow_faults (needs_by_steps file.needs) file.needs ≡
-        fault NeedsCycle (at 31 32) (codes "a" ∷ codes "B" ∷ []) ∷
-        fault NeedsCycle (at 65 66) (codes "b" ∷ codes "a" ∷ []) ∷
-        fault UndefinedJob (at 68 69) (codes "x" ∷ []) ∷ [] }
+        rule_fault NeedsCycle (at 31 32) (codes "a" ∷ codes "B" ∷ []) ∷
+        rule_fault NeedsCycle (at 65 66) (codes "b" ∷ codes "a" ∷ []) ∷
+        rule_fault UndefinedJob (at 68 69) (codes "x" ∷ []) ∷ [] }
     ensures matrix { workflow_faults (needs_by_steps file.matrix) file.matrix ≡
-        fault WrongMatrix (at 75 80) (codes "os" ∷ []) ∷
-        fault UnknownMatrixRow (at 125 127) (codes "np" ∷ []) ∷ [] }
+        rule_fault WrongMatrix (at 75 80) (codes "os" ∷ []) ∷
+        rule_fault UnknownMatrixRow (at 125 127) (codes "np" ∷ []) ∷ [] }
     ensures settings { workflow_faults (needs_by_steps file.settings) file.settings ≡
-        fault UnknownPermission (at 24 31) (codes "content" ∷ []) ∷
-        fault WrongPermission (at 48 51) (codes "all" ∷ []) ∷
-        fault WrongVariable (at 59 62) (codes "A B" ∷ []) ∷
-        fault UnknownShell (at 94 97) (codes "zsh" ∷ []) ∷ [] }
+        rule_fault UnknownPermission (at 24 31) (codes "content" ∷ []) ∷
+        rule_fault WrongPermission (at 48 51) (codes "all" ∷ []) ∷
+        rule_fault WrongVariable (at 59 62) (codes "A B" ∷ []) ∷
+        rule_fault UnknownShell (at 94 97) (codes "zsh" ∷ []) ∷ [] }
     ensures password { workflow_faults (needs_by_steps file.password) file.password
-        ≡ fault PasswordNotExpression (at 87 105) [] ∷ [] }
+        ≡ rule_fault PasswordNotExpression (at 87 105) [] ∷ [] }
     ensures step { workflow_faults (needs_by_steps file.step) file.step ≡
-        fault AlwaysTrue (at 58 71) [] ∷
-        fault DeprecatedCommand (at 90 108) (codes "set-output" ∷ []) ∷ [] }
+        rule_fault AlwaysTrue (at 58 71) [] ∷
+        rule_fault DeprecatedCommand (at 90 108) (codes "set-output" ∷ []) ∷ [] }
     ensures using_is_unknown { action_faults file.using_is_unknown
-        ≡ fault UnknownUsing (at 23 29) (codes "node18" ∷ []) ∷ [] }
+        ≡ rule_fault UnknownUsing (at 23 29) (codes "node18" ∷ []) ∷ [] }
     ensures composite { action_faults file.composite ≡
-        fault MissingShell (at 81 84) [] ∷
-        fault MissingOutputValue (at 19 20) (codes "o" ∷ []) ∷ [] }
+        rule_fault MissingShell (at 81 84) [] ∷
+        rule_fault MissingOutputValue (at 19 20) (codes "o" ∷ []) ∷ [] }
 {}

@@ -4,7 +4,7 @@ ghost use Rattle.al_rules.specs.Names.{activities_of as activities_named};
 ghost use Rattle.al_rules.specs.Private.ActivityViews.{activity_row, row_types};
 ghost use Rattle.std.specs.Prelude.{◌≡◌, map, option_map};
 
-use al_tree::is_among;
+use al_base::is_among;
 
 /// Some events, and the activity types that each of them takes.
 #[derive(Clone, Copy)]

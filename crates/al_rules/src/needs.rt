@@ -2,7 +2,7 @@
 
 ghost use Rattle.al_base.specs.NamePlaces.{name_position};
 ghost use Rattle.al_graph.specs.Graphs.{edges_of};
-ghost use Rattle.al_rules.specs.Needs.{AddsAllNeeds, all_needs, keys_of as keys_of_all, needs_in, needs_lists};
+ghost use Rattle.al_rules.specs.Needs.{AddsAllNeeds, all_needs, job_keys as keys_of_all, needs_in, needs_lists};
 ghost use Rattle.al_rules.specs.Private.Components as components;
 ghost use Rattle.al_rules.specs.Private.Components.{labelled_fault, named_by};
 ghost use Rattle.al_rules_settings.specs.Views.{named_of};

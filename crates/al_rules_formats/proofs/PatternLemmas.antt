@@ -4,7 +4,7 @@ use Rattle.std.proofs.lemmas.Bool.Decides.{nat_tests}
 use Rattle.std.proofs.lemmas.List.{at_drop_all, at_drop_more}
 use Rattle.std.specs.Prelude.{option_and_then}
 use Rattle.al_base.specs.Ascii.{ascii}
-use Rattle.al_rules_formats.specs.Patterns.{is_mark, before_closing, ascends, is_class, are_items_from, goes_on_escaped, goes_on_in_class, are_items}
+use Rattle.al_rules_formats.specs.Patterns.{is_mark, before_bracket, ascends, is_class, are_items_from, goes_on_escaped, goes_on_in_class, are_items}
 use Rattle.al_rules_formats.specs.Private.PatternStates.{read, read_all, is_done}
 use Rattle.al_rules_formats.specs.declared.patterns.State.{State}
 use Rattle.al_rules_formats.specs.declared.patterns.State.TheVariants.{FirstItem, AfterItem, AfterEscape, ClassFirst, ClassNext, ClassLow, ClassDash}
@@ -27,13 +27,13 @@ is_dash a c (d ∷ cs) h = ap (λ t. cond t (nat_le a d && ascends cs) (ascends 
 
 -- a character further in each state of a class; its tests come as truth values
 low_at : (a c : ℕ) (cs : List ℕ) (ends dashes : Bool) → (c == ascii "-") ≡ dashes → done AfterItem cs ≡ are_items_from true cs
-    → done (ClassDash a) cs ≡ (ascends (a ∷ ascii "-" ∷ before_closing cs) && goes_on_in_class cs)
-    → done (ClassLow c) cs ≡ (ascends (c ∷ before_closing cs) && goes_on_in_class cs)
+    → done (ClassDash a) cs ≡ (ascends (a ∷ ascii "-" ∷ before_bracket cs) && goes_on_in_class cs)
+    → done (ClassLow c) cs ≡ (ascends (c ∷ before_bracket cs) && goes_on_in_class cs)
     → goes cs (cond ends (Some AfterItem) (cond dashes (Some (ClassDash a)) (Some (ClassLow c))))
-    ≡ (ascends (a ∷ cond ends [] (c ∷ before_closing cs)) && cond ends (are_items_from true cs) (goes_on_in_class cs))
+    ≡ (ascends (a ∷ cond ends [] (c ∷ before_bracket cs)) && cond ends (are_items_from true cs) (goes_on_in_class cs))
 low_at a c cs true dashes e i f g = i
-low_at a c cs false true e i f g = f ∙ ap (λ t. t && goes_on_in_class cs) (sym (is_dash a c (before_closing cs) e))
-low_at a c cs false false e i f g = g ∙ ap (λ t. t && goes_on_in_class cs) (sym (not_dash a c (before_closing cs) e))
+low_at a c cs false true e i f g = f ∙ ap (λ t. t && goes_on_in_class cs) (sym (is_dash a c (before_bracket cs) e))
+low_at a c cs false false e i f g = g ∙ ap (λ t. t && goes_on_in_class cs) (sym (not_dash a c (before_bracket cs) e))
 
 descends : (a c : ℕ) → nat_lt c a ≡ true → nat_le a c ≡ false
 descends a c h = grind (arith, nat_tests)
@@ -42,32 +42,32 @@ keeps : (a c : ℕ) → nat_lt c a ≡ false → nat_le a c ≡ true
 keeps a c h = grind (arith, nat_tests)
 
 dash_at : (a c : ℕ) (cs : List ℕ) (ends less : Bool) → nat_lt c a ≡ less → done AfterItem cs ≡ are_items_from true cs
-    → done ClassNext cs ≡ (ascends (before_closing cs) && goes_on_in_class cs)
+    → done ClassNext cs ≡ (ascends (before_bracket cs) && goes_on_in_class cs)
     → goes cs (cond ends (Some AfterItem) (cond less None (Some ClassNext)))
-    ≡ (ascends (a ∷ ascii "-" ∷ cond ends [] (c ∷ before_closing cs)) && cond ends (are_items_from true cs) (goes_on_in_class cs))
+    ≡ (ascends (a ∷ ascii "-" ∷ cond ends [] (c ∷ before_bracket cs)) && cond ends (are_items_from true cs) (goes_on_in_class cs))
 dash_at a c cs true less e i f = i
-dash_at a c cs false true e i f = sym (ap (λ t. (t && ascends (before_closing cs)) && goes_on_in_class cs) (descends a c e))
-dash_at a c cs false false e i f = f ∙ sym (ap (λ t. (t && ascends (before_closing cs)) && goes_on_in_class cs) (keeps a c e))
+dash_at a c cs false true e i f = sym (ap (λ t. (t && ascends (before_bracket cs)) && goes_on_in_class cs) (descends a c e))
+dash_at a c cs false false e i f = f ∙ sym (ap (λ t. (t && ascends (before_bracket cs)) && goes_on_in_class cs) (keeps a c e))
 
 next_at : (c : ℕ) (cs : List ℕ) (ends : Bool) → done AfterItem cs ≡ are_items_from true cs
-    → done (ClassLow c) cs ≡ (ascends (c ∷ before_closing cs) && goes_on_in_class cs)
+    → done (ClassLow c) cs ≡ (ascends (c ∷ before_bracket cs) && goes_on_in_class cs)
     → goes cs (cond ends (Some AfterItem) (Some (ClassLow c)))
-    ≡ (ascends (cond ends [] (c ∷ before_closing cs)) && cond ends (are_items_from true cs) (goes_on_in_class cs))
+    ≡ (ascends (cond ends [] (c ∷ before_bracket cs)) && cond ends (are_items_from true cs) (goes_on_in_class cs))
 next_at c cs true i f = i
 next_at c cs false i f = f
 
 first_at : (c : ℕ) (cs : List ℕ) (ends : Bool)
-    → done (ClassLow c) cs ≡ (ascends (c ∷ before_closing cs) && goes_on_in_class cs)
+    → done (ClassLow c) cs ≡ (ascends (c ∷ before_bracket cs) && goes_on_in_class cs)
     → goes cs (cond ends None (Some (ClassLow c)))
-    ≡ (is_class (cond ends [] (c ∷ before_closing cs)) && cond ends (are_items_from true cs) (goes_on_in_class cs))
+    ≡ (is_class (cond ends [] (c ∷ before_bracket cs)) && cond ends (are_items_from true cs) (goes_on_in_class cs))
 first_at c cs true f = refl
 first_at c cs false f = f
 
 -- a character outside of a class, behind an item or not
 item_at : (has_item : Bool) (cs : List ℕ) (escapes opens marks : Bool) → done AfterItem cs ≡ are_items_from true cs
-    → done AfterEscape cs ≡ goes_on_escaped cs → done ClassFirst cs ≡ (is_class (before_closing cs) && goes_on_in_class cs)
+    → done AfterEscape cs ≡ goes_on_escaped cs → done ClassFirst cs ≡ (is_class (before_bracket cs) && goes_on_in_class cs)
     → goes cs (cond escapes (Some AfterEscape) (cond opens (Some ClassFirst) (cond marks (cond has_item (Some AfterItem) None) (Some AfterItem))))
-    ≡ cond escapes (goes_on_escaped cs) (cond opens (is_class (before_closing cs) && goes_on_in_class cs)
+    ≡ cond escapes (goes_on_escaped cs) (cond opens (is_class (before_bracket cs) && goes_on_in_class cs)
     (cond marks (has_item && are_items_from true cs) (are_items_from true cs)))
 item_at has_item cs true opens marks i e f = e
 item_at has_item cs false true marks i e f = f
@@ -79,10 +79,10 @@ item_at has_item cs false false false i e f = i
 abbrev IsRead : List ℕ → Type 0
 IsRead cs =
     (done AfterItem cs ≡ are_items_from true cs) × (done AfterEscape cs ≡ goes_on_escaped cs)
-    × (done ClassFirst cs ≡ (is_class (before_closing cs) && goes_on_in_class cs))
-    × (done ClassNext cs ≡ (ascends (before_closing cs) && goes_on_in_class cs))
-    × ((a : ℕ) → done (ClassLow a) cs ≡ (ascends (a ∷ before_closing cs) && goes_on_in_class cs))
-    × ((a : ℕ) → done (ClassDash a) cs ≡ (ascends (a ∷ ascii "-" ∷ before_closing cs) && goes_on_in_class cs))
+    × (done ClassFirst cs ≡ (is_class (before_bracket cs) && goes_on_in_class cs))
+    × (done ClassNext cs ≡ (ascends (before_bracket cs) && goes_on_in_class cs))
+    × ((a : ℕ) → done (ClassLow a) cs ≡ (ascends (a ∷ before_bracket cs) && goes_on_in_class cs))
+    × ((a : ℕ) → done (ClassDash a) cs ≡ (ascends (a ∷ ascii "-" ∷ before_bracket cs) && goes_on_in_class cs))
 
 is_read : (cs : List ℕ) → IsRead cs
 is_read [] = (refl, refl, refl, refl, (λ a. refl), (λ a. refl))

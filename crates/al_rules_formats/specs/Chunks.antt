@@ -6,14 +6,14 @@ use Rattle.al_base.specs.declared.faults.Fault.{Fault}
 use Rattle.al_base.specs.declared.faults.Span.{Span}
 use Rattle.al_base.specs.Limits.{longest_text}
 use Rattle.al_expr_grammar.specs.Chunks.{chunks_of}
-use Rattle.al_expr_grammar.specs.Tokens.{is_blank}
+use Rattle.al_expr_grammar.specs.Tokens.{is_blank_byte}
 use Rattle.al_rules_formats.specs.declared.chunks.Around.{Around}
 use Rattle.al_rules_formats.specs.declared.chunks.Around.TheVariants.{Blanks, Nothing}
 
 -- what may stand outside the braces: nothing, or blanks and breaks
 abbrev pub may_stand : Around → ℕ → Bool
 may_stand Nothing b = false
-may_stand Blanks b = is_blank b
+may_stand Blanks b = is_blank_byte b
 
 abbrev pub stands_alone : Around → List ℕ → Span → Bool
 stands_alone around text s = list_all (may_stand around) (take (s.start - 3) text) && list_all (may_stand around) (drop (s.end + 2) text)

@@ -19,9 +19,9 @@ abbrev pub is_mark : ℕ → Bool
 is_mark c = c == ascii "?" || c == ascii "+"
 
 -- the characters up to the first `]`
-abbrev pub before_closing : List ℕ → List ℕ
-before_closing [] = []
-before_closing (c ∷ cs) = if c == ascii "]" then [] else c ∷ before_closing cs
+abbrev pub before_bracket : List ℕ → List ℕ
+before_bracket [] = []
+before_bracket (c ∷ cs) = if c == ascii "]" then [] else c ∷ before_bracket cs
 
 -- no range descends
 abbrev pub ascends : List ℕ → Bool
@@ -38,7 +38,7 @@ abbrev mutual
   are_items_from has_item [] = has_item
   are_items_from has_item (c ∷ cs) =
       if c == ascii "\\" then goes_on_escaped cs
-      else if c == ascii "[" then is_class (before_closing cs) && goes_on_in_class cs
+      else if c == ascii "[" then is_class (before_bracket cs) && goes_on_in_class cs
       else if is_mark c then has_item && are_items_from true cs
       else are_items_from true cs
 

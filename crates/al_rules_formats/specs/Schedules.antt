@@ -23,8 +23,6 @@ pub record Range : Type 0 where
 abbrev pub range : ℕ → ℕ → List (List ℕ × ℕ) → Range
 range low high names = record { low = low; high = high; names = names }
 
--- An item has the numbers from its low one on, each step-th one, up to its high one.
-
 abbrev pub month_names : List (List ℕ × ℕ)
 month_names =
     (codes "jan", 1) ∷ (codes "feb", 2) ∷ (codes "mar", 3) ∷ (codes "apr", 4) ∷ (codes "may", 5) ∷ (codes "jun", 6)
@@ -35,17 +33,18 @@ day_names =
     (codes "sun", 0) ∷ (codes "mon", 1) ∷ (codes "tue", 2) ∷ (codes "wed", 3) ∷ (codes "thu", 4) ∷ (codes "fri", 5) ∷ (codes "sat", 6) ∷ []
 
 -- the number that digits write
-abbrev pub number_of : List ℕ → Option ℕ
-number_of bs = then_some (nat_lt 0 (length bs) && list_all is_ascii_digit bs) (decimal bs)
+abbrev pub written_number : List ℕ → Option ℕ
+written_number bs = then_some (nat_lt 0 (length bs) && list_all is_ascii_digit bs) (decimal bs)
 
 abbrev pub number_in : ℕ → ℕ → List ℕ → Option ℕ
-number_in low high bs = option_and_then (λ n. then_some (is_in_range low high n) n) (number_of bs)
+number_in low high bs = option_and_then (λ n. then_some (is_in_range low high n) n) (written_number bs)
 
 -- a value: a name without case, or a number in the range
-abbrev pub value_in : Range → List ℕ → Option ℕ
-value_in r bs = option_or (lookup (same_name bs) r.names) (number_in r.low r.high bs)
+abbrev pub schedule_value : Range → List ℕ → Option ℕ
+schedule_value r bs = option_or (lookup (same_name bs) r.names) (number_in r.low r.high bs)
 
--- the numbers from one value to another in steps, if they don't descend
+-- An item has the numbers from its low one on, each step-th one, up to its high one: here those from one value to another, if they don't
+-- descend.
 abbrev pub from_to : ℕ → ℕ → ℕ → Option Item
 from_to step a b = then_some (nat_le a b) (record { low = a; high = b; step = step })
 
@@ -57,8 +56,9 @@ from_value r (Some step) a = from_to step a r.high
 -- what is meant by `*`, by a value and by value-value
 abbrev pub head_of : Range → Option ℕ → List (List ℕ) → Option Item
 head_of r step (a ∷ []) =
-    if bytes_eq a (codes "*") then from_to (unwrap_or step 1) r.low r.high else option_and_then (from_value r step) (value_in r a)
-head_of r step (a ∷ b ∷ []) = option_and_then (λ m. option_and_then (from_to (unwrap_or step 1) m) (value_in r b)) (value_in r a)
+    if bytes_eq a (codes "*") then from_to (unwrap_or step 1) r.low r.high else option_and_then (from_value r step) (schedule_value r a)
+head_of r step (a ∷ b ∷ []) =
+    option_and_then (λ m. option_and_then (from_to (unwrap_or step 1) m) (schedule_value r b)) (schedule_value r a)
 head_of r step _ = None
 
 -- a head, perhaps with a slash and a step from 1 to the greatest value
@@ -71,16 +71,16 @@ abbrev pub item_of : Range → List ℕ → Option Item
 item_of r bs = item_parts r (pieces (ascii "/") bs)
 
 -- all of them, if each is there
-abbrev pub all_of : {X : Type 0} → List (Option X) → Option (List X)
-all_of [] = Some []
-all_of (x ∷ xs) = option_and_then (λ y. option_map (λ ys. y ∷ ys) (all_of xs)) x
+abbrev pub collect_all : {X : Type 0} → List (Option X) → Option (List X)
+collect_all [] = Some []
+collect_all (x ∷ xs) = option_and_then (λ y. option_map (λ ys. y ∷ ys) (collect_all xs)) x
 
 -- items separated by commas
-abbrev pub field_of : Range → List ℕ → Option (List Item)
-field_of r bs = all_of (map (item_of r) (pieces (ascii ",") bs))
+abbrev pub items_of_field : Range → List ℕ → Option (List Item)
+items_of_field r bs = collect_all (map (item_of r) (pieces (ascii ",") bs))
 
 abbrev pub is_field : Range → List ℕ → Bool
-is_field r bs = is_some (field_of r bs)
+is_field r bs = is_some (items_of_field r bs)
 
 -- the texts between spaces
 abbrev pub words : List ℕ → List (List ℕ)
@@ -90,7 +90,7 @@ words bs = filter (λ w. nat_lt 0 (length w)) (pieces (ascii " ") bs)
 abbrev pub minutes_in : List (List ℕ) → Option (List Item)
 minutes_in (m ∷ h ∷ d ∷ o ∷ w ∷ []) =
     if is_field (range 0 23 []) h && is_field (range 1 31 []) d && is_field (range 1 12 month_names) o && is_field (range 0 6 day_names) w
-    then field_of (range 0 59 []) m else None
+    then items_of_field (range 0 59 []) m else None
 minutes_in _ = None
 
 abbrev pub schedule_of : List ℕ → Option (List Item)

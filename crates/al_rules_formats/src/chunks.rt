@@ -41,7 +41,7 @@ fn may_all(around: Around, bytes: &[u8]) -> bool
 }
 
 /// The first bytes of a text.
-fn front(bytes: &[u8], count: usize) -> &[u8]
+fn prefix(bytes: &[u8], count: usize) -> &[u8]
     ensures { result.now ≡ take count bytes.now }
 {
     if count < bytes.len() {
@@ -52,7 +52,7 @@ fn front(bytes: &[u8], count: usize) -> &[u8]
 }
 
 /// What stands behind the first bytes of a text.
-fn back(bytes: &[u8], count: usize) -> &[u8]
+fn suffix(bytes: &[u8], count: usize) -> &[u8]
     ensures { result.now ≡ drop count bytes.now }
 {
     if count < bytes.len() {
@@ -68,8 +68,8 @@ fn stands_alone(around: Around, bytes: &[u8], content: Span) -> bool
 {
     may_all(
         around,
-        front(bytes, (content.start as usize).saturating_sub(3)),
-    ) && may_all(around, back(bytes, content.end as usize + 2))
+        prefix(bytes, (content.start as usize).saturating_sub(3)),
+    ) && may_all(around, suffix(bytes, content.end as usize + 2))
 }
 
 /// A text that has chunks.

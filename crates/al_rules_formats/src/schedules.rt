@@ -1,11 +1,11 @@
 //! Schedules: five fields, each a set of numbers (GitHub, "Events that trigger workflows", `schedule`).
 
-ghost use Rattle.al_rules_formats.specs.Schedules.{all_of, are_close as close, field_of, from_to as numbers_from_to, head_of};
+ghost use Rattle.al_rules_formats.specs.Schedules.{are_close as close, collect_all, from_to as numbers_from_to, head_of, items_of_field};
 ghost use Rattle.al_rules_formats.specs.Schedules.{is_field as field_is_right, is_just_below, is_too_often as too_often};
 ghost use Rattle.al_rules_formats.specs.Schedules.{item_of, minute_set};
-ghost use Rattle.al_rules_formats.specs.Schedules.{day_names, minutes_in, month_names, number_in as in_range_number, number_of};
+ghost use Rattle.al_rules_formats.specs.Schedules.{day_names, minutes_in, month_names, number_in as in_range_number, written_number};
 ghost use Rattle.al_rules_formats.specs.Schedules.{picks as item_picks};
-ghost use Rattle.al_rules_formats.specs.Schedules.{range, schedule_of, value_in, words};
+ghost use Rattle.al_rules_formats.specs.Schedules.{range, schedule_of, schedule_value, words};
 ghost use Rattle.al_rules_formats.specs.Texts.{pieces};
 ghost use Rattle.al_base.specs.Ascii.{ascii};
 ghost use Rattle.al_rules_formats.specs.Private.Views.{least_thousand, range_of, range_name};
@@ -151,7 +151,7 @@ const WEEKDAYS: Range = Range {
 
 /// The number that digits write, or 1,000 where they write a greater one.
 fn number(text: &[u8]) -> Option<u32>
-    ensures { result ≡ option_map least_thousand (number_of text.now) }
+    ensures { result ≡ option_map least_thousand (written_number text.now) }
 {
     if text.is_empty() {
         return None;
@@ -204,7 +204,7 @@ fn named_number(names: &[Name], text: &[u8]) -> Option<u32>
 /// The number that a value of a field is.
 fn value(range: Range, text: &[u8]) -> Option<u32>
     requires { range.high < 1000 }
-    ensures { result ≡ value_in (range_of range) text.now }
+    ensures { result ≡ schedule_value (range_of range) text.now }
 {
     match named_number(range.names, text) {
         Some(number) => Some(number),
@@ -285,7 +285,7 @@ fn item_at(alloc: Global, range: Range, text: &[u8]) -> Result<Option<Item>, All
 /// The items of a field, if each is right.
 fn field(alloc: Global, range: Range, text: &[u8]) -> Result<Option<Vec<Item>>, AllocError>
     requires { range.high < 1000 }
-    ensures { IfOk result (λ r. option_map (λ v. v.items) r ≡ field_of (range_of range) text.now) }
+    ensures { IfOk result (λ r. option_map (λ v. v.items) r ≡ items_of_field (range_of range) text.now) }
 {
     let parts = split(alloc, text, b',')?;
     items_of(alloc, range, parts.as_slice())
@@ -296,7 +296,7 @@ fn items_of(alloc: Global, range: Range, parts: &[&[u8]]) -> Result<Option<Vec<I
     requires { range.high < 1000 }
     ensures { IfOk result
         (λ r. option_map (λ v. v.items) r
-        ≡ all_of (map (item_of (range_of range)) (map (λ p. p.now) parts.now))) }
+        ≡ collect_all (map (item_of (range_of range)) (map (λ p. p.now) parts.now))) }
 {
     let mut items = Vec::new(alloc);
     for part in parts {

@@ -4,7 +4,7 @@ ghost use Rattle.al_rules_formats.specs.Patterns.{is_right};
 ghost use Rattle.al_rules_formats.specs.Rows.Schedules.{every, frequent_schedules, right_schedules};
 ghost use Rattle.al_rules_formats.specs.Rows.Schedules.{runs_seldom, runs_too_often, wrong_schedules};
 ghost use Rattle.al_base.specs.Ascii.{ascii};
-ghost use Rattle.al_rules_formats.specs.Schedules.{minute_set, number_of, schedule_of};
+ghost use Rattle.al_rules_formats.specs.Schedules.{minute_set, schedule_of, written_number};
 ghost use Rattle.al_rules_formats.specs.Texts.{pieces};
 ghost use Rattle.al_rules_formats.specs.declared.patterns.Filter.TheVariants.{Names, Paths};
 ghost use Rattle.std.specs.List.{list_all, list_any};
@@ -27,10 +27,10 @@ pub fn schedule_rows()
 
 /// Numbers, pieces and minutes of some texts and items. Does nothing.
 pub fn part_rows()
-    ensures zeros { number_of (codes "007") ≡ Some 7 }
-    ensures great { number_of (codes "4294967296") ≡ Some 4294967296 }
-    ensures no_digit { number_of [] ≡ None }
-    ensures no_number { number_of (codes "1x2") ≡ None }
+    ensures zeros { written_number (codes "007") ≡ Some 7 }
+    ensures great { written_number (codes "4294967296") ≡ Some 4294967296 }
+    ensures no_digit { written_number [] ≡ None }
+    ensures no_number { written_number (codes "1x2") ≡ None }
     ensures pieces { pieces (ascii ",") (codes "1,,25,") ≡ codes "1" ∷ [] ∷ codes "25" ∷ [] ∷ [] }
     ensures no_separator { pieces (ascii ",") [] ≡ [] ∷ [] }
     ensures minutes { minute_set (every 3 50 20 ∷ every 23 23 1 ∷ []) ≡ 3 ∷ 23 ∷ 43 ∷ [] }

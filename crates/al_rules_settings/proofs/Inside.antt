@@ -16,10 +16,10 @@ use Rattle.al_yaml_tree.specs.Access.{entries, mapping_in, nodes, scalar_in, seq
 use Rattle.al_yaml_tree.specs.Node.{Node, Nodes, Entries, scalar, sequence, mapping, no_nodes, item, no_entries, entry, span_of}
 use Rattle.al_yaml_tree.specs.Spans.{AreLaid, EntriesLaid, IsLaid}
 use Rattle.al_tree.proofs.Lists.{firsts_kept}
-use Rattle.al_tree.specs.Names.{among}
+use Rattle.al_base.specs.Names.{among}
 use Rattle.al_tree.specs.Faults.{is_key, is_null, value_in}
-use Rattle.al_tree.specs.Values.{entries_at, entries_in, firsts_by, items_at, items_in, key_at, text_at, text_below, text_in, texts_at, texts_in, value_at, value_below}
-use Rattle.al_rules_settings.specs.Words.{Named, about, fault, of_key, unless}
+use Rattle.al_tree.specs.Values.{entries_at, entries_in, firsts_by, items_at, items_in, key_at, text_at_key, text_below, text_in, texts_at, texts_in, value_at, value_below}
+use Rattle.al_rules_settings.specs.Words.{Named, about, of_key, rule_fault, unless}
 
 abbrev pub Lies : ℕ → Fault → Type 0
 Lies size f = LiesIn size f.span
@@ -95,7 +95,7 @@ module _ (size : ℕ) where
       and_some (λ s. Text size (s, span_of n)) (Text size) (λ s. then_some (not (is_null s)) (s, span_of n)) (λ s t. either_some (is_null s) (s, span_of n) t)
       (scalar_in n) (scalar_fine n f)
 
-  pub text_at_fine : (k : List ℕ) (n : Node) → Fine size n → IfSome (text_at k n) (Text size)
+  pub text_at_fine : (k : List ℕ) (n : Node) → Fine size n → IfSome (text_at_key k n) (Text size)
   text_at_fine k n f = and_some (Fine size) (Text size) text_in text_fine (value_at k n) (value_fine k n f)
 
   pub text_below_fine : (ks : List (List ℕ)) (n : Node) → Fine size n → IfSome (text_below ks n) (Text size)
@@ -129,7 +129,7 @@ module _ (size : ℕ) where
 
   -- ---- faults that name a text
 
-  pub one_lies : (rule : RuleCode) (at : Span) (texts : List (List ℕ)) → LiesIn size at → AllByRecursion (Lies size) (fault rule at texts ∷ [])
+  pub one_lies : (rule : RuleCode) (at : Span) (texts : List (List ℕ)) → LiesIn size at → AllByRecursion (Lies size) (rule_fault rule at texts ∷ [])
   one_lies rule at texts p = (p, tt)
 
   pub about_lies : (rule : RuleCode) (n : Named) → NameLies n → AllByRecursion (Lies size) (about rule n)

@@ -10,14 +10,14 @@ use Rattle.al_base.specs.declared.faults.Span.{Span}
 use Rattle.al_rules_formats.specs.Names.{is_id, is_variable}
 use Rattle.al_scalar.specs.Scalar.{Scalar, text_of}
 use Rattle.al_yaml_tree.specs.Node.{Node, span_of}
-use Rattle.al_tree.specs.Names.{among}
+use Rattle.al_base.specs.Names.{among}
 use Rattle.al_tree.specs.Values.{entries_at, entries_in, items_at, text_in, value_at, value_below}
 use Rattle.al_rules_settings.specs.Ids.{id_faults, ids_faults, repeated_faults}
 use Rattle.al_rules_settings.specs.Matrix.{exclude_faults, exclude_keys, is_dynamic, is_mapping, is_null_node, is_row_value, matrix_faults, row_faults, row_names, shape_faults}
 use Rattle.al_rules_settings.specs.Names.{permissions, scope_values, whole_values}
 use Rattle.al_rules_settings.specs.Settings.{all_permissions_faults, condition_faults, credentials_faults, env_faults, is_always_true}
 use Rattle.al_rules_settings.specs.Settings.{is_password, is_shell, password_faults, permission_faults, permissions_faults, script_faults}
-use Rattle.al_rules_settings.specs.Settings.{shell_faults, value_faults, variable_faults}
+use Rattle.al_rules_settings.specs.Settings.{permission_value_faults, shell_faults, variable_faults}
 use Rattle.al_rules_settings.specs.Words.{Named, of_key, of_scalar, unless, unless_among}
 use Rattle.al_rules_settings.proofs.Places.{commands_lie}
 use Rattle.al_base.proofs.Elements.{each_as, each_of, map_or}
@@ -72,19 +72,19 @@ module _ (size : ℕ) where
   shell_lies o h = map_or (Text size) (Lies size) (λ s. unless (is_shell (of_scalar s).text) UnknownShell (of_scalar s))
       (λ s t. unless_lies size (is_shell (text_of s.0)) UnknownShell (of_scalar s) t.place) o h
 
-  value_lies : (values : List (List ℕ)) (n : Node) → Fine size n → Are size (value_faults values n)
+  value_lies : (values : List (List ℕ)) (n : Node) → Fine size n → Are size (permission_value_faults values n)
   value_lies values n f =
       map_or (Text size) (Lies size) (λ s. unless_among WrongPermission values (of_scalar s))
       (λ s t. unless_lies size (among values (text_of s.0)) WrongPermission (of_scalar s) t.place) (text_in n) (text_fine size n f)
 
   permission_lies : (m : Node × Node) → Pair size m → Are size (permission_faults m)
   permission_lies m p =
-      both size (unless_among UnknownPermission permissions (of_key m.0)) (value_faults scope_values m.1)
+      both size (unless_among UnknownPermission permissions (of_key m.0)) (permission_value_faults scope_values m.1)
       (unless_lies size (among permissions (of_key m.0).text) UnknownPermission (of_key m.0) (span_lies size m.0 p.0)) (value_lies scope_values m.1 p.1)
 
   all_permissions_lie : (n : Node) → Fine size n → Are size (all_permissions_faults n)
   all_permissions_lie n f =
-      both size (value_faults whole_values n) (flat_map permission_faults (entries_in n)) (value_lies whole_values n f)
+      both size (permission_value_faults whole_values n) (flat_map permission_faults (entries_in n)) (value_lies whole_values n f)
       (each_of (Pair size) (Lies size) permission_faults permission_lies (entries_in n) (entries_in_fine size n f))
 
   pub permissions_lie : (n : Node) → Fine size n → Are size (permissions_faults n)

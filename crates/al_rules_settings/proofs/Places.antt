@@ -13,8 +13,7 @@ use Rattle.al_base.specs.declared.faults.Span.{Span}
 use Rattle.al_scalar.proofs.PlacedLemmas.{offset-order}
 use Rattle.al_scalar.specs.Line.{Cell}
 use Rattle.al_scalar.specs.Offsets.{AreBefore, reach}
-use Rattle.al_scalar.specs.Private.Located.{offset_or}
-use Rattle.al_scalar.specs.Scalar.{Scalar, offset_of, text_of}
+use Rattle.al_scalar.specs.Scalar.{Scalar, offset_of, offset_or, text_of}
 use Rattle.al_rules_settings.specs.Commands.{command_fault, command_faults, commands, one_command, part_span}
 use Rattle.al_base.proofs.Elements.{each_as, each_of}
 use Rattle.al_rules_settings.proofs.Inside.{Lies, Text}

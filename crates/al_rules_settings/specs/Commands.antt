@@ -6,15 +6,15 @@ use Rattle.al_base.specs.declared.codes.RuleCode.TheVariants.{DeprecatedCommand}
 use Rattle.al_base.specs.declared.faults.Fault.{Fault}
 use Rattle.al_base.specs.declared.faults.Span.{Span}
 use Rattle.al_scalar.specs.Scalar.{Scalar, offset_of, text_of}
-use Rattle.al_rules_settings.specs.Words.{fault}
+use Rattle.al_rules_settings.specs.Words.{rule_fault}
 
 -- the place behind one; a file has no place 2^32 - 1
-abbrev pub behind : ℕ → ℕ
-behind at = if nat_lt at (2 ^ 32 - 1) then at + 1 else at
+abbrev pub place_behind : ℕ → ℕ
+place_behind at = if nat_lt at (2 ^ 32 - 1) then at + 1 else at
 
 -- where the bytes from i on, n of them, stand in the file
 abbrev pub part_span : Scalar → ℕ → ℕ → Span
-part_span s i n = record { start = offset_of s i; end = behind (offset_of s (i + n - 1)) }
+part_span s i n = record { start = offset_of s i; end = place_behind (offset_of s (i + n - 1)) }
 
 -- a command: what is looked for, and its name
 abbrev pub commands : List (List ℕ × List ℕ)
@@ -23,7 +23,7 @@ commands =
     ∷ (codes "::set-env name=", codes "set-env") ∷ (codes "::add-path::", codes "add-path") ∷ []
 
 abbrev pub command_fault : Scalar → List ℕ → List ℕ → ℕ → Fault
-command_fault s needle name i = fault DeprecatedCommand (part_span s i (length needle)) (name ∷ [])
+command_fault s needle name i = rule_fault DeprecatedCommand (part_span s i (length needle)) (name ∷ [])
 
 -- each place of one command from the left, without those that overlap the last one taken
 abbrev pub one_command : Scalar → List ℕ × List ℕ → List Fault

@@ -13,7 +13,7 @@ use Rattle.al_tree.specs.Faults.{has_chunk, is_null}
 use Rattle.al_tree.specs.Keys.{keys_in}
 use Rattle.al_tree.specs.Names.{is_combination_key}
 use Rattle.al_tree.specs.Values.{entries_in, items_at}
-use Rattle.al_rules_settings.specs.Words.{Named, fault, of_key, unless}
+use Rattle.al_rules_settings.specs.Words.{Named, of_key, rule_fault, unless}
 
 abbrev pub is_null_node : Node → Bool
 is_null_node n = option_map_or is_null (scalar_in n) false
@@ -37,7 +37,7 @@ is_row_value k n = is_null_node n || is_dynamic n || (if is_combination_key k th
 
 -- a wrong shape
 abbrev pub shape_faults : Bool → Span → List ℕ → List Fault
-shape_faults right at name = if right then [] else fault WrongMatrix at (name ∷ []) ∷ []
+shape_faults right at name = if right then [] else rule_fault WrongMatrix at (name ∷ []) ∷ []
 
 abbrev pub row_faults : Node × Node → List Fault
 row_faults m = shape_faults (is_row_value (of_key m.0).text m.1) (span_of m.1) (of_key m.0).text

@@ -10,7 +10,7 @@ use Rattle.al_scalar.specs.Scalar.{Scalar, text_of}
 use Rattle.al_yaml_tree.specs.Access.{scalar_in}
 use Rattle.al_yaml_tree.specs.Node.{Node, span_of}
 use Rattle.al_tree.specs.Faults.{has_chunk, is_null}
-use Rattle.al_tree.specs.Names.{among}
+use Rattle.al_base.specs.Names.{among}
 use Rattle.al_tree.specs.Values.{value_at, value_below, text_in, entries_in, entries_at}
 use Rattle.al_rules_formats.specs.Chunks.{is_lone_chunk}
 use Rattle.al_rules_formats.specs.Names.{is_variable}
@@ -18,7 +18,7 @@ use Rattle.al_rules_formats.specs.Texts.{has_part}
 use Rattle.al_rules_formats.specs.declared.chunks.Around.TheVariants.{Blanks, Nothing}
 use Rattle.al_rules_settings.specs.Commands.{command_faults}
 use Rattle.al_rules_settings.specs.Names.{shells, permissions, scope_values, whole_values}
-use Rattle.al_rules_settings.specs.Words.{fault, of_key, of_scalar, unless, unless_among}
+use Rattle.al_rules_settings.specs.Words.{of_key, of_scalar, rule_fault, unless, unless_among}
 
 -- a shell, one with an expression, or a command line with a place for the script
 abbrev pub is_shell : List ℕ → Bool
@@ -28,14 +28,14 @@ abbrev pub shell_faults : Option (Scalar × Span) → List Fault
 shell_faults shell = option_map_or (λ s. unless (is_shell (of_scalar s).text) UnknownShell (of_scalar s)) shell []
 
 -- an unknown permission, and a wrong value of one
-abbrev pub value_faults : List (List ℕ) → Node → List Fault
-value_faults values n = option_map_or (λ s. unless_among WrongPermission values (of_scalar s)) (text_in n) []
+abbrev pub permission_value_faults : List (List ℕ) → Node → List Fault
+permission_value_faults values n = option_map_or (λ s. unless_among WrongPermission values (of_scalar s)) (text_in n) []
 
 abbrev pub permission_faults : Node × Node → List Fault
-permission_faults m = unless_among UnknownPermission permissions (of_key m.0) ++ value_faults scope_values m.1
+permission_faults m = unless_among UnknownPermission permissions (of_key m.0) ++ permission_value_faults scope_values m.1
 
 abbrev pub all_permissions_faults : Node → List Fault
-all_permissions_faults n = value_faults whole_values n ++ flat_map permission_faults (entries_in n)
+all_permissions_faults n = permission_value_faults whole_values n ++ flat_map permission_faults (entries_in n)
 
 abbrev pub permissions_faults : Node → List Fault
 permissions_faults section = option_map_or all_permissions_faults (value_at (codes "permissions") section) []
@@ -52,7 +52,7 @@ abbrev pub is_password : Node → Bool
 is_password n = option_map_or (λ s. is_null s || is_lone_chunk Nothing (text_of s)) (scalar_in n) false
 
 abbrev pub password_faults : Node → List Fault
-password_faults n = if is_password n then [] else fault PasswordNotExpression (span_of n) [] ∷ []
+password_faults n = if is_password n then [] else rule_fault PasswordNotExpression (span_of n) [] ∷ []
 
 -- of a container or a service
 abbrev pub credentials_faults : Node → List Fault
@@ -67,4 +67,5 @@ abbrev pub is_always_true : List ℕ → Bool
 is_always_true text = has_chunk text && not (is_lone_chunk Blanks text)
 
 abbrev pub condition_faults : Option (Scalar × Span) → List Fault
-condition_faults condition = option_map_or (λ s. if is_always_true (text_of s.0) then fault AlwaysTrue s.1 [] ∷ [] else []) condition []
+condition_faults condition =
+    option_map_or (λ s. if is_always_true (text_of s.0) then rule_fault AlwaysTrue s.1 [] ∷ [] else []) condition []

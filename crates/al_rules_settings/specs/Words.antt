@@ -8,7 +8,7 @@ use Rattle.al_base.specs.declared.faults.Span.{Span}
 use Rattle.al_scalar.specs.Scalar.{Scalar, text_of}
 use Rattle.al_yaml_tree.specs.Node.{Node, span_of}
 use Rattle.al_tree.specs.Keys.{key_text}
-use Rattle.al_tree.specs.Names.{among}
+use Rattle.al_base.specs.Names.{among}
 
 -- a text of a file, and where it stands
 pub record Named : Type 0 where
@@ -22,12 +22,12 @@ abbrev pub of_scalar : Scalar × Span → Named
 of_scalar s = record { text = text_of s.0; span = s.1 }
 
 -- A fault that names these texts. Its arguments are UTF-8: bytes that aren't, of which reading a file gives none, are U+FFFD.
-abbrev pub fault : RuleCode → Span → List (List ℕ) → Fault
-fault rule at texts = record { span = at; code = code.Rule rule; args = map utf8_lossy texts }
+abbrev pub rule_fault : RuleCode → Span → List (List ℕ) → Fault
+rule_fault rule at texts = record { span = at; code = code.Rule rule; args = map utf8_lossy texts }
 
 -- the fault of a text, which names it
 abbrev pub about : RuleCode → Named → List Fault
-about rule n = fault rule n.span (n.text ∷ []) ∷ []
+about rule n = rule_fault rule n.span (n.text ∷ []) ∷ []
 
 -- a text that isn't right
 abbrev pub unless : Bool → RuleCode → Named → List Fault

@@ -5,8 +5,8 @@ ghost use Rattle.al_rules_settings.specs.Words.{about, of_key, unless, unless_am
 ghost use Rattle.al_yaml_tree.specs.View.{view};
 ghost use Rattle.std.specs.Prelude.{◌≡◌, ◌++◌, map, OnOk};
 
-use al_base::{Code, FaultSink, RuleCode, Span};
-use al_tree::{ScalarNode, is_among, key_text};
+use al_base::{Code, FaultSink, RuleCode, Span, is_among};
+use al_tree::{ScalarNode, key_text};
 use al_yaml_tree::Node;
 use std::alloc::AllocError;
 

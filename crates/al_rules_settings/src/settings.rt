@@ -5,7 +5,8 @@ ghost use Rattle.al_rules_formats.specs.declared.chunks.Around.TheVariants.{Noth
 ghost use Rattle.al_rules_settings.specs.Settings.{all_permissions_faults, condition_faults, credentials_faults, env_faults};
 ghost use Rattle.al_rules_settings.specs.Settings.{is_always_true as always_true, is_password as password};
 ghost use Rattle.al_rules_settings.specs.Settings.{is_shell as shell, password_faults};
-ghost use Rattle.al_rules_settings.specs.Settings.{permission_faults, permissions_faults, script_faults, shell_faults, value_faults};
+ghost use Rattle.al_rules_settings.specs.Settings.{permission_faults, permission_value_faults, permissions_faults};
+ghost use Rattle.al_rules_settings.specs.Settings.{script_faults, shell_faults};
 ghost use Rattle.al_rules_settings.specs.Settings.{variable_faults};
 ghost use Rattle.al_scalar.specs.Scalar.{text_of};
 ghost use Rattle.al_tree.specs.Faults.{is_null};
@@ -17,10 +18,10 @@ ghost use Rattle.std.specs.Prelude.{◌≡◌, ◌++◌, ◌||◌, [], ◌∷◌
 use crate::commands::check_commands;
 use crate::names::{PERMISSIONS, SCOPE_VALUES, SHELLS, WHOLE_VALUES};
 use crate::reports::{named_key, named_text, report_unless, report_unless_among};
-use al_base::{Code, FaultSink, RuleCode};
+use al_base::{Code, FaultSink, RuleCode, is_among};
 use al_rules_formats::{Around, has_part, is_lone_chunk, is_variable};
 use al_scalar::Scalar;
-use al_tree::{Member, ScalarNode, contains_chunk, is_among, is_null_scalar, members, text, value};
+use al_tree::{Member, ScalarNode, contains_chunk, is_null_scalar, members, text, value};
 use al_yaml_tree::Node;
 use std::alloc::{AllocError, Global};
 
@@ -51,7 +52,7 @@ pub fn check_shell(shell: Option<ScalarNode<'_>>, faults: &mut FaultSink) -> Res
 /// Adds the fault of a value of permissions that isn't one of these.
 fn check_value(values: &[&str], node: &Node, faults: &mut FaultSink) -> Result<(), AllocError>
     ensures { OnOk result (faults.new ≡ faults.old
-        ++ value_faults (map (λ n. n.now) values.now) (view node.now)) }
+        ++ permission_value_faults (map (λ n. n.now) values.now) (view node.now)) }
 {
     match text(node) {
         None => Ok(()),

@@ -2,16 +2,17 @@
 use Rattle.std.proofs.Common.{◌≡◌, ℕ, ◌+◌, ◌-◌, ◌<◌, ◌≤◌, List, [], ◌∷◌, ◌++◌, drop, refl, sym, subst, arith, Bool, true, false, not}
 use Rattle.std.proofs.Common.{if◌then◌else◌, ◌&&◌, ◌||◌, nat_le, Option, Some, None, Result, Ok, Err}
 use Rattle.std.specs.Option.{is_none, is_some, unwrap_or}
-use Rattle.al_base.specs.Ascii.{ascii}
+use Rattle.al_base.specs.Ascii.{ascii, is_sign}
 use Rattle.al_scalar.specs.Line.{Cell, Line, place, start, is_empty, begins, after_blanks, begins_blank, is_comment, indent, is_all_blank}
-use Rattle.al_scalar.specs.Block.{header_end, header, is_digit, is_sign}
+use Rattle.al_scalar.specs.Block.{header_end, header, is_digit}
 use Rattle.al_scalar.specs.declared.header.Chomping.{Chomping}
 use Rattle.al_scalar.specs.declared.header.Chomping.TheVariants.{Strip, Clip, Keep}
 use Rattle.al_scalar.specs.declared.header.Header.{Header}
 use Rattle.al_scalar.specs.Block.{chomping_of, content_indent, BlockLine, Rows, row_of, at_end, with_row, rows_at, final_breaks}
 use Rattle.al_scalar.specs.Block.{own_break, between_rows, joint, text_after, last_end, rows_end, block_scalar}
 use Rattle.al_scalar.specs.Offsets.{AreBefore, AreClimbing, IsTail, AreLines}
-use Rattle.al_scalar.specs.Taken.{Fault, Taken, ◌>>=◌, feeds}
+use Rattle.al_scalar.specs.Taken.{Taken, ◌>>=◌, feeds}
+use Rattle.al_scalar.specs.declared.faults.FaultAt.{FaultAt}
 use Rattle.al_scalar.proofs.OffsetLemmas.{IsFrom, choose, from-none, from-one, from-join, from-wider, from-order, climbing-order}
 use Rattle.al_scalar.proofs.OffsetLemmas.{climbing-lower, climbing-place, climbing-drop, climbing-from, tail-lines, feeds-join}
 
@@ -190,7 +191,7 @@ text-before is_literal k low mid next high last empties at (r ∷ rs) h rows a =
 
 -- ---- the header
 
-abbrev EndsBefore : ℕ → Result Header Fault → Type 0
+abbrev EndsBefore : ℕ → Result Header FaultAt → Type 0
 EndsBefore end (Ok h) = h.end ≤ end
 EndsBefore end (Err e) = Unit {0}
 
@@ -213,7 +214,7 @@ behind-indicator q low end (c ∷ cs) e h = h.1
 
 -- ---- the scalar
 
-abbrev pub IsBlockTaken : ℕ → Result Taken Fault → Type 0
+abbrev pub IsBlockTaken : ℕ → Result Taken FaultAt → Type 0
 IsBlockTaken low (Ok t) = IsFrom low (start t.left) t.text × AreBefore t.end t.text
 IsBlockTaken low (Err e) = Unit {0}
 
@@ -221,7 +222,7 @@ lines-lower : (low low' : ℕ) (ls : List Line) → low' ≤ low → AreLines lo
 lines-lower low low' [] a h = h
 lines-lower low low' (l ∷ ls) a h = (climbing-lower low low' l.end l.text a h.0, h.1)
 
-block-by : (is_literal : Bool) (within low : ℕ) (l : Line) (ls : List Line) → low ≤ l.end → IsTail l.end l.last ls → (r : Result Header Fault) → EndsBefore l.end r
+block-by : (is_literal : Bool) (within low : ℕ) (l : Line) (ls : List Line) → low ≤ l.end → IsTail l.end l.last ls → (r : Result Header FaultAt) → EndsBefore l.end r
     → IsBlockTaken low (r >>= (λ h.
     let m = content_indent h.digit within ls in
     let rs = (if l.last then record { rows = []; left = at_end l } else rows_at m (is_some h.digit) ls) in

@@ -1,7 +1,8 @@
 -- A block scalar from its indicator on: the header, then the rows.
 use Rattle.std.proofs.Common.{◌≡◌, ℕ, ◌+◌, List, [], ◌∷◌, length, drop, refl, sym, ap, ◌∙◌, Bool, true, false, cond, Option, None, Result, Ok, Err}
 use Rattle.al_scalar.specs.Line.{Cell, Line, place}
-use Rattle.al_scalar.specs.Taken.{Fault, Taken, ◌>>=◌, with_text}
+use Rattle.al_scalar.specs.Taken.{Taken, ◌>>=◌, with_text}
+use Rattle.al_scalar.specs.declared.faults.FaultAt.{FaultAt}
 use Rattle.al_scalar.specs.Places.{first_text, first_end, lines_at}
 use Rattle.al_scalar.specs.LineEnds.{broken_line, SameLine, first_last, later}
 use Rattle.al_scalar.specs.Block.{Rows, header, content_indent, rows_at, block_scalar}
@@ -17,7 +18,7 @@ rows_behind within xs h =
     cond (first_last xs) (record { rows = []; left = record { text = []; end = first_end xs; last = true } ∷ [] })
     (rows_at (content_indent h.digit within (later xs)) (is_said h.digit) (later xs))
 
-abbrev pub body : Bool → ℕ → List Line → Header → Result Taken Fault
+abbrev pub body : Bool → ℕ → List Line → Header → Result Taken FaultAt
 body lit within xs h = Ok (of_rows lit h.chomping None [] h.end (rows_behind within xs h))
 
 block-body : (lit : Bool) (within : ℕ) (xs : List Line) → has_line xs ≡ true
@@ -25,7 +26,7 @@ block-body : (lit : Bool) (within : ℕ) (xs : List Line) → has_line xs ≡ tr
 block-body lit within [] h = cc
 block-body lit within (l ∷ ls) h = refl
 
-module _ (lit : Bool) (within : ℕ) (bytes : List ℕ) (at : ℕ) (here : IsInside bytes at) (end : ℕ) (given : Result Header Fault)
+module _ (lit : Bool) (within : ℕ) (bytes : List ℕ) (at : ℕ) (here : IsInside bytes at) (end : ℕ) (given : Result Header FaultAt)
     (e : header None None (at + 1) (first_text (lines_at bytes (at + 1))) ≡ given) where
   block-given : block_scalar lit within (lines_at bytes at) ≡ (given >>= body lit within (lines_at bytes at))
   block-given =
@@ -34,7 +35,7 @@ module _ (lit : Bool) (within : ℕ) (bytes : List ℕ) (at : ℕ) (here : IsIns
       ∙ ap (λ t. header None None (place t (first_end xs) + 1) (drop 1 t) >>= body lit within xs) (cell_at bytes at here.inside here.not_feed here.not_return).text
       ∙ ap (λ r. r >>= body lit within xs) e
 
-  pub block-fault : (f : Fault) → given ≡ Err f → block_scalar lit within (lines_at bytes at) ≡ Err f
+  pub block-fault : (f : FaultAt) → given ≡ Err f → block_scalar lit within (lines_at bytes at) ≡ Err f
   block-fault f g = block-given ∙ ap (λ r. r >>= body lit within (lines_at bytes at)) g
 
   first-same : SameLine (lines_at bytes at) (lines_at bytes (at + 1))

@@ -4,15 +4,13 @@ use Rattle.std.proofs.lemmas.Grind.{common_steps}
 use Rattle.std.specs.Char.{is_ascii_digit}
 use Rattle.std.specs.List.{list_all}
 use Rattle.al_base.specs.FirstBytes.{begins_with, first_is}
-use Rattle.al_scalar.specs.Class.{is_one_of, nulls, booleans, infinities, not_numbers, is_digit_in, are_digits, after_digits, without_sign}
+use Rattle.al_base.specs.Names.{among}
+use Rattle.al_scalar.specs.Class.{nulls, booleans, infinities, not_numbers, is_digit_in, are_digits, after_digits, without_sign}
 use Rattle.al_scalar.specs.Class.{is_prefixed, is_integer, is_exponent, is_fraction, is_pure_fraction, is_decimal, is_float, class_of}
 use Rattle.al_scalar.specs.Private.Values.{begins_value}
 use Rattle.al_scalar.specs.declared.class.Base.{Base}
 use Rattle.al_scalar.specs.declared.class.Base.TheVariants as base
 use Rattle.al_scalar.specs.declared.styles.Class.TheVariants as class
-
-turned : (a b : ℕ) → (a == b) ≡ false → (b == a) ≡ false
-turned a b h = grind (arith, common_steps, h)
 
 neither : (x y : Bool) → x ≡ false → y ≡ false → (x || y) ≡ false
 neither x y e f = ap (λ v. v || y) e ∙ f
@@ -21,9 +19,9 @@ neither x y e f = ap (λ v. v || y) e ∙ f
 abbrev NoneBegins : ℕ → List (List ℕ) → Type 0
 NoneBegins b [] = Unit {0}
 NoneBegins b ([] ∷ words) = NoneBegins b words
-NoneBegins b ((a ∷ more) ∷ words) = ((a == b) ≡ false) × NoneBegins b words
+NoneBegins b ((a ∷ more) ∷ words) = ((b == a) ≡ false) × NoneBegins b words
 
-no-word : (b : ℕ) (bs : List ℕ) (words : List (List ℕ)) → NoneBegins b words → is_one_of words (b ∷ bs) ≡ false
+no-word : (b : ℕ) (bs : List ℕ) (words : List (List ℕ)) → NoneBegins b words → among words (b ∷ bs) ≡ false
 no-word b bs [] h = refl
 no-word b bs ([] ∷ words) h = no-word b bs words h
 no-word b bs ((a ∷ more) ∷ words) h = rw h.0 (no-word b bs words h.1)
@@ -65,16 +63,13 @@ module _ (b : ℕ) (bs : List ℕ) (h : begins_value b ≡ false) where
   o : IsOther b
   o = other b h
 
-  null-no : is_one_of nulls (b ∷ bs) ≡ false
+  null-no : among nulls (b ∷ bs) ≡ false
   null-no =
-      let n = turned b 78 o.capital_n in
-      no-word b bs nulls (turned b 110 o.small_n, (n, (n, (turned b 126 o.tilde, tt))))
+      no-word b bs nulls (o.small_n, (o.capital_n, (o.capital_n, (o.tilde, tt))))
 
-  boolean-no : is_one_of booleans (b ∷ bs) ≡ false
+  boolean-no : among booleans (b ∷ bs) ≡ false
   boolean-no =
-      let t = turned b 84 o.capital_t in
-      let f = turned b 70 o.capital_f in
-      no-word b bs booleans (turned b 116 o.small_t, (t, (t, (turned b 102 o.small_f, (f, (f, tt))))))
+      no-word b bs booleans (o.small_t, (o.capital_t, (o.capital_t, (o.small_f, (o.capital_f, (o.capital_f, tt))))))
 
   no-sign : without_sign (b ∷ bs) ≡ b ∷ bs
   no-sign = rw (o.plus, o.dash) refl
@@ -101,12 +96,11 @@ module _ (b : ℕ) (bs : List ℕ) (h : begins_value b ≡ false) where
 
   float-no : is_float (b ∷ bs) ≡ false
   float-no =
-      let d = turned b 46 o.dot in
-      let word = no-word b bs infinities (d, (d, (d, tt))) in
-      neither (is_decimal (without_sign (b ∷ bs)) || is_one_of infinities (without_sign (b ∷ bs))) (is_one_of not_numbers (b ∷ bs))
-      (neither (is_decimal (without_sign (b ∷ bs))) (is_one_of infinities (without_sign (b ∷ bs))) (ap is_decimal no-sign ∙ decimal-no)
-      (ap (is_one_of infinities) no-sign ∙ word))
-      (no-word b bs not_numbers (d, (d, (d, tt))))
+      let no_dot : NoneBegins b infinities = (o.dot, (o.dot, (o.dot, tt))) in
+      neither (is_decimal (without_sign (b ∷ bs)) || among infinities (without_sign (b ∷ bs))) (among not_numbers (b ∷ bs))
+      (neither (is_decimal (without_sign (b ∷ bs))) (among infinities (without_sign (b ∷ bs))) (ap is_decimal no-sign ∙ decimal-no)
+      (ap (among infinities) no-sign ∙ no-word b bs infinities no_dot))
+      (no-word b bs not_numbers no_dot)
 
   pub is_string : class_of (b ∷ bs) ≡ class.Str
-  is_string = string-by (is_one_of nulls (b ∷ bs)) (is_one_of booleans (b ∷ bs)) (is_integer (b ∷ bs)) (is_float (b ∷ bs)) null-no boolean-no integer-no float-no
+  is_string = string-by (among nulls (b ∷ bs)) (among booleans (b ∷ bs)) (is_integer (b ∷ bs)) (is_float (b ∷ bs)) null-no boolean-no integer-no float-no

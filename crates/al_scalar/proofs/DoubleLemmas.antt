@@ -5,7 +5,8 @@ use Rattle.std.proofs.lemmas.Grind.{common_steps}
 use Rattle.std.proofs.lemmas.Str.{length-encode, len_utf8_bounds}
 use Rattle.al_base.specs.declared.codes.YamlCode.TheVariants as yaml
 use Rattle.al_scalar.specs.Line.{Cell, is_empty}
-use Rattle.al_scalar.specs.Taken.{Fault, fault}
+use Rattle.al_scalar.specs.Taken.{fault}
+use Rattle.al_scalar.specs.declared.faults.FaultAt.{FaultAt}
 use Rattle.al_scalar.specs.Quoted.{QuotedLine, closed, broken, part_before, own_before, character_cells, escape_table}
 use Rattle.std.specs.Map.{lookup}
 use Rattle.al_scalar.specs.Quoted.{digits_table, escape_character, escape_digits, hex_digit, is_scalar_value, escape, double_part}
@@ -19,19 +20,19 @@ nothing = record { text = []; stop = broken }
 
 -- ---- cells that stand for themselves
 
-pub part-none : (r : Result QuotedLine Fault) → part_before [] r ≡ r
+pub part-none : (r : Result QuotedLine FaultAt) → part_before [] r ≡ r
 part-none (Ok p) = refl
 part-none (Err e) = refl
 
-pub part-two : (xs ys : List Cell) (r : Result QuotedLine Fault) → part_before xs (part_before ys r) ≡ part_before (xs ++ ys) r
+pub part-two : (xs ys : List Cell) (r : Result QuotedLine FaultAt) → part_before xs (part_before ys r) ≡ part_before (xs ++ ys) r
 part-two xs ys (Ok p) = ap (λ t. Ok (record { text = t; stop = p.stop })) (sym (append_assoc xs ys p.text))
 part-two xs ys (Err e) = refl
 
-own-some : (c : Cell) (r : Result QuotedLine Fault) → gives_nothing r ≡ false → own_before c r ≡ part_before (c ∷ []) r
+own-some : (c : Cell) (r : Result QuotedLine FaultAt) → gives_nothing r ≡ false → own_before c r ≡ part_before (c ∷ []) r
 own-some c (Ok p) h = ap Ok (with_own-solid c p h)
 own-some c (Err e) h = refl
 
-own-byte : (c : Cell) (r : Result QuotedLine Fault) → (IsBlankByte c.0 → ⊥) → own_before c r ≡ part_before (c ∷ []) r
+own-byte : (c : Cell) (r : Result QuotedLine FaultAt) → (IsBlankByte c.0 → ⊥) → own_before c r ≡ part_before (c ∷ []) r
 own-byte c (Ok p) h = ap Ok (with_own-other c p h)
 own-byte c (Err e) h = refl
 
@@ -50,7 +51,7 @@ pub double-blanks : (cs : List Cell) → AreBlank cs → double_part cs ≡ Ok n
 double-blanks [] h = refl
 double-blanks (c ∷ cs) h = double-blank c cs h.0 ∙ ap (own_before c) (double-blanks cs h.1) ∙ ap Ok (with_own-blank c nothing h.0 refl)
 
-some-before : (cs : List Cell) (r : Result QuotedLine Fault) → gives_nothing r ≡ false → gives_nothing (part_before cs r) ≡ false
+some-before : (cs : List Cell) (r : Result QuotedLine FaultAt) → gives_nothing r ≡ false → gives_nothing (part_before cs r) ≡ false
 some-before [] (Ok p) h = h
 some-before (c ∷ cs) (Ok p) h = refl
 some-before cs (Err e) h = refl
@@ -85,7 +86,7 @@ map-some at (b ∷ bs) h = refl
 written-some : (at code : ℕ) → is_empty (character_cells at code) ≡ false
 written-some at code = map-some at (encode_utf8 code) (omega (arith, length-encode code, len_utf8_bounds code))
 
-some-after : (cs : List Cell) (r : Result QuotedLine Fault) → is_empty cs ≡ false → gives_nothing (part_before cs r) ≡ false
+some-after : (cs : List Cell) (r : Result QuotedLine FaultAt) → is_empty cs ≡ false → gives_nothing (part_before cs r) ≡ false
 some-after [] r h = cc
 some-after (c ∷ cs) (Ok p) h = refl
 some-after (c ∷ cs) (Err e) h = refl
@@ -94,10 +95,10 @@ by-option : {A : Type 0} (P : A → Type 0) (o : Option ℕ) {x : A} {f : ℕ �
 by-option P None h k = h
 by-option P (Some n) h k = k n
 
-abbrev GivesSome : Result QuotedLine Fault → Type 0
+abbrev GivesSome : Result QuotedLine FaultAt → Type 0
 GivesSome r = gives_nothing r ≡ false
 
-character-some : (at code : ℕ) (rest : Result QuotedLine Fault) → GivesSome (escape_character at code rest)
+character-some : (at code : ℕ) (rest : Result QuotedLine FaultAt) → GivesSome (escape_character at code rest)
 character-some at code rest = kind (is_scalar_value code)
   where
     kind : (x : Bool) → GivesSome (cond x (part_before (character_cells at code) rest) (fault yaml.WrongEscape at))

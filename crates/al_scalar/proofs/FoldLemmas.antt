@@ -3,18 +3,19 @@ use Rattle.std.proofs.Common.{◌≡◌, ℕ, suc, ◌<◌, List, [], ◌∷◌,
 use Rattle.std.proofs.Common.{Bool, true, false, ◌==◌, cond, inl, inr, ◌⊎◌, Option, Some, None, Result, Ok, Err}
 use Rattle.al_base.specs.declared.codes.YamlCode.TheVariants.{UnclosedQuote, WrongEscape}
 use Rattle.al_scalar.specs.Line.{Cell, Line, lines, with_return, cut, after_blanks}
-use Rattle.al_scalar.specs.Taken.{Fault, Taken, before, fault}
+use Rattle.al_scalar.specs.Taken.{Taken, before, fault}
+use Rattle.al_scalar.specs.declared.faults.FaultAt.{FaultAt}
 use Rattle.al_scalar.specs.Quoted.{QuotedLine, QuotedEnd, closed, broken, escaped, cut_short, single_part, line_given, single_quoted}
 use Rattle.al_scalar.specs.Places.{first_text, first_end, lines_at}
 use Rattle.al_scalar.specs.LineEnds.{AreBlank, IsBlankByte, IsLineEnd, SameLine, first_last, later}
 use Rattle.al_scalar.specs.Private.Single.{part_at, single_lines}
 use Rattle.al_scalar.proofs.SingleLemmas.{has_line, lines_at-some, is_nothing, is_blank-yes, is_blank-no}
 
-pub before-two : (a b : List Cell) (r : Result Taken Fault) → before a (before b r) ≡ before (a ++ b) r
+pub before-two : (a b : List Cell) (r : Result Taken FaultAt) → before a (before b r) ≡ before (a ++ b) r
 before-two a b (Ok t) = ap (λ c. Ok (record { text = c; end = t.end; left = t.left })) (sym (append_assoc a b t.text))
 before-two a b (Err e) = refl
 
-pub before-none : (r : Result Taken Fault) → before [] r ≡ r
+pub before-none : (r : Result Taken FaultAt) → before [] r ≡ r
 before-none (Ok t) = refl
 before-none (Err e) = refl
 
@@ -22,11 +23,11 @@ pub after_blanks-run : (run rest : List Cell) → AreBlank run → after_blanks 
 after_blanks-run [] rest h = refl
 after_blanks-run (c ∷ cs) rest h = ap (λ b. cond b (after_blanks (cs ++ rest)) (c ∷ (cs ++ rest))) (is_blank-yes c h.0) ∙ after_blanks-run cs rest h.1
 
-before-cond : (space : List Cell) (b : Bool) (x y : Result Taken Fault) → before space (cond b x y) ≡ cond b (before space x) (before space y)
+before-cond : (space : List Cell) (b : Bool) (x y : Result Taken FaultAt) → before space (cond b x y) ≡ cond b (before space x) (before space y)
 before-cond space true x y = refl
 before-cond space false x y = refl
 
-given-stop : (st : QuotedEnd) (q : ℕ) (space t : List Cell) (l : Line) (ls : List Line) (below : Option ℕ → Result Taken Fault)
+given-stop : (st : QuotedEnd) (q : ℕ) (space t : List Cell) (l : Line) (ls : List Line) (below : Option ℕ → Result Taken FaultAt)
     → line_given q space (record { text = t; stop = st }) l ls below ≡ before space (line_given q [] (record { text = t; stop = st }) l ls below)
 given-stop (closed e rest) q space t l ls below = refl
 given-stop (cut_short at) q space t l ls below = sym (before-cond space l.last (fault UnclosedQuote q) (fault WrongEscape at))
@@ -36,16 +37,16 @@ given-stop escaped q space t l ls below =
     ap (λ r. cond l.last (fault UnclosedQuote q) r) (sym (before-two space t (below None))) ∙ sym (before-cond space l.last (fault UnclosedQuote q) (before t (below None)))
 
 -- what a line gives behind a space
-pub line_given-before : (q : ℕ) (space : List Cell) (p : QuotedLine) (l : Line) (ls : List Line) (below : Option ℕ → Result Taken Fault)
+pub line_given-before : (q : ℕ) (space : List Cell) (p : QuotedLine) (l : Line) (ls : List Line) (below : Option ℕ → Result Taken FaultAt)
     → line_given q space p l ls below ≡ before space (line_given q [] p l ls below)
 line_given-before q space p l ls below = given-stop p.stop q space p.text l ls below
 
-line_given-at : (q : ℕ) (p : QuotedLine) (st : QuotedEnd) (l : Line) (ls : List Line) (below : Option ℕ → Result Taken Fault) → p.stop ≡ st
+line_given-at : (q : ℕ) (p : QuotedLine) (st : QuotedEnd) (l : Line) (ls : List Line) (below : Option ℕ → Result Taken FaultAt) → p.stop ≡ st
     → line_given q [] p l ls below ≡ line_given q [] (record { text = p.text; stop = st }) l ls below
 line_given-at q p st l ls below e = ap (λ s. line_given q [] (record { text = p.text; stop = s }) l ls below) e
 
 -- the line's own text doesn't matter
-pub given-line : (st : QuotedEnd) (q : ℕ) (space t x : List Cell) (l : Line) (ls : List Line) (below : Option ℕ → Result Taken Fault)
+pub given-line : (st : QuotedEnd) (q : ℕ) (space t x : List Cell) (l : Line) (ls : List Line) (below : Option ℕ → Result Taken FaultAt)
     → line_given q space (record { text = t; stop = st }) (record { text = x; end = l.end; last = l.last }) ls below ≡ line_given q space (record { text = t; stop = st }) l ls below
 given-line (closed e rest) q space t x l ls below = refl
 given-line (cut_short at) q space t x l ls below = refl

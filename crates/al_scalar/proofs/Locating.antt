@@ -2,7 +2,7 @@
 use Rattle.std.proofs.Common.{map, ◌^◌, ◌≡◌, ℕ, zero, suc, ◌+◌, ◌<◌, ◌≤◌, List, [], ◌∷◌, length, refl, sym, ap, ◌∙◌, arith}
 use Rattle.al_scalar.specs.Private.Segments.{AreInRange, cells_from, offset_at}
 use Rattle.al_scalar.specs.Line.{Cell}
-use Rattle.al_scalar.specs.Private.Located.{offset_or}
+use Rattle.al_scalar.specs.Scalar.{offset_or}
 use Rattle.al_scalar.specs.declared.texts.Segment.{Segment}
 
 pub length-cells_from : (k : ℕ) (bs : List ℕ) (ss : List Segment) → length (cells_from k bs ss) ≡ length bs

@@ -9,7 +9,8 @@ use Rattle.std.proofs.Math.Seq.{take-append_seam, drop-append_seam}
 use Rattle.al_scalar.specs.Private.Double.{hex_value}
 use Rattle.al_base.specs.declared.codes.YamlCode.TheVariants as yaml
 use Rattle.al_scalar.specs.Line.{Cell}
-use Rattle.al_scalar.specs.Taken.{Fault, fault}
+use Rattle.al_scalar.specs.Taken.{fault}
+use Rattle.al_scalar.specs.declared.faults.FaultAt.{FaultAt}
 use Rattle.al_scalar.specs.Quoted.{QuotedLine, closed, escaped, cut_short, part_before, character_cells, escape_table, digits_table}
 use Rattle.std.specs.Map.{lookup}
 use Rattle.al_scalar.specs.Quoted.{escape_character, escape_digits, hex_digit, is_scalar_value, escape, double_part, quoted_lines, double_quoted}
@@ -24,7 +25,7 @@ use Rattle.al_scalar.proofs.LiteralLemmas.{reads_on}
 use Rattle.al_scalar.proofs.BlockLemmas.{length-cells_between}
 
 -- an escape with digits, of which these stand on the line, with their value
-abbrev hex_escape : ℕ → ℕ → List Cell → Option ℕ → Result QuotedLine Fault → Result QuotedLine Fault
+abbrev hex_escape : ℕ → ℕ → List Cell → Option ℕ → Result QuotedLine FaultAt → Result QuotedLine FaultAt
 hex_escape at width digits None behind = fault yaml.WrongEscape at
 hex_escape at width digits (Some code) behind =
     cond (nat_lt (length digits) width) (Ok (record { text = []; stop = cut_short at })) (escape_character at code behind)
@@ -36,7 +37,7 @@ less_more : (a b : ℕ) (x : Bool) → nat_lt a b ≡ x → nat_lt (suc a) (suc 
 less_more a b true h = grind (arith, common_steps, h)
 less_more a b false h = grind (arith, common_steps, h)
 
-one_further : (at n : ℕ) (c : Cell) (ds : List Cell) (o : Option ℕ) (behind : Result QuotedLine Fault)
+one_further : (at n : ℕ) (c : Cell) (ds : List Cell) (o : Option ℕ) (behind : Result QuotedLine FaultAt)
     → hex_escape at n ds o behind ≡ hex_escape at (suc n) (c ∷ ds) o behind
 one_further at n c ds None behind = refl
 one_further at n c ds (Some code) behind =
@@ -66,7 +67,7 @@ digits-are at (suc n) v (c ∷ cs) = next_digit (hex_digit c.0) (λ d. digits-ar
         below d ∙ one_further at (suc n) c (take (suc n) cs) (hex_value (16 * v + d) (take (suc n) cs)) (double_part (drop (suc n) cs))
 
 -- what a letter gives behind a backslash, by the two tables
-abbrev letter_given : ℕ → List Cell → Option ℕ → Option ℕ → Result QuotedLine Fault
+abbrev letter_given : ℕ → List Cell → Option ℕ → Option ℕ → Result QuotedLine FaultAt
 letter_given at cs x y = elim x [
   | Some code ↦ part_before (character_cells at code) (double_part cs)
   | None ↦ elim y [ None ↦ fault yaml.WrongEscape at | Some width ↦ escape_digits at (width - 1) 0 cs ]
@@ -91,7 +92,7 @@ letter_kind b count e = (
 )
 
 -- what the part of a line gives
-given_at : (bytes : List ℕ) (at q : ℕ) (r : Result QuotedLine Fault) → double_part (text_at bytes at) ≡ r
+given_at : (bytes : List ℕ) (at q : ℕ) (r : Result QuotedLine FaultAt) → double_part (text_at bytes at) ≡ r
     → double_quoted q (lines_at bytes at) ≡ elim r [ Ok p ↦ given (double_part) q p (lines_at bytes at) | Err e ↦ Err e ]
 given_at bytes at q (Ok p) e = quoted-part (double_part) q (lines_at bytes at) (Ok p) (lines_at-some bytes at) e
 given_at bytes at q (Err f) e = quoted-part (double_part) q (lines_at bytes at) (Err f) (lines_at-some bytes at) e

@@ -6,7 +6,8 @@ use Rattle.al_scalar.specs.Line.{Cell, Line, lines, place, start, is_blank, afte
 use Rattle.al_base.specs.FirstBytes.{begins_with}
 use Rattle.al_scalar.specs.Places.{first_text}
 use Rattle.al_scalar.specs.Offsets.{AreRising, AreClimbing, IsTail, AreLines}
-use Rattle.al_scalar.specs.Taken.{Fault, Taken, before, feeds, folded_break}
+use Rattle.al_scalar.specs.Taken.{Taken, before, feeds, folded_break}
+use Rattle.al_scalar.specs.declared.faults.FaultAt.{FaultAt}
 
 -- ---- cells that are taken
 
@@ -137,11 +138,11 @@ lines-start low (l ∷ ls) h = (climbing-place low l.end l.text h.0).0
 -- ---- what is taken
 
 -- what was taken comes from between an offset and its end, and what is left begins there or behind
-abbrev pub AreTaken : ℕ → Result Taken Fault → Type 0
+abbrev pub AreTaken : ℕ → Result Taken FaultAt → Type 0
 AreTaken low (Ok t) = IsFrom low t.end t.text × (t.end ≤ start t.left)
 AreTaken low (Err e) = Unit {0}
 
-pub taken-behind : (low mid : ℕ) (cs : List Cell) (r : Result Taken Fault) → IsFrom low mid cs → AreTaken mid r → AreTaken low (before cs r)
+pub taken-behind : (low mid : ℕ) (cs : List Cell) (r : Result Taken FaultAt) → IsFrom low mid cs → AreTaken mid r → AreTaken low (before cs r)
 taken-behind low mid cs (Ok t) h k = (from-join low mid t.end cs t.text h k.0, k.1)
 taken-behind low mid cs (Err e) h k = tt
 

@@ -3,7 +3,8 @@ use Rattle.std.proofs.Common.{◌≡◌, ◌≢◌, ℕ, ◌+◌, ◌<◌, ◌�
 use Rattle.std.proofs.Common.{append-nil, Bool, true, false, not, ◌&&◌, ◌==◌, cond, inl, inr, ◌⊎◌, eq-or-lt_of_le, Result, Ok, Err}
 use Rattle.al_base.specs.declared.codes.YamlCode.TheVariants.{UnexpectedCharacter}
 use Rattle.al_scalar.specs.Line.{Cell, Line, lines, with_cell, with_return, is_break, place, cut, after_blanks, is_empty}
-use Rattle.al_scalar.specs.Taken.{Fault, Taken, before, fault, folded_break}
+use Rattle.al_scalar.specs.Taken.{Taken, before, fault, folded_break}
+use Rattle.al_scalar.specs.declared.faults.FaultAt.{FaultAt}
 use Rattle.al_scalar.specs.Plain.{Context, is_flow, is_value_colon, plain_part, continues, ended_before, plain_lines, plain}
 use Rattle.al_scalar.specs.Places.{first_text, first_end, lines_at, text_at}
 use Rattle.al_scalar.specs.LineEnds.{cells_between, with_cells_before, AreBlank, IsBlankByte, IsBreakAt, SameLine, broken_line, first_last, later}
@@ -42,7 +43,7 @@ place-colon p bytes j z h e = colon-kind p (text_at bytes j) (text_at bytes (j +
 
 -- ---- behind a part
 
-abbrev after_lines : Context → Taken → List Line → Result Taken Fault
+abbrev after_lines : Context → Taken → List Line → Result Taken FaultAt
 after_lines p here ls = cond (is_empty (after_blanks (first_text ls))) (plain_lines p here (first_end ls) [] (later ls)) (Ok here)
 
 cond-same : {A : Type 0} (b : Bool) (x : A) → cond b x x ≡ x
@@ -70,7 +71,7 @@ before-here : (text : List Cell) (bytes : List ℕ) (end : ℕ) → before text 
 before-here text bytes end = ap (λ t. Ok (record { text = t; end = end; left = lines_at bytes end })) (append-nil text)
 
 -- no break stands behind the part and the blanks after it
-pub read_done : {x : Result Taken Fault} (p : Context) (bytes : List ℕ) (end j : ℕ) (text : List Cell) → x ≡ before text (after_part p bytes end) → j ≤ length bytes
+pub read_done : {x : Result Taken FaultAt} (p : Context) (bytes : List ℕ) (end j : ℕ) (text : List Cell) → x ≡ before text (after_part p bytes end) → j ≤ length bytes
     → lines_at bytes end ≡ with_cells_before (cells_between bytes end j) (lines_at bytes j) → AreBlank (cells_between bytes end j) → (IsBreakAt bytes j → ⊥)
     → (j < length bytes → IsBlankByte (slice_index bytes j) → ⊥) → x ≡ Ok (record { text = text; end = end; left = lines_at bytes end })
 read_done p bytes end j text e h f b k n =
@@ -149,7 +150,7 @@ stops p here break es [] a h k = refl
 stops p here break es (l ∷ ls) a h k = stops-with p here break es l ls (is_empty (after_blanks l.text)) refl a h k
 
 -- what the look-ahead finds behind a break
-pub found_at : {x : Result Taken Fault} (p : Context) (bytes : List ℕ) (end j next start : ℕ) (text : List Cell) → x ≡ before text (after_part p bytes end)
+pub found_at : {x : Result Taken FaultAt} (p : Context) (bytes : List ℕ) (end j next start : ℕ) (text : List Cell) → x ≡ before text (after_part p bytes end)
     → lines_at bytes end ≡ with_cells_before (cells_between bytes end j) (lines_at bytes j) → AreBlank (cells_between bytes end j) → lines_at bytes j ≡ broken_line j ∷ lines_at bytes next
     → text_lines (lines_at bytes next) ≡ lines_at bytes start → x ≡ before text (plain_lines p (here_at bytes end) j (empty_ends (lines_at bytes next)) (lines_at bytes start))
 found_at p bytes end j next start text e f b k m =
@@ -158,7 +159,7 @@ found_at p bytes end j next start text e f b k m =
     ∙ ap (before text) (after-break p here (cells_between bytes end j) j (lines_at bytes next) b ∙ skip p here j [] (lines_at bytes next)
     ∙ ap (plain_lines p here j (empty_ends (lines_at bytes next))) m)
 
-pub read_stopped : {x : Result Taken Fault} (p : Context) (bytes : List ℕ) (end j start solid : ℕ) (es : List ℕ) (text : List Cell) → x
+pub read_stopped : {x : Result Taken FaultAt} (p : Context) (bytes : List ℕ) (end j start solid : ℕ) (es : List ℕ) (text : List Cell) → x
     ≡ before text (plain_lines p (here_at bytes end) j es (lines_at bytes start))
     → begins_blank_line (lines_at bytes start) ≡ false → after_blanks (text_at bytes start) ≡ text_at bytes solid → false ≡ (not (is_empty (text_at bytes solid)) && continues p (text_at bytes start))
     → x ≡ Ok (record { text = text; end = end; left = lines_at bytes end })
@@ -169,7 +170,7 @@ read_stopped p bytes end j start solid es text e h f g =
 -- ---- a line that continues the scalar
 
 -- what a line gives, by its part
-abbrev line_given : Context → ℕ → List ℕ → Line → List Line → List Cell × List Cell → Result Taken Fault
+abbrev line_given : Context → ℕ → List ℕ → Line → List Line → List Cell × List Cell → Result Taken FaultAt
 line_given p break es l ls part =
     cond (not (is_flow p) && is_value_colon p (after_blanks part.1)) (fault UnexpectedCharacter (place (after_blanks part.1) l.end))
     (before (folded_break break es ++ part.0) (after_lines p (ended_before part.1 l ls) (cut part.1 l ls)))
@@ -233,7 +234,7 @@ module _ (p : Context) (bytes : List ℕ) (start solid end rest : ℕ) (text : a
   goes_on : continues p (text_at bytes start) ≡ true
   goes_on = (and-both (not (is_empty (text_at bytes solid))) (continues p (text_at bytes start)) goes).1
 
-  pub read_more : {x : Result Taken Fault} {mid new : List Cell} (here : Taken) (break : ℕ) (es : List ℕ) (old : List Cell) → false
+  pub read_more : {x : Result Taken FaultAt} {mid new : List Cell} (here : Taken) (break : ℕ) (es : List ℕ) (old : List Cell) → false
       ≡ (not (is_flow p) && is_value_colon p (text_at bytes rest)) → end ≤ length bytes
       → SameLine (lines_at bytes start) (lines_at bytes end) → x ≡ before old (plain_lines p here break es (lines_at bytes start)) → mid
       ≡ old ++ folded_break break es → new ≡ mid ++ cells_between bytes solid end
@@ -247,7 +248,7 @@ module _ (p : Context) (bytes : List ℕ) (start solid end rest : ℕ) (text : a
       ∙ before-two old (folded_break break es ++ cells) (after_part p bytes end)
       ∙ ap (λ t. before t (after_part p bytes end)) (sym (append_assoc old (folded_break break es) cells) ∙ ap (λ t. t ++ cells) (sym f) ∙ sym g)
 
-  pub read_key : {x : Result Taken Fault} (here : Taken) (break : ℕ) (es : List ℕ) (old : List Cell) → rest ≤ length bytes → true ≡ (not (is_flow p) && is_value_colon p (text_at bytes rest))
+  pub read_key : {x : Result Taken FaultAt} (here : Taken) (break : ℕ) (es : List ℕ) (old : List Cell) → rest ≤ length bytes → true ≡ (not (is_flow p) && is_value_colon p (text_at bytes rest))
       → x ≡ before old (plain_lines p here break es (lines_at bytes start)) → x ≡ Err (record { code = UnexpectedCharacter; at = rest })
   read_key here break es old h n e =
       let colon = (and-both (not (is_flow p)) (is_value_colon p (text_at bytes rest)) n).1 in

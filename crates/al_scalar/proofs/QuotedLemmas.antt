@@ -2,7 +2,8 @@
 use Rattle.std.proofs.Common.{◌≡◌, ℕ, List, [], ◌∷◌, refl, sym, ap, ◌∙◌, Bool, true, false, not, ◌&&◌, cond, inl, inr, ◌⊎◌, Option, Some, None, Result, Ok, Err}
 use Rattle.al_base.specs.declared.codes.YamlCode.TheVariants as yaml
 use Rattle.al_scalar.specs.Line.{Cell, Line, cut, is_blank, after_blanks, is_empty}
-use Rattle.al_scalar.specs.Taken.{Fault, Taken, ◌>>=◌, before, folding_space, feeds, fault}
+use Rattle.al_scalar.specs.Taken.{Taken, ◌>>=◌, before, folding_space, feeds, fault}
+use Rattle.al_scalar.specs.declared.faults.FaultAt.{FaultAt}
 use Rattle.al_scalar.specs.Quoted.{QuotedLine, QuotedEnd, closed, broken, escaped, cut_short, with_cells, part_before, line_given, is_empty_line, quoted_lines, quoted_scalar}
 use Rattle.al_scalar.specs.Places.{first_text, first_end}
 use Rattle.al_scalar.specs.LineEnds.{IsBlankByte, SameLine, first_last, later}
@@ -12,11 +13,11 @@ use Rattle.al_scalar.proofs.SingleLemmas.{has_line, is_nothing}
 use Rattle.al_scalar.proofs.FoldLemmas.{before-two, before-none, line_given-before, given-line, cut-same}
 
 -- what the part of the first line gives with the lines behind it
-abbrev pub given : (List Cell → Result QuotedLine Fault) → ℕ → QuotedLine → List Line → Result Taken Fault
+abbrev pub given : (List Cell → Result QuotedLine FaultAt) → ℕ → QuotedLine → List Line → Result Taken FaultAt
 given part q p [] = fault yaml.UnclosedQuote q
 given part q p (l ∷ ls) = line_given q [] p l ls (λ b. quoted_lines part q b ls)
 
-line-same : (part : List Cell → Result QuotedLine Fault) (q : ℕ) (p : QuotedLine) (x y : Line) (xs ys : List Line) → x.end ≡ y.end → x.last
+line-same : (part : List Cell → Result QuotedLine FaultAt) (q : ℕ) (p : QuotedLine) (x y : Line) (xs ys : List Line) → x.end ≡ y.end → x.last
     ≡ y.last → xs ≡ ys → given part q p (x ∷ xs) ≡ given part q p (y ∷ ys)
 line-same part q p x y xs ys e f g =
     sym (given-line p.stop q [] p.text y.text x xs (λ b. quoted_lines part q b xs))
@@ -24,28 +25,28 @@ line-same part q p x y xs ys e f g =
     ∙ ap (λ (z : Bool). line_given q [] p (record { text = y.text; end = y.end; last = z }) xs (λ b. quoted_lines part q b xs)) f
     ∙ ap (λ (r : List Line). line_given q [] p y r (λ b. quoted_lines part q b r)) g
 
-given-same : (part : List Cell → Result QuotedLine Fault) (q : ℕ) (p : QuotedLine) (xs ys : List Line) → has_line xs ≡ true → has_line ys
+given-same : (part : List Cell → Result QuotedLine FaultAt) (q : ℕ) (p : QuotedLine) (xs ys : List Line) → has_line xs ≡ true → has_line ys
     ≡ true → SameLine xs ys → given part q p xs ≡ given part q p ys
 given-same part q p [] ys h k s = cc
 given-same part q p (x ∷ xs) [] h k s = cc
 given-same part q p (x ∷ xs) (y ∷ ys) h k s = line-same part q p x y xs ys s.end s.last s.later
 
-given-run : (part : List Cell → Result QuotedLine Fault) (q : ℕ) (run : List Cell) (p : QuotedLine) (xs : List Line) → has_line xs ≡ true
+given-run : (part : List Cell → Result QuotedLine FaultAt) (q : ℕ) (run : List Cell) (p : QuotedLine) (xs : List Line) → has_line xs ≡ true
     → given part q (with_cells run p) xs ≡ before run (given part q p xs)
 given-run part q run p [] h = cc
 given-run part q run p (x ∷ xs) h = line_given-before q run p x xs (λ b. quoted_lines part q b xs)
 
-given-part : (part : List Cell → Result QuotedLine Fault) (q : ℕ) (run : List Cell) (r : Result QuotedLine Fault) (xs ys : List Line) → has_line xs ≡ true → has_line ys ≡ true → SameLine xs ys
+given-part : (part : List Cell → Result QuotedLine FaultAt) (q : ℕ) (run : List Cell) (r : Result QuotedLine FaultAt) (xs ys : List Line) → has_line xs ≡ true → has_line ys ≡ true → SameLine xs ys
     → (part_before run r >>= (λ p. given part q p xs)) ≡ before run (r >>= (λ p. given part q p ys))
 given-part part q run (Ok p) xs ys h k s = given-run part q run p xs h ∙ ap (before run) (given-same part q p xs ys h k s)
 given-part part q run (Err e) xs ys h k s = refl
 
-quoted-given : (part : List Cell → Result QuotedLine Fault) (q : ℕ) (xs : List Line) → has_line xs ≡ true → quoted_scalar part q xs ≡ (part (first_text xs) >>= (λ p. given part q p xs))
+quoted-given : (part : List Cell → Result QuotedLine FaultAt) (q : ℕ) (xs : List Line) → has_line xs ≡ true → quoted_scalar part q xs ≡ (part (first_text xs) >>= (λ p. given part q p xs))
 quoted-given part q [] h = cc
 quoted-given part q (x ∷ xs) h = refl
 
 -- cells in front of what is left of the line
-pub quoted-run : (part : List Cell → Result QuotedLine Fault) (q : ℕ) (run : List Cell) (xs ys : List Line) → has_line xs ≡ true → has_line ys ≡ true → SameLine xs ys
+pub quoted-run : (part : List Cell → Result QuotedLine FaultAt) (q : ℕ) (run : List Cell) (xs ys : List Line) → has_line xs ≡ true → has_line ys ≡ true → SameLine xs ys
     → part (first_text xs) ≡ part_before run (part (first_text ys)) → quoted_scalar part q xs ≡ before run (quoted_scalar part q ys)
 quoted-run part q run xs ys h k s e =
     quoted-given part q xs h
@@ -54,11 +55,11 @@ quoted-run part q run xs ys h k s e =
     ∙ ap (before run) (sym (quoted-given part q ys k))
 
 -- what the part of the first line gives
-pub quoted-part : (part : List Cell → Result QuotedLine Fault) (q : ℕ) (xs : List Line) (r : Result QuotedLine Fault) → has_line xs ≡ true → part (first_text xs) ≡ r
+pub quoted-part : (part : List Cell → Result QuotedLine FaultAt) (q : ℕ) (xs : List Line) (r : Result QuotedLine FaultAt) → has_line xs ≡ true → part (first_text xs) ≡ r
     → quoted_scalar part q xs ≡ (r >>= (λ p. given part q p xs))
 quoted-part part q xs r h e = quoted-given part q xs h ∙ ap (λ r. r >>= (λ p. given part q p xs)) e
 
-pub given-closed : (part : List Cell → Result QuotedLine Fault) (q next : ℕ) (xs ys : List Line) → has_line xs ≡ true → has_line ys ≡ true → SameLine xs ys
+pub given-closed : (part : List Cell → Result QuotedLine FaultAt) (q next : ℕ) (xs ys : List Line) → has_line xs ≡ true → has_line ys ≡ true → SameLine xs ys
     → given part q (record { text = []; stop = closed next (first_text ys) }) xs ≡ Ok (record { text = []; end = next; left = ys })
 given-closed part q next [] ys h k s = cc
 given-closed part q next (x ∷ xs) [] h k s = cc
@@ -69,25 +70,25 @@ abbrev pub stop_of : Bool → QuotedEnd
 stop_of true = escaped
 stop_of false = broken
 
-given-stop : (part : List Cell → Result QuotedLine Fault) (q : ℕ) (e : Bool) (x : Line) (xs : List Line) → x.last ≡ false
+given-stop : (part : List Cell → Result QuotedLine FaultAt) (q : ℕ) (e : Bool) (x : Line) (xs : List Line) → x.last ≡ false
     → given part q (record { text = []; stop = stop_of e }) (x ∷ xs) ≡ quoted_lines part q (break_of e x.end) xs
 given-stop part q true x xs f = ap (λ z. cond z (fault yaml.UnclosedQuote q) (before [] (quoted_lines part q None xs))) f ∙ before-none (quoted_lines part q None xs)
 given-stop part q false x xs f = ap (λ z. cond z (fault yaml.UnclosedQuote q) (before [] (quoted_lines part q (Some x.end) xs))) f ∙ before-none (quoted_lines part q (Some x.end) xs)
 
-pub given-break : (part : List Cell → Result QuotedLine Fault) (q : ℕ) (e : Bool) (xs : List Line) → has_line xs ≡ true → first_last xs ≡ false
+pub given-break : (part : List Cell → Result QuotedLine FaultAt) (q : ℕ) (e : Bool) (xs : List Line) → has_line xs ≡ true → first_last xs ≡ false
     → given part q (record { text = []; stop = stop_of e }) xs ≡ quoted_lines part q (break_of e (first_end xs)) (later xs)
 given-break part q e [] h f = cc
 given-break part q e (x ∷ xs) h f = given-stop part q e x xs f
 
 -- a line that the file's end ends
-pub given-end : (part : List Cell → Result QuotedLine Fault) (q : ℕ) (e : Bool) (xs : List Line) → has_line xs ≡ true → first_last xs ≡ true
+pub given-end : (part : List Cell → Result QuotedLine FaultAt) (q : ℕ) (e : Bool) (xs : List Line) → has_line xs ≡ true → first_last xs ≡ true
     → given part q (record { text = []; stop = stop_of e }) xs ≡ fault yaml.UnclosedQuote q
 given-end part q e [] h f = cc
 given-end part q true (x ∷ xs) h f = ap (λ z. cond z (fault yaml.UnclosedQuote q) (before [] (quoted_lines part q None xs))) f
 given-end part q false (x ∷ xs) h f = ap (λ z. cond z (fault yaml.UnclosedQuote q) (before [] (quoted_lines part q (Some x.end) xs))) f
 
 -- an escape that a line's end cuts
-pub given-cut : (part : List Cell → Result QuotedLine Fault) (q at : ℕ) (xs : List Line) → has_line xs ≡ true
+pub given-cut : (part : List Cell → Result QuotedLine FaultAt) (q at : ℕ) (xs : List Line) → has_line xs ≡ true
     → given part q (record { text = []; stop = cut_short at }) xs ≡ cond (first_last xs) (fault yaml.UnclosedQuote q)
     (fault yaml.WrongEscape at)
 given-cut part q at [] h = cc
@@ -95,12 +96,12 @@ given-cut part q at (x ∷ xs) h = refl
 
 -- ---- folding
 
-abbrev pub gives_nothing : Result QuotedLine Fault → Bool
+abbrev pub gives_nothing : Result QuotedLine FaultAt → Bool
 gives_nothing (Ok p) = is_nothing p
 gives_nothing (Err e) = false
 
 -- a reader of a line's part gives nothing at the line's end, and something at what is no blank
-pub record IsReader (part : List Cell → Result QuotedLine Fault) : Type 0 where
+pub record IsReader (part : List Cell → Result QuotedLine FaultAt) : Type 0 where
   pub none : part [] ≡ Ok (record { text = []; stop = broken })
   pub some : (c : Cell) (cs : List Cell) → (IsBlankByte c.0 → ⊥) → gives_nothing (part (c ∷ cs)) ≡ false
 
@@ -137,9 +138,9 @@ pending-break true end es = pending-none es
 pending-break false end [] = refl
 pending-break false end (e ∷ es) = refl
 
-module _ (part : List Cell → Result QuotedLine Fault) (q : ℕ) where
+module _ (part : List Cell → Result QuotedLine FaultAt) (q : ℕ) where
   -- a line that isn't empty, behind a space that may come before it
-  line-solid : (b : Option ℕ) (t : List Cell) (l : Line) (ls : List Line) (r : Result QuotedLine Fault) (x : QuotedLine → Result Taken Fault) → (gives_nothing r && not l.last) ≡ false
+  line-solid : (b : Option ℕ) (t : List Cell) (l : Line) (ls : List Line) (r : Result QuotedLine FaultAt) (x : QuotedLine → Result Taken FaultAt) → (gives_nothing r && not l.last) ≡ false
       → (r >>= (λ p. cond (is_empty_line p l) (x p) (line_given q (folding_space b) p l ls (λ o. quoted_lines part q o ls))))
       ≡ before (folding_space b) (r >>= (λ p. given part q p (cut t l ls)))
   line-solid b t l ls (Ok p) x e =

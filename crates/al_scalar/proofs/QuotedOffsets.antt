@@ -10,7 +10,8 @@ use Rattle.al_scalar.specs.Quoted.{escape_table, digits_table, is_scalar_value, 
 use Rattle.std.specs.Map.{lookup}
 use Rattle.al_scalar.specs.Quoted.{escape_character, escape_digits, hex_digit, escape, double_part, line_given, is_empty_line, quoted_lines, quoted_scalar, single_quoted}
 use Rattle.al_scalar.specs.Quoted.{double_quoted}
-use Rattle.al_scalar.specs.Taken.{Fault, Taken, ◌>>=◌, before, folding_space}
+use Rattle.al_scalar.specs.Taken.{Taken, ◌>>=◌, before, folding_space}
+use Rattle.al_scalar.specs.declared.faults.FaultAt.{FaultAt}
 use Rattle.al_scalar.proofs.OffsetLemmas.{IsFrom, AreTaken, choose, from-none, from-one, from-join, from-wider, from-order, climbing-order, climbing-place, climbing-blanks, tail-lines, taken-behind}
 
 -- what a line gives, by how the scalar leaves it
@@ -21,7 +22,7 @@ IsStop low end text _ = IsFrom low end text
 abbrev IsPart : ℕ → ℕ → QuotedLine → Type 0
 IsPart low end p = IsStop low end p.text p.stop
 
-abbrev GivesPart : ℕ → ℕ → Result QuotedLine Fault → Type 0
+abbrev GivesPart : ℕ → ℕ → Result QuotedLine FaultAt → Type 0
 GivesPart low end (Ok p) = IsPart low end p
 GivesPart low end (Err e) = Unit {0}
 
@@ -72,15 +73,15 @@ written-from low at code a =
     from-wider at (at + 1) low (at + 1) (character_cells at code) a (omega arith)
     (record { rising = at-one at (encode_utf8 code); size = omega (arith, length-at at (encode_utf8 code), length-encode code, len_utf8_bounds code) })
 
-part-behind : (low mid end : ℕ) (cs : List Cell) (r : Result QuotedLine Fault) → IsFrom low mid cs → GivesPart mid end r → GivesPart low end (part_before cs r)
+part-behind : (low mid end : ℕ) (cs : List Cell) (r : Result QuotedLine FaultAt) → IsFrom low mid cs → GivesPart mid end r → GivesPart low end (part_before cs r)
 part-behind low mid end cs (Ok p) h k = stop-behind low mid end cs p.text p.stop h k
 part-behind low mid end cs (Err e) h k = tt
 
-own-behind : (low end : ℕ) (c : Cell) (r : Result QuotedLine Fault) → low ≤ c.1 → GivesPart (c.1 + 1) end r → GivesPart low end (own_before c r)
+own-behind : (low end : ℕ) (c : Cell) (r : Result QuotedLine FaultAt) → low ≤ c.1 → GivesPart (c.1 + 1) end r → GivesPart low end (own_before c r)
 own-behind low end c (Ok p) a k = own-from low end c p a k
 own-behind low end c (Err e) a k = tt
 
-character-from : (low end at code : ℕ) (behind : Result QuotedLine Fault) → low ≤ at → GivesPart (at + 1) end behind
+character-from : (low end at code : ℕ) (behind : Result QuotedLine FaultAt) → low ≤ at → GivesPart (at + 1) end behind
     → GivesPart low end (escape_character at code behind)
 character-from low end at code behind a h =
     choose (GivesPart low end) (is_scalar_value code) (λ _. part-behind low (at + 1) end (character_cells at code) behind (written-from low at code a) h) (λ _. tt)
@@ -89,7 +90,7 @@ choose-option : {A : Type 0} (P : A → Type 0) (o : Option ℕ) {x : A} {f : �
 choose-option P None h k = h
 choose-option P (Some n) h k = k n
 
-gives-lower : (low low' end : ℕ) (r : Result QuotedLine Fault) → low' ≤ low → GivesPart low end r → GivesPart low' end r
+gives-lower : (low low' end : ℕ) (r : Result QuotedLine FaultAt) → low' ≤ low → GivesPart low end r → GivesPart low' end r
 gives-lower low low' end (Ok p) a h = stop-lower low low' end p.text p.stop a h
 gives-lower low low' end (Err e) a h = tt
 
@@ -126,11 +127,11 @@ mutual
 
 -- ---- lines
 
-abbrev PartReader : (List Cell → Result QuotedLine Fault) → Type 0
+abbrev PartReader : (List Cell → Result QuotedLine FaultAt) → Type 0
 PartReader part = (low end : ℕ) (cs : List Cell) → AreClimbing low end cs → GivesPart low end (part cs)
 
 -- what a line takes, and the lines behind it
-given-from : (quote low mid : ℕ) (space : List Cell) (p : QuotedLine) (l : Line) (ls : List Line) (below : Option ℕ → Result Taken Fault) → IsFrom low mid space → IsPart mid l.end p
+given-from : (quote low mid : ℕ) (space : List Cell) (p : QuotedLine) (l : Line) (ls : List Line) (below : Option ℕ → Result Taken FaultAt) → IsFrom low mid space → IsPart mid l.end p
     → (l.last ≡ false → (b : Option ℕ) → IsFrom l.end (l.end + 1) (folding_space b) → AreTaken l.end (below b)) → AreTaken low (line_given quote space p l ls below)
 given-from quote low mid space p l ls below h k more = by-stop p.stop k
   where
@@ -150,12 +151,12 @@ not-last false true true h = cc
 not-last false false true h = cc
 
 -- what is taken behind a line
-abbrev LinesReader : (Option ℕ → Result Taken Fault) → List Line → Type 0
+abbrev LinesReader : (Option ℕ → Result Taken FaultAt) → List Line → Type 0
 LinesReader below ls = (low mid : ℕ) (b : Option ℕ) → IsFrom low mid (folding_space b) → AreLines mid ls → AreTaken low (below b)
 
-line-from : (quote low mid : ℕ) (break : Option ℕ) (l : Line) (ls : List Line) (below : Option ℕ → Result Taken Fault)
+line-from : (quote low mid : ℕ) (break : Option ℕ) (l : Line) (ls : List Line) (below : Option ℕ → Result Taken FaultAt)
     → IsFrom low mid (folding_space break) → AreLines mid (l ∷ ls) → LinesReader below ls
-    → (r : Result QuotedLine Fault) → GivesPart mid l.end r
+    → (r : Result QuotedLine FaultAt) → GivesPart mid l.end r
     → AreTaken low (r >>= (λ p. if is_empty_line p l then before ((ascii "\n", l.end) ∷ []) (below None) else line_given quote (folding_space break) p l ls below))
 line-from quote low mid break l ls below h k more (Err e) r = tt
 line-from quote low mid break l ls below h k more (Ok p) r =
@@ -166,18 +167,18 @@ line-from quote low mid break l ls below h k more (Ok p) r =
     (more (l.end + 1) (l.end + 1) None (from-none (l.end + 1) (l.end + 1) (omega arith)) (tail-lines l.end l.last ls (not-last (is_empty p.text) (is_broken p.stop) l.last e) k.1)))
     (λ _. given-from quote low mid (folding_space break) p l ls below h r (λ e b f. more l.end (l.end + 1) b f (tail-lines l.end l.last ls e k.1)))
 
-lines-from : (part : List Cell → Result QuotedLine Fault) → PartReader part → (quote low mid : ℕ) (break : Option ℕ) (ls : List Line)
+lines-from : (part : List Cell → Result QuotedLine FaultAt) → PartReader part → (quote low mid : ℕ) (break : Option ℕ) (ls : List Line)
     → IsFrom low mid (folding_space break) → AreLines mid ls → AreTaken low (quoted_lines part quote break ls)
 lines-from part q quote low mid break [] h k = tt
 lines-from part q quote low mid break (l ∷ ls) h k =
     line-from quote low mid break l ls (λ b. quoted_lines part quote b ls) h k (λ low mid b f g. lines-from part q quote low mid b ls f g)
     (part (after_blanks l.text)) (q mid l.end (after_blanks l.text) (climbing-blanks mid l.end l.text k.0))
 
-quoted-from : (part : List Cell → Result QuotedLine Fault) → PartReader part → (quote low : ℕ) (ls : List Line) → AreLines low ls → AreTaken low (quoted_scalar part quote ls)
+quoted-from : (part : List Cell → Result QuotedLine FaultAt) → PartReader part → (quote low : ℕ) (ls : List Line) → AreLines low ls → AreTaken low (quoted_scalar part quote ls)
 quoted-from part q quote low [] k = tt
 quoted-from part q quote low (l ∷ ls) k = by-part (part l.text) (q low l.end l.text k.0)
   where
-    by-part : (r : Result QuotedLine Fault) → GivesPart low l.end r → AreTaken low (r >>= (λ p. line_given quote [] p l ls (λ b. quoted_lines part quote b ls)))
+    by-part : (r : Result QuotedLine FaultAt) → GivesPart low l.end r → AreTaken low (r >>= (λ p. line_given quote [] p l ls (λ b. quoted_lines part quote b ls)))
     by-part (Err e) r = tt
     by-part (Ok p) r = given-from quote low low [] p l ls (λ b. quoted_lines part quote b ls) (from-none low low (omega arith)) r
         (λ e b f. lines-from part q quote l.end (l.end + 1) b ls f (tail-lines l.end l.last ls e k.1))

@@ -10,7 +10,8 @@ use Rattle.al_scalar.specs.declared.header.Chomping.{Chomping}
 use Rattle.al_scalar.specs.declared.header.Chomping.TheVariants.{Strip, Clip, Keep}
 use Rattle.al_scalar.specs.declared.header.Header.{Header}
 use Rattle.al_scalar.specs.Block.{rows_at, final_breaks, own_break, between_rows, joint, text_after, rows_end, block_scalar}
-use Rattle.al_scalar.specs.Taken.{Fault, ◌>>=◌}
+use Rattle.al_scalar.specs.Taken.{◌>>=◌}
+use Rattle.al_scalar.specs.declared.faults.FaultAt.{FaultAt}
 use Rattle.al_scalar.proofs.OffsetLemmas.{choose}
 use Rattle.al_scalar.proofs.Utf8Lemmas.{AreUtf8, bytes_of, split-behind, equal-ascii}
 use Rattle.al_scalar.proofs.Utf8Texts.{IsText, TakesText, text-join, text-feeds, text-break}
@@ -79,7 +80,7 @@ rows-text is_literal k last empties (r ∷ rs) u =
     (text-join (joint is_literal last empties r) r.text (text-joint is_literal last empties r) u.0)
     (rows-text is_literal k (Some r) [] rs u.1))
 
-block-by : (is_literal : Bool) (within : ℕ) (l : Line) (ls : List Line) → AreUtf8 ls → (r : Result Header Fault)
+block-by : (is_literal : Bool) (within : ℕ) (l : Line) (ls : List Line) → AreUtf8 ls → (r : Result Header FaultAt)
     → TakesText (r >>= (λ h.
     let m = content_indent h.digit within ls in
     let rs = (if l.last then record { rows = []; left = at_end l } else rows_at m (is_some h.digit) ls) in

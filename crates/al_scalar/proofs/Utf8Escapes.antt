@@ -11,7 +11,7 @@ use Rattle.al_scalar.specs.Line.{Cell, Line}
 use Rattle.al_scalar.specs.Quoted.{QuotedLine, own_before, part_before, escape_table, digits_table}
 use Rattle.std.specs.Map.{lookup}
 use Rattle.al_scalar.specs.Quoted.{is_scalar_value, character_cells, escape_character, escape_digits, hex_digit, escape, double_part, double_quoted}
-use Rattle.al_scalar.specs.Taken.{Fault}
+use Rattle.al_scalar.specs.declared.faults.FaultAt.{FaultAt}
 use Rattle.al_scalar.proofs.OffsetLemmas.{choose}
 use Rattle.al_scalar.proofs.Utf8Lemmas.{Keeps, AreUtf8, bytes_of, split-before, split-behind, keeps-all, keeps-none, keeps-drop, equal-ascii, own-keeps}
 use Rattle.al_scalar.proofs.Utf8Texts.{IsText, TakesText, GivesText, text-join, quoted-text}
@@ -94,7 +94,7 @@ digit-ascii b d e = grind (arith, common_steps, e)
 
 -- ---- escapes
 
-abbrev PartKeeps : List Cell → Result QuotedLine Fault → Type 0
+abbrev PartKeeps : List Cell → Result QuotedLine FaultAt → Type 0
 PartKeeps cs (Ok p) = Keeps cs p.text
 PartKeeps cs (Err e) = Unit {0}
 
@@ -105,13 +105,13 @@ written-bytes at (b ∷ bs) = ap (λ l. b ∷ l) (written-bytes at bs)
 written-text : (at code : ℕ) → IsScalar code → IsText (character_cells at code)
 written-text at code s = subst IsUtf8 (sym (written-bytes at (encode_utf8 code))) (IsUtf8-encode code s)
 
-part-keeps : (c : Cell) (cs ws : List Cell) (r : Result QuotedLine Fault) → c.0 < 128 → IsText ws → PartKeeps cs r → PartKeeps (c ∷ cs) (part_before ws r)
+part-keeps : (c : Cell) (cs ws : List Cell) (r : Result QuotedLine FaultAt) → c.0 < 128 → IsText ws → PartKeeps cs r → PartKeeps (c ∷ cs) (part_before ws r)
 part-keeps c cs ws (Err e) l w k = tt
 part-keeps c cs ws (Ok t) l w k = λ p u.
     let s = split-before p c.0 (bytes_of cs) l u in
     IsUtf8-append p (bytes_of (ws ++ t.text)) s.0 (text-join ws t.text w (k [] (split-behind c.0 (bytes_of cs) l s.1)))
 
-own-both : (c : Cell) (cs : List Cell) (r : Result QuotedLine Fault) → PartKeeps cs r → PartKeeps (c ∷ cs) (own_before c r)
+own-both : (c : Cell) (cs : List Cell) (r : Result QuotedLine FaultAt) → PartKeeps cs r → PartKeeps (c ∷ cs) (own_before c r)
 own-both c cs (Ok t) k = own-keeps c cs t k
 own-both c cs (Err e) k = tt
 
@@ -123,14 +123,14 @@ scalar-of : (a b : Bool) → (a || b) ≡ true → cond a true b ≡ true
 scalar-of true b h = refl
 scalar-of false b h = h
 
-character-keeps : (c : Cell) (cs : List Cell) (at code : ℕ) (behind : Result QuotedLine Fault) → c.0 < 128 → PartKeeps cs behind
+character-keeps : (c : Cell) (cs : List Cell) (at code : ℕ) (behind : Result QuotedLine FaultAt) → c.0 < 128 → PartKeeps cs behind
     → PartKeeps (c ∷ cs) (escape_character at code behind)
 character-keeps c cs at code behind l k =
     choose (PartKeeps (c ∷ cs)) (is_scalar_value code)
     (λ e. part-keeps c cs (character_cells at code) behind l
     (written-text at code (scalar-of (nat_lt code 0xd800) (nat_le 0xe000 code && nat_lt code 0x110000) e)) k) (λ _. tt)
 
-skipped : (c : Cell) (cs : List Cell) (r : Result QuotedLine Fault) → c.0 < 128 → PartKeeps cs r → PartKeeps (c ∷ cs) r
+skipped : (c : Cell) (cs : List Cell) (r : Result QuotedLine FaultAt) → c.0 < 128 → PartKeeps cs r → PartKeeps (c ∷ cs) r
 skipped c cs (Ok p) l k = keeps-drop c cs p.text l k
 skipped c cs (Err e) l k = tt
 
@@ -161,7 +161,7 @@ mutual
       choose-option (PartKeeps (c ∷ cs)) (hex_digit c.0) tt
       (λ d e. skipped c cs (escape_digits at n (16 * v + d) cs) (digit-ascii c.0 d e) (digits-keep at n (16 * v + d) cs))
 
-part-text : (cs : List Cell) (r : Result QuotedLine Fault) → PartKeeps cs r → IsText cs → GivesText r
+part-text : (cs : List Cell) (r : Result QuotedLine FaultAt) → PartKeeps cs r → IsText cs → GivesText r
 part-text cs (Ok t) k u = k [] u
 part-text cs (Err e) k u = tt
 

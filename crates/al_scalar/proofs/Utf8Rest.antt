@@ -14,7 +14,8 @@ use Rattle.al_scalar.specs.Quoted.{escape_table, digits_table, is_scalar_value, 
 use Rattle.std.specs.Map.{lookup}
 use Rattle.al_scalar.specs.Quoted.{escape_character, escape_digits, hex_digit, escape, double_part, line_given, is_empty_line, quoted_lines, quoted_scalar, single_quoted}
 use Rattle.al_scalar.specs.Quoted.{double_quoted}
-use Rattle.al_scalar.specs.Taken.{Fault, Taken, ◌>>=◌, before, folding_space, folded_break}
+use Rattle.al_scalar.specs.Taken.{Taken, ◌>>=◌, before, folding_space, folded_break}
+use Rattle.al_scalar.specs.declared.faults.FaultAt.{FaultAt}
 use Rattle.al_scalar.proofs.OffsetLemmas.{choose}
 use Rattle.al_scalar.proofs.Utf8Lemmas.{AreUtf8, bytes_of, split-before, split-behind, keeps-blanks, equal-ascii, both-left, not-false, blank-ascii}
 use Rattle.al_scalar.proofs.Utf8Texts.{IsText, ends-ascii}
@@ -56,23 +57,23 @@ single-leaves (c ∷ d ∷ cs) =
     (λ _. leaves-more c (d ∷ cs) (single_part cs).stop (leaves-more d cs (single_part cs).stop (single-leaves cs)))
     (λ _. leaves-closed (c.1 + 1) c (d ∷ cs) (equal-ascii c.0 39 (omega arith) (not-false (c.0 == 39) e))))
 
-abbrev GivesLeaves : List Cell → Result QuotedLine Fault → Type 0
+abbrev GivesLeaves : List Cell → Result QuotedLine FaultAt → Type 0
 GivesLeaves cs (Ok p) = Leaves cs p.stop
 GivesLeaves cs (Err e) = Unit {0}
 
-gives-more : (c : Cell) (cs : List Cell) (r : Result QuotedLine Fault) → GivesLeaves cs r → GivesLeaves (c ∷ cs) r
+gives-more : (c : Cell) (cs : List Cell) (r : Result QuotedLine FaultAt) → GivesLeaves cs r → GivesLeaves (c ∷ cs) r
 gives-more c cs (Ok p) k = leaves-more c cs p.stop k
 gives-more c cs (Err e) k = tt
 
-part-leaves : (cs ws : List Cell) (r : Result QuotedLine Fault) → GivesLeaves cs r → GivesLeaves cs (part_before ws r)
+part-leaves : (cs ws : List Cell) (r : Result QuotedLine FaultAt) → GivesLeaves cs r → GivesLeaves cs (part_before ws r)
 part-leaves cs ws (Ok p) k = k
 part-leaves cs ws (Err e) k = tt
 
-own-gives : (c : Cell) (cs : List Cell) (r : Result QuotedLine Fault) → GivesLeaves cs r → GivesLeaves (c ∷ cs) (own_before c r)
+own-gives : (c : Cell) (cs : List Cell) (r : Result QuotedLine FaultAt) → GivesLeaves cs r → GivesLeaves (c ∷ cs) (own_before c r)
 own-gives c cs (Ok p) k = own-leaves c cs p k
 own-gives c cs (Err e) k = tt
 
-character-leaves : (all : List Cell) (at code : ℕ) (behind : Result QuotedLine Fault) → GivesLeaves all behind → GivesLeaves all (escape_character at code behind)
+character-leaves : (all : List Cell) (at code : ℕ) (behind : Result QuotedLine FaultAt) → GivesLeaves all behind → GivesLeaves all (escape_character at code behind)
 character-leaves all at code behind k = choose (GivesLeaves all) (is_scalar_value code) (λ _. part-leaves all (character_cells at code) behind k) (λ _. tt)
 
 mutual
@@ -102,22 +103,22 @@ mutual
 
 -- ---- quoted lines
 
-abbrev pub LeavesText : Result Taken Fault → Type 0
+abbrev pub LeavesText : Result Taken FaultAt → Type 0
 LeavesText (Ok t) = AreUtf8 t.left
 LeavesText (Err e) = Unit {0}
 
-left-before : (cs : List Cell) (r : Result Taken Fault) → LeavesText r → LeavesText (before cs r)
+left-before : (cs : List Cell) (r : Result Taken FaultAt) → LeavesText r → LeavesText (before cs r)
 left-before cs (Ok t) h = h
 left-before cs (Err e) h = tt
 
-abbrev GivesStop : Result QuotedLine Fault → Type 0
+abbrev GivesStop : Result QuotedLine FaultAt → Type 0
 GivesStop (Ok p) = StopsText p.stop
 GivesStop (Err e) = Unit {0}
 
-abbrev PartReader : (List Cell → Result QuotedLine Fault) → Type 0
+abbrev PartReader : (List Cell → Result QuotedLine FaultAt) → Type 0
 PartReader part = (cs : List Cell) → IsText cs → GivesStop (part cs)
 
-given-left : (quote : ℕ) (space : List Cell) (p : QuotedLine) (l : Line) (ls : List Line) (below : Option ℕ → Result Taken Fault)
+given-left : (quote : ℕ) (space : List Cell) (p : QuotedLine) (l : Line) (ls : List Line) (below : Option ℕ → Result Taken FaultAt)
     → AreUtf8 ls → StopsText p.stop → ((b : Option ℕ) → LeavesText (below b))
     → LeavesText (line_given quote space p l ls below)
 given-left quote space p l ls below u h more = by-stop p.stop h
@@ -128,32 +129,32 @@ given-left quote space p l ls below u h more = by-stop p.stop h
     by-stop broken h = choose LeavesText l.last (λ _. tt) (λ _. left-before (space ++ p.text) _ (more (Some l.end)))
     by-stop escaped h = choose LeavesText l.last (λ _. tt) (λ _. left-before (space ++ p.text) _ (more None))
 
-line-left : (quote : ℕ) (break : Option ℕ) (l : Line) (ls : List Line) (below : Option ℕ → Result Taken Fault) → AreUtf8 ls
-    → ((b : Option ℕ) → LeavesText (below b)) → (r : Result QuotedLine Fault) → GivesStop r
+line-left : (quote : ℕ) (break : Option ℕ) (l : Line) (ls : List Line) (below : Option ℕ → Result Taken FaultAt) → AreUtf8 ls
+    → ((b : Option ℕ) → LeavesText (below b)) → (r : Result QuotedLine FaultAt) → GivesStop r
     → LeavesText (r >>= (λ p. if is_empty_line p l then before ((ascii "\n", l.end) ∷ []) (below None) else line_given quote (folding_space break) p l ls below))
 line-left quote break l ls below u more (Err e) r = tt
 line-left quote break l ls below u more (Ok p) r =
     choose LeavesText (is_empty_line p l) (λ _. left-before ((ascii "\n", l.end) ∷ []) (below None) (more None))
     (λ _. given-left quote (folding_space break) p l ls below u r more)
 
-lines-left : (part : List Cell → Result QuotedLine Fault) → PartReader part → (quote : ℕ) (break : Option ℕ) (ls : List Line) → AreUtf8 ls → LeavesText (quoted_lines part quote break ls)
+lines-left : (part : List Cell → Result QuotedLine FaultAt) → PartReader part → (quote : ℕ) (break : Option ℕ) (ls : List Line) → AreUtf8 ls → LeavesText (quoted_lines part quote break ls)
 lines-left part q quote break [] u = tt
 lines-left part q quote break (l ∷ ls) u =
     line-left quote break l ls (λ b. quoted_lines part quote b ls) u.1 (λ b. lines-left part q quote b ls u.1) (part (after_blanks l.text)) (q (after_blanks l.text) (keeps-blanks l.text [] u.0))
 
-quoted-by : (part : List Cell → Result QuotedLine Fault) → PartReader part → (quote : ℕ) (l : Line) (ls : List Line) → AreUtf8 ls → (r : Result QuotedLine Fault) → GivesStop r
+quoted-by : (part : List Cell → Result QuotedLine FaultAt) → PartReader part → (quote : ℕ) (l : Line) (ls : List Line) → AreUtf8 ls → (r : Result QuotedLine FaultAt) → GivesStop r
     → LeavesText (r >>= (λ p. line_given quote [] p l ls (λ b. quoted_lines part quote b ls)))
 quoted-by part q quote l ls u (Err e) r = tt
 quoted-by part q quote l ls u (Ok p) r = given-left quote [] p l ls (λ b. quoted_lines part quote b ls) u r (λ b. lines-left part q quote b ls u)
 
-quoted-left : (part : List Cell → Result QuotedLine Fault) → PartReader part → (quote : ℕ) (ls : List Line) → AreUtf8 ls → LeavesText (quoted_scalar part quote ls)
+quoted-left : (part : List Cell → Result QuotedLine FaultAt) → PartReader part → (quote : ℕ) (ls : List Line) → AreUtf8 ls → LeavesText (quoted_scalar part quote ls)
 quoted-left part q quote [] u = tt
 quoted-left part q quote (l ∷ ls) u = quoted-by part q quote l ls u.1 (part l.text) (q l.text u.0)
 
 pub single-left : (quote : ℕ) (ls : List Line) → AreUtf8 ls → LeavesText (single_quoted quote ls)
 single-left quote ls u = quoted-left (λ text. Ok (single_part text)) (λ cs k. single-leaves cs [] k) quote ls u
 
-double-stop : (cs : List Cell) (r : Result QuotedLine Fault) → GivesLeaves cs r → IsText cs → GivesStop r
+double-stop : (cs : List Cell) (r : Result QuotedLine FaultAt) → GivesLeaves cs r → IsText cs → GivesStop r
 double-stop cs (Ok p) k u = k [] u
 double-stop cs (Err e) k u = tt
 
@@ -220,7 +221,7 @@ rows-left m found (l ∷ ls) u =
     let next = found || not (is_all_blank l.text) in
     rows-by l ls (rows_at m next ls) u (rows-left m next ls u.1) (row_of m found l.text)
 
-block-by : (is_literal : Bool) (within : ℕ) (l : Line) (ls : List Line) → AreUtf8 ls → (r : Result Header Fault)
+block-by : (is_literal : Bool) (within : ℕ) (l : Line) (ls : List Line) → AreUtf8 ls → (r : Result Header FaultAt)
     → LeavesText (r >>= (λ h.
     let m = content_indent h.digit within ls in
     let rs = (if l.last then record { rows = []; left = at_end l } else rows_at m (is_some h.digit) ls) in

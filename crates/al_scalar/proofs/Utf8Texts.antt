@@ -8,7 +8,8 @@ use Rattle.al_scalar.specs.Line.{Cell, Line, is_blank, after_blanks, begins, is_
 use Rattle.al_scalar.specs.Plain.{Context, is_flow, is_flow_indicator, begins_flow_indicator, ends_key, is_value_colon, ends_plain, plain_part, continues, ended_before, plain_lines, plain}
 use Rattle.al_scalar.specs.Quoted.{QuotedLine, QuotedEnd, closed, broken, escaped, cut_short, single_part, line_given, is_empty_line, quoted_lines, quoted_scalar, single_quoted}
 use Rattle.al_scalar.specs.Scalar.{after_first}
-use Rattle.al_scalar.specs.Taken.{Fault, Taken, ◌>>=◌, before, folding_space, feeds, folded_break}
+use Rattle.al_scalar.specs.Taken.{Taken, ◌>>=◌, before, folding_space, feeds, folded_break}
+use Rattle.al_scalar.specs.declared.faults.FaultAt.{FaultAt}
 use Rattle.al_scalar.proofs.OffsetLemmas.{choose}
 use Rattle.al_scalar.proofs.Utf8Lemmas.{Keeps, AreUtf8, bytes_of, split-behind, keeps-all, keeps-none, keeps-own, keeps-blanks, equal-ascii, either, both-left, blank-ascii, single-keeps}
 
@@ -46,24 +47,24 @@ pub text-break : (at : ℕ) (es : List ℕ) → IsText (folded_break at es)
 text-break at [] = text-one 32 at (omega arith)
 text-break at (e ∷ es) = text-feeds (e ∷ es)
 
-abbrev pub TakesText : Result Taken Fault → Type 0
+abbrev pub TakesText : Result Taken FaultAt → Type 0
 TakesText (Ok t) = IsText t.text
 TakesText (Err e) = Unit {0}
 
-text-before : (cs : List Cell) (r : Result Taken Fault) → IsText cs → TakesText r → TakesText (before cs r)
+text-before : (cs : List Cell) (r : Result Taken FaultAt) → IsText cs → TakesText r → TakesText (before cs r)
 text-before cs (Ok t) h k = text-join cs t.text h k
 text-before cs (Err e) h k = tt
 
 -- ---- quotes
 
-abbrev pub GivesText : Result QuotedLine Fault → Type 0
+abbrev pub GivesText : Result QuotedLine FaultAt → Type 0
 GivesText (Ok p) = IsText p.text
 GivesText (Err e) = Unit {0}
 
-abbrev pub PartReader : (List Cell → Result QuotedLine Fault) → Type 0
+abbrev pub PartReader : (List Cell → Result QuotedLine FaultAt) → Type 0
 PartReader part = (cs : List Cell) → IsText cs → GivesText (part cs)
 
-given-text : (quote : ℕ) (space : List Cell) (p : QuotedLine) (l : Line) (ls : List Line) (below : Option ℕ → Result Taken Fault)
+given-text : (quote : ℕ) (space : List Cell) (p : QuotedLine) (l : Line) (ls : List Line) (below : Option ℕ → Result Taken FaultAt)
     → IsText space → IsText p.text → ((b : Option ℕ) → TakesText (below b))
     → TakesText (line_given quote space p l ls below)
 given-text quote space p l ls below h k more = by-stop p.stop
@@ -74,24 +75,25 @@ given-text quote space p l ls below h k more = by-stop p.stop
     by-stop broken = choose TakesText l.last (λ _. tt) (λ _. text-before (space ++ p.text) _ (text-join space p.text h k) (more (Some l.end)))
     by-stop escaped = choose TakesText l.last (λ _. tt) (λ _. text-before (space ++ p.text) _ (text-join space p.text h k) (more None))
 
-line-text : (quote : ℕ) (break : Option ℕ) (l : Line) (ls : List Line) (below : Option ℕ → Result Taken Fault) → ((b : Option ℕ) → TakesText (below b)) → (r : Result QuotedLine Fault) → GivesText r
+line-text : (quote : ℕ) (break : Option ℕ) (l : Line) (ls : List Line) (below : Option ℕ → Result Taken FaultAt) → ((b : Option ℕ) → TakesText (below b)) → (r : Result QuotedLine FaultAt)
+    → GivesText r
     → TakesText (r >>= (λ p. if is_empty_line p l then before ((ascii "\n", l.end) ∷ []) (below None) else line_given quote (folding_space break) p l ls below))
 line-text quote break l ls below more (Err e) r = tt
 line-text quote break l ls below more (Ok p) r =
     choose TakesText (is_empty_line p l) (λ _. text-before ((ascii "\n", l.end) ∷ []) (below None) (text-one 10 l.end (omega arith)) (more None))
     (λ _. given-text quote (folding_space break) p l ls below (text-folding_space break) r more)
 
-lines-text : (part : List Cell → Result QuotedLine Fault) → PartReader part → (quote : ℕ) (break : Option ℕ) (ls : List Line) → AreUtf8 ls → TakesText (quoted_lines part quote break ls)
+lines-text : (part : List Cell → Result QuotedLine FaultAt) → PartReader part → (quote : ℕ) (break : Option ℕ) (ls : List Line) → AreUtf8 ls → TakesText (quoted_lines part quote break ls)
 lines-text part q quote break [] u = tt
 lines-text part q quote break (l ∷ ls) u =
     line-text quote break l ls (λ b. quoted_lines part quote b ls) (λ b. lines-text part q quote b ls u.1) (part (after_blanks l.text)) (q (after_blanks l.text) (keeps-blanks l.text [] u.0))
 
-quoted-by : (part : List Cell → Result QuotedLine Fault) → PartReader part → (quote : ℕ) (l : Line) (ls : List Line) → AreUtf8 ls → (r : Result QuotedLine Fault) → GivesText r
+quoted-by : (part : List Cell → Result QuotedLine FaultAt) → PartReader part → (quote : ℕ) (l : Line) (ls : List Line) → AreUtf8 ls → (r : Result QuotedLine FaultAt) → GivesText r
     → TakesText (r >>= (λ p. line_given quote [] p l ls (λ b. quoted_lines part quote b ls)))
 quoted-by part q quote l ls u (Err e) r = tt
 quoted-by part q quote l ls u (Ok p) r = given-text quote [] p l ls (λ b. quoted_lines part quote b ls) IsUtf8-nil r (λ b. lines-text part q quote b ls u)
 
-pub quoted-text : (part : List Cell → Result QuotedLine Fault) → PartReader part → (quote : ℕ) (ls : List Line) → AreUtf8 ls → TakesText (quoted_scalar part quote ls)
+pub quoted-text : (part : List Cell → Result QuotedLine FaultAt) → PartReader part → (quote : ℕ) (ls : List Line) → AreUtf8 ls → TakesText (quoted_scalar part quote ls)
 quoted-text part q quote [] u = tt
 quoted-text part q quote (l ∷ ls) u = quoted-by part q quote l ls u.1 (part l.text) (q l.text u.0)
 

@@ -2,10 +2,11 @@
 use Rattle.std.specs.Prelude.{ℕ, ◌+◌, ◌-◌, List, [], ◌∷◌, ◌++◌, drop, Bool, true, not, ◌&&◌, ◌||◌, ◌==◌, nat_le, if◌then◌else◌}
 use Rattle.std.specs.Prelude.{Option, Some, None, is_none, is_some, unwrap_or, Result, Ok}
 use Rattle.std.specs.Option.{option_map_or}
-use Rattle.al_base.specs.Ascii.{ascii}
+use Rattle.al_base.specs.Ascii.{ascii, is_sign}
 use Rattle.al_base.specs.declared.codes.YamlCode.TheVariants as yaml
 use Rattle.al_scalar.specs.Line.{Cell, Line, place, after_blanks, indent, is_empty, is_all_blank, begins_blank, is_comment}
-use Rattle.al_scalar.specs.Taken.{Fault, Taken, ◌>>=◌, fault, feeds, folded_break}
+use Rattle.al_scalar.specs.Taken.{Taken, ◌>>=◌, fault, feeds, folded_break}
+use Rattle.al_scalar.specs.declared.faults.FaultAt.{FaultAt}
 use Rattle.al_scalar.specs.declared.header.Chomping.{Chomping}
 use Rattle.al_scalar.specs.declared.header.Chomping.TheVariants.{Strip, Clip, Keep}
 use Rattle.al_scalar.specs.declared.header.Header.{Header}
@@ -13,20 +14,17 @@ use Rattle.al_scalar.specs.declared.header.Header.{Header}
 abbrev pub is_digit : ℕ → Bool
 is_digit b = nat_le 49 b && nat_le b 57
 
-abbrev pub is_sign : ℕ → Bool
-is_sign b = (b == ascii "+") || (b == ascii "-")
-
 abbrev pub chomping_of : ℕ → Chomping
 chomping_of b = if b == ascii "+" then Keep else Strip
 
 -- Behind the indicators only blanks, and a comment after a blank.
-abbrev pub header_end : Header → List Cell → Result Header Fault
+abbrev pub header_end : Header → List Cell → Result Header FaultAt
 header_end h cs =
     if is_empty (after_blanks cs) || (begins_blank cs && is_comment cs) then Ok h
     else fault yaml.WrongBlockHeader (place (after_blanks cs) 0)
 
 -- The header from behind these indicators, whose end is at: a digit and a sign, each at most once and in either order.
-abbrev pub header : Option ℕ → Option Chomping → ℕ → List Cell → Result Header Fault
+abbrev pub header : Option ℕ → Option Chomping → ℕ → List Cell → Result Header FaultAt
 header digit sign at [] = header_end (record { digit = digit; chomping = unwrap_or sign Clip; end = at }) []
 header digit sign at (c ∷ cs) =
     if is_none digit && is_digit c.0 then header (Some (c.0 - 48)) sign (at + 1) cs
@@ -120,7 +118,7 @@ rows_end at [] = at
 rows_end at (r ∷ rs) = rows_end (last_end r.text at) rs
 
 -- a block scalar, whose indicator begins the first line
-abbrev pub block_scalar : Bool → ℕ → List Line → Result Taken Fault
+abbrev pub block_scalar : Bool → ℕ → List Line → Result Taken FaultAt
 block_scalar is_literal within [] = fault yaml.UnexpectedCharacter 0
 block_scalar is_literal within (l ∷ ls) =
     header None None (place l.text l.end + 1) (drop 1 l.text) >>= (λ h.

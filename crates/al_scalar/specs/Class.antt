@@ -2,19 +2,16 @@
 use Rattle.std.specs.Prelude.{ℕ, List, [], ◌∷◌, Bool, true, false, drop, ◌&&◌, ◌||◌, ◌==◌, if◌then◌else◌, codes}
 use Rattle.std.specs.Char.{is_ascii_digit, is_ascii_hexdigit}
 use Rattle.std.specs.Int.{is_in_range}
-use Rattle.std.specs.Str.{bytes_eq}
-use Rattle.std.specs.List.{list_all, list_any, prefix_len}
-use Rattle.al_base.specs.Ascii.{ascii}
+use Rattle.std.specs.List.{list_all, prefix_len}
+use Rattle.al_base.specs.Ascii.{ascii, is_sign}
 use Rattle.al_base.specs.FirstBytes.{begins_with, first_is}
+use Rattle.al_base.specs.Names.{among}
 use Rattle.al_scalar.specs.declared.class.Base.{Base}
 use Rattle.al_scalar.specs.declared.class.Base.TheVariants as base
 use Rattle.al_scalar.specs.declared.styles.Class.{Class}
 use Rattle.al_scalar.specs.declared.styles.Class.TheVariants as class
 
 -- ---- words
-
-abbrev pub is_one_of : List (List ℕ) → List ℕ → Bool
-is_one_of words bs = list_any (λ word. bytes_eq word bs) words
 
 abbrev pub nulls : List (List ℕ)
 nulls = [] ∷ codes "null" ∷ codes "Null" ∷ codes "NULL" ∷ codes "~" ∷ []
@@ -47,7 +44,7 @@ after_digits bs = drop (prefix_len is_ascii_digit bs) bs
 
 -- behind [-+]?
 abbrev pub without_sign : List ℕ → List ℕ
-without_sign bs = if first_is (λ b. b == ascii "+" || b == ascii "-") bs then drop 1 bs else bs
+without_sign bs = if first_is is_sign bs then drop 1 bs else bs
 
 -- ---- numbers
 
@@ -57,12 +54,13 @@ is_prefixed letter base bs = begins_with (ascii "0") bs && begins_with letter (d
 
 -- [-+]?[0-9]+, 0o[0-7]+ or 0x[0-9a-fA-F]+
 abbrev pub is_integer : List ℕ → Bool
-is_integer bs = are_digits base.Decimal (without_sign bs) || is_prefixed 111 base.Octal bs || is_prefixed 120 base.Hexadecimal bs
+is_integer bs =
+    are_digits base.Decimal (without_sign bs) || is_prefixed (ascii "o") base.Octal bs || is_prefixed (ascii "x") base.Hexadecimal bs
 
 -- ([eE][-+]?[0-9]+)?
 abbrev pub is_exponent : List ℕ → Bool
 is_exponent [] = true
-is_exponent (b ∷ bs) = ((b == 101) || (b == ascii "E")) && are_digits base.Decimal (without_sign bs)
+is_exponent (b ∷ bs) = (b == ascii "e" || b == ascii "E") && are_digits base.Decimal (without_sign bs)
 
 -- (\.[0-9]*)? and the exponent
 abbrev pub is_fraction : List ℕ → Bool
@@ -77,12 +75,12 @@ abbrev pub is_decimal : List ℕ → Bool
 is_decimal bs = is_pure_fraction bs || (first_is is_ascii_digit bs && is_fraction (after_digits bs))
 
 abbrev pub is_float : List ℕ → Bool
-is_float bs = is_decimal (without_sign bs) || is_one_of infinities (without_sign bs) || is_one_of not_numbers bs
+is_float bs = is_decimal (without_sign bs) || among infinities (without_sign bs) || among not_numbers bs
 
 -- the class of a plain scalar
 abbrev pub class_of : List ℕ → Class
 class_of bs =
-    if is_one_of nulls bs then class.Null
-    else (if is_one_of booleans bs then class.Bool
+    if among nulls bs then class.Null
+    else (if among booleans bs then class.Bool
     else (if is_integer bs then class.Int
     else (if is_float bs then class.Float else class.Str)))

@@ -4,7 +4,8 @@ use Rattle.al_base.specs.Ascii.{ascii}
 use Rattle.al_base.specs.declared.codes.YamlCode.TheVariants as yaml
 use Rattle.al_scalar.specs.Line.{Cell, Line, place, cut, is_blank, after_blanks, indent, is_empty}
 use Rattle.al_scalar.specs.Line.{begins, is_blank_or_end, is_comment, is_document_marker}
-use Rattle.al_scalar.specs.Taken.{Fault, Taken, before, fault, folded_break}
+use Rattle.al_scalar.specs.Taken.{Taken, before, fault, folded_break}
+use Rattle.al_scalar.specs.declared.faults.FaultAt.{FaultAt}
 
 -- The context of a scalar (6.1, 7.3.3): in a flow collection, or in block context, where its continuation lines have at least
 -- this indent, one more than that of the enclosing collection.
@@ -58,7 +59,7 @@ ended_before rest l ls = record { text = []; end = place rest l.end; left = cut 
 
 -- The lines after a part of the scalar that ended its line with a break: what they add, folded, and where the scalar
 -- ends. Empty lines belong to it only if a line that continues it follows; empties are the breaks of those since.
-abbrev pub plain_lines : Context → Taken → ℕ → List ℕ → List Line → Result Taken Fault
+abbrev pub plain_lines : Context → Taken → ℕ → List ℕ → List Line → Result Taken FaultAt
 plain_lines p here break empties [] = Ok here
 plain_lines p here break empties (l ∷ ls) =
     let text = after_blanks l.text in
@@ -73,7 +74,7 @@ plain_lines p here break empties (l ∷ ls) =
     else before (folded_break break empties ++ part.0) (if is_empty rest then below else Ok there)))
 
 -- a plain scalar, whose first character begins the first line
-abbrev pub plain : Context → List Line → Result Taken Fault
+abbrev pub plain : Context → List Line → Result Taken FaultAt
 plain p [] = fault yaml.UnexpectedCharacter 0
 plain p (l ∷ ls) =
     let part = plain_part p false l.text in

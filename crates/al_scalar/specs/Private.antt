@@ -4,7 +4,6 @@ pub mod Contract
 pub mod Double
 pub mod Folding
 pub mod Forms
-pub mod Located
 pub mod PlainLines
 pub mod Reads
 pub mod Segments

@@ -6,7 +6,8 @@ use Rattle.std.specs.Map.{lookup}
 use Rattle.al_base.specs.Ascii.{ascii}
 use Rattle.al_base.specs.declared.codes.YamlCode.TheVariants as yaml
 use Rattle.al_scalar.specs.Line.{Cell, Line, cut, is_blank, after_blanks, is_empty}
-use Rattle.al_scalar.specs.Taken.{Fault, Taken, ◌>>=◌, before, fault, folding_space}
+use Rattle.al_scalar.specs.Taken.{Taken, ◌>>=◌, before, fault, folding_space}
+use Rattle.al_scalar.specs.declared.faults.FaultAt.{FaultAt}
 
 -- How a quoted scalar leaves a line: it is closed, with the cells behind the quote; it goes on after the break;
 -- it goes on after an escaped break; or the line ends within the escape at a place.
@@ -64,19 +65,19 @@ is_scalar_value c = nat_lt c 0xd800 || (nat_le 0xe000 c && nat_lt c 0x110000)
 abbrev pub character_cells : ℕ → ℕ → List Cell
 character_cells at code = map (λ b. (b, at)) (encode_utf8 code)
 
-abbrev pub part_before : List Cell → Result QuotedLine Fault → Result QuotedLine Fault
+abbrev pub part_before : List Cell → Result QuotedLine FaultAt → Result QuotedLine FaultAt
 part_before cs part = part >>= (λ p. Ok (with_cells cs p))
 
-abbrev pub own_before : Cell → Result QuotedLine Fault → Result QuotedLine Fault
+abbrev pub own_before : Cell → Result QuotedLine FaultAt → Result QuotedLine FaultAt
 own_before c part = part >>= (λ p. Ok (with_own c p))
 
 -- the character that an escape gives by its number, and what stands behind it
-abbrev pub escape_character : ℕ → ℕ → Result QuotedLine Fault → Result QuotedLine Fault
+abbrev pub escape_character : ℕ → ℕ → Result QuotedLine FaultAt → Result QuotedLine FaultAt
 escape_character at code behind = if is_scalar_value code then part_before (character_cells at code) behind else fault yaml.WrongEscape at
 
 abbrev mutual
   -- Double quotes.
-  pub double_part : List Cell → Result QuotedLine Fault
+  pub double_part : List Cell → Result QuotedLine FaultAt
   double_part [] = Ok (record { text = []; stop = broken })
   double_part (c ∷ cs) =
       if c.0 == ascii "\"" then Ok (closed_by c cs)
@@ -84,7 +85,7 @@ abbrev mutual
       else own_before c (double_part cs)
 
   -- behind the backslash of an escape, which stands at an offset
-  pub escape : ℕ → List Cell → Result QuotedLine Fault
+  pub escape : ℕ → List Cell → Result QuotedLine FaultAt
   escape at [] = Ok (record { text = []; stop = escaped })
   escape at (c ∷ cs) =
       elim (lookup (λ letter. letter == c.0) escape_table) [
@@ -96,7 +97,7 @@ abbrev mutual
       ]
 
   -- a digit of an escape behind those that make a value, and so many more
-  pub escape_digits : ℕ → ℕ → ℕ → List Cell → Result QuotedLine Fault
+  pub escape_digits : ℕ → ℕ → ℕ → List Cell → Result QuotedLine FaultAt
   escape_digits at more value [] = Ok (record { text = []; stop = cut_short at })
   escape_digits at zero value (c ∷ cs) =
       elim (hex_digit c.0) [
@@ -112,7 +113,7 @@ break_after broken l = Some l.end
 break_after _ l = None
 
 -- What a line gives, by how the scalar leaves it. quote is the opening quote.
-abbrev pub line_given : ℕ → List Cell → QuotedLine → Line → List Line → (Option ℕ → Result Taken Fault) → Result Taken Fault
+abbrev pub line_given : ℕ → List Cell → QuotedLine → Line → List Line → (Option ℕ → Result Taken FaultAt) → Result Taken FaultAt
 line_given quote space p l ls below =
     elim p.stop [
       | closed end rest ↦ Ok (record { text = space ++ p.text; end = end; left = cut rest l ls })
@@ -125,7 +126,7 @@ abbrev pub is_empty_line : QuotedLine → Line → Bool
 is_empty_line p l = is_empty p.text && is_broken p.stop && not l.last
 
 -- The lines after the first: leading blanks go, an empty line gives an LF and no space stays before it.
-abbrev pub quoted_lines : (List Cell → Result QuotedLine Fault) → ℕ → Option ℕ → List Line → Result Taken Fault
+abbrev pub quoted_lines : (List Cell → Result QuotedLine FaultAt) → ℕ → Option ℕ → List Line → Result Taken FaultAt
 quoted_lines part quote break [] = fault yaml.UnclosedQuote quote
 quoted_lines part quote break (l ∷ ls) =
     let below = (λ (b : Option ℕ). quoted_lines part quote b ls) in
@@ -134,12 +135,12 @@ quoted_lines part quote break (l ∷ ls) =
     else line_given quote (folding_space break) p l ls below)
 
 -- a quoted scalar, from behind its opening quote
-abbrev pub quoted_scalar : (List Cell → Result QuotedLine Fault) → ℕ → List Line → Result Taken Fault
+abbrev pub quoted_scalar : (List Cell → Result QuotedLine FaultAt) → ℕ → List Line → Result Taken FaultAt
 quoted_scalar part quote [] = fault yaml.UnclosedQuote quote
 quoted_scalar part quote (l ∷ ls) = part l.text >>= (λ p. line_given quote [] p l ls (λ b. quoted_lines part quote b ls))
 
-abbrev pub single_quoted : ℕ → List Line → Result Taken Fault
+abbrev pub single_quoted : ℕ → List Line → Result Taken FaultAt
 single_quoted quote ls = quoted_scalar (λ text. Ok (single_part text)) quote ls
 
-abbrev pub double_quoted : ℕ → List Line → Result Taken Fault
+abbrev pub double_quoted : ℕ → List Line → Result Taken FaultAt
 double_quoted quote ls = quoted_scalar (double_part) quote ls

@@ -2,7 +2,7 @@
 use Rattle.std.specs.Prelude.{◌≡◌, ◌≤◌, ℕ, List, length, Result, Ok, Err}
 use Rattle.al_scalar.specs.Characters.{character_at}
 use Rattle.al_scalar.specs.Line.{Line}
-use Rattle.al_scalar.specs.Taken.{Fault}
+use Rattle.al_scalar.specs.declared.faults.FaultAt.{FaultAt}
 use Rattle.al_scalar.specs.Plain as plain
 use Rattle.al_scalar.specs.Scalar as value
 use Rattle.al_scalar.specs.Places.{lines_at}
@@ -12,7 +12,7 @@ use Rattle.al_scalar.specs.declared.scalars.ScalarRead.{ScalarRead}
 use Rattle.al_scalar.specs.declared.faults.YamlFault.{YamlFault}
 
 -- what is read of the lines at a place
-abbrev pub reading_at : ScalarContext → List Line → Result value.ScalarRead Fault
+abbrev pub reading_at : ScalarContext → List Line → Result value.ScalarRead FaultAt
 reading_at (places.BlockFromIndent indent) ls = value.scalar_at (plain.block indent) ls
 reading_at places.Flow ls = value.scalar_at plain.flow ls
 reading_at places.Empty ls = Ok (value.empty_at ls)
@@ -21,7 +21,7 @@ abbrev pub read_of : List ℕ → ScalarRead → value.ScalarRead
 read_of bytes r = record { scalar = r.scalar; span = r.span; left = lines_at bytes r.next }
 
 -- a fault with a span, as the definitions tell it: by the character that it is at
-abbrev pub placed_fault : YamlFault → Fault
+abbrev pub placed_fault : YamlFault → FaultAt
 placed_fault f = record { code = f.code; at = f.span.start }
 
 abbrev pub GivesScalar : List ℕ → ℕ → ScalarContext → Result ScalarRead YamlFault → Type 0

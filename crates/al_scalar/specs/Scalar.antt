@@ -3,7 +3,8 @@ use Rattle.std.specs.Prelude.{ℕ, List, [], ◌∷◌, map, drop, true, false, 
 use Rattle.al_base.specs.Ascii.{ascii}
 use Rattle.al_base.specs.declared.codes.YamlCode.TheVariants as yaml
 use Rattle.al_scalar.specs.Line.{Cell, Line, start, begins, cut}
-use Rattle.al_scalar.specs.Taken.{Fault, Taken, ◌>>=◌, fault}
+use Rattle.al_scalar.specs.Taken.{Taken, ◌>>=◌, fault}
+use Rattle.al_scalar.specs.declared.faults.FaultAt.{FaultAt}
 use Rattle.al_scalar.specs.Plain.{Context, flow, block, is_flow, plain}
 use Rattle.al_scalar.specs.Quoted.{single_quoted, double_quoted}
 use Rattle.al_scalar.specs.Block.{block_scalar}
@@ -12,6 +13,7 @@ use Rattle.al_scalar.specs.declared.styles.Style.{Style}
 use Rattle.al_scalar.specs.declared.styles.Style.TheVariants as style
 use Rattle.al_scalar.specs.declared.styles.Class.{Class}
 use Rattle.al_scalar.specs.declared.styles.Class.TheVariants as class
+use Rattle.al_base.specs.Spans.{span}
 use Rattle.al_base.specs.declared.faults.Span.{Span}
 
 -- the end is that of the written form, where `locate` is at the length of the text
@@ -20,9 +22,6 @@ pub record Scalar : Type 0 where
   pub class : Class
   pub cells : List Cell
   pub end : ℕ
-
-abbrev pub span : ℕ → ℕ → Span
-span start end = record { start = start; end = end }
 
 -- what reading a scalar gives: the span of its written form, and the lines left
 pub record ScalarRead : Type 0 where
@@ -35,7 +34,7 @@ abbrev pub class_in : Style → List Cell → Class
 class_in style.Plain cs = class_of (map (λ (c : Cell). c.0) cs)
 class_in _ cs = class.Str
 
-abbrev pub read_as : Style → ℕ → Result Taken Fault → Result ScalarRead Fault
+abbrev pub read_as : Style → ℕ → Result Taken FaultAt → Result ScalarRead FaultAt
 read_as style at taken = taken >>= (λ t. Ok (record {
   scalar = record { style = style; class = class_in style t.text; cells = t.text; end = t.end };
   span = span at t.end;
@@ -61,7 +60,7 @@ after_first [] = []
 after_first (l ∷ ls) = cut (drop 1 l.text) l ls
 
 -- what a scalar of a style takes from the lines, which begin with its first character
-abbrev pub taken_as : Context → Style → List Line → Result Taken Fault
+abbrev pub taken_as : Context → Style → List Line → Result Taken FaultAt
 taken_as p style.SingleQuoted ls = single_quoted (start ls) (after_first ls)
 taken_as p style.DoubleQuoted ls = double_quoted (start ls) (after_first ls)
 taken_as p style.Literal ls = block_scalar true (within_of p) ls
@@ -69,7 +68,7 @@ taken_as p style.Folded ls = block_scalar false (within_of p) ls
 taken_as p style.Plain ls = plain p ls
 
 -- the scalar whose first character begins the lines
-abbrev pub scalar_at : Context → List Line → Result ScalarRead Fault
+abbrev pub scalar_at : Context → List Line → Result ScalarRead FaultAt
 scalar_at p [] = fault yaml.UnexpectedCharacter 0
 scalar_at p (l ∷ ls) =
     let kind = style_at p l.text in
@@ -82,9 +81,12 @@ empty_scalar at = record { style = style.Plain; class = class.Null; cells = []; 
 abbrev pub empty_at : List Line → ScalarRead
 empty_at ls = record { scalar = empty_scalar (start ls); span = span (start ls) (start ls); left = ls }
 
--- the offset of cell i, and the end behind the last one
+-- the offset of cell i, and an end behind the last one
+abbrev pub offset_or : List Cell → ℕ → ℕ → ℕ
+offset_or cs end i = slice_index_or (map (λ (c : Cell). c.1) cs) i end
+
 abbrev pub offset_of : Scalar → ℕ → ℕ
-offset_of s i = slice_index_or (map (λ (c : Cell). c.1) s.cells) i s.end
+offset_of s i = offset_or s.cells s.end i
 
 abbrev pub text_of : Scalar → List ℕ
 text_of s = map (λ (c : Cell). c.0) s.cells

@@ -4,11 +4,7 @@ use Rattle.std.specs.Option.{option_map, option_to_list}
 use Rattle.al_base.specs.Ascii.{ascii}
 use Rattle.al_scalar.specs.Line.{Cell, Line}
 use Rattle.al_base.specs.declared.codes.YamlCode.{YamlCode}
-
--- a fault, and the offset of the character that it is at
-pub record Fault : Type 0 where
-  pub code : YamlCode
-  pub at : ℕ
+use Rattle.al_scalar.specs.declared.faults.FaultAt.{FaultAt}
 
 -- The decoded bytes, each with the offset that gave it, the end of the written form, and the lines left.
 pub record Taken : Type 0 where
@@ -21,15 +17,15 @@ abbrev pub with_text : List Cell → Taken → Taken
 with_text cs t = record { text = cs ++ t.text; end = t.end; left = t.left }
 
 infixl 10 ◌>>=◌
-abbrev pub ◌>>=◌ : {A B : Type 0} → Result A Fault → (A → Result B Fault) → Result B Fault
+abbrev pub ◌>>=◌ : {A B : Type 0} → Result A FaultAt → (A → Result B FaultAt) → Result B FaultAt
 (Ok x) >>= f = f x
 (Err e) >>= f = Err e
 
-abbrev pub before : List Cell → Result Taken Fault → Result Taken Fault
+abbrev pub before : List Cell → Result Taken FaultAt → Result Taken FaultAt
 before cs (Ok t) = Ok (with_text cs t)
 before cs (Err e) = Err e
 
-abbrev pub fault : {A : Type 0} → YamlCode → ℕ → Result A Fault
+abbrev pub fault : {A : Type 0} → YamlCode → ℕ → Result A FaultAt
 fault code at = Err (record { code = code; at = at })
 
 -- A break is folded to a space, unless empty lines follow it, which give an LF each (6.5).

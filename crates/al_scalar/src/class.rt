@@ -2,15 +2,15 @@
 
 ghost use Rattle.std.specs.Prelude.{◌≡◌, IsTrue};
 ghost use Rattle.std.specs.Char.{is_ascii_digit};
-ghost use Rattle.std.specs.List.{list_any};
-ghost use Rattle.std.specs.Str.{bytes_eq};
-ghost use Rattle.al_scalar.specs.Class.{is_one_of, nulls, booleans, is_integer, is_float, is_decimal, is_fraction, is_pure_fraction};
+ghost use Rattle.al_scalar.specs.Class.{nulls, booleans, is_integer, is_float, is_decimal, is_fraction, is_pure_fraction};
 ghost use Rattle.al_scalar.specs.Class.{is_exponent, after_digits, is_prefixed, without_sign, are_digits, is_digit_in};
 ghost use Rattle.al_scalar.specs.Class.{class_of};
 ghost use Rattle.al_scalar.specs.Private.Values.{begins_value};
 ghost use Rattle.al_base.specs.FirstBytes.{first_is};
+ghost use Rattle.al_base.specs.Names.{among};
 
 use crate::styles::Class;
+use al_base::is_among;
 
 /// The texts of null.
 const NULLS: [&str; 5] = ["", "null", "Null", "NULL", "~"];
@@ -24,25 +24,18 @@ const INFINITIES: [&str; 3] = [".inf", ".Inf", ".INF"];
 /// The texts of what is no number.
 const NOT_NUMBERS: [&str; 3] = [".nan", ".NaN", ".NAN"];
 
-/// Whether a text is one of some words.
-fn is_one_of(words: &[&str], text: &[u8]) -> bool
-    ensures { result ≡ list_any (λ word. bytes_eq word.now text.now) words.now }
-{
-    words.iter().any(|word| word.as_bytes() == text)
-}
-
 /// Whether a text is a null.
 fn is_null(text: &[u8]) -> bool
-    ensures { result ≡ is_one_of nulls text.now }
+    ensures { result ≡ among nulls text.now }
 {
-    is_one_of(&NULLS, text)
+    is_among(text, &NULLS)
 }
 
 /// Whether a text is true or false.
 fn is_boolean(text: &[u8]) -> bool
-    ensures { result ≡ is_one_of booleans text.now }
+    ensures { result ≡ among booleans text.now }
 {
-    is_one_of(&BOOLEANS, text)
+    is_among(text, &BOOLEANS)
 }
 
 /// The base of a number's digits.
@@ -167,7 +160,7 @@ fn is_float(text: &[u8]) -> bool
     ensures { result ≡ is_float text.now }
 {
     let number = without_sign(text);
-    is_decimal(number) || is_one_of(&INFINITIES, number) || is_one_of(&NOT_NUMBERS, text)
+    is_decimal(number) || is_among(number, &INFINITIES) || is_among(text, &NOT_NUMBERS)
 }
 
 /// Whether a word or a number may begin with a byte.

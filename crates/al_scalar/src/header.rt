@@ -2,7 +2,8 @@
 
 ghost use Rattle.std.specs.Prelude.{◌≡◌, ◌≤◌, IfSome, None, Some, length};
 ghost use Rattle.al_scalar.specs.Block.{header, is_digit as block_digit};
-ghost use Rattle.al_scalar.specs.Block.{is_sign as block_sign, chomping_of as chomping_by};
+ghost use Rattle.al_scalar.specs.Block.{chomping_of as chomping_by};
+ghost use Rattle.al_base.specs.Ascii.{is_sign as block_sign};
 ghost use Rattle.al_scalar.specs.Private.BlockRead.{Indicates, EndsHeader};
 ghost use Rattle.al_scalar.specs.Places.{text_at};
 

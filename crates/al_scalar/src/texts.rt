@@ -3,7 +3,7 @@
 ghost use Rattle.std.specs.Prelude.{◌≡◌, ℕ, ◌+◌, ◌<◌, ◌≤◌, ◌^◌, List, [], ◌∷◌, ◌++◌, length, map, IsTrue, IfOk, OnErr};
 ghost use Rattle.al_scalar.specs.Line.{Cell};
 ghost use Rattle.al_scalar.specs.LineEnds.{cells_between};
-ghost use Rattle.al_scalar.specs.Private.Located.{offset_or};
+ghost use Rattle.al_scalar.specs.Scalar.{offset_or};
 ghost use Rattle.al_scalar.specs.Private.Segments.{first_run, offset_in, offset_at, cells_from, AreBehind, AreInRange, IsRising};
 ghost use Rattle.al_scalar.specs.Private.Segments.{IsOrdered, GoesOn};
 ghost use Rattle.al_scalar.specs.Private.Forms.{short_cells, IsSound};

@@ -1,5 +1,5 @@
 -- Files that are kept without a check, and checked once all of them are there.
-use Rattle.std.proofs.Common.{zero, suc, ◌≡◌, ℕ, ◌+◌, ◌<◌, ◌≤◌, ◌^◌, ◌-◌, ◌||◌, Bool, true, false, List, [], ◌∷◌, ◌++◌, length, map, take}
+use Rattle.std.proofs.Common.{zero, suc, ◌≡◌, ℕ, ◌+◌, ◌<◌, ◌≤◌, ◌||◌, Bool, true, false, List, [], ◌∷◌, ◌++◌, length, map, take}
 use Rattle.std.proofs.Common.{slice_get, Option, Some, None, Err, String, Vec, is_some, refl, sym, ◌∙◌, ap, subst, arith}
 use Rattle.std.specs.Prelude.{string_bytes, bytes_eq, IsSome}
 use Rattle.std.specs.Global.{Global}
@@ -19,8 +19,8 @@ use Rattle.al_session_folder.specs.Meaning.{Meaning}
 use Rattle.al_session_folder.specs.declared.kept.KeptFile.{KeptFile}
 use Rattle.al_session_folder.specs.Folder.{Folder, bytes_at, faults_in, paths_of}
 use Rattle.al_session_folder.specs.Affected.{is_among}
-use Rattle.al_session_folder.specs.Kept.{Files, folder_of, file_at, faults_of, IsKept, AllKept, AreKept, Callers, IsIndex}
-use Rattle.al_session_folder.specs.Place.{place_of}
+use Rattle.al_session_folder.specs.Kept.{Files, folder_of, file_at, faults_of, IsKept, AllKept, AreKept, Callers, IsCallerIndex}
+use Rattle.al_session_folder.specs.Place.{path_place}
 use Rattle.al_session_folder.proofs.Places.{gap, length-folder_of}
 use Rattle.al_session_folder.proofs.Views.{all_in, bytes_kept, bytes_self, kept_at}
 use Rattle.al_session_folder.proofs.Affecting.{changed_sorted}
@@ -50,7 +50,7 @@ module _ {U I : Type 0} (m : Meaning I) (is_unit : U → List ℕ → List ℕ �
 
   -- a file in a new place
   pub new_kept : (p : List ℕ) (es : Files U I) (i : ℕ) (name : String Global) (file : KeptFile U I) → AreKept m is_unit es → IsKept m is_unit p file → string_bytes name ≡ p
-      → place_of (paths_of (folder_of es)) p ≡ Err i → length es < 4096 → AreKept m is_unit (insert es i (name, file))
+      → path_place (paths_of (folder_of es)) p ≡ Err i → length es < 4096 → AreKept m is_unit (insert es i (name, file))
   new_kept p es i name file kept one same place few =
       let within : i ≤ length es = omega (arith, (gap p (folder_of es) i place).within, length-folder_of es) in
       record {
@@ -179,29 +179,28 @@ has_file {U} {I} es p = same (file_at es p) ∙ ap is_some (sym (bytes_kept es p
     same (Some file) = refl
 
 -- kept files with the index of their folder are loaded
-pub loaded_by : {U I S R : Type 0} (m : Meaning I) (is_unit : U → List ℕ → List ℕ → Type 0) (es es2 : Files U I) (g : Folder) (callers : Callers S R) (k : ℕ)
-    → AreKept m is_unit es → es2 ≡ es → folder_of es ≡ g → IsIndex m g callers → k ≤ 2 ^ 64 - 1 → AreLoaded m is_unit es2 callers k
-loaded_by m is_unit es es2 g callers k kept same folder index bound =
-    let P : Files _ _ → Type 0 = λ l. AreLoaded m is_unit l callers k in
-    let N : Folder → Type 0 = λ f. IsIndex m f callers in
-    subst P (sym same) (record { kept = kept; index = subst N (sym folder) index; counted = bound })
+pub loaded_by : {U I S R : Type 0} (m : Meaning I) (is_unit : U → List ℕ → List ℕ → Type 0) (es es2 : Files U I) (g : Folder) (callers : Callers S R)
+    → AreKept m is_unit es → es2 ≡ es → folder_of es ≡ g → IsCallerIndex m g callers → AreLoaded m is_unit es2 callers
+loaded_by m is_unit es es2 g callers kept same folder index =
+    let P : Files _ _ → Type 0 = λ l. AreLoaded m is_unit l callers in
+    let N : Folder → Type 0 = λ f. IsCallerIndex m f callers in
+    subst P (sym same) (record { kept = kept; index = subst N (sym folder) index })
 
 -- what is loaded and checked is linted
-pub loaded_linted : {U I S R : Type 0} (m : Meaning I) (is_unit : U → List ℕ → List ℕ → Type 0) (old es : Files U I) (callers : Callers S R) (n k : ℕ)
-    → AreLoaded m is_unit old callers n → AreKept m is_unit es → AllChecked m (folder_of old) es → folder_of es ≡ folder_of old → k ≤ 2 ^ 64 - 1 → AreLinted m is_unit es callers k
-loaded_linted m is_unit old es callers n k loaded kept checked same bound =
+pub loaded_linted : {U I S R : Type 0} (m : Meaning I) (is_unit : U → List ℕ → List ℕ → Type 0) (old es : Files U I) (callers : Callers S R)
+    → AreLoaded m is_unit old callers → AreKept m is_unit es → AllChecked m (folder_of old) es → folder_of es ≡ folder_of old → AreLinted m is_unit es callers
+loaded_linted m is_unit old es callers loaded kept checked same =
     let C : Folder → Type 0 = λ f. AllChecked m f es in
-    let N : Folder → Type 0 = λ f. IsIndex m f callers in
-    record { kept = kept; faults = subst C (sym same) checked; index = subst N (sym same) loaded.index; counted = bound }
+    let N : Folder → Type 0 = λ f. IsCallerIndex m f callers in
+    record { kept = kept; faults = subst C (sym same) checked; index = subst N (sym same) loaded.index }
 
 -- what is kept of no file
 pub empty_loaded : {U I S R : Type 0} (m : Meaning I) (is_unit : U → List ℕ → List ℕ → Type 0) (es : Files U I) (callers : Callers S R)
-    (k : ℕ) → es ≡ [] → callers.entries ≡ [] → k ≤ 2 ^ 64 - 1 → AreLoaded m is_unit es callers k
+    → es ≡ [] → callers.entries ≡ [] → AreLoaded m is_unit es callers
 unfolding IsStrictlySortedBy
-empty_loaded {U} {I} m is_unit es callers k none lacks bound =
-    let P : Files U I → Type 0 = λ l. AreLoaded m is_unit l callers k in
+empty_loaded {U} {I} m is_unit es callers none lacks =
+    let P : Files U I → Type 0 = λ l. AreLoaded m is_unit l callers in
     subst P (sym none) (record {
       kept = record { ordered = tt; few = omega arith; kept = tt };
       index = λ c q. ap (λ l. option_map_or (λ known. contains_text known q) (lookup (λ k. bytes_eq c (string_bytes k)) l) false) lacks;
-      counted = bound;
     })

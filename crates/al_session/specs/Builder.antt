@@ -1,15 +1,14 @@
 -- What is true of the files that a session is to begin with.
-use Rattle.std.specs.Prelude.{ℕ, ◌≤◌, ◌^◌, ◌-◌, List}
+use Rattle.std.specs.Prelude.{ℕ, List}
 use Rattle.al_session_folder.specs.Meaning.{Meaning}
-use Rattle.al_session_folder.specs.Kept.{AreKept, Callers, Files, IsIndex, folder_of}
+use Rattle.al_session_folder.specs.Kept.{AreKept, Callers, Files, IsCallerIndex, folder_of}
 use Rattle.al_session.specs.declared.indexed.IndexedFiles.{IndexedFiles}
 
 -- Files that were read, whose faults are not told yet: the index is that of their folder.
 pub record AreLoaded {U I S R : Type 0} (m : Meaning I) (is_unit : U → List ℕ → List ℕ → Type 0) (files : Files U I)
-    (callers : Callers S R) (checks : ℕ) : Type 0 where
+    (callers : Callers S R) : Type 0 where
   pub kept : AreKept m is_unit files
-  pub index : IsIndex m (folder_of files) callers
-  pub counted : checks ≤ 2 ^ 64 - 1
+  pub index : IsCallerIndex m (folder_of files) callers
 
-abbrev pub IsLoaded : {U I : Type 0} → Meaning I → (U → List ℕ → List ℕ → Type 0) → IndexedFiles U I → ℕ → Type 0
-IsLoaded m is_unit kept checks = AreLoaded m is_unit kept.files.entries kept.callers checks
+abbrev pub IsLoaded : {U I : Type 0} → Meaning I → (U → List ℕ → List ℕ → Type 0) → IndexedFiles U I → Type 0
+IsLoaded m is_unit kept = AreLoaded m is_unit kept.files.entries kept.callers

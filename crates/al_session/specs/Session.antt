@@ -1,9 +1,9 @@
 -- What a session is, what is true of what it keeps, and what a put reads.
-use Rattle.std.specs.Prelude.{◌≡◌, ◌≢◌, ℕ, ◌≤◌, ◌^◌, ◌-◌, List, None, Some}
+use Rattle.std.specs.Prelude.{◌≡◌, ◌≢◌, ℕ, List, None, Some}
 use Rattle.al_base.specs.Counted.{count_after}
 use Rattle.al_session_folder.specs.Meaning.{IsUpTo, Meaning}
 use Rattle.al_session_folder.specs.Folder.{Folder, bytes_at, put_refusal}
-use Rattle.al_session_folder.specs.Kept.{Files, folder_of, Callers, IsIndex, AreKept}
+use Rattle.al_session_folder.specs.Kept.{Files, folder_of, Callers, IsCallerIndex, AreKept}
 use Rattle.al_session_folder.specs.Checked.{AllChecked}
 use Rattle.al_session.specs.declared.indexed.IndexedFiles.{IndexedFiles}
 
@@ -15,18 +15,17 @@ pub record SessionState : Type 0 where
 
 -- What is true of what a session keeps: the faults are those of its folder, and so is the index.
 pub record AreLinted {U I S R : Type 0} (m : Meaning I) (is_unit : U → List ℕ → List ℕ → Type 0) (files : Files U I)
-    (callers : Callers S R) (checks : ℕ) : Type 0 where
+    (callers : Callers S R) : Type 0 where
   pub kept : AreKept m is_unit files
   pub faults : AllChecked m (folder_of files) files
-  pub index : IsIndex m (folder_of files) callers
-  pub counted : checks ≤ 2 ^ 64 - 1
+  pub index : IsCallerIndex m (folder_of files) callers
 
 -- the folder that these files make
 abbrev pub folder_in : {U I : Type 0} → IndexedFiles U I → Folder
 folder_in kept = folder_of kept.files.entries
 
-abbrev pub IsLinted : {U I : Type 0} → Meaning I → (U → List ℕ → List ℕ → Type 0) → IndexedFiles U I → ℕ → Type 0
-IsLinted m is_unit kept checks = AreLinted m is_unit kept.files.entries kept.callers checks
+abbrev pub IsLinted : {U I : Type 0} → Meaning I → (U → List ℕ → List ℕ → Type 0) → IndexedFiles U I → Type 0
+IsLinted m is_unit kept = AreLinted m is_unit kept.files.entries kept.callers
 
 -- What a put of these bytes adds to the count of reads: one at most; none where the file has just these bytes, and one where it has others
 -- and only memory can refuse them.

@@ -1,6 +1,6 @@
 //! Files that are read one after another, and checked once all are there.
 
-ghost use Rattle.std.specs.Prelude.{◌≡◌, ◌≢◌, ◌≤◌, ◌<◌, ◌^◌, ◌-◌, [], None, Some, length, true, IfOk, OnOk, OnErr, IfErr};
+ghost use Rattle.std.specs.Prelude.{◌≡◌, ◌≢◌, ◌≤◌, ◌<◌, [], None, Some, length, true, IfOk, OnOk, OnErr, IfErr};
 ghost use Rattle.std.specs.Option.{option_copied, option_map};
 ghost use Rattle.al_base.specs.Counted.{count_after};
 ghost use Rattle.al_base.specs.Paths.{path_fault_of};
@@ -33,7 +33,7 @@ pub struct SessionBuilder<L: Lint> {
 }
 
 impl<L: Lint> Model for SessionBuilder<L> {
-    ghost use Rattle.std.specs.Prelude.{◌≤◌, ◌^◌, ◌-◌};
+    ghost use Rattle.std.specs.Prelude.{◌≤◌};
     ghost use Rattle.al_session.specs.Builder.{IsLoaded};
     ghost use Rattle.al_session_folder.specs.Kept.{folder_of};
     ghost use Rattle.al_session.specs.Session.{SessionState};
@@ -42,8 +42,7 @@ impl<L: Lint> Model for SessionBuilder<L> {
 
     ghost view = { λ s. record { folder = folder_of s.kept.files.entries; checks = L.checks_of s.lint; reads = L.reads_of s.lint } };
 
-    ghost invariant = { λ s. IsLoaded L.meaning L.is_unit s.kept (L.checks_of s.lint)
-        × (L.reads_of s.lint ≤ 2 ^ 64 - 1) };
+    ghost invariant = { λ s. IsLoaded L.meaning L.is_unit s.kept };
 }
 
 impl<L: Lint> SessionBuilder<L> {
@@ -53,9 +52,6 @@ impl<L: Lint> SessionBuilder<L> {
         ensures checks { result.checks ≡ L.checks_of lint }
         ensures reads { result.reads ≡ L.reads_of lint }
     {
-        // A count is at most the greatest `u64`, which the calls show.
-        let _checks = lint.checks();
-        let _reads = lint.reads();
         SessionBuilder {
             lint,
             kept: IndexedFiles {
@@ -145,13 +141,13 @@ fn load_file<L: Lint>(
     path: &str,
     bytes: &[u8],
 ) -> Result<(), AllocError>
-    requires loaded { IsLoaded L.meaning L.is_unit kept.old (L.checks_of lint.old) }
+    requires loaded { IsLoaded L.meaning L.is_unit kept.old }
     requires valid { path_fault_of path.now ≡ None }
     requires accepted { L.meaning.accepts path.now ≡ true }
     requires small { length bytes.now ≤ largest_file }
     requires room { bytes_at (folder_in kept.old) path.now ≡ None
         → length kept.old.files.entries < most_files }
-    ensures loaded { IsLoaded L.meaning L.is_unit kept.new (L.checks_of lint.new) }
+    ensures loaded { IsLoaded L.meaning L.is_unit kept.new }
     ensures folder { OnOk result
         (folder_in kept.new ≡ with_file (folder_in kept.old) path.now bytes.now) }
     ensures as_before { OnErr result (kept.new.files.entries ≡ kept.old.files.entries) }
@@ -177,7 +173,7 @@ fn session_of<L: Lint>(
     mut lint: L,
     mut kept: IndexedFiles<L::Unit, L::Iface>,
 ) -> Result<Session<L>, AllocError>
-    requires { IsLoaded L.meaning L.is_unit kept (L.checks_of lint) }
+    requires { IsLoaded L.meaning L.is_unit kept }
     ensures folder { IfOk result (λ session. session.folder ≡ folder_in kept) }
     ensures checks { IfOk result
         (λ session. session.checks ≡ count_after (L.checks_of lint) (length (folder_in kept))) }
@@ -192,8 +188,8 @@ fn check_all<L: Lint>(
     lint: &mut L,
     kept: &mut IndexedFiles<L::Unit, L::Iface>,
 ) -> Result<(), AllocError>
-    requires { IsLoaded L.meaning L.is_unit kept.old (L.checks_of lint.old) }
-    ensures linted { OnOk result (IsLinted L.meaning L.is_unit kept.new (L.checks_of lint.new)) }
+    requires { IsLoaded L.meaning L.is_unit kept.old }
+    ensures linted { OnOk result (IsLinted L.meaning L.is_unit kept.new) }
     ensures folder { OnOk result (folder_in kept.new ≡ folder_in kept.old) }
     ensures checks { OnOk result
         (L.checks_of lint.new ≡ count_after (L.checks_of lint.old) (length (folder_in kept.old))) }

@@ -59,7 +59,6 @@ pub struct Session<L: Lint> {
 }
 
 impl<L: Lint> Model for Session<L> {
-    ghost use Rattle.std.specs.Prelude.{◌≤◌, ◌^◌, ◌-◌};
     ghost use Rattle.al_session_folder.specs.Kept.{folder_of};
     ghost use Rattle.al_session.specs.Session.{IsLinted, SessionState, folder_in};
     ghost use Rattle.al_session.specs.Private.Graphs.{IsGraphIf};
@@ -68,8 +67,7 @@ impl<L: Lint> Model for Session<L> {
 
     ghost view = { λ s. record { folder = folder_of s.kept.files.entries; checks = L.checks_of s.lint; reads = L.reads_of s.lint } };
 
-    ghost invariant = { λ s. IsLinted L.meaning L.is_unit s.kept (L.checks_of s.lint)
-        × (L.reads_of s.lint ≤ 2 ^ 64 - 1)
+    ghost invariant = { λ s. IsLinted L.meaning L.is_unit s.kept
         × IsGraphIf L.meaning (folder_in s.kept) s.calls };
 }
 
@@ -80,9 +78,6 @@ impl<L: Lint> Session<L> {
         ensures checks { result.checks ≡ L.checks_of lint }
         ensures reads { result.reads ≡ L.reads_of lint }
     {
-        // A count is at most the greatest `u64`, which the calls show.
-        let _checks = lint.checks();
-        let _reads = lint.reads();
         Session {
             lint,
             kept: IndexedFiles {
@@ -96,13 +91,11 @@ impl<L: Lint> Session<L> {
 
     /// A session of files that were read and checked. Takes no memory.
     pub(crate) fn of(lint: L, kept: IndexedFiles<L::Unit, L::Iface>) -> Session<L>
-        requires { IsLinted L.meaning L.is_unit kept (L.checks_of lint) }
+        requires { IsLinted L.meaning L.is_unit kept }
         ensures folder { result.folder ≡ folder_in kept }
         ensures checks { result.checks ≡ L.checks_of lint }
         ensures reads { result.reads ≡ L.reads_of lint }
     {
-        // A count is at most the greatest `u64`, which the call shows.
-        let _reads = lint.reads();
         Session {
             lint,
             kept,

@@ -19,7 +19,7 @@ use Rattle.al_session_folder.specs.Meaning.{Meaning, candidates, is_candidate}
 use Rattle.std.proofs.lemmas.List.{take_more}
 use Rattle.std.proofs.lemmas.List.Folds.{list_any-append}
 use Rattle.al_session_folder.proofs.Missings.{paths_same}
-use Rattle.al_session_folder.specs.Folder.{Folder, without_file, bytes_at, paths_of, interface_in, first_of, answer}
+use Rattle.al_session_folder.specs.Folder.{Folder, without_file, bytes_at, paths_of, interface_in, find_map, answer}
 use Rattle.al_session_folder.specs.Affected.{is_untouched, affected_paths, is_affected, is_among}
 use Rattle.al_session_folder.specs.Kept.{with_bytes_at}
 use Rattle.al_base.specs.InOrder.{in_order, with_one}
@@ -52,12 +52,12 @@ eq_flipped p q false h = by (bytes_eq q p) refl
 
 -- a change at p leaves the answer of every call that has no candidate p
 module _ {I : Type 0} (m : Meaning I) (p : List ℕ) (f : Folder) (now : Option (List ℕ)) (ordered : IsStrictlySortedBy (slice_cmp nat_cmp) (paths_of f)) where
-  among_changed : (ps : List (List ℕ)) → list_any (bytes_eq p) ps ≡ false → first_of (interface_in m (with_bytes_at f p now)) ps ≡ first_of (interface_in m f) ps
+  among_changed : (ps : List (List ℕ)) → list_any (bytes_eq p) ps ≡ false → find_map (interface_in m (with_bytes_at f p now)) ps ≡ find_map (interface_in m f) ps
   among_changed [] none = refl
   among_changed (q ∷ ps) none =
       let far : bytes_eq q p ≡ false = eq_flipped p q false (or_left (bytes_eq p q) (list_any (bytes_eq p) ps) none) in
       let same : bytes_at (with_bytes_at f p now) q ≡ bytes_at f q = bytes_changed p q f now ordered ∙ cond-false _ _ _ far in
-      ap (λ o. option_or (option_map (m.interface q) o) (first_of (interface_in m (with_bytes_at f p now)) ps)) same
+      ap (λ o. option_or (option_map (m.interface q) o) (find_map (interface_in m (with_bytes_at f p now)) ps)) same
       ∙ ap (option_or (interface_in m f q)) (among_changed ps (or_right (bytes_eq p q) (list_any (bytes_eq p) ps) none))
 
   pub answer_changed : (t : Target) → list_any (bytes_eq p) (candidates t) ≡ false → answer m (with_bytes_at f p now) t ≡ answer m f t
@@ -65,10 +65,10 @@ module _ {I : Type 0} (m : Meaning I) (p : List ℕ) (f : Folder) (now : Option 
   answer_changed t none = among_changed (candidates t) none
 
   -- it leaves every answer where p offers what it offered
-  among_still : interface_in m f p ≡ interface_in m (with_bytes_at f p now) p → (ps : List (List ℕ)) → first_of (interface_in m (with_bytes_at f p now)) ps ≡ first_of (interface_in m f) ps
+  among_still : interface_in m f p ≡ interface_in m (with_bytes_at f p now) p → (ps : List (List ℕ)) → find_map (interface_in m (with_bytes_at f p now)) ps ≡ find_map (interface_in m f) ps
   among_still still [] = refl
   among_still still (q ∷ ps) =
-      ap (λ o. option_or o (first_of (interface_in m (with_bytes_at f p now)) ps)) (by (bytes_eq q p) refl)
+      ap (λ o. option_or o (find_map (interface_in m (with_bytes_at f p now)) ps)) (by (bytes_eq q p) refl)
       ∙ ap (option_or (interface_in m f q)) (among_still still ps)
     where
       by : (t : Bool) → bytes_eq q p ≡ t → interface_in m (with_bytes_at f p now) q ≡ interface_in m f q

@@ -22,10 +22,10 @@ use Rattle.al_graph.proofs.Edges.{edges_at}
 use Rattle.al_graph.proofs.Lists.{none_in}
 use Rattle.al_graph.proofs.OneWay.{no_loop_before, no_loop_behind, part_tells}
 use Rattle.al_session_folder.specs.Meaning.{Meaning, candidates}
-use Rattle.al_session_folder.specs.Folder.{Folder, first_of, paths_of}
+use Rattle.al_session_folder.specs.Folder.{Folder, find_map, paths_of}
 use Rattle.al_session_folder.specs.Kept.{Files, folder_of, entry_of, AllKept, AreKept, IsKept}
-use Rattle.al_session_folder.specs.Loops.{callee, calls_graph, leads_back, loop_faults, number_of}
-use Rattle.al_session_folder.specs.CallGraphs.{IsCallGraph, IsCalledBy, IsRow, NoneBackward, NoneForward, TellLoops, part_of}
+use Rattle.al_session_folder.specs.Loops.{callee, calls_graph, leads_back, loop_faults, number_of_path}
+use Rattle.al_session_folder.specs.CallGraphs.{IsCallGraph, IsCalledBy, IsRow, NoneBackward, NoneForward, TellLoops, edges_between}
 use Rattle.al_session_folder.specs.declared.kept.KeptFile.{KeptFile}
 use Rattle.al_session_folder.specs.declared.lint.Target.{Target}
 use Rattle.al_session_folder.proofs.Ways.{leads_before, leads_behind}
@@ -51,7 +51,7 @@ position_map f p xs =
     ap (λ k. cond (nat_lt k (length (map f xs))) (Some k) None) n ∙ ap (λ k. cond (nat_lt (prefix_len (λ x. not (p (f x))) xs) k) (Some (prefix_len (λ x. not (p (f x))) xs)) None) l
 
 pub number_kept : {U I : Type 0} (files : Files U I) (q : List ℕ) →
-    position (λ k. bytes_eq q (string_bytes k)) (map (λ (e : String Global × KeptFile U I). e.0) files) ≡ number_of (folder_of files) q
+    position (λ k. bytes_eq q (string_bytes k)) (map (λ (e : String Global × KeptFile U I). e.0) files) ≡ number_of_path (folder_of files) q
 number_kept {U} {I} files q =
     position_map (λ (e : String Global × KeptFile U I). e.0) (λ k. bytes_eq q (string_bytes k)) files
     ∙ sym (position_map (λ (e : List ℕ × List ℕ). e.0) (bytes_eq q) (folder_of files)
@@ -74,19 +74,19 @@ position_below p xs k e = by (nat_lt (prefix_len (λ x. not (p x)) xs) (length x
         omega (arith, below, is)
     by false a = absurd (wrong (sym (ap (λ b. cond b (Some (prefix_len (λ x. not (p x)) xs)) None) a) ∙ e))
 
-number_below : (f : Folder) (p : List ℕ) (k : ℕ) → number_of f p ≡ Some k → k < length f
+number_below : (f : Folder) (p : List ℕ) (k : ℕ) → number_of_path f p ≡ Some k → k < length f
 number_below f p k e = let h = position_below (bytes_eq p) (paths_of f) k e in let l : length (paths_of f) ≡ length f = length-map f (λ e. e.0) in omega (arith, h, l)
 
-among_below : (f : Folder) (ps : List (List ℕ)) (k : ℕ) → first_of (number_of f) ps ≡ Some k → k < length f
+among_below : (f : Folder) (ps : List (List ℕ)) (k : ℕ) → find_map (number_of_path f) ps ≡ Some k → k < length f
 among_below f [] k e = absurd (wrong e)
   where
     wrong : None ≡ Some k → ⊥
     wrong h = cc
-among_below f (p ∷ ps) k e = by (number_of f p) refl (λ h. among_below f ps k h)
+among_below f (p ∷ ps) k e = by (number_of_path f p) refl (λ h. among_below f ps k h)
   where
-    by : (o : Option ℕ) → number_of f p ≡ o → (first_of (number_of f) ps ≡ Some k → k < length f) → k < length f
-    by None a rest = rest (sym (ap (λ o. option_or o (first_of (number_of f) ps)) a) ∙ e)
-    by (Some n) a rest = number_below f p k (a ∙ (sym (ap (λ o. option_or o (first_of (number_of f) ps)) a) ∙ e))
+    by : (o : Option ℕ) → number_of_path f p ≡ o → (find_map (number_of_path f) ps ≡ Some k → k < length f) → k < length f
+    by None a rest = rest (sym (ap (λ o. option_or o (find_map (number_of_path f) ps)) a) ∙ e)
+    by (Some n) a rest = number_below f p k (a ∙ (sym (ap (λ o. option_or o (find_map (number_of_path f) ps)) a) ∙ e))
 
 pub called_below : (f : Folder) (t : Target) (k : ℕ) → callee f t ≡ Some k → k < length f
 called_below f t k e = among_below f (candidates t) k e
@@ -298,28 +298,29 @@ module _ (first end : ℕ) where
   row_from n (r ∷ rs) zero j is = let same : n ≡ j = omega (arith, is) in ap (λ i. cond (Inside i) r []) same
   row_from n (r ∷ rs) (suc k) j is = row_from (n + 1) rs k j (omega (arith, is))
 
-  part_row : (g : List (List ℕ)) (k : ℕ) → get_or (part_of first end g) k [] ≡ cond (Inside k) (get_or g k []) []
+  part_row : (g : List (List ℕ)) (k : ℕ) → get_or (edges_between first end g) k [] ≡ cond (Inside k) (get_or g k []) []
   part_row g k = row_from 0 g k k (omega arith)
 
-  length-part_of : (g : List (List ℕ)) → length (part_of first end g) ≡ length g
+  length-part_of : (g : List (List ℕ)) → length (edges_between first end g) ≡ length g
   length-part_of g = length-map (enumerate_from 0 g) Row ∙ length-enumerate_from 0 g
 
-  in_part : (g : List (List ℕ)) (j k : ℕ) → Edge (part_of first end g) j k → Edge g j k
+  in_part : (g : List (List ℕ)) (j k : ℕ) → Edge (edges_between first end g) j k → Edge g j k
   in_part g j k e = by (Inside j) (subst (λ ns. Contains ns k) (part_row g j) e)
     where
       by : (b : Bool) → Contains (cond b (get_or g j []) []) k → Contains (get_or g j []) k
       by true c = c
       by false c = absurd (none_in k c)
 
-  part_has : (g : List (List ℕ)) (j k : ℕ) → first ≤ j → j < end → Edge g j k → Edge (part_of first end g) j k
+  part_has : (g : List (List ℕ)) (j k : ℕ) → first ≤ j → j < end → Edge g j k → Edge (edges_between first end g) j k
   part_has g j k low high e =
       let both : Inside j ≡ true = grind (arith, nat_tests) in
       subst (λ ns. Contains ns k) (sym (part_row g j ∙ ap (λ b. cond b (get_or g j []) []) both)) e
 
-  part_is_row : {I : Type 0} (m : Meaning I) (f : Folder) (i : ℕ) (p b : List ℕ) → slice_get f i ≡ Some (p, b) → IsRow f (get_or (part_of first end (calls_graph m f)) i []) (m.calls p b)
+  part_is_row : {I : Type 0} (m : Meaning I) (f : Folder) (i : ℕ) (p b : List ℕ) → slice_get f i ≡ Some (p, b) → IsRow f (get_or (edges_between first end (calls_graph m f)) i []) (m.calls p b)
   part_is_row m f i p b at = by (Inside i) (part_row (calls_graph m f) i)
     where
-      by : (t : Bool) → get_or (part_of first end (calls_graph m f)) i [] ≡ cond t (get_or (calls_graph m f) i []) [] → IsRow f (get_or (part_of first end (calls_graph m f)) i []) (m.calls p b)
+      by : (t : Bool) → get_or (edges_between first end (calls_graph m f)) i [] ≡ cond t (get_or (calls_graph m f) i []) []
+          → IsRow f (get_or (edges_between first end (calls_graph m f)) i []) (m.calls p b)
       by true e = inr (e ∙ at_file m f i p b at)
       by false e = inl e
 
@@ -381,14 +382,14 @@ module _ {U I : Type 0} (m : Meaning I) (is_unit : U → List ℕ → List ℕ �
       (subst (λ ns. Contains ns z) (at_file m F y p b at) edge)
 
   -- the part has each call on a cycle
-  has_loops : (first end : ℕ) → NoneForward files first → NoneBackward files end → (j k : ℕ) → Edge G j k → Walk G k j → Edge (part_of first end G) j k
+  has_loops : (first end : ℕ) → NoneForward files first → NoneBackward files end → (j k : ℕ) → Edge G j k → Walk G k j → Edge (edges_between first end G) j k
   has_loops first end low high j k e w = ⊎_elim
       (λ lt. absurd (no_loop_before G first (goes_back first low) j k lt e w))
       (λ from. ⊎_elim (λ lt. part_has first end G j k from lt e) (λ past. absurd (no_loop_behind G end (goes_on end high) j k past e w)) (cases_lt j end))
       (cases_lt j first)
 
-  module _ (first end : ℕ) (items seen : List (Vec ℕ Global)) (is : edges_of items ≡ part_of first end G) (same : seen ≡ items) where
-    seen_is : edges_of seen ≡ part_of first end G
+  module _ (first end : ℕ) (items seen : List (Vec ℕ Global)) (is : edges_of items ≡ edges_between first end G) (same : seen ≡ items) where
+    seen_is : edges_of seen ≡ edges_between first end G
     seen_is = ap edges_of same ∙ is
 
     seen_number : length seen ≡ length F
@@ -408,7 +409,7 @@ module _ {U I : Type 0} (m : Meaning I) (is_unit : U → List ℕ → List ℕ �
         ((j k : ℕ) → j < length seen → k < length seen → (get_or labels j None ≡ get_or labels k None) ↔ StronglyConnected (edges_of seen) j k) → IsCallGraph m F items labels
     program_graph labels low high len exact =
         let l : length G ≡ length F = length-map F _ in
-        let P = part_of first end G in
+        let P = edges_between first end G in
         record {
           size = ap length (sym same) ∙ seen_number;
           inside = λ j k e. let below = graph_inside m F j k (in_part first end G j k (subst (λ g. Edge g j k) is e)) in omega (arith, below, l);

@@ -15,7 +15,7 @@ use Rattle.std.proofs.lemmas.Cmp.{nat_list_cmp_total}
 use Rattle.std.proofs.lemmas.Map.{NonePasses, lookup-none}
 use Rattle.std.proofs.lemmas.Bool.{cond-true, cond-false}
 use Rattle.al_session_folder.specs.Folder.{Folder, bytes_at, with_file, without_file, paths_of}
-use Rattle.al_session_folder.specs.Place.{place_of, one_further}
+use Rattle.al_session_folder.specs.Place.{path_place, one_further}
 use Rattle.al_session_folder.specs.Kept.{Files, folder_of}
 use Rattle.al_session_folder.specs.declared.kept.KeptFile.{KeptFile}
 
@@ -37,8 +37,9 @@ module _ (p : List ℕ) where
     pub removes : remove es i ≡ without_file es p
     pub puts : (b : List ℕ) → set es i (p, b) ≡ with_file es p b
 
-  step : (e : List ℕ × List ℕ) (es : Folder) (r : Ordering) → slice_cmp nat_cmp p e.0 ≡ r → place_of (paths_of (e ∷ es)) p ≡ match_ordering r (Err 0) (Ok 0) (one_further (place_of (paths_of es) p))
-  step e es r h = ap (λ o. match_ordering o (Err 0) (Ok 0) (one_further (place_of (paths_of es) p))) h
+  step : (e : List ℕ × List ℕ) (es : Folder) (r : Ordering) → slice_cmp nat_cmp p e.0 ≡ r
+      → path_place (paths_of (e ∷ es)) p ≡ match_ordering r (Err 0) (Ok 0) (one_further (path_place (paths_of es) p))
+  step e es r h = ap (λ o. match_ordering o (Err 0) (Ok 0) (one_further (path_place (paths_of es) p))) h
 
   not_zero : (r : Result ℕ ℕ) → one_further r ≡ Ok 0 → ⊥
   not_zero (Ok i) h = let e : suc i ≡ 0 = cc in omega arith
@@ -60,7 +61,7 @@ module _ (p : List ℕ) where
       ≡ match_ordering r ((p, b) ∷ e ∷ es) ((e.0, b) ∷ es) (e ∷ with_file es p b)
   put_step e es b r h = ap (λ o. match_ordering o ((p, b) ∷ e ∷ es) ((e.0, b) ∷ es) (e ∷ with_file es p b)) h
 
-  pub found : (es : Folder) (i : ℕ) → place_of (paths_of es) p ≡ Ok i → IsFound es i
+  pub found : (es : Folder) (i : ℕ) → path_place (paths_of es) p ≡ Ok i → IsFound es i
   found [] i h = cc
   found (e ∷ es) zero h = by_ordering (slice_cmp nat_cmp p e.0)
       (λ a. let s = step e es Less a in cc)
@@ -103,7 +104,7 @@ module _ (p : List ℕ) where
   unfolding IsStrictlySortedBy
   rest_sorted e es s = s.1
 
-  pub gap : (es : Folder) (i : ℕ) → place_of (paths_of es) p ≡ Err i → IsGap es i
+  pub gap : (es : Folder) (i : ℕ) → path_place (paths_of es) p ≡ Err i → IsGap es i
   gap [] zero h = record { within = omega arith; puts = λ b. refl; lacks = λ s. tt }
   gap [] (suc i) h = let n : 0 ≡ suc i = cc in absurd (omega arith)
   gap (e ∷ es) zero h = by_ordering (slice_cmp nat_cmp p e.0)
@@ -149,7 +150,7 @@ module _ (p : List ℕ) where
       all_less e (f ∷ es) h a = (nat_list_cmp_total.trans p e.0 f.0 h a.0, all_less e es h a.1)
 
 -- a path that is nowhere is not found
-pub absent : (es : Folder) (p : List ℕ) (i : ℕ) → IsStrictlySortedBy (slice_cmp nat_cmp) (paths_of es) → place_of (paths_of es) p ≡ Err i → bytes_at es p ≡ None
+pub absent : (es : Folder) (p : List ℕ) (i : ℕ) → IsStrictlySortedBy (slice_cmp nat_cmp) (paths_of es) → path_place (paths_of es) p ≡ Err i → bytes_at es p ≡ None
 absent es p i s h = lookup-none _ es ((gap p es i h).lacks s)
 
 module _ {U I : Type 0} where

@@ -13,11 +13,11 @@ use Rattle.std.proofs.lemmas.List.{length-map, take_more_same}
 use Rattle.std.proofs.lemmas.Option.{slice_get-map}
 use Rattle.al_graph.specs.Graphs.{Edge, Walk, edges_of}
 use Rattle.al_session_folder.specs.Meaning.{Meaning, candidates}
-use Rattle.al_session_folder.specs.Folder.{Folder, bytes_at, first_of, paths_of, with_file}
+use Rattle.al_session_folder.specs.Folder.{Folder, bytes_at, find_map, paths_of, with_file}
 use Rattle.al_session_folder.specs.Kept.{AreKept, Files, IsKept, file_at, folder_of}
-use Rattle.al_session_folder.specs.Loops.{callee, calls_graph, number_of}
+use Rattle.al_session_folder.specs.Loops.{callee, calls_graph, number_of_path}
 use Rattle.al_session_folder.specs.CallGraphs.{HasSameCalls, IsCallGraph, IsRow, TellLoops, is_same_target}
-use Rattle.al_session_folder.specs.Place.{place_of}
+use Rattle.al_session_folder.specs.Place.{path_place}
 use Rattle.al_session_folder.specs.declared.kept.KeptFile.{KeptFile}
 use Rattle.al_session_folder.specs.declared.lint.Target.{Target}
 use Rattle.al_session_folder.specs.declared.lint.Target.TheVariants.{FirstOf, Only}
@@ -86,9 +86,9 @@ module _ {I : Type 0} (m : Meaning I) (f g : Folder) (same : HasSameCalls m f g)
       let k : length (paths_of f) ≡ length f = length-map f (λ e. e.0) in
       sym n ∙ ap length same.paths ∙ k
 
-  among_same : (ps : List (List ℕ)) → first_of (number_of g) ps ≡ first_of (number_of f) ps
+  among_same : (ps : List (List ℕ)) → find_map (number_of_path g) ps ≡ find_map (number_of_path f) ps
   among_same [] = refl
-  among_same (p ∷ ps) = ap (λ l. option_or (position (bytes_eq p) l) (first_of (number_of g) ps)) same.paths ∙ ap (option_or (number_of f p)) (among_same ps)
+  among_same (p ∷ ps) = ap (λ l. option_or (position (bytes_eq p) l) (find_map (number_of_path g) ps)) same.paths ∙ ap (option_or (number_of_path f p)) (among_same ps)
 
   row_same : (ts : List Target) → filter_map (callee g) ts ≡ filter_map (callee f) ts
   row_same [] = refl
@@ -151,9 +151,9 @@ module _ {I : Type 0} (m : Meaning I) where
 
   pub put_calls : (f : Folder) (p b now : List ℕ) → IsStrictlySortedBy (slice_cmp nat_cmp) (paths_of f) → bytes_at f p ≡ Some b → m.calls p now ≡ m.calls p b →
       HasSameCalls m f (with_file f p now)
-  put_calls f p b now s there same = by (place_of (paths_of f) p) refl
+  put_calls f p b now s there same = by (path_place (paths_of f) p) refl
     where
-      by : (r : Result ℕ ℕ) → place_of (paths_of f) p ≡ r → HasSameCalls m f (with_file f p now)
+      by : (r : Result ℕ ℕ) → path_place (paths_of f) p ≡ r → HasSameCalls m f (with_file f p now)
       by (Err i) h = absurd (wrong (sym (absent f p i s h) ∙ there))
         where
           wrong : None ≡ Some b → ⊥

@@ -17,7 +17,7 @@ use Rattle.std.proofs.Common.{String}
 use Rattle.std.specs.Prelude.{string_bytes}
 use Rattle.std.specs.Global.{Global}
 use Rattle.indexmap.specs.Calls.{ComputesOnEntry}
-use Rattle.al_session_folder.specs.Place.{place_of, one_further}
+use Rattle.al_session_folder.specs.Place.{path_place, one_further}
 use Rattle.al_session_folder.proofs.Places.{exact_path, by_ordering}
 
 abbrev cmp : List ℕ → List ℕ → Ordering
@@ -42,10 +42,10 @@ ordered_at (q ∷ qs) zero (suc j) d s l h = below_at q qs j d s (omega arith)
 ordered_at (q ∷ qs) (suc i) (suc j) d s l h = ordered_at qs i j d (rest_sorted q qs s) (omega arith) (omega arith)
 
 module _ (p : List ℕ) where
-  step : (q : List ℕ) (qs : List (List ℕ)) (o : Ordering) → cmp q p ≡ o → place_of (q ∷ qs) p ≡ match_ordering (ordering_reverse o) (Err 0) (Ok 0) (one_further (place_of qs p))
-  step q qs o h = ap (λ r. match_ordering r (Err 0) (Ok 0) (one_further (place_of qs p))) (flipped q p o h)
+  step : (q : List ℕ) (qs : List (List ℕ)) (o : Ordering) → cmp q p ≡ o → path_place (q ∷ qs) p ≡ match_ordering (ordering_reverse o) (Err 0) (Ok 0) (one_further (path_place qs p))
+  step q qs o h = ap (λ r. match_ordering r (Err 0) (Ok 0) (one_further (path_place qs p))) (flipped q p o h)
 
-  place_at : (qs : List (List ℕ)) (i : ℕ) (d : List ℕ) → IsStrictlySortedBy (slice_cmp nat_cmp) qs → i < length qs → cmp (get_or qs i d) p ≡ Equal → place_of qs p ≡ Ok i
+  place_at : (qs : List (List ℕ)) (i : ℕ) (d : List ℕ) → IsStrictlySortedBy (slice_cmp nat_cmp) qs → i < length qs → cmp (get_or qs i d) p ≡ Equal → path_place qs p ≡ Ok i
   place_at [] i d s h e = absurd (omega arith)
   place_at (q ∷ qs) zero d s h e = step q qs Equal e
   place_at (q ∷ qs) (suc i) d s h e =
@@ -55,7 +55,7 @@ module _ (p : List ℕ) where
   place_between : (qs : List (List ℕ)) (i : ℕ) (d : List ℕ) → i ≤ length qs
       → ((k : ℕ) → k < i → cmp (get_or qs k d) p ≡ Less)
       → ((k : ℕ) → i ≤ k → k < length qs → cmp (get_or qs k d) p ≡ Greater)
-      → place_of qs p ≡ Err i
+      → path_place qs p ≡ Err i
   place_between [] zero d h below above = refl
   place_between [] (suc i) d h below above = absurd (omega arith)
   place_between (q ∷ qs) zero d h below above = step q qs Greater (above 0 (omega arith) (omega arith))
@@ -85,7 +85,7 @@ module _ (p : List ℕ) where
       least a b h = subst (λ (o : Ordering). ordering_index o ≤ ordering_index (cmp b p)) (sym h) (omega arith)
 
   place_is : {X : Type 0} (key : X → List ℕ) (xs : List X) (r : Result ℕ ℕ) → IsStrictlySortedBy (slice_cmp nat_cmp) (map key xs) → IsSearchInRange r (length xs)
-      → IsBinarySearchResult (λ x. slice_cmp nat_cmp (key x) p) xs r → r ≡ place_of (map key xs) p
+      → IsBinarySearchResult (λ x. slice_cmp nat_cmp (key x) p) xs r → r ≡ path_place (map key xs) p
   place_is key [] (Ok i) s within found = absurd (omega (arith, within))
   place_is key [] (Err i) s within found = ap Err (omega (arith, within))
   place_is key (x ∷ xs) (Ok i) s within found =
@@ -108,10 +108,10 @@ pub place_from_search : {X : Type 0} (key : X → List ℕ) (p : List ℕ) {F : 
     → map key xs ≡ ps → IsStrictlySortedBy (slice_cmp nat_cmp) ps → IsSearchInRange r (length xs)
     → ((ord : X → Ordering) → ComputesKey g ord f → IsBinarySearchResult ord xs r)
     → ((a : Bor X × Unit {0}) (o : Ordering) (f' : F) → Called g f a o f' → (o ≡ slice_cmp nat_cmp (key a.0.now) p) × (f' ≡ f))
-    → r ≡ place_of ps p
+    → r ≡ path_place ps p
 place_from_search key p {g = g} {f = f} xs ps r same s within found calls =
     let sorted = subst (IsStrictlySortedBy (slice_cmp nat_cmp)) (sym same) s in
-    place_is p key xs r sorted within (found (λ x. slice_cmp nat_cmp (key x) p) (always_returns_same g (λ a o. o ≡ slice_cmp nat_cmp (key a.0.now) p) f calls)) ∙ ap (λ l. place_of l p) same
+    place_is p key xs r sorted within (found (λ x. slice_cmp nat_cmp (key x) p) (always_returns_same g (λ a o. o ≡ slice_cmp nat_cmp (key a.0.now) p) f calls)) ∙ ap (λ l. path_place l p) same
 
 -- the same of the entries of a map
 pub place_from_entries : {V : Type 0} (p : List ℕ) {F : Type 0} {g : Mut F (Bor (String Global) × (Bor V × Unit {0})) Ordering} {f : F}
@@ -119,10 +119,10 @@ pub place_from_entries : {V : Type 0} (p : List ℕ) {F : Type 0} {g : Mut F (Bo
     → map (λ (e : String Global × V). string_bytes e.0) es ≡ ps → IsStrictlySortedBy (slice_cmp nat_cmp) ps → IsSearchInRange r (length es)
     → ((ord : String Global × V → Ordering) → ComputesOnEntry g ord f → IsBinarySearchResult ord es r)
     → ((a : Bor (String Global) × (Bor V × Unit {0})) (o : Ordering) (f' : F) → Called g f a o f' → (o ≡ slice_cmp nat_cmp (string_bytes a.0.now) p) × (f' ≡ f))
-    → r ≡ place_of ps p
+    → r ≡ path_place ps p
 place_from_entries {V = V} p {g = g} {f = f} es ps r same s within found calls =
     let key : String Global × V → List ℕ = λ e. string_bytes e.0 in
     let sorted = subst (IsStrictlySortedBy (slice_cmp nat_cmp)) (sym same) s in
     place_is p key es r sorted within
     (found (λ e. slice_cmp nat_cmp (string_bytes e.0) p)
-    (always_returns_same g (λ a o. o ≡ slice_cmp nat_cmp (string_bytes a.0.now) p) f calls)) ∙ ap (λ l. place_of l p) same
+    (always_returns_same g (λ a o. o ≡ slice_cmp nat_cmp (string_bytes a.0.now) p) f calls)) ∙ ap (λ l. path_place l p) same

@@ -15,11 +15,11 @@ use Rattle.std.proofs.lemmas.Map.Text.{is_eq-slice_cmp}
 use Rattle.std.proofs.lemmas.Slice.Eq.{bytes_eq-Decides}
 use Rattle.al_session_folder.specs.Meaning.{Meaning}
 use Rattle.al_session_folder.specs.Folder.{Folder, bytes_at, with_file, without_file, paths_of, interface_in}
-use Rattle.al_session_folder.specs.Kept.{Files, folder_of, file_at, file_after, after, with_bytes_at, IsKept, AllKept, IsKeptIf, IsView, AreKept}
+use Rattle.al_session_folder.specs.Kept.{Files, folder_of, file_at, file_after, next_folder, with_bytes_at, IsKept, AllKept, IsKeptIf, IsView, AreKept}
 use Rattle.al_session_folder.specs.FolderViews.{IsViewIf, folder_in_view}
 use Rattle.al_session_folder.specs.declared.kept.KeptFile.{KeptFile}
 use Rattle.al_session_folder.proofs.Places.{by_ordering, exact_path, put_step, first_below, rest_sorted, found, absent}
-use Rattle.al_session_folder.specs.Place.{place_of}
+use Rattle.al_session_folder.specs.Place.{path_place}
 
 pub bytes_same : (p q : List ℕ) → bytes_eq p q ≡ true → p ≡ q
 bytes_same p q h = (bytes_eq-Decides p q).0 h
@@ -115,7 +115,7 @@ module _ {U I : Type 0} where
       ∙ cond_map (λ (file : KeptFile U I). file.bytes.items) (bytes_eq q (string_bytes e.0)) e.1 (file_at es q)
 
   pub bytes_after : (files : Files U I) (p q : List ℕ) (now : Option (KeptFile U I)) → IsStrictlySortedBy (slice_cmp nat_cmp) (paths_of (folder_of files))
-      → bytes_at (after files p now) q ≡ option_map (λ (file : KeptFile U I). file.bytes.items) (file_after files p now q)
+      → bytes_at (next_folder files p now) q ≡ option_map (λ (file : KeptFile U I). file.bytes.items) (file_after files p now q)
   bytes_after files p q now s =
       let bytes : KeptFile U I → List ℕ = λ file. file.bytes.items in
       bytes_changed p q (folder_of files) (option_map bytes now) s ∙ ap
@@ -155,7 +155,7 @@ module _ {U I : Type 0} where
 
     -- what a file offers after a change
     pub iface_after : (files : Files U I) (p q : List ℕ) (now found : Option (KeptFile U I)) → IsView m is_unit files p now → found ≡ file_after files p now q
-        → option_map (λ (file : KeptFile U I). file.iface) found ≡ interface_in m (after files p now) q
+        → option_map (λ (file : KeptFile U I). file.iface) found ≡ interface_in m (next_folder files p now) q
     iface_after files p q now None view h = sym (ap (option_map (m.interface q)) (bytes_after files p q now view.kept.ordered ∙ ap (option_map (λ (file : KeptFile U I). file.bytes.items)) (sym h)))
     iface_after files p q now (Some file) view h =
         ap Some (kept_after files p q now file view (sym h)).iface ∙ sym
@@ -164,10 +164,11 @@ module _ {U I : Type 0} where
 
     -- where a file was found, its bytes are in the folder
     pub bytes_found : (files : Files U I) (p q : List ℕ) (now : Option (KeptFile U I)) (file : KeptFile U I) → IsView m is_unit files p now
-        → Some file ≡ file_after files p now q → bytes_at (after files p now) q ≡ Some file.bytes.items
+        → Some file ≡ file_after files p now q → bytes_at (next_folder files p now) q ≡ Some file.bytes.items
     bytes_found files p q now file view h = bytes_after files p q now view.kept.ordered ∙ ap (option_map (λ (file : KeptFile U I). file.bytes.items)) (sym h)
 
-    pub bytes_lacking : (files : Files U I) (p q : List ℕ) (now : Option (KeptFile U I)) → IsView m is_unit files p now → None ≡ file_after files p now q → IsSome (bytes_at (after files p now) q) → ⊥
+    pub bytes_lacking : (files : Files U I) (p q : List ℕ) (now : Option (KeptFile U I)) → IsView m is_unit files p now → None ≡ file_after files p now q
+        → IsSome (bytes_at (next_folder files p now) q) → ⊥
     bytes_lacking files p q now view h there = wrong (subst IsSome (bytes_after files p q now view.kept.ordered ∙ ap (option_map (λ (file : KeptFile U I). file.bytes.items)) (sym h)) there)
       where
         wrong : IsSome {T = List ℕ} None → ⊥
@@ -175,9 +176,9 @@ module _ {U I : Type 0} where
 
 -- a file that is put with the bytes that it has
 pub put_same : (p b : List ℕ) (f : Folder) → IsStrictlySortedBy (slice_cmp nat_cmp) (paths_of f) → bytes_at f p ≡ Some b → with_file f p b ≡ f
-put_same p b f s there = by (place_of (paths_of f) p) refl
+put_same p b f s there = by (path_place (paths_of f) p) refl
   where
-    by : (r : Result ℕ ℕ) → place_of (paths_of f) p ≡ r → with_file f p b ≡ f
+    by : (r : Result ℕ ℕ) → path_place (paths_of f) p ≡ r → with_file f p b ≡ f
     by (Err i) h = absurd (wrong (sym (absent f p i s h) ∙ there))
       where
         wrong : None ≡ Some b → ⊥

@@ -17,9 +17,9 @@ use Rattle.std.proofs.lemmas.Map.Text.{is_eq-slice_cmp}
 use Rattle.std.proofs.lemmas.Option.{slice_get-map, get_or_from_slice_get}
 use Rattle.al_graph.proofs.FilterMaps.{each_in_filter_map}
 use Rattle.al_session_folder.specs.Meaning.{candidates}
-use Rattle.al_session_folder.specs.Folder.{Folder, first_of, paths_of}
+use Rattle.al_session_folder.specs.Folder.{Folder, find_map, paths_of}
 use Rattle.al_session_folder.specs.Kept.{goes_backward, goes_forward}
-use Rattle.al_session_folder.specs.Loops.{callee, number_of}
+use Rattle.al_session_folder.specs.Loops.{callee, number_of_path}
 use Rattle.al_session_folder.specs.declared.lint.Target.{Target}
 use Rattle.al_session_folder.proofs.Views.{bytes_same, bytes_self}
 
@@ -63,7 +63,7 @@ position_holds p xs k d e = by (nat_lt (prefix_len (λ x. not (p x)) xs) (length
         ap (λ j. p (get_or xs j d)) (sym is) ∙ twice (p (get_or xs (prefix_len (λ x. not (p x)) xs) d)) (run_ends (λ x. not (p x)) xs d below)
     by false a = absurd (wrong (sym (ap (λ b. cond b (Some (prefix_len (λ x. not (p x)) xs)) None) a) ∙ e))
 
-path_numbered : (f : Folder) (c : List ℕ) (k : ℕ) → number_of f c ≡ Some k → c ≡ get_or (paths_of f) k []
+path_numbered : (f : Folder) (c : List ℕ) (k : ℕ) → number_of_path f c ≡ Some k → c ≡ get_or (paths_of f) k []
 path_numbered f c k e = bytes_same c (get_or (paths_of f) k []) (position_holds (bytes_eq c) (paths_of f) k [] e)
 
 -- ---- numbers of candidates
@@ -80,19 +80,19 @@ eq_ge Greater h = refl
 
 module _ (f : Folder) where
   -- what is known of the number of each candidate that fails a test
-  among : (T : List ℕ → Bool) (P : ℕ → Type 0) → ((c : List ℕ) (k : ℕ) → number_of f c ≡ Some k → T c ≡ false → P k) → (ps : List (List ℕ)) (k : ℕ) →
-      first_of (number_of f) ps ≡ Some k → list_any T ps ≡ false → P k
+  among : (T : List ℕ → Bool) (P : ℕ → Type 0) → ((c : List ℕ) (k : ℕ) → number_of_path f c ≡ Some k → T c ≡ false → P k) → (ps : List (List ℕ)) (k : ℕ) →
+      find_map (number_of_path f) ps ≡ Some k → list_any T ps ≡ false → P k
   among T P one [] k e none = absurd (wrong e)
     where
       wrong : None ≡ Some k → ⊥
       wrong h = cc
-  among T P one (c ∷ ps) k e none = by (number_of f c) refl (λ h. among T P one ps k h (or_none (T c) (list_any T ps) none).1)
+  among T P one (c ∷ ps) k e none = by (number_of_path f c) refl (λ h. among T P one ps k h (or_none (T c) (list_any T ps) none).1)
     where
-      by : (o : Option ℕ) → number_of f c ≡ o → (first_of (number_of f) ps ≡ Some k → P k) → P k
-      by None a rest = rest (sym (ap (λ o. option_or o (first_of (number_of f) ps)) a) ∙ e)
-      by (Some n) a rest = one c k (a ∙ (sym (ap (λ o. option_or o (first_of (number_of f) ps)) a) ∙ e)) (or_none (T c) (list_any T ps) none).0
+      by : (o : Option ℕ) → number_of_path f c ≡ o → (find_map (number_of_path f) ps ≡ Some k → P k) → P k
+      by None a rest = rest (sym (ap (λ o. option_or o (find_map (number_of_path f) ps)) a) ∙ e)
+      by (Some n) a rest = one c k (a ∙ (sym (ap (λ o. option_or o (find_map (number_of_path f) ps)) a) ∙ e)) (or_none (T c) (list_any T ps) none).0
 
-  each : (T : List ℕ → Bool) (P : ℕ → Type 0) → ((c : List ℕ) (k : ℕ) → number_of f c ≡ Some k → T c ≡ false → P k) → (ts : List Target) →
+  each : (T : List ℕ → Bool) (P : ℕ → Type 0) → ((c : List ℕ) (k : ℕ) → number_of_path f c ≡ Some k → T c ≡ false → P k) → (ts : List Target) →
       list_any (λ t. list_any T (candidates t)) ts ≡ false → AllByRecursion (λ t. (k : ℕ) → callee f t ≡ Some k → P k) ts
   each T P one [] none = tt
   each T P one (t ∷ ts) none =
@@ -105,13 +105,13 @@ module _ (f : Folder) where
         get_or_from_slice_get (paths_of f) i p []
         (slice_get-map (λ (e : List ℕ × List ℕ). e.0) f i ∙ ap (option_map (λ (e : List ℕ × List ℕ). e.0)) at)
 
-    itself : (c : List ℕ) (k : ℕ) → number_of f c ≡ Some k → k ≡ i → is_eq (slice_cmp nat_cmp p c) ≡ true
+    itself : (c : List ℕ) (k : ℕ) → number_of_path f c ≡ Some k → k ≡ i → is_eq (slice_cmp nat_cmp p c) ≡ true
     itself c k e same =
         let is : p ≡ c = sym there ∙ ap (λ j. get_or (paths_of f) j []) (sym same) ∙ sym (path_numbered f c k e) in
         is_eq-slice_cmp p c ∙ ap (bytes_eq p) (sym is) ∙ bytes_self p
 
     -- a file at a path in front of this one's has a smaller number, and one behind it a greater
-    before_it : (inside : (c : List ℕ) (k : ℕ) → number_of f c ≡ Some k → k < length (paths_of f)) (c : List ℕ) (k : ℕ) → number_of f c ≡ Some k →
+    before_it : (inside : (c : List ℕ) (k : ℕ) → number_of_path f c ≡ Some k → k < length (paths_of f)) (c : List ℕ) (k : ℕ) → number_of_path f c ≡ Some k →
         is_le (slice_cmp nat_cmp p c) ≡ false → k < i
     before_it inside c k e away = ⊎_elim (λ lt. lt) (λ past. ⊎_elim (λ same. absurd (wrong (eq_le _ (itself c k e same)))) (λ ne. absurd (wrong (less ne past))) (cases_eq k i)) (cases_lt k i)
       where
@@ -125,7 +125,7 @@ module _ (f : Folder) where
             let r : slice_cmp nat_cmp p c ≡ Less = ap (λ x. slice_cmp nat_cmp x c) (sym there) ∙ ap (slice_cmp nat_cmp (get_or (paths_of f) i [])) (path_numbered f c k e) ∙ s in
             ap is_le r
 
-    behind_it : (inside : i < length (paths_of f)) (c : List ℕ) (k : ℕ) → number_of f c ≡ Some k → is_ge (slice_cmp nat_cmp p c) ≡ false → i < k
+    behind_it : (inside : i < length (paths_of f)) (c : List ℕ) (k : ℕ) → number_of_path f c ≡ Some k → is_ge (slice_cmp nat_cmp p c) ≡ false → i < k
     behind_it inside c k e away = ⊎_elim (λ lt. lt) (λ past. ⊎_elim (λ same. absurd (wrong (eq_ge _ (itself c k e same)))) (λ ne. absurd (wrong (more ne past))) (cases_eq k i)) (cases_lt i k)
       where
         wrong : is_ge (slice_cmp nat_cmp p c) ≡ true → ⊥
@@ -139,7 +139,7 @@ module _ (f : Folder) where
             ap is_ge (nat_list_cmp_total.antisymm p c ∙ ap ordering_reverse r)
 
     -- so calls that go one way lead to files that stand there
-    pub leads_before : (inside : (c : List ℕ) (k : ℕ) → number_of f c ≡ Some k → k < length (paths_of f)) (ts : List Target) (k : ℕ) → list_any (goes_forward p) ts ≡ false →
+    pub leads_before : (inside : (c : List ℕ) (k : ℕ) → number_of_path f c ≡ Some k → k < length (paths_of f)) (ts : List Target) (k : ℕ) → list_any (goes_forward p) ts ≡ false →
         Contains (filter_map (callee f) ts) k → k < i
     leads_before inside ts k none c =
         each_in_filter_map (callee f) (λ n. n < i) ts (each (λ q. is_le (slice_cmp nat_cmp p q)) (λ n. n < i) (before_it inside) ts none) k c

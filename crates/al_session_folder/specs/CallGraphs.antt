@@ -23,8 +23,8 @@ NoneBackward {U} {I} files end = (k : ℕ) (e : String Global × KeptFile U I) �
     e.1.calls.go_backward ≡ false
 
 -- a graph with the edges from some nodes alone: those from one number on and before another
-abbrev pub part_of : ℕ → ℕ → List (List ℕ) → List (List ℕ)
-part_of first end graph = map (λ x. cond (nat_le first x.0 && nat_lt x.0 end) x.1 []) (enumerate_from 0 graph)
+abbrev pub edges_between : ℕ → ℕ → List (List ℕ) → List (List ℕ)
+edges_between first end graph = map (λ x. cond (nat_le first x.0 && nat_lt x.0 end) x.1 []) (enumerate_from 0 graph)
 
 -- the numbers of the files that these calls lead to, or none
 abbrev pub IsRow : Folder → List ℕ → List Target → Type 0

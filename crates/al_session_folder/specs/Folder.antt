@@ -39,13 +39,13 @@ abbrev pub interface_in : {I : Type 0} → Meaning I → Folder → List ℕ →
 interface_in m f p = option_map (m.interface p) (bytes_at f p)
 
 -- what f answers of the first of these of which it answers something
-abbrev pub first_of : {A B : Type 0} → (A → Option B) → List A → Option B
-first_of f [] = None
-first_of f (x ∷ xs) = option_or (f x) (first_of f xs)
+abbrev pub find_map : {A B : Type 0} → (A → Option B) → List A → Option B
+find_map f [] = None
+find_map f (x ∷ xs) = option_or (f x) (find_map f xs)
 
 -- the answer of a call: the interface of its first candidate in the folder, or absent
 unfoldable pub answer : {I : Type 0} → Meaning I → Folder → Target → Option I
-answer m f t = first_of (interface_in m f) (candidates t)
+answer m f t = find_map (interface_in m f) (candidates t)
 
 -- the answers of a file's calls
 abbrev pub answers : {I : Type 0} → Meaning I → Folder → List ℕ → List ℕ → List (Option I)

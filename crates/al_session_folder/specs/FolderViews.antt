@@ -5,14 +5,14 @@ use Rattle.al_base.specs.Paths.{path_fault_of}
 use Rattle.al_session_folder.specs.Meaning.{Meaning}
 use Rattle.al_session_folder.specs.Affected.{affected_paths}
 use Rattle.al_session_folder.specs.Folder.{Folder}
-use Rattle.al_session_folder.specs.Kept.{Files, IsView, AreKept, after, with_bytes_at, folder_of}
+use Rattle.al_session_folder.specs.Kept.{Files, IsView, AreKept, next_folder, with_bytes_at, folder_of}
 use Rattle.al_session_folder.specs.declared.kept.KeptFile.{KeptFile}
 
 -- the folder of kept files, with this file, or none, at a path where one is named
 abbrev pub folder_in_view :
     {U I : Type 0} → Files U I → Option (List ℕ) → Option (KeptFile U I) → Folder
 folder_in_view files None next = folder_of files
-folder_in_view files (Some p) next = after files p next
+folder_in_view files (Some p) next = next_folder files p next
 
 -- what is true of the files, and of what is to stand at that path
 abbrev pub IsViewIf : {U I : Type 0} → Meaning I → (U → List ℕ → List ℕ → Type 0) → Files U I → Option (List ℕ) →

@@ -81,8 +81,8 @@ abbrev pub calls_at : {I : Type 0} → Meaning I → Folder → List ℕ → Lis
 calls_at m f c q = option_map_or (λ b. is_candidate (m.calls q b) c) (bytes_at f q) false
 
 -- the index has, for every path, just the files that call it
-abbrev pub IsIndex : {S R I : Type 0} → Meaning I → Folder → Callers S R → Type 0
-IsIndex m f callers = (c q : List ℕ) → is_caller callers c q ≡ calls_at m f c q
+abbrev pub IsCallerIndex : {S R I : Type 0} → Meaning I → Folder → Callers S R → Type 0
+IsCallerIndex m f callers = (c q : List ℕ) → is_caller callers c q ≡ calls_at m f c q
 
 -- Kept files that are read: in order of path, each what its bytes make.
 pub record AreKept {U I : Type 0} (m : Meaning I) (is_unit : U → List ℕ → List ℕ → Type 0) (files : Files U I) : Type 0 where
@@ -98,8 +98,8 @@ with_bytes_at f p None = without_file f p
 with_bytes_at f p (Some b) = with_file f p b
 
 -- the folder of kept files with another file, or none, at a path
-abbrev pub after : {U I : Type 0} → Files U I → List ℕ → Option (KeptFile U I) → Folder
-after files p now = with_bytes_at (folder_of files) p (option_map (λ file. file.bytes.items) now)
+abbrev pub next_folder : {U I : Type 0} → Files U I → List ℕ → Option (KeptFile U I) → Folder
+next_folder files p now = with_bytes_at (folder_of files) p (option_map (λ file. file.bytes.items) now)
 
 -- the file at q where at p there is this one, or none
 abbrev pub file_after : {U I : Type 0} → Files U I → List ℕ → Option (KeptFile U I) → List ℕ → Option (KeptFile U I)

@@ -6,16 +6,16 @@ use Rattle.al_base.specs.FaultLists.{fault_list}
 use Rattle.al_base.specs.declared.faults.Fault.{Fault}
 use Rattle.al_graph.specs.Within.{leads}
 use Rattle.al_session_folder.specs.Meaning.{Meaning, candidates}
-use Rattle.al_session_folder.specs.Folder.{Folder, faults_in, first_of, paths_of}
+use Rattle.al_session_folder.specs.Folder.{Folder, faults_in, find_map, paths_of}
 use Rattle.al_session_folder.specs.declared.lint.Target.{Target}
 
 -- the number of the file at a path, in order of path, if it is there
-abbrev pub number_of : Folder → List ℕ → Option ℕ
-number_of f p = position (bytes_eq p) (paths_of f)
+abbrev pub number_of_path : Folder → List ℕ → Option ℕ
+number_of_path f p = position (bytes_eq p) (paths_of f)
 
 -- the file that a call leads to: its first candidate in the folder
 abbrev pub callee : Folder → Target → Option ℕ
-callee f t = first_of (number_of f) (candidates t)
+callee f t = find_map (number_of_path f) (candidates t)
 
 -- for each file the files that its calls lead to
 abbrev pub calls_graph : {I : Type 0} → Meaning I → Folder → List (List ℕ)

@@ -3,5 +3,5 @@ use Rattle.std.specs.Prelude.{[], ◌∷◌}
 use Rattle.al_base.specs.declared.faults.Fault.{Fault}
 use Rattle.al_session_folder.specs.declared.lint.Site.{Site}
 
-abbrev pub fault_of : Site → Fault
-fault_of s = record { span = s.span; code = s.code; args = s.text.now ∷ [] }
+abbrev pub site_fault : Site → Fault
+site_fault s = record { span = s.span; code = s.code; args = s.text.now ∷ [] }

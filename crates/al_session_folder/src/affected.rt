@@ -10,7 +10,7 @@ ghost use Rattle.std.specs.Option.{option_copied, option_eq};
 ghost use Rattle.al_base.specs.Paths.{path_fault_of};
 ghost use Rattle.al_session_folder.specs.Affected.{is_affected, is_among};
 ghost use Rattle.al_session_folder.specs.Folder.{answer, bytes_at, interface_in, paths_of};
-ghost use Rattle.al_session_folder.specs.Kept.{IsIndex, IsView};
+ghost use Rattle.al_session_folder.specs.Kept.{IsCallerIndex, IsView};
 ghost use Rattle.al_session_folder.specs.FolderViews.{affected_by, change_of, changed_by};
 
 use crate::kept::{Callers, Files, KeptFile};
@@ -168,7 +168,7 @@ impl<'a, L: Lint> PlannedChange<'a, L> {
     ///
     /// [`AllocError`] where memory ran out.
     pub fn affected_paths(&self, alloc: Global, callers: &Callers) -> Result<Vec<Path>, AllocError>
-        requires index { IsIndex L.meaning self.now.before callers.now }
+        requires index { IsCallerIndex L.meaning self.now.before callers.now }
         requires other { self.now.bytes ≢ bytes_at self.now.before self.now.path }
         ensures { IfOk result (λ paths. paths.items ≡ affected_by L.Iface.eq L.meaning self.now) }
     {

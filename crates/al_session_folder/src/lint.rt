@@ -8,7 +8,7 @@ ghost use Rattle.al_base.specs.FaultLists.{fault_cmp};
 ghost use Rattle.al_base.specs.Limits.{largest_file};
 ghost use Rattle.al_base.specs.Spans.{LiesIn};
 ghost use Rattle.al_session_folder.specs.Meaning.{AreAnswers, Meaning};
-ghost use Rattle.al_session_folder.specs.Sites.{fault_of};
+ghost use Rattle.al_session_folder.specs.Sites.{site_fault};
 ghost use Rattle.al_base.specs.Counted.{count_after};
 
 use al_base::{Code, Fault, Path, Span};
@@ -153,7 +153,7 @@ pub trait Lint: Drop {
         requires { (p : List ℕ) × (b : List ℕ) × is_unit unit.now p b
             × (call < length (meaning.calls p b)) }
         ensures { (p b : List ℕ) → is_unit unit.now p b
-            → slice_get (meaning.sites p b) call ≡ Some (fault_of result) };
+            → slice_get (meaning.sites p b) call ≡ Some (site_fault result) };
 
     /// How many checks were made so far, up to the greatest count. Takes no memory.
     fn checks(&self) -> u64

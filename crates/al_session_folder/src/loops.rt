@@ -9,8 +9,8 @@ ghost use Rattle.al_graph.specs.Graphs.{edges_of};
 ghost use Rattle.al_session_folder.specs.Kept.{AreKept, folder_of};
 ghost use Rattle.al_session_folder.specs.Loops as loops;
 ghost use Rattle.al_session_folder.specs.CallGraphs.{AreLinked, IsCallGraph, IsCalledBy, IsRow, NoneBackward, NoneForward};
-ghost use Rattle.al_session_folder.specs.CallGraphs.{TellLoops, part_of};
-ghost use Rattle.al_session_folder.specs.Sites.{fault_of};
+ghost use Rattle.al_session_folder.specs.CallGraphs.{TellLoops, edges_between};
+ghost use Rattle.al_session_folder.specs.Sites.{site_fault};
 ghost use Rattle.al_session_folder.specs.declared.lint.Target.{Target};
 
 use crate::kept::{Files, KeptFile};
@@ -33,7 +33,7 @@ pub struct CallGraph {
 
 /// The number of the file at a path, if it is there.
 fn number_of<U, I>(files: &Files<U, I>, path: &Path) -> Option<usize>
-    ensures number { result ≡ loops.number_of (folder_of files.now.entries) path.now }
+    ensures number { result ≡ loops.number_of_path (folder_of files.now.entries) path.now }
     ensures inside { IfSome result (λ number. number < length files.now.entries) }
 {
     files.get_index_of(path.as_str())
@@ -147,7 +147,7 @@ fn calls_graph<L: Lint>(
     requires { AreKept L.meaning L.is_unit files.now.entries }
     ensures { IfOk result
         (λ graph. edges_of graph.items
-        ≡ part_of first end (loops.calls_graph L.meaning (folder_of files.now.entries))) }
+        ≡ edges_between first end (loops.calls_graph L.meaning (folder_of files.now.entries))) }
 {
     let mut graph = Vec::with_capacity(alloc, files.len())?;
     for index in 0..files.len() {
@@ -243,7 +243,7 @@ fn leads_back(labels: &[Option<usize>], index: usize, to: Option<usize>) -> bool
 
 /// What is said of a call on a call cycle.
 fn fault_of(alloc: Global, site: Site<'_>) -> Result<Fault, AllocError>
-    ensures { IfOk result (λ fault. fault ≡ fault_of site.entry) }
+    ensures { IfOk result (λ fault. fault ≡ site_fault site.entry) }
 {
     Ok(Fault {
         span: site.span,
@@ -255,7 +255,7 @@ fn fault_of(alloc: Global, site: Site<'_>) -> Result<Fault, AllocError>
 /// Adds the fault of a call, if it is on a cycle.
 fn add_fault_if(leads_back: bool, site: Site<'_>, faults: &mut FaultSink) -> Result<(), AllocError>
     ensures { OnOk result
-        (faults.new ≡ faults.old ++ cond leads_back (fault_of site.entry ∷ []) []) }
+        (faults.new ≡ faults.old ++ cond leads_back (site_fault site.entry ∷ []) []) }
 {
     if leads_back {
         let fault = fault_of(faults.alloc(), site)?;

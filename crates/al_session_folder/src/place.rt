@@ -5,7 +5,7 @@ ghost use Rattle.std.specs.List.Sorted.{IsStrictlySortedBy};
 ghost use Rattle.std.specs.Ordering.{nat_cmp};
 ghost use Rattle.std.specs.Cmp.Lexicographic.{slice_cmp};
 ghost use Rattle.al_session_folder.specs.Folder.{paths_of};
-ghost use Rattle.al_session_folder.specs.Place.{place_of};
+ghost use Rattle.al_session_folder.specs.Place.{path_place};
 ghost use Rattle.al_session_folder.specs.Kept.{folder_of};
 
 use crate::kept::{Files, KeptFile};
@@ -14,7 +14,7 @@ use std::cmp::Ordering;
 /// The index at which a path stands among the files, as `Ok`, or at which it would go, as `Err`.
 pub fn place_in<U, I>(files: &Files<U, I>, path: &str) -> Result<usize, usize>
     requires { IsStrictlySortedBy (slice_cmp nat_cmp) (paths_of (folder_of files.now.entries)) }
-    ensures { result ≡ place_of (paths_of (folder_of files.now.entries)) path.now }
+    ensures { result ≡ path_place (paths_of (folder_of files.now.entries)) path.now }
 {
     files.binary_search_by(
         |name: &String, _file: &KeptFile<U, I>| -> Ordering

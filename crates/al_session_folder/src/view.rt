@@ -1,12 +1,12 @@
 //! The files of a folder, as they are or with another file, or none, at one path; what they answer to calls, and their checks.
 
-ghost use Rattle.std.specs.Prelude.{◌≡◌, ◌≤◌, ◌^◌, ◌-◌, IsSome, length, map, IfOk, IfSome, OnOk, OnErr};
+ghost use Rattle.std.specs.Prelude.{◌≡◌, IsSome, length, map, IfOk, IfSome, OnOk, OnErr};
 ghost use Rattle.std.specs.List.{AllByRecursion};
 ghost use Rattle.std.specs.Option.{option_copied, option_map};
 ghost use Rattle.al_session_folder.specs.Meaning.{IsUpTo};
 ghost use Rattle.al_base.specs.Counted.{count_after};
 ghost use Rattle.al_session_folder.specs.Folder.{answer, bytes_at, interface_in};
-ghost use Rattle.al_session_folder.specs.Kept.{after, file_after, faults_of, folder_of, AreKept, IsKept, IsView};
+ghost use Rattle.al_session_folder.specs.Kept.{next_folder, file_after, faults_of, folder_of, AreKept, IsKept, IsView};
 
 use crate::kept::{Files, KeptFile};
 use crate::lint::{Lint, Target};
@@ -55,7 +55,7 @@ impl<'a, L: Lint> FolderView<'a, L> {
         next: Option<&'a KeptFile<L::Unit, L::Iface>>,
     ) -> FolderView<'a, L>
         requires { IsView L.meaning L.is_unit files.now.entries path.now (option_copied next) }
-        ensures { result ≡ after files.now.entries path.now (option_copied next.entry) }
+        ensures { result ≡ next_folder files.now.entries path.now (option_copied next.entry) }
     {
         FolderView {
             files,
@@ -126,8 +126,7 @@ impl<'a, L: Lint> FolderView<'a, L> {
         alloc: Global,
         at: &str,
     ) -> Result<Vec<Fault>, AllocError>
-        requires there { IsSome (bytes_at self.now at.now) }
-        requires counted { L.checks_of lint.old ≤ 2 ^ 64 - 1 }
+        requires { IsSome (bytes_at self.now at.now) }
         ensures faults { IfOk result (λ fs. fs.items ≡ faults_of L.meaning self.now at.now) }
         ensures checks { OnOk result (L.checks_of lint.new ≡ count_after (L.checks_of lint.old) 1) }
         ensures bound { OnErr result (IsUpTo (L.checks_of lint.old) (L.checks_of lint.new) 1) }
@@ -151,8 +150,7 @@ impl<'a, L: Lint> FolderView<'a, L> {
         alloc: Global,
         paths: &[Path],
     ) -> Result<Vec<Vec<Fault>>, AllocError>
-        requires there { AllByRecursion (λ q. IsSome (bytes_at self.now q)) paths.now }
-        requires counted { L.checks_of lint.old ≤ 2 ^ 64 - 1 }
+        requires { AllByRecursion (λ q. IsSome (bytes_at self.now q)) paths.now }
         ensures faults { IfOk result (λ lists. map (λ faults. faults.items) lists.items
             ≡ map (faults_of L.meaning self.now) paths.now) }
         ensures checks { OnOk result

@@ -11,13 +11,12 @@ use Rattle.std.proofs.Math.ListN.{get_or-map}
 use Rattle.std.proofs.lemmas.Bool.{le-ltb, lt-ltb, ltb-true, ltb_from_iff}
 use Rattle.std.proofs.lemmas.List.{length-map, take-map, take_all}
 use Rattle.std.proofs.lemmas.Slice.Eq.{bytes_eq-Decides}
-use Rattle.al_base.specs.Names.{lower_case, same_name}
+use Rattle.al_base.specs.Names.{among, lower_case, same_name}
 use Rattle.al_base.specs.NamePlaces.{first_at, name_place, text_place, text_position}
 use Rattle.al_base.specs.declared.name_positions.TextPositions.{TextPositions}
 use Rattle.al_yaml_tree.specs.View.{entry_view}
 use Rattle.al_yaml_tree.specs.declared.node.Entry.{Entry}
 use Rattle.al_tree.specs.Keys.{IsIndexOf, has_first, holds, is_before, key_of, keys_in}
-use Rattle.al_tree.specs.Names.{among}
 use Rattle.al_tree.specs.declared.keys.KeyIndex.{KeyIndex}
 use Rattle.al_tree.specs.declared.keys.KeySet.{KeySet}
 

@@ -12,11 +12,11 @@ use Rattle.al_base.specs.declared.faults.Span.{Span}
 use Rattle.al_yaml_tree.specs.Access.{entries}
 use Rattle.al_yaml_tree.specs.Node.{Node, Nodes, Entries, scalar, sequence, mapping, no_nodes, item, no_entries, entry, span_of}
 use Rattle.al_yaml_tree.specs.Spans.{IsInside, AreInside, EntriesInside}
-use Rattle.al_tree.specs.Faults.{Standing, repeated, unexpected, ignored, expected, beside_faults, entries_faults, entry_faults, fault}
-use Rattle.al_tree.specs.Faults.{faults, is_empty, is_needed, is_null, items_faults, keyed_faults, mapping_shape, missing_fault}
+use Rattle.al_tree.specs.Faults.{Standing, repeated, unexpected, ignored, expected, beside_faults, entries_faults, entry_faults, key_fault}
+use Rattle.al_tree.specs.Faults.{faults, is_empty_node, is_needed, is_null, items_faults, keyed_faults, mapping_shape, missing_fault}
 use Rattle.al_tree.specs.Faults.{one_fault, root_faults, scalar_fault, standing, takes_null}
 use Rattle.al_tree.specs.Keys.{key_text, keys_in}
-use Rattle.al_tree.specs.Names.{among}
+use Rattle.al_base.specs.Names.{among}
 use Rattle.al_tree.specs.Table.{Field, Keys, no_keys, free, keys, Rule, rule}
 use Rattle.al_tree.specs.declared.table.Shape.{Shape}
 
@@ -78,7 +78,7 @@ module _ (size : ℕ) where
   entry_lies : (st : Standing) (key : Node) (value : Shape → List Fault) → LiesIn size (span_of key) → ((s : Shape) → All (Lies size) (value s)) → All (Lies size) (entry_faults st key value)
   entry_lies repeated key value i f = one_lies _ i
   entry_lies (unexpected other) key value i f =
-      both (one_fault Unexpected (span_of key) (key_text key)) (beside_faults other key) (one_lies (fault Unexpected (span_of key) (key_text key ∷ [])) i) (beside_lies other key i)
+      both (one_fault Unexpected (span_of key) (key_text key)) (beside_faults other key) (one_lies (key_fault Unexpected (span_of key) (key_text key ∷ [])) i) (beside_lies other key i)
   entry_lies ignored key value i f = none_lie
   entry_lies (expected s other) key value i f = both (beside_faults other key) (value s) (beside_lies other key i) (f s)
 
@@ -103,4 +103,4 @@ module _ (size : ℕ) where
 
   pub root_lies : (shape : Shape) (n : Node) → IsInside size n → All (λ (f : Fault). LiesIn size f.span) (root_faults shape n)
   root_lies shape n i =
-      either (is_empty n) _ _ (one_lies _ (record { ordered = omega arith; inside = omega arith })) (node_lies n i shape false (codes "file"))
+      either (is_empty_node n) _ _ (one_lies _ (record { ordered = omega arith; inside = omega arith })) (node_lies n i shape false (codes "file"))

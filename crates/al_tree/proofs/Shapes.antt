@@ -10,7 +10,7 @@ use Rattle.al_yaml_tree.proofs.ViewLemmas.{entries_again, view_mapping, view_seq
 use Rattle.al_base.specs.declared.codes.KeyCode.TheVariants.{WrongKind}
 use Rattle.al_tree.specs.Faults.{entries_faults, faults, items_faults, keyed_faults, one_fault, mapping_shape}
 use Rattle.al_tree.specs.Keys.{keys_in}
-use Rattle.al_tree.specs.Names.{among}
+use Rattle.al_base.specs.Names.{among}
 use Rattle.al_tree.specs.Table.{rule}
 use Rattle.al_tree.specs.declared.table.Shape.{Shape}
 

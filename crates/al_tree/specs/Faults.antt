@@ -20,7 +20,8 @@ use Rattle.al_base.specs.declared.faults.Span.{Span}
 use Rattle.al_yaml_tree.specs.Access.{entries, scalar_in}
 use Rattle.al_yaml_tree.specs.Node.{Node, Nodes, Entries, scalar, sequence, mapping, no_nodes, item, no_entries, entry, span_of}
 use Rattle.al_tree.specs.Keys.{key_of, key_text, keys_in}
-use Rattle.al_tree.specs.Names.{among, is_event}
+use Rattle.al_tree.specs.Names.{is_event}
+use Rattle.al_base.specs.Names.{among}
 use Rattle.al_tree.specs.Table.{Field, Keys, no_keys, free, keys, rule, Need, optional, required, unless, Clash, never, after}
 use Rattle.al_tree.specs.Table.{beside, Others, wrong, wrong_beside, unchecked, events}
 use Rattle.al_tree.specs.declared.standings.Standing as rust
@@ -31,11 +32,11 @@ use Rattle.al_tree.specs.declared.table.ScalarSet.{ScalarSet}
 use Rattle.al_tree.specs.declared.table.ScalarSet.TheVariants.{NoScalar, AnyScalar, NotNull, Bools, Numbers, Chunks}
 
 -- A fault that names these texts. Its arguments are UTF-8: bytes that aren't, of which reading a file gives none, are U+FFFD.
-abbrev pub fault : codes_key.KeyCode → Span → List (List ℕ) → Fault
-fault key at texts = record { span = at; code = code.Key key; args = map utf8_lossy texts }
+abbrev pub key_fault : codes_key.KeyCode → Span → List (List ℕ) → Fault
+key_fault key at texts = record { span = at; code = code.Key key; args = map utf8_lossy texts }
 
 abbrev pub one_fault : codes_key.KeyCode → Span → List ℕ → List Fault
-one_fault key at text = fault key at (text ∷ []) ∷ []
+one_fault key at text = key_fault key at (text ∷ []) ∷ []
 
 -- the text has a `${{`
 abbrev pub has_chunk : List ℕ → Bool
@@ -124,7 +125,7 @@ standing (keys others fs) seen all k =
     (other_standing others seen all k)
 
 abbrev pub beside_faults : Option (List ℕ) → Node → List Fault
-beside_faults other key = option_map_or (λ k. fault NotBeside (span_of key) (key_text key ∷ k ∷ []) ∷ []) other []
+beside_faults other key = option_map_or (λ k. key_fault NotBeside (span_of key) (key_text key ∷ k ∷ []) ∷ []) other []
 
 -- of an entry, given what its value has as a node of a shape
 abbrev pub entry_faults : Standing → Node → (Shape → List Fault) → List Fault
@@ -165,12 +166,12 @@ abbrev mutual
       ++ entries_faults ks (seen ++ key_text k ∷ []) all es
 
 -- nothing was written
-abbrev pub is_empty : Node → Bool
-is_empty n = option_map_or (λ s. styles.ghosts.eq s.style style.Plain && (length s.cells == 0)) (scalar_in n) false
+abbrev pub is_empty_node : Node → Bool
+is_empty_node n = option_map_or (λ s. styles.ghosts.eq s.style style.Plain && (length s.cells == 0)) (scalar_in n) false
 
 -- the faults of a file's root
 abbrev pub root_faults : Shape → Node → List Fault
-root_faults s n = if is_empty n then fault EmptyFile (record { start = 0; end = 0 }) [] ∷ [] else faults s false (codes "file") n
+root_faults s n = if is_empty_node n then key_fault EmptyFile (record { start = 0; end = 0 }) [] ∷ [] else faults s false (codes "file") n
 
 -- what the program's `Standing` stands for
 abbrev pub standing_view : rust.Standing → Standing

@@ -7,7 +7,7 @@ use Rattle.al_yaml_tree.specs.Access.{scalar_in}
 use Rattle.al_yaml_tree.specs.Node.{Node}
 use Rattle.al_yaml_tree.specs.View.{entry_view}
 use Rattle.al_yaml_tree.specs.declared.node.Entry.{Entry}
-use Rattle.al_tree.specs.Names.{among}
+use Rattle.al_base.specs.Names.{among}
 use Rattle.al_tree.specs.declared.keys.KeyIndex.{KeyIndex}
 use Rattle.al_tree.specs.declared.keys.KeySet.{KeySet}
 

@@ -1,11 +1,6 @@
--- Names among which a key or a text may be, and those of the events that trigger workflows (GitHub, "Events that trigger workflows").
+-- The keys of a matrix that aren't rows, and the names of the events that trigger workflows (GitHub, "Events that trigger workflows").
 use Rattle.std.specs.Prelude.{ℕ, List, [], ◌∷◌, Bool, codes}
-use Rattle.std.specs.List.{list_any}
-use Rattle.std.specs.Str.{bytes_eq}
-
--- whether a text is one of these
-abbrev pub among : List (List ℕ) → List ℕ → Bool
-among ks k = list_any (bytes_eq k) ks
+use Rattle.al_base.specs.Names.{among}
 
 -- the keys of a matrix that aren't rows (GitHub, "Workflow syntax", `jobs.<job_id>.strategy.matrix`)
 abbrev pub is_combination_key : List ℕ → Bool

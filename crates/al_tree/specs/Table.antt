@@ -161,8 +161,8 @@ clash_of rust_clash.TheVariants.Never = never
 clash_of (rust_clash.TheVariants.After k) = after k.now
 clash_of (rust_clash.TheVariants.Beside k) = beside k.now
 
-abbrev pub field_of : Row → Field
-field_of r = record { key = r.key.now; shape = r.shape; need = need_of r.need; clash = clash_of r.clash }
+abbrev pub field_view : Row → Field
+field_view r = record { key = r.key.now; shape = r.shape; need = need_of r.need; clash = clash_of r.clash }
 
 abbrev pub others_of : rust_others.Others → Others
 others_of rust_others.TheVariants.Wrong = wrong
@@ -173,7 +173,7 @@ others_of rust_others.TheVariants.Events = events
 abbrev pub keys_view : rust.Keys → Keys
 keys_view rust.TheVariants.No = no_keys
 keys_view (rust.TheVariants.Free s) = free s
-keys_view (rust.TheVariants.These rows others) = keys (others_of others) (map field_of rows.now)
+keys_view (rust.TheVariants.These rows others) = keys (others_of others) (map field_view rows.now)
 
 abbrev pub rule_view : rust_rule.Rule → Rule
 rule_view r = record { scalars = r.scalars; items = r.items; keys_of = keys_view r.keys }

@@ -10,7 +10,7 @@ use Rattle.al_yaml_tree.specs.Node.{Node, span_of}
 use Rattle.al_yaml_tree.specs.View.{view}
 use Rattle.al_tree.specs.Faults.{is_key, is_null, value_in}
 use Rattle.al_tree.specs.Keys.{key_of}
-use Rattle.al_tree.specs.Names.{among}
+use Rattle.al_base.specs.Names.{among}
 use Rattle.al_tree.specs.declared.values.Member.{Member}
 use Rattle.al_tree.specs.declared.values.ScalarNode.{ScalarNode}
 
@@ -44,8 +44,8 @@ value_below (k ∷ ks) n = option_and_then (value_below ks) (value_at k n)
 abbrev pub text_in : Node → Option (Scalar × Span)
 text_in n = option_and_then (λ s. then_some (not (is_null s)) (s, span_of n)) (scalar_in n)
 
-abbrev pub text_at : List ℕ → Node → Option (Scalar × Span)
-text_at k n = option_and_then text_in (value_at k n)
+abbrev pub text_at_key : List ℕ → Node → Option (Scalar × Span)
+text_at_key k n = option_and_then text_in (value_at k n)
 
 abbrev pub text_below : List (List ℕ) → Node → Option (Scalar × Span)
 text_below ks n = option_and_then text_in (value_below ks n)

@@ -1,13 +1,14 @@
 //! A node against the shape that its place asks for.
 
-ghost use Rattle.al_tree.specs.Faults.{beside_faults, entries_faults, entry_faults, faults as faults_of, is_empty as empty, items_faults};
+ghost use Rattle.al_tree.specs.Faults.{beside_faults, entries_faults, entry_faults, faults as faults_of};
+ghost use Rattle.al_tree.specs.Faults.{is_empty_node as empty, items_faults};
 ghost use Rattle.al_tree.specs.Faults.{missing_fault, root_faults, standing_view};
 ghost use Rattle.al_tree.specs.Faults.{takes_null as null_taken};
 ghost use Rattle.al_base.specs.Growth.{SameSet};
 ghost use Rattle.al_tree.specs.Keys.{IsIndexOf, holds, key_of as key_in, keys_in};
-ghost use Rattle.al_tree.specs.Names.{among};
+ghost use Rattle.al_base.specs.Names.{among};
 ghost use Rattle.al_tree.specs.Private.Demands.{demanded_faults, mapping_faults};
-ghost use Rattle.al_tree.specs.Table.{field_of, keys_view};
+ghost use Rattle.al_tree.specs.Table.{field_view, keys_view};
 ghost use Rattle.al_yaml_tree.specs.Node.{scalar as scalar_node};
 ghost use Rattle.al_yaml_tree.specs.View.{entries_of, entry_view, nodes_of, view};
 ghost use Rattle.std.specs.List.{flat_map};
@@ -34,7 +35,7 @@ struct Demand<'a> {
 /// Adds the fault of a key that is needed and isn't there.
 fn check_row(row: &Row, all: KeySet<'_>, at: Span, faults: &mut FaultSink) -> Result<(), AllocError>
     ensures { OnOk result (faults.new
-        ≡ faults.old ++ missing_fault at (holds all.entry) (field_of row.now)) }
+        ≡ faults.old ++ missing_fault at (holds all.entry) (field_view row.now)) }
 {
     if is_needed(row.need, all) && !all.contains(row.key.as_bytes()) {
         let start = Span {
@@ -54,7 +55,7 @@ fn check_missing(
     faults: &mut FaultSink,
 ) -> Result<(), AllocError>
     ensures { OnOk result (faults.new
-        ≡ faults.old ++ flat_map (missing_fault at (holds all.entry)) (map field_of rows.now)) }
+        ≡ faults.old ++ flat_map (missing_fault at (holds all.entry)) (map field_view rows.now)) }
 {
     for row in rows {
         check_row(row, all, at, faults)?;

@@ -2,7 +2,7 @@
 
 ghost use Rattle.al_tree.specs.Keys.{IsIndexOf, has_first, holds, key_of as key_in, key_text as text_in, keys_in};
 ghost use Rattle.al_base.specs.NamePlaces.{text_place, text_position};
-ghost use Rattle.al_tree.specs.Names.{among};
+ghost use Rattle.al_base.specs.Names.{among};
 ghost use Rattle.al_yaml_tree.specs.View.{entry_view, view};
 ghost use Rattle.std.specs.Prelude.{◌≡◌, map, take, IfOk};
 

@@ -21,7 +21,7 @@ pub use examples::rows;
 pub use files::{Action, FileKind, Tree, Workflow, document_faults, read_action, read_workflow};
 pub use keys::{KeyIndex, KeySet, key_of, key_text};
 pub use kinds::{file_kind, is_action, is_workflow, is_workflow_name};
-pub use names::{is_among, is_combination_key, is_event};
+pub use names::{is_combination_key, is_event};
 pub use scalars::{contains_chunk, is_null_scalar, scalar_fault};
 pub use standings::{Standing, refine, runs_of, standing_of};
 pub use table::{Clash, Keys, Need, Others, Row, Rule, ScalarSet, Shape, Trigger, rule_of};

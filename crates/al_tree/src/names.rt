@@ -1,7 +1,9 @@
-//! Names among which a key or a text may be, and the names of the events.
+//! The keys of a matrix that are no rows, and the names of the events.
 
-ghost use Rattle.al_tree.specs.Names.{among, is_combination_key as combination_key, is_event as event};
-ghost use Rattle.std.specs.Prelude.{◌≡◌, map};
+ghost use Rattle.al_tree.specs.Names.{is_combination_key as combination_key, is_event as event};
+ghost use Rattle.std.specs.Prelude.{◌≡◌};
+
+use al_base::is_among;
 
 /// The events that trigger workflows (GitHub, "Events that trigger workflows").
 const EVENTS: [&str; 37] = [
@@ -43,18 +45,6 @@ const EVENTS: [&str; 37] = [
     "workflow_call",
     "workflow_dispatch",
 ];
-
-/// Whether a text is one of some names.
-pub fn is_among(text: &[u8], names: &[&str]) -> bool
-    ensures { result ≡ among (map (λ n. n.now) names.now) text.now }
-{
-    for name in names {
-        if text == name.as_bytes() {
-            return true;
-        }
-    }
-    false
-}
 
 /// Whether a key of a matrix is no row: `include` or `exclude` (GitHub, "Workflow syntax", `jobs.<job_id>.strategy.matrix`).
 pub fn is_combination_key(key: &[u8]) -> bool

@@ -4,7 +4,7 @@ ghost use Rattle.al_tree.specs.Faults.{clash_with};
 ghost use Rattle.al_tree.specs.Faults.{is_needed as needed, other_standing, mapping_shape};
 ghost use Rattle.al_tree.specs.Faults.{runs_of as runs, standing as stands, standing_view, takes_null as null_taken};
 ghost use Rattle.al_tree.specs.Keys.{holds};
-ghost use Rattle.al_tree.specs.Table.{clash_of, field_of, keys_view, need_of, others_of};
+ghost use Rattle.al_tree.specs.Table.{clash_of, field_view, keys_view, need_of, others_of};
 ghost use Rattle.al_yaml_tree.specs.View.{entry_view};
 ghost use Rattle.al_tree.specs.Names.{is_event as event};
 ghost use Rattle.al_tree.specs.declared.table.Shape.TheVariants.{Any, On};
@@ -15,8 +15,9 @@ ghost use Rattle.std.specs.Str.{bytes_eq};
 
 use crate::entries::scalar_among;
 use crate::keys::KeySet;
-use crate::names::{is_among, is_event};
+use crate::names::is_event;
 use crate::table::{Clash, Keys, Need, Others, Row, Shape, Trigger};
+use al_base::is_among;
 use al_yaml_tree::Entry;
 
 /// The section that `runs` is, by what `using` says.
@@ -56,8 +57,8 @@ pub(crate) fn takes_null(shape: Shape) -> bool
 
 /// The row of a key.
 fn row_at<'a>(rows: &'a [Row], key: &[u8]) -> Option<&'a Row>
-    ensures { option_map (λ r. field_of r.now) result
-        ≡ find (λ f. bytes_eq f.key key.now) (map field_of rows.now) }
+    ensures { option_map (λ r. field_view r.now) result
+        ≡ find (λ f. bytes_eq f.key key.now) (map field_view rows.now) }
 {
     for row in rows {
         if row.key.as_bytes() == key {

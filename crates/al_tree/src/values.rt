@@ -2,8 +2,8 @@
 
 ghost use Rattle.al_base.specs.NamePlaces.{name_place, name_position};
 ghost use Rattle.al_tree.specs.Keys.{keys_in};
-ghost use Rattle.al_tree.specs.Names.{among};
-ghost use Rattle.al_tree.specs.Values.{entries_at, entries_in, firsts_by, items_at, items_in, key_at, member_of, text_at, text_in};
+ghost use Rattle.al_base.specs.Names.{among};
+ghost use Rattle.al_tree.specs.Values.{entries_at, entries_in, firsts_by, items_at, items_in, key_at, member_of, text_at_key, text_in};
 ghost use Rattle.al_tree.specs.Values.{texts_at, texts_in, value_at, scalar_node_of};
 ghost use Rattle.al_yaml_tree.specs.View.{entry_view, view};
 ghost use Rattle.std.specs.List.{filter_map};
@@ -65,7 +65,7 @@ pub fn text(node: &Node) -> Option<ScalarNode<'_>>
 
 /// The scalar under a key, unless it is null.
 pub fn text_under<'a>(node: &'a Node, key: &str) -> Option<ScalarNode<'a>>
-    ensures { option_map scalar_node_of result ≡ text_at key.now (view node.now) }
+    ensures { option_map scalar_node_of result ≡ text_at_key key.now (view node.now) }
 {
     text(value(node, key)?)
 }

@@ -4,7 +4,7 @@ use Rattle.std.specs.Option.{option_map_or}
 use Rattle.std.specs.Str.{bytes_eq}
 use Rattle.al_scalar.specs.Scalar.{text_of}
 use Rattle.al_yaml_tree.specs.Node.{Node}
-use Rattle.al_tree.specs.Values.{text_at}
+use Rattle.al_tree.specs.Values.{text_at_key}
 use Rattle.al_tree_declarations.specs.declared.inputs.InputType.{InputType}
 use Rattle.al_tree_declarations.specs.declared.inputs.InputType.TheVariants as input
 
@@ -13,4 +13,4 @@ abbrev pub input_named : List ℕ → InputType
 input_named t = if bytes_eq t (codes "boolean") then input.Boolean else if bytes_eq t (codes "number") then input.Number else input.String
 
 abbrev pub input_of : Node → InputType
-input_of n = option_map_or (λ t. input_named (text_of t.0)) (text_at (codes "type") n) input.String
+input_of n = option_map_or (λ t. input_named (text_of t.0)) (text_at_key (codes "type") n) input.String

@@ -6,7 +6,7 @@ use Rattle.std.specs.Cmp.Lexicographic.{bytes_decides}
 use Rattle.std.specs.Str.{bytes_eq}
 use Rattle.al_base.specs.Names.{lower_case, same_name}
 use Rattle.al_types.specs.FusedFields.{are_distinct}
-use Rattle.al_types.specs.Puts.{Typed, firsts, put_or_fuse, put_all, put_new}
+use Rattle.al_types.specs.Puts.{TypedName, firsts, put_or_fuse, put_all, put_new}
 use Rattle.al_types.specs.Types.{Type', Fields, Optional, field_at, fuse_optional, fuse_type, has_field, optional}
 use Rattle.al_types.specs.TypeParts.{common_type}
 use Rattle.al_types.proofs.FuseLaws.{common_optional}
@@ -37,7 +37,7 @@ apart_step false here t u o more h e = e
 apart_step true true t u o more h e = absurd (cc (h refl))
 apart_step true false t u o more h e = refl
 
-put_step : (same there here : Bool) (n : List ℕ) (q p : Typed) (qs more : List Typed) →
+put_step : (same there here : Bool) (n : List ℕ) (q p : TypedName) (qs more : List TypedName) →
     (same ≡ true → there ≡ here) → (same ≡ false → there ≡ true → here ≡ false) →
     there ≡ same_name q.0 n → field_at n more ≡ common_type (field_at n qs) (when here p.1) →
     field_at n (if same then (q.0, fuse_type q.1 p.1) ∷ qs else q ∷ more) ≡ common_type (field_at n (q ∷ qs)) (when here p.1)
@@ -48,7 +48,7 @@ put_step false there here n q p qs more h k is e =
     ap (λ b. if b then Some q.1 else field_at n more) (sym is) ∙ apart_step there here q.1 p.1 (field_at n qs) _ (k refl) e
     ∙ ap (λ b. common_type (if b then Some q.1 else field_at n qs) (when here p.1)) is
 
-pub found_put : (ts : List Typed) (p : Typed) (n : List ℕ) →
+pub found_put : (ts : List TypedName) (p : TypedName) (n : List ℕ) →
     field_at n (put_or_fuse ts p) ≡ common_type (field_at n ts) (when (same_name p.0 n) p.1)
 found_put [] p n = refl
 found_put (q ∷ qs) p n =
@@ -62,7 +62,7 @@ all_step : (b : Bool) (t : Type') (o more : Option Type') → (b ≡ true → mo
 all_step true t o more h = ap (common_type (common_type o (Some t))) (h refl) ∙ common_none (common_type o (Some t))
 all_step false t o more h = ap (λ x. common_type x more) (common_none o)
 
-found_all : (ts us : List Typed) (n : List ℕ) → are_distinct us ≡ true →
+found_all : (ts us : List TypedName) (n : List ℕ) → are_distinct us ≡ true →
     field_at n (put_all put_or_fuse ts us) ≡ common_type (field_at n ts) (field_at n us)
 found_all ts [] n d = sym (common_none (field_at n ts))
 found_all ts (p ∷ us) n d =
@@ -80,7 +80,7 @@ abbrev pub found_in_either : Fields → Fields → List ℕ → Optional
 found_in_either fs gs = λ n. fuse_optional (found_in fs n) (found_in gs n)
 
 -- a name finds what the types of both have in common
-pub found_in_both : (ts us : List Typed) → are_distinct us ≡ true → found_in (put_all put_or_fuse ts us) ≡ found_in_either ts us
+pub found_in_both : (ts us : List TypedName) → are_distinct us ≡ true → found_in (put_all put_or_fuse ts us) ≡ found_in_either ts us
 found_in_both ts us e =
     λ d n. (ap optional (found_all ts us n e) ∙ common_optional (field_at n ts) (field_at n us)) d
 
@@ -99,7 +99,7 @@ later_step : (there : Bool) (t : Type') (o more w : Option Type') → more ≡ o
 later_step true t o more w e = refl
 later_step false t o more w e = e
 
-new_step : (same there here : Bool) (n : List ℕ) (q p : Typed) (qs more : List Typed) → (same ≡ true → there ≡ here) → there ≡ same_name q.0 n →
+new_step : (same there here : Bool) (n : List ℕ) (q p : TypedName) (qs more : List TypedName) → (same ≡ true → there ≡ here) → there ≡ same_name q.0 n →
     field_at n more ≡ option_or (field_at n qs) (when here p.1) →
     field_at n (if same then q ∷ qs else q ∷ more) ≡ option_or (field_at n (q ∷ qs)) (when here p.1)
 new_step true there here n q p qs more h is e =
@@ -110,7 +110,7 @@ new_step false there here n q p qs more h is e =
     ap (λ b. if b then Some q.1 else field_at n more) (sym is) ∙ later_step there q.1 o _ (when here p.1) e
     ∙ ap (λ b. option_or (if b then Some q.1 else o) (when here p.1)) is
 
-found_new : (ts : List Typed) (p : Typed) (n : List ℕ) →
+found_new : (ts : List TypedName) (p : TypedName) (n : List ℕ) →
     field_at n (put_new ts p) ≡ option_or (field_at n ts) (when (same_name p.0 n) p.1)
 found_new [] p n = refl
 found_new (q ∷ qs) p n =
@@ -123,7 +123,7 @@ or_step true t (Some u) more = refl
 or_step false t None more = refl
 or_step false t (Some u) more = refl
 
-found_first : (ts us : List Typed) (n : List ℕ) →
+found_first : (ts us : List TypedName) (n : List ℕ) →
     field_at n (put_all put_new ts us) ≡ option_or (field_at n ts) (field_at n us)
 found_first ts [] n = sym (or_none (field_at n ts))
 found_first ts (p ∷ us) n =
@@ -131,15 +131,15 @@ found_first ts (p ∷ us) n =
     ∙ or_step (same_name p.0 n) p.1 (field_at n ts) (field_at n us)
 
 -- a name finds what it found among all
-pub firsts_found : (us : List Typed) (n : List ℕ) → field_at n (firsts us) ≡ field_at n us
+pub firsts_found : (us : List TypedName) (n : List ℕ) → field_at n (firsts us) ≡ field_at n us
 firsts_found us n = found_first [] us n
 
-distinct_step : (same : Bool) (q : Typed) (qs more : List Typed) → are_distinct (q ∷ qs) ≡ true → (same ≡ false → has_field q.0 more ≡ false) →
+distinct_step : (same : Bool) (q : TypedName) (qs more : List TypedName) → are_distinct (q ∷ qs) ≡ true → (same ≡ false → has_field q.0 more ≡ false) →
     are_distinct more ≡ true → are_distinct (if same then q ∷ qs else q ∷ more) ≡ true
 distinct_step true q qs more d h e = d
 distinct_step false q qs more d h e = λ i. not (h refl i) && e i
 
-new_distinct : (ts : List Typed) (p : Typed) → are_distinct ts ≡ true → are_distinct (put_new ts p) ≡ true
+new_distinct : (ts : List TypedName) (p : TypedName) → are_distinct ts ≡ true → are_distinct (put_new ts p) ≡ true
 new_distinct [] p d = refl
 new_distinct (q ∷ qs) p d =
     let none : has_field q.0 qs ≡ false = first_apart (has_field q.0 qs) (are_distinct qs) d in
@@ -149,9 +149,9 @@ new_distinct (q ∷ qs) p d =
     ∙ ap (λ b. is_some (when b p.1)) (same_turned p.0 q.0 ∙ f))
     (new_distinct qs p (others_apart (has_field q.0 qs) (are_distinct qs) d))
 
-all_distinct : (ts us : List Typed) → are_distinct ts ≡ true → are_distinct (put_all put_new ts us) ≡ true
+all_distinct : (ts us : List TypedName) → are_distinct ts ≡ true → are_distinct (put_all put_new ts us) ≡ true
 all_distinct ts [] d = d
 all_distinct ts (p ∷ us) d = all_distinct (put_new ts p) us (new_distinct ts p d)
 
-pub firsts_distinct : (us : List Typed) → are_distinct (firsts us) ≡ true
+pub firsts_distinct : (us : List TypedName) → are_distinct (firsts us) ≡ true
 firsts_distinct us = all_distinct [] us refl

@@ -5,7 +5,7 @@ use Rattle.std.specs.Prelude.{if◌then◌else◌}
 use Rattle.al_base.specs.Names.{same_name}
 use Rattle.al_base.specs.NamePlaces.{name_place}
 use Rattle.al_types.specs.Strings.{strings}
-use Rattle.al_types.specs.Puts.{Typed, firsts, put_all, put_new}
+use Rattle.al_types.specs.Puts.{TypedName, firsts, put_all, put_new}
 use Rattle.al_types.specs.Types.{Absent, Present, String, common_in, field_at, fuse_optional, optional, parts_with}
 use Rattle.al_types.proofs.GatheredFields.{firsts_found}
 use Rattle.al_types.specs.TypeParts.{string_unless}
@@ -49,7 +49,7 @@ abbrev names_new : List (List ℕ) → List (List ℕ) → List (List ℕ)
 names_new ms [] = ms
 names_new ms (n ∷ ns) = names_new (name_new ms n) ns
 
-new_step : (b : Bool) (m : List ℕ) (ms more : List (List ℕ)) (ts : List Typed) → ts ≡ strings more →
+new_step : (b : Bool) (m : List ℕ) (ms more : List (List ℕ)) (ts : List TypedName) → ts ≡ strings more →
     (if b then (m, String) ∷ strings ms else (m, String) ∷ ts) ≡ strings (if b then m ∷ ms else m ∷ more)
 new_step true m ms more ts e = refl
 new_step false m ms more ts e = ap (λ us. (m, String) ∷ us) e

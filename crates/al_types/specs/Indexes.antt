@@ -2,11 +2,11 @@
 use Rattle.std.specs.Prelude.{ℕ, List, Bool, Option}
 use Rattle.al_base.specs.Names.{same_name}
 use Rattle.al_base.specs.NamePlaces.{first_at}
-use Rattle.al_types.specs.Puts.{Typed}
+use Rattle.al_types.specs.Puts.{TypedName}
 
-abbrev pub named_as : List ℕ → Typed → Bool
+abbrev pub named_as : List ℕ → TypedName → Bool
 named_as n p = same_name p.0 n
 
 -- where a name first stands among fields
-abbrev pub name_at : List Typed → List ℕ → Option ℕ
+abbrev pub name_at : List TypedName → List ℕ → Option ℕ
 name_at ts n = first_at (named_as n) ts

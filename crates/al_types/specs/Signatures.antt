@@ -29,12 +29,12 @@ signature function.Cancelled = giving Zero returns.Bool
 signature function.Failure = giving Zero returns.Bool
 
 -- whether a call may have so many arguments
-abbrev pub takes : Parameters → ℕ → Bool
-takes Zero n = nat_eq n 0
-takes (One a) n = nat_eq n 1
-takes (Two a b) n = nat_eq n 2
-takes (OneOrTwo a b) n = nat_eq n 1 || nat_eq n 2
-takes (OneOrMore a b) n = not (nat_eq n 0)
+abbrev pub takes_count : Parameters → ℕ → Bool
+takes_count Zero n = nat_eq n 0
+takes_count (One a) n = nat_eq n 1
+takes_count (Two a b) n = nat_eq n 2
+takes_count (OneOrTwo a b) n = nat_eq n 1 || nat_eq n 2
+takes_count (OneOrMore a b) n = not (nat_eq n 0)
 
 -- what the argument of an index, counted from 0, may be
 abbrev pub parameter_at : Parameters → ℕ → Wanted

@@ -2,7 +2,7 @@
 
 ghost use Rattle.std.specs.Prelude.{◌≡◌, option_map};
 ghost use Rattle.al_types.specs.Names.{function_of};
-ghost use Rattle.al_types.specs.Signatures.{signature, takes, parameter_at};
+ghost use Rattle.al_types.specs.Signatures.{signature, takes_count, parameter_at};
 
 use crate::names::Function;
 
@@ -101,7 +101,7 @@ impl Function {
 impl Parameters {
     /// Whether a call may have so many arguments.
     pub fn takes(self, count: usize) -> bool
-        ensures { result ≡ takes self count }
+        ensures { result ≡ takes_count self count }
     {
         match self {
             Parameters::Zero => count == 0,

@@ -2,9 +2,9 @@
 use Rattle.std.proofs.Common.{◌≡◌, ℕ, zero, suc, ◌+◌, ◌-◌, ◌<◌, ◌≤◌, List, [], ◌∷◌, length, refl, sym, ap, ◌∙◌, arith, Bool, true, false, ◌||◌, cond, nat_lt, Option, Some, None, Ok, Err}
 use Rattle.std.proofs.lemmas.Grind.{common_steps}
 use Rattle.al_base.specs.declared.codes.YamlCode.TheVariants as yaml
-use Rattle.al_scalar.specs.Taken.{Fault}
+use Rattle.al_scalar.specs.declared.faults.FaultAt.{FaultAt}
 use Rattle.al_yaml_tree.specs.Limits.{broken_limit, most_counted}
-use Rattle.al_yaml_tree.specs.Node.{Node, nodes_in, text_in, levels_in}
+use Rattle.al_yaml_tree.specs.Node.{Node, nodes_in, text_size, levels_in}
 use Rattle.al_scalar.specs.Line.{start}
 use Rattle.al_scalar.specs.Places.{lines_at}
 use Rattle.al_scalar.proofs.RestLemmas.{start-at}
@@ -13,7 +13,7 @@ use Rattle.al_yaml_parts.specs.Reads.{alias_part}
 use Rattle.al_yaml_parts.specs.declared.faults.ReadError.{ReadError}
 use Rattle.al_yaml_parts.proofs.ReadLemmas.{bind-ok, stops-bind, stops-from}
 use Rattle.al_yaml_tree.specs.Reading.{Reading, Part, part, gives, ◌>>=◌, Anchor, alias, alias_of, alias_start, deepest}
-use Rattle.al_yaml_parts.specs.Reads.{State, run, run_outcome, start_with, Stops}
+use Rattle.al_yaml_parts.specs.Reads.{State, run, run_outcome, start_with, FailsWith}
 use Rattle.al_yaml_parts.proofs.RunLemmas.{run-fails, run-gives, run-any_start, run-broken_start}
 
 pub run-alias : (s : State) (name : List ℕ) (at depth : ℕ) (o : Option Anchor) → s.known name ≡ o → run s (alias name at depth) ≡ run s (alias_of o at depth)
@@ -44,19 +44,19 @@ deep-cases depth (suc l) =
 same-deepest : (depth l : ℕ) → nat_lt 64 (most_counted (deepest depth (most_counted l))) ≡ nat_lt 64 (deepest depth l)
 same-deepest depth l = same-depth (deepest depth (most_counted l)) ∙ deep-cases depth l
 
-abbrev broken : Bool → Bool → Bool → ℕ → Option Fault
+abbrev broken : Bool → Bool → Bool → ℕ → Option FaultAt
 broken a b c at = cond (a || b) (Some (record { code = yaml.TooManyNodes; at = at })) (cond c (Some (record { code = yaml.NestingTooDeep; at = at })) None)
 
-pub same-limits : (n t at depth : ℕ) (x : Node) (nodes text levels deep : ℕ) → nodes ≡ most_counted (nodes_in x) → text ≡ most_counted (text_in x)
+pub same-limits : (n t at depth : ℕ) (x : Node) (nodes text levels deep : ℕ) → nodes ≡ most_counted (nodes_in x) → text ≡ most_counted (text_size x)
     → levels ≡ most_counted (levels_in x) → deep ≡ most_counted (deepest depth levels)
     → broken_limit n t (start_with at nodes text deep ∷ []) ≡ broken_limit n t (alias_start at depth x ∷ [])
 same-limits n t at depth x nodes text levels deep a b c d =
     let e : nat_lt 100000 (n + nodes) ≡ nat_lt 100000 (n + nodes_in x) = ap (λ m. nat_lt 100000 (n + m)) a ∙ same-nodes n (nodes_in x) in
-    let f : nat_lt 1048576 (t + text) ≡ nat_lt 1048576 (t + text_in x) = ap (λ m. nat_lt 1048576 (t + m)) b ∙ same-text t (text_in x) in
+    let f : nat_lt 1048576 (t + text) ≡ nat_lt 1048576 (t + text_size x) = ap (λ m. nat_lt 1048576 (t + m)) b ∙ same-text t (text_size x) in
     let g : nat_lt 64 deep ≡ nat_lt 64 (deepest depth (levels_in x)) =
     ap (nat_lt 64) (d ∙ ap (λ l. most_counted (deepest depth l)) c) ∙ same-deepest depth (levels_in x) in
     ap (λ u. broken u (nat_lt 1048576 (t + text)) (nat_lt 64 deep) at) e ∙ ap (λ u. broken (nat_lt 100000 (n + nodes_in x)) u (nat_lt 64 deep) at) f
-    ∙ ap (λ u. broken (nat_lt 100000 (n + nodes_in x)) (nat_lt 1048576 (t + text_in x)) u at) g
+    ∙ ap (λ u. broken (nat_lt 100000 (n + nodes_in x)) (nat_lt 1048576 (t + text_size x)) u at) g
 
 -- what fits is counted as it is
 fits : (n t nodes text deep at : ℕ) → broken_limit n t (start_with at nodes text deep ∷ []) ≡ None → (nat_lt 100000 (n + nodes) ≡ false) × (nat_lt 1048576 (t + text) ≡ false)
@@ -78,11 +78,11 @@ module _ (s : State) (name : List ℕ) (at depth : ℕ) where
   alias-unknown h = run-alias s name at depth None h ∙ run-fails s yaml.UnknownAlias at
 
   module _ (a : Anchor) (found : s.known name ≡ Some a) (nodes text levels deep : ℕ) (is-nodes : nodes ≡ most_counted (nodes_in a.node))
-      (is-text : text ≡ most_counted (text_in a.node)) (is-levels : levels ≡ most_counted (levels_in a.node)) (is-deep : deep ≡ most_counted (deepest depth levels)) where
+      (is-text : text ≡ most_counted (text_size a.node)) (is-levels : levels ≡ most_counted (levels_in a.node)) (is-deep : deep ≡ most_counted (deepest depth levels)) where
     same : broken_limit s.nodes s.text (start_with at nodes text deep ∷ []) ≡ broken_limit s.nodes s.text (alias_start at depth a.node ∷ [])
     same = same-limits s.nodes s.text at depth a.node nodes text levels deep is-nodes is-text is-levels is-deep
 
-    pub alias-broken : (e : Fault) → broken_limit s.nodes s.text (start_with at nodes text deep ∷ []) ≡ Some e → run s (alias name at depth) ≡ Err e
+    pub alias-broken : (e : FaultAt) → broken_limit s.nodes s.text (start_with at nodes text deep ∷ []) ≡ Some e → run s (alias name at depth) ≡ Err e
     alias-broken e h =
         run-alias s name at depth (Some a) found ∙ run-broken_start s (alias_start at depth a.node) (gives a.node) e (sym same ∙ h)
 
@@ -91,11 +91,11 @@ module _ (s : State) (name : List ℕ) (at depth : ℕ) where
     alias-read h n t c d =
         let f = fits s.nodes s.text nodes text deep at h in
         let p : nodes ≡ nodes_in a.node = is-nodes ∙ exact-nodes s.nodes (nodes_in a.node) (ap (λ m. nat_lt 100000 (s.nodes + m)) (sym is-nodes) ∙ f.0) in
-        let q : text ≡ text_in a.node = is-text ∙ exact-text s.text (text_in a.node) (ap (λ m. nat_lt 1048576 (s.text + m)) (sym is-text) ∙ f.1) in
+        let q : text ≡ text_size a.node = is-text ∙ exact-text s.text (text_size a.node) (ap (λ m. nat_lt 1048576 (s.text + m)) (sym is-text) ∙ f.1) in
         run-alias s name at depth (Some a) found
         ∙ run-any_start s (alias_start at depth a.node) (gives a.node) (sym same ∙ h)
-        ∙ run-gives (record { nodes = s.nodes + nodes_in a.node; text = s.text + text_in a.node; known = s.known }) a.node
-        ∙ ap (λ m. Ok (a.node, record { nodes = m; text = s.text + text_in a.node; known = s.known })) (ap (λ m. s.nodes + m) (sym p) ∙ sym c)
+        ∙ run-gives (record { nodes = s.nodes + nodes_in a.node; text = s.text + text_size a.node; known = s.known }) a.node
+        ∙ ap (λ m. Ok (a.node, record { nodes = m; text = s.text + text_size a.node; known = s.known })) (ap (λ m. s.nodes + m) (sym p) ∙ sym c)
         ∙ ap (λ m. Ok (a.node, record { nodes = n; text = m; known = s.known })) (ap (λ m. s.text + m) (sym q) ∙ sym d)
 
 -- ---- an alias with what is left behind it
@@ -107,7 +107,7 @@ module _ (bytes : List ℕ) (at : ℕ) (inside : at ≤ length bytes) (s : State
   alias-here : run s (alias_part depth (lines_at bytes at)) ≡ run s (alias (anchor_name (lines_at bytes at)) at depth >>= behind_alias)
   alias-here = ap (λ i. run s (alias (anchor_name (lines_at bytes at)) i depth >>= behind_alias)) (start-at bytes at inside)
 
-  pub alias-stops : (e : ReadError) → Stops (alias (anchor_name (lines_at bytes at)) at depth) s e → Stops (alias_part depth (lines_at bytes at)) s e
+  pub alias-stops : (e : ReadError) → FailsWith (alias (anchor_name (lines_at bytes at)) at depth) s e → FailsWith (alias_part depth (lines_at bytes at)) s e
   alias-stops e h = stops-from (alias_part depth (lines_at bytes at)) (alias (anchor_name (lines_at bytes at)) at depth >>= behind_alias) s s e alias-here
       (stops-bind (alias (anchor_name (lines_at bytes at)) at depth) behind_alias s e h)
 

@@ -9,7 +9,7 @@ use Rattle.std.specs.Ordering.{is_eq, nat_cmp}
 use Rattle.std.specs.Str.{bytes_eq}
 use Rattle.std.proofs.lemmas.Map.Text.{is_eq-slice_cmp}
 use Rattle.al_yaml_tree.specs.Reading.{Anchor, later_of, with_anchor}
-use Rattle.al_yaml_parts.specs.Reads.{anchor_seen, found_in, is_later, known_of}
+use Rattle.al_yaml_parts.specs.Reads.{anchor_seen, anchors_view, is_later, last_anchor}
 use Rattle.al_yaml_parts.specs.declared.anchors.AnchoredNode.{AnchoredNode}
 use Rattle.al_yaml_parts.specs.declared.anchors.Anchors.{Anchors}
 
@@ -36,36 +36,36 @@ later-is a (Some b) = refl
 -- an anchor that is put, where none of its name stands behind it
 module _ (old new : Anchors) (key : Vec ℕ) (a : AnchoredNode)
     (u : UpdatesBy (λ a b. slice_cmp nat_cmp a.items b.items) (λ k. slice_cmp nat_cmp key.items k.items) old.latest new.latest (Some a))
-    (last : is_later a.at (known_of old key.items) ≡ false) where
-  found-put : (name : List ℕ) → bytes_eq key.items name ≡ true → found_in new name ≡ Some a
-  unfolding found_in
-  found-put name y = ap (found_in new) (sym ((bytes_decides key.items name).0 y)) ∙ u.1
+    (last : is_later a.at (anchors_view old key.items) ≡ false) where
+  found-put : (name : List ℕ) → bytes_eq key.items name ≡ true → last_anchor new name ≡ Some a
+  unfolding last_anchor
+  found-put name y = ap (last_anchor new) (sym ((bytes_decides key.items name).0 y)) ∙ u.1
 
-  found-other : (name : List ℕ) → bytes_eq key.items name ≡ false → found_in new name ≡ found_in old name
-  unfolding found_in
+  found-other : (name : List ℕ) → bytes_eq key.items name ≡ false → last_anchor new name ≡ last_anchor old name
+  unfolding last_anchor
   found-other name n =
       other_entries _ _ _ _ u.3 (at_text name) (λ x y. (eq_by_cmp_equiv nat_list_cmp_total).congr name x.items y.items) (λ k. apart key.items name k.items n)
 
-  put-is : later_of (anchor_seen key.items a) (known_of old key.items) ≡ Some (anchor_seen key.items a)
+  put-is : later_of (anchor_seen key.items a) (anchors_view old key.items) ≡ Some (anchor_seen key.items a)
   put-is =
-      later-is (anchor_seen key.items a) (known_of old key.items)
-      ∙ ap (λ b. cond b (known_of old key.items) (Some (anchor_seen key.items a))) last
+      later-is (anchor_seen key.items a) (anchors_view old key.items)
+      ∙ ap (λ b. cond b (anchors_view old key.items) (Some (anchor_seen key.items a))) last
 
-  seen-put : (name : List ℕ) → bytes_eq key.items name ≡ true → known_of new name ≡ later_of (anchor_seen key.items a) (known_of old name)
+  seen-put : (name : List ℕ) → bytes_eq key.items name ≡ true → anchors_view new name ≡ later_of (anchor_seen key.items a) (anchors_view old name)
   seen-put name y =
       let same = (bytes_decides key.items name).0 y in
       ap (option_map (anchor_seen name)) (found-put name y) ∙ ap (λ n. Some (anchor_seen n a)) (sym same)
-      ∙ sym put-is ∙ ap (λ n. later_of (anchor_seen key.items a) (known_of old n)) same
+      ∙ sym put-is ∙ ap (λ n. later_of (anchor_seen key.items a) (anchors_view old n)) same
 
-  pub known-put : known_of new ≡ with_anchor (anchor_seen key.items a) (known_of old)
+  pub known-put : anchors_view new ≡ with_anchor (anchor_seen key.items a) (anchors_view old)
   known-put = λ i name.
-      here_or_before (bytes_eq key.items name) (known_of old name) (known_of new name) (later_of (anchor_seen key.items a) (known_of old name))
+      here_or_before (bytes_eq key.items name) (anchors_view old name) (anchors_view new name) (later_of (anchor_seen key.items a) (anchors_view old name))
       (seen-put name) (λ n. ap (option_map (anchor_seen name)) (found-other name n)) i
 
 -- an anchor behind which one of its name stands changes nothing
-module _ (old : Anchors) (key : List ℕ) (a : AnchoredNode) (later : is_later a.at (known_of old key) ≡ true) where
-  stays : (name : List ℕ) → bytes_eq key name ≡ true → known_of old name ≡ later_of (anchor_seen key a) (known_of old name)
+module _ (old : Anchors) (key : List ℕ) (a : AnchoredNode) (later : is_later a.at (anchors_view old key) ≡ true) where
+  stays : (name : List ℕ) → bytes_eq key name ≡ true → anchors_view old name ≡ later_of (anchor_seen key a) (anchors_view old name)
   stays name y =
       let same = (bytes_decides key name).0 y in
-      ap (λ b. cond b (known_of old name) (Some (anchor_seen key a))) (sym (ap (λ n. is_later a.at (known_of old n)) (sym same) ∙ later))
-      ∙ sym (later-is (anchor_seen key a) (known_of old name))
+      ap (λ b. cond b (anchors_view old name) (Some (anchor_seen key a))) (sym (ap (λ n. is_later a.at (anchors_view old n)) (sym same) ∙ later))
+      ∙ sym (later-is (anchor_seen key a) (anchors_view old name))

@@ -4,7 +4,8 @@ use Rattle.al_base.specs.declared.codes.YamlCode.TheVariants as yaml
 use Rattle.al_scalar.specs.Line.{Cell, Line, start, cut, is_empty, begins, is_marker, spaces_dropped}
 use Rattle.al_scalar.specs.Places.{first_text, lines_at, text_at}
 use Rattle.al_scalar.specs.LineEnds.{IsLineEnd}
-use Rattle.al_scalar.specs.Taken.{Fault, fault}
+use Rattle.al_scalar.specs.Taken.{fault}
+use Rattle.al_scalar.specs.declared.faults.FaultAt.{FaultAt}
 use Rattle.al_yaml_tree.specs.Content.{behind, line_ended}
 use Rattle.al_yaml_tree.specs.Document.{first_line, ended_behind, last_line}
 use Rattle.al_yaml_parts.specs.Private.DocumentLines.{IsBehindMarker}
@@ -70,7 +71,7 @@ module _ (bytes : List ℕ) (i b : ℕ) (h : i ≤ length bytes) (m : true ≡ i
 
 -- ---- the first line
 
-abbrev pub first_step : Bool → Bool → ℕ → Result (List Line) Fault → Result (List Line) Fault → Result (List Line) Fault
+abbrev pub first_step : Bool → Bool → ℕ → Result (List Line) FaultAt → Result (List Line) FaultAt → Result (List Line) FaultAt
 first_step directive marker at marked plain = cond directive (fault yaml.Directive at) (cond marker marked plain)
 
 module _ (bytes : List ℕ) (at : ℕ) where
@@ -81,11 +82,11 @@ module _ (bytes : List ℕ) (at : ℕ) where
 
 -- ---- the last line
 
-abbrev pub last_step : Bool → Bool → Bool → ℕ → Result (Unit {0}) Fault → ℕ → Result (Unit {0}) Fault
+abbrev pub last_step : Bool → Bool → Bool → ℕ → Result (Unit {0}) FaultAt → ℕ → Result (Unit {0}) FaultAt
 last_step second marker tab at marked solid =
     cond second (fault yaml.SecondDocument at) (cond marker marked (cond tab (fault yaml.TabInIndentation solid) (fault yaml.WrongIndentation solid)))
 
-abbrev pub last_at : List Line → Bool → Bool → Result (Unit {0}) Fault
+abbrev pub last_at : List Line → Bool → Bool → Result (Unit {0}) FaultAt
 last_at ls second marker = last_step second marker (begins 9 (first_text (spaces_dropped ls))) (start ls) (ended_behind (behind 3 ls)) (start (spaces_dropped ls))
 
 module _ (bytes : List ℕ) (at : ℕ) where

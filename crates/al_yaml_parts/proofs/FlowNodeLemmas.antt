@@ -5,19 +5,20 @@ use Rattle.al_base.specs.declared.codes.YamlCode.TheVariants as yaml
 use Rattle.std.proofs.lemmas.Bool.{eqb-true}
 use Rattle.al_scalar.specs.Line.{Cell, Line, start, begins, is_empty}
 use Rattle.al_scalar.specs.Places.{lines_at, text_at}
-use Rattle.al_scalar.specs.Taken.{Fault, fault}
+use Rattle.al_scalar.specs.Taken.{fault}
+use Rattle.al_scalar.specs.declared.faults.FaultAt.{FaultAt}
 use Rattle.al_scalar.specs.Scalar.{ScalarRead}
 use Rattle.al_yaml_tree.specs.Node as tree
 use Rattle.al_yaml_tree.specs.Reading.{Reading, Part, part, gives, of_result, fails, starting_scalar, start_of, with_start, gives_with_anchor, alias, ◌>>=◌}
 use Rattle.al_yaml_tree.specs.Limits.{broken_limit}
 use Rattle.al_scalar.specs.Plain.{flow}
 use Rattle.al_scalar.specs.Scalar.{scalar_at}
-use Rattle.al_yaml_tree.specs.Content.{is_file_end, is_quote, is_simple_key, is_property, is_flow_start, has_no_name, anchor_name, behind_name, flow_fault, unless}
+use Rattle.al_yaml_tree.specs.Content.{is_file_end, starts_quoted, is_simple_key, is_property, is_flow_start, has_no_name, anchor_name, behind_name, flow_fault, unless_code}
 use Rattle.al_yaml_tree.specs.Flow.{gap, FlowReader, CollectionReader, FlowSlot}
 use Rattle.al_yaml_tree.specs.Flow.{flow_key, flow_value, flow_entry_value, flow_content}
 use Rattle.al_yaml_tree.specs.Flow.{flow_property, flow_node_over, empty_node, FlowKey, key_colon, unless_late}
-use Rattle.al_yaml_tree.specs.Flow.{behind_colon, is_late_colon}
-use Rattle.al_yaml_parts.specs.Reads.{State, run, with_nodes, Stops, Refuses}
+use Rattle.al_yaml_tree.specs.Flow.{behind_colon_in_flow, is_late_colon}
+use Rattle.al_yaml_parts.specs.Reads.{State, run, with_nodes, FailsWith, Refuses}
 use Rattle.al_yaml_parts.specs.Answers.{completing}
 use Rattle.al_yaml_parts.specs.Reads.{alias_part}
 use Rattle.al_yaml_parts.specs.declared.faults.ReadError.{ReadError}
@@ -37,10 +38,10 @@ module _ (bytes : List ℕ) (at : ℕ) (inside : at ≤ length bytes) (r : Scala
   key-not_simple h = if-true (not (is_simple_key (lines_at bytes at) r)) _ _ (ap not h) ∙ ap (fault yaml.WrongKey) (start-at bytes at inside)
 
   module _ (simple : true ≡ is_simple_key (lines_at bytes at) r) where
-    simple_key : key_colon (lines_at bytes at) r ≡ unless_late (lines_at bytes at) r (behind_colon (is_quote (text_at bytes at)) r.left)
+    simple_key : key_colon (lines_at bytes at) r ≡ unless_late (lines_at bytes at) r (behind_colon_in_flow (starts_quoted (text_at bytes at)) r.left)
     simple_key = if-false (not (is_simple_key (lines_at bytes at) r)) _ _ (ap not simple)
 
-    module _ (none : behind_colon (is_quote (text_at bytes at)) r.left ≡ None) where
+    module _ (none : behind_colon_in_flow (starts_quoted (text_at bytes at)) r.left ≡ None) where
       pub key-late : true ≡ is_late_colon r.left → key_colon (lines_at bytes at) r ≡ fault yaml.WrongKey at
       key-late h = simple_key ∙ ap (unless_late (lines_at bytes at) r) none ∙ if-true (is_late_colon r.left) _ _ h ∙ ap (fault yaml.WrongKey) (start-at bytes at inside)
 
@@ -76,18 +77,18 @@ module _ (collection : CollectionReader) (slot : FlowSlot) (depth : ℕ) (n : St
       cond (is_property (text_at bytes at)) (fails yaml.UnexpectedCharacter (start (lines_at bytes at)))
       (cond (is_flow_start (text_at bytes at)) (collection depth (lines_at bytes at)) (starting_scalar (start (lines_at bytes at)) (scalar_reading (scalar_at flow (lines_at bytes at)))))
 
-  content-unless : flow_content collection slot depth (lines_at bytes at) ≡ unless (flow_fault (text_at bytes at)) (start (lines_at bytes at)) node_inside
+  content-unless : flow_content collection slot depth (lines_at bytes at) ≡ unless_code (flow_fault (text_at bytes at)) (start (lines_at bytes at)) node_inside
   unfolding flow_content
   content-unless = refl
 
   pub content-fault : (code : YamlCode) → Some code ≡ flow_fault (text_at bytes at) → run n (flow_content collection slot depth (lines_at bytes at)) ≡ Err (record { code = code; at = at })
   content-fault code h =
-      ap (run n) (content-unless ∙ ap (λ o. unless o (start (lines_at bytes at)) node_inside) (sym h)) ∙ run-fails n code (start (lines_at bytes at))
+      ap (run n) (content-unless ∙ ap (λ o. unless_code o (start (lines_at bytes at)) node_inside) (sym h)) ∙ run-fails n code (start (lines_at bytes at))
       ∙ ap (λ i. Err (record { code = code; at = i })) (start-at bytes at inside)
 
   module _ (right : None ≡ flow_fault (text_at bytes at)) where
     content-right : flow_content collection slot depth (lines_at bytes at) ≡ node_inside
-    content-right = content-unless ∙ ap (λ o. unless o (start (lines_at bytes at)) node_inside) (sym right)
+    content-right = content-unless ∙ ap (λ o. unless_code o (start (lines_at bytes at)) node_inside) (sym right)
 
     pub content-property : true ≡ is_property (text_at bytes at) → run n (flow_content collection slot depth (lines_at bytes at)) ≡ Err (record { code = yaml.UnexpectedCharacter; at = at })
     content-property h =
@@ -178,18 +179,18 @@ module _ (collection : CollectionReader) (depth : ℕ) (n : State) (bytes : List
       (cond (is_flow_start (text_at bytes at)) (collection depth (lines_at bytes at) >>= (λ x. fails yaml.WrongKey (start (lines_at bytes at))))
       (of_result (scalar_at flow (lines_at bytes at)) >>= key_with))
 
-  key-unless : flow_key collection depth (lines_at bytes at) ≡ unless (flow_fault (text_at bytes at)) (start (lines_at bytes at)) key_inside
+  key-unless : flow_key collection depth (lines_at bytes at) ≡ unless_code (flow_fault (text_at bytes at)) (start (lines_at bytes at)) key_inside
   unfolding flow_key
   key-unless = refl
 
   pub key-fault : (code : YamlCode) → Some code ≡ flow_fault (text_at bytes at) → run n (flow_key collection depth (lines_at bytes at)) ≡ Err (record { code = code; at = at })
   key-fault code h =
-      ap (run n) (key-unless ∙ ap (λ o. unless o (start (lines_at bytes at)) key_inside) (sym h)) ∙ run-fails n code (start (lines_at bytes at))
+      ap (run n) (key-unless ∙ ap (λ o. unless_code o (start (lines_at bytes at)) key_inside) (sym h)) ∙ run-fails n code (start (lines_at bytes at))
       ∙ ap (λ i. Err (record { code = code; at = i })) (start-at bytes at inside)
 
   module _ (right : None ≡ flow_fault (text_at bytes at)) where
     key-right : flow_key collection depth (lines_at bytes at) ≡ key_inside
-    key-right = key-unless ∙ ap (λ o. unless o (start (lines_at bytes at)) key_inside) (sym right)
+    key-right = key-unless ∙ ap (λ o. unless_code o (start (lines_at bytes at)) key_inside) (sym right)
 
     pub key-property : (code : YamlCode) → true ≡ is_property (text_at bytes at) → code ≡ cond (has_no_name (lines_at bytes at)) yaml.UnexpectedCharacter yaml.AnchorOrAlias
         → run n (flow_key collection depth (lines_at bytes at)) ≡ Err (record { code = code; at = at })
@@ -210,7 +211,7 @@ module _ (collection : CollectionReader) (depth : ℕ) (n : State) (bytes : List
         key-scalar : flow_key collection depth (lines_at bytes at) ≡ (of_result (scalar_at flow (lines_at bytes at)) >>= key_with)
         key-scalar = key-right ∙ if-false (is_property (text_at bytes at)) _ _ plain ∙ if-false (is_flow_start (text_at bytes at)) _ _ scalar
 
-        pub key-unread : (e : ReadError) → Refuses (scalar_at flow (lines_at bytes at)) e → Stops (flow_key collection depth (lines_at bytes at)) n e
+        pub key-unread : (e : ReadError) → Refuses (scalar_at flow (lines_at bytes at)) e → FailsWith (flow_key collection depth (lines_at bytes at)) n e
         key-unread e h = stops-same _ _ n e key-scalar (stops-given (scalar_at flow (lines_at bytes at)) key_with n e h)
 
         module _ (r : ScalarRead) (read : scalar_at flow (lines_at bytes at) ≡ Ok r) where
@@ -220,7 +221,7 @@ module _ (collection : CollectionReader) (depth : ℕ) (n : State) (bytes : List
           scalar-read : run n (flow_key collection depth (lines_at bytes at)) ≡ run n (of_result (key_colon (lines_at bytes at) r) >>= with_colon)
           scalar-read = ap (run n) key-scalar ∙ given-ok (scalar_at flow (lines_at bytes at)) key_with n r read
 
-          pub key-wrong : (f : Fault) → key_colon (lines_at bytes at) r ≡ Err f → run n (flow_key collection depth (lines_at bytes at)) ≡ Err f
+          pub key-wrong : (f : FaultAt) → key_colon (lines_at bytes at) r ≡ Err f → run n (flow_key collection depth (lines_at bytes at)) ≡ Err f
           key-wrong f h = scalar-read ∙ run-stop n (of_result (key_colon (lines_at bytes at) r)) with_colon f (run-refused n (key_colon (lines_at bytes at) r) f h)
 
           module _ (colon : Option (List Line)) (found : key_colon (lines_at bytes at) r ≡ Ok colon) where
@@ -229,7 +230,7 @@ module _ (collection : CollectionReader) (depth : ℕ) (n : State) (bytes : List
                 scalar-read ∙ given-ok (key_colon (lines_at bytes at) r) with_colon n colon found
                 ∙ ap (λ i. run n (with_start (start_of i 1 0) (gives (record { scalar = r; behind = colon })))) (start-at bytes at inside)
 
-            pub key-broken : (f : Fault) → broken_limit n.nodes n.text (start_of at 1 0 ∷ []) ≡ Some f → run n (flow_key collection depth (lines_at bytes at)) ≡ Err f
+            pub key-broken : (f : FaultAt) → broken_limit n.nodes n.text (start_of at 1 0 ∷ []) ≡ Some f → run n (flow_key collection depth (lines_at bytes at)) ≡ Err f
             key-broken f h = key-found ∙ run-broken n 1 at 0 (gives (record { scalar = r; behind = colon })) f h
 
             pub key-ok : (m : State) → broken_limit n.nodes n.text (start_of at 1 0 ∷ []) ≡ None → m ≡ with_nodes 1 n

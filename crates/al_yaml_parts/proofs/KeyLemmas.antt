@@ -242,13 +242,14 @@ module _ (bytes : List ℕ) (at solid : ℕ) (from : at ≤ solid) (inside : sol
       let value : (b || is_value_colon p (after_blanks (text_at bytes at))) ≡ true = ap (λ t. b || is_value_colon p t) text_solid ∙ ap (λ x. b || x) (sym h) ∙ or-true b in
       (ap (λ x. cond x (Some (behind 1 (blanks_dropped (lines_at bytes at)))) None) value ∙ ap (λ ls. Some (behind 1 ls)) e ∙ ap Some both.0, omega arith, omega arith)
 
-  pub block_found : true ≡ is_value_colon (block 0) (text_at bytes solid) → IsColon (block_reads.behind_colon (lines_at bytes at)) bytes at (Some (solid + 1))
+  pub block_found : true ≡ is_value_colon (block 0) (text_at bytes solid) → IsColon (block_reads.behind_colon_in_block (lines_at bytes at)) bytes at (Some (solid + 1))
   block_found h = found_by (block 0) false h
 
-  pub flow_found : (q : Bool) → true ≡ is_value_colon flow (text_at bytes solid) → IsColon (items.behind_colon q (lines_at bytes at)) bytes at (Some (solid + 1))
+  pub flow_found : (q : Bool) → true ≡ is_value_colon flow (text_at bytes solid) → IsColon (items.behind_colon_in_flow q (lines_at bytes at)) bytes at (Some (solid + 1))
   flow_found q h = found_by flow (q && begins 58 (text_at bytes at)) h
 
-pub quoted_found : (bytes : List ℕ) (at : ℕ) (q : Bool) → at ≤ length bytes → true ≡ (q && begins 58 (text_at bytes at)) → IsColon (items.behind_colon q (lines_at bytes at)) bytes at (Some (at + 1))
+pub quoted_found : (bytes : List ℕ) (at : ℕ) (q : Bool) → at ≤ length bytes → true ≡ (q && begins 58 (text_at bytes at))
+    → IsColon (items.behind_colon_in_flow q (lines_at bytes at)) bytes at (Some (at + 1))
 quoted_found bytes at q inside h =
     let colon : begins 58 (text_at bytes at) ≡ true = second q (begins 58 (text_at bytes at)) h in
     let both = solid-colon bytes at inside colon in

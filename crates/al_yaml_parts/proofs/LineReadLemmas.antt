@@ -10,19 +10,19 @@ use Rattle.al_scalar.specs.LineEnds.{IsLineEnd}
 use Rattle.al_scalar.specs.Plain.{block}
 use Rattle.al_scalar.specs.Scalar as value
 use Rattle.al_scalar.specs.Scalar.{scalar_at}
-use Rattle.al_scalar.specs.Taken.{Fault}
+use Rattle.al_scalar.specs.declared.faults.FaultAt.{FaultAt}
 use Rattle.al_scalar.specs.declared.scalars.ScalarRead.{ScalarRead}
 use Rattle.al_yaml_tree.specs.Node as tree
 use Rattle.al_yaml_tree.specs.Reading.{Reading, Part, part, gives, of_result, with_start, start_of, ◌>>=◌}
 use Rattle.al_yaml_tree.specs.Limits.{broken_limit}
-use Rattle.al_yaml_tree.specs.Content.{behind, is_quote, line_ended}
+use Rattle.al_yaml_tree.specs.Content.{behind, line_ended, starts_quoted}
 use Rattle.al_yaml_tree.specs.Blocks.{ending_line, scalar_node_at}
 use Rattle.al_yaml_tree.specs.View.{view}
 use Rattle.al_yaml_parts.specs.declared.part.Part as code
-use Rattle.al_yaml_tree.specs.Keys.{Key, is_block_start, one_line, with_lines, plain_on_line, key_scalar, has_colon, key_of}
-use Rattle.al_yaml_parts.specs.BlockReads.{behind_colon, scalar_left}
+use Rattle.al_yaml_tree.specs.Keys.{Key, is_block_start, one_line, with_lines, plain_on_line, key_scalar, has_colon, key_before_colon}
+use Rattle.al_yaml_parts.specs.BlockReads.{behind_colon_in_block, scalar_left}
 use Rattle.al_yaml_parts.specs.Places.{IsReadInside}
-use Rattle.al_yaml_parts.specs.Reads.{State, run, with_nodes, Stops, Refuses, Answers, part_of}
+use Rattle.al_yaml_parts.specs.Reads.{State, run, with_nodes, FailsWith, Refuses, Answers, part_of}
 use Rattle.al_yaml_parts.specs.declared.faults.ReadError.{ReadError}
 use Rattle.al_yaml_parts.specs.declared.faults.ReadError.TheVariants as stop
 use Rattle.al_scalar.proofs.SingleLemmas.{has_line, lines_at-some, lines-at_end, text-line_end, is_inside}
@@ -53,7 +53,7 @@ with_lines-own : (ls : List Line) → with_lines (one_line ls) ls ≡ ls
 with_lines-own [] = refl
 with_lines-own (l ∷ ls) = refl
 
-abbrev read_with_lines : List Line → Result value.ScalarRead Fault → Result value.ScalarRead Fault
+abbrev read_with_lines : List Line → Result value.ScalarRead FaultAt → Result value.ScalarRead FaultAt
 read_with_lines ls r = elim r [ Ok r ↦ Ok (record r { left = with_lines r.left ls }) | Err f ↦ Err f ]
 
 module _ (bytes : List ℕ) (e : ℕ) (inside : e ≤ length bytes) (ended : IsLineEnd bytes e) where
@@ -148,10 +148,10 @@ module _ (bytes : List ℕ) (e : ℕ) (inside : e ≤ length bytes) (ended : IsL
 
 -- ---- keys
 
-abbrev keyed : Result value.ScalarRead Fault → Result (Option Key) Fault
-keyed asked = elim asked [ Ok r ↦ Ok (key_of r) | Err f ↦ Err f ]
+abbrev keyed : Result value.ScalarRead FaultAt → Result (Option Key) FaultAt
+keyed asked = elim asked [ Ok r ↦ Ok (key_before_colon r) | Err f ↦ Err f ]
 
-pub key-stops : (asked : Result value.ScalarRead Fault) (e : ReadError) → Refuses asked e → Refuses (keyed asked) e
+pub key-stops : (asked : Result value.ScalarRead FaultAt) (e : ReadError) → Refuses asked e → Refuses (keyed asked) e
 key-stops asked (stop.Fault f) h = ap keyed h
 key-stops asked stop.Memory h = tt
 
@@ -163,22 +163,22 @@ key-by : (r : value.ScalarRead) (left : List Line) (colon : Bool)
 key-by r left true = refl
 key-by r left false = refl
 
-pub key-given : (asked : Result value.ScalarRead Fault) (r : value.ScalarRead) (o : Option (List Line)) → asked ≡ Ok r → behind_colon r.left ≡ o
+pub key-given : (asked : Result value.ScalarRead FaultAt) (r : value.ScalarRead) (o : Option (List Line)) → asked ≡ Ok r → behind_colon_in_block r.left ≡ o
     → keyed asked ≡ Ok (key_with r o)
 key-given asked r o h k =
     ap keyed h ∙ ap Ok (key-by r (behind 1 (blanks_dropped r.left)) (has_colon r.left)) ∙ ap (λ x. Ok (key_with r x)) k
 
-pub answers-same : (bytes : List ℕ) (asked other : Result value.ScalarRead Fault) (result : Result ScalarRead ReadError) → asked ≡ other
+pub answers-same : (bytes : List ℕ) (asked other : Result value.ScalarRead FaultAt) (result : Result ScalarRead ReadError) → asked ≡ other
     → Answers (read_of bytes) other result → Answers (read_of bytes) asked result
 answers-same bytes asked other (Ok r) e h = e ∙ h
 answers-same bytes asked other (Err (stop.Fault f)) e h = e ∙ h
 answers-same bytes asked other (Err stop.Memory) e h = tt
 
-pub key-quoted : (ls : List Line) → true ≡ is_quote (first_text ls) → key_scalar ls ≡ scalar_at (block 0) ls
-key-quoted ls h = if-true (is_quote (first_text ls)) _ _ h
+pub key-quoted : (ls : List Line) → true ≡ starts_quoted (first_text ls) → key_scalar ls ≡ scalar_at (block 0) ls
+key-quoted ls h = if-true (starts_quoted (first_text ls)) _ _ h
 
-pub key-plain : (ls : List Line) → false ≡ is_quote (first_text ls) → key_scalar ls ≡ plain_on_line ls
-key-plain ls h = if-false (is_quote (first_text ls)) _ _ h
+pub key-plain : (ls : List Line) → false ≡ starts_quoted (first_text ls) → key_scalar ls ≡ plain_on_line ls
+key-plain ls h = if-false (starts_quoted (first_text ls)) _ _ h
 
 -- ---- a scalar with the rest of its line
 
@@ -203,14 +203,14 @@ module _ (within : ℕ) (n : State) (at : ℕ) (bytes : List ℕ) (inside : at �
   line-first : scalar_node_at within (lines_at bytes at) ≡ with_start (start_of at 1 0) line_scalar
   line-first = ap (λ i. with_start (start_of i 1 0) line_scalar) (start-at bytes at inside)
 
-  pub line-broken : (f : Fault) → broken_limit n.nodes n.text (start_of at 1 0 ∷ []) ≡ Some f → run n (scalar_node_at within (lines_at bytes at)) ≡ Err f
+  pub line-broken : (f : FaultAt) → broken_limit n.nodes n.text (start_of at 1 0 ∷ []) ≡ Some f → run n (scalar_node_at within (lines_at bytes at)) ≡ Err f
   line-broken f h = ap (run n) line-first ∙ run-broken n 1 at 0 line_scalar f h
 
   module _ (m : State) (fits : broken_limit n.nodes n.text (start_of at 1 0 ∷ []) ≡ None) (more : m ≡ with_nodes 1 n) where
     line-starts : run n (scalar_node_at within (lines_at bytes at)) ≡ run m line_scalar
     line-starts = ap (run n) line-first ∙ run-start n 1 at 0 line_scalar fits ∙ ap (λ i. run i line_scalar) (sym more)
 
-    pub line-unread : (e : ReadError) → Refuses (scalar_at (block within) (lines_at bytes at)) e → Stops (scalar_node_at within (lines_at bytes at)) n e
+    pub line-unread : (e : ReadError) → Refuses (scalar_at (block within) (lines_at bytes at)) e → FailsWith (scalar_node_at within (lines_at bytes at)) n e
     line-unread e h = stops-from _ _ n m e line-starts (stops-given (scalar_at (block within) (lines_at bytes at)) left_of m e h)
 
     module _ (r : ScalarRead) (read : scalar_at (block within) (lines_at bytes at) ≡ Ok (read_of bytes r)) where
@@ -219,7 +219,7 @@ module _ (within : ℕ) (n : State) (at : ℕ) (bytes : List ℕ) (inside : at �
           line-starts ∙ given-ok (scalar_at (block within) (lines_at bytes at)) left_of m (read_of bytes r) read
           ∙ ap (run m) (left-by (read_of bytes r) (is_block_start (text_at bytes at)))
 
-      pub line-wrong : (f : Fault) → scalar_left (lines_at bytes at) (lines_at bytes r.next) ≡ Err f → run n (scalar_node_at within (lines_at bytes at)) ≡ Err f
+      pub line-wrong : (f : FaultAt) → scalar_left (lines_at bytes at) (lines_at bytes r.next) ≡ Err f → run n (scalar_node_at within (lines_at bytes at)) ≡ Err f
       line-wrong f h =
           line-read ∙ run-stop m (of_result (scalar_left (lines_at bytes at) (lines_at bytes r.next))) (λ left. gives (part (tree.scalar_node (read_of bytes r)) r.span.end left)) f
           (run-refused m (scalar_left (lines_at bytes at) (lines_at bytes r.next)) f h)

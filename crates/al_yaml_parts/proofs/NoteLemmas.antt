@@ -5,8 +5,8 @@ use Rattle.al_yaml_tree.specs.Node.{Node}
 use Rattle.al_yaml_tree.specs.Reading.{Reading, Part, part, gives_with_anchor, gives, fails, with_span, ◌>>=◌}
 use Rattle.al_yaml_parts.specs.Answers.{Answer, Mark, then_read, noting}
 use Rattle.al_yaml_parts.specs.Answers.{completing, mark_of}
-use Rattle.al_scalar.specs.Taken.{Fault}
-use Rattle.al_yaml_parts.specs.Reads.{State, run, Stops, anchor_at, state_with_anchor_at, part_of}
+use Rattle.al_scalar.specs.declared.faults.FaultAt.{FaultAt}
+use Rattle.al_yaml_parts.specs.Reads.{State, run, FailsWith, anchor_at, state_with_anchor_at, part_of}
 use Rattle.al_yaml_tree.specs.View.{view}
 use Rattle.al_yaml_parts.specs.declared.faults.ReadError.{ReadError}
 use Rattle.al_yaml_parts.specs.declared.part.Part as code
@@ -14,7 +14,7 @@ use Rattle.al_yaml_parts.proofs.RunLemmas.{run-anchored, run-bind, run-stop}
 use Rattle.al_yaml_parts.proofs.ReadLemmas.{stops-bind}
 use Rattle.al_base.specs.declared.codes.YamlCode.{YamlCode}
 use Rattle.al_base.specs.declared.faults.Span.{Span}
-use Rattle.al_scalar.specs.Scalar.{span}
+use Rattle.al_base.specs.Spans.{span}
 
 -- ---- what is read behind an answer
 
@@ -46,7 +46,7 @@ answered-fails (Ok p) code at f = refl
 
 -- ---- with its anchor
 
-pub noting-err : (o : Option Mark) (e : Fault) → noting o (Err e) ≡ Err e
+pub noting-err : (o : Option Mark) (e : FaultAt) → noting o (Err e) ≡ Err e
 noting-err None e = refl
 noting-err (Some m) e = refl
 
@@ -66,11 +66,11 @@ noted-part bytes None p q s t a b = ap (λ x. Ok (x, s)) (sym a) ∙ ap (λ u. O
 noted-part bytes (Some at) p q s t a b = ap (λ x. Ok (x, state_with_anchor_at bytes (Some at) (view p.node) s)) (sym a) ∙ ap (λ u. Ok (part_of bytes q, u)) (sym b)
 
 -- what a fault, and what is read from a state on, make of an answer with its anchor
-pub completing-err : (bytes : List ℕ) (anchor : Option ℕ) (s : State) (r : Reading (Part tree.Node)) (f : Fault) → run s r ≡ Err f → run s (completing bytes anchor r) ≡ Err f
+pub completing-err : (bytes : List ℕ) (anchor : Option ℕ) (s : State) (r : Reading (Part tree.Node)) (f : FaultAt) → run s r ≡ Err f → run s (completing bytes anchor r) ≡ Err f
 completing-err bytes None s r f h = h
 completing-err bytes (Some at) s r f h = run-stop s r (λ x. gives_with_anchor (anchor_at bytes at x.value) x) f h
 
-pub completing-stops : (bytes : List ℕ) (anchor : Option ℕ) (s : State) (r : Reading (Part tree.Node)) (e : ReadError) → Stops r s e → Stops (completing bytes anchor r) s e
+pub completing-stops : (bytes : List ℕ) (anchor : Option ℕ) (s : State) (r : Reading (Part tree.Node)) (e : ReadError) → FailsWith r s e → FailsWith (completing bytes anchor r) s e
 completing-stops bytes None s r e h = h
 completing-stops bytes (Some at) s r e h = stops-bind r (λ x. gives_with_anchor (anchor_at bytes at x.value) x) s e h
 

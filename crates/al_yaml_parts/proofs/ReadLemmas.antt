@@ -3,19 +3,18 @@ use Rattle.std.proofs.Common.{◌≡◌, ℕ, ◌≤◌, List, [], ◌∷◌, �
 use Rattle.al_base.specs.declared.faults.Span.{Span}
 use Rattle.al_scalar.specs.Line.{Line}
 use Rattle.al_scalar.specs.Scalar as value
-use Rattle.al_scalar.specs.Scalar.{span}
+use Rattle.al_base.specs.Spans.{span}
 use Rattle.al_scalar.specs.Places.{lines_at}
 use Rattle.al_scalar.specs.ReadScalar.{read_of}
 use Rattle.al_scalar.specs.declared.scalars.ScalarRead.{ScalarRead}
 use Rattle.al_yaml_tree.specs.Flow.{empty_node}
 use Rattle.al_yaml_parts.specs.declared.part.Part as code
 use Rattle.al_scalar.proofs.RestLemmas.{start-at}
-use Rattle.al_scalar.specs.Taken.{Fault}
+use Rattle.al_scalar.specs.declared.faults.FaultAt.{FaultAt}
 use Rattle.al_yaml_tree.specs.Node as tree
 use Rattle.al_yaml_tree.specs.Reading.{Reading, Part, part, of_result, gives, with_start, start_of, with_span, ◌>>=◌}
 use Rattle.al_yaml_tree.specs.Limits.{broken_limit}
-use Rattle.al_yaml_parts.specs.Places.{fault_of}
-use Rattle.al_yaml_parts.specs.Reads.{State, run, with_nodes, Stops, Refuses, IsRead, part_of}
+use Rattle.al_yaml_parts.specs.Reads.{State, run, with_nodes, FailsWith, Refuses, IsRead, part_of}
 use Rattle.al_yaml_tree.specs.View.{view, entry_view, nodes_of, entries_of}
 use Rattle.al_yaml_parts.specs.declared.faults.ReadError.{ReadError}
 use Rattle.al_yaml_parts.specs.declared.faults.ReadError.TheVariants as stop
@@ -25,19 +24,19 @@ use Rattle.al_yaml_parts.proofs.RunLemmas.{run-bind, run-stop, run-gives, run-re
 
 -- ---- faults stay
 
-pub stops-bind : {A B : Type 0} (r : Reading A) (f : A → Reading B) (n : State) (e : ReadError) → Stops r n e → Stops (r >>= f) n e
-stops-bind r f n (stop.Fault x) h = run-stop n r f (fault_of x) h
+pub stops-bind : {A B : Type 0} (r : Reading A) (f : A → Reading B) (n : State) (e : ReadError) → FailsWith r n e → FailsWith (r >>= f) n e
+stops-bind r f n (stop.Fault x) h = run-stop n r f x h
 stops-bind r f n stop.Memory h = tt
 
-pub stops-from : {A : Type 0} (r q : Reading A) (n m : State) (e : ReadError) → run n r ≡ run m q → Stops q m e → Stops r n e
+pub stops-from : {A : Type 0} (r q : Reading A) (n m : State) (e : ReadError) → run n r ≡ run m q → FailsWith q m e → FailsWith r n e
 stops-from r q n m (stop.Fault x) g h = g ∙ h
 stops-from r q n m stop.Memory g h = tt
 
-pub stops-same : {A : Type 0} (r q : Reading A) (n : State) (e : ReadError) → r ≡ q → Stops q n e → Stops r n e
+pub stops-same : {A : Type 0} (r q : Reading A) (n : State) (e : ReadError) → r ≡ q → FailsWith q n e → FailsWith r n e
 stops-same r q n e g h = stops-from r q n n e (ap (run n) g) h
 
-pub stops-given : {A B : Type 0} (asked : Result A Fault) (f : A → Reading B) (n : State) (e : ReadError) → Refuses asked e → Stops (of_result asked >>= f) n e
-stops-given asked f n (stop.Fault x) h = run-stop n (of_result asked) f (fault_of x) (run-refused n asked (fault_of x) h)
+pub stops-given : {A B : Type 0} (asked : Result A FaultAt) (f : A → Reading B) (n : State) (e : ReadError) → Refuses asked e → FailsWith (of_result asked >>= f) n e
+stops-given asked f n (stop.Fault x) h = run-stop n (of_result asked) f x (run-refused n asked x h)
 stops-given asked f n stop.Memory h = tt
 
 -- ---- what is read next
@@ -45,7 +44,7 @@ stops-given asked f n stop.Memory h = tt
 pub bind-ok : {A B : Type 0} (r : Reading A) (f : A → Reading B) (n m : State) (x : A) → run n r ≡ Ok (x, m) → run n (r >>= f) ≡ run m (f x)
 bind-ok r f n m x h = run-bind n r f x m h
 
-pub given-ok : {A B : Type 0} (asked : Result A Fault) (f : A → Reading B) (n : State) (x : A) → asked ≡ Ok x → run n (of_result asked >>= f) ≡ run n (f x)
+pub given-ok : {A B : Type 0} (asked : Result A FaultAt) (f : A → Reading B) (n : State) (x : A) → asked ≡ Ok x → run n (of_result asked >>= f) ≡ run n (f x)
 given-ok asked f n x h = bind-ok (of_result asked) f n n x (run-given n asked x h)
 
 pub spanned-ok : {A : Type 0} (f : A → Span → tree.Node) (at : ℕ) (r : Reading (Part A)) (n m : State) (x : A) (end : ℕ) (left : List Line) → run n r ≡ Ok (part x end left, m)
@@ -53,7 +52,7 @@ pub spanned-ok : {A : Type 0} (f : A → Span → tree.Node) (at : ℕ) (r : Rea
 spanned-ok f at r n m x end left h =
     bind-ok r (λ p. gives (part (f p.value (span at p.end)) p.end p.left)) n m (part x end left) h ∙ run-gives m (part (f x (span at end)) end left)
 
-pub spanned-stops : {A : Type 0} (f : A → Span → tree.Node) (at : ℕ) (r : Reading (Part A)) (n : State) (e : ReadError) → Stops r n e → Stops (with_span f at r) n e
+pub spanned-stops : {A : Type 0} (f : A → Span → tree.Node) (at : ℕ) (r : Reading (Part A)) (n : State) (e : ReadError) → FailsWith r n e → FailsWith (with_span f at r) n e
 spanned-stops f at r n e h = stops-bind r (λ p. gives (part (f p.value (span at p.end)) p.end p.left)) n e h
 
 -- ---- what was read so far
@@ -74,24 +73,24 @@ read-from seen r q n m k (Ok x) g h = g ∙ h
 read-from seen r q n m k (Err e) g h = stops-from r q n m e g h
 
 pub same_part : {A : Type 0} (v w : A) (end end' : ℕ) (left left' : List Line) (m m' : State) → v ≡ w → end ≡ end' → left ≡ left' → m ≡ m'
-    → ◌≡◌ {A = Result (Part A × State) Fault} (Ok (part v end left, m)) (Ok (part w end' left', m'))
+    → ◌≡◌ {A = Result (Part A × State) FaultAt} (Ok (part v end left, m)) (Ok (part w end' left', m'))
 same_part {A = A} v w end end' left left' m m' a b c d =
-    let f : A → Result (Part A × State) Fault = λ x. Ok (part x end left, m) in
-    let g : ℕ → Result (Part A × State) Fault = λ i. Ok (part w i left, m) in
-    let h : List Line → Result (Part A × State) Fault = λ ls. Ok (part w end' ls, m) in
-    let j : State → Result (Part A × State) Fault = λ i. Ok (part w end' left', i) in
+    let f : A → Result (Part A × State) FaultAt = λ x. Ok (part x end left, m) in
+    let g : ℕ → Result (Part A × State) FaultAt = λ i. Ok (part w i left, m) in
+    let h : List Line → Result (Part A × State) FaultAt = λ ls. Ok (part w end' ls, m) in
+    let j : State → Result (Part A × State) FaultAt = λ i. Ok (part w end' left', i) in
     ap f a ∙ ap g b ∙ ap h c ∙ ap j d
 
 -- ---- scalars
 
-abbrev pub scalar_reading : Result value.ScalarRead Fault → Reading (Part tree.Node)
+abbrev pub scalar_reading : Result value.ScalarRead FaultAt → Reading (Part tree.Node)
 scalar_reading asked = of_result asked >>= (λ r. gives (part (tree.scalar_node r) r.span.end r.left))
 
-module _ (asked : Result value.ScalarRead Fault) (n m : State) (at : ℕ) (fits : broken_limit n.nodes n.text (start_of at 1 0 ∷ []) ≡ None) (more : m ≡ with_nodes 1 n) where
+module _ (asked : Result value.ScalarRead FaultAt) (n m : State) (at : ℕ) (fits : broken_limit n.nodes n.text (start_of at 1 0 ∷ []) ≡ None) (more : m ≡ with_nodes 1 n) where
   scalar-starts : run n (with_start (start_of at 1 0) (scalar_reading asked)) ≡ run m (scalar_reading asked)
   scalar-starts = run-start n 1 at 0 (scalar_reading asked) fits ∙ ap (λ i. run i (scalar_reading asked)) (sym more)
 
-  pub scalar-stops : (e : ReadError) → Refuses asked e → Stops (with_start (start_of at 1 0) (scalar_reading asked)) n e
+  pub scalar-stops : (e : ReadError) → Refuses asked e → FailsWith (with_start (start_of at 1 0) (scalar_reading asked)) n e
   scalar-stops e h = stops-from (with_start (start_of at 1 0) (scalar_reading asked)) (scalar_reading asked) n m e scalar-starts
       (stops-given asked (λ r. gives (part (tree.scalar_node r) r.span.end r.left)) m e h)
 
@@ -105,15 +104,15 @@ module _ (asked : Result value.ScalarRead Fault) (n m : State) (at : ℕ) (fits 
 abbrev pub empty_tree : ℕ → tree.Node
 empty_tree at = tree.scalar (value.empty_scalar at) (span at at)
 
-pub empty-broken : (n : State) (at : ℕ) (left : List Line) (f : Fault) → broken_limit n.nodes n.text (start_of at 1 0 ∷ []) ≡ Some f → run n (empty_node at left) ≡ Err f
+pub empty-broken : (n : State) (at : ℕ) (left : List Line) (f : FaultAt) → broken_limit n.nodes n.text (start_of at 1 0 ∷ []) ≡ Some f → run n (empty_node at left) ≡ Err f
 empty-broken n at left f h = run-broken n 1 at 0 (gives (part (empty_tree at) at left)) f h
 
-pub empty-stops : (n : State) (at : ℕ) (left : List Line) (x : value.ScalarRead) (e : ReadError) → Refuses (Ok x) e → Stops (empty_node at left) n e
+pub empty-stops : (n : State) (at : ℕ) (left : List Line) (x : value.ScalarRead) (e : ReadError) → Refuses (Ok x) e → FailsWith (empty_node at left) n e
 empty-stops n at left x (stop.Fault f) h = cc
 empty-stops n at left x stop.Memory h = tt
 
 pub empty-ok : (bytes : List ℕ) (n m : State) (at next : ℕ) (r : ScalarRead) (p : code.Part) → broken_limit n.nodes n.text (start_of at 1 0 ∷ []) ≡ None → m ≡ with_nodes 1 n → at ≤ length bytes
-    → ◌≡◌ {A = Result value.ScalarRead Fault} (Ok (value.empty_at (lines_at bytes at))) (Ok (read_of bytes r)) → view p.node ≡ tree.scalar r.scalar r.span → p.end ≡ r.span.end → p.next ≡ next
+    → ◌≡◌ {A = Result value.ScalarRead FaultAt} (Ok (value.empty_at (lines_at bytes at))) (Ok (read_of bytes r)) → view p.node ≡ tree.scalar r.scalar r.span → p.end ≡ r.span.end → p.next ≡ next
     → run n (empty_node at (lines_at bytes next)) ≡ Ok (part_of bytes p, m)
 empty-ok bytes n m at next r p fits more inside h a b c =
     let same : value.empty_at (lines_at bytes at) ≡ read_of bytes r = cc in

@@ -2,20 +2,20 @@
 use Rattle.std.proofs.Common.{◌≡◌, ℕ, ◌+◌, List, [], ◌∷◌, ◌++◌, refl, ap, ◌∙◌, arith, Bool, true, false, ◌||◌, cond, Option, Some, None, Result, Ok, Err}
 use Rattle.std.specs.Prelude.{nat_lt}
 use Rattle.al_base.specs.declared.codes.YamlCode.{YamlCode}
-use Rattle.al_scalar.specs.Taken.{Fault}
-use Rattle.al_yaml_tree.specs.Reading.{Start, start_of, Anchor, gives_with_anchor, with_anchor, nothing_known, with_start}
-use Rattle.al_yaml_tree.specs.Reading.{Known, Outcome, Reading, gives, fails, of_result, after, next, ◌>>=◌}
+use Rattle.al_scalar.specs.declared.faults.FaultAt.{FaultAt}
+use Rattle.al_yaml_tree.specs.Reading.{Start, start_of, Anchor, gives_with_anchor, with_anchor, no_anchors, with_start}
+use Rattle.al_yaml_tree.specs.Reading.{KnownAnchors, Outcome, Reading, gives, fails, of_result, after, next, ◌>>=◌}
 use Rattle.al_yaml_tree.specs.Limits.{broken_limit, unless_fault, within_limits, nodes_listed, text_listed}
 use Rattle.al_base.specs.Limits.{deepest_collection, most_alias_text, most_nodes}
 use Rattle.al_yaml_parts.specs.Reads.{State, with_state, state_after, run_outcome, run, with_nodes, state_with_anchor, at_start}
 
-limit-none : (a d : Bool) (e f : Fault) (below below' rest : Option Fault) → cond a (Some e) (cond d (Some f) below) ≡ None
+limit-none : (a d : Bool) (e f : FaultAt) (below below' rest : Option FaultAt) → cond a (Some e) (cond d (Some f) below) ≡ None
     → (below ≡ None → below' ≡ rest) → cond a (Some e) (cond d (Some f) below') ≡ rest
 limit-none true d e f below below' rest h k = cc
 limit-none false true e f below below' rest h k = cc
 limit-none false false e f below below' rest h k = k h
 
-limit-some : (a d : Bool) (e f x : Fault) (below below' : Option Fault) → cond a (Some e) (cond d (Some f) below) ≡ Some x
+limit-some : (a d : Bool) (e f x : FaultAt) (below below' : Option FaultAt) → cond a (Some e) (cond d (Some f) below) ≡ Some x
     → (below ≡ Some x → below' ≡ Some x) → cond a (Some e) (cond d (Some f) below') ≡ Some x
 limit-some true d e f x below below' h k = h
 limit-some false true e f x below below' h k = h
@@ -34,7 +34,7 @@ broken_limit-append n t (s ∷ ss) ys h =
     (broken_limit (n + s.nodes) (t + s.text) ss) (broken_limit (n + s.nodes) (t + s.text) (ss ++ ys)) _ h (λ k. broken_limit-append (n + s.nodes) (t + s.text) ss ys k))
 
 -- a limit that is broken stays so
-broken_limit-stays : (n t : ℕ) (xs ys : List Start) (x : Fault) → broken_limit n t xs ≡ Some x → broken_limit n t (xs ++ ys) ≡ Some x
+broken_limit-stays : (n t : ℕ) (xs ys : List Start) (x : FaultAt) → broken_limit n t xs ≡ Some x → broken_limit n t (xs ++ ys) ≡ Some x
 broken_limit-stays n t [] ys x h = cc
 broken_limit-stays n t (s ∷ ss) ys x h =
     limit-some (nat_lt most_nodes (n + s.nodes) || nat_lt most_alias_text (t + s.text)) (nat_lt deepest_collection s.depth) _ _ x
@@ -50,7 +50,7 @@ text_listed-append (s ∷ ss) ys = omega (arith, text_listed-append ss ys)
 
 -- ---- what is read next
 
-goes-state : {A : Type 0} (n t : ℕ) (xs ys : List Start) (k : Known) (r : Result A Fault) (b : Option Fault)
+goes-state : {A : Type 0} (n t : ℕ) (xs ys : List Start) (k : KnownAnchors) (r : Result A FaultAt) (b : Option FaultAt)
     → with_state (record { nodes = n + nodes_listed (xs ++ ys); text = t + text_listed (xs ++ ys); known = k }) (unless_fault b r)
     ≡ with_state (record { nodes = (n + nodes_listed xs) + nodes_listed ys; text = (t + text_listed xs) + text_listed ys; known = k }) (unless_fault b r)
 goes-state n t xs ys k r b =
@@ -67,7 +67,7 @@ goes-after n t xs o h =
     (unless_fault b o.answer)) (broken_limit-append n t xs o.starts h)
     ∙ goes-state n t xs o.starts o.known o.answer (broken_limit (n + nodes_listed xs) (t + text_listed xs) o.starts)
 
-bind-cases : {A B : Type 0} (n t : ℕ) (ss : List Start) (r : Result A Fault) (k : Known) (f : A → Reading B) (x : A) (u : State) (broken : Option Fault) → broken_limit n t ss ≡ broken
+bind-cases : {A B : Type 0} (n t : ℕ) (ss : List Start) (r : Result A FaultAt) (k : KnownAnchors) (f : A → Reading B) (x : A) (u : State) (broken : Option FaultAt) → broken_limit n t ss ≡ broken
     → with_state (record { nodes = n + nodes_listed ss; text = t + text_listed ss; known = k }) (unless_fault broken r) ≡ Ok (x, u)
     → run_outcome (record { nodes = n; text = t; known = k }) (next (record { starts = ss; answer = r; known = k }) f) ≡ run_outcome u (f x u.known)
 bind-cases {A = A} n t ss (Err d) k f x u None is h = cc
@@ -82,7 +82,7 @@ pub run-bind : {A B : Type 0} (s : State) (r : Reading A) (f : A → Reading B) 
 unfolding run
 run-bind s r f x t h = bind-cases s.nodes s.text (r s.known).starts (r s.known).answer (r s.known).known f x t (broken_limit s.nodes s.text (r s.known).starts) refl h
 
-stays-cases : {A B : Type 0} (n t : ℕ) (ss : List Start) (r : Result A Fault) (k : Known) (f : A → Reading B) (e : Fault) (broken : Option Fault) → broken_limit n t ss ≡ broken
+stays-cases : {A B : Type 0} (n t : ℕ) (ss : List Start) (r : Result A FaultAt) (k : KnownAnchors) (f : A → Reading B) (e : FaultAt) (broken : Option FaultAt) → broken_limit n t ss ≡ broken
     → with_state (record { nodes = n + nodes_listed ss; text = t + text_listed ss; known = k }) (unless_fault broken r) ≡ Err e
     → run_outcome (record { nodes = n; text = t; known = k }) (next (record { starts = ss; answer = r; known = k }) f) ≡ Err e
 stays-cases n t ss (Err d) k f e None is h = ap (λ b. with_state (record { nodes = n + nodes_listed ss; text = t + text_listed ss; known = k }) (unless_fault b (Err d))) is ∙ cc
@@ -92,7 +92,7 @@ stays-cases n t ss (Ok x) k f e (Some b) is h =
     let o = after ss (f x k) in
     ap (λ b. with_state (state_after (record { nodes = n; text = t; known = k }) o) (unless_fault b (f x k).answer)) (broken_limit-stays n t ss (f x k).starts b is) ∙ cc
 
-pub run-stop : {A B : Type 0} (s : State) (r : Reading A) (f : A → Reading B) (e : Fault) → run s r ≡ Err e → run s (r >>= f) ≡ Err e
+pub run-stop : {A B : Type 0} (s : State) (r : Reading A) (f : A → Reading B) (e : FaultAt) → run s r ≡ Err e → run s (r >>= f) ≡ Err e
 unfolding run
 run-stop s r f e h = stays-cases s.nodes s.text (r s.known).starts (r s.known).answer (r s.known).known f e (broken_limit s.nodes s.text (r s.known).starts) refl h
 
@@ -117,14 +117,14 @@ pub run-fails : {A : Type 0} (s : State) (code : YamlCode) (at : ℕ) → run s 
 unfolding run
 run-fails s code at = refl
 
-pub run-given : {A : Type 0} (s : State) (r : Result A Fault) (x : A) → r ≡ Ok x → run s (of_result r) ≡ Ok (x, s)
+pub run-given : {A : Type 0} (s : State) (r : Result A FaultAt) (x : A) → r ≡ Ok x → run s (of_result r) ≡ Ok (x, s)
 run-given s r x h = ap (λ q. run s (of_result q)) h ∙ run-gives s x
 
-refused : {A : Type 0} (s : State) (e : Fault) → run s (of_result {A = A} (Err e)) ≡ Err e
+refused : {A : Type 0} (s : State) (e : FaultAt) → run s (of_result {A = A} (Err e)) ≡ Err e
 unfolding run
 refused s e = refl
 
-pub run-refused : {A : Type 0} (s : State) (r : Result A Fault) (e : Fault) → r ≡ Err e → run s (of_result r) ≡ Err e
+pub run-refused : {A : Type 0} (s : State) (r : Result A FaultAt) (e : FaultAt) → r ≡ Err e → run s (of_result r) ≡ Err e
 run-refused s r e h = ap (λ q. run s (of_result q)) h ∙ refused s e
 
 -- ---- starts
@@ -150,34 +150,34 @@ run-start s more at depth r h =
     let d : s.text + 0 ≡ s.text = omega arith in
     run-any_start s (start_of at more depth) r h ∙ ap (λ m. run (record { nodes = s.nodes + more; text = m; known = s.known }) r) d
 
-broken-cases : {A : Type 0} (s : State) (start : Start) (o : Outcome A) (e : Fault) → broken_limit s.nodes s.text (start ∷ []) ≡ Some e
+broken-cases : {A : Type 0} (s : State) (start : Start) (o : Outcome A) (e : FaultAt) → broken_limit s.nodes s.text (start ∷ []) ≡ Some e
     → run_outcome s (after (start ∷ []) o) ≡ Err e
 broken-cases s start o e h =
     ap (λ b. with_state (state_after s (after (start ∷ []) o)) (unless_fault b o.answer)) (broken_limit-stays s.nodes s.text (start ∷ []) o.starts e h)
 
-pub run-broken_start : {A : Type 0} (s : State) (start : Start) (r : Reading A) (e : Fault) → broken_limit s.nodes s.text (start ∷ []) ≡ Some e
+pub run-broken_start : {A : Type 0} (s : State) (start : Start) (r : Reading A) (e : FaultAt) → broken_limit s.nodes s.text (start ∷ []) ≡ Some e
     → run s (with_start start r) ≡ Err e
 unfolding run
 run-broken_start s start r e h = broken-cases s start (r s.known) e h
 
-pub run-broken : {A : Type 0} (s : State) (more at depth : ℕ) (r : Reading A) (e : Fault) → broken_limit s.nodes s.text (start_of at more depth ∷ []) ≡ Some e
+pub run-broken : {A : Type 0} (s : State) (more at depth : ℕ) (r : Reading A) (e : FaultAt) → broken_limit s.nodes s.text (start_of at more depth ∷ []) ≡ Some e
     → run s (with_start (start_of at more depth) r) ≡ Err e
 run-broken s more at depth r e h = run-broken_start s (start_of at more depth) r e h
 
 -- ---- the whole
 
-limited-ok : {A : Type 0} (s t : State) (r : Result A Fault) (x : A) → with_state s r ≡ Ok (x, t) → r ≡ Ok x
+limited-ok : {A : Type 0} (s t : State) (r : Result A FaultAt) (x : A) → with_state s r ≡ Ok (x, t) → r ≡ Ok x
 limited-ok {A = A} s t (Err e) x h = cc
 limited-ok {A = A} s t (Ok y) x h = let same : ◌≡◌ {A = A × State} (y, s) (x, t) = cc in ap (λ p. Ok p.0) same
 
-limited-err : {A : Type 0} (s : State) (r : Result A Fault) (e : Fault) → with_state s r ≡ Err e → r ≡ Err e
+limited-err : {A : Type 0} (s : State) (r : Result A FaultAt) (e : FaultAt) → with_state s r ≡ Err e → r ≡ Err e
 limited-err s (Err d) e h = cc
 limited-err s (Ok y) e h = cc
 
-pub run-limited : {A : Type 0} (r : Reading A) (x : A) (t : State) → run at_start r ≡ Ok (x, t) → within_limits 0 0 (r nothing_known) ≡ Ok x
+pub run-limited : {A : Type 0} (r : Reading A) (x : A) (t : State) → run at_start r ≡ Ok (x, t) → within_limits 0 0 (r no_anchors) ≡ Ok x
 unfolding run
-run-limited r x t h = limited-ok (state_after at_start (r nothing_known)) t (within_limits 0 0 (r nothing_known)) x h
+run-limited r x t h = limited-ok (state_after at_start (r no_anchors)) t (within_limits 0 0 (r no_anchors)) x h
 
-pub run-limited_fault : {A : Type 0} (r : Reading A) (e : Fault) → run at_start r ≡ Err e → within_limits 0 0 (r nothing_known) ≡ Err e
+pub run-limited_fault : {A : Type 0} (r : Reading A) (e : FaultAt) → run at_start r ≡ Err e → within_limits 0 0 (r no_anchors) ≡ Err e
 unfolding run
-run-limited_fault r e h = limited-err (state_after at_start (r nothing_known)) (within_limits 0 0 (r nothing_known)) e h
+run-limited_fault r e h = limited-err (state_after at_start (r no_anchors)) (within_limits 0 0 (r no_anchors)) e h

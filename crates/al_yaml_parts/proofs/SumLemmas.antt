@@ -3,7 +3,7 @@ use Rattle.std.proofs.Common.{◌≡◌, ℕ, ◌+◌, ◌<◌, List, [], ◌∷
 use Rattle.al_yaml_tree.specs.Access.{nodes, entries}
 use Rattle.al_yaml_tree.specs.Limits.{most_counted}
 use Rattle.al_yaml_tree.specs.Node.{Node, Nodes, Entries, scalar, sequence, mapping, no_nodes, item, no_entries, entry}
-use Rattle.al_yaml_tree.specs.Node.{fold_node, fold_items, fold_entries, nodes_in, text_in, levels_in}
+use Rattle.al_yaml_tree.specs.Node.{fold_node, fold_items, fold_entries, nodes_in, text_size, levels_in}
 use Rattle.al_scalar.specs.Scalar.{Scalar}
 use Rattle.al_base.specs.declared.faults.Span.{Span}
 use Rattle.al_yaml_parts.specs.Private.Sums.{IsOwn, inside, members, own_level, own_text, within}
@@ -45,7 +45,7 @@ text_left = sum_left (λ s at. length s.cells) (λ at text. text)
 text-append : (xs ys : List (Node × ℕ)) → text_left (xs ++ ys) ≡ text_left xs + text_left ys
 text-append = sum-append (λ s at. length s.cells) (λ at text. text)
 
-text-inside : (k : ℕ) (n : Node) → text_in n ≡ own_text n + text_left (within k (inside n))
+text-inside : (k : ℕ) (n : Node) → text_size n ≡ own_text n + text_left (within k (inside n))
 text-inside k (scalar s at) = omega arith
 text-inside k (sequence ns at) = let h = sum-items (λ s at. length s.cells) (λ at text. text) k ns in omega (arith, h)
 text-inside k (mapping es at) = let h = sum-entries (λ s at. length s.cells) (λ at text. text) k es in omega (arith, h)
@@ -94,7 +94,7 @@ pub record Added (s more t : Sums) : Type 0 where
 pub record IsCounting (n : Node) (s : Sums) (left : List (Node × ℕ)) : Type 0 where
   pub few : Few s
   pub nodes : most_counted (s.nodes + nodes_left left) ≡ most_counted (nodes_in n)
-  pub text : most_counted (s.text + text_left left) ≡ most_counted (text_in n)
+  pub text : most_counted (s.text + text_left left) ≡ most_counted (text_size n)
   pub levels : most_counted (max s.levels (levels_left left)) ≡ most_counted (levels_in n)
 
 capped : (a x e : ℕ) → most_counted x ≡ most_counted e → most_counted (max a x) ≡ most_counted (max a e)

@@ -1,7 +1,7 @@
 -- What reading ends with, and nodes that are complete with their anchors.
 use Rattle.std.specs.Prelude.{ℕ, List, Option, Some, None, option_map, Result, Ok, Err}
 use Rattle.al_scalar.specs.Places.{lines_at}
-use Rattle.al_scalar.specs.Taken.{Fault}
+use Rattle.al_scalar.specs.declared.faults.FaultAt.{FaultAt}
 use Rattle.al_yaml_tree.specs.Content.{anchor_name}
 use Rattle.al_yaml_tree.specs.Node.{Node}
 use Rattle.al_yaml_tree.specs.Reading.{Anchor, Reading, Part, gives_with_anchor, ◌>>=◌}
@@ -9,7 +9,7 @@ use Rattle.al_yaml_parts.specs.Reads.{State, anchor_at, state_with_anchor, run}
 
 -- what reading ends with, under the limits
 abbrev pub Answer : Type 0 → Type 0
-Answer A = Result (A × State) Fault
+Answer A = Result (A × State) FaultAt
 
 -- what is read behind it, if there was no fault
 abbrev pub then_read : {A B : Type 0} → Answer A → (A → Reading B) → Answer B

@@ -4,7 +4,8 @@ use Rattle.al_base.specs.declared.codes.YamlCode.TheVariants as yaml
 use Rattle.al_scalar.specs.Line.{Line, start, blanks_dropped}
 use Rattle.al_scalar.specs.ReadScalar.{read_of}
 use Rattle.al_scalar.specs.Places.{first_text, lines_at}
-use Rattle.al_scalar.specs.Taken.{Fault, fault}
+use Rattle.al_scalar.specs.Taken.{fault}
+use Rattle.al_scalar.specs.declared.faults.FaultAt.{FaultAt}
 use Rattle.al_yaml_tree.specs.Content as content
 use Rattle.al_yaml_tree.specs.Keys as keys
 use Rattle.al_yaml_parts.specs.Places.{IsReadInside}
@@ -31,15 +32,15 @@ IsOptionKey bytes at None = Unit {0}
 IsOptionKey bytes at (Some key) = IsKeyBehind bytes at key
 
 -- the lines behind the colon that follows a scalar
-abbrev pub behind_colon : List Line → Option (List Line)
-behind_colon ls = if keys.has_colon ls then Some (content.behind 1 (blanks_dropped ls)) else None
+abbrev pub behind_colon_in_block : List Line → Option (List Line)
+behind_colon_in_block ls = if keys.has_colon ls then Some (content.behind 1 (blanks_dropped ls)) else None
 
 -- what is left behind a scalar: a block scalar ends with its last line
-abbrev pub scalar_left : List Line → List Line → Result (List Line) Fault
+abbrev pub scalar_left : List Line → List Line → Result (List Line) FaultAt
 scalar_left ls left = if keys.is_block_start (first_text ls) then Ok left else content.line_ended left
 
 -- the next entry of a collection in a column, on the next content line, if there is one
-abbrev pub next_found : ℕ → content.Next → Result (Option (List Line)) Fault
+abbrev pub next_found : ℕ → content.Next → Result (Option (List Line)) FaultAt
 next_found column content.ended = Ok None
 next_found column (content.at_line i left) =
     if i == column then Ok (Some left) else (if nat_lt i column then Ok None else fault yaml.WrongIndentation (start left))

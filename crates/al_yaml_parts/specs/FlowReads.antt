@@ -10,7 +10,7 @@ use Rattle.al_yaml_tree.specs.Flow.{CollectionReader}
 use Rattle.al_yaml_tree.specs.Flow as flow
 use Rattle.al_yaml_parts.specs.Places.{option_lines, IsReadInside}
 use Rattle.al_yaml_parts.specs.Answers.{mark_of, noting}
-use Rattle.al_yaml_parts.specs.Reads.{State, run, Stops, IsBehind, part_of}
+use Rattle.al_yaml_parts.specs.Reads.{State, run, FailsWith, IsBehind, part_of}
 use Rattle.al_yaml_parts.specs.declared.faults.ReadError.{ReadError}
 use Rattle.al_yaml_parts.specs.declared.flow_nodes.FlowKey.{FlowKey}
 use Rattle.al_yaml_parts.specs.declared.flow_nodes.FlowSlot.{FlowSlot}
@@ -38,7 +38,7 @@ Finds bytes reading depth before (Ok (found.Node p)) after =
     (c : CollectionReader) → run before (reading c) ≡ Ok (part_of bytes p, after)
 Finds bytes reading depth before (Ok (found.Opens b)) after =
     (c : CollectionReader) → run before (reading c) ≡ noting (mark_of bytes b.anchor) (run after (c depth (lines_at bytes b.at)))
-Finds bytes reading depth before (Err e) after = (c : CollectionReader) → Stops (reading c) before e
+Finds bytes reading depth before (Err e) after = (c : CollectionReader) → FailsWith (reading c) before e
 
 abbrev pub FindsKey : List ℕ → ℕ → (CollectionReader → Reading flow.FlowKey) → ℕ → State → Result FoundKey ReadError → State → Type 0
 FindsKey bytes at reading depth before (Ok (found_key.Key k)) after =
@@ -46,7 +46,7 @@ FindsKey bytes at reading depth before (Ok (found_key.Key k)) after =
 FindsKey bytes at reading depth before (Ok found_key.Opens) after =
     (c : CollectionReader) → run before (reading c)
     ≡ run after (c depth (lines_at bytes at) >>= (λ _. fails yaml.WrongKey at))
-FindsKey bytes at reading depth before (Err e) after = (c : CollectionReader) → Stops (reading c) before e
+FindsKey bytes at reading depth before (Err e) after = (c : CollectionReader) → FailsWith (reading c) before e
 
 -- where it stands: a bracket in the file
 pub record IsBracket (bytes : List ℕ) (low at : ℕ) : Type 0 where

@@ -4,20 +4,16 @@ use Rattle.al_scalar.specs.Line.{Line}
 use Rattle.al_scalar.specs.Offsets.{IsPlaced}
 use Rattle.al_scalar.specs.Places.{first_end, lines_at}
 use Rattle.al_scalar.specs.LineEnds.{IsLineEnd}
-use Rattle.al_scalar.specs.Taken.{Fault}
 use Rattle.al_scalar.specs.declared.scalars.ScalarRead.{ScalarRead}
 use Rattle.al_yaml_tree.specs.Content as content
 use Rattle.al_scalar.specs.declared.faults.FaultAt.{FaultAt}
 use Rattle.al_yaml_parts.specs.declared.content.Next.{Next}
 use Rattle.al_yaml_parts.specs.declared.content.Next.TheVariants as next
 
-abbrev pub fault_of : FaultAt → Fault
-fault_of f = record { code = f.code; at = f.at }
-
 -- what is asked of the lines is what was found in the bytes
-abbrev pub Shows : {A B : Type 0} → (A → B) → Result B Fault → Result A FaultAt → Type 0
+abbrev pub Shows : {A B : Type 0} → (A → B) → Result B FaultAt → Result A FaultAt → Type 0
 Shows seen asked (Ok x) = asked ≡ Ok (seen x)
-Shows seen asked (Err f) = asked ≡ Err (fault_of f)
+Shows seen asked (Err f) = asked ≡ Err f
 
 abbrev pub next_of : List ℕ → Next → content.Next
 next_of bytes next.Ended = content.ended

@@ -4,14 +4,14 @@ use Rattle.std.specs.BTreeMap.{get_by}
 use Rattle.std.specs.Cmp.Lexicographic.{slice_cmp}
 use Rattle.std.specs.Ordering.{nat_cmp}
 use Rattle.al_scalar.specs.Places.{lines_at}
-use Rattle.al_scalar.specs.Taken.{Fault}
+use Rattle.al_scalar.specs.declared.faults.FaultAt.{FaultAt}
 use Rattle.al_yaml_tree.specs.Node as tree
 use Rattle.al_scalar.specs.Line.{Line, start}
 use Rattle.al_yaml_tree.specs.Content.{anchor_name, behind_name}
-use Rattle.al_yaml_tree.specs.Reading.{Start, Anchor, Known, nothing_known, with_anchor, Outcome, Reading, Part, part, gives, alias, ◌>>=◌}
+use Rattle.al_yaml_tree.specs.Reading.{Start, Anchor, KnownAnchors, no_anchors, with_anchor, Outcome, Reading, Part}
+use Rattle.al_yaml_tree.specs.Reading.{part, gives, alias, ◌>>=◌}
 use Rattle.al_yaml_tree.specs.Limits.{within_limits, nodes_listed, text_listed}
 use Rattle.al_yaml_tree.specs.View.{view}
-use Rattle.al_yaml_parts.specs.Places.{fault_of}
 use Rattle.al_yaml_parts.specs.declared.anchors.AnchoredNode.{AnchoredNode}
 use Rattle.al_yaml_parts.specs.declared.anchors.Anchors.{Anchors}
 use Rattle.al_yaml_parts.specs.declared.faults.ReadError.{ReadError}
@@ -23,25 +23,25 @@ use Rattle.al_yaml_parts.specs.declared.part.Part as code
 pub record State : Type 0 where
   pub nodes : ℕ
   pub text : ℕ
-  pub known : Known
+  pub known : KnownAnchors
 
-abbrev pub with_state : {A : Type 0} → State → Result A Fault → Result (A × State) Fault
+abbrev pub with_state : {A : Type 0} → State → Result A FaultAt → Result (A × State) FaultAt
 with_state s (Err e) = Err e
 with_state s (Ok x) = Ok (x, s)
 
 abbrev pub state_after : {A : Type 0} → State → Outcome A → State
 state_after s o = record { nodes = s.nodes + nodes_listed o.starts; text = s.text + text_listed o.starts; known = o.known }
 
-abbrev pub run_outcome : {A : Type 0} → State → Outcome A → Result (A × State) Fault
+abbrev pub run_outcome : {A : Type 0} → State → Outcome A → Result (A × State) FaultAt
 run_outcome s o = with_state (state_after s o) (within_limits s.nodes s.text o)
 
 -- What is read from a state on, with the state behind it, or the fault or broken limit that is met first.
-unfoldable pub run : {A : Type 0} → State → Reading A → Result (A × State) Fault
+unfoldable pub run : {A : Type 0} → State → Reading A → Result (A × State) FaultAt
 run s r = run_outcome s (r s.known)
 
 -- at a file's start
 abbrev pub at_start : State
-at_start = record { nodes = 0; text = 0; known = nothing_known }
+at_start = record { nodes = 0; text = 0; known = no_anchors }
 
 -- a start with so many bytes of text behind an alias, as limits count it
 abbrev pub start_with : ℕ → ℕ → ℕ → ℕ → Start
@@ -63,15 +63,15 @@ state_with_anchor a s = record { nodes = s.nodes; text = s.text; known = with_an
 abbrev pub anchor_seen : List ℕ → AnchoredNode → Anchor
 anchor_seen name a = record { name = name; at = a.at; node = view a.node.value }
 
-unfoldable pub found_in : Anchors → List ℕ → Option AnchoredNode
-found_in anchors name = get_by (λ k. slice_cmp nat_cmp name k.items) anchors.latest
+unfoldable pub last_anchor : Anchors → List ℕ → Option AnchoredNode
+last_anchor anchors name = get_by (λ k. slice_cmp nat_cmp name k.items) anchors.latest
 
 -- what the code knows of anchors: of each name the one that stands last
-abbrev pub known_of : Anchors → Known
-known_of anchors name = option_map (anchor_seen name) (found_in anchors name)
+abbrev pub anchors_view : Anchors → KnownAnchors
+anchors_view anchors name = option_map (anchor_seen name) (last_anchor anchors name)
 
 abbrev pub state_of : state.State → State
-state_of s = record { nodes = s.nodes; text = s.text; known = known_of s.anchors }
+state_of s = record { nodes = s.nodes; text = s.text; known = anchors_view s.anchors }
 
 -- the anchor whose indicator stands at an offset, before a node
 abbrev pub anchor_at : List ℕ → ℕ → tree.Node → Anchor
@@ -82,14 +82,14 @@ state_with_anchor_at bytes None n s = s
 state_with_anchor_at bytes (Some at) n s = state_with_anchor (anchor_at bytes at n) s
 
 -- reading ends with a fault, unless memory runs out
-abbrev pub Stops : {B : Type 0} → Reading B → State → ReadError → Type 0
-Stops reading before (stop.Fault f) = run before reading ≡ Err (fault_of f)
-Stops reading before stop.Memory = Unit {0}
+abbrev pub FailsWith : {B : Type 0} → Reading B → State → ReadError → Type 0
+FailsWith reading before (stop.Fault f) = run before reading ≡ Err f
+FailsWith reading before stop.Memory = Unit {0}
 
 -- what was read in the bytes, with the state before and after, is what the definition reads
 abbrev pub IsRead : {A B : Type 0} → (A → B) → Reading B → State → Result A ReadError → State → Type 0
 IsRead seen reading before (Ok x) after = run before reading ≡ Ok (seen x, after)
-IsRead seen reading before (Err e) after = Stops reading before e
+IsRead seen reading before (Err e) after = FailsWith reading before e
 
 abbrev pub part_of : List ℕ → code.Part → Part tree.Node
 part_of bytes p = part (view p.node) p.end (lines_at bytes p.next)
@@ -105,11 +105,11 @@ abbrev pub alias_part : ℕ → List Line → Reading (Part tree.Node)
 alias_part depth ls = alias (anchor_name ls) (start ls) depth >>= (λ n. gives (part n (start (behind_name ls)) (behind_name ls)))
 
 -- what is asked ends with a fault, unless memory runs out
-abbrev pub Refuses : {B : Type 0} → Result B Fault → ReadError → Type 0
-Refuses asked (stop.Fault f) = asked ≡ Err (fault_of f)
+abbrev pub Refuses : {B : Type 0} → Result B FaultAt → ReadError → Type 0
+Refuses asked (stop.Fault f) = asked ≡ Err f
 Refuses asked stop.Memory = Unit {0}
 
-abbrev pub Answers : {A B : Type 0} → (A → B) → Result B Fault → Result A ReadError → Type 0
+abbrev pub Answers : {A B : Type 0} → (A → B) → Result B FaultAt → Result A ReadError → Type 0
 Answers seen asked (Ok x) = asked ≡ Ok (seen x)
 Answers seen asked (Err e) = Refuses asked e
 

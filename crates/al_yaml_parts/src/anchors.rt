@@ -5,8 +5,8 @@ ghost use Rattle.al_scalar.specs.LineEnds.{cells_between, with_cells_before};
 ghost use Rattle.al_yaml_tree.specs.Content as content;
 ghost use Rattle.al_yaml_parts.specs.Files.{left_at, size};
 ghost use Rattle.al_yaml_tree.specs.Reading as reading;
-ghost use Rattle.al_yaml_tree.specs.Reading.{with_anchor, nothing_known};
-ghost use Rattle.al_yaml_parts.specs.Reads.{IsRead, IsStopInside, anchor_at, anchor_seen, is_later, known_of};
+ghost use Rattle.al_yaml_tree.specs.Reading.{with_anchor, no_anchors};
+ghost use Rattle.al_yaml_parts.specs.Reads.{IsRead, IsStopInside, anchor_at, anchor_seen, anchors_view, is_later};
 ghost use Rattle.al_yaml_parts.specs.Reads.{state_with_anchor_at, state_of};
 ghost use Rattle.al_yaml_tree.specs.View.{view};
 ghost use Rattle.std.specs.Prelude.{IfErr, IfOk, length, true, ◌+◌, ◌<◌, ◌≡◌, ◌≤◌};
@@ -101,7 +101,7 @@ pub fn property_end(bytes: &[u8], at: usize) -> usize
 impl Anchors {
     /// No anchors. Takes no memory.
     pub fn new(alloc: Global) -> Anchors
-        ensures { known_of result ≡ nothing_known }
+        ensures { anchors_view result ≡ no_anchors }
     {
         Anchors {
             latest: BTreeMap::new(alloc),
@@ -114,8 +114,8 @@ impl Anchors {
     #[inline(never)]
     pub fn complete(&mut self, file: &File, at: usize, node: Node) -> Result<Node, AllocError>
         ensures node { IfOk result (λ n. view n ≡ view node) }
-        ensures known { IfOk result (λ _. known_of self.new
-            ≡ with_anchor (anchor_at file.now.bytes.now at (view node)) (known_of self.old)) }
+        ensures known { IfOk result (λ _. anchors_view self.new
+            ≡ with_anchor (anchor_at file.now.bytes.now at (view node)) (anchors_view self.old)) }
     {
         let node = sharable(file.alloc, node)?;
         let result = shared_node(&node)?;
@@ -127,8 +127,8 @@ impl Anchors {
     /// One more anchor.
     fn note(&mut self, name: Vec<u8>, anchor: AnchoredNode) -> Result<(), AllocError>
         ensures { IfOk result
-            (λ _. known_of self.new
-            ≡ with_anchor (anchor_seen name.items anchor) (known_of self.old)) }
+            (λ _. anchors_view self.new
+            ≡ with_anchor (anchor_seen name.items anchor) (anchors_view self.old)) }
     {
         if self.has_later(name.as_slice(), anchor.at) {
             return Ok(());
@@ -139,7 +139,7 @@ impl Anchors {
 
     /// Whether the anchor of a name stands behind an offset.
     fn has_later(&self, name: &[u8], at: usize) -> bool
-        ensures { result ≡ is_later at (known_of self.now name.now) }
+        ensures { result ≡ is_later at (anchors_view self.now name.now) }
     {
         match self.latest.get(name) {
             Some(found) => at < found.at,

@@ -68,7 +68,7 @@ fn is_block_colon(bytes: &[u8], at: usize) -> bool
 /// The offset behind the colon that parts a block mapping's key from its value, if one follows.
 pub fn behind_colon(bytes: &[u8], at: usize) -> Option<usize>
     requires { at ≤ length bytes.now }
-    ensures { IsColon (block_reads.behind_colon (lines_at bytes.now at)) bytes.now at result }
+    ensures { IsColon (block_reads.behind_colon_in_block (lines_at bytes.now at)) bytes.now at result }
 {
     let solid = blanks_end(bytes, at);
     if !is_block_colon(bytes, solid) {
@@ -117,7 +117,7 @@ fn is_quoted_colon(bytes: &[u8], at: usize, after_quote: bool) -> bool
 /// The offset behind the colon that parts a flow mapping's key from its value, if one follows on the line.
 pub fn behind_flow_colon(bytes: &[u8], at: usize, after_quote: bool) -> Option<usize>
     requires { at ≤ length bytes.now }
-    ensures { IsColon (flow.behind_colon after_quote (lines_at bytes.now at)) bytes.now at result }
+    ensures { IsColon (flow.behind_colon_in_flow after_quote (lines_at bytes.now at)) bytes.now at result }
 {
     if is_quoted_colon(bytes, at, after_quote) {
         return Some(at + 1);
@@ -191,7 +191,7 @@ pub fn key_at(file: &File, at: usize) -> Result<Option<Key>, ReadError>
     requires inside { at ≤ size file.now }
     ensures fault { IfErr result (IsStopInside (size file.now)) }
     ensures is { Answers (option_key file.now.bytes.now)
-        (keys.key_at (left_at file.now at)) result }
+        (keys.key_here (left_at file.now at)) result }
     ensures inside { IfOk result (λ found. IsOptionKey file.now.bytes.now at found) }
 {
     let read = key_scalar(file, at)?;
@@ -217,7 +217,7 @@ fn is_key_start(bytes: &[u8], at: usize) -> bool
 /// Whether a scalar on one line begins at an offset and a colon follows it.
 fn is_key(file: &File, at: usize) -> Result<bool, AllocError>
     requires { at ≤ size file.now }
-    ensures { IfOk result (λ b. b ≡ keys.is_key (left_at file.now at)) }
+    ensures { IfOk result (λ b. b ≡ keys.begins_key (left_at file.now at)) }
 {
     match key_at(file, at) {
         Ok(Some(key)) => Ok(is_same_line(file.bytes, at, key.read.next)),

@@ -1,7 +1,6 @@
 //! The limits on nodes, on text behind aliases and on nesting.
 
 ghost use Rattle.al_yaml_tree.specs.Limits.{broken_limit};
-ghost use Rattle.al_yaml_parts.specs.Places.{fault_of};
 ghost use Rattle.al_yaml_parts.specs.Reads.{start_with, with_nodes, state_of};
 ghost use Rattle.al_yaml_tree.specs.Reading.{start_of};
 ghost use Rattle.std.specs.Prelude.{◌+◌, ◌≡◌, ◌≤◌, ◌∷◌, [], IfErr, IfOk, MatchResult};
@@ -28,7 +27,7 @@ impl State {
         ensures limits { MatchResult result
             (λ _. broken_limit self.old.nodes self.old.text (start_of at more depth ∷ []) ≡ None)
             (λ f. broken_limit self.old.nodes self.old.text (start_of at more depth ∷ [])
-            ≡ Some (fault_of f)) }
+            ≡ Some f) }
         ensures depth { IfOk result (λ _. depth ≤ 64) }
         ensures state { IfOk result (λ _. state_of self.new ≡ with_nodes more (state_of self.old)) }
     {
@@ -43,7 +42,7 @@ impl State {
             (λ _. broken_limit self.old.nodes self.old.text (start_with at more text depth ∷ [])
             ≡ None)
             (λ f. broken_limit self.old.nodes self.old.text (start_with at more text depth ∷ [])
-            ≡ Some (fault_of f)) }
+            ≡ Some f) }
         ensures depth { IfOk result (λ _. depth ≤ 64) }
         ensures nodes { IfOk result (λ _. self.new.nodes ≡ self.old.nodes + more) }
         ensures text { IfOk result (λ _. self.new.text ≡ self.old.text + text) }

@@ -1,6 +1,6 @@
 //! What was read of a node, and how far.
 
-ghost use Rattle.al_scalar.specs.Scalar as scalar;
+ghost use Rattle.al_base.specs.Spans as spans;
 ghost use Rattle.al_yaml_tree.specs.Node as tree;
 ghost use Rattle.al_yaml_tree.specs.View.{entries_of, entry_view, nodes_of, view};
 ghost use Rattle.std.specs.Prelude.{map, ◌<◌, ◌^◌, ◌≡◌};
@@ -30,7 +30,7 @@ pub fn sequence_part(items: Vec<Node>, start: usize, end: usize, next: usize) ->
     requires start { start < 2 ^ 32 }
     requires end { end < 2 ^ 32 }
     ensures node { view result.node
-        ≡ tree.sequence (nodes_of (map view items.items)) (scalar.span start end) }
+        ≡ tree.sequence (nodes_of (map view items.items)) (spans.span start end) }
     ensures end { result.end ≡ end }
     ensures next { result.next ≡ next }
 {
@@ -50,7 +50,7 @@ pub fn mapping_part(entries: Vec<Entry>, start: usize, end: usize, next: usize) 
     requires start { start < 2 ^ 32 }
     requires end { end < 2 ^ 32 }
     ensures node { view result.node
-        ≡ tree.mapping (entries_of (map entry_view entries.items)) (scalar.span start end) }
+        ≡ tree.mapping (entries_of (map entry_view entries.items)) (spans.span start end) }
     ensures end { result.end ≡ end }
     ensures next { result.next ≡ next }
 {

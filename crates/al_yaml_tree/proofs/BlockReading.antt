@@ -19,7 +19,7 @@ use Rattle.al_yaml_tree.specs.Content.{Next, ended, at_line, is_skipped, content
 use Rattle.al_yaml_tree.specs.Content.{tab_among, block_fault, is_flow_start, is_property, same_line, characters, is_short_key}
 use Rattle.al_yaml_tree.specs.Content.{anchor_name, behind_name, has_no_name}
 use Rattle.al_yaml_tree.specs.Flow.{CollectionReader, flow_collection}
-use Rattle.al_yaml_tree.specs.Keys.{Key, key_at, has_colon, is_block_start, is_on_key, no_entry, entry_key}
+use Rattle.al_yaml_tree.specs.Keys.{Key, key_here, has_colon, is_block_start, is_on_key, no_entry, entry_key}
 use Rattle.al_yaml_tree.specs.Node.{Node, Nodes, Entries, sequence, mapping, no_nodes, with_item, no_entries, with_entry, scalar_node}
 use Rattle.al_yaml_tree.specs.Reading.{Reading, gives, fails, gives_with_anchor, Part, part, ◌>>=◌}
 use Rattle.al_yaml_tree.proofs.FlowReading.{CollectionIn, flow_collection-in}
@@ -248,7 +248,7 @@ module _ {f : File} where
         (λ _. reads-by (is_flow_start (first_text ls))
         (λ e. reads-then (c depth low ls e h) (λ x k. behind_flow-in slot.spot (start ls) low x a k))
         (λ _. reads-by (is_block_start (first_text ls) || is_behind_key slot.spot) (λ _. scalar_node-in slot.within low ls h)
-        (λ _. reads-then (reads-given (OptionKeyIn f (start ls)) (key_at ls) (key_at-in (start ls) ls (left-start h)))
+        (λ _. reads-then (reads-given (OptionKeyIn f (start ls)) (key_here ls) (key_at-in (start ls) ls (left-start h)))
         (λ found k. keyed-in turns slot depth column low ls t h found k))))))
 
   pub block_node-in : (bound : ℕ) → BlockIn f (block_node bound)

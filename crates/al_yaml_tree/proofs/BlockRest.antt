@@ -5,17 +5,19 @@ use Rattle.std.specs.Option.{is_none, is_some, unwrap_or}
 use Rattle.al_scalar.specs.declared.header.Chomping.{Chomping}
 use Rattle.al_scalar.specs.declared.header.Chomping.TheVariants.{Clip}
 use Rattle.al_scalar.specs.declared.header.Header.{Header}
-use Rattle.al_scalar.specs.Block.{header_end, header, is_digit, is_sign, chomping_of}
+use Rattle.al_scalar.specs.Block.{header_end, header, is_digit, chomping_of}
+use Rattle.al_base.specs.Ascii.{is_sign}
 use Rattle.al_scalar.specs.Block.{content_indent, Rows, row_of, at_end, with_row, rows_at, text_after, last_end, rows_end, block_scalar}
 use Rattle.al_scalar.specs.Line.{Cell, Line, place, start, is_empty, begins, after_blanks, begins_blank, is_comment, indent, is_all_blank}
 use Rattle.al_scalar.specs.Offsets.{AreClimbing}
-use Rattle.al_scalar.specs.Taken.{Fault, Taken, ◌>>=◌}
+use Rattle.al_scalar.specs.Taken.{Taken, ◌>>=◌}
+use Rattle.al_scalar.specs.declared.faults.FaultAt.{FaultAt}
 use Rattle.al_scalar.proofs.OffsetLemmas.{choose, climbing-order, climbing-lower, climbing-place, climbing-blanks, climbing-drop}
 use Rattle.al_yaml_tree.proofs.Standing.{place-first, climbing-first, Stand, stand-lower, stand-later, stand-at_end}
 
 -- ---- the header
 
-abbrev HeaderIn : ℕ → ℕ → Result Header Fault → Type 0
+abbrev HeaderIn : ℕ → ℕ → Result Header FaultAt → Type 0
 HeaderIn low end (Ok h) = (low ≤ h.end) × (h.end ≤ end)
 HeaderIn low end (Err e) = e.at ≤ end
 
@@ -88,11 +90,11 @@ module _ (size : ℕ) where
   -- ---- the scalar
 
   -- what was taken ends behind an offset, before the lines left, which stand behind it; a fault lies in the file
-  abbrev pub TakenIn : ℕ → Result Taken Fault → Type 0
+  abbrev pub TakenIn : ℕ → Result Taken FaultAt → Type 0
   TakenIn low (Ok t) = (low ≤ t.end) × (t.end ≤ start t.left) × Stand size low t.left
   TakenIn low (Err e) = e.at ≤ size
 
-  block-by : (is_literal : Bool) (within low : ℕ) (l : Line) (ls : List Line) → Stand size low (l ∷ ls) → (r : Result Header Fault)
+  block-by : (is_literal : Bool) (within low : ℕ) (l : Line) (ls : List Line) → Stand size low (l ∷ ls) → (r : Result Header FaultAt)
       → HeaderIn low l.end r
       → TakenIn low (r >>= (λ h.
       let m = content_indent h.digit within ls in

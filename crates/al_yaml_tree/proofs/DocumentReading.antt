@@ -6,7 +6,7 @@ use Rattle.std.proofs.lemmas.Str.{IsUtf8-nil, IsUtf8-past_char}
 use Rattle.std.specs.Prelude.{IsUtf8}
 use Rattle.al_base.specs.Limits.{deepest_collection, most_alias_text, most_nodes}
 use Rattle.al_scalar.specs.Line.{Line, lines}
-use Rattle.al_scalar.specs.Taken.{Fault}
+use Rattle.al_scalar.specs.declared.faults.FaultAt.{FaultAt}
 use Rattle.al_scalar.proofs.OffsetLemmas.{choose, lines-climb}
 use Rattle.al_scalar.proofs.Utf8Lemmas.{AreUtf8, lines-utf8, both-left}
 use Rattle.al_scalar.proofs.Utf8Texts.{both-right}
@@ -16,7 +16,7 @@ use Rattle.al_yaml_tree.specs.Content.{content}
 use Rattle.al_yaml_tree.specs.Document.{document_start, document_end, root_slot, root, document, document_of, HasNoAlias}
 use Rattle.al_yaml_tree.specs.Limits.{broken_limit, unless_fault}
 use Rattle.al_yaml_tree.specs.Node.{Node}
-use Rattle.al_yaml_tree.specs.Reading.{Start, nothing_known, gives, Part}
+use Rattle.al_yaml_tree.specs.Reading.{Start, no_anchors, gives, Part}
 use Rattle.al_yaml_tree.proofs.BlockReading.{found-in, block_node-in}
 use Rattle.al_yaml_tree.proofs.ByteTexts.{cons-same, equal}
 use Rattle.al_yaml_tree.proofs.LeftLines.{File, AreLeft, NextLeft, Anything, content-in, document_start-in, document_end-in}
@@ -93,7 +93,7 @@ module _ {f : File} where
 
 -- ---- limits
 
-abbrev FaultIn : ℕ → Option Fault → Type 0
+abbrev FaultIn : ℕ → Option FaultAt → Type 0
 FaultIn size None = Unit {0}
 FaultIn size (Some f) = f.at ≤ size
 
@@ -104,7 +104,7 @@ limit-in size nodes text (s ∷ ss) h =
     (λ _. choose (FaultIn size) (nat_lt deepest_collection s.depth) (λ _. h.0)
     (λ _. limit-in size (nodes + s.nodes) (text + s.text) ss h.1))
 
-limited-in : (size : ℕ) (P : Node → Type 0) (o : Option Fault) (r : Result Node Fault) → FaultIn size o → Answers size P r
+limited-in : (size : ℕ) (P : Node → Type 0) (o : Option FaultAt) (r : Result Node FaultAt) → FaultIn size o → Answers size P r
     → Answers size P (unless_fault o r)
 limited-in size P None r a h = h
 limited-in size P (Some e) r a h = a
@@ -120,11 +120,11 @@ pub document-lies : (bytes : List ℕ) (plain : Type 0) → (plain → HasNoAlia
 document-lies bytes plain none =
     let f : File = file_of bytes plain in
     let left : AreLeft f 0 (file_lines bytes) = record { stand = file-stands bytes; utf8 = λ u. file-utf8 bytes u } in
-    let o = document (length bytes) (file_lines bytes) nothing_known in
-    let k = (document-in (file_lines bytes) left).run nothing_known (λ name. tt) none in
+    let o = document (length bytes) (file_lines bytes) no_anchors in
+    let k = (document-in (file_lines bytes) left).run no_anchors (λ name. tt) none in
     limited-in (length bytes) (Lies f 0 (length bytes)) (broken_limit 0 0 o.starts) o.answer
     (limit-in (length bytes) 0 0 o.starts k.starts) k.answers
 
-pub answered : {A : Type 0} (size : ℕ) (P Q : A → Type 0) (r : Result A Fault) → ((x : A) → P x → Q x) → Answers size P r → IfOk r Q
+pub answered : {A : Type 0} (size : ℕ) (P Q : A → Type 0) (r : Result A FaultAt) → ((x : A) → P x → Q x) → Answers size P r → IfOk r Q
 answered size P Q (Ok x) g h = g x h
 answered size P Q (Err e) g h = tt

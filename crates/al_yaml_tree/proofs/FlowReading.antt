@@ -11,9 +11,9 @@ use Rattle.al_scalar.specs.Scalar.{ScalarRead, scalar_at}
 use Rattle.al_scalar.proofs.OffsetLemmas.{choose}
 use Rattle.al_scalar.proofs.Utf8Lemmas.{AreUtf8, either}
 use Rattle.al_scalar.proofs.Utf8Texts.{both-right}
-use Rattle.al_yaml_tree.specs.Content.{behind, is_file_end, flow_fault, is_flow_start, is_quote, is_property, is_simple_key, anchor_name, behind_name, has_no_name}
+use Rattle.al_yaml_tree.specs.Content.{behind, is_file_end, flow_fault, is_flow_start, starts_quoted, is_property, is_simple_key, anchor_name, behind_name, has_no_name}
 use Rattle.al_yaml_tree.specs.Flow.{FlowSlot, FlowReader, CollectionReader, gap, empty_node}
-use Rattle.al_yaml_tree.specs.Flow.{rest_behind, flow_items, is_key_colon, behind_colon, flow_value, FlowKey}
+use Rattle.al_yaml_tree.specs.Flow.{rest_behind, flow_items, is_key_colon, behind_colon_in_flow, flow_value, FlowKey}
 use Rattle.al_yaml_tree.specs.Flow.{is_late_colon, unless_late, key_colon, flow_key, flow_entry_value}
 use Rattle.al_yaml_tree.specs.Flow.{flow_entries, flow_content, flow_property, flow_node_over, flow_collection}
 use Rattle.al_yaml_tree.specs.Node.{Node, Nodes, Entries, sequence, mapping, no_nodes, with_item, no_entries, with_entry, scalar_node}
@@ -91,7 +91,7 @@ module _ {f : File} where
 
   -- ---- keys
 
-  behind_colon-in : (after_quote : Bool) (low : ℕ) (ls : List Line) → AreLeft f low ls → OptionLeft f low (behind_colon after_quote ls)
+  behind_colon-in : (after_quote : Bool) (low : ℕ) (ls : List Line) → AreLeft f low ls → OptionLeft f low (behind_colon_in_flow after_quote ls)
   behind_colon-in after_quote low ls h =
       choose (OptionLeft f low) (is_key_colon after_quote ls) (λ e. left-colon (key_colon-behind after_quote ls e) h) (λ _. tt)
 
@@ -99,7 +99,7 @@ module _ {f : File} where
       → Answers f.size (OptionLeft f low) (key_colon ls r)
   key_colon-in low ls r a h =
       choose (Answers f.size (OptionLeft f low)) (not (is_simple_key ls r)) (λ _. a)
-      (λ _. late-in f low ls r (behind_colon (is_quote (first_text ls)) r.left) a (behind_colon-in (is_quote (first_text ls)) low r.left h))
+      (λ _. late-in f low ls r (behind_colon_in_flow (starts_quoted (first_text ls)) r.left) a (behind_colon-in (starts_quoted (first_text ls)) low r.left h))
 
   colon_key-in : (low : ℕ) (ls : List Line) (r : ScalarRead) → start ls ≤ f.size → IsRead f low r
       → Reads f (FlowKeyIn f low) (of_result (key_colon ls r) >>= key_with ls r)

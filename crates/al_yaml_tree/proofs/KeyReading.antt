@@ -8,13 +8,13 @@ use Rattle.al_scalar.specs.Offsets.{AreClimbing}
 use Rattle.al_scalar.specs.Places.{first_text}
 use Rattle.al_scalar.specs.Plain.{block}
 use Rattle.al_scalar.specs.Scalar.{ScalarRead, scalar_at}
-use Rattle.al_scalar.specs.Taken.{Fault}
+use Rattle.al_scalar.specs.declared.faults.FaultAt.{FaultAt}
 use Rattle.al_scalar.proofs.OffsetLemmas.{choose}
 use Rattle.al_scalar.proofs.Utf8Lemmas.{AreUtf8}
 use Rattle.al_scalar.proofs.Utf8Texts.{IsText}
-use Rattle.al_yaml_tree.specs.Content.{is_dash, block_fault, is_flow_start, is_quote, is_property, is_simple_key}
+use Rattle.al_yaml_tree.specs.Content.{is_dash, block_fault, is_flow_start, starts_quoted, is_property, is_simple_key}
 use Rattle.al_yaml_tree.specs.Flow.{CollectionReader}
-use Rattle.al_yaml_tree.specs.Keys.{Key, one_line, with_lines, key_scalar, has_colon, key_of, key_at}
+use Rattle.al_yaml_tree.specs.Keys.{Key, one_line, with_lines, key_scalar, has_colon, key_before_colon, key_here}
 use Rattle.al_yaml_tree.specs.Keys.{is_block_start, collection_fault, no_entry, found_key, entry_key}
 use Rattle.al_yaml_tree.specs.Node.{Node, scalar_node}
 use Rattle.al_yaml_tree.specs.Reading.{fails, Part, ◌>>=◌}
@@ -47,14 +47,14 @@ OptionKeyIn f low (Some key) = KeyIn f low key
 abbrev up_to : File → Line → File
 up_to f l = record { size = l.end; is_utf8 = f.is_utf8; is_plain = f.is_plain }
 
-abbrev read_with_lines : List Line → Result ScalarRead Fault → Result ScalarRead Fault
+abbrev read_with_lines : List Line → Result ScalarRead FaultAt → Result ScalarRead FaultAt
 read_with_lines ls r = elim r [ Ok r ↦ Ok (record r { left = with_lines r.left ls }) | Err f ↦ Err f ]
 
 module _ {f : File} where
   one_line-left : (low : ℕ) (l : Line) (ls : List Line) → AreLeft f low (l ∷ ls) → AreLeft (up_to f l) low (one_line (l ∷ ls))
   one_line-left low l ls h = record { stand = ((h.stand.0.0, refl), (omega arith, tt)); utf8 = λ u. ((h.utf8 u).0, tt) }
 
-  with_lines-read : (low : ℕ) (l : Line) (ls : List Line) (r : Result ScalarRead Fault) → AreLeft f low (l ∷ ls)
+  with_lines-read : (low : ℕ) (l : Line) (ls : List Line) (r : Result ScalarRead FaultAt) → AreLeft f low (l ∷ ls)
       → Answers l.end (IsRead (up_to f l) low) r → Answers f.size (IsRead f low) (read_with_lines (l ∷ ls) r)
   with_lines-read low l ls (Err e) h k = let a = h.stand.1.0 in omega (arith, k, a)
   with_lines-read low l ls (Ok r) h k = record {
@@ -73,19 +73,19 @@ module _ {f : File} where
       (scalar-read (block 0) low (one_line (l ∷ ls)) (one_line-left low l ls h))
 
   key_scalar-in : (low : ℕ) (ls : List Line) → AreLeft f low ls → Answers f.size (IsRead f low) (key_scalar ls)
-  key_scalar-in low ls h = choose (Answers f.size (IsRead f low)) (is_quote (first_text ls)) (λ _. scalar-read (block 0) low ls h)
+  key_scalar-in low ls h = choose (Answers f.size (IsRead f low)) (starts_quoted (first_text ls)) (λ _. scalar-read (block 0) low ls h)
       (λ _. plain-read low ls h)
 
 -- ---- keys
 
-key_from-in : (f : File) (low : ℕ) (r : Result ScalarRead Fault) → Answers f.size (IsRead f low) r
-    → Answers f.size (OptionKeyIn f low) (elim r [ Ok r ↦ Ok (key_of r) | Err f ↦ Err f ])
+key_from-in : (f : File) (low : ℕ) (r : Result ScalarRead FaultAt) → Answers f.size (IsRead f low) r
+    → Answers f.size (OptionKeyIn f low) (elim r [ Ok r ↦ Ok (key_before_colon r) | Err f ↦ Err f ])
 key_from-in f low (Err e) h = h
 key_from-in f low (Ok r) h =
     choose (OptionKeyIn f low) (has_colon r.left) (λ e. (h, left-colon (colon-utf8 (block 0) r.left e) h.left)) (λ _. tt)
 
 module _ {f : File} where
-  pub key_at-in : (low : ℕ) (ls : List Line) → AreLeft f low ls → Answers f.size (OptionKeyIn f low) (key_at ls)
+  pub key_at-in : (low : ℕ) (ls : List Line) → AreLeft f low ls → Answers f.size (OptionKeyIn f low) (key_here ls)
   key_at-in low ls h = key_from-in f low (key_scalar ls) (key_scalar-in low ls h)
 
   -- ---- lines that begin no entry
@@ -104,7 +104,7 @@ module _ {f : File} where
       reads-unless (block_fault (first_text ls)) (start ls) a
       (reads-by (is_property (first_text ls)) (λ _. reads-fault a)
       (λ _. reads-by (is_flow_start (first_text ls)) (λ e. refused-in (λ left. yaml.UnexpectedCharacter) collection c depth low ls e h)
-      (λ _. reads-by (is_quote (first_text ls))
+      (λ _. reads-by (starts_quoted (first_text ls))
       (λ _. reads-then {g = λ (r : ScalarRead). fails yaml.UnexpectedCharacter (start ls)}
       (reads-given (IsRead f low) (scalar_at (block 0) ls) (scalar-read (block 0) low ls h)) (λ r k. reads-fault a))
       (λ _. reads-fault a))))
@@ -125,4 +125,4 @@ module _ {f : File} where
       (reads-by (is_property (first_text ls)) (λ _. reads-fault a)
       (λ _. reads-by (is_dash (first_text ls) || is_block_start (first_text ls)) (λ _. reads-fault a)
       (λ _. reads-by (is_flow_start (first_text ls)) (λ e. refused-in collection_fault collection c depth low ls e h)
-      (λ _. reads-then (reads-given (OptionKeyIn f low) (key_at ls) (key_at-in low ls h)) (λ found k. found_key-in low ls found a k)))))
+      (λ _. reads-then (reads-given (OptionKeyIn f low) (key_here ls) (key_at-in low ls h)) (λ found k. found_key-in low ls found a k)))))

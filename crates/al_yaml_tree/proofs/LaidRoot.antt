@@ -4,7 +4,7 @@ use Rattle.std.proofs.Common.{Option, Some, None, is_some, option_map, cond, Res
 use Rattle.std.specs.Option.{option_or}
 use Rattle.al_base.specs.Spans.{LiesIn}
 use Rattle.al_base.specs.declared.codes.YamlCode.TheVariants as yaml
-use Rattle.al_scalar.specs.Taken.{Fault}
+use Rattle.al_scalar.specs.declared.faults.FaultAt.{FaultAt}
 use Rattle.al_scalar.proofs.OffsetLemmas.{choose}
 use Rattle.al_yaml_tree.specs.Bytes.{following, is_well_formed, ill_formed_at, is_unprintable, unprintable_at}
 use Rattle.al_scalar.specs.Characters.{character_at}
@@ -67,20 +67,20 @@ module _ (bytes : List ℕ) where
   -- ---- the file
 
   -- a fault in the file, of which it isn't known whether it is UTF-8
-  abbrev LiesAmong : Option ℕ → Result Node Fault → Type 0
+  abbrev LiesAmong : Option ℕ → Result Node FaultAt → Type 0
   LiesAmong wrong (Ok root) = IsLaidIn (length bytes) (length bytes) root
   LiesAmong wrong (Err f) = LiesIn (length bytes) (cond (is_some wrong) (record { start = f.at; end = f.at + 1 }) (character_at bytes f.at))
 
-  answer_lies : (r : Result Node Fault) → Answers (length bytes) ValueIn r → LiesAmong None r
+  answer_lies : (r : Result Node FaultAt) → Answers (length bytes) ValueIn r → LiesAmong None r
   answer_lies (Ok root) h = h
   answer_lies (Err f) h = character-inside bytes f.at h
 
   -- the tree, unless the bytes have a fault
 
-  abbrev unprintable : Option ℕ → Option Fault
+  abbrev unprintable : Option ℕ → Option FaultAt
   unprintable o = option_map (λ at. record { code = yaml.ControlCharacter; at = at }) o
 
-  abbrev ill_formed : Option ℕ → Option Fault
+  abbrev ill_formed : Option ℕ → Option FaultAt
   ill_formed o = option_or (option_map (λ at. record { code = yaml.NotUtf8; at = at }) o) (unprintable (unprintable_at 0 bytes))
 
   printed : (o : Option ℕ) → IsBelow (length bytes) o → LiesAmong None (unless_fault (unprintable o) (document_of bytes))
@@ -96,13 +96,13 @@ module _ (bytes : List ℕ) where
   tree-laid_in = whole (tree_of bytes) (formed (ill_formed_at 0 0 bytes)
       (below-more (0 + length bytes) (length bytes) (ill_formed_at 0 0 bytes) (omega arith) (ill_formed-below 0 0 bytes)))
     where
-      whole : (r : Result Node Fault) → LiesAmong (ill_formed_at 0 0 bytes) r → IsTreeLaid bytes r
+      whole : (r : Result Node FaultAt) → LiesAmong (ill_formed_at 0 0 bytes) r → IsTreeLaid bytes r
       whole (Ok root) h = h
       whole (Err f) h = h
 
   -- ---- what follows of its tree
 
-  follows : (Q : Node → Type 0) (r : Result Node Fault) → ((root : Node) → IsLaidIn (length bytes) (length bytes) root → Q root)
+  follows : (Q : Node → Type 0) (r : Result Node FaultAt) → ((root : Node) → IsLaidIn (length bytes) (length bytes) root → Q root)
       → IsTreeLaid bytes r → IfOk r Q
   follows Q (Ok root) f h = f root h
   follows Q (Err e) f h = tt

@@ -9,7 +9,7 @@ use Rattle.al_scalar.specs.Line.{Line, start, begins, is_marker, is_document_mar
 use Rattle.al_scalar.specs.Places.{first_text}
 use Rattle.al_scalar.specs.Plain.{Context}
 use Rattle.al_scalar.specs.Scalar.{ScalarRead, text_of, scalar_at}
-use Rattle.al_scalar.specs.Taken.{Fault}
+use Rattle.al_scalar.specs.declared.faults.FaultAt.{FaultAt}
 use Rattle.al_scalar.proofs.OffsetLemmas.{choose}
 use Rattle.al_scalar.proofs.TextLemmas.{ReadsText, scalar-text}
 use Rattle.al_scalar.proofs.Utf8Lemmas.{AreUtf8}
@@ -52,7 +52,7 @@ OptionLeft f low (Some ls) = AreLeft f low ls
 abbrev pub Anything : Unit {0} → Type 0
 Anything x = Unit {0}
 
-both-read : (f : File) (low : ℕ) (r : Result ScalarRead Fault) → Answers f.size (ReadIn f.size low) r → (f.is_utf8 → IfOk r ReadsText)
+both-read : (f : File) (low : ℕ) (r : Result ScalarRead FaultAt) → Answers f.size (ReadIn f.size low) r → (f.is_utf8 → IfOk r ReadsText)
     → Answers f.size (IsRead f low) r
 both-read f low (Ok r) h k = record { placed = h.placed; text = λ u. (k u).0; left = record { stand = h.left; utf8 = λ u. (k u).1 } }
 both-read f low (Err e) h k = h

@@ -8,14 +8,15 @@ use Rattle.al_base.specs.declared.codes.YamlCode.{YamlCode}
 use Rattle.al_base.specs.declared.faults.Span.{Span}
 use Rattle.al_scalar.specs.Line.{Line}
 use Rattle.al_scalar.specs.Offsets.{IsPlaced}
-use Rattle.al_scalar.specs.Scalar.{Scalar, ScalarRead, empty_scalar, span, text_of}
-use Rattle.al_scalar.specs.Taken.{Fault}
+use Rattle.al_scalar.specs.Scalar.{Scalar, ScalarRead, empty_scalar, text_of}
+use Rattle.al_base.specs.Spans.{span}
+use Rattle.al_scalar.specs.declared.faults.FaultAt.{FaultAt}
 use Rattle.al_scalar.proofs.OffsetLemmas.{choose}
-use Rattle.al_yaml_tree.specs.Content.{unless}
+use Rattle.al_yaml_tree.specs.Content.{unless_code}
 use Rattle.al_yaml_tree.specs.Flow.{empty_node}
 use Rattle.al_yaml_tree.specs.Node.{Node, Nodes, Entries, scalar, sequence, mapping, no_nodes, no_entries}
 use Rattle.al_yaml_tree.specs.Node.{with_item, with_entry, scalar_node}
-use Rattle.al_yaml_tree.specs.Reading.{Start, HaveNoAlias, Anchor, Known, Outcome, Reading, gives, fails, of_result, next, later_of, alias_of, alias}
+use Rattle.al_yaml_tree.specs.Reading.{Start, HaveNoAlias, Anchor, KnownAnchors, Outcome, Reading, gives, fails, of_result, next, later_of, alias_of, alias}
 use Rattle.al_yaml_tree.specs.Reading.{◌>>=◌, with_start, start_of, gives_with_anchor, Part, part, with_span}
 use Rattle.al_yaml_tree.specs.Spans.{IsPlacedIn, IsLaidIn, LiesAround}
 use Rattle.al_yaml_tree.specs.Texts.{HasTexts}
@@ -238,7 +239,7 @@ FoundIn f None = Unit {0}
 FoundIn f (Some a) = IsLaidIn f.size f.size a.node × (f.is_utf8 → HasTexts a.node)
 
 -- whatever the name, this holds of the node of the anchor that is found
-abbrev AreKnown : File → Known → Type 0
+abbrev AreKnown : File → KnownAnchors → Type 0
 AreKnown f known = (name : List ℕ) → FoundIn f (known name)
 
 pub record Keeps (f : File) {A : Type 0} (P : A → Type 0) (o : Outcome A) : Type 0 where
@@ -248,9 +249,9 @@ pub record Keeps (f : File) {A : Type 0} (P : A → Type 0) (o : Outcome A) : Ty
 
 -- Where no alias may be read, nothing is said of what reads one.
 pub record Reads (f : File) {A : Type 0} (P : A → Type 0) (r : Reading A) : Type 0 where
-  pub run : (known : Known) → AreKnown f known → (f.is_plain → HaveNoAlias (r known).starts) → Keeps f P (r known)
+  pub run : (known : KnownAnchors) → AreKnown f known → (f.is_plain → HaveNoAlias (r known).starts) → Keeps f P (r known)
 
-abbrev answering : {A : Type 0} → Outcome A → Result A Fault → Outcome A
+abbrev answering : {A : Type 0} → Outcome A → Result A FaultAt → Outcome A
 answering o a = record { starts = o.starts; answer = a; known = o.known }
 
 later-in : (f : File) (a : Anchor) (o : Option Anchor) → FoundIn f (Some a) → FoundIn f o → FoundIn f (later_of a o)
@@ -268,7 +269,7 @@ module _ {f : File} where
   pub reads-fault : {A : Type 0} {P : A → Type 0} {code : YamlCode} {at : ℕ} → at ≤ f.size → Reads f P (fails code at)
   reads-fault a = record { run = λ known k u. record { answers = a; starts = tt; knows = k } }
 
-  pub reads-given : {A : Type 0} (P : A → Type 0) (r : Result A Fault) → Answers f.size P r → Reads f P (of_result r)
+  pub reads-given : {A : Type 0} (P : A → Type 0) (r : Result A FaultAt) → Answers f.size P r → Reads f P (of_result r)
   reads-given P r h = record { run = λ known k u. record { answers = h; starts = tt; knows = k } }
 
   next-keeps : {A B : Type 0} (P : A → Type 0) (Q : B → Type 0) (o : Outcome A) (g : A → Reading B)
@@ -276,7 +277,7 @@ module _ {f : File} where
       → (f.is_plain → HaveNoAlias (next o g).starts) → Keeps f Q (next o g)
   next-keeps {A} {B} P Q o g h k = by-answer o.answer h
     where
-      by-answer : (a : Result A Fault) → ((f.is_plain → HaveNoAlias o.starts) → Keeps f P (answering o a))
+      by-answer : (a : Result A FaultAt) → ((f.is_plain → HaveNoAlias o.starts) → Keeps f P (answering o a))
           → (f.is_plain → HaveNoAlias (next (answering o a) g).starts) → Keeps f Q (next (answering o a) g)
       by-answer (Err e) h u = let m = h u in record { answers = m.answers; starts = m.starts; knows = m.knows }
       by-answer (Ok x) h u =
@@ -300,7 +301,7 @@ module _ {f : File} where
   reads-one a h = record { run = λ known u v. record { answers = h; starts = (a, tt); knows = u } }
 
   pub reads-unless : {A : Type 0} {P : A → Type 0} (o : Option YamlCode) (at : ℕ) {r : Reading A} → at ≤ f.size → Reads f P r
-      → Reads f P (unless o at r)
+      → Reads f P (unless_code o at r)
   reads-unless None at a h = h
   reads-unless (Some code) at a h = reads-fault a
 
@@ -335,7 +336,7 @@ module _ {f : File} where
 
   -- ---- anchors and aliases
 
-  found-in : (at depth : ℕ) (known : Known) → at ≤ f.size → AreKnown f known → (o : Option Anchor) → FoundIn f o
+  found-in : (at depth : ℕ) (known : KnownAnchors) → at ≤ f.size → AreKnown f known → (o : Option Anchor) → FoundIn f o
       → (f.is_plain → HaveNoAlias (alias_of o at depth known).starts) → Keeps f (LiesAnywhere f) (alias_of o at depth known)
   found-in at depth known a u None h v = record { answers = a; starts = tt; knows = u }
   found-in at depth known a u (Some b) h v = record {

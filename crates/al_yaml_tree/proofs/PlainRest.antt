@@ -3,7 +3,8 @@ use Rattle.std.proofs.Common.{ℕ, ◌≤◌, List, [], ◌∷◌, ◌++◌, ari
 use Rattle.al_scalar.specs.Line.{Cell, Line, is_blank, after_blanks, is_empty}
 use Rattle.al_scalar.specs.Offsets.{AreClimbing}
 use Rattle.al_scalar.specs.Plain.{Context, is_flow, is_value_colon, ends_plain, plain_part, continues, ended_before, plain_lines, plain}
-use Rattle.al_scalar.specs.Taken.{Fault, Taken, before, folded_break}
+use Rattle.al_scalar.specs.Taken.{Taken, before, folded_break}
+use Rattle.al_scalar.specs.declared.faults.FaultAt.{FaultAt}
 use Rattle.al_scalar.proofs.OffsetLemmas.{choose, climbing-behind, climbing-blanks}
 use Rattle.al_yaml_tree.proofs.Standing.{place-end, Stand, Follow, stand-cut, stand-follow, follow-stand}
 
@@ -20,11 +21,11 @@ part-left p blank low end (c ∷ cs) h =
 
 module _ (size : ℕ) where
   -- what is left stands behind an offset; a fault lies in the file
-  abbrev pub Leaves : ℕ → Result Taken Fault → Type 0
+  abbrev pub Leaves : ℕ → Result Taken FaultAt → Type 0
   Leaves low (Ok t) = Stand size low t.left
   Leaves low (Err e) = e.at ≤ size
 
-  pub left-before : (low : ℕ) (cs : List Cell) (r : Result Taken Fault) → Leaves low r → Leaves low (before cs r)
+  pub left-before : (low : ℕ) (cs : List Cell) (r : Result Taken FaultAt) → Leaves low r → Leaves low (before cs r)
   left-before low cs (Ok t) h = h
   left-before low cs (Err e) h = h
 

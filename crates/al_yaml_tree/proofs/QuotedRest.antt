@@ -9,7 +9,8 @@ use Rattle.al_scalar.specs.Quoted.{single_part, escape_table, digits_table, is_s
 use Rattle.std.specs.Map.{lookup}
 use Rattle.al_scalar.specs.Quoted.{character_cells, part_before, own_before, escape_character, escape_digits, hex_digit, escape, double_part, line_given}
 use Rattle.al_scalar.specs.Quoted.{is_empty_line, quoted_lines, quoted_scalar, single_quoted, double_quoted}
-use Rattle.al_scalar.specs.Taken.{Fault, Taken, ◌>>=◌, before, folding_space}
+use Rattle.al_scalar.specs.Taken.{Taken, ◌>>=◌, before, folding_space}
+use Rattle.al_scalar.specs.declared.faults.FaultAt.{FaultAt}
 use Rattle.al_scalar.proofs.OffsetLemmas.{choose, climbing-order, climbing-behind, climbing-blanks}
 use Rattle.al_scalar.proofs.Utf8Escapes.{choose-option}
 use Rattle.al_yaml_tree.proofs.Standing.{Stand, Follow, stand-follow, follow-stand, stand-cut}
@@ -26,7 +27,7 @@ StopsIn low end (cut_short at) = at ≤ end
 abbrev PartStops : ℕ → ℕ → QuotedLine → Type 0
 PartStops low end p = StopsIn low end p.stop
 
-abbrev GivesStop : ℕ → ℕ → Result QuotedLine Fault → Type 0
+abbrev GivesStop : ℕ → ℕ → Result QuotedLine FaultAt → Type 0
 GivesStop low end (Ok p) = StopsIn low end p.stop
 GivesStop low end (Err e) = e.at ≤ end
 
@@ -42,15 +43,15 @@ single-stops low end (c ∷ d ∷ cs) h =
     choose (PartStops low end) (not (c.0 == ascii "'")) (λ _. own-stops low end c (single_part (d ∷ cs)) (single-stops low end (d ∷ cs) k))
     (λ _. choose (PartStops low end) (d.0 == ascii "'") (λ _. single-stops low end cs (climbing-behind low end d cs k)) (λ _. k))
 
-part-stops : (low end : ℕ) (ws : List Cell) (r : Result QuotedLine Fault) → GivesStop low end r → GivesStop low end (part_before ws r)
+part-stops : (low end : ℕ) (ws : List Cell) (r : Result QuotedLine FaultAt) → GivesStop low end r → GivesStop low end (part_before ws r)
 part-stops low end ws (Ok p) h = h
 part-stops low end ws (Err e) h = h
 
-own-gives : (low end : ℕ) (c : Cell) (r : Result QuotedLine Fault) → GivesStop low end r → GivesStop low end (own_before c r)
+own-gives : (low end : ℕ) (c : Cell) (r : Result QuotedLine FaultAt) → GivesStop low end r → GivesStop low end (own_before c r)
 own-gives low end c (Ok p) h = own-stops low end c p h
 own-gives low end c (Err e) h = h
 
-character-stops : (low end at code : ℕ) (behind : Result QuotedLine Fault) → at ≤ end → GivesStop low end behind
+character-stops : (low end at code : ℕ) (behind : Result QuotedLine FaultAt) → at ≤ end → GivesStop low end behind
     → GivesStop low end (escape_character at code behind)
 character-stops low end at code behind a h =
     choose (GivesStop low end) (is_scalar_value code) (λ _. part-stops low end (character_cells at code) behind h) (λ _. a)
@@ -84,13 +85,13 @@ mutual
       let k = climbing-behind low end c cs h in
       choose-option (GivesStop low end) (hex_digit c.0) a (λ d _. digits-stop low end at n (16 * v + d) cs a k)
 
-abbrev PartReader : (List Cell → Result QuotedLine Fault) → Type 0
+abbrev PartReader : (List Cell → Result QuotedLine FaultAt) → Type 0
 PartReader part = (low end : ℕ) (cs : List Cell) → AreClimbing low end cs → GivesStop low end (part cs)
 
 -- ---- lines
 
 module _ (size quote : ℕ) (q : quote ≤ size) where
-  given-left : (low : ℕ) (space : List Cell) (p : QuotedLine) (l : Line) (ls : List Line) (below : Option ℕ → Result Taken Fault)
+  given-left : (low : ℕ) (space : List Cell) (p : QuotedLine) (l : Line) (ls : List Line) (below : Option ℕ → Result Taken FaultAt)
       → Stand size low (l ∷ ls) → PartStops low l.end p → ((b : Option ℕ) → Leaves size low (below b))
       → Leaves size low (line_given quote space p l ls below)
   given-left low space p l ls below h k more = by-stop p.stop k
@@ -102,8 +103,8 @@ module _ (size quote : ℕ) (q : quote ≤ size) where
       by-stop broken k = choose (Leaves size low) l.last (λ _. q) (λ _. left-before size low (space ++ p.text) _ (more (Some l.end)))
       by-stop escaped k = choose (Leaves size low) l.last (λ _. q) (λ _. left-before size low (space ++ p.text) _ (more None))
 
-  line-left : (low : ℕ) (break : Option ℕ) (l : Line) (ls : List Line) (below : Option ℕ → Result Taken Fault) → Stand size low (l ∷ ls)
-      → ((b : Option ℕ) → Leaves size low (below b)) → (r : Result QuotedLine Fault) → GivesStop low l.end r
+  line-left : (low : ℕ) (break : Option ℕ) (l : Line) (ls : List Line) (below : Option ℕ → Result Taken FaultAt) → Stand size low (l ∷ ls)
+      → ((b : Option ℕ) → Leaves size low (below b)) → (r : Result QuotedLine FaultAt) → GivesStop low l.end r
       → Leaves size low (r >>= (λ p. if is_empty_line p l then before ((ascii "\n", l.end) ∷ []) (below None) else line_given quote
       (folding_space break) p l ls below))
   line-left low break l ls below h more (Err e) k = let a = h.1.0 in omega (arith, k, a)
@@ -111,7 +112,7 @@ module _ (size quote : ℕ) (q : quote ≤ size) where
       choose (Leaves size low) (is_empty_line p l) (λ _. left-before size low ((ascii "\n", l.end) ∷ []) (below None) (more None))
       (λ _. given-left low (folding_space break) p l ls below h k more)
 
-  lines-left : (part : List Cell → Result QuotedLine Fault) → PartReader part
+  lines-left : (part : List Cell → Result QuotedLine FaultAt) → PartReader part
       → (break : Option ℕ) (low end : ℕ) (last : Bool) (ls : List Line) → Follow size low end last ls
       → Leaves size low (quoted_lines part quote break ls)
   lines-left part r break low end last [] f = q
@@ -121,14 +122,14 @@ module _ (size quote : ℕ) (q : quote ≤ size) where
       (λ b. lines-left part r b low l.end l.last ls (stand-follow size low l ls h))
       (part (after_blanks l.text)) (r low l.end (after_blanks l.text) (climbing-blanks low l.end l.text h.0.0))
 
-  quoted-by : (part : List Cell → Result QuotedLine Fault) → PartReader part → (low : ℕ) (l : Line) (ls : List Line)
-      → Stand size low (l ∷ ls) → (r : Result QuotedLine Fault) → GivesStop low l.end r
+  quoted-by : (part : List Cell → Result QuotedLine FaultAt) → PartReader part → (low : ℕ) (l : Line) (ls : List Line)
+      → Stand size low (l ∷ ls) → (r : Result QuotedLine FaultAt) → GivesStop low l.end r
       → Leaves size low (r >>= (λ p. line_given quote [] p l ls (λ b. quoted_lines part quote b ls)))
   quoted-by part r low l ls h (Err e) k = let a = h.1.0 in omega (arith, k, a)
   quoted-by part r low l ls h (Ok p) k = given-left low [] p l ls (λ b. quoted_lines part quote b ls) h k
       (λ b. lines-left part r b low l.end l.last ls (stand-follow size low l ls h))
 
-  quoted-left : (part : List Cell → Result QuotedLine Fault) → PartReader part → (low : ℕ) (ls : List Line) → Stand size low ls
+  quoted-left : (part : List Cell → Result QuotedLine FaultAt) → PartReader part → (low : ℕ) (ls : List Line) → Stand size low ls
       → Leaves size low (quoted_scalar part quote ls)
   quoted-left part r low [] h = q
   quoted-left part r low (l ∷ ls) h = quoted-by part r low l ls h (part l.text) (r low l.end l.text h.0.0)

@@ -6,7 +6,8 @@ use Rattle.al_scalar.specs.Offsets.{is_block}
 use Rattle.al_scalar.specs.Plain.{Context, is_flow}
 use Rattle.al_scalar.specs.Scalar.{ScalarRead, read_as, style_at, within_of, after_first, taken_as, scalar_at}
 use Rattle.al_scalar.specs.Block.{block_scalar}
-use Rattle.al_scalar.specs.Taken.{Fault, Taken}
+use Rattle.al_scalar.specs.Taken.{Taken}
+use Rattle.al_scalar.specs.declared.faults.FaultAt.{FaultAt}
 use Rattle.al_scalar.specs.declared.styles.Style.{Style}
 use Rattle.al_scalar.specs.declared.styles.Style.TheVariants.{Plain, SingleQuoted, DoubleQuoted, Literal, Folded}
 use Rattle.al_scalar.proofs.OffsetLemmas.{AreTaken, from-order}
@@ -39,15 +40,15 @@ begins-block false false false false false h = cc
 
 module _ (size : ℕ) where
   -- an answer keeps to P; a fault lies in the file
-  abbrev pub Answers : {A : Type 0} → (A → Type 0) → Result A Fault → Type 0
+  abbrev pub Answers : {A : Type 0} → (A → Type 0) → Result A FaultAt → Type 0
   Answers P (Ok x) = P x
   Answers P (Err e) = e.at ≤ size
 
-  pub answers-also : {A : Type 0} (P Q : A → Type 0) (r : Result A Fault) → ((x : A) → P x → Q x) → Answers P r → Answers Q r
+  pub answers-also : {A : Type 0} (P Q : A → Type 0) (r : Result A FaultAt) → ((x : A) → P x → Q x) → Answers P r → Answers Q r
   answers-also P Q (Ok x) f h = f x h
   answers-also P Q (Err e) f h = h
 
-  flow-taken : (low : ℕ) (r : Result Taken Fault) → AreTaken low r → Leaves size low r → TakenIn size low r
+  flow-taken : (low : ℕ) (r : Result Taken FaultAt) → AreTaken low r → Leaves size low r → TakenIn size low r
   flow-taken low (Ok t) h k = (from-order low t.end t.text h.0, h.1, k)
   flow-taken low (Err e) h k = k
 
@@ -82,7 +83,7 @@ module _ (size : ℕ) where
   taken-in p Literal low l ls h e = block-any p true low l ls h (ap is_block e)
   taken-in p Folded low l ls h e = block-any p false low l ls h (ap is_block e)
 
-  read-in : (style : Style) (at : ℕ) (r : Result Taken Fault) → TakenIn size at r → IsPlacedRead (read_as style at r)
+  read-in : (style : Style) (at : ℕ) (r : Result Taken FaultAt) → TakenIn size at r → IsPlacedRead (read_as style at r)
       → Answers (ReadIn size at) (read_as style at r)
   read-in style at (Ok t) h k = record {
     placed = (

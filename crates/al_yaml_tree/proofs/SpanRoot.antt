@@ -1,6 +1,6 @@
 -- The tree of a file in which no alias is read lies in it, each node in the one around it and behind those before it.
 use Rattle.std.proofs.Common.{◌≡◌, subst, ℕ, ◌≤◌, List, length, Option, Some, None, Result, Ok, Err, IfOk}
-use Rattle.al_scalar.specs.Taken.{Fault}
+use Rattle.al_scalar.specs.declared.faults.FaultAt.{FaultAt}
 use Rattle.al_yaml_tree.specs.Bytes.{byte_fault}
 use Rattle.al_yaml_tree.specs.Document.{document_of, HasNoAlias, tree_of}
 use Rattle.al_yaml_tree.specs.Limits.{unless_fault}
@@ -23,9 +23,9 @@ module _ (bytes : List ℕ) where
   -- where no alias is read each node lies in the one around it, and behind those before it
   pub document-within : (root : Node) → document_of bytes ≡ Ok root → length bytes ≤ 1048576 → HasNoAlias bytes → IsPlacedIn largest_file 0 (length bytes) root
   document-within root h a u =
-      placed-more (length bytes) 1048576 a 0 (length bytes) root (subst (λ (r : Result Node Fault). IfOk r ValueIn) h (document_of-in u))
+      placed-more (length bytes) 1048576 a 0 (length bytes) root (subst (λ (r : Result Node FaultAt). IfOk r ValueIn) h (document_of-in u))
 
-  by_fault : (o : Option Fault) → HasNoAlias bytes
+  by_fault : (o : Option FaultAt) → HasNoAlias bytes
       → IfOk (unless_fault o (document_of bytes)) ValueIn
   by_fault None u = document_of-in u
   by_fault (Some f) u = tt
@@ -34,7 +34,7 @@ module _ (bytes : List ℕ) where
   pub tree-nested : HasNoAlias bytes → IfOk (tree_of bytes) (IsPlacedIn (length bytes) 0 (length bytes))
   tree-nested u = by_fault (byte_fault bytes) u
 
-  more : (r : Result Node Fault) → length bytes ≤ 1048576 → IfOk r (IsPlacedIn (length bytes) 0 (length bytes))
+  more : (r : Result Node FaultAt) → length bytes ≤ 1048576 → IfOk r (IsPlacedIn (length bytes) 0 (length bytes))
       → IfOk r (IsPlacedIn largest_file 0 (length bytes))
   more (Ok root) a h = placed-more (length bytes) 1048576 a 0 (length bytes) root h
   more (Err e) a h = tt

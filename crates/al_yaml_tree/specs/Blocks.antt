@@ -9,9 +9,9 @@ use Rattle.al_scalar.specs.Scalar.{scalar_at}
 use Rattle.al_yaml_tree.specs.Node.{Node, Nodes, Entries, sequence, mapping, no_nodes, with_item, no_entries, with_entry, scalar_node}
 use Rattle.al_yaml_tree.specs.Reading.{Reading, gives, fails, of_result, starting_scalar, starting_collection, Part, part, with_span, ◌>>=◌}
 use Rattle.al_yaml_tree.specs.Content.{Next, ended, at_line, is_skipped, content, line_ended, whole_lines, behind, is_dash, tab_among}
-use Rattle.al_yaml_tree.specs.Content.{block_fault, unless, is_flow_start, is_property, same_line, characters, is_short_key}
+use Rattle.al_yaml_tree.specs.Content.{block_fault, unless_code, is_flow_start, is_property, same_line, characters, is_short_key}
 use Rattle.al_yaml_tree.specs.Flow.{CollectionReader, empty_node, property, flow_collection}
-use Rattle.al_yaml_tree.specs.Keys.{Key, key_at, has_colon, is_block_start, is_on_key, no_entry, entry_key}
+use Rattle.al_yaml_tree.specs.Keys.{Key, key_here, has_colon, is_block_start, is_on_key, no_entry, entry_key}
 
 -- Where a node begins: on a line of its own; behind a dash, an anchor or both, with the first tab before it; behind a
 -- key on its line.
@@ -153,12 +153,12 @@ unfoldable pub block_content : BlockReader → CollectionReader → ℕ → Bloc
 block_content node collection turns slot depth column ls =
     let at = start ls in
     if is_dash (first_text ls) then block_sequence node collection turns slot depth column ls
-    else unless (block_fault (first_text ls)) at (
+    else unless_code (block_fault (first_text ls)) at (
     if is_property (first_text ls) then fails yaml.UnexpectedCharacter at
     else (if is_flow_start (first_text ls) then flow_at collection slot.spot depth ls
     else (if is_block_start (first_text ls) || is_behind_key slot.spot then scalar_node_at slot.within ls
     else (do
-      found ← of_result (key_at ls)
+      found ← of_result (key_here ls)
       elim found [ None ↦ scalar_node_at slot.within ls | Some key ↦ block_mapping node collection turns slot.spot depth column ls key ]))))
 
 -- an alias, or an anchor and its node, on no key

@@ -10,7 +10,8 @@ use Rattle.al_base.specs.Limits.{longest_key}
 use Rattle.al_scalar.specs.Line.{Cell, Line, start, cut, is_blank, indent, is_empty, is_all_blank, begins, begins_blank}
 use Rattle.al_scalar.specs.Line.{is_blank_or_end, is_comment, is_document_marker, blanks_dropped, spaces_dropped}
 use Rattle.al_scalar.specs.Places.{first_text, first_end}
-use Rattle.al_scalar.specs.Taken.{Fault, fault}
+use Rattle.al_scalar.specs.Taken.{fault}
+use Rattle.al_scalar.specs.declared.faults.FaultAt.{FaultAt}
 use Rattle.al_scalar.specs.Plain.{is_flow_indicator, begins_flow_indicator}
 use Rattle.al_scalar.specs.Block.{at_end}
 use Rattle.al_scalar.specs.Scalar.{ScalarRead}
@@ -48,14 +49,14 @@ is_file_end ls = is_empty (first_text ls)
 
 -- The first content line of whole lines. A document marker ends the document (9.1.2), and no tab stands between the
 -- indent and the content (6.1).
-abbrev pub content_line : List Line → Result Next Fault
+abbrev pub content_line : List Line → Result Next FaultAt
 content_line ls =
     let left = spaces_dropped ls in
     if is_document_marker (first_text ls) then Ok ended
     else (if begins (ascii "\t") (first_text left) then fault yaml.TabInIndentation (start left)
     else Ok (at_line (indent (first_text ls)) left))
 
-abbrev pub content : List Line → Result Next Fault
+abbrev pub content : List Line → Result Next FaultAt
 content ls = let left = text_line ls in if is_file_end left then Ok ended else content_line left
 
 -- only blanks, and a comment after a blank
@@ -63,7 +64,7 @@ abbrev pub ends_line : List Cell → Bool
 ends_line text = is_all_blank text || (begins_blank text && is_comment text)
 
 -- Behind a node on its line nothing else may stand. Gives the whole lines left.
-abbrev pub line_ended : List Line → Result (List Line) Fault
+abbrev pub line_ended : List Line → Result (List Line) FaultAt
 line_ended ls = if ends_line (first_text ls) then Ok (whole_lines ls) else fault yaml.UnexpectedCharacter (start (blanks_dropped ls))
 
 -- the dash of a block sequence's entry (8.2.1)
@@ -109,15 +110,15 @@ flow_fault (c ∷ cs) =
     option_or (start_fault c.0 (is_blank_or_end cs)) (if misplaced then Some yaml.UnexpectedCharacter else None)
 
 -- goes on where the first character is allowed
-abbrev pub unless : {A : Type 0} → Option YamlCode → ℕ → Reading A → Reading A
-unless None at r = r
-unless (Some code) at r = fails code at
+abbrev pub unless_code : {A : Type 0} → Option YamlCode → ℕ → Reading A → Reading A
+unless_code None at r = r
+unless_code (Some code) at r = fails code at
 
 abbrev pub is_flow_start : List Cell → Bool
 is_flow_start cs = begins (ascii "[") cs || begins (ascii "{") cs
 
-abbrev pub is_quote : List Cell → Bool
-is_quote cs = begins (ascii "'") cs || begins (ascii "\"") cs
+abbrev pub starts_quoted : List Cell → Bool
+starts_quoted cs = begins (ascii "'") cs || begins (ascii "\"") cs
 
 -- the indicator of an anchor (6.9.2) or of an alias (7.1)
 abbrev pub is_property : List Cell → Bool

@@ -5,15 +5,17 @@ use Rattle.al_base.specs.declared.codes.YamlCode.TheVariants as yaml
 use Rattle.al_base.specs.Ascii.{ascii}
 use Rattle.al_scalar.specs.Line.{Cell, Line, start, cut, after_blanks, is_empty, begins, begins_blank, blanks_dropped}
 use Rattle.al_scalar.specs.Places.{first_text}
-use Rattle.al_scalar.specs.Taken.{Fault, fault}
+use Rattle.al_scalar.specs.Taken.{fault}
+use Rattle.al_scalar.specs.declared.faults.FaultAt.{FaultAt}
 use Rattle.al_scalar.specs.Plain.{flow, is_value_colon}
 use Rattle.al_scalar.specs.Block.{at_end}
-use Rattle.al_scalar.specs.Scalar.{ScalarRead, scalar_at, empty_scalar, span}
+use Rattle.al_scalar.specs.Scalar.{ScalarRead, scalar_at, empty_scalar}
+use Rattle.al_base.specs.Spans.{span}
 use Rattle.al_yaml_tree.specs.Node.{Node, Nodes, Entries, scalar, sequence, mapping}
 use Rattle.al_yaml_tree.specs.Node.{no_nodes, with_item, no_entries, with_entry, scalar_node}
 use Rattle.al_yaml_tree.specs.Reading.{Reading, gives, fails, of_result, starting_scalar, starting_collection}
 use Rattle.al_yaml_tree.specs.Reading.{gives_with_anchor, alias, Part, part, with_span, ◌>>=◌}
-use Rattle.al_yaml_tree.specs.Content.{behind, is_file_end, flow_fault, unless, is_flow_start, is_quote, is_property}
+use Rattle.al_yaml_tree.specs.Content.{behind, is_file_end, flow_fault, unless_code, is_flow_start, starts_quoted, is_property}
 use Rattle.al_yaml_tree.specs.Content.{anchor_name, behind_name, has_no_name, same_line, is_simple_key}
 
 -- What surrounds a node in a flow collection: the collection's opening bracket, and where an empty node would stand
@@ -69,8 +71,8 @@ flow_items node (suc turns) opening depth done ls =
 abbrev pub is_key_colon : Bool → List Line → Bool
 is_key_colon after_quote ls = (after_quote && begins (ascii ":") (first_text ls)) || is_value_colon flow (after_blanks (first_text ls))
 
-abbrev pub behind_colon : Bool → List Line → Option (List Line)
-behind_colon after_quote ls = if is_key_colon after_quote ls then Some (behind 1 (blanks_dropped ls)) else None
+abbrev pub behind_colon_in_flow : Bool → List Line → Option (List Line)
+behind_colon_in_flow after_quote ls = if is_key_colon after_quote ls then Some (behind 1 (blanks_dropped ls)) else None
 
 -- A value: empty before a comma or the closer.
 abbrev pub flow_value : FlowReader → FlowSlot → ℕ → List Line → Reading (Part Node)
@@ -91,18 +93,18 @@ is_late_colon left = begins (ascii ":") (first_text (gap false left)) && not (sa
 
 -- The lines behind the colon of the key that a scalar is, which stands on one line. A colon that begins a later line is
 -- refused at the key.
-abbrev pub unless_late : List Line → ScalarRead → Option (List Line) → Result (Option (List Line)) Fault
+abbrev pub unless_late : List Line → ScalarRead → Option (List Line) → Result (Option (List Line)) FaultAt
 unless_late ls r (Some left) = Ok (Some left)
 unless_late ls r None = if is_late_colon r.left then fault yaml.WrongKey (start ls) else Ok None
 
-abbrev pub key_colon : List Line → ScalarRead → Result (Option (List Line)) Fault
+abbrev pub key_colon : List Line → ScalarRead → Result (Option (List Line)) FaultAt
 key_colon ls r = if not (is_simple_key ls r) then fault yaml.WrongKey (start ls)
-    else unless_late ls r (behind_colon (is_quote (first_text ls)) r.left)
+    else unless_late ls r (behind_colon_in_flow (starts_quoted (first_text ls)) r.left)
 
 unfoldable pub flow_key : CollectionReader → ℕ → List Line → Reading FlowKey
 flow_key collection depth ls =
     let at = start ls in
-    unless (flow_fault (first_text ls)) at (
+    unless_code (flow_fault (first_text ls)) at (
     if is_property (first_text ls) then fails (if has_no_name ls then yaml.UnexpectedCharacter else yaml.AnchorOrAlias) at
     else (if is_flow_start (first_text ls) then (do
       x ← collection depth ls
@@ -136,7 +138,7 @@ flow_entries node collection (suc turns) opening depth done ls =
 -- a node without properties
 unfoldable pub flow_content : CollectionReader → FlowSlot → ℕ → List Line → Reading (Part Node)
 flow_content collection slot depth ls =
-    unless (flow_fault (first_text ls)) (start ls) (
+    unless_code (flow_fault (first_text ls)) (start ls) (
     if is_property (first_text ls) then fails yaml.UnexpectedCharacter (start ls)
     else (if is_flow_start (first_text ls) then collection depth ls
     else starting_scalar (start ls) (do

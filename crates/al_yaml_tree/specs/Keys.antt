@@ -8,9 +8,9 @@ use Rattle.al_scalar.specs.Line.{Cell, Line, start, cut, after_blanks, begins, b
 use Rattle.al_scalar.specs.Places.{first_text}
 use Rattle.al_scalar.specs.Plain.{block, is_value_colon}
 use Rattle.al_scalar.specs.Scalar.{ScalarRead, scalar_at}
-use Rattle.al_scalar.specs.Taken.{Fault}
+use Rattle.al_scalar.specs.declared.faults.FaultAt.{FaultAt}
 use Rattle.al_yaml_tree.specs.Reading.{Reading, gives, fails, of_result, starting_scalar, ◌>>=◌}
-use Rattle.al_yaml_tree.specs.Content.{is_skipped, behind, is_dash, block_fault, unless, is_flow_start, is_quote}
+use Rattle.al_yaml_tree.specs.Content.{is_skipped, behind, is_dash, block_fault, unless_code, is_flow_start, starts_quoted}
 use Rattle.al_yaml_tree.specs.Content.{is_property, behind_name, has_no_name, same_line, is_simple_key}
 use Rattle.al_yaml_tree.specs.Flow.{CollectionReader}
 
@@ -30,31 +30,31 @@ with_lines rest [] = []
 with_lines rest (l ∷ ls) = cut (first_text rest) l ls
 
 -- a plain scalar as far as it stands on its line
-abbrev pub plain_on_line : List Line → Result ScalarRead Fault
+abbrev pub plain_on_line : List Line → Result ScalarRead FaultAt
 plain_on_line ls = elim (scalar_at (block 0) (one_line ls)) [ Ok r ↦ Ok (record r { left = with_lines r.left ls }) | Err f ↦ Err f ]
 
 -- a scalar as far as it tells whether a key begins here: a plain one on its line, a quoted one whole
-abbrev pub key_scalar : List Line → Result ScalarRead Fault
-key_scalar ls = if is_quote (first_text ls) then scalar_at (block 0) ls else plain_on_line ls
+abbrev pub key_scalar : List Line → Result ScalarRead FaultAt
+key_scalar ls = if starts_quoted (first_text ls) then scalar_at (block 0) ls else plain_on_line ls
 
 -- whether a colon follows that parts a key from its value
 abbrev pub has_colon : List Line → Bool
 has_colon ls = is_value_colon (block 0) (after_blanks (first_text ls))
 
 -- the key that a scalar is, if a colon follows
-abbrev pub key_of : ScalarRead → Option Key
-key_of r = if has_colon r.left then Some (record { scalar = r; behind = behind 1 (blanks_dropped r.left) }) else None
+abbrev pub key_before_colon : ScalarRead → Option Key
+key_before_colon r = if has_colon r.left then Some (record { scalar = r; behind = behind 1 (blanks_dropped r.left) }) else None
 
 -- The key that begins here, if one does: a scalar with a colon behind it. It may be too long or span lines yet.
-abbrev pub key_at : List Line → Result (Option Key) Fault
-key_at ls = elim (key_scalar ls) [ Ok r ↦ Ok (key_of r) | Err f ↦ Err f ]
+abbrev pub key_here : List Line → Result (Option Key) FaultAt
+key_here ls = elim (key_scalar ls) [ Ok r ↦ Ok (key_before_colon r) | Err f ↦ Err f ]
 
 abbrev pub is_block_start : List Cell → Bool
 is_block_start cs = begins (ascii "|") cs || begins (ascii ">") cs
 
 -- whether a scalar on one line begins here and a colon follows it
-abbrev pub is_key : List Line → Bool
-is_key ls = elim (key_at ls) [ Ok (Some key) ↦ same_line ls key.scalar.left | _ ↦ false ]
+abbrev pub begins_key : List Line → Bool
+begins_key ls = elim (key_here ls) [ Ok (Some key) ↦ same_line ls key.scalar.left | _ ↦ false ]
 
 abbrev pub is_key_start : List Cell → Bool
 is_key_start cs = not (is_skipped cs || is_dash cs || is_property cs || is_block_start cs || is_flow_start cs || is_some (block_fault cs))
@@ -65,7 +65,7 @@ abbrev pub is_on_key : List Line → Bool
 is_on_key ls =
     let left = blanks_dropped (behind_name ls) in
     if begins (ascii "*") (first_text ls) then has_colon (behind_name ls)
-    else is_key_start (first_text left) && is_key left
+    else is_key_start (first_text left) && begins_key left
 
 -- the fault of an anchor or alias where an entry of an open mapping is due
 abbrev pub property_fault : List Line → YamlCode
@@ -79,12 +79,12 @@ collection_fault left = if has_colon left then yaml.WrongKey else yaml.Unexpecte
 unfoldable pub no_entry : {A : Type 0} → CollectionReader → ℕ → List Line → Reading A
 no_entry collection depth ls =
     let at = start ls in
-    unless (block_fault (first_text ls)) at (
+    unless_code (block_fault (first_text ls)) at (
     if is_property (first_text ls) then fails yaml.UnexpectedCharacter at
     else (if is_flow_start (first_text ls) then (do
       x ← collection depth ls
       fails yaml.UnexpectedCharacter at)
-    else (if is_quote (first_text ls) then (do
+    else (if starts_quoted (first_text ls) then (do
       r ← of_result (scalar_at (block 0) ls)
       fails yaml.UnexpectedCharacter at)
     else fails yaml.UnexpectedCharacter at)))
@@ -98,12 +98,12 @@ found_key ls (Some key) = if is_simple_key ls key.scalar then starting_scalar (s
 unfoldable pub entry_key : CollectionReader → ℕ → List Line → Reading Key
 entry_key collection depth ls =
     let at = start ls in
-    unless (block_fault (first_text ls)) at (
+    unless_code (block_fault (first_text ls)) at (
     if is_property (first_text ls) then fails (property_fault ls) at
     else (if is_dash (first_text ls) || is_block_start (first_text ls) then fails yaml.UnexpectedCharacter at
     else (if is_flow_start (first_text ls) then (do
       x ← collection depth ls
       fails (collection_fault x.left) at)
     else (do
-      found ← of_result (key_at ls)
+      found ← of_result (key_here ls)
       found_key ls found))))

@@ -2,7 +2,7 @@
 use Rattle.std.specs.Prelude.{ℕ, ◌+◌, List, [], ◌∷◌, ◌||◌, min, nat_lt, if◌then◌else◌, Option, Some, None, Result, Err}
 use Rattle.al_base.specs.Limits.{deepest_collection, most_alias_text, most_nodes}
 use Rattle.al_base.specs.declared.codes.YamlCode.TheVariants as yaml
-use Rattle.al_scalar.specs.Taken.{Fault}
+use Rattle.al_scalar.specs.declared.faults.FaultAt.{FaultAt}
 use Rattle.al_yaml_tree.specs.Reading.{Start, Outcome}
 
 -- a count in 32 bits, which stays at its greatest value
@@ -11,7 +11,7 @@ most_counted n = min n 4294967295
 
 -- The first start that breaks a limit, after so many nodes and so many bytes of text behind aliases; at one place
 -- too many nodes, or too much text, come before too deep a nesting.
-abbrev pub broken_limit : ℕ → ℕ → List Start → Option Fault
+abbrev pub broken_limit : ℕ → ℕ → List Start → Option FaultAt
 broken_limit nodes text [] = None
 broken_limit nodes text (s ∷ ss) =
     let below = broken_limit (nodes + s.nodes) (text + s.text) ss in
@@ -28,10 +28,10 @@ text_listed [] = 0
 text_listed (s ∷ ss) = s.text + text_listed ss
 
 -- the fault that comes first, or else the answer: a broken limit stands before every later fault
-abbrev pub unless_fault : {A : Type 0} → Option Fault → Result A Fault → Result A Fault
+abbrev pub unless_fault : {A : Type 0} → Option FaultAt → Result A FaultAt → Result A FaultAt
 unless_fault None r = r
 unless_fault (Some f) r = Err f
 
 -- the answer behind so many nodes and so many bytes of text, unless a limit is broken
-abbrev pub within_limits : {A : Type 0} → ℕ → ℕ → Outcome A → Result A Fault
+abbrev pub within_limits : {A : Type 0} → ℕ → ℕ → Outcome A → Result A FaultAt
 within_limits nodes text o = unless_fault (broken_limit nodes text o.starts) o.answer

@@ -6,10 +6,10 @@ use Rattle.std.specs.Str.{bytes_eq}
 use Rattle.al_base.specs.declared.codes.YamlCode.{YamlCode}
 use Rattle.al_base.specs.declared.codes.YamlCode.TheVariants as yaml
 use Rattle.al_scalar.specs.Line.{Line}
-use Rattle.al_scalar.specs.Taken.{Fault}
-use Rattle.al_scalar.specs.Scalar.{span}
+use Rattle.al_scalar.specs.declared.faults.FaultAt.{FaultAt}
+use Rattle.al_base.specs.Spans.{span}
 use Rattle.al_base.specs.declared.faults.Span.{Span}
-use Rattle.al_yaml_tree.specs.Node.{Node, nodes_in, text_in, levels_in}
+use Rattle.al_yaml_tree.specs.Node.{Node, nodes_in, text_size, levels_in}
 
 -- A start of so many nodes at a place: one, but two for a block mapping and its first key, and all those of its node
 -- for an alias, which also counts the bytes of their texts. The depth is that of the deepest collection that starts
@@ -32,20 +32,20 @@ pub record Anchor : Type 0 where
   pub node : Node
 
 -- The anchors of the nodes that are complete: by its name, the one that an alias refers to (7.1).
-abbrev pub Known : Type 0
-Known = List ℕ → Option Anchor
+abbrev pub KnownAnchors : Type 0
+KnownAnchors = List ℕ → Option Anchor
 
 -- no anchor
-abbrev pub nothing_known : Known
-nothing_known name = None
+abbrev pub no_anchors : KnownAnchors
+no_anchors name = None
 
 pub record Outcome (A : Type 0) : Type 0 where
   pub starts : List Start
-  pub answer : Result A Fault
-  pub known : Known
+  pub answer : Result A FaultAt
+  pub known : KnownAnchors
 
 abbrev pub Reading : Type 0 → Type 0
-Reading A = Known → Outcome A
+Reading A = KnownAnchors → Outcome A
 
 abbrev pub gives : {A : Type 0} → A → Reading A
 gives x known = record { starts = []; answer = Ok x; known = known }
@@ -53,7 +53,7 @@ gives x known = record { starts = []; answer = Ok x; known = known }
 abbrev pub fails : {A : Type 0} → YamlCode → ℕ → Reading A
 fails code at known = record { starts = []; answer = Err (record { code = code; at = at }); known = known }
 
-abbrev pub of_result : {A : Type 0} → Result A Fault → Reading A
+abbrev pub of_result : {A : Type 0} → Result A FaultAt → Reading A
 of_result r known = record { starts = []; answer = r; known = known }
 
 -- what is read after starts
@@ -92,7 +92,7 @@ later_of a None = Some a
 later_of a (Some b) = if nat_lt a.at b.at then Some b else Some a
 
 -- one more anchor, which may have the name of an earlier one (7.1)
-abbrev pub with_anchor : Anchor → Known → Known
+abbrev pub with_anchor : Anchor → KnownAnchors → KnownAnchors
 with_anchor a known name = if bytes_eq a.name name then later_of a (known name) else known name
 
 -- A node is complete with its anchor (6.9.2).
@@ -107,7 +107,7 @@ deepest depth (suc levels) = depth + levels
 -- An alias starts, at its indicator *, all nodes of its node (7.1), which have the depths that they have there.
 abbrev pub alias_start : ℕ → ℕ → Node → Start
 alias_start at depth n =
-    record { at = at; nodes = nodes_in n; text = text_in n; depth = deepest depth (levels_in n); alias = true }
+    record { at = at; nodes = nodes_in n; text = text_size n; depth = deepest depth (levels_in n); alias = true }
 
 -- an alias of an anchor that was found, or of none (7.1)
 abbrev pub alias_of : Option Anchor → ℕ → ℕ → Reading Node

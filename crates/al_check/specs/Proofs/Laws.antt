@@ -5,7 +5,7 @@ use Rattle.std.specs.Option.{option_map_or}
 use Rattle.std.specs.Result.{result_ok}
 use Rattle.std.proofs.Common.{ap, refl}
 use Rattle.std.proofs.lemmas.List.Elements.{recursion_from_All}
-use Rattle.al_scalar.specs.Taken as yaml
+use Rattle.al_scalar.specs.declared.faults.FaultAt.{FaultAt}
 use Rattle.al_tree.proofs.ShapeSpans.{root_lies}
 use Rattle.std.specs.List.Sorted.{IsStrictlySortedBy}
 use Rattle.al_base.proofs.FaultLists.{AllByRecursion-fault_list, IsStrictlySortedBy-fault_list}
@@ -23,14 +23,14 @@ use Rattle.al_yaml_tree.specs.Laws.{IsTreeLaid}
 use Rattle.al_check_expressions.proofs.Inside.{expression_faults_lie}
 use Rattle.al_check_expressions.specs.FileExpressions.{expression_faults}
 use Rattle.al_base.specs.declared.codes.CallCode.TheVariants.{LeadsBack}
-use Rattle.al_check_interfaces.specs.Uses.{Call, calls_in, loop_faults, target_in, targets_of, that_uses}
+use Rattle.al_check_interfaces.specs.Uses.{Call, calls_in, cycle_faults, target_in, targets_of, that_uses}
 use Rattle.al_check_interfaces.proofs.Inside.{calls_lie, wrong_uses_lie}
 use Rattle.al_session_folder.specs.declared.lint.Target.{Target}
 use Rattle.al_check.specs.Calling.{file_targets}
 use Rattle.al_check.specs.Sites.{file_sites}
 use Rattle.al_check_calls.proofs.Inside.{call_faults_lie}
 use Rattle.al_check_calls.specs.Answers.{Answered, calls_with_answers, answered_faults}
-use Rattle.al_check_calls.specs.FileCalls.{behind_faults, known_by, typing}
+use Rattle.al_check_calls.specs.FileCalls.{behind_faults, known_from_calls, typing}
 use Rattle.al_expr_typing.proofs.Inside.{both_lie}
 use Rattle.al_rules.proofs.Lying.{rules_lie}
 use Rattle.al_tree.specs.Faults.{root_faults}
@@ -59,9 +59,10 @@ module _ (size : ℕ) (kind : FileKind) (root : Node) (i : IsInside size root) (
 
   behind_lie : AllLie size (behind_faults kind root answers)
   behind_lie =
-      both_lie size (expression_faults kind (known_by calls) root) (flat_map (answered_faults (typing kind (known_by calls) root)) calls)
-      (expression_faults_lie size kind (known_by calls) root w f)
-      (call_faults_lie size kind (typing kind (known_by calls) root) root answers i)
+      both_lie size (expression_faults kind (known_from_calls calls) root)
+      (flat_map (answered_faults (typing kind (known_from_calls calls) root)) calls)
+      (expression_faults_lie size kind (known_from_calls calls) root w f)
+      (call_faults_lie size kind (typing kind (known_from_calls calls) root) root answers i)
 
   abbrev all_faults : List Fault
   all_faults = own_faults kind root ++ behind_faults kind root answers
@@ -82,13 +83,13 @@ module _ (size : ℕ) (kind : FileKind) (root : Node) (i : IsInside size root) (
       AllByRecursion-fault_list (λ (x : Fault). LiesIn size x.span) (map printed_fault all_faults)
       (printed_lie size all_faults found_lie)
 
-abbrev faults_given : FileKind → List ℕ → List (Option Interface) → Result Node yaml.Fault → List Fault
+abbrev faults_given : FileKind → List ℕ → List (Option Interface) → Result Node FaultAt → List Fault
 faults_given kind bytes answers read = elim read [
   | Ok root ↦ document_faults kind root answers
   | Err fault ↦ record { span = fault_span bytes fault.at; code = code.Yaml fault.code; args = [] } ∷ []
 ]
 
-given_lies : (kind : FileKind) (bytes : List ℕ) (answers : List (Option Interface)) (read : Result Node yaml.Fault) →
+given_lies : (kind : FileKind) (bytes : List ℕ) (answers : List (Option Interface)) (read : Result Node FaultAt) →
     IsTreeLaid bytes read → IfOk read (IsInside (length bytes)) → IfOk read (IsLaid (length bytes)) → IfOk read (AreFrom (length bytes)) →
     AllLie (length bytes) (faults_given kind bytes answers read)
 given_lies kind bytes answers (Ok root) there i w f = document_lies (length bytes) kind root i w f answers
@@ -103,7 +104,7 @@ one_sorted : (f : Fault) → IsStrictlySortedBy fault_cmp (f ∷ [])
 unfolding IsStrictlySortedBy
 one_sorted f = (tt, tt)
 
-given_ordered : (kind : FileKind) (bytes : List ℕ) (answers : List (Option Interface)) (read : Result Node yaml.Fault) →
+given_ordered : (kind : FileKind) (bytes : List ℕ) (answers : List (Option Interface)) (read : Result Node FaultAt) →
     IsStrictlySortedBy fault_cmp (faults_given kind bytes answers read)
 given_ordered kind bytes answers (Ok root) =
     IsStrictlySortedBy-fault_list (map printed_fault (own_faults kind root ++ behind_faults kind root answers))
@@ -115,17 +116,17 @@ faults_ordered kind bytes answers = given_ordered kind bytes answers (tree_of by
 
 -- each call has a site
 
-sited_calls : (cs : List Call) → length (loop_faults cs) ≡ length (targets_of cs)
+sited_calls : (cs : List Call) → length (cycle_faults cs) ≡ length (targets_of cs)
 sited_calls [] = refl
 sited_calls (c ∷ cs) = put (target_in c.form) (sited_calls cs)
   where
-    put : (o : Option Target) → length (loop_faults cs) ≡ length (targets_of cs) →
-        length (cons_option (option_map (λ t. that_uses LeadsBack c) o) (loop_faults cs)) ≡ length (cons_option o (targets_of cs))
+    put : (o : Option Target) → length (cycle_faults cs) ≡ length (targets_of cs) →
+        length (cons_option (option_map (λ t. that_uses LeadsBack c) o) (cycle_faults cs)) ≡ length (cons_option o (targets_of cs))
     put None h = h
     put (Some t) h = ap suc h
 
-given_sited : (kind : FileKind) (read : Result Node yaml.Fault) →
-    length (option_map_or (λ root. loop_faults (calls_in kind root)) (result_ok read) [])
+given_sited : (kind : FileKind) (read : Result Node FaultAt) →
+    length (option_map_or (λ root. cycle_faults (calls_in kind root)) (result_ok read) [])
     ≡ length (option_map_or (λ root. targets_of (calls_in kind root)) (result_ok read) [])
 given_sited kind (Ok root) = sited_calls (calls_in kind root)
 given_sited kind (Err fault) = refl
@@ -135,17 +136,17 @@ each_sited kind bytes = given_sited kind (tree_of bytes)
 
 -- and it lies in the file
 
-loops_lie : (size : ℕ) (cs : List Call) → AllByRecursion (CallLies size) cs → AllLie size (loop_faults cs)
+loops_lie : (size : ℕ) (cs : List Call) → AllByRecursion (CallLies size) cs → AllLie size (cycle_faults cs)
 loops_lie size [] h = tt
 loops_lie size (c ∷ cs) h = put (target_in c.form) (loops_lie size cs h.1)
   where
-    put : (o : Option Target) → AllLie size (loop_faults cs) →
-        AllLie size (cons_option (option_map (λ t. that_uses LeadsBack c) o) (loop_faults cs))
+    put : (o : Option Target) → AllLie size (cycle_faults cs) →
+        AllLie size (cons_option (option_map (λ t. that_uses LeadsBack c) o) (cycle_faults cs))
     put None rest = rest
     put (Some t) rest = (h.0.0, rest)
 
-given_sites_lie : (kind : FileKind) (bytes : List ℕ) (read : Result Node yaml.Fault) → IfOk read (IsInside (length bytes)) →
-    AllLie (length bytes) (option_map_or (λ root. loop_faults (calls_in kind root)) (result_ok read) [])
+given_sites_lie : (kind : FileKind) (bytes : List ℕ) (read : Result Node FaultAt) → IfOk read (IsInside (length bytes)) →
+    AllLie (length bytes) (option_map_or (λ root. cycle_faults (calls_in kind root)) (result_ok read) [])
 given_sites_lie kind bytes (Ok root) i = loops_lie (length bytes) (calls_in kind root) (calls_lie (length bytes) kind root i)
 given_sites_lie kind bytes (Err fault) i = tt
 

@@ -20,7 +20,7 @@ use Rattle.al_check_interfaces.specs.declared.interfaces.ParameterKind.TheVarian
 use Rattle.al_check_interfaces.specs.declared.interfaces.Signature.{Signature}
 use Rattle.al_check_interfaces.specs.Uses.{Call}
 use Rattle.al_check_calls.specs.Answers.{Answered, Typing, values_in}
-use Rattle.al_check_calls.specs.CallFaults.{called_name, caller_of, fault, given_by, missing_code, missing_name, name_faults}
+use Rattle.al_check_calls.specs.CallFaults.{call_fault, called_name, caller_of, given_by, missing_code, missing_name, name_faults}
 use Rattle.al_check_calls.specs.CallFaults.{names_against, signature_for, undefined_name, uses_faults, value_faults}
 
 -- all but those of names
@@ -116,7 +116,7 @@ abbrev pub gives : Comparison → Parameter → Bool
 gives q p = named_among (names_of (given_by q.kind q.call.site.node)) p.name
 
 abbrev pub missing_fault : Comparison → Parameter → Fault
-missing_fault q p = fault (missing_code q.kind) q.call q.call.at (p.name ∷ called_name q.call q.signature ∷ [])
+missing_fault q p = call_fault (missing_code q.kind) q.call q.call.at (p.name ∷ called_name q.call q.signature ∷ [])
 
 abbrev pub fault_unless_given : Comparison → Parameter → List Fault
 fault_unless_given q = missing_name q.kind q.call q.signature

@@ -13,14 +13,14 @@ use Rattle.al_tree.specs.declared.files.FileKind.{FileKind}
 use Rattle.al_tree.specs.declared.files.FileKind.TheVariants as kind
 use Rattle.al_check_interfaces.specs.Interfaces.{interface_of}
 use Rattle.al_check_interfaces.specs.declared.interfaces.Interface.{Interface}
-use Rattle.al_check_calls.specs.Answers.{faults_in}
+use Rattle.al_check_calls.specs.Answers.{call_faults_in}
 
 abbrev pub found : CallCode → Caller → Span → List (List ℕ) → Fault
 found c by span args = record { span = span; code = code_of.Call c by; args = args }
 
 -- the faults of the calls of a workflow, where what is given has one type
 abbrev pub faults_with : Type' → Node → List (Option Interface) → List Fault
-faults_with t root answers = faults_in kind.Workflow (λ site key s. t) root answers
+faults_with t root answers = call_faults_in kind.Workflow (λ site key s. t) root answers
 
 abbrev pub faults_of : Node → List (Option Interface) → List Fault
 faults_of = faults_with Any

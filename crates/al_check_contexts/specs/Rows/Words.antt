@@ -8,7 +8,7 @@ use Rattle.al_types.specs.Types as types
 use Rattle.al_types.specs.Types.{Type', Optional, Absent, Present}
 use Rattle.al_check_places.specs.Places.{places_of}
 use Rattle.al_scalar.specs.Scalar.{text_of}
-use Rattle.al_check_contexts.specs.Contexts.{nothing_known, type_at}
+use Rattle.al_check_contexts.specs.Contexts.{context_type_at, nothing_known}
 use Rattle.al_yaml_tree.specs.Node.{Node, Nodes, Entries, scalar, sequence, mapping, no_nodes, item, no_entries, entry}
 use Rattle.al_tree.specs.declared.files.FileKind.{FileKind}
 
@@ -131,7 +131,7 @@ Row = ℕ × List ℕ × Written
 
 abbrev pub is_row : List (List ℕ) → FileKind → Node → Row → Bool
 is_row ns k n r =
-    option_map_or (λ p. option_map_or (λ c. is_type ns r.2 (type_at k nothing_known n p.position c)) (context_of r.1) false)
+    option_map_or (λ p. option_map_or (λ c. is_type ns r.2 (context_type_at k nothing_known n p.position c)) (context_of r.1) false)
     (find (λ p. p.at.start == r.0) (places_of k n)) false
 
 abbrev pub names_in_rows : List Row → List (List ℕ)

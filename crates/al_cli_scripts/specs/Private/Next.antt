@@ -29,14 +29,14 @@ IsNext bytes Wrong = IsWrong bytes
 
 -- ---- the parts of a line
 
-abbrev pub line_meaning : Line → script.Line
+abbrev pub line_meaning : Line → script.ScriptLine
 line_meaning (line.Put path len) = script.PutLine path.now len
 line_meaning (line.Delete path) = script.DeleteLine path.now
 line_meaning line.Report = script.ReportLine
 
 -- the line that has these bytes, or none has
 abbrev pub IsLineOf : List ℕ → Option Line → Type 0
-IsLineOf bytes result = MatchOption result ((l : script.Line) → IsLine l → bytes ≢ line_bytes l)
+IsLineOf bytes result = MatchOption result ((l : script.ScriptLine) → IsLine l → bytes ≢ line_bytes l)
     (λ l. IsLine (line_meaning l) × (bytes ≡ line_bytes (line_meaning l)))
 
 -- a path, a space and a length, or they are none
@@ -49,7 +49,7 @@ abbrev pub IsLengthOf : List ℕ → Option ℕ → Type 0
 IsLengthOf digits result = MatchOption result ((len : ℕ) → len < 10 ^ 7 → digits ≢ decimal len)
     (λ len. (len < 10 ^ 7) × (digits ≡ decimal len))
 
--- a put's line stands at the front, and its LF at this place
+-- a put's line stands at the beginning, and its LF at this place
 abbrev pub IsPutLine : List ℕ → ℕ → List ℕ → ℕ → Type 0
 IsPutLine bytes end path len = (end < length bytes) × IsLine (script.PutLine path len)
     × (take end bytes ≡ line_bytes (script.PutLine path len)) × (slice_index bytes end ≡ 10)

@@ -12,8 +12,9 @@ use Rattle.al_expr_grammar.specs.declared.chunk.ChunkState.{ChunkState}
 use Rattle.al_expr_grammar.specs.declared.chunk.ChunkState.TheVariants.{Outside, Inside, Quoted}
 use Rattle.al_expr_grammar.specs.declared.chunk.Move.{Move}
 use Rattle.al_expr_grammar.specs.declared.chunk.Move.TheVariants.{On, End}
-use Rattle.al_expr_grammar.specs.Tokens.{is_quote, span}
-use Rattle.al_expr_grammar.specs.Refusal.{fault}
+use Rattle.al_expr_grammar.specs.Tokens.{is_quote}
+use Rattle.al_base.specs.Spans.{span}
+use Rattle.al_expr_grammar.specs.Refusal.{expression_fault}
 
 -- How many bytes of a content stand before the first `}}` outside quotes, behind those of it that come first.
 abbrev pub before_closing_on : List ℕ → List ℕ → Option ℕ
@@ -25,8 +26,8 @@ before_closing_on front (b ∷ bs) =
 -- what is wrong at the text's end
 abbrev pub end_fault : ChunkState → Option Fault
 end_fault Outside = None
-end_fault (Inside start) = Some (fault code.UnclosedChunk (span (start - 3) start) [])
-end_fault (Quoted start quote) = Some (fault code.UnclosedText (span quote (quote + 1)) [])
+end_fault (Inside start) = Some (expression_fault code.UnclosedChunk (span (start - 3) start) [])
+end_fault (Quoted start quote) = Some (expression_fault code.UnclosedText (span quote (quote + 1)) [])
 
 -- What a byte leads to: where the reader is behind it and how many bytes more it skips, or the end of the chunk from this state.
 abbrev pub move : ChunkState → ℕ → List ℕ → Move

@@ -6,11 +6,12 @@ use Rattle.al_expr_grammar.specs.declared.lexer.LexError.TheVariants as error
 use Rattle.al_expr_grammar.specs.declared.lexer.Read.{Read}
 use Rattle.al_expr_grammar.specs.declared.lexer.Read.TheVariants.{Blank, Token, BadCharacter, OpenText}
 use Rattle.al_expr_grammar.specs.Lexeme.{Lexeme, lexeme}
-use Rattle.al_expr_grammar.specs.Tokens.{Lexed, AllRead, Bad, Unclosed, character_at, read, span, then_token}
+use Rattle.al_expr_grammar.specs.Tokens.{Lexed, AllRead, Bad, Unclosed, character_span, read, then_token}
+use Rattle.al_base.specs.Spans.{span}
 
 abbrev pub continue_with : Read → ℕ → List ℕ → (ℕ → Lexed) → Lexed
 continue_with Blank at bs go = go 0
-continue_with BadCharacter at bs go = Bad (character_at at bs)
+continue_with BadCharacter at bs go = Bad (character_span at bs)
 continue_with OpenText at bs go = Unclosed
 continue_with (Token k n) at bs go = then_token (lexeme k (take n bs) (span at (at + n))) (go (n - 1))
 

@@ -5,7 +5,7 @@ use Rattle.al_expr_grammar.specs.declared.token.Operator.TheVariants as operator
 use Rattle.al_expr_grammar.specs.declared.token.TokenKind.{TokenKind}
 use Rattle.al_expr_grammar.specs.declared.token.TokenKind.TheVariants as kind
 use Rattle.al_expr_grammar.specs.Lexeme.{Lexeme, lexeme}
-use Rattle.al_expr_grammar.specs.Tokens.{span}
+use Rattle.al_base.specs.Spans.{span}
 
 -- a token of such a kind and text at a place
 abbrev pub token : TokenKind → List ℕ → ℕ → Lexeme

@@ -1,6 +1,6 @@
 -- What the program's own types stand for.
 use Rattle.std.specs.Prelude.{ℕ, List, map, find, Option, option_map}
-use Rattle.al_tree.specs.Names.{among}
+use Rattle.al_base.specs.Names.{among}
 use Rattle.al_rules.specs.declared.names.Activities.{Activities}
 
 abbrev pub activity_row : Activities → List (List ℕ) × List (List ℕ)

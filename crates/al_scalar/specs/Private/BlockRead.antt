@@ -3,7 +3,8 @@ use Rattle.std.specs.Prelude.{◌≡◌, ℕ, List, [], ◌∷◌, ◌++◌, len
 use Rattle.std.specs.Prelude.{None, Result, Ok, Err, cond, nat_le, if◌then◌else◌}
 use Rattle.al_base.specs.Ascii.{ascii}
 use Rattle.al_scalar.specs.Line.{Cell, Line, is_all_blank, indent}
-use Rattle.al_scalar.specs.Taken.{Fault, Taken, with_text}
+use Rattle.al_scalar.specs.Taken.{Taken, with_text}
+use Rattle.al_scalar.specs.declared.faults.FaultAt.{FaultAt}
 use Rattle.al_base.specs.declared.codes.YamlCode.TheVariants.{WrongBlockHeader}
 use Rattle.al_scalar.specs.Places.{lines_at, text_at}
 use Rattle.al_scalar.specs.LineEnds.{cells_between, OnLine}
@@ -26,7 +27,7 @@ last_row None = None
 last_row (Some l) = Some (row_like l.spaced (l.at ∷ []))
 
 -- the indicators of a header read, and what comes behind them left
-pub record Indicates (bytes : List ℕ) (at : ℕ) (asked : Result Header Fault) (h : Header) : Type 0 where
+pub record Indicates (bytes : List ℕ) (at : ℕ) (asked : Result Header FaultAt) (h : Header) : Type 0 where
   pub given : asked ≡ block.header_end h (text_at bytes h.end)
   pub on_line : OnLine bytes at h.end
 

@@ -6,7 +6,8 @@ use Rattle.al_base.specs.declared.codes.YamlCode.TheVariants as yaml
 use Rattle.al_scalar.specs.Line.{Cell}
 use Rattle.al_scalar.specs.Places.{lines_at, text_at}
 use Rattle.al_scalar.specs.LineEnds.{later, cells_between, OnLine, IsBreakByte, IsLineEnd}
-use Rattle.al_scalar.specs.Taken.{Fault, Taken, before}
+use Rattle.al_scalar.specs.Taken.{Taken, before}
+use Rattle.al_scalar.specs.declared.faults.FaultAt.{FaultAt}
 use Rattle.al_scalar.specs.Quoted.{double_part, quoted_lines, double_quoted, character_cells, hex_digit}
 use Rattle.al_scalar.specs.Private.Folding.{break_of}
 use Rattle.al_scalar.specs.declared.double.Mark.{Mark}
@@ -27,7 +28,7 @@ abbrev pub EndsRun : List ℕ → ℕ → Type 0
 EndsRun bytes at = at < length bytes → IsBreakByte (slice_index bytes at) ⊎ IsMarkByte (slice_index bytes at)
 
 -- what is read behind the break at an offset
-abbrev pub read_behind : List ℕ → ℕ → Bool → ℕ → Result Taken Fault
+abbrev pub read_behind : List ℕ → ℕ → Bool → ℕ → Result Taken FaultAt
 read_behind bytes end escaped quote = quoted_lines (double_part) quote (break_of escaped end) (later (lines_at bytes end))
 
 abbrev pub GivesMark : List ℕ → ℕ → Mark → Type 0

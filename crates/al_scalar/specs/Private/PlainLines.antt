@@ -2,7 +2,8 @@
 use Rattle.std.specs.Prelude.{◌≡◌, ◌<◌, ◌≤◌, ◌⊎◌, length, slice_index}
 use Rattle.std.specs.Prelude.{ℕ, List, [], ◌∷◌, Bool, true, false, not, ◌&&◌, if◌then◌else◌, Result, Ok}
 use Rattle.al_scalar.specs.Line.{Cell, Line, after_blanks, is_empty, is_all_blank}
-use Rattle.al_scalar.specs.Taken.{Fault, Taken, feeds, folded_break}
+use Rattle.al_scalar.specs.Taken.{Taken, feeds, folded_break}
+use Rattle.al_scalar.specs.declared.faults.FaultAt.{FaultAt}
 use Rattle.al_scalar.specs.Plain.{Context, flow, block, plain_part, plain_lines}
 use Rattle.al_scalar.specs.Places.{first_text, first_end, lines_at, text_at}
 use Rattle.al_scalar.specs.LineEnds.{cells_between, later}
@@ -45,7 +46,7 @@ abbrev pub here_at : List ℕ → ℕ → Taken
 here_at bytes end = record { text = []; end = end; left = lines_at bytes end }
 
 -- what is read behind a part of the scalar that ends at an offset
-abbrev pub after_part : Context → List ℕ → ℕ → Result Taken Fault
+abbrev pub after_part : Context → List ℕ → ℕ → Result Taken FaultAt
 after_part p bytes end =
     let ls = lines_at bytes end in
     let below = plain_lines p (here_at bytes end) (first_end ls) [] (later ls) in

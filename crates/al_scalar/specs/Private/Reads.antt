@@ -6,7 +6,7 @@ use Rattle.al_scalar.specs.declared.reads.Taken.{Taken}
 use Rattle.al_scalar.specs.declared.faults.FaultAt.{FaultAt}
 
 -- what is asked of the lines is what was read of the bytes
-abbrev pub Gives : List ℕ → Result lines.Taken lines.Fault → Result Taken FaultAt → Type 0
+abbrev pub Gives : List ℕ → Result lines.Taken FaultAt → Result Taken FaultAt → Type 0
 Gives bytes asked (Ok t) = asked ≡ Ok (record { text = t.text; end = t.end; left = lines_at bytes t.next })
 Gives bytes asked (Err f) = asked ≡ Err (record { code = f.code; at = f.at })
 

@@ -10,7 +10,7 @@ use Rattle.al_session.specs.declared.indexed.IndexedFiles.{IndexedFiles}
 -- The files of the folder that was wanted, linted: the affected ones were checked, each once.
 pub record IsEdited {U I : Type 0} (eq : I → I → Bool) (m : Meaning I) (is_unit : U → List ℕ → List ℕ → Type 0) (before : IndexedFiles U I)
     (wanted : Folder) (checks_before : ℕ) (paths : List (List ℕ)) (now : IndexedFiles U I) (checks_now : ℕ) : Type 0 where
-  pub linted : IsLinted m is_unit now checks_now
+  pub linted : IsLinted m is_unit now
   pub folder : folder_in now ≡ wanted
   pub rechecked : paths ≡ affected_paths eq m (folder_in before) wanted
   pub checks : checks_now ≡ count_after checks_before (length paths)
@@ -18,7 +18,7 @@ pub record IsEdited {U I : Type 0} (eq : I → I → Bool) (m : Meaning I) (is_u
 -- The files as they were, where memory ended before all was done: at most the affected files were checked.
 pub record IsUndone {U I : Type 0} (eq : I → I → Bool) (m : Meaning I) (is_unit : U → List ℕ → List ℕ → Type 0) (before : IndexedFiles U I)
     (wanted : Folder) (checks_before : ℕ) (now : IndexedFiles U I) (checks_now : ℕ) : Type 0 where
-  pub linted : IsLinted m is_unit now checks_now
+  pub linted : IsLinted m is_unit now
   pub as_before : now.files.entries ≡ before.files.entries
   pub few_checks :
       IsUpTo checks_before checks_now (length (affected_paths eq m (folder_in before) wanted))

@@ -7,7 +7,7 @@ use Rattle.al_yaml_tree.specs.Node.{Node}
 use Rattle.al_yaml_tree.specs.View.{entries_of}
 use Rattle.al_tree.specs.Faults.{entries_faults, faults, keyed_faults, mapping_shape}
 use Rattle.al_tree.specs.Keys.{keys_in}
-use Rattle.al_tree.specs.Names.{among}
+use Rattle.al_base.specs.Names.{among}
 use Rattle.al_tree.specs.Table.{rule}
 use Rattle.al_tree.specs.declared.check.Demand as rust
 

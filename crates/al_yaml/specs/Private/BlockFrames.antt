@@ -2,7 +2,8 @@
 use Rattle.std.specs.Prelude.{◌≡◌, ℕ, suc, ◌+◌, ◌<◌, ◌≤◌, List, length, map, Bool, true, if◌then◌else◌, Option, Some, None, Result, Ok, Err}
 use Rattle.al_scalar.specs.Line.{Line}
 use Rattle.al_scalar.specs.Places.{first_text, lines_at, text_at}
-use Rattle.al_scalar.specs.Scalar.{ScalarRead, span}
+use Rattle.al_scalar.specs.Scalar.{ScalarRead}
+use Rattle.al_base.specs.Spans.{span}
 use Rattle.al_scalar.specs.ReadScalar.{read_of}
 use Rattle.al_yaml_tree.specs.Node.{Node, Nodes, Entries, sequence, mapping, with_item, with_entry, scalar_node}
 use Rattle.al_yaml_tree.specs.Reading.{Reading, gives, Part, part, with_span, ◌>>=◌}
@@ -14,7 +15,7 @@ use Rattle.al_yaml_parts.specs.BlockReads.{IsKeyBehind, IsTabInside, key_seen, s
 use Rattle.al_yaml_parts.specs.Answers.{Answer, Mark, then_read, noting}
 use Rattle.al_yaml_parts.specs.Answers.{mark_of}
 use Rattle.al_yaml_parts.specs.Places.{next_of, IsLineFrom}
-use Rattle.al_yaml_parts.specs.Reads.{State, run, Stops, IsBehind, part_of}
+use Rattle.al_yaml_parts.specs.Reads.{State, run, FailsWith, IsBehind, part_of}
 use Rattle.al_yaml_tree.specs.View.{view, entry_view, nodes_of, entries_of}
 use Rattle.al_yaml_parts.specs.declared.faults.ReadError.{ReadError}
 use Rattle.al_yaml_parts.specs.declared.part.Part as code
@@ -146,7 +147,7 @@ Begins bytes bound depth reading before (Ok (task.Node x)) after =
     ≡ noting (mark_of bytes x.anchor)
     (run after (node_reader (suc bound) x.anchor (slot_of x.slot) depth x.start.column (lines_at bytes x.start.at)))
 Begins bytes bound depth reading before (Ok (task.Found r)) after = run before reading ≡ Ok (part_of bytes r.part, after)
-Begins bytes bound depth reading before (Err e) after = Stops reading before e
+Begins bytes bound depth reading before (Err e) after = FailsWith reading before e
 
 -- a node in a collection that begins at an offset was read, and the line behind it
 pub record IsReadBefore (bytes : List ℕ) (r : before_type.PartBefore) : Type 0 where
@@ -167,7 +168,7 @@ FindsBlock bytes node anchor depth reading before (Ok (task.Found r)) after =
     noting (mark_of bytes anchor) (run before reading) ≡ Ok (part_of bytes r.part, after)
 FindsBlock bytes node anchor depth reading before (Ok (task.Read p)) after = ⊥
 FindsBlock bytes node anchor depth reading before (Ok (task.Inside x)) after = ⊥
-FindsBlock bytes node anchor depth reading before (Err e) after = Stops reading before e
+FindsBlock bytes node anchor depth reading before (Err e) after = FailsWith reading before e
 
 -- ---- where it lies
 
@@ -206,7 +207,7 @@ abbrev pub Enters : List ℕ → ℕ → ℕ → ℕ → ℕ → ℕ → Reading
     Result (waiting_type.BlockWaiting × task_type.BlockTask) ReadError → State → Type 0
 Enters bytes bound turns depth start column reading before (Ok r) after =
     EntersWith bytes bound turns depth start column reading before r.0 r.1 after
-Enters bytes bound turns depth start column reading before (Err e) after = Stops reading before e
+Enters bytes bound turns depth start column reading before (Err e) after = FailsWith reading before e
 
 abbrev pub ResumesBlock : List ℕ → ℕ → ℕ → ℕ → ℕ → ℕ → Option ℕ → BlockWaiting → Part Node → State
     → Result task_type.BlockTask ReadError → State → Type 0
@@ -219,7 +220,7 @@ ResumesBlock bytes bound turns depth start column mark w x before (Ok (task.Foun
 ResumesBlock bytes bound turns depth start column mark w x before (Ok (task.Read p)) after = ⊥
 ResumesBlock bytes bound turns depth start column mark w x before (Ok (task.Node n)) after = ⊥
 ResumesBlock bytes bound turns depth start column mark w x before (Err e) after =
-    Stops (block_waits turns bound depth start column w x) before e
+    FailsWith (block_waits turns bound depth start column w x) before e
 
 abbrev pub IsEntered : List ℕ → ℕ → waiting_type.BlockWaiting × task_type.BlockTask → Type 0
 IsEntered bytes at r = IsFoundFrom bytes (suc at) r.1

@@ -7,7 +7,6 @@ use Rattle.al_yaml_tree.specs.Flow.{flow_collection}
 use Rattle.al_yaml.specs.Private.FlowFrames.{closed_of, frame_of, open_of}
 use Rattle.al_yaml.specs.Private.Frames.{Open, Frame, open_rest, frame_rest}
 use Rattle.al_yaml_parts.specs.Answers.{Answer, then_read, noting}
-use Rattle.al_yaml_parts.specs.Places.{fault_of}
 use Rattle.al_yaml_parts.specs.Reads.{State, run, part_of}
 use Rattle.al_yaml_parts.specs.declared.faults.ReadError.{ReadError}
 use Rattle.al_yaml_parts.specs.declared.faults.ReadError.TheVariants as stop
@@ -55,7 +54,7 @@ pub record Behind (bytes : List ℕ) (depth : ℕ) (whole : NodeAnswer) (fs : Li
   pub same : whole_answer depth bound fs rest (Ok (part_of bytes p, n)) ≡ whole
 
 abbrev pub WholeStops : NodeAnswer → ReadError → Type 0
-WholeStops whole (stop.Fault f) = whole ≡ Err (fault_of f)
+WholeStops whole (stop.Fault f) = whole ≡ Err f
 WholeStops whole stop.Memory = Unit {0}
 
 -- What stands next in the innermost collection.

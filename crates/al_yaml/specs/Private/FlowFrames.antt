@@ -3,7 +3,7 @@ use Rattle.std.specs.Prelude.{◌≡◌, ℕ, suc, ◌+◌, ◌<◌, ◌≤◌, 
 use Rattle.al_scalar.specs.ReadScalar.{read_of}
 use Rattle.al_scalar.specs.Line.{begins}
 use Rattle.al_scalar.specs.Places.{lines_at, text_at}
-use Rattle.al_scalar.specs.Scalar.{span}
+use Rattle.al_base.specs.Spans.{span}
 use Rattle.al_scalar.specs.declared.scalars.ScalarRead.{ScalarRead}
 use Rattle.al_yaml_tree.specs.Node as tree
 use Rattle.al_yaml_tree.specs.Reading.{Reading, Part, part}
@@ -12,7 +12,7 @@ use Rattle.al_yaml_tree.specs.Flow as flow
 use Rattle.al_yaml.specs.Private.Frames as frames
 use Rattle.al_yaml.specs.Private.Frames.{open_rest, waiting_rest}
 use Rattle.al_yaml_parts.specs.Answers.{Answer, then_read, noting}
-use Rattle.al_yaml_parts.specs.Reads.{State, run, Stops}
+use Rattle.al_yaml_parts.specs.Reads.{State, run, FailsWith}
 use Rattle.al_yaml_tree.specs.View.{view, entry_view, nodes_of, entries_of}
 use Rattle.al_yaml_parts.specs.FlowReads.{IsBracket}
 use Rattle.al_yaml_parts.specs.Answers.{mark_of}
@@ -94,12 +94,12 @@ Steps bytes depth opening reading before has (Ok (step.Opens b)) s =
     (c : CollectionReader) (turns : ℕ) → run before (reading c (suc turns))
     ≡ then_read (noting (mark_of bytes b.anchor) (run s (c depth (lines_at bytes b.at))))
     (waiting_rest c turns depth opening (waiting_of bytes b.at has))
-Steps bytes depth opening reading before has (Err e) s = (c : CollectionReader) (turns : ℕ) → Stops (reading c (suc turns)) before e
+Steps bytes depth opening reading before has (Err e) s = (c : CollectionReader) (turns : ℕ) → FailsWith (reading c (suc turns)) before e
 
 abbrev pub Resumes : List ℕ → ℕ → ℕ → frames.Waiting → Part tree.Node → State → frames.Open → Result After ReadError → Type 0
 Resumes bytes depth opening w x s has (Ok next) =
     GoesOn bytes depth opening (λ c turns. run s (waiting_rest c turns depth opening w x)) has next s
-Resumes bytes depth opening w x s has (Err e) = (c : CollectionReader) (turns : ℕ) → Stops (waiting_rest c turns depth opening w x) s e
+Resumes bytes depth opening w x s has (Err e) = (c : CollectionReader) (turns : ℕ) → FailsWith (waiting_rest c turns depth opening w x) s e
 
 -- ---- where they lie
 

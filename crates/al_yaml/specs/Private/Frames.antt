@@ -5,7 +5,8 @@ use Rattle.al_base.specs.Ascii.{ascii}
 use Rattle.al_scalar.specs.Line.{Line, start, begins}
 use Rattle.al_scalar.specs.Places.{first_text}
 use Rattle.al_scalar.specs.Scalar.{ScalarRead}
-use Rattle.al_scalar.specs.Taken.{Fault, fault}
+use Rattle.al_scalar.specs.Taken.{fault}
+use Rattle.al_scalar.specs.declared.faults.FaultAt.{FaultAt}
 use Rattle.al_yaml_tree.specs.Content.{behind, is_file_end}
 use Rattle.al_yaml_tree.specs.Node.{Node, Nodes, Entries, sequence, mapping, with_item, with_entry, scalar_node}
 use Rattle.al_yaml_tree.specs.Reading.{Reading, fails, Part, with_span}
@@ -17,7 +18,7 @@ pub data After : Type 0 where
   goes_on : List Line → After
   closes : ℕ → List Line → After
 
-abbrev pub after_item : ℕ → ℕ → List Line → Result After Fault
+abbrev pub after_item : ℕ → ℕ → List Line → Result After FaultAt
 after_item opening close ls =
     if is_file_end ls then fault yaml.UnclosedFlow opening
     else (if begins (ascii ",") (first_text ls) then Ok (goes_on (gap false (behind 1 ls)))

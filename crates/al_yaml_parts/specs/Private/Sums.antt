@@ -2,14 +2,14 @@
 use Rattle.std.specs.Prelude.{◌≡◌, ℕ, ◌+◌, List, [], ◌∷◌, length, map}
 use Rattle.al_yaml_tree.specs.Access.{nodes, entries}
 use Rattle.al_yaml_tree.specs.Limits.{most_counted}
-use Rattle.al_yaml_tree.specs.Node.{Node, scalar, sequence, mapping, nodes_in, text_in, levels_in}
+use Rattle.al_yaml_tree.specs.Node.{Node, scalar, sequence, mapping, nodes_in, text_size, levels_in}
 use Rattle.al_yaml_tree.specs.View.{view}
 use Rattle.al_yaml_parts.specs.declared.sums.Sums.{Sums}
 use Rattle.al_yaml_parts.specs.declared.sums.UncountedNode.{UncountedNode}
 
 pub record IsSums (n : Node) (s : Sums) : Type 0 where
   pub nodes : s.nodes ≡ most_counted (nodes_in n)
-  pub text : s.text ≡ most_counted (text_in n)
+  pub text : s.text ≡ most_counted (text_size n)
   pub levels : s.levels ≡ most_counted (levels_in n)
 
 -- the keys and values of entries

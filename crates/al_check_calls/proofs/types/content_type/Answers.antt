@@ -1,10 +1,10 @@
 use Rattle.std.proofs.Common.{◌≡◌, ap, ◌∙◌, sym, None}
 use Rattle.std.specs.Option.{option_map_or}
 use Rattle.al_expr_grammar.specs.Refusal.{Spells, fault_of_content}
-use Rattle.al_expr_grammar.specs.View.{tree_of}
-use Rattle.al_expr_typing.specs.Meaning.{meaning_of, type_in}
+use Rattle.al_expr_grammar.specs.View.{expr_view}
+use Rattle.al_expr_typing.specs.Meaning.{meaning_of, type_found}
 use Rattle.al_types.specs.Types.{Any}
-use Rattle.al_expr_typing.specs.Scopes.{scope_at}
+use Rattle.al_expr_typing.specs.Scopes.{scope_view}
 use Rattle.al_check_expressions.specs.Spelled.{tree_of_content}
 use Rattle.al_check_expressions.proofs.Spelling.{spelled}
 use Rattle.al_check_calls.specs.Types.{content_type}
@@ -13,11 +13,11 @@ use Rattle.al_check_calls.proofs.types.content_type.Goals as goal
 pub returns-in-Ok-clause-ty : goal.returns-in-Ok-clause-ty
 returns-in-Ok-clause-ty c =
     let content = c.args.content.now in
-    let sc = scope_at c.args.types.now c.args.scope.now in
-    let gives : Spells content (tree_of c.in-Ok.expr) = rw c.in-Ok.is at c.in_ok-expr.ensures.tree in
+    let sc = scope_view c.args.types.now c.args.scope.now in
+    let gives : Spells content (expr_view c.in-Ok.expr) = rw c.in-Ok.is at c.in_ok-expr.ensures.tree in
     let none : fault_of_content content ≡ None = rw c.in-Ok.is at c.in_ok-expr.ensures.none in
-    let tree = spelled c.grammar.ensures.one content (tree_of c.in-Ok.expr) none gives in
-    let same : content_type sc content ≡ type_in (meaning_of sc (tree_of c.in-Ok.expr)) =
-    ap (λ f. option_map_or (λ g. Any) f (option_map_or (λ t. type_in (meaning_of sc t)) (tree_of_content content) Any)) none
-    ∙ ap (λ t. option_map_or (λ u. type_in (meaning_of sc u)) t Any) tree in
+    let tree = spelled c.grammar.ensures.one content (expr_view c.in-Ok.expr) none gives in
+    let same : content_type sc content ≡ type_found (meaning_of sc (expr_view c.in-Ok.expr)) =
+    ap (λ f. option_map_or (λ g. Any) f (option_map_or (λ t. type_found (meaning_of sc t)) (tree_of_content content) Any)) none
+    ∙ ap (λ t. option_map_or (λ u. type_found (meaning_of sc u)) t Any) tree in
     c.in_ok-ty-in-Ok.ensures.ty ∙ sym same

@@ -5,7 +5,7 @@ use Rattle.al_check_calls.specs.CallFaults.{values_of}
 use Rattle.al_check_contexts.specs.Answered.{known_of}
 use Rattle.al_tree.specs.Values.{member_of}
 use Rattle.al_yaml_tree.specs.View.{view}
-use Rattle.al_check_calls.specs.FileCalls.{AreShort, type_in_job}
+use Rattle.al_check_calls.specs.FileCalls.{AreShort, value_type_in_job}
 use Rattle.al_check_calls.proofs.Short.{members_short}
 use Rattle.al_check_calls.proofs.ValueTypes.{known_more, value_more}
 use Rattle.al_check_calls.proofs.values.job_values.Goals as goal
@@ -28,14 +28,14 @@ loop-member-preserved c =
       stands = c.in_ok-ty.ensures.stands;
       known = known_more next now vs c.push.new.self.items (record { member = m; ty = t }) c.in_ok-ty.ensures.kept c.loop-member.invariant.known
           c.in_ok-ty.ensures.known c.in_ok-push.ensures.items;
-      values = value_more next now (type_in_job file.kind (known_of file.known) (view file.root.now) c.text_or_empty-job.result.now)
+      values = value_more next now (value_type_in_job file.kind (known_of file.known) (view file.root.now) c.text_or_empty-job.result.now)
           c.deref-member-items.result.now c.loop-member.member-index m t vs c.push.new.self.items c.loop-member-test.true c.member-item.is
           c.in_ok-ty.ensures.kept c.loop-member.invariant.known c.in_ok-ty.ensures.ty c.in_ok-push.ensures.items c.loop-member.invariant.values;
     }
 
 pub returns-clause-values : goal.returns-clause-values
 returns-clause-values c =
-    let types = type_in_job c.args.file.kind (known_of c.args.file.known) (view c.args.file.root.now) in
+    let types = value_type_in_job c.args.file.kind (known_of c.args.file.known) (view c.args.file.root.now) in
     let given = ap (map member_of) c.deref-member-items.ensures.value ∙ c.in_ok-given.ensures in
     c.loop-member.invariant.values
     ∙ ap (λ ms. values_of (types c.text_or_empty-job.result.now) (map member_of ms))

@@ -3,7 +3,7 @@ use Rattle.al_check_calls.specs.Private.AnswerViews.{are_values_known, given_at}
 use Rattle.al_check_calls.specs.CallFaults.{values_of}
 use Rattle.al_check_contexts.specs.Answered.{known_of}
 use Rattle.al_check_contexts.specs.Standing.{Stands}
-use Rattle.al_check_calls.specs.FileCalls.{type_in_job}
+use Rattle.al_check_calls.specs.FileCalls.{value_type_in_job}
 use Rattle.al_tree.specs.Values.{member_of}
 use Rattle.al_yaml_tree.specs.View.{view}
 use Rattle.al_check_calls.proofs.values.job_values.Given as goal
@@ -13,5 +13,5 @@ invariant-loop-member l = record {
   stands : Stands l.file l.env;
   known : are_values_known l.env.types l.values.items ≡ true;
   values : map (given_at l.env.types) l.values.items
-      ≡ values_of (type_in_job l.file.kind (known_of l.file.known) (view l.file.root.now) l.job) (map member_of (take l.member-index l.member-items));
+      ≡ values_of (value_type_in_job l.file.kind (known_of l.file.known) (view l.file.root.now) l.job) (map member_of (take l.member-index l.member-items));
 }

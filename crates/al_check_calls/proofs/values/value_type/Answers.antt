@@ -6,8 +6,8 @@ use Rattle.al_tree.specs.Values.{member_of}
 use Rattle.al_types.specs.Types.{Any}
 use Rattle.al_yaml_tree.specs.Access.{scalar_in}
 use Rattle.al_yaml_tree.specs.View.{view}
-use Rattle.al_check_calls.specs.FileCalls.{type_in_job}
-use Rattle.al_check_calls.specs.Types.{scalar_type}
+use Rattle.al_check_calls.specs.FileCalls.{value_type_in_job}
+use Rattle.al_check_calls.specs.Types.{type_of_given}
 use Rattle.al_check_calls.proofs.Short.{scalar_short}
 use Rattle.al_check_contexts.proofs.Standing.{stands_stays}
 use Rattle.al_check_calls.proofs.values.value_type.Goals as goal
@@ -28,5 +28,5 @@ returns-in_ok-ty-in-Some-clause-ty c =
     let member = member_of c.args.given.member in
     let there = c.in_ok-go_to-in-Some.ensures.scope ∙ ap (λ p. scope_at c.args.file.kind known root p) c.place_of_value-place.ensures in
     let is : scalar_in member.1 ≡ Some s = sym c.scalar.ensures ∙ ap option_copied c.in-Some.is in
-    c.in_ok-ty-in-Some.ensures.ty ∙ ap (λ sc. scalar_type sc s) there
-    ∙ sym (ap (λ o. option_map_or (type_in_job c.args.file.kind known root c.args.given.job.now member.0) o Any) is)
+    c.in_ok-ty-in-Some.ensures.ty ∙ ap (λ sc. type_of_given sc s) there
+    ∙ sym (ap (λ o. option_map_or (value_type_in_job c.args.file.kind known root c.args.given.job.now member.0) o Any) is)

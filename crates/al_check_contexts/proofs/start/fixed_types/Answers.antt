@@ -5,10 +5,10 @@ use Rattle.al_check_contexts.proofs.start.fixed_types.Goals as goal
 
 pub returns-clause-fixed : goal.returns-clause-fixed
 returns-clause-fixed c =
-    let one = c.github.new.types in
+    let one = c.github_type.new.types in
     let two = c.loose_strings.new.types in
-    let three = c.runner.new.types in
-    let now = c.job.new.types in
+    let three = c.runner_type.new.types in
+    let now = c.job_type.new.types in
     let from_two = begins_trans (objects_of two) (objects_of three) (objects_of now) c.in_ok-runner.ensures.kept c.in_ok-job.ensures.kept in
     let from_one = begins_trans (objects_of one) (objects_of two) (objects_of now) c.in_ok-strings.ensures.kept from_two in
     record {
@@ -21,8 +21,8 @@ returns-clause-fixed c =
 pub returns-clause-kept : goal.returns-clause-kept
 returns-clause-kept c =
     let two = c.loose_strings.new.types in
-    let three = c.runner.new.types in
-    let now = c.job.new.types in
-    begins_trans (objects_of c.args.types.now) (objects_of c.github.new.types) (objects_of now) c.in_ok-github.ensures.kept
-    (begins_trans (objects_of c.github.new.types) (objects_of two) (objects_of now) c.in_ok-strings.ensures.kept
+    let three = c.runner_type.new.types in
+    let now = c.job_type.new.types in
+    begins_trans (objects_of c.args.types.now) (objects_of c.github_type.new.types) (objects_of now) c.in_ok-github.ensures.kept
+    (begins_trans (objects_of c.github_type.new.types) (objects_of two) (objects_of now) c.in_ok-strings.ensures.kept
     (begins_trans (objects_of two) (objects_of three) (objects_of now) c.in_ok-runner.ensures.kept c.in_ok-job.ensures.kept))

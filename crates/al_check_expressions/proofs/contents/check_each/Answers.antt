@@ -6,7 +6,7 @@ use Rattle.al_base.specs.declared.faults.Fault.{Fault}
 use Rattle.al_expr_grammar.specs.Chunks.{span_of_chunk}
 use Rattle.al_expr_grammar.specs.declared.chunk.Chunk.{Chunk}
 use Rattle.al_expr_grammar.proofs.RestItems.{rest_item}
-use Rattle.al_expr_typing.specs.Scopes.{scope_at}
+use Rattle.al_expr_typing.specs.Scopes.{scope_view}
 use Rattle.al_expr_typing.proofs.Shown.{scope_stays, shown_stays}
 use Rattle.al_check_expressions.specs.Contents.{chunk_faults}
 use Rattle.al_check_expressions.proofs.contents.check_each.Goals as goal
@@ -23,7 +23,7 @@ loop-chunk-preserved c =
     let none : Chunk = record { content = record { ref_ptr = (0, 0); now = [] }; span = record { start = 0; end = 0 } } in
     let x : Chunk = get_or chunks i none in
     let out = c.loop-chunk.faults in
-    let sc = scope_at before scope in
+    let sc = scope_view before scope in
     let left : List Fault = flat_map (chunk_faults sc only scalar) (map span_of_chunk (drop (i + 1) chunks)) in
     let same = scope_stays now before scope c.loop-chunk.invariant.kept c.requires.shown in
     let rest = rest_item chunks i x c.loop-chunk-test.true (get_or_default chunks i none x c.loop-chunk-test.true) in

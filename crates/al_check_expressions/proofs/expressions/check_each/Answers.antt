@@ -6,7 +6,7 @@ use Rattle.al_base.specs.declared.faults.Fault.{Fault}
 use Rattle.al_yaml_tree.specs.View.{view}
 use Rattle.al_check_places.specs.Places.{Place, place_of}
 use Rattle.al_check_contexts.specs.Answered.{known_of}
-use Rattle.al_check_expressions.specs.FileExpressions.{faults_at}
+use Rattle.al_check_expressions.specs.FileExpressions.{expression_faults_at}
 use Rattle.al_check_expressions.proofs.expressions.check_each.Goals as goal
 
 -- with those of one place more
@@ -23,7 +23,7 @@ loop-place-preserved c =
     let made = c.in_ok-check_at.ensures in
     record {
       stands = made.stands;
-      all = faults_next (faults_at c.args.file.kind (known_of c.args.file.known) (view c.args.file.root.now)) place_of c.args.places.now c.loop-place.place-index
+      all = faults_next (expression_faults_at c.args.file.kind (known_of c.args.file.known) (view c.args.file.root.now)) place_of c.args.places.now c.loop-place.place-index
           c.place-item.result _ _ c.loop-place-test.true c.place-item.is made.faults ∙ was.all;
       kept = begins_trans _ _ _ was.kept made.kept;
     }

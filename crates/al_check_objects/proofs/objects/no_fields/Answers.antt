@@ -1,13 +1,7 @@
 use Rattle.al_check_objects.proofs.objects.no_fields.Goals as goal
 
 pub into_type-requires-clause-fields : goal.into_type-requires-clause-fields
-into_type-requires-clause-fields c =
-    let types = c.args.types.now in
-    let none = c.new.ensures types in
-    none.known
+into_type-requires-clause-fields c = (c.new.ensures c.args.types.now).known
 
 pub returns-clause-ty : goal.returns-clause-ty
-returns-clause-ty c =
-    let types = c.args.types.now in
-    let none = c.new.ensures types in
-    c.in_ok-ty.ensures.ty _ none
+returns-clause-ty c = c.in_ok-ty.ensures.ty _ (c.new.ensures c.args.types.now)

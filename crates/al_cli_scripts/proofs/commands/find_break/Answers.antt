@@ -2,7 +2,7 @@ use Rattle.std.proofs.Common.{◌≡◌, length, take, rules, ap, ◌∙◌}
 use Rattle.std.proofs.lemmas.Grind.{common_steps}
 use Rattle.std.proofs.Common.{min}
 use Rattle.std.proofs.lemmas.List.{take_min}
-use Rattle.al_cli_scripts.proofs.Fronts.{find_is}
+use Rattle.al_cli_scripts.proofs.Prefixes.{find_is}
 use Rattle.al_cli_scripts.proofs.commands.find_break.Goals as goal
 
 pub returns : goal.returns

@@ -1,5 +1,5 @@
 use Rattle.std.proofs.Common.{rules}
-use Rattle.al_cli_scripts.proofs.Fronts.{pending_short, wrong_here}
+use Rattle.al_cli_scripts.proofs.Prefixes.{pending_short, wrong_here}
 use Rattle.al_cli_scripts.proofs.commands.next_command.Goals as goal
 
 pub returns-else-bytes-gt-LONGEST_LINE : goal.returns-else-bytes-gt-LONGEST_LINE

@@ -1,6 +1,6 @@
 use Rattle.std.proofs.Common.{◌≡◌, arith, sym, ap, ◌∙◌}
 use Rattle.std.proofs.Common.{decimal}
-use Rattle.al_cli_scripts.proofs.Fronts.{not_text, not_parsed, parsed_is}
+use Rattle.al_cli_scripts.proofs.Prefixes.{not_text, not_parsed, parsed_is}
 use Rattle.al_cli_scripts.proofs.commands.read_length.Goals as goal
 use Rattle.al_cli_scripts.proofs.commands.read_length.Goals.{else-length-lt-LENGTHS-via-then-length-lt-LENGTHS+else-is_written, else-length-lt-LENGTHS-via-else-length-lt-LENGTHS}
 

@@ -3,7 +3,7 @@ use Rattle.std.proofs.lemmas.List.{take_rest, drop-drop, map-append}
 use Rattle.al_expr_grammar.specs.declared.chunk.ChunkState.TheVariants.{Outside}
 use Rattle.al_expr_grammar.specs.Chunks.{then_chunk, span_of_chunk}
 use Rattle.al_expr_grammar.specs.Private.ChunkStates.{behind_chunks, chunks_from}
-use Rattle.al_expr_grammar.specs.Tokens.{span}
+use Rattle.al_base.specs.Spans.{span}
 use Rattle.al_expr_grammar.proofs.Chunking.{goes_on, ends, behind_one, stands, cut_more}
 use Rattle.al_expr_grammar.proofs.ChunkLemmas.{states_give}
 use Rattle.al_expr_grammar.proofs.chunk.chunks.Goals as goal

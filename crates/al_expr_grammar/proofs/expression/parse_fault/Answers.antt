@@ -5,7 +5,7 @@ use Rattle.std.proofs.lemmas.List.{length-map}
 use Rattle.std.proofs.lemmas.Result.{IfOk-weaker}
 use Rattle.al_base.specs.declared.codes.ExpressionCode.TheVariants as code
 use Rattle.al_expr_grammar.specs.Lexeme.{seen, kinds}
-use Rattle.al_expr_grammar.specs.Refusal.{fault, fault_of_verdict}
+use Rattle.al_expr_grammar.specs.Refusal.{expression_fault, fault_of_verdict}
 use Rattle.al_expr_grammar.specs.Table.{verdict_of}
 use Rattle.al_expr_grammar.proofs.Left.{unexpected_lies, too_deep_lies, fault_at_token}
 use Rattle.al_expr_grammar.proofs.expression.parse_fault.Goals as goal
@@ -30,7 +30,7 @@ returns-in-Unexpected c =
     let v = rw c.in-Unexpected.is at c.requires in
     let e = fault_at_token _ (map seen c.args.tokens.now) _ _ c.token_at-token.ensures in
     let g : fault_of_verdict c.args.length (map seen c.args.tokens.now) (verdict_of (kinds (map seen c.args.tokens.now)))
-    ≡ Some (fault code.UnexpectedToken c.token_at-token.result.span (c.token_at-token.result.text.now ∷ [])) = rw (v, length-map) e in
+    ≡ Some (expression_fault code.UnexpectedToken c.token_at-token.result.span (c.token_at-token.result.text.now ∷ [])) = rw (v, length-map) e in
     given c.named_fault.result _ _ g c.named_fault.ensures
 
 pub returns-in-TooDeep : goal.returns-in-TooDeep

@@ -10,7 +10,7 @@ use Rattle.al_expr_grammar.specs.Lexeme.{lexeme}
 use Rattle.al_expr_grammar.specs.Grammar.{IsTreeOf, Derives, Binary}
 use Rattle.al_expr_grammar.specs.Table.{O}
 use Rattle.al_expr_grammar.specs.Parsed.{EndsLevel}
-use Rattle.al_expr_grammar.proofs.Total.{Outcome, read, refused, all}
+use Rattle.al_expr_grammar.proofs.Total.{Outcome, outcome_of, read, refused}
 use Rattle.al_expr_grammar.proofs.law.grammar.Goals as goal
 
 fine_enough : (v : Verdict) → Agrees v Fine → (v ≢ Early) × ((n : ℕ) → v ≢ Unexpected n)
@@ -66,4 +66,4 @@ found ts e (refused (error.Unexpected n) i r) = let a = r 0 [] refl refl in absu
 found ts e (refused (error.TooDeep n) i r) = let a = r 0 [] refl refl in absurd cc
 
 pub returns-clause-some : goal.returns-clause-some
-returns-clause-some c ts e = found ts e (all (suc (length ts)) 50 ts (omega arith))
+returns-clause-some c ts e = found ts e (outcome_of ts)

@@ -1,7 +1,7 @@
 use Rattle.std.proofs.Common.{◌≡◌, ◌+◌, ◌-◌, ◌*◌, length, map}
 use Rattle.al_expr_grammar.specs.Lexeme.{seen, kinds}
-use Rattle.al_expr_grammar.specs.Parsed.{PartOfChain, PartOfPath, Stops, ArgumentsPart}
-use Rattle.al_expr_grammar.specs.View.{tree_of, step_of, operand_of}
+use Rattle.al_expr_grammar.specs.Parsed.{PartOfChain, PartOfPath, EndsRule, ArgumentsPart}
+use Rattle.al_expr_grammar.specs.View.{expr_view, step_of, operand_of}
 use Rattle.al_expr_grammar.specs.Grammar.{below}
 use Rattle.al_expr_grammar.proofs.parser.+parser.Given as goal
 
@@ -39,7 +39,7 @@ abbrev pub invariant-binary-chain : goal.invariant-binary-chain
 invariant-binary-chain l = record {
   same : l.first ≡ l.initial.first;
   so_far : PartOfChain l.level l.room (map seen l.initial.left) (map operand_of l.more.items) (map seen l.left);
-  stops : Stops (below l.level) (kinds (map seen l.left));
+  stops : EndsRule (below l.level) (kinds (map seen l.left));
 }
 
 abbrev pub decreases-binary-chain : goal.decreases-binary-chain
@@ -55,7 +55,7 @@ abbrev pub decreases-postfix-walk : goal.decreases-postfix-walk
 decreases-postfix-walk l = length (map seen l.left)
 
 abbrev pub invariant-arguments-list : goal.invariant-arguments-list
-invariant-arguments-list l = ArgumentsPart l.room (map seen l.fn.tokens) (map tree_of l.given.items) (map seen l.left)
+invariant-arguments-list l = ArgumentsPart l.room (map seen l.fn.tokens) (map expr_view l.given.items) (map seen l.left)
 
 abbrev pub decreases-arguments-list : goal.decreases-arguments-list
 decreases-arguments-list l = length (map seen l.left)

@@ -1,7 +1,7 @@
 use Rattle.std.proofs.Common.{◌≡◌, ◌∷◌, ◌++◌, [], List, ◌∙◌, ap, map, sym, take}
 use Rattle.std.proofs.lemmas.List.{map-append}
 use Rattle.al_types.specs.Indexes.{name_at}
-use Rattle.al_types.specs.Puts.{Typed, firsts}
+use Rattle.al_types.specs.Puts.{TypedName, firsts}
 use Rattle.al_expr_trees.specs.Trees.{field_of}
 use Rattle.al_expr_trees.proofs.Added.{mapped_more}
 use Rattle.al_expr_trees.proofs.Firsts.{firsts_new, firsts_old, none_if}
@@ -13,7 +13,7 @@ loop-i-preserved c =
     let x = c.index-fields-i.result in
     let p = field_of x in
     let old = c.loop-i.all.items in
-    let ts : List Typed = map field_of (take c.loop-i.i c.args.fields.now) in
+    let ts : List TypedName = map field_of (take c.loop-i.i c.args.fields.now) in
     let more = sym (ap firsts (mapped_more field_of c.args.fields.now c.loop-i.i x c.loop-i-test.true c.index-fields-i.is)) in
     let place : c.position.result ≡ name_at ts p.0 = c.position.ensures ∙ ap (name_at ts) c.as_str.ensures.value in
     elim c.if-is_none.branch [

@@ -8,7 +8,7 @@ use Rattle.al_expr_types.specs.Names.{names_in}
 use Rattle.al_expr_types.specs.Tables.{objects_of}
 use Rattle.al_expr_types.specs.Types.{object_in, type_in}
 use Rattle.al_expr_types.proofs.OnceLemmas.{once_distinct}
-use Rattle.al_expr_trees.specs.Trees.{field_of, object_parts, rest_of}
+use Rattle.al_expr_trees.specs.Trees.{field_of, listed_parts, rest_of}
 use Rattle.al_expr_trees.proofs.Added.{mapped_more}
 use Rattle.al_expr_trees.proofs.Firsts.{firsts_same}
 use Rattle.al_expr_trees.proofs.TableFields.{taken_all, taken_next}
@@ -52,7 +52,7 @@ object_listing-loop-m-preserved t c =
     let m = get_or ns i 0 in
     let one = c.in_ok-one-in-Common.one in
     let rest = rest_of one.rest in
-    let same = ap (λ xs. object_parts (map field_of xs) rest) c.as_slice.ensures.value
+    let same = ap (λ xs. listed_parts (map field_of xs) rest) c.as_slice.ensures.value
     ∙ ap (λ us. parts_with us rest) (firsts_same (map field_of one.fields.items) one.distinct) ∙ c.in_ok-one-in-Common.ensures in
     c.in_ok-more-in-Common.ensures ∙ (λ d. fuse_parts (c.loop-m.invariant d) (same d))
     ∙ sym (ap fuse_all (mapped_more f ns i m c.loop-m-test.true (get_or_default ns i 0 m c.loop-m-test.true)) ∙ fused_one_more (map f (take i ns)) (f m))

@@ -1,14 +1,14 @@
 use Rattle.std.proofs.Common.{[], ◌++◌, sym, ap, ◌∙◌}
 use Rattle.std.specs.Prelude.{not}
 use Rattle.al_base.specs.declared.codes.ExpressionCode.TheVariants as code
-use Rattle.al_expr_grammar.specs.Refusal.{fault}
+use Rattle.al_expr_grammar.specs.Refusal.{expression_fault}
 use Rattle.al_expr_typing.specs.Comparison.{comparable_types}
 use Rattle.al_expr_typing.specs.Meaning.{typed, give}
 use Rattle.al_expr_types.specs.Joining.{join_in}
 use Rattle.al_expr_types.specs.Tables.{objects_of, type_at}
 use Rattle.al_expr_typing.specs.Chains.{type_so_far}
 use Rattle.al_expr_typing.proofs.ChainLemmas.{chosen, compared, more_fused, more_present}
-use Rattle.al_expr_typing.proofs.Shown.{type_stays}
+use Rattle.al_expr_types.proofs.Stays.{type_stays}
 use Rattle.al_expr_typing.proofs.chains.operation.Goals as goal
 
 pub returns-then-is_logic-clause-ok : goal.returns-then-is_logic-clause-ok
@@ -34,6 +34,6 @@ returns-clause-ok c =
     let first = c.in_ok-first.ensures.ty in
     let other = type_stays new old c.args.operand.ty c.in_ok-first.ensures.kept c.requires.other in
     let faults = c.in_ok-check_comparison.ensures (objects_of new)
-    ∙ (λ d. out ++ give (not (comparable_types c.args.operand.operator (first d) (other d))) (fault code.NotComparable c.args.operand.at [])) in
+    ∙ (λ d. out ++ give (not (comparable_types c.args.operand.operator (first d) (other d))) (expression_fault code.NotComparable c.args.operand.at [])) in
     ap (λ t. typed t after) (c.scalar.ensures.ty (objects_of new))
     ∙ compared c.args.operand.operator c.args.operand.at (type_so_far old c.args.sofar) (type_at old c.args.operand.ty) out after (sym c.is_logic.ensures ∙ c.if-is_logic.false) faults

@@ -1,7 +1,7 @@
 use Rattle.std.proofs.Common.{◌∙◌, ap, sym}
 use Rattle.al_expr_types.specs.Tables.{objects_of}
 use Rattle.al_expr_types.specs.Types.{base_type}
-use Rattle.al_expr_typing.specs.Meaning.{behind, property_of, typed}
+use Rattle.al_expr_typing.specs.Meaning.{property_of, typed, faults_then}
 use Rattle.al_expr_typing.proofs.Forms.{behind_arrays, in_arrays, property_arrays}
 use Rattle.al_expr_typing.proofs.steps.property.Goals as goal
 
@@ -13,4 +13,4 @@ returns-clause-ok c =
     let of = property_of c.args.step.name.now c.args.step.at c.args.step.whole base in
     ap (λ t. typed t c.base_property.new.faults) (c.in_ok-all.ensures.ty (objects_of c.base_property.new.types))
     ∙ ap (in_arrays k) c.in_ok-of.ensures.ok ∙ behind_arrays k old of
-    ∙ ap (behind old) (sym (property_arrays k c.args.step.name.now c.args.step.at c.args.step.whole base))
+    ∙ ap (faults_then old) (sym (property_arrays k c.args.step.name.now c.args.step.at c.args.step.whole base))

@@ -5,7 +5,7 @@ use Rattle.al_types.specs.Names.{function_of}
 use Rattle.al_types.specs.Types.{String}
 use Rattle.al_expr_grammar.specs.Extents.{extent}
 use Rattle.al_expr_grammar.specs.Tree.{sign, steps_of, operands_of, arguments_of}
-use Rattle.al_expr_grammar.specs.View.{tree_of, step_of, operand_of}
+use Rattle.al_expr_grammar.specs.View.{expr_view, step_of, operand_of}
 use Rattle.al_expr_grammar.proofs.Trees.{tree_of-Keyword, tree_of-Number, tree_of-Text, tree_of-Name, tree_of-Call, tree_of-Group, tree_of-Not, tree_of-Path, tree_of-Chain}
 use Rattle.al_expr_grammar.proofs.Trees.{step_of-Property, step_of-All, step_of-Index}
 use Rattle.al_expr_grammar.proofs.TreeViews.{operand_view}
@@ -15,11 +15,12 @@ use Rattle.al_types.specs.Types.{Bool'}
 use Rattle.al_expr_types.specs.Tables.{is_known, objects_of, type_at}
 use Rattle.al_expr_types.proofs.Below.{all_more}
 use Rattle.al_expr_typing.specs.Arguments.{are_known, argument_at}
-use Rattle.al_expr_typing.specs.Scopes.{scope_at}
-use Rattle.al_expr_typing.specs.Meaning.{typed, behind, all_behind, walk, operations, begins_logic, call_from, index_of, meaning, meanings, operation, step_from}
+use Rattle.al_expr_typing.specs.Scopes.{scope_view}
+use Rattle.al_expr_typing.specs.Meaning.{typed, faults_then, all_behind, walk, operations, begins_logic, call_from, index_of, meaning, meanings, operation, step_from}
 use Rattle.al_expr_typing.specs.Chains.{type_so_far}
 use Rattle.al_expr_typing.proofs.ChainLemmas.{join_stays, operand_stays, so_far_stays}
-use Rattle.al_expr_typing.proofs.Shown.{arguments_known, arguments_stay, known_stays, scope_stays, shown_stays, type_stays}
+use Rattle.al_expr_types.proofs.Stays.{known_stays, type_stays}
+use Rattle.al_expr_typing.proofs.Shown.{arguments_known, arguments_stay, scope_stays, shown_stays}
 use Rattle.al_expr_typing.proofs.TypedSteps.{unchanged, follows}
 use Rattle.al_expr_typing.proofs.Paths.{called_on, path_on, chained_on, indexed_on, meanings_on, walked_on}
 use Rattle.al_expr_typing.proofs.typing.+typing.Goals as goal
@@ -27,23 +28,23 @@ use Rattle.al_expr_typing.proofs.typing.+typing.Goals as goal
 pub expression-returns-in-Keyword-clause-ok : goal.expression-returns-in-Keyword-clause-ok
 expression-returns-in-Keyword-clause-ok t c =
     let old = c.args.faults.now in
-    let e = ap tree_of c.in-Keyword.is ∙ tree_of-Keyword c.in-Keyword.keyword c.in-Keyword.field-1 in
+    let e = ap expr_view c.in-Keyword.is ∙ tree_of-Keyword c.in-Keyword.keyword c.in-Keyword.field-1 in
     rw e (ap (λ u. typed u old) (c.scalar.ensures.ty (objects_of c.args.types.now) ∙ c.type_of_keyword.ensures) ∙ unchanged _ old)
 
 pub expression-returns-in-Number-clause-ok : goal.expression-returns-in-Number-clause-ok
 expression-returns-in-Number-clause-ok t c =
     let old = c.args.faults.now in
-    let e = ap tree_of c.in-Number.is ∙ tree_of-Number c.in-Number.field-0 in
+    let e = ap expr_view c.in-Number.is ∙ tree_of-Number c.in-Number.field-0 in
     rw e (ap (λ u. typed u old) (c.scalar-in-Number.ensures.ty (objects_of c.args.types.now)) ∙ unchanged _ old)
 
 pub expression-returns-in-Text-clause-ok : goal.expression-returns-in-Text-clause-ok
 expression-returns-in-Text-clause-ok t c =
-    let e = ap tree_of c.in-Text.is ∙ tree_of-Text c.in-Text.field-0 in
+    let e = ap expr_view c.in-Text.is ∙ tree_of-Text c.in-Text.field-0 in
     rw e (unchanged String c.args.faults.now)
 
 pub expression-returns-in_ok-ty-in-Name-clause-ok : goal.expression-returns-in_ok-ty-in-Name-clause-ok
 expression-returns-in_ok-ty-in-Name-clause-ok t c =
-    let e = ap tree_of c.in-Name.is ∙ tree_of-Name c.in-Name.word in
+    let e = ap expr_view c.in-Name.is ∙ tree_of-Name c.in-Name.word in
     rw e (c.in_ok-ty-in-Name.ensures.ok (objects_of c.args.types.now))
 
 pub expression-returns-in_ok-ty-in-Name-clause-known : goal.expression-returns-in_ok-ty-in-Name-clause-known
@@ -51,13 +52,13 @@ expression-returns-in_ok-ty-in-Name-clause-known t c = c.in_ok-ty-in-Name.ensure
 
 pub expression-returns-in-Group-clause-ok : goal.expression-returns-in-Group-clause-ok
 expression-returns-in-Group-clause-ok t c =
-    let e = ap tree_of c.in-Group.is ∙ tree_of-Group c.in-Group.inner c.in-Group.field-1 c.in-Group.field-2 in
+    let e = ap expr_view c.in-Group.is ∙ tree_of-Group c.in-Group.inner c.in-Group.field-1 c.in-Group.field-2 in
     let f = rw c.deref.ensures at c.expression.ensures.ok in
     rw e f
 
 pub expression-returns-in_ok-_ty-in-Not-clause-ok : goal.expression-returns-in_ok-_ty-in-Not-clause-ok
 expression-returns-in_ok-_ty-in-Not-clause-ok t c =
-    let e = ap tree_of c.in-Not.is ∙ tree_of-Not c.in-Not.field-0 c.in-Not.operand in
+    let e = ap expr_view c.in-Not.is ∙ tree_of-Not c.in-Not.field-0 c.in-Not.operand in
     let f = rw c.deref-in-Not.ensures at c.in_ok-_ty-in-Not.ensures.ok in
     let new = c.expression-in-Not.new.faults in
     rw e (ap (λ u. typed u new) (c.scalar-in-Not.ensures.ty (objects_of c.expression-in-Not.new.types)) ∙ unchanged Bool' new
@@ -65,7 +66,7 @@ expression-returns-in_ok-_ty-in-Not-clause-ok t c =
 
 pub expression-returns-in-Call-clause-ok : goal.expression-returns-in-Call-clause-ok
 expression-returns-in-Call-clause-ok t c =
-    let e = ap tree_of c.in-Call.is ∙ tree_of-Call c.in-Call.name c.in-Call.arguments c.in-Call.field-2 in
+    let e = ap expr_view c.in-Call.is ∙ tree_of-Call c.in-Call.name c.in-Call.arguments c.in-Call.field-2 in
     let f = rw c.deref-in-Call.ensures.value at c.call.ensures.ok in
     rw e f
 
@@ -74,26 +75,26 @@ expression-returns-in_ok-check_untrusted-in-Path-clause-ok t c =
     let before = c.args.types.now in
     let mid = c.expression-in-Path.new.types in
     let ss = steps_of (map step_of c.in-Path.steps.items) in
-    let e = ap tree_of c.in-Path.is ∙ tree_of-Path c.in-Path.base c.in-Path.steps in
+    let e = ap expr_view c.in-Path.is ∙ tree_of-Path c.in-Path.base c.in-Path.steps in
     let f = rw c.deref-in-Path.ensures at c.in_ok-start-in-Path.ensures.ok in
     let g = rw c.deref-in-Path-2.ensures.value at c.in_ok-ty-in-Path.ensures.ok in
-    let s = ap (λ sc. behind c.expression-in-Path.new.faults (walk sc c.args.around.safe ss (type_at mid c.in_ok-start-in-Path.start)))
+    let s = ap (λ sc. faults_then c.expression-in-Path.new.faults (walk sc c.args.around.safe ss (type_at mid c.in_ok-start-in-Path.start)))
     (scope_stays mid before c.args.around.scope.now c.in_ok-start-in-Path.ensures.kept c.requires.shown) in
     let h = rw (c.is_exposed.ensures, c.deref-in-Path-3.ensures, c.deref-in-Path-4.ensures.value) at c.in_ok-check_untrusted-in-Path.ensures in
-    rw e (path_on _ _ _ _ _ _ _ _ (λ u. walk (scope_at before c.args.around.scope.now) c.args.around.safe ss u) f (g ∙ s) h)
+    rw e (path_on _ _ _ _ _ _ _ _ (λ u. walk (scope_view before c.args.around.scope.now) c.args.around.safe ss u) f (g ∙ s) h)
 
 pub expression-returns-in_ok-ty-in-Chain-clause-ok : goal.expression-returns-in_ok-ty-in-Chain-clause-ok
 expression-returns-in_ok-ty-in-Chain-clause-ok t c =
     let before = c.args.types.now in
     let mid = c.expression-in-Chain.new.types in
-    let e = ap tree_of c.in-Chain.is ∙ tree_of-Chain c.in-Chain.first c.in-Chain.operands in
+    let e = ap expr_view c.in-Chain.is ∙ tree_of-Chain c.in-Chain.first c.in-Chain.operands in
     let os = operands_of (map operand_of c.in-Chain.operands.items) in
     let safe = c.args.around.safe || not (begins_logic os) in
     let f = rw (c.is_compared.ensures, c.deref-in-Chain.ensures.value, c.deref-in-Chain-2.ensures) at c.in_ok-start-in-Chain.ensures.ok in
     let g = rw (c.is_compared.ensures, c.deref-in-Chain.ensures.value, c.deref-in-Chain-3.ensures.value) at c.in_ok-ty-in-Chain.ensures.ok in
-    let s = ap (λ sc. behind c.expression-in-Chain.new.faults (operations sc safe os (type_at mid c.in_ok-start-in-Chain.start)))
+    let s = ap (λ sc. faults_then c.expression-in-Chain.new.faults (operations sc safe os (type_at mid c.in_ok-start-in-Chain.start)))
     (scope_stays mid before c.args.around.scope.now c.in_ok-start-in-Chain.ensures.kept c.requires.shown) in
-    rw e (g ∙ s ∙ follows _ _ _ _ (λ u. operations (scope_at before c.args.around.scope.now) safe os u) f)
+    rw e (g ∙ s ∙ follows _ _ _ _ (λ u. operations (scope_view before c.args.around.scope.now) safe os u) f)
 
 pub call-returns-clause-ok : goal.call-returns-clause-ok
 call-returns-clause-ok t c =
@@ -103,10 +104,10 @@ call-returns-clause-ok t c =
     let g = rw (c.is_tested.ensures, f) at c.in_ok-given.ensures.ok in
     let h = rw (f, c.deref.ensures.value) at c.in_ok-ty.ensures.ok (objects_of mid) in
     let name = c.args.name.text.now in
-    let ts = arguments_of (map tree_of c.args.arguments.now) in
-    let s = ap (λ sc. behind c.typed_arguments.new.faults (call_from sc name c.args.name.span (function_of name) ts (map (argument_at mid) c.in_ok-given.given.items)))
+    let ts = arguments_of (map expr_view c.args.arguments.now) in
+    let s = ap (λ sc. faults_then c.typed_arguments.new.faults (call_from sc name c.args.name.span (function_of name) ts (map (argument_at mid) c.in_ok-given.given.items)))
     (scope_stays mid before c.args.around.scope.now c.in_ok-given.ensures.kept c.requires.shown) in
-    h ∙ s ∙ called_on (scope_at before c.args.around.scope.now) name c.args.name.span (function_of name) ts _ _ _ _ g
+    h ∙ s ∙ called_on (scope_view before c.args.around.scope.now) name c.args.name.span (function_of name) ts _ _ _ _ g
 
 pub operations-operation-requires-clause-below : goal.operations-operation-requires-clause-below
 operations-operation-requires-clause-below t c =
@@ -127,16 +128,16 @@ operations-loop-operand-preserved t c =
     let u = type_at mid c.in_ok-other.other in
     let r = rest_item c.args.operands.now c.loop-operand.operand-index x c.loop-operand-test.true c.operand-item.is in
     let i = rw (r, operand_view x) at c.loop-operand.invariant.so_far in
-    let e = c.in_ok-other.ensures.ok ∙ ap (λ sc. behind c.loop-operand.faults (meaning sc safe (tree_of x.expr)))
+    let e = c.in_ok-other.ensures.ok ∙ ap (λ sc. faults_then c.loop-operand.faults (meaning sc safe (expr_view x.expr)))
     (scope_stays now before c.args.left.around.scope.now c.loop-operand.invariant.kept c.requires.shown) in
-    let f = c.in_ok-more.ensures.ok ∙ ap (λ v. behind c.expression.new.faults (operation x.operator x.at v u))
+    let f = c.in_ok-more.ensures.ok ∙ ap (λ v. faults_then c.expression.new.faults (operation x.operator x.at v u))
     (so_far_stays mid now c.loop-operand.all c.in_ok-other.ensures.kept c.loop-operand.invariant.below) in
     record {
       kept = begins_trans _ _ _ c.loop-operand.invariant.kept (begins_trans _ _ _ c.in_ok-other.ensures.kept c.in_ok-more.ensures.kept);
       shown = shown_stays c.operation.new.types mid c.args.left.around.scope.now c.in_ok-other.ensures.shown c.in_ok-more.ensures.kept;
       below = c.in_ok-more.ensures.below;
       present = c.in_ok-more.ensures.present;
-      so_far = chained_on (scope_at before c.args.left.around.scope.now) safe (sign x.operator x.at, tree_of x.expr)
+      so_far = chained_on (scope_view before c.args.left.around.scope.now) safe (sign x.operator x.at, expr_view x.expr)
           (map operand_of (drop (c.loop-operand.operand-index + 1) c.args.operands.now)) (type_so_far now c.loop-operand.all) u
           (type_so_far c.operation.new.types c.in_ok-more.more) _ _ _ e f ∙ i;
     }
@@ -146,8 +147,8 @@ operations-returns-clause-ok t c =
     let now = c.loop-operand.types in
     let out = c.loop-operand.faults in
     let all = type_so_far now c.loop-operand.all in
-    let sc = scope_at c.args.types.now c.args.left.around.scope.now in
-    let d = at_drop_all (λ l. behind out (operations sc c.args.left.around.safe (operands_of (map operand_of l)) all)) c.args.operands.now c.loop-operand.operand-index
+    let sc = scope_view c.args.types.now c.args.left.around.scope.now in
+    let d = at_drop_all (λ l. faults_then out (operations sc c.args.left.around.safe (operands_of (map operand_of l)) all)) c.args.operands.now c.loop-operand.operand-index
     (omega (arith, c.loop-operand-test.false)) in
     ap (λ u. typed u out) c.in_ok-ty.ensures.ty ∙ unchanged all out ∙ sym d ∙ c.loop-operand.invariant.so_far
 
@@ -181,7 +182,7 @@ index_from-returns-in_ok-of-in-None-clause-ok t c =
     let before = c.args.types.now in
     let new = c.expression.new.types in
     let by = type_at new c.in_ok-by-in-None.by in
-    let f = c.in_ok-of-in-None.ensures.ok (objects_of new) ∙ ap (λ u. behind c.expression.new.faults (index_of c.args.whole u by))
+    let f = c.in_ok-of-in-None.ensures.ok (objects_of new) ∙ ap (λ u. faults_then c.expression.new.faults (index_of c.args.whole u by))
     (type_stays new before c.args.left.ty c.in_ok-by-in-None.ensures.kept c.requires.known) in
     indexed_on _ c.args.whole (type_at before c.args.left.ty) by (type_at new c.in_ok-of-in-None.of) _ _ _ _ (rw c.in-None.is at c.in_ok-literal.ensures) c.in_ok-by-in-None.ensures.ok f
 
@@ -199,14 +200,14 @@ typed_arguments-loop-expr-preserved t c =
     let x = c.expr-item.result in
     let ty = type_at next c.in_ok-ty.ty in
     let out = c.expression.new.faults in
-    let sc = scope_at before c.args.around.scope.now in
-    let xs = map tree_of (drop (c.loop-expr.expr-index + 1) c.args.exprs.now) in
+    let sc = scope_view before c.args.around.scope.now in
+    let xs = map expr_view (drop (c.loop-expr.expr-index + 1) c.args.exprs.now) in
     let r = rest_item c.args.exprs.now c.loop-expr.expr-index x c.loop-expr-test.true c.expr-item.is in
     let i = rw r at c.loop-expr.invariant.so_far in
-    let e = c.in_ok-ty.ensures.ok ∙ ap (λ s. behind c.loop-expr.faults (meaning s c.args.around.safe (tree_of x)))
+    let e = c.in_ok-ty.ensures.ok ∙ ap (λ s. faults_then c.loop-expr.faults (meaning s c.args.around.safe (expr_view x)))
     (scope_stays now before c.args.around.scope.now c.loop-expr.invariant.kept c.requires.shown) in
-    let m = meanings_on sc c.args.around.safe (tree_of x) xs ty (map (argument_at now) as') _ _ e in
-    let a = ap (λ l. all_behind (l ++ (ty, extent (tree_of x)) ∷ []) out (meanings sc c.args.around.safe (arguments_of xs)))
+    let m = meanings_on sc c.args.around.safe (expr_view x) xs ty (map (argument_at now) as') _ _ e in
+    let a = ap (λ l. all_behind (l ++ (ty, extent (expr_view x)) ∷ []) out (meanings sc c.args.around.safe (arguments_of xs)))
     (arguments_stay next now as' c.in_ok-ty.ensures.kept c.loop-expr.invariant.known) in
     record {
       kept = begins_trans _ _ _ c.loop-expr.invariant.kept c.in_ok-ty.ensures.kept;
@@ -224,13 +225,13 @@ walk-loop-step-preserved t c =
     let here = type_at now c.loop-step.ty in
     let r = rest_item c.args.steps.now c.loop-step.step-index x c.loop-step-test.true c.step-item.is in
     let i = rw r at c.loop-step.invariant.so_far in
-    let e = c.in_ok-next.ensures.ok ∙ ap (λ sc. behind c.loop-step.faults (step_from sc c.args.left.around.safe (step_of x) here))
+    let e = c.in_ok-next.ensures.ok ∙ ap (λ sc. faults_then c.loop-step.faults (step_from sc c.args.left.around.safe (step_of x) here))
     (scope_stays now before c.args.left.around.scope.now c.loop-step.invariant.kept c.requires.shown) in
     record {
       kept = begins_trans _ _ _ c.loop-step.invariant.kept c.in_ok-next.ensures.kept;
       shown = c.in_ok-next.ensures.shown;
       known = c.in_ok-next.ensures.known;
-      so_far = walked_on (scope_at before c.args.left.around.scope.now) c.args.left.around.safe (step_of x)
+      so_far = walked_on (scope_view before c.args.left.around.scope.now) c.args.left.around.safe (step_of x)
           (map step_of (drop (c.loop-step.step-index + 1) c.args.steps.now)) here (type_at c.step_from.new.types c.in_ok-next.next) _ _ e ∙ i;
     }
 

@@ -3,7 +3,7 @@ use Rattle.std.proofs.lemmas.List.{length-map}
 use Rattle.std.proofs.lemmas.Grind.{common_steps}
 use Rattle.std.specs.Cmp.Lexicographic.{pointwise}
 use Rattle.al_base.specs.Names.{same_name}
-use Rattle.al_expr_typing.specs.Untrusted.{part_of}
+use Rattle.al_expr_typing.specs.Untrusted.{chain_part}
 use Rattle.al_expr_grammar.specs.View.{step_of}
 use Rattle.al_expr_typing.proofs.untrusted.is_chain.Goals as goal
 
@@ -26,7 +26,7 @@ one_longer f (x ∷ xs) name qs h k =
 
 pub returns-then-rest-steps : goal.returns-then-rest-steps
 returns-then-rest-steps c =
-    let d : length (map part_of (map step_of c.args.steps.now)) ≡ length c.args.steps.now = simp length-map in
+    let d : length (map chain_part (map step_of c.args.steps.now)) ≡ length c.args.steps.now = simp length-map in
     let n = length-drop 1 c.args.chain.now in
     let t : length (take (length c.args.chain.now - 1) (drop 1 c.args.chain.now)) ≡ length c.args.chain.now - 1 = grind (arith, common_steps) in
-    sym (one_longer _ c.args.chain.now c.args.name.now (map part_of (map step_of c.args.steps.now)) (omega (arith, c.in-len1-up.len_at_least)) (λ e. c.if-rest-steps.true (omega arith)))
+    sym (one_longer _ c.args.chain.now c.args.name.now (map chain_part (map step_of c.args.steps.now)) (omega (arith, c.in-len1-up.len_at_least)) (λ e. c.if-rest-steps.true (omega arith)))

@@ -4,11 +4,11 @@ use Rattle.std.specs.Cmp.Lexicographic.{pointwise}
 use Rattle.al_base.specs.Ascii.{ascii}
 use Rattle.al_base.specs.Names.{same_name}
 use Rattle.al_expr_grammar.specs.View.{step_of}
-use Rattle.al_expr_typing.specs.Untrusted.{part_of, untrusted_chains}
+use Rattle.al_expr_typing.specs.Untrusted.{chain_part, untrusted_chains}
 use Rattle.al_expr_typing.proofs.ChainTexts.{text_found}
 use Rattle.al_expr_typing.proofs.untrusted.untrusted_chain.Goals as goal
 
 pub returns : goal.returns
 returns c =
-    let parts = c.args.name.now ∷ map part_of (map step_of c.args.steps.now) in
+    let parts = c.args.name.now ∷ map chain_part (map step_of c.args.steps.now) in
     c.in_ok-text.ensures ∙ ap (option_map (join_with_byte (ascii "."))) c.in_ok-found.ensures ∙ text_found (λ ps. pointwise same_name ps parts) untrusted_chains

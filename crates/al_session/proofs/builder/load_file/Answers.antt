@@ -1,4 +1,4 @@
-use Rattle.std.proofs.Common.{sym, ap, ◌∙◌, arith, is_some}
+use Rattle.std.proofs.Common.{sym, ap, ◌∙◌, is_some}
 use Rattle.al_session_folder.specs.Folder.{with_file}
 use Rattle.al_session_folder.specs.Kept.{folder_of}
 use Rattle.al_session_folder.proofs.Places.{absent, found}
@@ -20,9 +20,9 @@ returns-in_ok-replace_file-in-Ok-clause-loaded g c =
     let file = c.in_ok-file.file in
     let kept = c.requires.loaded.kept in
     let there = some_file es p (ap is_some (found p (folder_of es) c.in-Ok.field-0 (sym c.place_in.ensures ∙ c.in-Ok.is)).finds) in
-    loaded_by m g.L.Lint.is_unit _ c.replace_file.new.kept.files.entries (with_file (folder_of es) p file.bytes.items) c.replace_file.new.kept.callers _
+    loaded_by m g.L.Lint.is_unit _ c.replace_file.new.kept.files.entries (with_file (folder_of es) p file.bytes.items) c.replace_file.new.kept.callers
     (over_kept m g.L.Lint.is_unit p es file kept c.in_ok-file.ensures.kept there) c.in_ok-replace_file-in-Ok.ensures.files
-    (set_is p es file kept.ordered there) c.in_ok-replace_file-in-Ok.ensures.index (omega (arith, c.in_ok-file.ensures.checks, c.requires.loaded.counted))
+    (set_is p es file kept.ordered there) c.in_ok-replace_file-in-Ok.ensures.index
 
 pub returns-in_ok-replace_file-in-Ok-clause-folder : goal.returns-in_ok-replace_file-in-Ok-clause-folder
 returns-in_ok-replace_file-in-Ok-clause-folder g c =
@@ -43,10 +43,10 @@ returns-in_ok-insert_file-in-Err-clause-loaded g c =
     let kept = c.requires.loaded.kept in
     let place = sym c.place_in.ensures ∙ c.in-Err.is in
     let few = c.requires.room (absent (folder_of es) p c.in-Err.index kept.ordered place) in
-    loaded_by m g.L.Lint.is_unit _ c.insert_file.new.kept.files.entries _ c.insert_file.new.kept.callers _
+    loaded_by m g.L.Lint.is_unit _ c.insert_file.new.kept.files.entries _ c.insert_file.new.kept.callers
     (new_kept m g.L.Lint.is_unit p es c.in-Err.index name file kept c.in_ok-file.ensures.kept same place few) c.in_ok-insert_file-in-Err.ensures.files
     (insert_is p es c.in-Err.index name file same place ∙ ap (λ x. with_file (folder_of es) x file.bytes.items) (sym same))
-    c.in_ok-insert_file-in-Err.ensures.index (omega (arith, c.in_ok-file.ensures.checks, c.requires.loaded.counted))
+    c.in_ok-insert_file-in-Err.ensures.index
 
 pub returns-in_ok-insert_file-in-Err-clause-folder : goal.returns-in_ok-insert_file-in-Err-clause-folder
 returns-in_ok-insert_file-in-Err-clause-folder g c =

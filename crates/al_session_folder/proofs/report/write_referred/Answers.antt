@@ -27,11 +27,11 @@ write_fault_at-requires-clause-within g c =
 pub returns-in_err-write_fault_at-clause-prefix : goal.returns-in_err-write_fault_at-clause-prefix
 returns-in_err-write_fault_at-clause-prefix g c =
     let p = err_from_is_err_and c.from_residual.result c.from_residual.ensures.1 in
-    let front = AppendsPrefix-next (λ r. fault_text c.args.listing.now.oneline c.args.listing.now.path.now c.as_slice-bytes.result.now r.now) c.args.faults.now c.loop-fault.fault-index
+    let so_far = AppendsPrefix-next (λ r. fault_text c.args.listing.now.oneline c.args.listing.now.path.now c.as_slice-bytes.result.now r.now) c.args.faults.now c.loop-fault.fault-index
     c.fault-item.result (omega (arith, c.loop-fault-test.true)) c.fault-item.is _ _ _ c.loop-fault.invariant.appended
     c.in_err-write_fault_at.ensures.prefix in
     rw (p.1, ← c.as_slice-bytes.ensures.value) (subst (λ (l : List ℕ). AppendsPrefix (g.W.Write.contents c.args.writer.now.inner) (g.W.Write.contents c.write_fault_at.new.writer.inner) l)
-    (flat_map-referred (fault_text c.args.listing.now.oneline c.args.listing.now.path.now c.as_slice-bytes.result.now) c.args.faults.now) front)
+    (flat_map-referred (fault_text c.args.listing.now.oneline c.args.listing.now.path.now c.as_slice-bytes.result.now) c.args.faults.now) so_far)
 
 pub loop-fault-preserved : goal.loop-fault-preserved
 loop-fault-preserved g c = record {

@@ -8,7 +8,7 @@ abbrev pub invariant-loop-at : goal.invariant-loop-at
 invariant-loop-at g l = record {
   shorter : length l.rest ≤ length l.text;
   all : (b : Option (List ℕ)) → Appends (g.W.Write.contents l.writer.inner) b (printable l.rest) → Appends (g.W.Write.contents l.fn.writer.inner) b (printable l.text);
-  front : (b : Option (List ℕ)) → AppendsPrefix (g.W.Write.contents l.writer.inner) b (printable l.rest) → AppendsPrefix (g.W.Write.contents l.fn.writer.inner) b (printable l.text);
+  prefix : (b : Option (List ℕ)) → AppendsPrefix (g.W.Write.contents l.writer.inner) b (printable l.rest) → AppendsPrefix (g.W.Write.contents l.fn.writer.inner) b (printable l.text);
   unfailed : l.writer.failures ≡ l.fn.writer.failures;
 }
 

@@ -3,7 +3,7 @@ use Rattle.al_base.specs.declared.faults.Fault.{Fault}
 use Rattle.al_yaml_tree.specs.View.{entries_of, entry_view, nodes_of, view}
 use Rattle.al_tree.specs.Faults.{entries_faults, entry_faults, faults, items_faults, Standing, standing, standing_view, takes_null}
 use Rattle.al_tree.specs.Keys.{holds, key_of, keys_in}
-use Rattle.al_tree.specs.Names.{among}
+use Rattle.al_base.specs.Names.{among}
 use Rattle.al_tree.specs.Table.{keys_view}
 use Rattle.al_tree.proofs.KeyLemmas.{all_keys}
 use Rattle.al_tree.proofs.Lists.{keys_next, left_next}

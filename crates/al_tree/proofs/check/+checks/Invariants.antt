@@ -2,7 +2,7 @@ use Rattle.std.proofs.Common.{◌≡◌, ◌++◌, [], take, drop, map}
 use Rattle.al_yaml_tree.specs.View.{entries_of, entry_view, nodes_of, view}
 use Rattle.al_tree.specs.Faults.{entries_faults, items_faults}
 use Rattle.al_tree.specs.Keys.{keys_in}
-use Rattle.al_tree.specs.Names.{among}
+use Rattle.al_base.specs.Names.{among}
 use Rattle.al_tree.specs.Table.{keys_view}
 use Rattle.al_tree.proofs.check.+checks.Given as goal
 

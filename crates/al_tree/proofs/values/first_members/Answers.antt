@@ -2,7 +2,7 @@ use Rattle.std.proofs.Common.{◌≡◌, ◌∷◌, ◌++◌, [], ◌+◌, ap, a
 use Rattle.std.proofs.lemmas.List.{map-append}
 use Rattle.al_yaml_tree.specs.View.{entry_view}
 use Rattle.al_tree.specs.Keys.{key_of, keys_in}
-use Rattle.al_tree.specs.Names.{among}
+use Rattle.al_base.specs.Names.{among}
 use Rattle.al_tree.specs.Values.{firsts_by, member_of}
 use Rattle.al_tree.proofs.Lists.{keys_next, left_next}
 use Rattle.al_tree.proofs.values.first_members.Goals.{then-is_new+in_ok-push, else-is_new}

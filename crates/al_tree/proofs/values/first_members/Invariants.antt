@@ -2,7 +2,7 @@ use Rattle.std.proofs.Common.{◌≡◌, ◌++◌, [], take, drop, map}
 use Rattle.al_yaml_tree.specs.View.{entry_view}
 use Rattle.al_tree.specs.Keys.{keys_in}
 use Rattle.al_tree.specs.Values.{member_of}
-use Rattle.al_tree.specs.Names.{among}
+use Rattle.al_base.specs.Names.{among}
 use Rattle.al_tree.specs.Values.{firsts_by}
 use Rattle.al_tree.proofs.values.first_members.Given as goal
 

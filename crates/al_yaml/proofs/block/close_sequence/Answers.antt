@@ -1,6 +1,6 @@
 use Rattle.std.proofs.Common.{map, refl, sym, ap, ◌∙◌}
 use Rattle.al_scalar.specs.Places.{lines_at}
-use Rattle.al_scalar.specs.Scalar.{span}
+use Rattle.al_base.specs.Spans.{span}
 use Rattle.al_yaml_tree.specs.Node as tree
 use Rattle.al_yaml_tree.specs.View.{view, nodes_of}
 use Rattle.al_yaml_parts.specs.Answers.{mark_of, noting}

@@ -1,12 +1,9 @@
-use Rattle.std.proofs.Common.{◌≡◌, suc, ap, sym, ◌∙◌, false, not, ◌&&◌}
+use Rattle.std.proofs.Common.{◌≡◌, ap, sym, ◌∙◌, false, not, ◌&&◌}
 use Rattle.std.proofs.lemmas.Result.{err_from_is_err_and}
 use Rattle.al_scalar.specs.Places.{lines_at}
-use Rattle.al_yaml_tree.specs.Blocks.{block_node, is_behind_key, rest_node}
-use Rattle.al_yaml.specs.Private.BlockFrames.{node_reader}
+use Rattle.al_yaml_tree.specs.Blocks.{is_behind_key, rest_node}
 use Rattle.al_yaml_parts.specs.BlockReads.{slot_of}
-use Rattle.al_yaml_parts.specs.Answers.{completing}
 use Rattle.al_yaml_tree.specs.Keys.{is_on_key}
-use Rattle.al_yaml_parts.specs.Places.{fault_of}
 use Rattle.al_yaml_parts.specs.Reads.{run, part_of, state_of}
 use Rattle.al_yaml_parts.specs.Stacks.{depth_in}
 use Rattle.al_yaml_parts.proofs.ReadLemmas.{stops-from}
@@ -24,14 +21,10 @@ pub returns-then-has_no_name-clause-is : goal.returns-then-has_no_name-clause-is
 returns-then-has_no_name-clause-is c = λ bound.
     let bytes = c.args.file.now.bytes.now in
     let n = state_of c.args.progress.now.state in
-    let ls = lines_at bytes c.args.node.start.at in
+    let slot = slot_of c.args.node.slot in
     let d = depth_in c.args.progress.now.stack in
-    let node = completing bytes c.args.node.anchor (node_reader (suc bound) c.args.node.anchor (slot_of c.args.node.slot) d c.args.node.start.column ls) in
-    let whole = block_node (suc bound) (slot_of c.args.node.slot) d c.args.node.start.column ls in
-    let bare : run n node ≡ run n whole = no-anchor bound c.args.node.anchor (slot_of c.args.node.slot) (depth_in c.args.progress.now.stack)
-    c.args.node.start.column (state_of c.args.progress.now.state) c.args.file.now.bytes.now c.args.node.start.at c.if-is_some.ensures in
-    bare ∙ block-unnamed bound (slot_of c.args.node.slot) (depth_in c.args.progress.now.stack) c.args.node.start.column
-    (state_of c.args.progress.now.state) c.args.file.now.bytes.now c.args.node.start.at c.requires.node.inside c.requires.property
+    let bare = no-anchor bound c.args.node.anchor slot d c.args.node.start.column n bytes c.args.node.start.at c.if-is_some.ensures in
+    bare ∙ block-unnamed bound slot d c.args.node.start.column n bytes c.args.node.start.at c.requires.node.inside c.requires.property
     c.if-has_no_name.ensures
 
 pub returns-then-branch-clause-is : goal.returns-then-branch-clause-is
@@ -39,14 +32,11 @@ returns-then-branch-clause-is c = λ bound.
     let bytes = c.args.file.now.bytes.now in
     let n = state_of c.args.progress.now.state in
     let ls = lines_at bytes c.args.node.start.at in
+    let slot = slot_of c.args.node.slot in
     let d = depth_in c.args.progress.now.stack in
-    let node = completing bytes c.args.node.anchor (node_reader (suc bound) c.args.node.anchor (slot_of c.args.node.slot) d c.args.node.start.column ls) in
-    let whole = block_node (suc bound) (slot_of c.args.node.slot) d c.args.node.start.column ls in
-    let bare : run n node ≡ run n whole = no-anchor bound c.args.node.anchor (slot_of c.args.node.slot) (depth_in c.args.progress.now.stack)
-    c.args.node.start.column (state_of c.args.progress.now.state) c.args.file.now.bytes.now c.args.node.start.at c.if-is_some.ensures in
-    bare ∙ block-on_key bound (slot_of c.args.node.slot) (depth_in c.args.progress.now.stack) c.args.node.start.column
-    (state_of c.args.progress.now.state) c.args.file.now.bytes.now c.args.node.start.at c.requires.node.inside c.requires.property
-    c.if-has_no_name.ensures (on-key (is_behind_key (slot_of c.args.node.slot).spot) (is_on_key ls) c.if-not-is_behind_key.ensures
+    let bare = no-anchor bound c.args.node.anchor slot d c.args.node.start.column n bytes c.args.node.start.at c.if-is_some.ensures in
+    bare ∙ block-on_key bound slot d c.args.node.start.column n bytes c.args.node.start.at c.requires.node.inside c.requires.property
+    c.if-has_no_name.ensures (on-key (is_behind_key slot.spot) (is_on_key ls) c.if-not-is_behind_key.ensures
     (sym c.if-branch.true ∙ c.in_ok-is_on_key.ensures))
 
 pub returns-in_err-part-clause-is : goal.returns-in_err-part-clause-is
@@ -54,20 +44,17 @@ returns-in_err-part-clause-is c = λ bound.
     let bytes = c.args.file.now.bytes.now in
     let n = state_of c.args.progress.now.state in
     let ls = lines_at bytes c.args.node.start.at in
+    let slot = slot_of c.args.node.slot in
     let d = depth_in c.args.progress.now.stack in
-    let node = completing bytes c.args.node.anchor (node_reader (suc bound) c.args.node.anchor (slot_of c.args.node.slot) d c.args.node.start.column ls) in
-    let whole = block_node (suc bound) (slot_of c.args.node.slot) d c.args.node.start.column ls in
-    let bare : run n node ≡ run n whole = no-anchor bound c.args.node.anchor (slot_of c.args.node.slot) (depth_in c.args.progress.now.stack)
-    c.args.node.start.column (state_of c.args.progress.now.state) c.args.file.now.bytes.now c.args.node.start.at c.if-is_some.ensures in
-    let free : false ≡ (not (is_behind_key (slot_of c.args.node.slot).spot) && is_on_key ls) = elim c.else-not-is_behind_key.branch [
-      | else-not-is_behind_key-via-then-not-is_behind_key+in_ok-is_on_key+else-branch w ↦ off-key (is_behind_key (slot_of c.args.node.slot).spot)
+    let bare = no-anchor bound c.args.node.anchor slot d c.args.node.start.column n bytes c.args.node.start.at c.if-is_some.ensures in
+    let free : false ≡ (not (is_behind_key slot.spot) && is_on_key ls) = elim c.else-not-is_behind_key.branch [
+      | else-not-is_behind_key-via-then-not-is_behind_key+in_ok-is_on_key+else-branch w ↦ off-key (is_behind_key slot.spot)
           (is_on_key ls) (sym w.if-branch.false ∙ w.in_ok-is_on_key.ensures)
-      | else-not-is_behind_key-via-else-not-is_behind_key w ↦ off-line (is_behind_key (slot_of c.args.node.slot).spot) (is_on_key ls) w.if-not-is_behind_key.ensures
+      | else-not-is_behind_key-via-else-not-is_behind_key w ↦ off-line (is_behind_key slot.spot) (is_on_key ls) w.if-not-is_behind_key.ensures
     ] in
     let p = err_from_is_err_and c.from_residual-in_err-part.result c.from_residual-in_err-part.ensures.1 in
-    rw (p.1, p.2) (stops-from node whole n n c.in_err-part.field-0.0 bare
-    (alias-stops bound (slot_of c.args.node.slot) (depth_in c.args.progress.now.stack) c.args.node.start.column
-    (state_of c.args.progress.now.state) c.args.file.now.bytes.now c.args.node.start.at c.requires.node.inside c.requires.property
+    rw (p.1, p.2) (stops-from _ _ n n c.in_err-part.field-0.0 bare
+    (alias-stops bound slot d c.args.node.start.column n bytes c.args.node.start.at c.requires.node.inside c.requires.property
     c.if-has_no_name.ensures free c.if-begins.ensures.value c.in_err-part.field-0.0
     (rw c.depth-depth.ensures.value at c.in_err-part.ensures.is)))
 
@@ -76,39 +63,33 @@ returns-in_err-next-clause-is c = λ bound.
     let bytes = c.args.file.now.bytes.now in
     let n = state_of c.args.progress.now.state in
     let ls = lines_at bytes c.args.node.start.at in
+    let slot = slot_of c.args.node.slot in
     let d = depth_in c.args.progress.now.stack in
-    let node = completing bytes c.args.node.anchor (node_reader (suc bound) c.args.node.anchor (slot_of c.args.node.slot) d c.args.node.start.column ls) in
-    let whole = block_node (suc bound) (slot_of c.args.node.slot) d c.args.node.start.column ls in
-    let bare : run n node ≡ run n whole = no-anchor bound c.args.node.anchor (slot_of c.args.node.slot) (depth_in c.args.progress.now.stack)
-    c.args.node.start.column (state_of c.args.progress.now.state) c.args.file.now.bytes.now c.args.node.start.at c.if-is_some.ensures in
-    let free : false ≡ (not (is_behind_key (slot_of c.args.node.slot).spot) && is_on_key ls) = elim c.else-not-is_behind_key.branch [
-      | else-not-is_behind_key-via-then-not-is_behind_key+in_ok-is_on_key+else-branch w ↦ off-key (is_behind_key (slot_of c.args.node.slot).spot)
+    let bare = no-anchor bound c.args.node.anchor slot d c.args.node.start.column n bytes c.args.node.start.at c.if-is_some.ensures in
+    let free : false ≡ (not (is_behind_key slot.spot) && is_on_key ls) = elim c.else-not-is_behind_key.branch [
+      | else-not-is_behind_key-via-then-not-is_behind_key+in_ok-is_on_key+else-branch w ↦ off-key (is_behind_key slot.spot)
           (is_on_key ls) (sym w.if-branch.false ∙ w.in_ok-is_on_key.ensures)
-      | else-not-is_behind_key-via-else-not-is_behind_key w ↦ off-line (is_behind_key (slot_of c.args.node.slot).spot) (is_on_key ls) w.if-not-is_behind_key.ensures
+      | else-not-is_behind_key-via-else-not-is_behind_key w ↦ off-line (is_behind_key slot.spot) (is_on_key ls) w.if-not-is_behind_key.ensures
     ] in
     let p = err_from_is_err_and c.from_residual-in_err-next.result c.from_residual-in_err-next.ensures.1 in
-    rw (p.1, p.2) (bare ∙ alias-wrong bound (slot_of c.args.node.slot) (depth_in c.args.progress.now.stack) c.args.node.start.column
-    (state_of c.args.progress.now.state) c.args.file.now.bytes.now c.args.node.start.at c.requires.node.inside c.requires.property
+    rw (p.1, p.2) (bare ∙ alias-wrong bound slot d c.args.node.start.column n bytes c.args.node.start.at c.requires.node.inside c.requires.property
     c.if-has_no_name.ensures free c.if-begins.ensures.value (state_of c.read_alias.new.state) (part_of bytes c.in_ok-part.part)
-    (rw c.depth-depth.ensures.value at c.in_ok-part.ensures.is) (fault_of c.in_err-next.field-0.0) c.in_err-next.ensures.is)
+    (rw c.depth-depth.ensures.value at c.in_ok-part.ensures.is) c.in_err-next.field-0.0 c.in_err-next.ensures.is)
 
 pub returns-then-begins-clause-is : goal.returns-then-begins-clause-is
 returns-then-begins-clause-is c = λ bound.
     let bytes = c.args.file.now.bytes.now in
     let n = state_of c.args.progress.now.state in
     let ls = lines_at bytes c.args.node.start.at in
+    let slot = slot_of c.args.node.slot in
     let d = depth_in c.args.progress.now.stack in
-    let node = completing bytes c.args.node.anchor (node_reader (suc bound) c.args.node.anchor (slot_of c.args.node.slot) d c.args.node.start.column ls) in
-    let whole = block_node (suc bound) (slot_of c.args.node.slot) d c.args.node.start.column ls in
-    let bare : run n node ≡ run n whole = no-anchor bound c.args.node.anchor (slot_of c.args.node.slot) (depth_in c.args.progress.now.stack)
-    c.args.node.start.column (state_of c.args.progress.now.state) c.args.file.now.bytes.now c.args.node.start.at c.if-is_some.ensures in
-    let free : false ≡ (not (is_behind_key (slot_of c.args.node.slot).spot) && is_on_key ls) = elim c.else-not-is_behind_key.branch [
-      | else-not-is_behind_key-via-then-not-is_behind_key+in_ok-is_on_key+else-branch w ↦ off-key (is_behind_key (slot_of c.args.node.slot).spot)
+    let bare = no-anchor bound c.args.node.anchor slot d c.args.node.start.column n bytes c.args.node.start.at c.if-is_some.ensures in
+    let free : false ≡ (not (is_behind_key slot.spot) && is_on_key ls) = elim c.else-not-is_behind_key.branch [
+      | else-not-is_behind_key-via-then-not-is_behind_key+in_ok-is_on_key+else-branch w ↦ off-key (is_behind_key slot.spot)
           (is_on_key ls) (sym w.if-branch.false ∙ w.in_ok-is_on_key.ensures)
-      | else-not-is_behind_key-via-else-not-is_behind_key w ↦ off-line (is_behind_key (slot_of c.args.node.slot).spot) (is_on_key ls) w.if-not-is_behind_key.ensures
+      | else-not-is_behind_key-via-else-not-is_behind_key w ↦ off-line (is_behind_key slot.spot) (is_on_key ls) w.if-not-is_behind_key.ensures
     ] in
-    bare ∙ alias-ok bound (slot_of c.args.node.slot) (depth_in c.args.progress.now.stack) c.args.node.start.column
-    (state_of c.args.progress.now.state) c.args.file.now.bytes.now c.args.node.start.at c.requires.node.inside c.requires.property
+    bare ∙ alias-ok bound slot d c.args.node.start.column n bytes c.args.node.start.at c.requires.node.inside c.requires.property
     c.if-has_no_name.ensures free c.if-begins.ensures.value (state_of c.read_alias.new.state) (part_of bytes c.in_ok-part.part)
     (rw c.depth-depth.ensures.value at c.in_ok-part.ensures.is) (lines_at bytes c.in_ok-next.next) c.in_ok-next.ensures.is
 
@@ -117,22 +98,18 @@ returns-clause-is c = λ bound.
     let bytes = c.args.file.now.bytes.now in
     let n = state_of c.args.progress.now.state in
     let ls = lines_at bytes c.args.node.start.at in
+    let slot = slot_of c.args.node.slot in
     let d = depth_in c.args.progress.now.stack in
-    let node = completing bytes c.args.node.anchor (node_reader (suc bound) c.args.node.anchor (slot_of c.args.node.slot) d c.args.node.start.column ls) in
-    let whole = block_node (suc bound) (slot_of c.args.node.slot) d c.args.node.start.column ls in
-    let bare : run n node ≡ run n whole = no-anchor bound c.args.node.anchor (slot_of c.args.node.slot) (depth_in c.args.progress.now.stack)
-    c.args.node.start.column (state_of c.args.progress.now.state) c.args.file.now.bytes.now c.args.node.start.at c.if-is_some.ensures in
-    let free : false ≡ (not (is_behind_key (slot_of c.args.node.slot).spot) && is_on_key ls) = elim c.else-not-is_behind_key.branch [
-      | else-not-is_behind_key-via-then-not-is_behind_key+in_ok-is_on_key+else-branch w ↦ off-key (is_behind_key (slot_of c.args.node.slot).spot)
+    let bare = no-anchor bound c.args.node.anchor slot d c.args.node.start.column n bytes c.args.node.start.at c.if-is_some.ensures in
+    let free : false ≡ (not (is_behind_key slot.spot) && is_on_key ls) = elim c.else-not-is_behind_key.branch [
+      | else-not-is_behind_key-via-then-not-is_behind_key+in_ok-is_on_key+else-branch w ↦ off-key (is_behind_key slot.spot)
           (is_on_key ls) (sym w.if-branch.false ∙ w.in_ok-is_on_key.ensures)
-      | else-not-is_behind_key-via-else-not-is_behind_key w ↦ off-line (is_behind_key (slot_of c.args.node.slot).spot) (is_on_key ls) w.if-not-is_behind_key.ensures
+      | else-not-is_behind_key-via-else-not-is_behind_key w ↦ off-line (is_behind_key slot.spot) (is_on_key ls) w.if-not-is_behind_key.ensures
     ] in
-    let content = content_reader bound (slot_of c.args.node.slot) (depth_in c.args.progress.now.stack) c.args.node.start.column
-    (state_of c.args.progress.now.state) c.args.file.now.bytes.now c.args.node.start.at c.requires.node.inside c.requires.property in
-    begins-from bytes bound d n (state_of c.find_rest.new.state) node whole c.find_rest.result bare
-    (property-begins bytes bound d c.args.node.start.at n (state_of c.find_rest.new.state) whole
-    (rest_node content (slot_of c.args.node.slot) d c.args.node.start.column ls (lines_at bytes c.property_end-rest.result)) c.find_rest.result
-    (ap (run n) (block-anchor bound (slot_of c.args.node.slot) (depth_in c.args.progress.now.stack) c.args.node.start.column
-    (state_of c.args.progress.now.state) c.args.file.now.bytes.now c.args.node.start.at c.requires.node.inside c.requires.property
+    let content = content_reader bound slot d c.args.node.start.column n bytes c.args.node.start.at c.requires.node.inside c.requires.property in
+    begins-from bytes bound d n (state_of c.find_rest.new.state) _ _ c.find_rest.result bare
+    (property-begins bytes bound d c.args.node.start.at n (state_of c.find_rest.new.state) _
+    (rest_node content slot d c.args.node.start.column ls (lines_at bytes c.property_end-rest.result)) c.find_rest.result
+    (ap (run n) (block-anchor bound slot d c.args.node.start.column n bytes c.args.node.start.at c.requires.node.inside c.requires.property
     c.if-has_no_name.ensures free c.if-begins.ensures.value c.property_end-rest.result c.property_end-rest.ensures.lines))
     (c.find_rest.ensures.is content d))

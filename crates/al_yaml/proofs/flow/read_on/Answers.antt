@@ -3,7 +3,6 @@ use Rattle.std.proofs.lemmas.Result.{err_from_is_err_and}
 use Rattle.al_yaml.specs.Private.FlowAnswers.{Keeps}
 use Rattle.al_yaml.specs.Private.FlowFrames.{AreOpen, frame_of, open_of, waiting_of}
 use Rattle.al_yaml_parts.specs.Answers.{mark_of}
-use Rattle.al_yaml_parts.specs.Places.{fault_of}
 use Rattle.al_yaml_parts.specs.Reads.{state_of}
 use Rattle.al_yaml.proofs.FlowLemmas.{collection-broken}
 use Rattle.al_yaml.proofs.FlowLoop.{frames-length, opens-keeps, step-keeps}
@@ -52,9 +51,9 @@ returns-in_err-start-in-Opens-clause-is c = λ first whole deep now.
     rw (p.1, p.2) (inside-broken bytes first whole (map (frame_of bytes) outer) (state_of c.args.progress.now.state)
     c.args.collection.opening (open_of c.args.collection.has) c.args.at c.args.depth (omega (arith, deep, frames-length bytes outer)) now
     c.requires.at (state_of c.read_inside.new.state) b.at (mark_of bytes b.anchor) (waiting_of bytes b.at c.read_inside.new.has) found
-    within.from within.inside (fault_of c.in_err-start-in-Opens.field-0.0)
+    within.from within.inside c.in_err-start-in-Opens.field-0.0
     (λ bound. collection-broken bound c.args.depth (state_of c.read_inside.new.state) bytes b.at (omega (arith, within.inside))
-    (fault_of c.in_err-start-in-Opens.field-0.0) c.in_err-start-in-Opens.ensures.limits))
+    c.in_err-start-in-Opens.field-0.0 c.in_err-start-in-Opens.ensures.limits))
 
 pub returns-in_ok-start-in-Opens-clause-is : goal.returns-in_ok-start-in-Opens-clause-is
 returns-in_ok-start-in-Opens-clause-is c = λ first whole deep now.

@@ -1,6 +1,6 @@
 use Rattle.std.proofs.lemmas.Result.{err_from_is_err_and}
 use Rattle.al_scalar.specs.ReadScalar.{read_of}
-use Rattle.al_yaml_parts.specs.Places.{fault_of, option_lines}
+use Rattle.al_yaml_parts.specs.Places.{option_lines}
 use Rattle.al_yaml_parts.specs.Reads.{state_of}
 use Rattle.al_yaml_parts.proofs.FlowNodeLemmas.{key-fault, key-property, key-opens, key-unread, key-wrong, key-broken, key-ok}
 use Rattle.al_yaml_parts.proofs.flow_nodes.read_flow_key.Goals as goal
@@ -27,7 +27,7 @@ returns-in_err-colon-clause-is c = λ depth.
     let p = err_from_is_err_and c.from_residual-in_err-colon.result c.from_residual-in_err-colon.ensures.1 in
     rw (p.1, p.2) (λ col. key-wrong col depth (state_of c.args.state.now) c.args.file.now.bytes.now c.args.at c.requires.inside
     c.in_default.ensures c.if-is_property.ensures c.if-is_flow_start.ensures.value (read_of c.args.file.now.bytes.now c.in_ok-read.read)
-    c.in_ok-read.ensures.is (fault_of c.in_err-colon.field-0.0) c.in_err-colon.ensures.is)
+    c.in_ok-read.ensures.is c.in_err-colon.field-0.0 c.in_err-colon.ensures.is)
 
 pub returns-in_err-start-clause-is : goal.returns-in_err-start-clause-is
 returns-in_err-start-clause-is c = λ depth.
@@ -35,7 +35,7 @@ returns-in_err-start-clause-is c = λ depth.
     rw (p.1, p.2) (λ col. key-broken col depth (state_of c.args.state.now) c.args.file.now.bytes.now c.args.at c.requires.inside
     c.in_default.ensures c.if-is_property.ensures c.if-is_flow_start.ensures.value (read_of c.args.file.now.bytes.now c.in_ok-read.read)
     c.in_ok-read.ensures.is (option_lines c.args.file.now.bytes.now c.in_ok-colon.colon) c.in_ok-colon.ensures.is
-    (fault_of c.in_err-start.field-0.0) c.in_err-start.ensures.limits)
+    c.in_err-start.field-0.0 c.in_err-start.ensures.limits)
 
 pub returns-clause-is : goal.returns-clause-is
 returns-clause-is c = λ depth col. key-ok col depth (state_of c.args.state.now) c.args.file.now.bytes.now c.args.at c.requires.inside

@@ -6,7 +6,6 @@ use Rattle.al_scalar.specs.Scalar.{scalar_at}
 use Rattle.al_yaml_tree.specs.Flow.{flow_content}
 use Rattle.al_yaml_tree.specs.Reading.{with_start, start_of}
 use Rattle.al_yaml_parts.specs.Reads.{run, state_of}
-use Rattle.al_yaml_parts.specs.Places.{fault_of}
 use Rattle.al_yaml_parts.proofs.RunLemmas.{run-broken}
 use Rattle.al_yaml_parts.proofs.ReadLemmas.{stops-same, scalar_reading, scalar-stops, scalar-ok}
 use Rattle.al_yaml_parts.proofs.FlowNodeLemmas.{content-fault, content-scalar}
@@ -22,7 +21,7 @@ returns-in_err-start-clause-is c = λ col slot depth.
     (content-scalar col slot depth (state_of c.args.state.now) c.args.file.now.bytes.now c.args.at c.requires.inside
     c.in_default.ensures c.requires.plain c.requires.scalar)
     ∙ run-broken (state_of c.args.state.now) 1 c.args.at 0
-    (scalar_reading (scalar_at flow (lines_at c.args.file.now.bytes.now c.args.at))) (fault_of c.in_err-start.field-0.0)
+    (scalar_reading (scalar_at flow (lines_at c.args.file.now.bytes.now c.args.at))) c.in_err-start.field-0.0
     c.in_err-start.ensures.limits)
 
 pub returns-in_err-read-clause-is : goal.returns-in_err-read-clause-is

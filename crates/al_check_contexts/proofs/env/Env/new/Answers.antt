@@ -13,7 +13,7 @@ use Rattle.al_check_contexts.proofs.StepLemmas.{prefixes_stay, steps_stay}
 use Rattle.al_check_contexts.proofs.env.Env.new.Goals as goal
 
 pub of-requires-3 : goal.of-requires-3
-of-requires-3 c = c.in_ok-step_types.ensures c.strategy.new.types (step_at c.in_ok-outputs.outputs)
+of-requires-3 c = c.in_ok-step_types.ensures c.strategy_type.new.types (step_at c.in_ok-outputs.outputs)
 
 pub returns : goal.returns
 returns c =
@@ -22,7 +22,7 @@ returns c =
     let outputs = c.in_ok-outputs.outputs in
     let known = known_by outputs in
     let owner = owner_of kind root None in
-    let zero = c.strategy.new.types in
+    let zero = c.strategy_type.new.types in
     let one = c.of-3.new.types in
     let two = c.first.new.types in
     let now = c.first_types.new.types in

@@ -7,7 +7,7 @@ use Rattle.al_session_folder.specs.declared.kept.KeptFile.{KeptFile}
 use Rattle.al_session_folder.specs.Kept.{folder_of}
 use Rattle.al_session_folder.specs.Loops.{calls_graph, leads_back}
 use Rattle.al_session_folder.specs.CallGraphs.{IsCalledBy, TellLoops}
-use Rattle.al_session_folder.specs.Sites.{fault_of}
+use Rattle.al_session_folder.specs.Sites.{site_fault}
 use Rattle.al_session_folder.proofs.Looping.{call_edge, entry_number, entry_there, fault_if, if_called, kept_number, looping_end, looping_next, one_entry, row_of}
 use Rattle.al_session_folder.proofs.loops.LinkedFiles.add_faults_of_calls.Goals as goal
 
@@ -68,10 +68,10 @@ loop-call-preserved g c p b at =
     let edge : IsCalledBy G c.args.index c.callee_again-to.result =
     subst (IsCalledBy G c.args.index) (sym to) (call_edge m F c.args.index c.loop-call.call p b t.0 at within read) in
     let back = c.leads_back-leads_back.ensures G tells edge ∙ ap (leads_back G c.args.index) to in
-    let added = c.in_ok-add_fault_if.ensures ∙ ap (λ back. c.loop-call.faults ++ fault_if back (fault_of c.site.result)) back in
+    let added = c.in_ok-add_fault_if.ensures ∙ ap (λ back. c.loop-call.faults ++ fault_if back (site_fault c.site.result)) back in
     let unit = subst (λ (x : List ℕ × List ℕ). g.L.Lint.is_unit e.1.unit x.0 x.1) same kept.unit in
     looping_next G F c.args.index (m.calls p b) (m.sites p b) c.loop-call.call c.loop-call.faults _
-    (c.loop-call.invariant p b at) c.add_fault_if.new.faults t.0 (fault_of c.site.result) within read (c.site.ensures p b unit) added
+    (c.loop-call.invariant p b at) c.add_fault_if.new.faults t.0 (site_fault c.site.result) within read (c.site.ensures p b unit) added
 
 pub returns : goal.returns
 returns g c =

@@ -22,7 +22,7 @@ check-requires-clause-answers g c =
     }
 
 pub unreachable-requires : goal.unreachable-requires
-unreachable-requires g c = never_lacking _ c.in_default.ensures.bytes c.requires.there
+unreachable-requires g c = never_lacking _ c.in_default.ensures.bytes c.requires
 
 pub returns-clause-faults : goal.returns-clause-faults
 returns-clause-faults g c =

@@ -6,11 +6,11 @@ use Rattle.al_session_folder.specs.Kept.{faults_of}
 use Rattle.al_session_folder.proofs.Answering.{map_both, raised_more}
 use Rattle.al_session_folder.proofs.view.FolderView.check_paths.Goals as goal
 
-pub check_path-requires-clause-there : goal.check_path-requires-clause-there
-check_path-requires-clause-there g c =
+pub check_path-requires : goal.check_path-requires
+check_path-requires g c =
     let f = c.args.self.now in
     let P : List ℕ → Type 0 = λ q. IsSome (bytes_at f q) in
-    subst P (sym (c.as_str.ensures.text ∙ c.at-item.is)) (All-from_recursion P c.args.paths.now c.requires.there c.loop-at.at-index c.at-item.result (omega arith))
+    subst P (sym (c.as_str.ensures.text ∙ c.at-item.is)) (All-from_recursion P c.args.paths.now c.requires c.loop-at.at-index c.at-item.result (omega arith))
 
 pub loop-at-preserved : goal.loop-at-preserved
 loop-at-preserved g c = record {

@@ -4,7 +4,7 @@ use Rattle.al_types.specs.Strings.{strings}
 use Rattle.al_types.specs.Types.{Any}
 use Rattle.al_check_objects.specs.Objects.{loosely}
 use Rattle.al_check_objects.proofs.Numbers.{means_as}
-use Rattle.al_check_objects.proofs.fixed.runner.Goals as goal
+use Rattle.al_check_objects.proofs.fixed.runner_type.Goals as goal
 
 pub into_type-requires-clause-fields : goal.into_type-requires-clause-fields
 into_type-requires-clause-fields c =

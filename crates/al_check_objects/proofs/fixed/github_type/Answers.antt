@@ -1,7 +1,7 @@
 use Rattle.std.proofs.Common.{ap}
 use Rattle.al_check_objects.specs.Objects.{strictly}
 use Rattle.al_check_objects.proofs.Numbers.{means_as}
-use Rattle.al_check_objects.proofs.fixed.github.Goals as goal
+use Rattle.al_check_objects.proofs.fixed.github_type.Goals as goal
 
 pub into_type-requires-clause-fields : goal.into_type-requires-clause-fields
 into_type-requires-clause-fields c = (c.in_ok-all.ensures c.args.types.now (c.github_fields.ensures.known _)).known

@@ -1,11 +1,11 @@
--- What the front of the bytes that wait shows: a command, a wrong line, or neither yet.
+-- What the beginning of the bytes that wait shows: a command, a wrong line, or neither yet.
 use Rattle.std.proofs.Common.{◌≡◌, ◌≢◌, ℕ, suc, ◌+◌, ◌-◌, ◌^◌, ◌≤◌, ◌<◌, inl, inr, List, [], ◌∷◌, ◌++◌, length, get_or, take, drop, All}
 use Rattle.std.proofs.Common.{refl, sym, ap, subst, ◌∙◌, arith, append_assoc, append-nil, length-append, length-take, length-drop, rules}
 use Rattle.std.proofs.Common.{add-one, decimal}
 use Rattle.std.proofs.lemmas.Grind.{common_steps}
 use Rattle.std.proofs.lemmas.List.{take-append-drop, take_all}
 use Rattle.std.proofs.Math.Seq.{drop-cons, drop-drop}
-use Rattle.al_cli_scripts.specs.Script.{Command, Put, Delete, Report, Line, PutLine, IsLine, IsPathText, line_bytes, line_of, body_of, HasNoBreak, command_bytes, IsWrong, IsPending}
+use Rattle.al_cli_scripts.specs.Script.{Command, Put, Delete, Report, ScriptLine, PutLine, IsLine, IsPathText, line_bytes, line_of, body_of, HasNoBreak, command_bytes, IsWrong, IsPending}
 use Rattle.al_cli_scripts.specs.Private.Next.{IsFirst}
 use Rattle.al_cli_scripts.proofs.Laws.{first_unique, last_unique, has_none, digits_without, line_unbroken, line_unique, no_early}
 use Rattle.std.proofs.Common.{Option, None, Some, Result, Ok, Err, MatchOption, min, get_or-take}
@@ -47,7 +47,7 @@ pending_short bytes p short =
 
 -- a line that is no command's
 pub wrong_here : (bytes : List ℕ) (end : ℕ) → end < length bytes → get_or bytes end 0 ≡ 10 → HasNoBreak (take end bytes)
-    → ((l : Line) → IsLine l → take end bytes ≢ line_bytes l) → IsWrong bytes
+    → ((l : ScriptLine) → IsLine l → take end bytes ≢ line_bytes l) → IsWrong bytes
 wrong_here bytes end h lf plain never = inl (take end bytes, drop (end + 1) bytes, cut_at bytes end 10 h lf, plain, never)
 
 body_long : (c : Command) (path : List ℕ) (len : ℕ) (more : List ℕ) → PutLine path len ≡ line_of c → len < length (body_of c ++ more)
@@ -65,8 +65,8 @@ module _ (bytes : List ℕ) (end : ℕ) (path : List ℕ) (len : ℕ) (within : 
   put_split : bytes ≡ line_bytes (PutLine path len) ++ 10 ∷ drop (end + 1) bytes
   put_split = cut_at bytes end 10 within lf ∙ ap (λ l. l ++ 10 ∷ drop (end + 1) bytes) shown
 
-  -- another line and LF at the front are this line
-  same_line : (l : Line) (rest : List ℕ) → IsLine l → bytes ≡ line_bytes l ++ 10 ∷ rest → (PutLine path len ≡ l) × (drop (end + 1) bytes ≡ rest)
+  -- another line and LF at the beginning are this line
+  same_line : (l : ScriptLine) (rest : List ℕ) → IsLine l → bytes ≡ line_bytes l ++ 10 ∷ rest → (PutLine path len ≡ l) × (drop (end + 1) bytes ≡ rest)
   same_line l rest okl e =
       let s = first_unique 10 (line_bytes (PutLine path len)) (line_bytes l) (drop (end + 1) bytes) rest (line_unbroken (PutLine path len) ok) (line_unbroken l okl) (sym put_split ∙ e) in
       (line_unique (PutLine path len) l ok okl s.0, s.1)
@@ -139,15 +139,15 @@ module _ (bytes : List ℕ) (end : ℕ) (path : List ℕ) (len : ℕ) (within : 
 
 -- ---- the parts of a line
 
-pub find_is : (bytes front : List ℕ) (r : Option ℕ) → front ≡ take 2049 bytes
-    → MatchOption r (HasNoBreak front) (λ end. (end < length front) × HasNoBreak (take end front) × (get_or front end 0 ≡ 10))
+pub find_is : (bytes prefix : List ℕ) (r : Option ℕ) → prefix ≡ take 2049 bytes
+    → MatchOption r (HasNoBreak prefix) (λ end. (end < length prefix) × HasNoBreak (take end prefix) × (get_or prefix end 0 ≡ 10))
     → MatchOption r (HasNoBreak (take 2049 bytes)) (λ end. (end < length bytes) × (end ≤ 2048) × HasNoBreak (take end bytes) × (get_or bytes end 0 ≡ 10))
-find_is bytes front None f p = subst HasNoBreak f p
-find_is bytes front (Some k) f p =
-    let n : length front ≡ min 2049 (length bytes) = ap length f ∙ length-take 2049 bytes in
-    let h : k < length front = p.0 in
-    let t : take k front ≡ take k bytes = ap (take k) f ∙ take_less k 2049 bytes (omega (arith, n, h)) in
-    let g : get_or front k 0 ≡ get_or bytes k 0 = ap (λ l. get_or l k 0) f ∙ get_or-take 2049 bytes k 0 (omega (arith, n, h)) in
+find_is bytes prefix None f p = subst HasNoBreak f p
+find_is bytes prefix (Some k) f p =
+    let n : length prefix ≡ min 2049 (length bytes) = ap length f ∙ length-take 2049 bytes in
+    let h : k < length prefix = p.0 in
+    let t : take k prefix ≡ take k bytes = ap (take k) f ∙ take_less k 2049 bytes (omega (arith, n, h)) in
+    let g : get_or prefix k 0 ≡ get_or bytes k 0 = ap (λ l. get_or l k 0) f ∙ get_or-take 2049 bytes k 0 (omega (arith, n, h)) in
     (omega (arith, n, h), omega (arith, n, h), subst HasNoBreak t p.1, sym g ∙ p.2)
   where
     take_less : (a b : ℕ) (l : List ℕ) → a ≤ b → take a (take b l) ≡ take a l
@@ -176,5 +176,5 @@ put_parts rest at h e none path len n f =
     last_unique 32 (take at rest) path (drop (at + 1) rest) (decimal len) none (digits_without 32 len (omega arith) (omega arith)) (sym (cut_at rest at 32 h e) ∙ f)
 
 -- what follows a prefix of such bytes has no LF either
-pub unbroken_rest : (line front rest : List ℕ) → HasNoBreak line → line ≡ front ++ rest → HasNoBreak rest
-unbroken_rest line front rest p e = subst HasNoBreak (search (rules, common_steps)) (All-drop (λ b. b ≢ 10) (length front) (front ++ rest) (subst HasNoBreak e p))
+pub unbroken_rest : (line prefix rest : List ℕ) → HasNoBreak line → line ≡ prefix ++ rest → HasNoBreak rest
+unbroken_rest line prefix rest p e = subst HasNoBreak (search (rules, common_steps)) (All-drop (λ b. b ≢ 10) (length prefix) (prefix ++ rest) (subst HasNoBreak e p))

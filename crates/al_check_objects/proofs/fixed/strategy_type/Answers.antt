@@ -1,6 +1,6 @@
 use Rattle.std.proofs.Common.{[]}
 use Rattle.al_types.specs.Types.{Bool', Number}
-use Rattle.al_check_objects.proofs.fixed.strategy.Goals as goal
+use Rattle.al_check_objects.proofs.fixed.strategy_type.Goals as goal
 
 pub into_type-requires-clause-fields : goal.into_type-requires-clause-fields
 into_type-requires-clause-fields c =
