@@ -1,8 +1,7 @@
-/* Reads files, or standard input where none is named, with libyaml's event parser, and prints how many events they have. */
-#include <stdio.h>
+/* A peer: libyaml's event parser. */
+#include "each_file.h"
 #include <yaml.h>
 
-/* Adds the events of a file, and answers the status of a run that ends with it. */
 static int read_events(FILE *file, unsigned long *events) {
     yaml_parser_t parser;
     yaml_event_t event;
@@ -22,19 +21,4 @@ static int read_events(FILE *file, unsigned long *events) {
     }
     yaml_parser_delete(&parser);
     return 0;
-}
-
-int main(int count, char **names) {
-    unsigned long events = 0;
-    int status = count > 1 ? 0 : read_events(stdin, &events);
-    for (int i = 1; i < count && status == 0; i++) {
-        FILE *file = fopen(names[i], "rb");
-        if (!file) {
-            return 3;
-        }
-        status = read_events(file, &events);
-        fclose(file);
-    }
-    printf("%lu\n", events);
-    return status;
 }
