@@ -9,6 +9,8 @@ from crates import crates_of
 
 USE = re.compile(r"\buse Rattle\.([\w.]+?)(?:\.\{([^}]*)\}| as (\w+))?;?\s*$")
 HEAD = re.compile(r"^( {0,4})((?:(?:abbrev|unfoldable|pub|record|data|mutual) )+)?(\S+)(.*)$")
+# The constructors of one type may stand in one line.
+CONSTRUCTORS = re.compile(r"^  +([\w' -]+) : ")
 WORD = re.compile(r"[^\s(){},;]+")
 # What brings variables in: `(x y : T)`, `{x : T}`, `λ x y.`, `let x =`, and an equation's left side behind the name.
 TYPED = re.compile(r"[({]([^(){}:λ]+) : ")
@@ -66,10 +68,17 @@ class Module:
     def read_items(self):
         item = None
         for line in self.lines:
-            if not line.strip() or line.lstrip().startswith("--") or USE.search(line):
+            if line.endswith("mutual"):
+                item = None
+            if not line.strip() or line.lstrip().startswith("--") or USE.search(line) or line.endswith("mutual"):
                 continue
             head = HEAD.match(line)
-            if head and (head[2] or head[4].startswith(" :")) and head[3] not in ("_", "module", "mutual"):
+            data = item and "data" in self.items[item].kind and self.items[item]
+            constructors = data and head and not head[2] and len(head[1]) > data.indent and CONSTRUCTORS.match(line)
+            if constructors:
+                for name in constructors[1].split():
+                    self.parts.setdefault(name, []).append(item)
+            elif head and (head[2] or head[4].startswith(" :")) and head[3] not in ("_", "module"):
                 is_part = item and head[1] and not (head[2] or "").strip().startswith(("abbrev", "unfoldable"))
                 if is_part and self.items[item].indent < len(head[1]):
                     self.parts.setdefault(head[3], []).append(item)

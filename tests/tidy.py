@@ -14,9 +14,8 @@ LONGEST = {"src": 140, "specs": 140, "proofs": 200}
 ENDINGS = {"src": ".rt", "specs": ".antt", "proofs": ".antt"}
 # the folders of `specs/` that stand apart from what the product means, each of which may use those before it
 KINDS = ["Private", "Rows", "Proofs"]
-# proofs of the crates, and the definition that takes a tree from one
+# proofs of the crates
 PROOFS = re.compile(r"\bRattle\.((?!std\.)\w+\.proofs\.\w+)")
-WITH_PROOF = {"crates/al_check_expressions/specs/Spelled.antt"}
 MODULE = re.compile(r"\bRattle\.\w+\.specs\.(\w+(?:\.\w+)*)")
 # `use PATH.{NAMES}`, `use PATH as NAME` or `use PATH`; a list may take several lines
 USE = re.compile(r"^ *(?P<passed>pub )?(?:ghost )?use (?P<path>[^{};\n]+?)(?:\{(?P<list>[^}]*)\})?;?\n", re.MULTILINE)
@@ -62,7 +61,7 @@ def later_kinds(top):
         for module in MODULE.findall(text):
             if kind_of(module.split(".")) > own:
                 yield f"{file.relative_to(top)} uses {module}, which isn't what the product means"
-        if own <= KINDS.index("Rows") + 1 and str(file.relative_to(top)) not in WITH_PROOF:
+        if own <= KINDS.index("Rows") + 1:
             yield from (f"{file.relative_to(top)} uses {proof}, and has definitions alone" for proof in PROOFS.findall(text))
 
 

@@ -2,6 +2,7 @@
 use Rattle.std.specs.Prelude.{ℕ, List, ◌-◌, length, slice_range, if◌then◌else◌}
 use Rattle.std.specs.Option.{option_map_or}
 use Rattle.al_scalar.specs.Scalar.{Scalar, text_of}
+use Rattle.al_expr_grammar.specs.Building.{tree_of_content}
 use Rattle.al_expr_grammar.specs.Refusal.{fault_of_content}
 use Rattle.al_types.specs.Scopes.{Scope}
 use Rattle.al_types.specs.Types.{Type', Any, String}
@@ -9,12 +10,11 @@ use Rattle.al_expr_typing.specs.Meaning.{meaning_of, type_found}
 use Rattle.al_tree.specs.Faults.{has_chunk}
 use Rattle.al_check_objects.specs.Matrix.{class_type}
 use Rattle.al_check_expressions.specs.Contents.{is_one_chunk}
-use Rattle.al_check_expressions.specs.Spelled.{tree_of_content}
 
 -- of the content of an expression: any where it has a fault of its own
 abbrev pub content_type : Scope → List ℕ → Type'
 content_type sc content =
-    option_map_or (λ f. Any) (fault_of_content content) (option_map_or (λ t. type_found (meaning_of sc t)) (tree_of_content content) Any)
+    option_map_or (λ f. Any) (fault_of_content content) (type_found (meaning_of sc (tree_of_content content)))
 
 -- of any other text: with expressions in it a string, else by its class
 abbrev pub text_type : Scalar → Type'

@@ -14,7 +14,7 @@ ghost use Rattle.al_types.specs.Types.{Parts};
 
 use al_base::FaultSink;
 use al_check_objects::class_type_of;
-use al_expr_grammar::{Chunk, chunks, grammar, parse_expr};
+use al_expr_grammar::{Chunk, chunks, parse_expr};
 use al_expr_types::{Base, Ty, Types};
 use al_expr_typing::{Scope, type_of};
 use al_scalar::Scalar;
@@ -35,7 +35,6 @@ fn content_type(
     ensures known { IfOk result (λ t. is_known types.new t ≡ true) }
     ensures kept { BeginsWith (objects_of types.new) (objects_of types.old) }
 {
-    grammar();
     match parse_expr(alloc, content)? {
         Ok(expr) => {
             let mut faults = FaultSink::new(alloc);

@@ -1,6 +1,6 @@
 -- Each fault of an expression lies in the file.
 use Rattle.std.proofs.Common.{◌≡◌, ◌≤◌, ◌<◌, ◌+◌, ◌-◌, ℕ, zero, suc, List, [], ◌∷◌, length, take, drop, map, arith, Bool, true, false, cond}
-use Rattle.std.proofs.Common.{nat_eq, ◌&&◌, ◌||◌, not, Option, Some, None, subst, refl, inl, inr, ◌⊎◌}
+use Rattle.std.proofs.Common.{nat_eq, ◌&&◌, ◌||◌, not, Option, Some, None, refl, inl, inr, ◌⊎◌}
 use Rattle.std.specs.Prelude.{slice_range}
 use Rattle.std.specs.List.{AllByRecursion, flat_map}
 use Rattle.std.specs.Option.{option_map_or, option_to_list}
@@ -11,15 +11,13 @@ use Rattle.al_base.specs.declared.faults.Fault.{Fault}
 use Rattle.al_base.specs.declared.faults.Span.{Span}
 use Rattle.al_scalar.specs.Offsets.{IsFrom, IsPlaced, reach}
 use Rattle.al_scalar.specs.Scalar.{Scalar, offset_of, text_of}
+use Rattle.al_expr_grammar.specs.Building.{tree_of_content}
 use Rattle.al_expr_grammar.specs.Chunks.{chunks_of}
 use Rattle.al_expr_grammar.specs.Extents.{extent}
-use Rattle.al_expr_grammar.specs.Grammar.{Binary}
-use Rattle.al_expr_grammar.specs.Lexeme.{Lexeme}
 use Rattle.al_expr_grammar.specs.Refusal.{expression_fault, fault_of_content}
-use Rattle.al_expr_grammar.specs.Tokens.{Lexed, AllRead, Bad, Unclosed, tokens_of}
 use Rattle.al_expr_grammar.specs.Tree.{Tree}
 use Rattle.al_expr_grammar.proofs.Inside.{TreeLies, chunks_lie, content_fault_lies, extent_lies, tree_lies}
-use Rattle.al_expr_grammar.proofs.Total.{Outcome, outcome_of, read, refused}
+use Rattle.al_expr_grammar.proofs.Spelled.{only_spelled}
 use Rattle.al_types.specs.Scopes.{Scope}
 use Rattle.al_types.specs.Types.{Type', is_collection}
 use Rattle.al_expr_typing.specs.Meaning.{faults_found, meaning_of, type_found}
@@ -34,7 +32,6 @@ use Rattle.al_check_expressions.specs.FileExpressions.{expression_faults}
 use Rattle.al_check_expressions.specs.Contents.{chunk_faults, chunked_faults, collection_faults, content_faults, is_one_chunk, is_whole, span_in_file, fault_in_file, place_faults, tree_faults}
 use Rattle.al_expr_grammar.specs.Inside.{AllLie}
 use Rattle.al_check_expressions.specs.Inside.{IsThere}
-use Rattle.al_check_expressions.specs.Spelled.{tree_in, tree_of_content, tree_of_tokens}
 use Rattle.al_check_expressions.proofs.EndLemmas.{length_text}
 use Rattle.al_scalar.proofs.Locating.{offset_or-end}
 use Rattle.al_scalar.proofs.PlacedLemmas.{offset-order}
@@ -86,24 +83,14 @@ if_lie : (n : ℕ) (t : Bool) (xs ys : List Fault) → AllLie n xs → AllLie n 
 if_lie n true xs ys a b = a
 if_lie n false xs ys a b = b
 
-by_fault : (n : ℕ) (o : Option Fault) (rest : List Fault) → AllLie n (option_to_list o) → AllLie n rest → AllLie n (option_map_or (λ f. f ∷ []) o rest)
-by_fault n None rest a b = b
+by_fault : (n : ℕ) (o : Option Fault) (rest : List Fault) → AllLie n (option_to_list o) → (o ≡ None → AllLie n rest) → AllLie n (option_map_or (λ f. f ∷ []) o rest)
+by_fault n None rest a b = b refl
 by_fault n (Some f) rest a b = a
 
-by_tree : (n : ℕ) (o : Option Tree) (f : Tree → List Fault) → ((t : Tree) → o ≡ Some t → AllLie n (f t)) → AllLie n (option_map_or f o [])
-by_tree n None f h = tt
-by_tree n (Some t) f h = h t refl
-
-outcome_lies : (content : List ℕ) (ts : List Lexeme) (o : Outcome (Binary 0) 50 ts) (t : Tree) → tokens_of content ≡ AllRead ts → tree_in ts o ≡ Some t → TreeLies (length content) 0 t
-outcome_lies content ts (read u rest p) t e is =
-    let same : u ≡ t = cc in
-    subst (TreeLies (length content) 0) same (tree_lies content ts u e p.derives)
-outcome_lies content ts (refused x i r) t e is = absurd cc
-
-lexed_lies : (content : List ℕ) (r : Lexed) (t : Tree) → tokens_of content ≡ r → tree_of_tokens r ≡ Some t → TreeLies (length content) 0 t
-lexed_lies content (AllRead ts) t e is = outcome_lies content ts (outcome_of ts) t e is
-lexed_lies content (Bad s) t e is = absurd cc
-lexed_lies content Unclosed t e is = absurd cc
+content_tree_lies : (content : List ℕ) → fault_of_content content ≡ None → TreeLies (length content) 0 (tree_of_content content)
+content_tree_lies content none =
+    let s = only_spelled content (tree_of_content content) none refl in
+    tree_lies content s.tokens (tree_of_content content) s.reads s.derives
 
 collection_lies : (n : ℕ) (alone only : Bool) (ty : Type') (t : Tree) → TreeLies n 0 t → AllLie n (collection_faults alone only ty t)
 collection_lies n alone only ty t l = if_lie n (is_collection ty && (not alone || only)) (expression_fault code.NotText (extent t) [] ∷ []) [] (extent_lies n t l, tt) tt
@@ -115,9 +102,8 @@ tree_faults_lie n sc alone only t l =
 
 content_lies : (sc : Scope) (alone only : Bool) (content : List ℕ) → AllLie (length content) (content_faults sc alone only content)
 content_lies sc alone only content =
-    by_fault (length content) (fault_of_content content) (option_map_or (tree_faults sc alone only) (tree_of_content content) []) (content_fault_lies content)
-    (by_tree (length content) (tree_of_content content) (tree_faults sc alone only)
-    (λ t e. tree_faults_lie (length content) sc alone only t (lexed_lies content (tokens_of content) t refl e)))
+    by_fault (length content) (fault_of_content content) (tree_faults sc alone only (tree_of_content content)) (content_fault_lies content)
+    (λ none. tree_faults_lie (length content) sc alone only (tree_of_content content) (content_tree_lies content none))
 
 -- ---- the faults at a place
 

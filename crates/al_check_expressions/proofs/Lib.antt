@@ -1,4 +1,3 @@
-pub mod Spelling
 pub mod EndLemmas
 pub mod Places
 pub mod Inside

@@ -7,6 +7,7 @@ use Rattle.al_base.specs.declared.codes.ExpressionCode.TheVariants as code
 use Rattle.al_base.specs.declared.faults.Fault.{Fault}
 use Rattle.al_base.specs.declared.faults.Span.{Span}
 use Rattle.al_scalar.specs.Scalar.{Scalar, offset_of, text_of}
+use Rattle.al_expr_grammar.specs.Building.{tree_of_content}
 use Rattle.al_expr_grammar.specs.Chunks.{Chunked, chunks_of}
 use Rattle.al_expr_grammar.specs.Extents.{extent}
 use Rattle.al_expr_grammar.specs.Refusal.{expression_fault, fault_of_content}
@@ -16,7 +17,6 @@ use Rattle.al_types.specs.Types.{Type', is_collection}
 use Rattle.al_expr_typing.specs.Meaning.{faults_found, meaning_of, type_found}
 use Rattle.al_tree.specs.Faults.{has_chunk}
 use Rattle.al_check_places.specs.Places.{Place}
-use Rattle.al_check_expressions.specs.Spelled.{tree_of_content}
 
 -- the chunks of a text of so many bytes are one, from its start to its end
 abbrev pub is_whole_span : ℕ → List Span → Bool
@@ -52,7 +52,7 @@ tree_faults sc is_alone is_scalar_only tree =
 -- X1 to X6 stand alone
 abbrev pub content_faults : Scope → Bool → Bool → List ℕ → List Fault
 content_faults sc is_alone is_scalar_only bytes =
-    option_map_or (λ f. f ∷ []) (fault_of_content bytes) (option_map_or (tree_faults sc is_alone is_scalar_only) (tree_of_content bytes) [])
+    option_map_or (λ f. f ∷ []) (fault_of_content bytes) (tree_faults sc is_alone is_scalar_only (tree_of_content bytes))
 
 abbrev pub chunk_faults : Scope → Bool → Scalar → Span → List Fault
 chunk_faults sc is_scalar_only s c =

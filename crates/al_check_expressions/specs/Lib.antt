@@ -1,4 +1,3 @@
-pub mod Spelled
 pub mod Contents
 pub mod FileExpressions
 pub mod Inside

@@ -19,7 +19,7 @@ ghost use Rattle.al_base.specs.Growth.{BeginsWith};
 
 use al_base::{Code, ExpressionCode, Fault, FaultSink, Span};
 use al_check_places::Place;
-use al_expr_grammar::{Chunk, Expr, chunks, extent, grammar, parse_expr};
+use al_expr_grammar::{Chunk, Expr, chunks, extent, parse_expr};
 use al_expr_types::{Ty, Types};
 use al_expr_typing::{Scope, type_of};
 use al_scalar::Scalar;
@@ -114,7 +114,6 @@ fn check_content(
         text.now.is_alone text.now.is_scalar_only content.now) }
     ensures kept { BeginsWith (objects_of types.new) (objects_of types.old) }
 {
-    grammar();
     match parse_expr(faults.alloc(), content)? {
         Ok(expr) => check_tree(types, text, &expr, faults),
         Err(fault) => faults.push(fault),

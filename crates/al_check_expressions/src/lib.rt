@@ -6,4 +6,4 @@ mod expressions;
 mod law;
 
 pub use expressions::expression_faults;
-pub use law::{all_lie_in_file, plain_texts_are_right, trees_are_spelled};
+pub use law::{all_lie_in_file, plain_texts_are_right};

@@ -11,8 +11,7 @@ use Rattle.al_check_places.specs.declared.positions.Position as rust
 
 -- below `on`, in a job with a key, or anywhere else
 pub data Section : Type 0 where
-  apart : Section
-  in_on : Section
+  apart in_on : Section
   in_job : List ℕ → Section
 
 pub record Position : Type 0 where

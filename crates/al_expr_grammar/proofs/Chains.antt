@@ -1,8 +1,7 @@
 -- Negations, paths and chains of operators beside the table.
-use Rattle.std.proofs.Common.{◌≡◌, ◌≢◌, ℕ, zero, suc, ◌+◌, ◌<◌, List, [], ◌∷◌, ◌++◌, length, refl, sym, ap, ◌∙◌, arith, subst, Result, Ok, Err}
+use Rattle.std.proofs.Common.{◌≡◌, ℕ, zero, suc, ◌+◌, List, [], ◌∷◌, ◌++◌, length, refl, sym, ap, ◌∙◌, arith, subst, Result, Ok, Err}
 use Rattle.std.specs.Prelude.{MatchResult}
 use Rattle.al_expr_grammar.specs.declared.token.Operator.{Operator}
-use Rattle.al_expr_grammar.specs.declared.token.Operator.TheVariants as op
 use Rattle.al_base.specs.declared.faults.Span.{Span}
 use Rattle.al_expr_grammar.specs.declared.token.TokenKind.{TokenKind}
 use Rattle.al_expr_grammar.specs.declared.token.TokenKind.TheVariants.{Bang, Infix}
@@ -94,61 +93,43 @@ pub path_refused : (room : ℕ) (ts mid left : List Lexeme) (t : Tree) (ss : Lis
 path_refused room ts mid left t ss e p w r = path_refused_map Postfix room room left ts e (λ v g k st a h. p.goes k st tt h ∙ w.goes k st h ∙ g k st h) r
 
 -- chains of operators
-not_looser : (l : ℕ) (o : Operator) → level_of o < suc l → level_of o ≢ l → level_of o < l
-not_looser l o h n = omega (arith, h, n)
+no_tighter : (ts : List TokenKind) → EndsPath ts → NoOperator 0 ts → EndsLevel 0 ts
+no_tighter [] h n = tt
+no_tighter (Infix o ∷ ts) h n = omega (arith, n)
+no_tighter (t ∷ ts) h n = h
 
-at_most_three : (o : Operator) → level_of o < 4
-at_most_three op.Or = omega arith
-at_most_three op.And = omega arith
-at_most_three op.Equal = omega arith
-at_most_three op.NotEqual = omega arith
-at_most_three op.Less = omega arith
-at_most_three op.LessEqual = omega arith
-at_most_three op.Greater = omega arith
-at_most_three op.GreaterEqual = omega arith
-
-looser : (l : ℕ) (ts : List TokenKind) → EndsLevel (suc l) ts → NoOperator l ts → EndsLevel l ts
+looser : (l : ℕ) (ts : List TokenKind) → EndsLevel l ts → NoOperator (suc l) ts → EndsLevel (suc l) ts
 looser l [] h n = tt
-looser l (Infix o ∷ ts) h n = not_looser l o h n
+looser l (Infix o ∷ ts) h n = omega (arith, h, n)
 looser l (t ∷ ts) h n = h
 
-tightest : (ts : List TokenKind) → EndsPath ts → NoOperator 3 ts → EndsLevel 3 ts
-tightest [] h n = tt
-tightest (Infix o ∷ ts) h n = not_looser 3 o (at_most_three o) n
-tightest (t ∷ ts) h n = h
-
-pub ends_below : (l : ℕ) (ts : List TokenKind) → l < 4 → EndsRule (below l) ts → NoOperator l ts → EndsLevel l ts
-ends_below zero ts h s n = looser 0 ts s n
-ends_below (suc zero) ts h s n = looser 1 ts s n
-ends_below (suc (suc zero)) ts h s n = looser 2 ts s n
-ends_below (suc (suc (suc zero))) ts h s n = tightest ts s n
-ends_below (suc (suc (suc (suc l)))) ts h s n = absurd (omega arith)
+pub ends_below : (l : ℕ) (ts : List TokenKind) → EndsRule (below l) ts → NoOperator l ts → EndsLevel l ts
+ends_below zero ts s n = no_tighter ts s n
+ends_below (suc l) ts s n = looser l ts s n
 
 pub starts_below : (l : ℕ) → StartsAt (below l) 0
-starts_below zero = refl
-starts_below (suc zero) = refl
-starts_below (suc (suc zero)) = refl
-starts_below (suc (suc (suc l))) = tt
+starts_below zero = tt
+starts_below (suc l) = refl
 
 -- from the start of a chain, where no negation is open
 from_start : (l room : ℕ) (ts : List Lexeme) (v : ℕ → List Frame → Verdict) → ((st : List Frame) → outside st + room ≡ 50 → scan E 0 st (kinds ts) ≡ v 0 st) → Goes (Binary l) room ts v
 from_start l room ts v g k st a h = subst (λ j. j + outside st + room ≡ 50 → scan E j st (kinds ts) ≡ v j st) (sym a) (λ f. g st (omega arith)) h
 
-pub single_read : (l room : ℕ) (ts rest : List Lexeme) (t : Tree) → l < 4 → Parsed (below l) room ts t rest → NoOperator l (kinds rest) → Parsed (Binary l) room ts t rest
-single_read l room ts rest t h p never = record {
+pub single_read : (l room : ℕ) (ts rest : List Lexeme) (t : Tree) → Parsed (below l) room ts t rest → NoOperator l (kinds rest) → Parsed (Binary l) room ts t rest
+single_read l room ts rest t p never = record {
   derives = single p.derives;
   goes = from_start l room ts (λ k st. scan O k st (kinds rest)) (λ st f. p.goes 0 st (starts_below l) (omega arith));
-  stops = ends_below l (kinds rest) h p.stops never;
+  stops = ends_below l (kinds rest) p.stops never;
   shorter = p.shorter;
 }
 
-pub chain_read : (l room : ℕ) (ts mid rest : List Lexeme) (t : Tree) (o : Sign × Tree) (os : List (Sign × Tree)) → l < 4
+pub chain_read : (l room : ℕ) (ts mid rest : List Lexeme) (t : Tree) (o : Sign × Tree) (os : List (Sign × Tree))
     → Parsed (below l) room ts t mid → PartOfChain l room mid (o ∷ os) rest → EndsRule (below l) (kinds rest) → NoOperator l (kinds rest)
     → Parsed (Binary l) room ts (Chain t (operands_of (o ∷ os))) rest
-chain_read l room ts mid rest t o os h p c s never = record {
+chain_read l room ts mid rest t o os p c s never = record {
   derives = chain p.derives c.derives;
   goes = from_start l room ts (λ k st. scan O k st (kinds rest)) (λ st f. p.goes 0 st (starts_below l) (omega arith) ∙ c.goes st f);
-  stops = ends_below l (kinds rest) h s never;
+  stops = ends_below l (kinds rest) s never;
   shorter = let a = p.shorter in let b = c.shorter in omega arith;
 }
 
@@ -173,11 +154,11 @@ operators_none : {l : ℕ} {ts rest : List Lexeme} {os : List (Sign × Tree)} �
 operators_none no_more e = refl
 operators_none (one_more a d w) e = cc
 
-pub operands_read : (l room : ℕ) (ts mid rest : List Lexeme) (t : Tree) (os : List (Sign × Tree)) → l < 4 → Parsed (below l) room ts t mid
+pub operands_read : (l room : ℕ) (ts mid rest : List Lexeme) (t : Tree) (os : List (Sign × Tree)) → Parsed (below l) room ts t mid
     → PartOfChain l room mid os rest → EndsRule (below l) (kinds rest) → NoOperator l (kinds rest)
     → Parsed (Binary l) room ts (chain_of t os) rest
-operands_read l room ts mid rest t [] h p c s never = single_read l room ts rest t h (subst (λ m. Parsed (below l) room ts t m) (operators_none c.derives refl) p) never
-operands_read l room ts mid rest t (o ∷ os) h p c s never = chain_read l room ts mid rest t o os h p c s never
+operands_read l room ts mid rest t [] p c s never = single_read l room ts rest t (subst (λ m. Parsed (below l) room ts t m) (operators_none c.derives refl) p) never
+operands_read l room ts mid rest t (o ∷ os) p c s never = chain_read l room ts mid rest t o os p c s never
 
 -- an operand of a chain is refused, the first or a later one
 pub first_refused : (l room : ℕ) (ts : List Lexeme) (e : ParseError) → Refused (below l) room ts e → Refused (Binary l) room ts e

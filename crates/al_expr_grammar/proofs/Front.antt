@@ -49,19 +49,19 @@ ends_arguments (Close ∷ ts) c h = absurd h
 ends_arguments (t ∷ ts) c h = tt
 
 -- arguments
-pub first_argument_refused : (room : ℕ) (ts : List Lexeme) (e : ParseError) → NoClose (kinds ts) → Refused (Binary 0) room ts e → ArgumentsRefused room ts e
+pub first_argument_refused : (room : ℕ) (ts : List Lexeme) (e : ParseError) → NoClose (kinds ts) → Refused (Binary 3) room ts e → ArgumentsRefused room ts e
 first_argument_refused room ts e n r outer b c s u one = call_refused outer room b c s u ts one e n r
 
-pub first_argument_read : (room : ℕ) (ts rest : List Lexeme) (t : Tree) → Parsed (Binary 0) room ts t rest → ArgumentsPart room ts (t ∷ []) rest
+pub first_argument_read : (room : ℕ) (ts rest : List Lexeme) (t : Tree) → Parsed (Binary 3) room ts t rest → ArgumentsPart room ts (t ∷ []) rest
 first_argument_read room ts rest t p = record { first = t; more = []; mid = rest; is = refl; begins = p; goes_on = arguments_begin room rest p.stops }
 
 pub later_argument_refused : (room : ℕ) (ts us : List Lexeme) (all : List Tree) (b : List ℕ) (s : Span) (e : ParseError) →
-    NoClose (kinds ts) → ArgumentsPart room ts all (lexeme Comma b s ∷ us) → Refused (Binary 0) room us e → ArgumentsRefused room ts e
+    NoClose (kinds ts) → ArgumentsPart room ts all (lexeme Comma b s ∷ us) → Refused (Binary 3) room us e → ArgumentsRefused room ts e
 later_argument_refused room ts us all b s e n a r outer c d u v one =
     argument_refused outer room c d u v ts one a.mid a.first n a.begins b s us a.more e a.goes_on r
 
 pub later_argument_read : (room : ℕ) (ts us rest : List Lexeme) (all : List Tree) (b : List ℕ) (s : Span) (t : Tree) →
-    ArgumentsPart room ts all (lexeme Comma b s ∷ us) → Parsed (Binary 0) room us t rest → ArgumentsPart room ts (all ++ t ∷ []) rest
+    ArgumentsPart room ts all (lexeme Comma b s ∷ us) → Parsed (Binary 3) room us t rest → ArgumentsPart room ts (all ++ t ∷ []) rest
 later_argument_read room ts us rest all b s t a p = record {
   first = a.first;
   more = a.more ++ t ∷ [];
@@ -87,10 +87,10 @@ module _ (room inner : ℕ) (b c : List ℕ) (s u : Span) (ts : List Lexeme) (on
 
 -- brackets
 module _ (room inner : ℕ) (b : List ℕ) (s : Span) (ts : List Lexeme) (one : inner + 1 ≡ room) where
-  pub group_not_closed : (left : List Lexeme) (t : Tree) (e : ParseError) → Parsed (Binary 0) inner ts t left → IsStray left Close e → Refused Primary room (lexeme Open b s ∷ ts) e
+  pub group_not_closed : (left : List Lexeme) (t : Tree) (e : ParseError) → Parsed (Binary 3) inner ts t left → IsStray left Close e → Refused Primary room (lexeme Open b s ∷ ts) e
   group_not_closed left t e p i = rw i.fault (group_stray room inner b s ts one left t p (no_close (kinds left) i.other))
 
-  pub index_not_closed : (left : List Lexeme) (t : Tree) (e : ParseError) → Parsed (Binary 0) inner ts t left → NoStar (kinds ts)
+  pub index_not_closed : (left : List Lexeme) (t : Tree) (e : ParseError) → Parsed (Binary 3) inner ts t left → NoStar (kinds ts)
       → IsStray left CloseIndex e → StepRefused room (lexeme OpenIndex b s ∷ ts) e
   index_not_closed left t e p n i = rw i.fault (index_stray room inner b s ts one left t n p (no_close_index (kinds left) i.other))
 

@@ -34,7 +34,7 @@ use Rattle.al_expr_grammar.specs.Tokens.{Lexed, AllRead, Bad, Unclosed}
 use Rattle.al_expr_grammar.specs.Tokens.{is_quote, last_quote, read}
 use Rattle.al_expr_grammar.specs.Tokens.{then_token, tokens_of}
 use Rattle.al_expr_grammar.specs.Tree as tree
-use Rattle.al_expr_grammar.specs.Tree.{Sign, sign, Tree, Constant, Named, Call, Group, Negated, Path, Chain, Steps, NoStep, PropertyThen}
+use Rattle.al_expr_grammar.specs.Tree.{Sign, sign, Tree, Constant, Named, Call, Group, Negated, Path, Chain, PathSteps, NoStep, PropertyThen}
 use Rattle.al_expr_grammar.specs.Tree.{AllThen, IndexThen, StepTree, Operands, NoOperand, OperandThen, Arguments, NoArgument, ArgumentThen}
 use Rattle.al_expr_grammar.specs.Tree.{steps_of, operands_of, arguments_of}
 use Rattle.al_expr_grammar.proofs.Reading.{Short, read_short}
@@ -53,7 +53,7 @@ start_of (Negated s t) = s.start
 start_of (Path t ss) = start_of t
 start_of (Chain t os) = start_of t
 
-steps_start : (ss : Steps) (x : Span) → (with_steps x ss).start ≡ x.start
+steps_start : (ss : PathSteps) (x : Span) → (with_steps x ss).start ≡ x.start
 steps_start NoStep x = refl
 steps_start (PropertyThen d b s ss) x = steps_start ss (across x s)
 steps_start (AllThen a b ss) x = steps_start ss (across x b)
@@ -132,7 +132,7 @@ module _ (size : ℕ) where
     TreeLies low (Path t ss) = TreeLies low t × StepsLie (start_of t) ss
     TreeLies low (Chain t os) = TreeLies low t × OperandsLie (start_of t) os
 
-    pub StepsLie : ℕ → Steps → Type 0
+    pub StepsLie : ℕ → PathSteps → Type 0
     StepsLie low NoStep = Unit {0}
     StepsLie low (PropertyThen d b s ss) = (low ≤ d.start) × LiesIn size d × (d.start ≤ s.start) × LiesIn size s × StepsLie low ss
     StepsLie low (AllThen a b ss) = (low ≤ a.start) × LiesIn size a × (a.start ≤ b.start) × LiesIn size b × StepsLie low ss
@@ -175,7 +175,7 @@ module _ (size : ℕ) where
         let y = operands_extent os (start_of t) (extent t) x.ordered x.inside l.1 in
         record { from = x.from; ordered = y.0; inside = y.1 }
 
-    steps_extent : (ss : Steps) (low : ℕ) (x : Span) → low ≤ x.end → x.end ≤ size → StepsLie low ss → (low ≤ (with_steps x ss).end) × ((with_steps x ss).end ≤ size)
+    steps_extent : (ss : PathSteps) (low : ℕ) (x : Span) → low ≤ x.end → x.end ≤ size → StepsLie low ss → (low ≤ (with_steps x ss).end) × ((with_steps x ss).end ≤ size)
     steps_extent NoStep low x h i l = (h, i)
     steps_extent (PropertyThen d b s ss) low x h i l =
         let a = l.0 in let c = l.2 in let e : s.start ≤ s.end = (l.3).ordered in steps_extent ss low (across x s) (omega (arith, a, c, e)) (l.3).inside l.4

@@ -35,7 +35,7 @@ lies_on (Go m k st) room len go f = one_more len (go m k st) (f m k st)
 lies_on (Deeper m k st) true len go f = one_more len (go m k st) (f m k st)
 lies_on (Deeper m k st) false len go f = (omega arith, omega arith)
 
-lies_in : (ts : List TokenKind) (m : Mode) (k : ℕ) (st : List Frame) → LiesIn (length ts) (scan m k st ts)
+pub lies_in : (ts : List TokenKind) (m : Mode) (k : ℕ) (st : List Frame) → LiesIn (length ts) (scan m k st ts)
 lies_in [] m k st = at_end m st
 lies_in (t ∷ ts) m k st = lies_on (step m k st t) _ (length ts) _ (λ m' k' st'. lies_in ts m' k' st')
 

@@ -1,8 +1,9 @@
 pub mod Shape
-pub mod Unique
+pub mod Built
 pub mod Rules
 pub mod Chains
 pub mod Total
+pub mod Spelled
 pub mod Trees
 pub mod RestItems
 pub mod TreeViews

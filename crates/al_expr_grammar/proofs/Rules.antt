@@ -1,6 +1,8 @@
 -- Each rule of the grammar, and each fault, beside the table.
-use Rattle.std.proofs.Common.{◌≡◌, ℕ, suc, ◌+◌, ◌<◌, List, [], ◌∷◌, ◌++◌, length, refl, ap, ◌∙◌, arith, nat_lt, cond}
+use Rattle.std.proofs.Common.{◌≡◌, ℕ, suc, ◌+◌, ◌<◌, ◌≤◌, List, [], ◌∷◌, ◌++◌, length, refl, ap, ◌∙◌, arith, nat_lt, cond}
 use Rattle.al_base.specs.declared.faults.Span.{Span}
+use Rattle.al_expr_grammar.specs.declared.token.Operator.{Operator}
+use Rattle.al_expr_grammar.specs.declared.token.Operator.TheVariants as op
 use Rattle.al_expr_grammar.specs.declared.token.TokenKind.{TokenKind}
 use Rattle.al_expr_grammar.specs.declared.token.TokenKind.TheVariants.{Name, Keyword, Number, Text, Open, Close, OpenIndex, CloseIndex, Dot, Comma, Star, Infix}
 use Rattle.al_expr_grammar.specs.declared.parser.ParseError.{ParseError}
@@ -15,6 +17,16 @@ use Rattle.al_expr_grammar.specs.Table.{Verdict, Early, Unexpected, TooDeep, E, 
 use Rattle.al_expr_grammar.specs.Parsed.{Goes, EndsPath, EndsLevel, Parsed, Refused, PartOfCall, StepRead, GoesAfter, StepRefused, error_at, NoClose}
 use Rattle.al_expr_grammar.proofs.Shape.{NoCall}
 use Rattle.std.proofs.lemmas.Bool.Decides.{nat_tests}
+
+pub at_most_three : (o : Operator) → level_of o ≤ 3
+at_most_three op.Or = omega arith
+at_most_three op.And = omega arith
+at_most_three op.Equal = omega arith
+at_most_three op.NotEqual = omega arith
+at_most_three op.Less = omega arith
+at_most_three op.LessEqual = omega arith
+at_most_three op.Greater = omega arith
+at_most_three op.GreaterEqual = omega arith
 
 -- one deeper, where there is room
 abbrev pub deeper : ℕ → ℕ → Verdict → Verdict
@@ -120,29 +132,29 @@ EndsArguments _ = Unit {0}
 
 -- no token that may follow a whole operand inside these brackets
 module _ (k : ℕ) (st : List Frame) where
-  stray_in_group : (us : List Lexeme) → EndsLevel 0 (kinds us) → NoClose (kinds us) → scan O 0 (Group k ∷ st) (kinds us) ≡ stray us
+  stray_in_group : (us : List Lexeme) → EndsLevel 3 (kinds us) → NoClose (kinds us) → scan O 0 (Group k ∷ st) (kinds us) ≡ stray us
   stray_in_group [] h c = refl
   stray_in_group (lexeme Dot b s ∷ us) h c = absurd h
   stray_in_group (lexeme OpenIndex b s ∷ us) h c = absurd h
   stray_in_group (lexeme Close b s ∷ us) h c = absurd c
-  stray_in_group (lexeme (Infix o) b s ∷ us) h c = let low : level_of o < 0 = h in absurd (omega (arith, low))
+  stray_in_group (lexeme (Infix o) b s ∷ us) h c = absurd (omega (arith, h, at_most_three o))
   stray_in_group (lexeme t b s ∷ us) h c = unexpected us
 
-  stray_in_index : (us : List Lexeme) → EndsLevel 0 (kinds us) → NoCloseIndex (kinds us) → scan O 0 (Index k ∷ st) (kinds us) ≡ stray us
+  stray_in_index : (us : List Lexeme) → EndsLevel 3 (kinds us) → NoCloseIndex (kinds us) → scan O 0 (Index k ∷ st) (kinds us) ≡ stray us
   stray_in_index [] h c = refl
   stray_in_index (lexeme Dot b s ∷ us) h c = absurd h
   stray_in_index (lexeme OpenIndex b s ∷ us) h c = absurd h
   stray_in_index (lexeme CloseIndex b s ∷ us) h c = absurd c
-  stray_in_index (lexeme (Infix o) b s ∷ us) h c = let low : level_of o < 0 = h in absurd (omega (arith, low))
+  stray_in_index (lexeme (Infix o) b s ∷ us) h c = absurd (omega (arith, h, at_most_three o))
   stray_in_index (lexeme t b s ∷ us) h c = unexpected us
 
-  stray_in_call : (us : List Lexeme) → EndsLevel 0 (kinds us) → EndsArguments (kinds us) → scan O 0 (Call k ∷ st) (kinds us) ≡ stray us
+  stray_in_call : (us : List Lexeme) → EndsLevel 3 (kinds us) → EndsArguments (kinds us) → scan O 0 (Call k ∷ st) (kinds us) ≡ stray us
   stray_in_call [] h c = refl
   stray_in_call (lexeme Dot b s ∷ us) h c = absurd h
   stray_in_call (lexeme OpenIndex b s ∷ us) h c = absurd h
   stray_in_call (lexeme Close b s ∷ us) h c = absurd c
   stray_in_call (lexeme Comma b s ∷ us) h c = absurd c
-  stray_in_call (lexeme (Infix o) b s ∷ us) h c = let low : level_of o < 0 = h in absurd (omega (arith, low))
+  stray_in_call (lexeme (Infix o) b s ∷ us) h c = absurd (omega (arith, h, at_most_three o))
   stray_in_call (lexeme t b s ∷ us) h c = unexpected us
 
 -- a literal
@@ -163,7 +175,7 @@ module _ (room inner : ℕ) (b : List ℕ) (s : Span) (ts : List Lexeme) (one : 
   in_group : (k : ℕ) (st : List Frame) → k + outside st + room ≡ 50 → scan E k st (Open ∷ kinds ts) ≡ scan E 0 (Group k ∷ st) (kinds ts)
   in_group k st h = not_deeper (k + outside st) _ _ (omega arith)
 
-  pub group_read : (c : List ℕ) (e : Span) (rest : List Lexeme) (t : Tree) → Parsed (Binary 0) inner ts t (lexeme Close c e ∷ rest) → Parsed Primary room (lexeme Open b s ∷ ts) (tree.Group t s e) rest
+  pub group_read : (c : List ℕ) (e : Span) (rest : List Lexeme) (t : Tree) → Parsed (Binary 3) inner ts t (lexeme Close c e ∷ rest) → Parsed Primary room (lexeme Open b s ∷ ts) (tree.Group t s e) rest
   group_read c e rest t p = record {
     derives = group p.derives;
     goes = λ k st a h. in_group k st h ∙ p.goes 0 (Group k ∷ st) refl (omega arith);
@@ -171,10 +183,10 @@ module _ (room inner : ℕ) (b : List ℕ) (s : Span) (ts : List Lexeme) (one : 
     shorter = let short = p.shorter in omega arith;
   }
 
-  pub group_refused : (e : ParseError) → Refused (Binary 0) inner ts e → Refused Primary room (lexeme Open b s ∷ ts) e
-  group_refused e r = refused_map (Binary 0) Primary inner room ts (lexeme Open b s ∷ ts) e (λ v g k st a h. in_group k st h ∙ g 0 (Group k ∷ st) refl (omega arith)) r
+  pub group_refused : (e : ParseError) → Refused (Binary 3) inner ts e → Refused Primary room (lexeme Open b s ∷ ts) e
+  group_refused e r = refused_map (Binary 3) Primary inner room ts (lexeme Open b s ∷ ts) e (λ v g k st a h. in_group k st h ∙ g 0 (Group k ∷ st) refl (omega arith)) r
 
-  pub group_stray : (mid : List Lexeme) (t : Tree) → Parsed (Binary 0) inner ts t mid → NoClose (kinds mid) → Refused Primary room (lexeme Open b s ∷ ts) (error_at mid)
+  pub group_stray : (mid : List Lexeme) (t : Tree) → Parsed (Binary 3) inner ts t mid → NoClose (kinds mid) → Refused Primary room (lexeme Open b s ∷ ts) (error_at mid)
   group_stray mid t p never = refused_stray Primary room (lexeme Open b s ∷ ts) mid (λ k st a h. in_group k st h ∙ p.goes 0 (Group k ∷ st) refl (omega arith) ∙ stray_in_group k st mid p.stops never)
 
   -- an index
@@ -182,17 +194,17 @@ module _ (room inner : ℕ) (b : List ℕ) (s : Span) (ts : List Lexeme) (one : 
   to_inside k st n h = not_deeper (k + outside st) _ _ (omega arith) ∙ in_index 0 (Index k ∷ st) (kinds ts) n
 
   pub index_read : (c : List ℕ) (e : Span) (rest : List Lexeme) (t : Tree) → NoStar (kinds ts)
-      → Parsed (Binary 0) inner ts t (lexeme CloseIndex c e ∷ rest) → StepRead room (lexeme OpenIndex b s ∷ ts) (tree.Index s t e) rest
+      → Parsed (Binary 3) inner ts t (lexeme CloseIndex c e ∷ rest) → StepRead room (lexeme OpenIndex b s ∷ ts) (tree.Index s t e) rest
   index_read c e rest t n p = record {
     derives = λ ss after w. to_index p.derives w;
     goes = λ k st h. to_inside k st n h ∙ p.goes 0 (Index k ∷ st) refl (omega arith);
     shorter = let short = p.shorter in omega arith;
   }
 
-  pub index_refused : (e : ParseError) → NoStar (kinds ts) → Refused (Binary 0) inner ts e → StepRefused room (lexeme OpenIndex b s ∷ ts) e
-  index_refused e n r = step_refused_map (Binary 0) inner room ts (lexeme OpenIndex b s ∷ ts) e (λ v g k st h. to_inside k st n h ∙ g 0 (Index k ∷ st) refl (omega arith)) r
+  pub index_refused : (e : ParseError) → NoStar (kinds ts) → Refused (Binary 3) inner ts e → StepRefused room (lexeme OpenIndex b s ∷ ts) e
+  index_refused e n r = step_refused_map (Binary 3) inner room ts (lexeme OpenIndex b s ∷ ts) e (λ v g k st h. to_inside k st n h ∙ g 0 (Index k ∷ st) refl (omega arith)) r
 
-  pub index_stray : (mid : List Lexeme) (t : Tree) → NoStar (kinds ts) → Parsed (Binary 0) inner ts t mid → NoCloseIndex (kinds mid) → StepRefused room (lexeme OpenIndex b s ∷ ts) (error_at mid)
+  pub index_stray : (mid : List Lexeme) (t : Tree) → NoStar (kinds ts) → Parsed (Binary 3) inner ts t mid → NoCloseIndex (kinds mid) → StepRefused room (lexeme OpenIndex b s ∷ ts) (error_at mid)
   index_stray mid t n p never = step_stray room (lexeme OpenIndex b s ∷ ts) mid (λ k st h. to_inside k st n h ∙ p.goes 0 (Index k ∷ st) refl (omega arith) ∙ stray_in_index k st mid p.stops never)
 
 -- brackets without room
@@ -214,11 +226,11 @@ module _ (room inner : ℕ) (b c : List ℕ) (s u : Span) (ts : List Lexeme) (on
   into_call : (k : ℕ) (st : List Frame) → k + outside st + room ≡ 50 → scan E k st (Name ∷ Open ∷ kinds ts) ≡ scan A 0 (Call k ∷ st) (kinds ts)
   into_call k st h = not_deeper (k + outside st) _ _ (omega arith)
 
-  pub call_refused : (e : ParseError) → NoClose (kinds ts) → Refused (Binary 0) inner ts e → Refused Primary room (lexeme Name b s ∷ lexeme Open c u ∷ ts) e
-  call_refused e n r = refused_map (Binary 0) Primary inner room ts (lexeme Name b s ∷ lexeme Open c u ∷ ts) e
+  pub call_refused : (e : ParseError) → NoClose (kinds ts) → Refused (Binary 3) inner ts e → Refused Primary room (lexeme Name b s ∷ lexeme Open c u ∷ ts) e
+  call_refused e n r = refused_map (Binary 3) Primary inner room ts (lexeme Name b s ∷ lexeme Open c u ∷ ts) e
       (λ v g k st a h. into_call k st h ∙ in_call 0 (Call k ∷ st) (kinds ts) n ∙ g 0 (Call k ∷ st) refl (omega arith)) r
 
-  module _ (mid : List Lexeme) (t : Tree) (n : NoClose (kinds ts)) (p : Parsed (Binary 0) inner ts t mid) where
+  module _ (mid : List Lexeme) (t : Tree) (n : NoClose (kinds ts)) (p : Parsed (Binary 3) inner ts t mid) where
     first_argument : (k : ℕ) (st : List Frame) → k + outside st + room ≡ 50 → scan E k st (Name ∷ Open ∷ kinds ts) ≡ scan O 0 (Call k ∷ st) (kinds mid)
     first_argument k st h = into_call k st h ∙ in_call 0 (Call k ∷ st) (kinds ts) n ∙ p.goes 0 (Call k ∷ st) refl (omega arith)
 
@@ -237,8 +249,8 @@ module _ (room inner : ℕ) (b c : List ℕ) (s u : Span) (ts : List Lexeme) (on
         (λ k st a h. first_argument k st h ∙ w.goes k st (omega arith) ∙ stray_in_call k st left w.stops never)
 
     pub argument_refused : (d : List ℕ) (x : Span) (us : List Lexeme) (more : List Tree) (e : ParseError) → PartOfCall inner mid more (lexeme Comma d x ∷ us) →
-        Refused (Binary 0) inner us e → Refused Primary room (lexeme Name b s ∷ lexeme Open c u ∷ ts) e
-    argument_refused d x us more e w r = refused_map (Binary 0) Primary inner room us (lexeme Name b s ∷ lexeme Open c u ∷ ts) e
+        Refused (Binary 3) inner us e → Refused Primary room (lexeme Name b s ∷ lexeme Open c u ∷ ts) e
+    argument_refused d x us more e w r = refused_map (Binary 3) Primary inner room us (lexeme Name b s ∷ lexeme Open c u ∷ ts) e
         (λ v g k st a h. first_argument k st h ∙ w.goes k st (omega arith) ∙ g 0 (Call k ∷ st) refl (omega arith)) r
 
 pub call_empty_read : (room inner : ℕ) (b c d : List ℕ) (s u e : Span) (rest : List Lexeme) → inner + 1 ≡ room →
@@ -250,11 +262,11 @@ call_empty_read room inner b c d s u e rest one = record {
   shorter = omega arith;
 }
 
-pub arguments_begin : (room : ℕ) (ts : List Lexeme) → EndsLevel 0 (kinds ts) → PartOfCall room ts [] ts
+pub arguments_begin : (room : ℕ) (ts : List Lexeme) → EndsLevel 3 (kinds ts) → PartOfCall room ts [] ts
 arguments_begin room ts h = record { derives = listed; goes = λ k st g. refl; stops = h; shorter = omega arith }
 
 pub arguments_go_on : (room : ℕ) (ts us rest : List Lexeme) (b : List ℕ) (s : Span) (more : List Tree) (t : Tree) →
-    PartOfCall room ts more (lexeme Comma b s ∷ us) → Parsed (Binary 0) room us t rest → PartOfCall room ts (more ++ t ∷ []) rest
+    PartOfCall room ts more (lexeme Comma b s ∷ us) → Parsed (Binary 3) room us t rest → PartOfCall room ts (more ++ t ∷ []) rest
 arguments_go_on room ts us rest b s more t w p = record {
   derives = lists_append ts (lexeme Comma b s ∷ us) rest more t w.derives (and_next p.derives listed);
   goes = λ k st h. w.goes k st h ∙ p.goes 0 (Call k ∷ st) refl (omega arith);

@@ -33,30 +33,30 @@ pub data StepOutcome (room : ℕ) (ts : List Lexeme) : Type 0 where
 
 -- the part below a bracket
 abbrev pub Inner : ℕ → Type 0
-Inner n = (room : ℕ) (ts : List Lexeme) → length ts < n → Outcome (Binary 0) room ts
+Inner n = (room : ℕ) (ts : List Lexeme) → length ts < n → Outcome (Binary 3) room ts
 
 -- brackets
 module _ (room : ℕ) (b : List ℕ) (s : Span) (ts : List Lexeme) where
-  abbrev pub group_ends : (t : Tree) (mid : List Lexeme) → Parsed (Binary 0) room ts t mid → Outcome Primary (suc room) (lexeme Open b s ∷ ts)
+  abbrev pub group_ends : (t : Tree) (mid : List Lexeme) → Parsed (Binary 3) room ts t mid → Outcome Primary (suc room) (lexeme Open b s ∷ ts)
   group_ends t (lexeme Close c e ∷ rest) p = read _ rest (group_read (suc room) room b s ts (omega arith) c e rest t p)
   group_ends t [] p = refused (error_at []) tt (group_stray (suc room) room b s ts (omega arith) [] t p tt)
   group_ends t (lexeme k c e ∷ rest) p = refused (error_at (lexeme k c e ∷ rest)) tt (group_stray (suc room) room b s ts (omega arith) (lexeme k c e ∷ rest) t p tt)
 
-  abbrev pub grouped : Outcome (Binary 0) room ts → Outcome Primary (suc room) (lexeme Open b s ∷ ts)
+  abbrev pub grouped : Outcome (Binary 3) room ts → Outcome Primary (suc room) (lexeme Open b s ∷ ts)
   grouped (refused e i r) = refused e i (group_refused (suc room) room b s ts (omega arith) e r)
   grouped (read t mid p) = group_ends t mid p
 
-  abbrev pub index_ends : NoStar (kinds ts) → (t : Tree) (mid : List Lexeme) → Parsed (Binary 0) room ts t mid → StepOutcome (suc room) (lexeme OpenIndex b s ∷ ts)
+  abbrev pub index_ends : NoStar (kinds ts) → (t : Tree) (mid : List Lexeme) → Parsed (Binary 3) room ts t mid → StepOutcome (suc room) (lexeme OpenIndex b s ∷ ts)
   index_ends n t (lexeme CloseIndex c e ∷ rest) p = step_read _ rest (index_read (suc room) room b s ts (omega arith) c e rest t n p)
   index_ends n t [] p = step_refused (error_at []) tt (index_stray (suc room) room b s ts (omega arith) [] t n p tt)
   index_ends n t (lexeme k c e ∷ rest) p = step_refused (error_at (lexeme k c e ∷ rest)) tt (index_stray (suc room) room b s ts (omega arith) (lexeme k c e ∷ rest) t n p tt)
 
-  abbrev pub indexed : NoStar (kinds ts) → Outcome (Binary 0) room ts → StepOutcome (suc room) (lexeme OpenIndex b s ∷ ts)
+  abbrev pub indexed : NoStar (kinds ts) → Outcome (Binary 3) room ts → StepOutcome (suc room) (lexeme OpenIndex b s ∷ ts)
   indexed n (refused e i r) = step_refused e i (index_refused (suc room) room b s ts (omega arith) e n r)
   indexed n (read t mid p) = index_ends n t mid p
 
 -- the arguments of a call
-module _ (n room : ℕ) (b c : List ℕ) (s u : Span) (ts mid : List Lexeme) (t : Tree) (inner : Inner n) (short : length ts < n) (some : NoClose (kinds ts)) (p : Parsed (Binary 0) room ts t mid) where
+module _ (n room : ℕ) (b c : List ℕ) (s u : Span) (ts mid : List Lexeme) (t : Tree) (inner : Inner n) (short : length ts < n) (some : NoClose (kinds ts)) (p : Parsed (Binary 3) room ts t mid) where
   abbrev pub arguments : (fuel : ℕ) (left : List Lexeme) (more : List Tree) → PartOfCall room mid more left → length left ≤ fuel → Outcome Primary (suc room) (lexeme Name b s ∷ lexeme Open c u ∷ ts)
   arguments fuel (lexeme Close d e ∷ rest) more w f = read _ rest (call_read (suc room) room b c s u ts (omega arith) mid t some p d e rest more w)
   arguments zero (lexeme Comma d x ∷ us) more w f = absurd (omega (arith, f))
@@ -68,7 +68,7 @@ module _ (n room : ℕ) (b c : List ℕ) (s u : Span) (ts mid : List Lexeme) (t 
   arguments fuel (lexeme k d e ∷ rest) more w f = refused (error_at (lexeme k d e ∷ rest)) tt (call_stray (suc room) room b c s u ts (omega arith) mid t some p (lexeme k d e ∷ rest) more w tt)
 
 abbrev pub called : (n room : ℕ) (b c : List ℕ) (s u : Span) (ts : List Lexeme) → Inner n → length ts < n → NoClose (kinds ts)
-    → Outcome (Binary 0) room ts → Outcome Primary (suc room) (lexeme Name b s ∷ lexeme Open c u ∷ ts)
+    → Outcome (Binary 3) room ts → Outcome Primary (suc room) (lexeme Name b s ∷ lexeme Open c u ∷ ts)
 called n room b c s u ts inner h o (refused e i r) = refused e i (call_refused (suc room) room b c s u ts (omega arith) e o r)
 called n room b c s u ts inner h o (read t mid p) = arguments n room b c s u ts mid t inner h o p (length mid) mid [] (arguments_begin room mid p.stops) (omega arith)
 
@@ -163,10 +163,10 @@ decide zero (suc m) = inr (λ e. absurd (omega (arith, e)))
 decide (suc n) zero = inr (λ e. absurd (omega (arith, e)))
 decide (suc n) (suc m) = elim (decide n m) [ inl e ↦ inl (ap suc e) | inr e ↦ inr (λ f. e (omega (arith, f))) ]
 
-module _ (l n room : ℕ) (low : l < 4) (operand : (us : List Lexeme) → length us ≤ n → Outcome (below l) room us) (ts mid : List Lexeme)
+module _ (l n room : ℕ) (operand : (us : List Lexeme) → length us ≤ n → Outcome (below l) room us) (ts mid : List Lexeme)
     (t : Tree) (h : length ts ≤ n) (p : Parsed (below l) room ts t mid) where
   abbrev pub chain_ends : (left : List Lexeme) (os : List (Sign × Tree)) → PartOfChain l room mid os left → EndsRule (below l) (kinds left) → NoOperator l (kinds left) → Outcome (Binary l) room ts
-  chain_ends left os c s none = read (chain_of t os) left (operands_read l room ts mid left t os low p c s none)
+  chain_ends left os c s none = read (chain_of t os) left (operands_read l room ts mid left t os p c s none)
 
   abbrev pub chain_walk : (fuel : ℕ) (left : List Lexeme) (os : List (Sign × Tree)) → PartOfChain l room mid os left → EndsRule (below l) (kinds left) → length left ≤ fuel → Outcome (Binary l) room ts
   chain_walk zero (lexeme (Infix o) b x ∷ us) os c s f = absurd (omega (arith, f))
@@ -180,21 +180,21 @@ module _ (l n room : ℕ) (low : l < 4) (operand : (us : List Lexeme) → length
   chain_walk fuel [] os c s f = chain_ends [] os c s tt
   chain_walk fuel (lexeme k b x ∷ us) os c s f = chain_ends (lexeme k b x ∷ us) os c s tt
 
-abbrev pub level : (l n room : ℕ) → l < 4 → ((us : List Lexeme) → length us ≤ n → Outcome (below l) room us) → (ts : List Lexeme) → length ts ≤ n → Outcome (Binary l) room ts
-level l n room low operand ts h = elim (operand ts h) [
+abbrev pub level : (l n room : ℕ) → ((us : List Lexeme) → length us ≤ n → Outcome (below l) room us) → (ts : List Lexeme) → length ts ≤ n → Outcome (Binary l) room ts
+level l n room operand ts h = elim (operand ts h) [
   | refused e i r ↦ refused e i (first_refused l room ts e r)
-  | read t mid p ↦ chain_walk l n room low operand ts mid t h p (length mid) mid [] (chain_begins l room mid) p.stops (omega arith)
+  | read t mid p ↦ chain_walk l n room operand ts mid t h p (length mid) mid [] (chain_begins l room mid) p.stops (omega arith)
 ]
 
 -- each list shorter than n
 abbrev pub all : (n : ℕ) → Inner n
 all zero room ts h = absurd (omega arith)
 all (suc n) room ts h =
-    level 0 n room (omega arith)
-    (λ us f. level 1 n room (omega arith)
-    (λ vs g. level 2 n room (omega arith)
-    (λ ws i. level 3 n room (omega arith) (λ xs j. unary xs n room (all n) j) ws i) vs g) us f) ts (omega arith)
+    level 3 n room
+    (λ us f. level 2 n room
+    (λ vs g. level 1 n room
+    (λ ws i. level 0 n room (λ xs j. unary xs n room (all n) j) ws i) vs g) us f) ts (omega arith)
 
 -- what becomes of the tokens of an expression
-abbrev pub outcome_of : (ts : List Lexeme) → Outcome (Binary 0) 50 ts
+abbrev pub outcome_of : (ts : List Lexeme) → Outcome (Binary 3) 50 ts
 outcome_of ts = all (suc (length ts)) 50 ts (omega arith)

@@ -3,7 +3,7 @@ use Rattle.al_base.specs.declared.faults.Span.{Span}
 use Rattle.al_base.specs.Spans.{span}
 use Rattle.al_expr_grammar.specs.Tree as tree
 use Rattle.al_expr_grammar.specs.Tree.{Tree, Constant, Named, Call, Group, Negated, Path}
-use Rattle.al_expr_grammar.specs.Tree.{Chain, Steps, NoStep, PropertyThen, AllThen, IndexThen}
+use Rattle.al_expr_grammar.specs.Tree.{Chain, PathSteps, NoStep, PropertyThen, AllThen, IndexThen}
 use Rattle.al_expr_grammar.specs.Tree.{Operands, NoOperand, OperandThen}
 
 -- from the start of one place to the end of another
@@ -11,7 +11,7 @@ abbrev pub across : Span → Span → Span
 across a b = span a.start b.end
 
 -- up to the end of a path's last step, from what stands before the steps
-abbrev pub with_steps : Span → Steps → Span
+abbrev pub with_steps : Span → PathSteps → Span
 with_steps x NoStep = x
 with_steps x (PropertyThen d b s ss) = with_steps (across x s) ss
 with_steps x (AllThen a b ss) = with_steps (across x b) ss

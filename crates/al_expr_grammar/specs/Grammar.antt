@@ -17,23 +17,18 @@ pub data Nonterminal : Type 0 where
   Postfix : Nonterminal
   Primary : Nonterminal
 
--- the level of an operator, the loosest first
+-- the level of an operator, from 0, the tightest, to 3, the loosest
 abbrev pub level_of : Operator → ℕ
-level_of op.Or = 0
-level_of op.And = 1
-level_of op.Equal = 2
-level_of op.NotEqual = 2
-level_of op.Less = 3
-level_of op.LessEqual = 3
-level_of op.Greater = 3
-level_of op.GreaterEqual = 3
+level_of op.Or = 3
+level_of op.And = 2
+level_of op.Equal = 1
+level_of op.NotEqual = 1
+level_of _ = 0
 
 -- the operands of a level
 abbrev pub below : ℕ → Nonterminal
-below zero = Binary 1
-below (suc zero) = Binary 2
-below (suc (suc zero)) = Binary 3
-below (suc (suc (suc l))) = Unary
+below zero = Unary
+below (suc l) = Binary l
 
 mutual
   -- the tokens begin with those of the tree, and the rest is left
@@ -55,10 +50,10 @@ mutual
     call_empty : {b c d : List ℕ} {s u e : Span} {rest : List Lexeme} →
         Derives Primary (lexeme kind.Name b s ∷ lexeme kind.Open c u ∷ lexeme kind.Close d e ∷ rest) (Call b s (arguments_of []) e) rest
     call : {b c d : List ℕ} {s u e : Span} {ts mid rest : List Lexeme} {t : Tree} {more : List Tree} →
-        Derives (Binary 0) ts t mid → Lists mid more (lexeme kind.Close d e ∷ rest)
+        Derives (Binary 3) ts t mid → Lists mid more (lexeme kind.Close d e ∷ rest)
         → Derives Primary (lexeme kind.Name b s ∷ lexeme kind.Open c u ∷ ts) (Call b s (arguments_of (t ∷ more)) e) rest
     group : {b c : List ℕ} {s e : Span} {ts rest : List Lexeme} {t : Tree} →
-        Derives (Binary 0) ts t (lexeme kind.Close c e ∷ rest) → Derives Primary (lexeme kind.Open b s ∷ ts) (Group t s e) rest
+        Derives (Binary 3) ts t (lexeme kind.Close c e ∷ rest) → Derives Primary (lexeme kind.Open b s ∷ ts) (Group t s e) rest
 
   -- operators of one level with their operands
   pub data Operators : ℕ → List Lexeme → List (Sign × Tree) → List Lexeme → Type 0 where
@@ -79,15 +74,15 @@ mutual
     to_each : {b c a : List ℕ} {s d e : Span} {ts rest : List Lexeme} {ss : List StepTree} →
         Walks ts ss rest → Walks (lexeme kind.OpenIndex c d ∷ lexeme kind.Star b s ∷ lexeme kind.CloseIndex a e ∷ ts) (All d e ∷ ss) rest
     to_index : {b c : List ℕ} {s e : Span} {ts mid rest : List Lexeme} {t : Tree} {ss : List StepTree} →
-        Derives (Binary 0) ts t (lexeme kind.CloseIndex c e ∷ mid) → Walks mid ss rest
+        Derives (Binary 3) ts t (lexeme kind.CloseIndex c e ∷ mid) → Walks mid ss rest
         → Walks (lexeme kind.OpenIndex b s ∷ ts) (Index s t e ∷ ss) rest
 
   -- further arguments of a call, each behind a comma
   pub data Lists : List Lexeme → List Tree → List Lexeme → Type 0 where
     listed : {ts : List Lexeme} → Lists ts [] ts
     and_next : {b : List ℕ} {s : Span} {ts mid rest : List Lexeme} {t : Tree} {more : List Tree} →
-        Derives (Binary 0) ts t mid → Lists mid more rest → Lists (lexeme kind.Comma b s ∷ ts) (t ∷ more) rest
+        Derives (Binary 3) ts t mid → Lists mid more rest → Lists (lexeme kind.Comma b s ∷ ts) (t ∷ more) rest
 
 -- the tree of all of the tokens
 abbrev pub IsTreeOf : Tree → List Lexeme → Type 0
-IsTreeOf t ts = Derives (Binary 0) ts t []
+IsTreeOf t ts = Derives (Binary 3) ts t []

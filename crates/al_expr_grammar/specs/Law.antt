@@ -1,9 +1,11 @@
 -- What the table has to do with the grammar.
-use Rattle.std.specs.Prelude.{◌≡◌, ◌≢◌, ℕ, List, ◌∷◌, ◌++◌, length}
+use Rattle.std.specs.Prelude.{◌≡◌, ◌≢◌, ◌↔◌, ℕ, List, ◌∷◌, ◌++◌, length, None}
 use Rattle.al_expr_grammar.specs.Lexeme.{Lexeme, kinds}
 use Rattle.al_expr_grammar.specs.Tree.{Tree}
 use Rattle.al_expr_grammar.specs.Grammar.{IsTreeOf}
 use Rattle.al_expr_grammar.specs.Table.{Fine, Early, Unexpected, verdict_of}
+use Rattle.al_expr_grammar.specs.Refusal.{Spells, fault_of_content}
+use Rattle.al_expr_grammar.specs.Building.{tree_of_content}
 
 -- A list with the fault that a token may not stand where it does, or that it ends too early, spells no tree.
 abbrev pub FaultsSpellNothing : Type 0
@@ -22,3 +24,7 @@ OneTree = (ts : List Lexeme) (t u : Tree) → IsTreeOf t ts → IsTreeOf u ts �
 -- A list without a fault spells a tree.
 abbrev pub SomeTree : Type 0
 SomeTree = (ts : List Lexeme) → verdict_of (kinds ts) ≡ Fine → (t : Tree) × IsTreeOf t ts
+
+-- The tree of a content without a fault is the one that the content spells.
+abbrev pub TreeIsSpelled : Type 0
+TreeIsSpelled = (content : List ℕ) (t : Tree) → fault_of_content content ≡ None → (tree_of_content content ≡ t) ↔ Spells content t

@@ -3,6 +3,7 @@ pub mod Lexeme
 pub mod Table
 pub mod Grammar
 pub mod Tokens
+pub mod Building
 pub mod Refusal
 pub mod Chunks
 pub mod Extents

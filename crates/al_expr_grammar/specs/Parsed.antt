@@ -9,6 +9,7 @@ use Rattle.al_expr_grammar.specs.declared.token.TokenKind.TheVariants.{Name, Ope
 use Rattle.al_expr_grammar.specs.declared.parser.ParseError.{ParseError}
 use Rattle.al_expr_grammar.specs.declared.parser.ParseError.TheVariants as error
 use Rattle.al_base.specs.declared.faults.Span.{Span}
+use Rattle.al_base.specs.Limits.{deepest_expression}
 use Rattle.al_expr_grammar.specs.Lexeme.{Lexeme, lexeme, kinds, seen}
 use Rattle.al_expr_grammar.specs.Tree.{Sign, Tree, StepTree}
 use Rattle.al_expr_grammar.specs.Grammar.{Nonterminal, Binary, Unary, Postfix, Primary, level_of, Derives, Operators, Walks, Lists}
@@ -22,7 +23,7 @@ StartsAt _ k = Unit {0}
 
 -- From where an operand is expected the table comes to this verdict.
 abbrev pub Goes : Nonterminal → ℕ → List Lexeme → (ℕ → List Frame → Verdict) → Type 0
-Goes p room ts v = (k : ℕ) (st : List Frame) → StartsAt p k → k + outside st + room ≡ 50 → scan E k st (kinds ts) ≡ v k st
+Goes p room ts v = (k : ℕ) (st : List Frame) → StartsAt p k → k + outside st + room ≡ deepest_expression → scan E k st (kinds ts) ≡ v k st
 
 -- No path goes on.
 abbrev pub EndsPath : List TokenKind → Type 0
@@ -34,7 +35,7 @@ EndsPath _ = Unit {0}
 abbrev pub EndsLevel : ℕ → List TokenKind → Type 0
 EndsLevel l (Dot ∷ ts) = ⊥
 EndsLevel l (OpenIndex ∷ ts) = ⊥
-EndsLevel l (Infix o ∷ ts) = level_of o < l
+EndsLevel l (Infix o ∷ ts) = l < level_of o
 EndsLevel l _ = Unit {0}
 
 abbrev pub EndsRule : Nonterminal → List TokenKind → Type 0
@@ -64,21 +65,21 @@ Parses p room ts result =
 -- A chain of operators, as far as it was read.
 pub record PartOfChain (l room : ℕ) (ts : List Lexeme) (os : List (Sign × Tree)) (rest : List Lexeme) : Type 0 where
   pub derives : Operators l ts os rest
-  pub goes : (st : List Frame) → outside st + room ≡ 50 → scan O 0 st (kinds ts) ≡ scan O 0 st (kinds rest)
+  pub goes : (st : List Frame) → outside st + room ≡ deepest_expression → scan O 0 st (kinds ts) ≡ scan O 0 st (kinds rest)
   pub shorter : length rest ≤ length ts
 
 -- A path, as far as it was read.
 pub record PartOfPath (room : ℕ) (ts : List Lexeme) (ss : List StepTree) (rest : List Lexeme) : Type 0 where
   pub derives : Walks ts ss rest
-  pub goes : (k : ℕ) (st : List Frame) → k + outside st + room ≡ 50 → scan O k st (kinds ts) ≡ scan O k st (kinds rest)
+  pub goes : (k : ℕ) (st : List Frame) → k + outside st + room ≡ deepest_expression → scan O k st (kinds ts) ≡ scan O k st (kinds rest)
   pub shorter : length rest ≤ length ts
 
 -- Further arguments, as far as they were read, inside a call that stands behind so many negations.
 pub record PartOfCall (room : ℕ) (ts : List Lexeme) (more : List Tree) (rest : List Lexeme) : Type 0 where
   pub derives : Lists ts more rest
-  pub goes : (k : ℕ) (st : List Frame) → 1 + k + outside st + room ≡ 50
+  pub goes : (k : ℕ) (st : List Frame) → 1 + k + outside st + room ≡ deepest_expression
       → scan O 0 (Call k ∷ st) (kinds ts) ≡ scan O 0 (Call k ∷ st) (kinds rest)
-  pub stops : EndsLevel 0 (kinds rest)
+  pub stops : EndsLevel 3 (kinds rest)
   pub shorter : length rest ≤ length ts
 
 -- A path goes on.
@@ -90,11 +91,11 @@ GoesOn _ = ⊥
 -- one step of a path
 pub record StepRead (room : ℕ) (ts : List Lexeme) (s : StepTree) (rest : List Lexeme) : Type 0 where
   pub derives : (ss : List StepTree) (after : List Lexeme) → Walks rest ss after → Walks ts (s ∷ ss) after
-  pub goes : (k : ℕ) (st : List Frame) → k + outside st + room ≡ 50 → scan O k st (kinds ts) ≡ scan O k st (kinds rest)
+  pub goes : (k : ℕ) (st : List Frame) → k + outside st + room ≡ deepest_expression → scan O k st (kinds ts) ≡ scan O k st (kinds rest)
   pub shorter : length rest < length ts
 
 abbrev pub GoesAfter : ℕ → List Lexeme → Verdict → Type 0
-GoesAfter room ts v = (k : ℕ) (st : List Frame) → k + outside st + room ≡ 50 → scan O k st (kinds ts) ≡ v
+GoesAfter room ts v = (k : ℕ) (st : List Frame) → k + outside st + room ≡ deepest_expression → scan O k st (kinds ts) ≡ v
 
 abbrev pub StepRefused : ℕ → List Lexeme → ParseError → Type 0
 StepRefused room ts error.Memory = Unit {0}
@@ -123,7 +124,7 @@ pub record ArgumentsPart (room : ℕ) (ts : List Lexeme) (all : List Tree) (rest
   pub more : List Tree
   pub mid : List Lexeme
   pub is : all ≡ first ∷ more
-  pub begins : Parsed (Binary 0) room ts first mid
+  pub begins : Parsed (Binary 3) room ts first mid
   pub goes_on : PartOfCall room mid more rest
 
 -- all arguments of a call

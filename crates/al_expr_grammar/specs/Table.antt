@@ -8,26 +8,17 @@ use Rattle.al_expr_grammar.specs.declared.token.TokenKind.TheVariants.{Comma, St
 -- E: an operand is expected. A: after a call's bracket. I: after an index's bracket. S: after `[*`. D: after a dot. O: after an operand.
 -- N: after a name.
 pub data Mode : Type 0 where
-  E : Mode
-  A : Mode
-  I : Mode
-  S : Mode
-  D : Mode
-  O : Mode
-  N : Mode
+  E A I S D O N : Mode
 
 -- an open bracket, with the negations that stood open before it in its own bracket
 pub data Frame : Type 0 where
-  Group : ℕ → Frame
-  Call : ℕ → Frame
-  Index : ℕ → Frame
+  Group Call Index : ℕ → Frame
 
 -- What a token leads to: nothing; a mode with so many negations open in the innermost bracket, and the open brackets; or the same one
 -- deeper.
 pub data Transition : Type 0 where
   Stuck : Transition
-  Go : Mode → ℕ → List Frame → Transition
-  Deeper : Mode → ℕ → List Frame → Transition
+  Go Deeper : Mode → ℕ → List Frame → Transition
 
 abbrev pub operand : ℕ → List Frame → TokenKind → Transition
 operand k st Name = Go N k st
@@ -64,10 +55,8 @@ step m k st t = operand k st t
 
 -- A fault stands at the token behind which this many are left, itself counted.
 pub data Verdict : Type 0 where
-  Fine : Verdict
-  Early : Verdict
-  Unexpected : ℕ → Verdict
-  TooDeep : ℕ → Verdict
+  Fine Early : Verdict
+  Unexpected TooDeep : ℕ → Verdict
 
 -- where the tokens end
 abbrev pub finish : Mode → List Frame → Verdict

@@ -11,26 +11,24 @@ pub data Sign : Type 0 where
 mutual
   pub data Tree : Type 0 where
     Constant : Keyword → Span → Tree
-    -- number and text literals as written
-    Number : List ℕ → Span → Tree
-    Text : List ℕ → Span → Tree
-    Named : List ℕ → Span → Tree
+    -- number and text literals as written, and a name
+    Number Text Named : List ℕ → Span → Tree
     -- the name, where it stands, the arguments, and the closing bracket
     Call : List ℕ → Span → Arguments → Span → Tree
     -- the brackets round an expression
     Group : Tree → Span → Span → Tree
     Negated : Span → Tree → Tree
-    Path : Tree → Steps → Tree
+    Path : Tree → PathSteps → Tree
     Chain : Tree → Operands → Tree
 
   -- the steps of a path
-  pub data Steps : Type 0 where
-    NoStep : Steps
+  pub data PathSteps : Type 0 where
+    NoStep : PathSteps
     -- the dot, and the name with its place
-    PropertyThen : Span → List ℕ → Span → Steps → Steps
+    PropertyThen : Span → List ℕ → Span → PathSteps → PathSteps
     -- the first and the last token
-    AllThen : Span → Span → Steps → Steps
-    IndexThen : Span → Tree → Span → Steps → Steps
+    AllThen : Span → Span → PathSteps → PathSteps
+    IndexThen : Span → Tree → Span → PathSteps → PathSteps
 
   -- the operators of one level, each with the operand after it
   pub data Operands : Type 0 where
@@ -47,7 +45,7 @@ pub data StepTree : Type 0 where
   All : Span → Span → StepTree
   Index : Span → Tree → Span → StepTree
 
-abbrev pub steps_of : List StepTree → Steps
+abbrev pub steps_of : List StepTree → PathSteps
 steps_of [] = NoStep
 steps_of (Property d n s ∷ ss) = PropertyThen d n s (steps_of ss)
 steps_of (All a b ∷ ss) = AllThen a b (steps_of ss)

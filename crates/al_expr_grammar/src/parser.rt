@@ -1,6 +1,6 @@
 //! The tree that tokens spell, level by level of the operators.
 
-ghost use Rattle.std.specs.Prelude.{map, IfOk, ◌≡◌, ◌≢◌, ◌+◌, ◌<◌, MatchOption, MatchResult, List, [], ◌∷◌};
+ghost use Rattle.std.specs.Prelude.{map, IfOk, ◌≡◌, ◌≢◌, ◌+◌, MatchOption, MatchResult, List, [], ◌∷◌};
 ghost use Rattle.al_expr_grammar.specs.Lexeme.{seen, kinds, kind_of, lexeme_text, lexeme_span};
 ghost use Rattle.al_expr_grammar.specs.Parsed.{EndsPath, IsStray, NoOperator, Parses};
 ghost use Rattle.al_expr_grammar.specs.Parsed.{ParsesStep, StepRead, StepRefused, ArgumentsRead};
@@ -43,15 +43,18 @@ impl<T: Drop> From<AllocFailed<T>> for ParseError {
     }
 }
 
-/// The level of an operator, the loosest first.
+/// The level of `||`.
+const LOOSEST: u8 = 3;
+
+/// The level of an operator, from 0, the tightest, to `LOOSEST`.
 fn level_of(operator: Operator) -> u8
     ensures { result ≡ level_of operator }
 {
     match operator {
-        Operator::Or => 0,
-        Operator::And => 1,
-        Operator::Equal | Operator::NotEqual => 2,
-        Operator::Less | Operator::LessEqual | Operator::Greater | Operator::GreaterEqual => 3,
+        Operator::Or => LOOSEST,
+        Operator::And => 2,
+        Operator::Equal | Operator::NotEqual => 1,
+        Operator::Less | Operator::LessEqual | Operator::Greater | Operator::GreaterEqual => 0,
     }
 }
 
@@ -230,7 +233,7 @@ fn group<'t, 'a>(
     ensures { Parses Primary room (seen bracket.entry ∷ map seen tokens.now) result }
 {
     let inner = deeper(room, tokens.len() + 1)?;
-    let (expr, left) = binary(alloc, 0, tokens, inner)?;
+    let (expr, left) = binary(alloc, LOOSEST, tokens, inner)?;
     let (close, rest) = past(left, TokenKind::Close)?;
     Ok((
         Expr::Group(Box::new(alloc, expr)?, bracket.span, close.span),
@@ -274,11 +277,11 @@ fn arguments<'t, 'a>(
         (λ x. ArgumentsRead room (map seen tokens.now) (map expr_view x.0.items) (map seen x.1.now))
         (λ e. ArgumentsRefused room (map seen tokens.now) e) }
 {
-    let (first, mut left) = binary(alloc, 0, tokens, room)?;
+    let (first, mut left) = binary(alloc, LOOSEST, tokens, room)?;
     let mut given = Vec::new(alloc);
     given.push(first)?;
     'list: while let Some((_, next)) = after(left, TokenKind::Comma) {
-        let (argument, rest) = binary(alloc, 0, next, room)?;
+        let (argument, rest) = binary(alloc, LOOSEST, next, room)?;
         given.push(argument)?;
         left = rest;
     }
@@ -341,7 +344,7 @@ fn index<'t, 'a>(
         let (close, rest) = past(left, TokenKind::CloseIndex)?;
         return Ok((PathStep::All(bracket.span, close.span), rest));
     }
-    let (expr, left) = binary(alloc, 0, tokens, inner)?;
+    let (expr, left) = binary(alloc, LOOSEST, tokens, inner)?;
     let (close, rest) = past(left, TokenKind::CloseIndex)?;
     Ok((PathStep::Index(bracket.span, expr, close.span), rest))
 }
@@ -371,7 +374,6 @@ fn binary<'t, 'a>(
     tokens: &'t [Token<'a>],
     room: u32,
 ) -> Result<(Expr<'a>, &'t [Token<'a>]), ParseError>
-    requires { level < 4 }
     ensures { Parses (Binary level) room (map seen tokens.now) result }
 {
     let (first, mut left) = operand(alloc, level, tokens, room)?;
@@ -396,13 +398,12 @@ fn operand<'t, 'a>(
     tokens: &'t [Token<'a>],
     room: u32,
 ) -> Result<(Expr<'a>, &'t [Token<'a>]), ParseError>
-    requires { level < 4 }
     ensures { Parses (below level) room (map seen tokens.now) result }
 {
-    if level < 3 {
-        binary(alloc, level + 1, tokens, room)
-    } else {
+    if level == 0 {
         unary(alloc, tokens, room)
+    } else {
+        binary(alloc, level - 1, tokens, room)
     }
 }
 
@@ -413,7 +414,7 @@ pub fn parse<'a>(alloc: Global, tokens: &[Token<'a>]) -> Result<Expr<'a>, ParseE
         × IsTreeOf (expr_view e) (map seen tokens.now))
         (λ e. IsVerdict e (verdict_of (kinds (map seen tokens.now)))) }
 {
-    let (expr, rest) = binary(alloc, 0, tokens, DEEPEST_EXPRESSION)?;
+    let (expr, rest) = binary(alloc, LOOSEST, tokens, DEEPEST_EXPRESSION)?;
     if rest.is_empty() {
         Ok(expr)
     } else {

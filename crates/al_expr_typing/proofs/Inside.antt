@@ -11,7 +11,7 @@ use Rattle.al_expr_grammar.specs.Extents.{across, extent}
 use Rattle.al_expr_grammar.specs.Inside.{AllLie}
 use Rattle.al_expr_grammar.specs.Refusal.{expression_fault}
 use Rattle.al_expr_grammar.specs.Tree as tree
-use Rattle.al_expr_grammar.specs.Tree.{Tree, sign, Constant, Named, Call, Group, Negated, Path, Chain, Steps, NoStep, PropertyThen, AllThen}
+use Rattle.al_expr_grammar.specs.Tree.{Tree, sign, Constant, Named, Call, Group, Negated, Path, Chain, PathSteps, NoStep, PropertyThen, AllThen}
 use Rattle.al_expr_grammar.specs.Tree.{IndexThen, Operands, NoOperand, OperandThen, Arguments, NoArgument, ArgumentThen}
 use Rattle.al_expr_grammar.specs.declared.token.Operator.{Operator}
 use Rattle.al_expr_grammar.proofs.Inside.{TreeLies, StepsLie, OperandsLie, ArgumentsLie, start_of, whole_lies}
@@ -118,7 +118,7 @@ module _ (size : ℕ) where
   chain_lies whole None i = tt
   chain_lies whole (Some c) i = (i, tt)
 
-  untrusted_lies : (exposed : Bool) (t : Tree) (ss : Steps) → LiesIn size (extent (Path t ss)) → AllLie size (untrusted_faults exposed t ss)
+  untrusted_lies : (exposed : Bool) (t : Tree) (ss : PathSteps) → LiesIn size (extent (Path t ss)) → AllLie size (untrusted_faults exposed t ss)
   untrusted_lies true (Named b s) ss i = chain_lies (extent (Path (Named b s) ss)) (untrusted_chain (b ∷ parts_of ss)) i
   untrusted_lies _ t ss i = tt
 
@@ -201,7 +201,7 @@ module _ (size : ℕ) where
         then_lies (meaning sc (safe || not (begins_logic os)) t) (λ u. operations sc (safe || not (begins_logic os)) os u)
         (meaning_lies t sc (safe || not (begins_logic os)) low l.0) (λ u. chained_lies os sc (safe || not (begins_logic os)) (start_of t) u l.1)
 
-    walked_lies : (ss : Steps) (sc : Scope) (safe : Bool) (low : ℕ) (u : Type') → StepsLie size low ss → TypedLies (walk sc safe ss u)
+    walked_lies : (ss : PathSteps) (sc : Scope) (safe : Bool) (low : ℕ) (u : Type') → StepsLie size low ss → TypedLies (walk sc safe ss u)
     walked_lies NoStep sc safe low u l = tt
     walked_lies (PropertyThen d b s ss) sc safe low u l =
         then_lies (property_of b s (across d s) u) (λ v. walk sc safe ss v) (property_lies b s (across d s) u l.3 (across_lies d s l.2 l.3))

@@ -10,7 +10,7 @@ use Rattle.al_types.specs.declared.names.Function.{Function}
 use Rattle.al_expr_grammar.specs.Refusal.{expression_fault}
 use Rattle.al_types.specs.Names.{context_of}
 use Rattle.al_types.specs.Types.{Type', Any}
-use Rattle.al_expr_grammar.specs.Tree.{Tree, Named, Path, Steps, Sign, sign, Arguments, StepTree, Property, All, Index, steps_of, operands_of, arguments_of}
+use Rattle.al_expr_grammar.specs.Tree.{Tree, Named, Path, PathSteps, Sign, sign, Arguments, StepTree, Property, All, Index, steps_of, operands_of, arguments_of}
 use Rattle.al_types.specs.Scopes.{Scope}
 use Rattle.al_expr_grammar.specs.Extents.{extent}
 use Rattle.al_expr_typing.specs.Untrusted.{chain_part, untrusted_chain}
@@ -86,12 +86,12 @@ abbrev chain_faults : Span → Option (List ℕ) → List Fault
 chain_faults whole o = option_map_or (λ c. expression_fault code.Untrusted whole (c ∷ []) ∷ []) o []
 
 -- of a path that begins with a name
-chain_of : (name : List ℕ) (t : Tree) (ss : Steps) → Some name ≡ base_name t → untrusted_faults true t ss
+chain_of : (name : List ℕ) (t : Tree) (ss : PathSteps) → Some name ≡ base_name t → untrusted_faults true t ss
     ≡ chain_faults (extent (Path t ss)) (untrusted_chain (name ∷ parts_of ss))
 chain_of name (Named b s) ss h = cc
 chain_of name t ss h = absurd cc
 
-pub nameless : (t : Tree) (ss : Steps) → None ≡ base_name t → untrusted_faults true t ss ≡ []
+pub nameless : (t : Tree) (ss : PathSteps) → None ≡ base_name t → untrusted_faults true t ss ≡ []
 nameless (Named b s) ss h = absurd cc
 nameless t ss h = refl
 

@@ -23,7 +23,7 @@ use Rattle.al_expr_grammar.specs.Extents.{extent, across}
 use Rattle.al_expr_typing.specs.Literals.{literal_text, type_of_keyword}
 use Rattle.al_expr_typing.specs.Untrusted.{untrusted_chain}
 use Rattle.al_expr_grammar.specs.Tree as tree
-use Rattle.al_expr_grammar.specs.Tree.{Tree, sign, Constant, Named, Call, Group, Negated, Path, Chain, StepTree, Steps, NoStep}
+use Rattle.al_expr_grammar.specs.Tree.{Tree, sign, Constant, Named, Call, Group, Negated, Path, Chain, StepTree, PathSteps, NoStep}
 use Rattle.al_expr_grammar.specs.Tree.{PropertyThen, AllThen, IndexThen, Operands, NoOperand}
 use Rattle.al_expr_grammar.specs.Tree.{OperandThen, Arguments, NoArgument, ArgumentThen}
 
@@ -89,14 +89,14 @@ abbrev pub index_from : Option (List ℕ × Span) → Span → Type' → Typed �
 index_from text whole t i = option_map_or (λ p. property_of p.0 p.1 whole t) text (and_then i (λ u. index_of whole t u))
 
 -- steps as the parts of a chain: `['x']` as `x`, every other index as `*`
-abbrev pub parts_of : Steps → List (List ℕ)
+abbrev pub parts_of : PathSteps → List (List ℕ)
 parts_of NoStep = []
 parts_of (PropertyThen d b s ss) = b ∷ parts_of ss
 parts_of (AllThen a b ss) = codes "*" ∷ parts_of ss
 parts_of (IndexThen a t b ss) = option_map_or (λ text. text.0) (literal_text t) (codes "*") ∷ parts_of ss
 
 -- X19: a whole path that is an untrusted chain, where a text could do harm. It begins with a name: a bracket ends a chain.
-abbrev pub untrusted_faults : Bool → Tree → Steps → List Fault
+abbrev pub untrusted_faults : Bool → Tree → PathSteps → List Fault
 untrusted_faults true (Named b s) ss =
     option_map_or (λ c. expression_fault code.Untrusted (extent (Path (Named b s) ss)) (c ∷ []) ∷ []) (untrusted_chain (b ∷ parts_of ss)) []
 untrusted_faults _ t ss = []
@@ -184,7 +184,7 @@ abbrev mutual
       let inside = safe || not (begins_logic os) in and_then (meaning sc inside t) (λ u. operations sc inside os u)
 
   -- the steps of a path from a type on
-  pub walk : Scope → Bool → Steps → Type' → Typed
+  pub walk : Scope → Bool → PathSteps → Type' → Typed
   walk sc safe NoStep u = typed u []
   walk sc safe (PropertyThen d b s ss) u = and_then (property_of b s (across d s) u) (λ v. walk sc safe ss v)
   walk sc safe (AllThen a b ss) u = and_then (all_of (across a b) u) (λ v. walk sc safe ss v)

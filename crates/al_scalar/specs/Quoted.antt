@@ -13,8 +13,7 @@ use Rattle.al_scalar.specs.declared.faults.FaultAt.{FaultAt}
 -- it goes on after an escaped break; or the line ends within the escape at a place.
 pub data QuotedEnd : Type 0 where
   closed : ℕ → List Cell → QuotedEnd
-  broken : QuotedEnd
-  escaped : QuotedEnd
+  broken escaped : QuotedEnd
   cut_short : ℕ → QuotedEnd
 
 -- the decoded cells of one line

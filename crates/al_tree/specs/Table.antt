@@ -18,15 +18,13 @@ use Rattle.al_tree.specs.declared.table.Rule as rust_rule
 
 -- whether a key has to stand in its mapping: never, always, where another key isn't there
 pub data Need : Type 0 where
-  optional : Need
-  required : Need
+  optional required : Need
   unless : List ℕ → Need
 
 -- the key that a key cannot stand beside: none, one that stands earlier, one anywhere
 pub data Clash : Type 0 where
   never : Clash
-  after : List ℕ → Clash
-  beside : List ℕ → Clash
+  after beside : List ℕ → Clash
 
 -- a key that a mapping takes, and the shape of its value
 pub record Field : Type 0 where
@@ -39,8 +37,7 @@ pub record Field : Type 0 where
 pub data Others : Type 0 where
   wrong : Others
   wrong_beside : List ℕ → Others
-  unchecked : Others
-  events : Others
+  unchecked events : Others
 
 -- the mappings that are taken: none, those with free keys and values of a shape, those with these keys
 pub data Keys : Type 0 where

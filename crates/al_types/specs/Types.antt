@@ -4,11 +4,7 @@ use Rattle.al_base.specs.Names.{same_name}
 
 mutual
   pub data Type' : Type 0 where
-    Any : Type'
-    Null : Type'
-    Number : Type'
-    Bool' : Type'
-    String : Type'
+    Any Null Number Bool' String : Type'
     ArrayOf : Type' → Type'
     -- by the type of the field of each name, that of every other field, and what all of them have in common
     ObjectOf : (List ℕ → Optional) → Optional → Optional → Type'

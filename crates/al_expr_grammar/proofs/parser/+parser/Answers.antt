@@ -228,4 +228,4 @@ binary-chain-preserved t c =
 
 pub binary-returns : goal.binary-returns
 binary-returns t c =
-    rw (c.in_ok-with_operands.ensures, c.chain.invariant.same) (operands_read _ _ _ _ _ _ _ c.requires c.in_ok-first.ensures c.chain.invariant.so_far c.chain.invariant.stops c.in_default.ensures)
+    rw (c.in_ok-with_operands.ensures, c.chain.invariant.same) (operands_read _ _ _ _ _ _ _ c.in_ok-first.ensures c.chain.invariant.so_far c.chain.invariant.stops c.in_default.ensures)

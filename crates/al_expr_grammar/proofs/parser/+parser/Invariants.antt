@@ -1,4 +1,4 @@
-use Rattle.std.proofs.Common.{◌≡◌, ◌+◌, ◌-◌, ◌*◌, length, map}
+use Rattle.std.proofs.Common.{◌≡◌, ◌+◌, ◌*◌, length, map}
 use Rattle.al_expr_grammar.specs.Lexeme.{seen, kinds}
 use Rattle.al_expr_grammar.specs.Parsed.{PartOfChain, PartOfPath, EndsRule, ArgumentsPart}
 use Rattle.al_expr_grammar.specs.View.{expr_view, step_of, operand_of}
@@ -6,10 +6,10 @@ use Rattle.al_expr_grammar.specs.Grammar.{below}
 use Rattle.al_expr_grammar.proofs.parser.+parser.Given as goal
 
 abbrev pub decreases-binary : goal.decreases-binary
-decreases-binary l = 16 * length (map seen l.tokens.now) + 14 - 2 * l.level
+decreases-binary l = 16 * length (map seen l.tokens.now) + 8 + 2 * l.level
 
 abbrev pub decreases-operand : goal.decreases-operand
-decreases-operand l = 16 * length (map seen l.tokens.now) + 13 - 2 * l.level
+decreases-operand l = 16 * length (map seen l.tokens.now) + 7 + 2 * l.level
 
 abbrev pub decreases-unary : goal.decreases-unary
 decreases-unary l = 16 * length (map seen l.tokens.now) + 6
