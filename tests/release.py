@@ -172,9 +172,10 @@ def reading_alone(folder, room):
 
 
 def words(folder, program, room):
-    """Words that are refused."""
+    """Words that are refused, and `--help`, which isn't."""
     return (
         failed(run([folder / "release", "--bogus", "x"]), 2)
+        + failed(run([folder / "release", "--help"]))
         + failed(run([folder / "release", "--to"]), 2)
         + failed(run([folder / "release", "--program", room / "nowhere", "--to", room / "none"]), 1)
         + ([] if not (room / "none").exists() else ["something was made without a program"])
