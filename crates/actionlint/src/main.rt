@@ -1,4 +1,4 @@
-//! The linter as a program: it lints the files of a folder, or runs a script from standard input.
+//! The program: lints the files of a folder, or runs a script from standard input.
 #![tactic(auto)]
 
 use al_base::{Input, Output, Stop};
@@ -11,17 +11,17 @@ use std::io::{BufWriter, ErrorKind, Write};
 use std::process::ExitCode;
 use std::{env, io};
 
-/// The status of a wrong command line.
+/// The exit status for a wrong command line.
 const BAD_WORDS: u8 = 2;
 
-/// The status of a run that could not go on.
+/// The exit status of a run that could not go on.
 const FATAL: u8 = 3;
 
 fn main(rt: HostRuntime) -> ExitCode {
     ExitCode::from(run(&rt))
 }
 
-// Runs the program, and answers its status.
+// Runs the program, and returns its exit status.
 fn run(rt: &HostRuntime) -> u8 {
     let words = match words_of(rt) {
         Ok(words) => words,
@@ -38,7 +38,7 @@ fn words_of(rt: &HostRuntime) -> io::Result<Vec<String>> {
     Ok(env::args(rt)?.collect(rt.alloc())?)
 }
 
-// Says why the words could not be read.
+// Prints why the arguments could not be read.
 fn say_unreadable(rt: &HostRuntime, kind: ErrorKind) -> u8 {
     if kind == ErrorKind::OutOfMemory {
         return say_stop(rt, Stop::Memory);
@@ -47,7 +47,7 @@ fn say_unreadable(rt: &HostRuntime, kind: ErrorKind) -> u8 {
     BAD_WORDS
 }
 
-// Prints why the command line asks for no run.
+// Prints help or the usage error of a command line that asks for no run.
 fn say_usage(rt: &HostRuntime, usage: Usage) -> u8 {
     match usage {
         Usage::Help(text) => match WaitingOutput::new(rt.stdout(), rt).write_all(text.as_bytes()) {
@@ -66,7 +66,7 @@ fn say_usage(rt: &HostRuntime, usage: Usage) -> u8 {
     }
 }
 
-// Runs the script of standard input.
+// Runs the script from standard input.
 fn run_script(rt: &HostRuntime, oneline: bool) -> u8 {
     let Ok(buffer) = BufWriter::new(rt.alloc(), WaitingOutput::new(rt.stdout(), rt)) else {
         return say_stop(rt, Stop::Memory);
@@ -74,7 +74,7 @@ fn run_script(rt: &HostRuntime, oneline: bool) -> u8 {
     let mut reader = Input::new(rt.stdin());
     let mut writer = Output::new(buffer);
     let answer = run_session(rt.alloc(), &mut reader, &mut writer, oneline);
-    // What the writer holds back goes out whatever the answer is.
+    // Buffered output is flushed whatever the result is.
     let flushed = writer.flush();
     match (answer, flushed) {
         (Ok(status), Ok(())) => status,
@@ -83,7 +83,7 @@ fn run_script(rt: &HostRuntime, oneline: bool) -> u8 {
     }
 }
 
-// Lints the files that the words ask for.
+// Lints the files that the arguments name.
 fn lint_folder(rt: &HostRuntime, words: &Words) -> u8 {
     let gathered = match load(rt, rt.alloc(), words) {
         Ok(gathered) => gathered,
@@ -104,7 +104,7 @@ fn lint_files(rt: &HostRuntime, files: Loaded, oneline: bool) -> Result<u8, Stop
     };
     let mut writer = Output::new(buffer);
     let answer = lint_loaded(files, &mut writer, oneline);
-    // A whole report is flushed already; of one that stopped goes out what can.
+    // A complete report was already flushed; of one that stopped, as much as possible is written.
     let _ = writer.flush();
     answer
 }
@@ -133,7 +133,7 @@ fn say_stop(rt: &HostRuntime, stop: Stop) -> u8 {
     FATAL
 }
 
-// Nothing is left to do where standard error fails too.
+// If standard error fails too, nothing is left to do.
 fn say(rt: &HostRuntime, text: &str) {
     let _ = eprintln!(rt; "actionlint: {text}");
 }

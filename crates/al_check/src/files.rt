@@ -1,4 +1,4 @@
-//! Files as they are read, and the faults of each.
+//! Files as they were read, and their faults.
 ghost use Rattle.std.specs.List.{flat_map};
 ghost use Rattle.std.specs.Prelude.{◌≡◌, ◌≤◌, ◌++◌, [], ◌∷◌, length, map, IfOk, OnOk};
 ghost use Rattle.std.specs.Option.{option_copied};
@@ -36,15 +36,15 @@ use al_yaml::read_yaml;
 use al_yaml_tree::Doc;
 use std::alloc::{AllocError, Global};
 
-/// The bytes of a file, and the kind that they are read as.
+/// The bytes of a file, and whether they are read as a workflow or an action.
 #[derive(Clone, Copy)]
 pub(crate) struct Source<'a> {
     pub(crate) kind: FileKind,
     pub(crate) bytes: &'a [u8],
 }
 
-/// A file as it was read: a workflow or an action, or its fault as YAML; its faults that depend on no other file, of the syntax, of rules
-/// and of `uses` that name nothing; and its calls of files of the folder.
+/// A file as it was read: a workflow or an action, or its YAML fault; its faults that depend on no other file (syntax,
+/// rules, and every invalid `uses`); and its calls of files in the folder.
 #[derive(Drop)]
 pub struct ReadFile {
     pub(crate) tree: Result<Tree, YamlFault>,
@@ -52,7 +52,7 @@ pub struct ReadFile {
     pub(crate) calls: Vec<Call>,
 }
 
-/// A document as a workflow or an action, with its faults of keys and values.
+/// A document as a workflow or an action, with the faults of its keys and values.
 fn tree_as(alloc: Global, kind: FileKind, doc: Doc) -> Result<(Tree, Vec<Fault>), AllocError>
     ensures root { IfOk result (λ r. root_of r.0 ≡ view doc.root) }
     ensures kind { IfOk result (λ r. kind_in r.0 ≡ kind) }
@@ -80,7 +80,7 @@ fn with_rules(alloc: Global, tree: &Tree, keys: Vec<Fault>) -> Result<Vec<Fault>
     Ok(own)
 }
 
-/// The calls of files of the folder that a document has. Adds the faults of its `uses` that name nothing.
+/// The calls of files in the folder that a document makes. Adds the fault of every invalid `uses`.
 fn document_calls(alloc: Global, tree: &Tree, own: &mut Vec<Fault>) -> Result<Vec<Call>, AllocError>
     ensures calls { IfOk result
         (λ calls. AreCallsOf (kind_in tree.now) (root_of tree.now) calls.items) }
@@ -129,7 +129,7 @@ pub(crate) fn read_file(alloc: Global, source: Source<'_>) -> Result<ReadFile, A
     }
 }
 
-/// Adds the faults that depend on what answers the file's calls: of its expressions and of its calls.
+/// Adds the faults that depend on the answers of the file's calls: those of its expressions and of its calls.
 fn add_behind(
     tree: &Tree,
     calls: &[Call],
@@ -154,14 +154,14 @@ fn add_behind(
     behind_faults(file, answers, faults)
 }
 
-/// These faults as they are printed, in the order of reports, each once.
+/// These faults as they are printed, in report order, each once.
 fn in_report_order(alloc: Global, found: Vec<Fault>) -> Result<Vec<Fault>, AllocError>
     ensures { IfOk result (λ list. list.items ≡ fault_list (map meant.printed_fault found.items)) }
 {
     Ok(fault_list(with_printed_args(alloc, found)?))
 }
 
-/// The faults of a workflow or an action, of which these are its own, in the order of reports, each once.
+/// The faults of a workflow or an action, including these faults of its own, in report order, each once.
 fn document_faults(
     alloc: Global,
     tree: &Tree,
@@ -181,13 +181,13 @@ fn document_faults(
 {
     let mut faults = FaultSink::new(alloc);
     add_behind(tree, file.calls.as_slice(), answers, &mut faults)?;
-    // The few own faults stand behind those found, which can be millions.
+    // The file's own faults, which are few, are appended to those found, which can be millions.
     let mut found = faults.into_faults();
     add_copies(alloc, &file.own, &mut found)?;
     in_report_order(alloc, found)
 }
 
-/// The fault of a file that is no YAML, which stands alone.
+/// The only fault of a file that isn't YAML.
 fn yaml_fault(alloc: Global, fault: YamlFault) -> Result<Vec<Fault>, AllocError>
     ensures { IfOk result (λ found. found.items
         ≡ (record { span = fault.span; code = Code.Yaml fault.code; args = [] }) ∷ []) }
@@ -197,8 +197,8 @@ fn yaml_fault(alloc: Global, fault: YamlFault) -> Result<Vec<Fault>, AllocError>
     Ok(faults.into_faults())
 }
 
-/// The faults of a file that was read from this source, given the answers of its calls of files of the folder: its one fault as YAML, or
-/// else all faults of the document, in the order of reports, each once.
+/// The faults of a file that was read from this source, given the answers of its calls of files in the folder: its one
+/// YAML fault, or else all faults of the document, in report order, each once.
 pub(crate) fn file_faults(
     alloc: Global,
     source: Source<'_>,
@@ -218,7 +218,7 @@ pub(crate) fn file_faults(
     }
 }
 
-/// What these calls call.
+/// The targets of these calls.
 pub(crate) fn targets(alloc: Global, calls: &[Call]) -> Result<Vec<Target>, AllocError>
     ensures { IfOk result (λ found. found.items ≡ map (λ c. c.target) calls.now) }
 {
@@ -229,14 +229,14 @@ pub(crate) fn targets(alloc: Global, calls: &[Call]) -> Result<Vec<Target>, Allo
     Ok(found)
 }
 
-/// What a document shows to its callers.
+/// The interface that a document shows to its callers.
 fn tree_interface(alloc: Global, tree: &Tree) -> Result<Interface, AllocError>
     ensures { IfOk result (λ i. i ≡ interfaces.interface_of (kind_in tree.now) (root_of tree.now)) }
 {
     interface_of(alloc, tree.kind(), tree.root())
 }
 
-/// What a file shows to its callers.
+/// The interface that a file shows to its callers.
 pub(crate) fn file_interface(alloc: Global, file: &ReadFile) -> Result<Interface, AllocError>
     ensures { IfOk result (λ i. i ≡ shown_by file.now) }
 {

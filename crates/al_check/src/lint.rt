@@ -1,4 +1,4 @@
-//! The linter, as a session of a folder asks for it.
+//! The linter, as an `impl Lint` for sessions.
 ghost use Rattle.std.specs.Prelude.{◌≡◌, ◌∷◌, [], ℕ, List, Option};
 ghost use Rattle.al_tree.specs.Kinds.{file_kind};
 ghost use Rattle.al_check.specs.Linting.{linting};
@@ -15,7 +15,7 @@ use al_session_folder::{Lint, Site, Target};
 use al_tree::{file_kind, is_action, is_workflow};
 use std::alloc::{AllocError, Global};
 
-/// The first of a fault's texts; empty where it has none.
+/// The first text of a fault; empty if it has none.
 fn first_text(args: &Args) -> &str
     ensures { (text : List ℕ) → args.now ≡ text ∷ [] → result.now ≡ text }
 {
@@ -25,7 +25,7 @@ fn first_text(args: &Args) -> &str
     }
 }
 
-/// What is said of a call on a call cycle.
+/// The fault of a call on a call cycle.
 fn site_of(call: &Call) -> Site<'_>
     ensures { (text : List ℕ) → call.now.fault.args ≡ text ∷ [] → site_fault result ≡ call.now.fault }
 {
@@ -36,20 +36,21 @@ fn site_of(call: &Call) -> Site<'_>
     }
 }
 
-// The bytes of the files of which a linter for one report keeps the trees.
+// A linter for one report keeps the trees of files up to this many bytes in total.
 const KEPT_BYTES: usize = 2_097_152;
 
-/// The linter of workflows and actions, with its counts.
+/// The linter of workflows and actions, with its counts of reads and checks.
 #[derive(Drop)]
 pub struct Actions {
     checks: u64,
     reads: u64,
-    // The bytes of files whose trees may still be kept; `None` where all are.
+    // The bytes of files whose trees may still be kept; `None` if all trees are kept.
     room: Option<usize>,
 }
 
 impl Actions {
-    /// A linter that has read and checked nothing. It keeps all that it reads, as a session needs that takes edits. Takes no memory.
+    /// A linter that has read and checked nothing. It keeps everything it reads, as a session that takes edits needs.
+    /// Doesn't allocate.
     pub fn new() -> Actions
         ensures checks { result.checks ≡ 0 }
         ensures reads { result.reads ≡ 0 }
@@ -61,9 +62,9 @@ impl Actions {
         }
     }
 
-    /// A linter that has read and checked nothing, for one report of a folder. It keeps the trees of the first files that it reads, up to
-    /// 2,097,152 bytes of them; of the files behind these it keeps what a report and their callers need, and reads them again to check
-    /// them, which isn't counted. Takes no memory.
+    /// A linter that has read and checked nothing, for one report on a folder. It keeps the trees of the first files it
+    /// reads, up to 2,097,152 bytes of files. Of later files it keeps only what a report and their callers need, and
+    /// reads them again to check them; these reads aren't counted. Doesn't allocate.
     pub fn for_one_report() -> Actions
         ensures checks { result.checks ≡ 0 }
         ensures reads { result.reads ≡ 0 }
@@ -75,7 +76,7 @@ impl Actions {
         }
     }
 
-    // Whether the tree of a file of so many bytes is kept, which then takes their room.
+    // Whether the tree of a file with this many bytes is kept; if so, they are subtracted from the remaining room.
     fn keeps_tree(&mut self, bytes: usize) -> bool
         ensures checks { self.new.checks ≡ self.old.checks }
         ensures reads { self.new.reads ≡ self.old.reads }

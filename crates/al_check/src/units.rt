@@ -1,4 +1,4 @@
-//! What is kept of files that were read.
+//! What is kept of files after they were read.
 ghost use Rattle.std.specs.Prelude.{◌≡◌, ◌<◌, ◌≤◌, ℕ, List, length, map, slice_index_or, IfOk};
 ghost use Rattle.std.specs.Option.{option_copied};
 ghost use Rattle.al_base.specs.Limits.{largest_file};
@@ -15,23 +15,23 @@ use al_check_interfaces::{Call, Interface};
 use al_session_folder::Target;
 use std::alloc::{AllocError, Global};
 
-/// What a report and a file's callers need of the file.
+/// The part of a file that a report and the file's callers need.
 #[derive(Drop)]
 pub struct Brief {
     pub(crate) interface: Interface,
     pub(crate) calls: Vec<Call>,
 }
 
-/// What is kept of a file that was read.
+/// What is kept of a file after it was read.
 #[derive(Drop)]
 pub enum Unit {
-    /// All that was read.
+    /// Everything that was read.
     Whole(ReadFile),
-    /// What a report and the file's callers need: to be checked, the file is read again.
+    /// Only what a report and the file's callers need; to check the file, it is read again.
     Brief(Brief),
 }
 
-/// What a report and the callers of this file need.
+/// The part of this file that a report and its callers need.
 pub(crate) fn brief_of(alloc: Global, file: ReadFile) -> Result<Brief, AllocError>
     ensures { IfOk result (λ brief. (kind : FileKind) (bytes : List ℕ) → IsRead file kind bytes
         → IsBriefOf brief kind bytes) }
@@ -43,7 +43,7 @@ pub(crate) fn brief_of(alloc: Global, file: ReadFile) -> Result<Brief, AllocErro
     })
 }
 
-/// The calls of files of the folder.
+/// The calls of files in the folder.
 pub(crate) fn calls_of(unit: &Unit) -> &[Call]
     ensures { result.now ≡ calls_kept unit.now }
 {
@@ -53,7 +53,7 @@ pub(crate) fn calls_of(unit: &Unit) -> &[Call]
     }
 }
 
-/// The call of a file of the folder with a number, from 0.
+/// The call of a file in the folder with a given number, counted from 0.
 pub(crate) fn call_at(unit: &Unit, number: usize) -> &Call
     requires { number < length (calls_kept unit.now) }
     ensures { result.now ≡ slice_index_or (calls_kept unit.now) number result.now }
@@ -64,14 +64,14 @@ pub(crate) fn call_at(unit: &Unit, number: usize) -> &Call
     }
 }
 
-/// The files of the folder that a file calls, in order.
+/// The files in the folder that a file calls, in order.
 pub(crate) fn unit_targets(alloc: Global, unit: &Unit) -> Result<Vec<Target>, AllocError>
     ensures { IfOk result (λ found. found.items ≡ map (λ c. c.target) (calls_kept unit.now)) }
 {
     targets(alloc, calls_of(unit))
 }
 
-/// What a file shows to its callers.
+/// The interface that a file shows to its callers.
 pub(crate) fn unit_interface(alloc: Global, unit: &Unit) -> Result<Interface, AllocError>
     ensures { IfOk result (λ i. i ≡ interface_kept unit.now) }
 {
@@ -81,7 +81,7 @@ pub(crate) fn unit_interface(alloc: Global, unit: &Unit) -> Result<Interface, Al
     }
 }
 
-// The faults of a file that is read for them.
+// The faults of a file, which is read again for this.
 fn faults_read_again(
     alloc: Global,
     source: Source<'_>,
@@ -98,7 +98,7 @@ fn faults_read_again(
     file_faults(alloc, source, &file, answers)
 }
 
-/// The faults of a file, given the answers of its calls of files of the folder, in the order of reports, each once.
+/// The faults of a file, given the answers of its calls of files in the folder, in report order, each once.
 pub(crate) fn unit_faults(
     alloc: Global,
     source: Source<'_>,

@@ -1,6 +1,7 @@
-//! Expressions of workflows and actions, `${{ .. }}`: their tokens and chunks, their trees, and what is wrong with them.
+//! Expressions of workflows and actions, `${{ .. }}`: their tokens and chunks, their trees, their types, and their
+//! faults.
 //!
-//! The face of three crates: the grammar, the signatures of functions, and the types of expressions as trees.
+//! A facade over the crates of the grammar, of the signatures of functions, and of types as trees.
 #![tactic(auto)]
 
 pub use al_expr_grammar::{

@@ -1,13 +1,13 @@
-//! Tests of tokens, which no case of `tests/expressions` shows.
+//! Tests of tokens, which no case in `tests/expressions` shows.
 
 use crate::{Token, TokenKind, lex};
 use std::alloc::{AllocError, Global};
 use std::test::Fail;
 
-/// Ends in a text that has a quote in it.
+/// Ends in a text that contains a quote.
 const CONTENT: &str = "a.'it''s'";
 
-/// Whether the third of three tokens is the text with a quote in it.
+/// Whether the third of three tokens is the text that contains a quote.
 fn ends_in_text(tokens: &[Token<'_>]) -> bool {
     match tokens {
         [_, _, last] => {

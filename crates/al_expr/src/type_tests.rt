@@ -1,4 +1,4 @@
-//! Tests of types and of the faults of meaning, by worked rows.
+//! Tests of types and of type faults, by worked rows.
 
 use crate::{
     Available, ContextSet, ContextTypes, Field, Form, FunctionSet, Scope, Ty, assignable, fuse,
@@ -15,7 +15,7 @@ fn field(alloc: Global, name: &str, ty: Ty) -> Result<Field, AllocError> {
     })
 }
 
-/// Every context but `secrets`, and `hashFiles` alone of the special functions.
+/// Every context except `secrets`, and of the special functions only `hashFiles`.
 fn available() -> Available {
     Available {
         contexts: ContextSet {
@@ -42,8 +42,8 @@ fn available() -> Available {
     }
 }
 
-/// A step's `run`, where these are available.
-/// `github` is an object with the string `head_ref` and the unknown `event`; every other context is any.
+/// A step's `run`, where these are available. `github` is an object with the string `head_ref` and the field `event` of
+/// type any; every other context is any.
 fn step_run(alloc: Global) -> Result<Scope, AllocError> {
     let mut fields = Vec::new(alloc);
     fields.push(field(alloc, "head_ref", Ty::String)?)?;
@@ -68,7 +68,7 @@ fn step_run(alloc: Global) -> Result<Scope, AllocError> {
     })
 }
 
-/// An expression, its type's form, and its one fault, if it has one, with the fault's place and texts.
+/// An expression, the form of its type, and its one fault, if it has one, with the place and texts of the fault.
 struct Row {
     content: &'static str,
     form: Form,
@@ -208,7 +208,7 @@ const ROWS: [Row; 24] = [
     },
 ];
 
-// Whether a text is the one that is told at this index, or there is none where none is told.
+// Whether a text is the expected one at this index, or absent if none is expected.
 fn is_text(found: Option<&str>, told: &[&str], index: usize) -> bool {
     match told.get(index) {
         Some(text) => match found {
@@ -280,7 +280,7 @@ fn types(rt: HostRuntime) -> Result<(), Fail> {
     Ok(())
 }
 
-/// Whether a type is an object of fields of these names and forms, in their order, and of no others.
+/// Whether a type is an object with exactly the fields of these names and forms, in this order.
 fn is_object(ty: &Ty, wanted: &[(&str, Form)]) -> bool {
     match ty {
         Ty::Object { fields, rest } => rest.is_none() && are_fields(fields, wanted),
@@ -307,7 +307,7 @@ fn object(alloc: Global, first: Field, second: Field) -> Result<Ty, AllocError> 
     Ok(Ty::Object { fields, rest: None })
 }
 
-/// Two objects that both have a field of one name, in two cases of letters.
+/// Two objects that both have a field of one name, spelled in different ASCII case.
 fn fused_objects(alloc: Global) -> Result<Ty, AllocError> {
     let a = object(
         alloc,
@@ -341,7 +341,7 @@ fn taken_fields() -> &'static [(&'static str, Form)] {
     &TAKEN
 }
 
-/// Whether the type of an expression is `github`'s.
+/// Whether the type of an expression is that of `github`.
 fn is_github(alloc: Global, content: &str) -> Result<bool, AllocError> {
     let scope = step_run(alloc)?;
     let Ok(expr) = parse_expr(alloc, content)? else {
@@ -359,7 +359,7 @@ fn contexts_are_taken_out_as_they_were(rt: HostRuntime) -> Result<(), Fail> {
     Ok(())
 }
 
-/// `first`, and so many times `more`.
+/// `first`, followed by `more` repeated `times` times.
 fn repeated(alloc: Global, first: &str, more: &str, times: usize) -> Result<String, AllocError> {
     let mut content = String::from_str(alloc, first)?;
     for _ in 0..times {
@@ -368,7 +368,7 @@ fn repeated(alloc: Global, first: &str, more: &str, times: usize) -> Result<Stri
     Ok(content)
 }
 
-/// The form of an expression's type, where it has no fault.
+/// The form of the type of an expression, if it has no fault.
 fn form_of(alloc: Global, scope: &Scope, content: &str) -> Result<Option<Form>, AllocError> {
     let Ok(expr) = parse_expr(alloc, content)? else {
         return Ok(None);

@@ -1,4 +1,4 @@
-//! Actions, by what `using` says.
+//! Rules of actions, depending on `using`.
 
 ghost use Rattle.al_rules.specs.Rules.{action_faults, composite_faults, hooks_faults, no_shell_faults, output_faults, runs_faults};
 ghost use Rattle.al_rules.specs.Rules.{scalar_of_value, using_faults};
@@ -86,7 +86,7 @@ fn check_composite(root: &Node, runs: &Node, faults: &mut FaultSink) -> Result<(
     check_outputs(root, faults)
 }
 
-/// Adds the faults of the conditions before and behind an action.
+/// Adds the faults of the conditions `pre-if` and `post-if` of an action.
 fn check_hooks(runs: &Node, faults: &mut FaultSink) -> Result<(), AllocError>
     ensures { OnOk result (faults.new ≡ faults.old ++ hooks_faults (view runs.now)) }
 {
@@ -94,7 +94,7 @@ fn check_hooks(runs: &Node, faults: &mut FaultSink) -> Result<(), AllocError>
     check_condition(text_under(runs, "post-if"), faults)
 }
 
-/// Adds the faults of `runs` by what `using` says.
+/// Adds the faults of `runs`, depending on `using`.
 fn check_using(
     root: &Node,
     runs: &Node,
@@ -126,7 +126,7 @@ fn scalar_text(node: &Node) -> Option<Named<'_>>
     })
 }
 
-/// What `using` says.
+/// The value of `using`.
 fn using_of(runs: &Node) -> Option<Named<'_>>
     ensures { option_map named_of result
         ≡ option_and_then scalar_of_value (value_at (codes "using") (view runs.now)) }

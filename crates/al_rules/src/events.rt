@@ -1,4 +1,4 @@
-//! Events: their names, activity types, filters, schedules, and the types of inputs.
+//! Rules of events: their names, activity types, filters, schedules, and the types of inputs.
 
 ghost use Rattle.al_base.specs.declared.codes.RuleCode.TheVariants.{WrongPattern};
 ghost use Rattle.al_rules.specs.Events.{activity_faults, cron_faults, event_faults, filter_faults, filters_faults, input_faults};
@@ -22,7 +22,7 @@ use al_tree::{
 use al_yaml_tree::Node;
 use std::alloc::AllocError;
 
-/// Adds an activity type that an event doesn't take.
+/// Adds the fault of an activity type that an event doesn't have.
 fn check_type(
     types: &[&str],
     scalar: ScalarNode<'_>,
@@ -34,7 +34,7 @@ fn check_type(
     report_unless_among(RuleCode::UnknownActivity, types, named_text(scalar), faults)
 }
 
-/// Adds the activity types that an event doesn't take.
+/// Adds the faults of the activity types that an event doesn't have.
 fn check_types(
     types: &[&str],
     scalars: &[ScalarNode<'_>],
@@ -50,7 +50,7 @@ fn check_types(
     Ok(())
 }
 
-/// Adds the wrong activity types of an event.
+/// Adds the faults of the activity types under an event.
 fn check_activities(name: &[u8], event: &Node, faults: &mut FaultSink) -> Result<(), AllocError>
     ensures { OnOk result (faults.new ≡ faults.old ++ activity_type_faults name.now (view event.now)) }
 {
@@ -63,7 +63,7 @@ fn check_activities(name: &[u8], event: &Node, faults: &mut FaultSink) -> Result
     }
 }
 
-/// Adds the fault of a filter that is no pattern.
+/// Adds the fault of a filter that isn't a pattern.
 fn check_pattern(filter: Filter, named: Named<'_>, faults: &mut FaultSink) -> Result<(), AllocError>
     ensures { let n = named_of named.entry in
         OnOk result (faults.new ≡ faults.old ++ unless (means_pattern filter n.text) WrongPattern n) }
@@ -127,7 +127,7 @@ fn check_filters(event: &Node, faults: &mut FaultSink) -> Result<(), AllocError>
     check_keys(Filter::Paths, event, &["paths", "paths-ignore"], faults)
 }
 
-/// Adds the fault of a schedule that is right, with such minutes.
+/// Adds the fault of a valid schedule with these minutes.
 fn check_minutes(
     minutes: &[Item],
     named: Named<'_>,
@@ -140,7 +140,7 @@ fn check_minutes(
     report_unless(!often, RuleCode::ScheduleTooOften, named, faults)
 }
 
-/// Adds the fault of a schedule with such minutes, or of one that isn't right.
+/// Adds the fault of a schedule with these minutes, or of an invalid schedule.
 fn check_parsed(
     minutes: &Option<Vec<Item>>,
     named: Named<'_>,
@@ -245,7 +245,7 @@ fn check_event(name: &[u8], event: &Node, faults: &mut FaultSink) -> Result<(), 
     }
 }
 
-/// Adds the faults of an event with what stands under it.
+/// Adds the faults of an event and the values under it.
 fn check_named(event: Member<'_>, faults: &mut FaultSink) -> Result<(), AllocError>
     ensures { OnOk result (faults.new ≡ faults.old ++ named_faults (member_of event.entry)) }
 {
@@ -257,7 +257,7 @@ fn check_named(event: Member<'_>, faults: &mut FaultSink) -> Result<(), AllocErr
     }
 }
 
-/// Adds the faults of events with what stands under them.
+/// Adds the faults of events and the values under them.
 fn check_events(events: &[Member<'_>], faults: &mut FaultSink) -> Result<(), AllocError>
     ensures { OnOk result (faults.new ≡ faults.old
         ++ flat_map named_faults (map member_of events.now)) }
@@ -268,7 +268,7 @@ fn check_events(events: &[Member<'_>], faults: &mut FaultSink) -> Result<(), All
     Ok(())
 }
 
-/// Adds the names that are no events.
+/// Adds the faults of names that aren't events.
 fn check_names(names: &[ScalarNode<'_>], faults: &mut FaultSink) -> Result<(), AllocError>
     ensures { OnOk result (faults.new ≡ faults.old
         ++ flat_map (λ s. event_name_faults (of_scalar s)) (map scalar_node_of names.now)) }
@@ -280,10 +280,12 @@ fn check_names(names: &[ScalarNode<'_>], faults: &mut FaultSink) -> Result<(), A
     Ok(())
 }
 
-/// Adds the faults of what stands under `on`: events that aren't known, and of each other event its activity types, filters, schedules
-/// and types of inputs.
+/// Adds the faults of the value of `on`: unknown events, and for each other event its activity types, filters,
+/// schedules and types of inputs.
 ///
-/// Fails with `AllocError` when out of memory.
+/// # Errors
+///
+/// `AllocError` if memory runs out.
 pub fn check_on(on: &Node, faults: &mut FaultSink) -> Result<(), AllocError>
     ensures { OnOk result (faults.new ≡ faults.old ++ on_faults (view on.now)) }
 {

@@ -12,7 +12,7 @@ ghost use Rattle.al_base.specs.declared.codes.RuleCode.TheVariants.{WrongId, Wro
 ghost use Rattle.al_base.specs.declared.codes.RuleCode.TheVariants.{WrongVariable};
 ghost use Rattle.std.specs.Prelude.{◌≡◌, [], ◌∷◌, codes};
 
-/// The faults of some small files, as the definitions give them. Does nothing.
+/// The faults of some small files, as the definitions give them. Does nothing at run time.
 pub fn rows()
     ensures unknown_event { workflow_faults (needs_by_steps file.unknown_event) file.unknown_event ≡
         rule_fault UnknownEvent (at 4 7) (codes "pus" ∷ []) ∷ [] }

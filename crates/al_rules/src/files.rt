@@ -1,4 +1,4 @@
-//! The rules of a file.
+//! The rules of a single file.
 
 ghost use Rattle.al_rules.specs.Rules.{AddsRules, IsRuleFaults};
 ghost use Rattle.al_base.specs.Growth.{BeginsWith};
@@ -10,7 +10,7 @@ use al_base::{Fault, FaultSink};
 use al_tree::Tree;
 use std::alloc::{AllocError, Global};
 
-/// The faults of the rules that a file breaks by itself. Fails with `AllocError` when out of memory.
+/// The faults by the rules of a single file. Fails with `AllocError` if memory runs out.
 fn broken_rules(alloc: Global, tree: &Tree) -> Result<FaultSink, AllocError>
     ensures { IfOk result (λ faults. IsRuleFaults tree.now faults) }
 {
@@ -27,9 +27,12 @@ fn broken_rules(alloc: Global, tree: &Tree) -> Result<FaultSink, AllocError>
     }
 }
 
-/// Adds the faults of the rules that a file breaks by itself.
+/// Adds to a list the faults of a workflow or an action by the rules of a single file, in no particular order. Their
+/// spans are byte offsets of the file.
 ///
-/// Fails with `AllocError` when out of memory; the list then begins with what it held.
+/// # Errors
+///
+/// `AllocError` if memory runs out. The list then still begins with what it held before.
 #[tactic(auto, using(al_base::proofs::Growing::growth))]
 pub fn rules(alloc: Global, tree: &Tree, out: &mut Vec<Fault>) -> Result<(), AllocError>
     ensures rules { OnOk result (AddsRules tree.now out.old.items out.new.items) }

@@ -6,7 +6,7 @@ ghost use Rattle.std.specs.Prelude.{◌≡◌, map, option_map};
 
 use al_base::is_among;
 
-/// Some events, and the activity types that each of them takes.
+/// Some events, and the activity types that each of them has.
 #[derive(Clone, Copy)]
 pub(crate) struct Activities {
     events: &'static [&'static str],
@@ -128,7 +128,7 @@ pub(crate) const DISPATCH_TYPES: &[&str] = &[
     "environment",
 ];
 
-/// The activity types of an event, by some rows.
+/// The activity types of an event, among some rows.
 fn types_in(rows: &[Activities], event: &[u8]) -> Option<&'static [&'static str]>
     ensures { option_map (λ ts. map (λ n. n.now) ts.now) result
         ≡ row_types event.now (map activity_row rows.now) }
@@ -141,7 +141,7 @@ fn types_in(rows: &[Activities], event: &[u8]) -> Option<&'static [&'static str]
     None
 }
 
-/// The activity types that an event takes; none where any are taken.
+/// The activity types of an event; `None` if any text is accepted.
 pub(crate) fn activities_of(event: &[u8]) -> Option<&'static [&'static str]>
     ensures { option_map (λ ts. map (λ n. n.now) ts.now) result ≡ activities_named event.now }
 {

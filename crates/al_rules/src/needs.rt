@@ -1,4 +1,4 @@
-//! What jobs need.
+//! Rules of the `needs` of jobs.
 
 ghost use Rattle.al_base.specs.NamePlaces.{name_position};
 ghost use Rattle.al_graph.specs.Graphs.{edges_of};
@@ -26,12 +26,13 @@ pub(crate) struct Need<'a> {
     text: Named<'a>,
 }
 
-/// The jobs of a workflow, as what they need is looked at: which of them a text names, and which lead to one another.
+/// The jobs of a workflow, prepared for checking their `needs`: which job a text names, and which jobs lead to one
+/// another.
 #[derive(Clone, Copy)]
 pub(crate) struct JobGraph<'a> {
-    /// Where the first job with each key stands, without regard to ASCII case.
+    /// The position of the first job with each key, ignoring ASCII case.
     positions: &'a NamePositions,
-    /// A label for each job. Jobs have one label where they lead to one another.
+    /// A label for each job. Two jobs have the same label exactly if they lead to one another.
     labels: &'a [Option<usize>],
 }
 
@@ -65,7 +66,7 @@ fn positions_of(
     Ok(found)
 }
 
-/// For each job the positions of the jobs that it needs.
+/// For each job, the positions of the jobs that it needs.
 fn lists_for(
     alloc: Global,
     positions: &NamePositions,
@@ -92,14 +93,14 @@ fn label_of(labels: &[Option<usize>], job: usize) -> Option<usize>
     }
 }
 
-/// Whether two jobs have one label.
+/// Whether two jobs have the same label.
 fn has_label_of(labels: &[Option<usize>], job: usize, other: usize) -> bool
     ensures { result ≡ components.has_label_of labels.now job other }
 {
     label_of(labels, job) == label_of(labels, other)
 }
 
-/// Adds the fault of an entry that names this job, if any. Jobs have one label where they lead to one another.
+/// Adds the fault of an entry that names this job, if it has one. Jobs have the same label if they lead to one another.
 fn check_named(
     labels: &[Option<usize>],
     need: Need<'_>,
@@ -197,10 +198,10 @@ fn check_each_job(
     Ok(())
 }
 
-/// Adds the faults of what jobs need.
+/// Adds the faults of the `needs` of all jobs.
 ///
-/// An entry is on a cycle where both are in one strongly connected component. So it takes time in
-/// proportion to jobs and entries, but for finding each name.
+/// An entry is on a cycle if its job and the job it names are in one strongly connected component. So the time is
+/// linear in jobs and entries, apart from looking up each name.
 pub(crate) fn check_needs(jobs: &[Member<'_>], faults: &mut FaultSink) -> Result<(), AllocError>
     ensures { OnOk result (AddsAllNeeds (map member_of jobs.now) faults.old faults.new) }
 {

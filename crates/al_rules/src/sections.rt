@@ -1,4 +1,4 @@
-//! Steps, containers and jobs: which rules stand where.
+//! Steps, containers and jobs: which rules apply where.
 
 ghost use Rattle.al_rules.specs.Rules.{container_faults, containers_faults, job_faults, section_faults};
 ghost use Rattle.al_rules.specs.Rules.{settings_faults, step_faults, step_ids, steps_faults};
@@ -19,7 +19,7 @@ use al_tree::{Member, ScalarNode, items_under, members, text_under, value};
 use al_yaml_tree::Node;
 use std::alloc::{AllocError, Global};
 
-/// Adds the faults of a step by itself.
+/// Adds the faults of a step by itself, without those of its id.
 fn check_step(step: &Node, faults: &mut FaultSink) -> Result<(), AllocError>
     ensures { OnOk result (faults.new ≡ faults.old ++ step_faults (view step.now)) }
 {
@@ -69,7 +69,7 @@ fn check_container(node: &Node, faults: &mut FaultSink) -> Result<(), AllocError
     check_credentials(node, faults)
 }
 
-/// The shell that the scripts of a workflow or a job run in, where no step names its own: `shell` of `defaults.run`.
+/// The default shell of the scripts of a workflow or a job: `shell` of `defaults.run`.
 fn default_shell(node: &Node) -> Option<ScalarNode<'_>>
     ensures { option_map scalar_node_of result
         ≡ text_below (codes "defaults" ∷ codes "run" ∷ codes "shell" ∷ []) (view node.now) }
@@ -77,7 +77,7 @@ fn default_shell(node: &Node) -> Option<ScalarNode<'_>>
     text_under(value(value(node, "defaults")?, "run")?, "shell")
 }
 
-/// Adds the faults that a workflow and a job have alike.
+/// Adds the faults of the settings that workflows and jobs share.
 pub(crate) fn check_section(node: &Node, faults: &mut FaultSink) -> Result<(), AllocError>
     ensures { OnOk result (faults.new ≡ faults.old ++ section_faults (view node.now)) }
 {

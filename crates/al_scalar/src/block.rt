@@ -32,7 +32,7 @@ struct RowStart {
     is_blank: bool,
 }
 
-/// How the lines of a block scalar are read; whether its header says the indent.
+/// How the lines of a block scalar are read, and whether its header gives the indent.
 #[derive(Clone, Copy)]
 struct BlockStyle {
     literal: bool,
@@ -41,7 +41,7 @@ struct BlockStyle {
     explicit: bool,
 }
 
-/// What is kept of the rows read: the last one with text, the breaks of the empty lines since, and the text's end.
+/// The state after some rows: the last row with text, the breaks of the empty lines since, and the end of the text.
 #[derive(Drop)]
 struct RowState {
     last: Option<LastLine>,
@@ -49,15 +49,15 @@ struct RowState {
     end: usize,
 }
 
-/// Where the text of a block scalar ends, and where the lines behind it begin.
+/// Where the text of a block scalar ends, and where the lines after it begin.
 #[derive(Clone, Copy)]
 struct RowsRead {
     end: usize,
     next: usize,
 }
 
-/// Whether so many spaces stand at an offset of a line that ends as told, if it is all blanks; None where the line ends
-/// the scalar.
+/// The row of the line at an offset, given the indent of the content and, if the line is all blanks, its end; `None` if
+/// the line ends the scalar.
 fn indented_row(bytes: &[u8], at: usize, indent: usize, blank: Option<usize>) -> Option<RowStart>
     requires inside { at ≤ length bytes.now }
     requires blank { BlankTo bytes.now at blank }
@@ -79,8 +79,8 @@ fn indented_row(bytes: &[u8], at: usize, indent: usize, blank: Option<usize>) ->
     }
 }
 
-/// Where the row of a block scalar begins whose line begins at an offset; None where the line ends the scalar. found
-/// says that the line that gave the indent has come.
+/// Where the row of the line at an offset begins; `None` if the line ends the scalar. `found` says whether the line
+/// that gives the indent has been read.
 fn row_start(bytes: &[u8], at: usize, indent: Option<usize>, found: bool) -> Option<RowStart>
     requires { at ≤ length bytes.now }
     ensures { RowStarts bytes.now at indent found result }
@@ -105,7 +105,7 @@ fn row_start(bytes: &[u8], at: usize, indent: Option<usize>, found: bool) -> Opt
     }
 }
 
-/// The indent of a line if it is at least within.
+/// The indent of a line if it is at least `within`.
 fn indent_of(bytes: &[u8], at: usize, within: usize) -> Option<usize>
     requires { at ≤ length bytes.now }
     ensures { result ≡ indent_from within (text_at bytes.now at) }
@@ -114,7 +114,7 @@ fn indent_of(bytes: &[u8], at: usize, within: usize) -> Option<usize>
     if within <= found { Some(found) } else { None }
 }
 
-/// The indent of the first line that isn't all blanks, if it is at least within.
+/// The indent of the first line that isn't all blanks, if it is at least `within`.
 fn find_indent(bytes: &[u8], at: usize, within: usize) -> Option<usize>
     requires { at ≤ length bytes.now }
     ensures { result ≡ found_indent within (lines_at bytes.now at) }
@@ -155,7 +155,7 @@ fn push_own(text: &mut Text, last: Option<LastLine>) -> Result<(), AllocError>
     }
 }
 
-/// Adds the breaks that stay at the end.
+/// Adds the final breaks that are kept.
 fn chomp(
     text: &mut Text,
     chomping: Chomping,
@@ -176,14 +176,14 @@ fn chomp(
     }
 }
 
-/// Whether one of three holds.
+/// Whether one of the three holds.
 fn is_one(a: bool, b: bool, c: bool) -> bool
     ensures { result ≡ (a || b || c) }
 {
     a || b || c
 }
 
-/// Adds a break with the breaks of the empty lines behind it, kept or folded.
+/// Adds a break and the breaks of the empty lines after it, kept or folded.
 fn push_break(text: &mut Text, keeps: bool, at: u32, empties: &[u32]) -> Result<(), AllocError>
     ensures { IfOk result
         (λ _. text.new
@@ -200,8 +200,8 @@ fn push_break(text: &mut Text, keeps: bool, at: u32, empties: &[u32]) -> Result<
     push_feeds(text, empties)
 }
 
-/// Adds what the breaks between the last line with text and the next one give; spaced says that the next one begins with
-/// a blank.
+/// Adds the text for the breaks between the last line with text and the next one; `spaced` says whether the next line
+/// begins with a blank.
 fn push_joint(
     text: &mut Text,
     literal: bool,
@@ -255,7 +255,7 @@ fn add_row(
     Ok(())
 }
 
-/// Adds the row of the file's last line, and answers where the text ends.
+/// Adds the row of the last line of the file, and returns where the text ends.
 fn end_row(
     text: &mut Text,
     state: &RowState,
@@ -285,14 +285,14 @@ fn end_row(
     Ok(bytes.len())
 }
 
-/// Whether a line that isn't all blanks has come.
+/// Whether a line that isn't all blanks has been read.
 fn is_found(found: bool, is_blank: bool) -> bool
     ensures { result ≡ (found || not is_blank) }
 {
     found || !is_blank
 }
 
-/// Reads the rows of a block scalar from a line on; the header ends at an offset.
+/// Reads the rows of a block scalar, starting at a line; the header ends at an offset.
 fn read_rows(
     alloc: Global,
     text: &mut Text,
@@ -337,7 +337,7 @@ fn read_rows(
     }
 }
 
-/// How the lines behind a header are read, of which the first begins at an offset.
+/// How the lines after a header are read; the first of them begins at an offset.
 fn block_style(bytes: &[u8], first: usize, header: Header, literal: bool, within: u32) -> BlockStyle
     requires { first ≤ length bytes.now }
     ensures literal { result.literal ≡ literal }
@@ -361,7 +361,7 @@ fn block_style(bytes: &[u8], first: usize, header: Header, literal: bool, within
     }
 }
 
-/// Reads a block scalar from its indicator on. within is one more than the enclosing collection's indent.
+/// Reads a block scalar, starting at its indicator. `within` is one more than the indent of the enclosing collection.
 pub fn read_block(
     alloc: Global,
     bytes: &[u8],

@@ -1,4 +1,4 @@
-//! What a plain scalar is taken for: null, a boolean, an integer, a float or a string (YAML 1.2.2, 10.3.2).
+//! The class of a plain scalar: null, a boolean, an integer, a float or a string (YAML 1.2.2, 10.3.2).
 
 ghost use Rattle.std.specs.Prelude.{◌≡◌, IsTrue};
 ghost use Rattle.std.specs.Char.{is_ascii_digit};
@@ -21,10 +21,10 @@ const BOOLEANS: [&str; 6] = ["true", "True", "TRUE", "false", "False", "FALSE"];
 /// The texts of infinity, which may have a sign.
 const INFINITIES: [&str; 3] = [".inf", ".Inf", ".INF"];
 
-/// The texts of what is no number.
+/// The texts of "not a number".
 const NOT_NUMBERS: [&str; 3] = [".nan", ".NaN", ".NAN"];
 
-/// Whether a text is a null.
+/// Whether a text is null.
 fn is_null(text: &[u8]) -> bool
     ensures { result ≡ among nulls text.now }
 {
@@ -57,7 +57,7 @@ fn is_digit(base: Base, byte: u8) -> bool
     }
 }
 
-/// Whether a text is one digit or more.
+/// Whether a text consists of one or more digits.
 fn are_digits(base: Base, text: &[u8]) -> bool
     ensures { result ≡ are_digits base text.now }
 {
@@ -84,7 +84,7 @@ fn is_prefixed(letter: u8, base: Base, text: &[u8]) -> bool
     }
 }
 
-/// Whether a text is a whole number.
+/// Whether a text is an integer.
 fn is_integer(text: &[u8]) -> bool
     ensures { result ≡ is_integer text.now }
 {
@@ -93,7 +93,7 @@ fn is_integer(text: &[u8]) -> bool
         || is_prefixed(b'x', Base::Hexadecimal, text)
 }
 
-/// A text behind its leading decimal digits.
+/// The rest of a text after its leading decimal digits.
 fn after_digits(text: &[u8]) -> &[u8]
     ensures { result.now ≡ after_digits text.now }
 {
@@ -117,7 +117,7 @@ fn begins_digit(text: &[u8]) -> bool
     }
 }
 
-/// Whether a text is nothing or an exponent.
+/// Whether a text is empty or an exponent.
 fn is_exponent(text: &[u8]) -> bool
     ensures { result ≡ is_exponent text.now }
 {
@@ -180,7 +180,7 @@ fn may_begin_value(byte: u8) -> bool
         || byte == b'F'
 }
 
-/// Whether the first byte of a text tells that it is a string, as that of most texts does.
+/// Whether the first byte of a text shows that it is a string, as is the case for most texts.
 #[tactic(auto, using(crate::proofs::ClassLemmas::is_string))]
 fn begins_string(text: &[u8]) -> bool
     ensures { IsTrue result → class_of text.now ≡ Class.Str }
@@ -191,7 +191,7 @@ fn begins_string(text: &[u8]) -> bool
     }
 }
 
-/// The class of a plain scalar by its text: the core schema (YAML 1.2.2, 10.3.2).
+/// The class of a plain scalar with this text, by the core schema (YAML 1.2.2, 10.3.2).
 pub fn class_of(text: &[u8]) -> Class
     ensures { result ≡ class_of text.now }
 {

@@ -23,15 +23,15 @@ fn is_mark(byte: u8) -> bool
     byte == b'"' || byte == b'\\'
 }
 
-/// A run of characters that stand for themselves: the offset behind its last character, and that of the quote, the
-/// backslash, the break or the file's end that follows. Only blanks before a line's end lie between.
+/// A run of characters that stand for themselves: the offset after its last character, and that of the quote,
+/// backslash, break or end of file that follows. Only blanks before the end of a line lie between the two.
 #[derive(Clone, Copy)]
 struct Run {
     end: usize,
     next: usize,
 }
 
-/// Reads the characters that stand for themselves from an offset on.
+/// Reads the characters that stand for themselves, starting at an offset.
 fn literal_run(bytes: &[u8], at: usize) -> Run
     requires { at ≤ length bytes.now }
     ensures from { at ≤ result.end }
@@ -60,17 +60,17 @@ fn literal_run(bytes: &[u8], at: usize) -> Run
 enum Mark {
     /// The closing quote.
     Quote,
-    /// An escaped character, and the offset behind the escape.
+    /// An escaped character, and the offset after the escape.
     Character { character: char, next: usize },
     /// A break at an offset.
     Break { end: usize, escaped: bool },
-    /// A backslash that begins no escape.
+    /// A backslash that doesn't begin an escape.
     WrongEscape,
     /// The end of the file, which may cut an escape.
     FileEnd,
 }
 
-/// The character that a letter behind a backslash stands for (YAML 1.2.2, 5.7).
+/// The character that a letter after a backslash stands for (YAML 1.2.2, 5.7).
 fn escaped_character(letter: u8) -> Option<char>
     ensures { result ≡ lookup (λ k. k == letter) escape_table }
 {
@@ -96,7 +96,7 @@ fn escaped_character(letter: u8) -> Option<char>
     }
 }
 
-/// How many hexadecimal digits follow a letter behind a backslash (YAML 1.2.2, 5.7).
+/// How many hexadecimal digits follow a letter after a backslash (YAML 1.2.2, 5.7).
 fn digit_count(letter: u8) -> Option<usize>
     ensures value { result ≡ lookup (λ k. k == letter) digits_table }
     ensures few { IfSome result (λ count. count ≤ 8) }
@@ -124,15 +124,15 @@ fn digit_value(byte: u8) -> Option<u32>
 
 /// The hexadecimal digits of an escape.
 enum Digits {
-    /// All of them, and the number that they make.
+    /// All of them, and their value.
     Code(u32),
-    /// A character that is no digit.
+    /// A character that isn't a digit.
     Wrong,
-    /// Digits up to the line's end at an offset, but too few of them.
+    /// Too few digits, up to the end of the line at an offset.
     Short(usize),
 }
 
-/// Reads so many hexadecimal digits at an offset.
+/// Reads a given number of hexadecimal digits at an offset.
 fn read_digits(bytes: &[u8], from: usize, count: usize) -> Digits
     requires inside { from ≤ length bytes.now }
     requires size { length bytes.now < 2 ^ 32 }
@@ -152,7 +152,7 @@ fn read_digits(bytes: &[u8], from: usize, count: usize) -> Digits
     Digits::Code(value)
 }
 
-/// Reads the escape of a character by its number: a backslash, a letter and so many hexadecimal digits.
+/// Reads the escape of a character by its number: a backslash, a letter and a given number of hexadecimal digits.
 fn numeric_escape(bytes: &[u8], backslash: usize, count: usize) -> Mark
     requires inside { backslash + 1 < length bytes.now }
     requires size { length bytes.now < 2 ^ 32 }
@@ -231,7 +231,7 @@ fn mark_at(bytes: &[u8], at: usize) -> Mark
     }
 }
 
-/// Adds an escaped character, by the offset of its backslash.
+/// Adds an escaped character with the offset of its backslash.
 fn push_character(text: &mut Text, character: char, at: usize) -> Result<(), AllocError>
     requires { at < 2 ^ 32 }
     ensures { IfOk result (λ _. text.new ≡ text.old ++ character_cells at character) }
@@ -240,10 +240,10 @@ fn push_character(text: &mut Text, character: char, at: usize) -> Result<(), All
     text.push_escape(character.encode_utf8(&mut buffer).as_bytes(), at)
 }
 
-/// Reads a double-quoted scalar from its opening quote (YAML 1.2.2, 7.3.1).
+/// Reads a double-quoted scalar, starting at its opening quote (YAML 1.2.2, 7.3.1).
 ///
-/// `UnclosedQuote` stands at the opening quote, where the file ends before the closing one, also within an escape;
-/// `WrongEscape` at the backslash of an escape that YAML doesn't have, or whose number is that of no character.
+/// The fault is `UnclosedQuote` at the opening quote if the file ends before the closing one, even within an escape,
+/// and `WrongEscape` at the backslash of an escape that YAML doesn't have or whose number isn't that of a character.
 pub fn read_double(
     alloc: Global,
     bytes: &[u8],

@@ -102,11 +102,11 @@ const HEADER_DIGITS: &[u8] = b"a: |12";
 
 const HEADER_ZERO: &[u8] = b"a: |0";
 
-/// Worked rows of the definitions. Each clause computes one file: the style, the class and the text of the scalar that
-/// begins at an offset, the offset of each byte of the text and behind them the end of the span, and where what is left
-/// begins; or its fault. It does nothing when it runs.
+/// Worked rows of the definitions. Each clause computes one file: the style, class and text of the scalar at an offset,
+/// the offset of each byte of the text followed by the end of the span, and where the rest of the file begins; or the
+/// fault. Does nothing at run time.
 pub fn rows()
-    // single quotes: two are one, breaks are folded
+    // single quotes: two stand for one, breaks are folded
     ensures single { in_block 1 SINGLE.now 3 ≡ reads Style.SingleQuoted Class.Str (codes "it's") (4 ∷ 5 ∷ 6 ∷ 8 ∷ 10 ∷ []) 10 }
     ensures single_lines { in_block 0 SINGLE_LINES.now 0 ≡ reads Style.SingleQuoted Class.Str (97 ∷ 10 ∷ 98 ∷ []) (1 ∷ 4 ∷ 7 ∷ 9 ∷ []) 9 }
     ensures single_crlf { in_block 0 SINGLE_CRLF.now 0 ≡ reads Style.SingleQuoted Class.Str (codes "a b") (1 ∷ 2 ∷ 4 ∷ 6 ∷ []) 6 }

@@ -7,7 +7,7 @@ ghost use Rattle.al_base.specs.Positions.{begins_char};
 use al_base::{Span, YamlCode};
 use thiserror::Error;
 
-/// What is wrong with a file as YAML, and the character that it is at; at the file's end an empty span.
+/// A YAML fault of a file, with the span of the character where it is, which is empty at the end of the file.
 #[derive(Clone, Copy, PartialEq, Eq, Debug, Error)]
 #[error("wrong YAML at byte {}: {code:?}", .span.start)]
 pub struct YamlFault {
@@ -15,14 +15,14 @@ pub struct YamlFault {
     pub span: Span,
 }
 
-/// A fault, and the offset of the character that it is at.
+/// A fault, and the offset of its character.
 #[derive(Clone, Copy)]
 pub struct FaultAt {
     pub code: YamlCode,
     pub at: usize,
 }
 
-/// A fault at the character that begins at an offset, or at the file's end.
+/// A fault at the character that begins at an offset, or at the end of the file.
 pub fn fault_at(bytes: &[u8], at: usize, code: YamlCode) -> YamlFault
     requires inside { at ≤ length bytes.now }
     requires size { length bytes.now < 2 ^ 32 }
@@ -38,7 +38,7 @@ pub fn fault_at(bytes: &[u8], at: usize, code: YamlCode) -> YamlFault
     }
 }
 
-/// The offset behind the character at an offset; the offset itself at the file's end.
+/// The offset after the character at an offset; at the end of the file, the offset itself.
 fn character_end(bytes: &[u8], at: usize) -> usize
     requires { at ≤ length bytes.now }
     ensures inside { result ≤ length bytes.now }

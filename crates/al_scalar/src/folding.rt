@@ -11,10 +11,10 @@ use crate::lines::{after_break, blanks_end, is_break_at};
 use crate::texts::Text;
 use std::alloc::AllocError;
 
-/// Folds the break at an offset and the empty lines behind it, and answers where the next text begins. An escaped break
-/// gives nothing of its own (YAML 1.2.2, 6.5 and 7.3.1).
+/// Folds the break at an offset and the empty lines after it, and returns where the next text begins. An escaped break
+/// adds nothing itself (YAML 1.2.2, 6.5 and 7.3.1).
 ///
-/// Fails with `AllocError` when out of memory; the text then begins with what it held.
+/// Fails with `AllocError` when out of memory; the text then still begins with what it held before.
 #[tactic(auto, using(al_base::proofs::Growing::growth))]
 pub fn fold_break(
     text: &mut Text,

@@ -9,7 +9,7 @@ ghost use Rattle.al_scalar.specs.Places.{text_at};
 
 use crate::lines::{blanks_end, first_byte, is_line_end};
 
-/// What becomes of the final breaks of a block scalar.
+/// What happens to the final breaks of a block scalar.
 #[derive(Clone, Copy)]
 pub enum Chomping {
     Strip,
@@ -17,7 +17,7 @@ pub enum Chomping {
     Keep,
 }
 
-/// The indicators of a block scalar's header, and the offset behind them.
+/// The indicators in the header of a block scalar, and the offset after them.
 #[derive(Clone, Copy)]
 pub struct Header {
     pub digit: Option<u8>,
@@ -25,7 +25,7 @@ pub struct Header {
     pub end: usize,
 }
 
-/// None where a block scalar's header may end at an offset; else the place of what stands there.
+/// `None` if the header of a block scalar may end at an offset; otherwise the place of the wrong character.
 pub fn header_fault(bytes: &[u8], at: usize) -> Option<usize>
     requires { at ≤ length bytes.now }
     ensures ends { EndsHeader bytes.now at result }
@@ -66,7 +66,7 @@ fn chomping_of(byte: u8) -> Chomping
     }
 }
 
-/// The header behind its digit.
+/// The header after its digit.
 fn behind_digit(bytes: &[u8], at: usize, digit: u8) -> Header
     requires { at ≤ length bytes.now }
     ensures { Indicates bytes.now at (header (Some digit) None at (text_at bytes.now at)) result }
@@ -95,7 +95,7 @@ fn behind_digit(bytes: &[u8], at: usize, digit: u8) -> Header
     }
 }
 
-/// The header behind its sign.
+/// The header after its sign.
 fn behind_sign(bytes: &[u8], at: usize, chomping: Chomping) -> Header
     requires { at ≤ length bytes.now }
     ensures { Indicates bytes.now at (header None (Some chomping) at (text_at bytes.now at)) result }
@@ -124,7 +124,7 @@ fn behind_sign(bytes: &[u8], at: usize, chomping: Chomping) -> Header
     }
 }
 
-/// The header behind the indicator that begins the scalar.
+/// The header after the indicator that begins the scalar.
 pub fn indicators(bytes: &[u8], at: usize) -> Header
     requires { at ≤ length bytes.now }
     ensures { Indicates bytes.now at (header None None at (text_at bytes.now at)) result }

@@ -1,4 +1,4 @@
-//! What stands on a line at an offset of a file, which is at most its length.
+//! What a line has at an offset of the file, which is at most the length of the file.
 
 ghost use Rattle.std.specs.Prelude.{◌≡◌, ◌≢◌, ◌∷◌, ◌+◌, ◌<◌, ◌≤◌, length, IsTrue, ◌↔◌, slice_index};
 ghost use Rattle.al_scalar.specs.Line as line;
@@ -6,7 +6,7 @@ ghost use Rattle.al_scalar.specs.Places.{first_end, lines_at, text_at};
 ghost use Rattle.al_scalar.specs.LineEnds.{cells_between, with_cells_before, broken_line, AreBlank};
 ghost use Rattle.al_scalar.specs.LineEnds.{AreSpaces, IsBlankByte, IsLineEnd, IsBreakAt, OnLine, BlankTo, FirstByte};
 
-/// Whether no text of the line is left at an offset.
+/// Whether the text of the line has ended at an offset.
 pub fn is_line_end(bytes: &[u8], at: usize) -> bool
     requires { at ≤ length bytes.now }
     ensures { IsTrue result ↔ IsLineEnd bytes.now at }
@@ -14,14 +14,14 @@ pub fn is_line_end(bytes: &[u8], at: usize) -> bool
     at == bytes.len() || bytes[at] == b'\n' || bytes[at] == b'\r'
 }
 
-/// Whether a break stands at an offset.
+/// Whether there is a line break at an offset.
 pub fn is_break_at(bytes: &[u8], at: usize) -> bool
     ensures { IsTrue result ↔ IsBreakAt bytes.now at }
 {
     at < bytes.len() && (bytes[at] == b'\n' || bytes[at] == b'\r')
 }
 
-/// The offset behind the break at an offset.
+/// The offset after the break at an offset.
 pub fn after_break(bytes: &[u8], at: usize) -> usize
     requires inside { at < length bytes.now }
     requires is_break { IsLineEnd bytes.now at }
@@ -43,7 +43,7 @@ pub fn is_blank(byte: u8) -> bool
     byte == b' ' || byte == b'\t'
 }
 
-/// The offset behind the blanks at an offset.
+/// The offset after the blanks at an offset.
 #[tactic(auto, using(crate::proofs::LineParts::behind_blanks))]
 pub fn blanks_end(bytes: &[u8], at: usize) -> usize
     requires { at ≤ length bytes.now }
@@ -62,7 +62,7 @@ pub fn blanks_end(bytes: &[u8], at: usize) -> usize
     i
 }
 
-/// The offset behind the spaces at an offset, of which so many are asked for.
+/// The offset after the spaces at an offset, of which at most `most` are skipped.
 pub fn spaces_end(bytes: &[u8], at: usize, most: usize) -> usize
     requires { at ≤ length bytes.now }
     ensures from { at ≤ result }
@@ -97,7 +97,7 @@ pub fn line_end(bytes: &[u8], at: usize) -> usize
     i
 }
 
-/// The line's end if what is left of the line is all blanks.
+/// The end of the line if the rest of the line is all blanks.
 pub fn blank_line_end(bytes: &[u8], at: usize) -> Option<usize>
     requires { at ≤ length bytes.now }
     ensures { BlankTo bytes.now at result }
@@ -122,7 +122,7 @@ pub fn first_byte(bytes: &[u8], at: usize) -> Option<u8>
     }
 }
 
-/// How many spaces stand at an offset.
+/// The number of spaces at an offset.
 pub fn indent(bytes: &[u8], at: usize) -> usize
     requires { at ≤ length bytes.now }
     ensures is { result ≡ line.indent (text_at bytes.now at) }
@@ -133,7 +133,7 @@ pub fn indent(bytes: &[u8], at: usize) -> usize
     spaces_end(bytes, at, bytes.len()) - at
 }
 
-/// Whether a blank or the line's end stands at an offset.
+/// Whether there is a blank or the end of the line at an offset.
 pub fn is_blank_or_end(bytes: &[u8], at: usize) -> bool
     requires { at ≤ length bytes.now }
     ensures { result ≡ line.is_blank_or_end (text_at bytes.now at) }
@@ -141,7 +141,7 @@ pub fn is_blank_or_end(bytes: &[u8], at: usize) -> bool
     is_line_end(bytes, at) || is_blank(bytes[at])
 }
 
-/// Whether a line's text goes on with a byte at an offset.
+/// Whether the text of the line has this byte at an offset.
 pub fn begins(bytes: &[u8], at: usize, byte: u8) -> bool
     requires { at ≤ length bytes.now }
     ensures value { result ≡ line.begins byte (text_at bytes.now at) }
@@ -153,7 +153,7 @@ pub fn begins(bytes: &[u8], at: usize, byte: u8) -> bool
     bytes[at] == byte
 }
 
-/// Whether a byte three times and then a blank or the line's end stand at an offset.
+/// Whether a byte occurs three times at an offset, followed by a blank or the end of the line.
 pub fn is_marker(bytes: &[u8], at: usize, byte: u8) -> bool
     requires { at ≤ length bytes.now }
     ensures { result ≡ line.is_marker byte (text_at bytes.now at) }
@@ -170,7 +170,7 @@ pub fn is_marker(bytes: &[u8], at: usize, byte: u8) -> bool
     is_blank_or_end(bytes, at + 3)
 }
 
-/// Whether a document marker stands at a line's start.
+/// Whether a line begins with a document marker.
 pub fn is_document_marker(bytes: &[u8], at: usize) -> bool
     requires { at ≤ length bytes.now }
     ensures { result ≡ line.is_document_marker (text_at bytes.now at) }

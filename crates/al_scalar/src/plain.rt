@@ -19,14 +19,14 @@ use crate::texts::Text;
 use al_base::YamlCode;
 use std::alloc::{AllocError, Global};
 
-/// The context of a plain scalar: a flow collection, or block context with the least indent of further lines.
+/// The context of a plain scalar: a flow collection, or block context with the minimum indent of further lines.
 #[derive(Clone, Copy)]
 pub enum PlainContext {
     Flow,
     Block(u32),
 }
 
-/// Whether a scalar stands in a flow collection.
+/// Whether a scalar is in a flow collection.
 pub fn is_flow(context: PlainContext) -> bool
     ensures { result ≡ plain.is_flow (context_of context) }
 {
@@ -43,7 +43,7 @@ fn is_flow_indicator(byte: u8) -> bool
     byte == b',' || byte == b'[' || byte == b']' || byte == b'{' || byte == b'}'
 }
 
-/// Whether a colon before an offset parts a key from its value.
+/// Whether a colon before an offset separates a key from its value.
 fn ends_key(bytes: &[u8], at: usize, context: PlainContext) -> bool
     requires { at ≤ length bytes.now }
     ensures { result ≡ plain.ends_key (context_of context) (text_at bytes.now at) }
@@ -54,7 +54,7 @@ fn ends_key(bytes: &[u8], at: usize, context: PlainContext) -> bool
     is_flow(context) && is_flow_indicator(bytes[at])
 }
 
-/// Whether a colon that parts a key from its value stands at an offset.
+/// Whether a colon at an offset separates a key from its value.
 fn is_value_colon(bytes: &[u8], at: usize, context: PlainContext) -> bool
     requires { at ≤ length bytes.now }
     ensures { result ≡ plain.is_value_colon (context_of context) (text_at bytes.now at) }
@@ -86,7 +86,7 @@ fn ends_plain(bytes: &[u8], at: usize, context: PlainContext, after_blank: bool)
     is_flow(context) && is_flow_indicator(byte)
 }
 
-/// Whether a blank stands before an offset, behind the blanks from another one on.
+/// Whether there is a blank before an offset, after the blanks that begin at another one.
 fn is_behind_blank(before: bool, from: usize, to: usize) -> bool
     requires { from ≤ to }
     ensures { result ≡ (before || nat_lt from to) }
@@ -94,21 +94,22 @@ fn is_behind_blank(before: bool, from: usize, to: usize) -> bool
     before || from < to
 }
 
-/// Whether a byte is a letter or a digit of ASCII, or one of `-`, `.` and `/`.
+/// Whether a byte is an ASCII letter or digit, or one of `-`, `.` and `/`.
 fn is_word(byte: u8) -> bool
     ensures { IsTrue result → IsWordByte byte }
 {
     byte >= b'a' && byte <= b'z' || byte >= b'-' && byte <= b'9' || byte >= b'A' && byte <= b'Z'
 }
 
-/// Whether a byte of words stands at an offset. Most bytes of plain scalars are such, which are no blanks and end no scalar.
+/// Whether there is a word byte at an offset. Most bytes of plain scalars are; they aren't blanks and don't end a
+/// scalar.
 fn is_word_at(bytes: &[u8], at: usize) -> bool
     ensures { IsTrue result → IsWordAt bytes.now at }
 {
     at < bytes.len() && is_word(bytes[at])
 }
 
-/// The offset behind the part of a plain scalar on one line, without trailing blanks.
+/// The offset after the part of a plain scalar on one line, without trailing blanks.
 fn plain_end(bytes: &[u8], at: usize, context: PlainContext, after_blank: bool) -> usize
     requires { at ≤ length bytes.now }
     ensures from { at ≤ result }
@@ -134,7 +135,7 @@ fn plain_end(bytes: &[u8], at: usize, context: PlainContext, after_blank: bool) 
     }
 }
 
-/// The start of the first line from an offset on that isn't blank, or of the last line.
+/// The start of the first line, from an offset on, that isn't blank; otherwise that of the last line.
 fn text_line(bytes: &[u8], from: usize) -> usize
     requires { from ≤ length bytes.now }
     ensures from { from ≤ result }
@@ -152,7 +153,7 @@ fn text_line(bytes: &[u8], from: usize) -> usize
     }
 }
 
-/// Adds a break and the breaks of the blank lines behind it, folded.
+/// Adds a break and the breaks of the blank lines after it, folded.
 fn push_break(text: &mut Text, bytes: &[u8], end: usize, next: usize) -> Result<(), AllocError>
     requires order { end < length bytes.now }
     requires inside { next ≤ length bytes.now }
@@ -221,7 +222,7 @@ fn goes_on(bytes: &[u8], start: usize, solid: usize, context: PlainContext) -> b
     continues(bytes, start, solid, context)
 }
 
-/// Whether a colon behind a further line of a plain scalar would make the line a key.
+/// Whether a colon after a further line of a plain scalar would make the line a key.
 fn makes_key(bytes: &[u8], at: usize, context: PlainContext) -> bool
     requires { at ≤ length bytes.now }
     ensures { result ≡
@@ -234,7 +235,7 @@ fn makes_key(bytes: &[u8], at: usize, context: PlainContext) -> bool
     is_value_colon(bytes, at, context)
 }
 
-/// Reads a plain scalar from its first character.
+/// Reads a plain scalar, starting at its first character.
 pub fn read_plain(
     alloc: Global,
     bytes: &[u8],

@@ -1,8 +1,8 @@
-//! What the reader of one style answers.
+//! The result of reading a scalar in one style.
 
 use crate::texts::Text;
 
-/// What the reader of one style took: the text, the end of the written form, and where what is left begins.
+/// What was read: the text, the end of the written form, and where the rest of the file begins.
 #[derive(Drop)]
 pub struct Taken {
     pub text: Text,

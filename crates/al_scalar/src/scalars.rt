@@ -1,4 +1,4 @@
-//! A scalar, and a scalar that was read.
+//! A scalar, and the result of reading one.
 
 ghost use Rattle.std.specs.Prelude.{◌≡◌, ◌<◌, ◌≤◌, ◌^◌, length, IsUtf8};
 ghost use Rattle.al_scalar.specs.Scalar.{offset_of, text_of};
@@ -9,22 +9,22 @@ use crate::texts::Text;
 use al_base::Span;
 use std::marker::Model;
 
-/// Where a node that is a scalar stands.
+/// The context in which a scalar is read.
 #[derive(Clone, Copy, PartialEq, Eq, Debug)]
 pub enum ScalarContext {
-    /// In block context. Further lines of a plain scalar, and a block scalar's content, are indented by at least so many
-    /// columns: one more than the collection around it, 0 at the root.
+    /// Block context. Further lines of a plain scalar, and the content of a block scalar, are indented by at least this
+    /// many columns: one more than the enclosing collection, or 0 at the root.
     BlockFromIndent(u32),
     /// In a flow collection.
     Flow,
-    /// Nothing stands there: an empty node.
+    /// An empty node: there is nothing to read.
     Empty,
 }
 
-/// A scalar: its style, its class and its decoded text, each byte of which has the offset in the file that gave it.
+/// A scalar: its style, its class, and its decoded text, each byte of which has the file offset it came from.
 ///
-/// A byte that stands for itself has its own offset, a byte of an escape that of the backslash, a quote written `''` that
-/// of the first of the two, and the space or line feed of a break that of the break's first byte.
+/// A byte that stands for itself has its own offset, a byte from an escape that of the backslash, a quote written as
+/// `''` that of the first quote, and a space or line feed from a line break that of the first byte of the break.
 #[derive(Drop)]
 pub struct Scalar {
     style: Style,
@@ -42,14 +42,14 @@ impl Model for Scalar {
 }
 
 impl Scalar {
-    /// How it is written.
+    /// How the scalar is written.
     pub fn style(&self) -> Style
         ensures { result ≡ (self.now).style }
     {
         self.style
     }
 
-    /// What it is taken for.
+    /// The class of the scalar by the core schema.
     pub fn class(&self) -> Class
         ensures { result ≡ (self.now).class }
     {
@@ -63,17 +63,18 @@ impl Scalar {
         self.text.as_bytes()
     }
 
-    /// The decoded bytes as text, which isn't looked at: what knows that the file is UTF-8 knows it of the bytes.
+    /// The decoded bytes as text, without a check: the caller guarantees that they are UTF-8, as they are if the file
+    /// is.
     pub fn as_str(&self) -> &str
         requires { IsUtf8 (text_of self.now) }
         ensures { result.now ≡ text_of self.now }
     {
-        // The bytes are UTF-8, as is required.
+        // The bytes are UTF-8, by the precondition.
         unsafe { str::from_utf8_unchecked(self.text.as_bytes()) }
     }
 
-    /// The offset in the file, in bytes, that gave the byte of the text at an index; for the text's length the end of the
-    /// scalar's span.
+    /// The file offset, in bytes, from which the byte at an index of the text came. For the length of the text, the end
+    /// of the scalar's span.
     pub fn locate(&self, i: usize) -> u32
         requires { i ≤ length (text_of self.now) }
         ensures { result ≡ offset_of self.now i }
@@ -86,18 +87,19 @@ impl Scalar {
     }
 }
 
-/// A scalar that was read.
+/// The result of reading a scalar.
 #[derive(Drop)]
 pub struct ScalarRead {
     pub scalar: Scalar,
-    /// Its written form, with quotes; of a block scalar from its indicator to the end of its last line's text.
+    /// The span of the written form, including quotes; that of a block scalar extends from its indicator to the end of
+    /// the text of its last line.
     pub span: Span,
-    /// Where what is left of the file begins, in bytes: the start of the line that ends a block scalar, or the file's end;
-    /// otherwise the end of the span.
+    /// The byte offset at which the rest of the file begins: for a block scalar, the start of the line that ends it or
+    /// the end of the file; otherwise the end of the span.
     pub next: usize,
 }
 
-/// The scalar of what was taken from an offset on.
+/// The scalar made of what was read from an offset on.
 pub fn scalar_read(at: usize, style: Style, class: Class, taken: Taken) -> ScalarRead
     requires start { at < 2 ^ 32 }
     requires end { taken.end < 2 ^ 32 }

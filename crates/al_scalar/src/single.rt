@@ -14,7 +14,7 @@ use crate::texts::Text;
 use al_base::YamlCode;
 use std::alloc::{AllocError, Global};
 
-/// Whether a single quote stands at an offset.
+/// Whether there is a single quote at an offset.
 fn begins_quote(bytes: &[u8], at: usize) -> bool
     ensures inside { IsTrue result → at < length bytes.now }
     ensures value { IsTrue result → slice_index bytes.now at ≡ 39 }
@@ -23,13 +23,14 @@ fn begins_quote(bytes: &[u8], at: usize) -> bool
     at < bytes.len() && bytes[at] == b'\''
 }
 
-/// How a line of a quoted scalar ends: behind the closing quote at an offset, or at the break or the file's end.
+/// How a line of a quoted scalar ends: after the closing quote, at an offset, or at the line break or the end of the
+/// file.
 enum LineStop {
     Closed(usize),
     Broken(usize),
 }
 
-/// Decodes a line of a single-quoted scalar from an offset on.
+/// Decodes a line of a single-quoted scalar, starting at an offset.
 fn single_line(text: &mut Text, bytes: &[u8], at: usize) -> Result<LineStop, AllocError>
     requires inside { at ≤ length bytes.now }
     requires size { length bytes.now < 2 ^ 32 }
@@ -56,8 +57,8 @@ fn single_line(text: &mut Text, bytes: &[u8], at: usize) -> Result<LineStop, All
     }
 }
 
-/// Reads a single-quoted scalar from its opening quote (YAML 1.2.2, 7.3.2). Where the file ends before the closing one,
-/// `UnclosedQuote` stands at the opening quote.
+/// Reads a single-quoted scalar, starting at its opening quote (YAML 1.2.2, 7.3.2). If the file ends before the closing
+/// quote, the fault is `UnclosedQuote` at the opening one.
 pub fn read_single(
     alloc: Global,
     bytes: &[u8],

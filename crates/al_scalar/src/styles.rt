@@ -1,4 +1,4 @@
-//! How a scalar is written, and what it is taken for.
+//! Styles and classes of scalars.
 
 /// How a scalar is written (YAML 1.2.2, 7.3 and 8.1).
 #[derive(Clone, Copy, PartialEq, Eq, Debug)]
@@ -10,7 +10,7 @@ pub enum Style {
     Folded,
 }
 
-/// What the core schema takes a plain scalar for (YAML 1.2.2, 10.3.2). A scalar in any other style is `Str`.
+/// The class of a plain scalar by the core schema (YAML 1.2.2, 10.3.2). A scalar in any other style is `Str`.
 #[derive(Clone, Copy, PartialEq, Eq, Debug)]
 pub enum Class {
     Null,

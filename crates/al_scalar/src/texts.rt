@@ -1,4 +1,4 @@
-//! Decoded texts, each byte with the offset that gave it.
+//! Decoded texts, each byte with the file offset it came from.
 
 ghost use Rattle.std.specs.Prelude.{◌≡◌, ℕ, ◌+◌, ◌<◌, ◌≤◌, ◌^◌, List, [], ◌∷◌, ◌++◌, length, map, IsTrue, IfOk, OnErr};
 ghost use Rattle.al_scalar.specs.Line.{Cell};
@@ -12,8 +12,8 @@ ghost use Rattle.al_scalar.specs.declared.texts.Form.TheVariants.{Short};
 use std::alloc::{AllocError, Global};
 use std::marker::Model;
 
-/// A run of decoded bytes, from an index up to where the next run begins: their offsets go up with them, or, where one
-/// escape gave them all, are one offset.
+/// A run of decoded bytes, from an index up to the start of the next run. Their offsets either increase with the index
+/// or, if one escape gave all of them, are all the same.
 #[derive(Clone, Copy)]
 pub struct Segment {
     index: usize,
@@ -22,7 +22,7 @@ pub struct Segment {
 }
 
 impl Segment {
-    /// A run that moves, from index 0 on.
+    /// A moving run that begins at index 0.
     fn first(offset: u32) -> Self
         ensures { result ≡ first_run offset }
     {
@@ -33,7 +33,7 @@ impl Segment {
         }
     }
 
-    /// The offset of the byte at an index, which is in the run.
+    /// The offset of the byte at an index in the run.
     fn locate(self, i: usize) -> u32
         requires behind { self.index ≤ i }
         requires fits { offset_in self i < 2 ^ 32 }
@@ -47,7 +47,7 @@ impl Segment {
     }
 }
 
-/// The runs of a text. The first moves, begins at index 0 and takes no memory of its own; mostly there is no other.
+/// The runs of a text. The first run moves, begins at index 0 and needs no allocation; usually it is the only one.
 #[derive(Drop)]
 struct Runs {
     first: u32,
@@ -65,7 +65,7 @@ impl Model for Runs {
 }
 
 impl Runs {
-    /// A first run alone, from an offset on. Takes no memory.
+    /// Only a first run, starting at an offset. Doesn't allocate.
     fn one(alloc: Global, first: u32) -> Self
         ensures { result ≡ first_run first ∷ [] }
     {
@@ -88,7 +88,7 @@ impl Runs {
         self.rest[count - 1]
     }
 
-    /// Whether the offsets of the last run, which reaches up to an index, go on with an offset.
+    /// Whether an offset continues those of the last run, which extends to an index.
     fn goes_on(&self, index: usize, at: u32) -> bool
         requires { AreBehind index self.now }
         ensures { IsTrue result → GoesOn self.now index at }
@@ -103,7 +103,7 @@ impl Runs {
         (at - last.offset) as usize == index - last.index
     }
 
-    /// Makes an offset that of the byte at an index, which is to come, and lets the offsets go up from there.
+    /// Sets the offset of the next byte, at an index; offsets increase from there.
     fn begin(&mut self, index: usize, at: u32) -> Result<(), AllocError>
         requires { IsOrdered index self.old }
         ensures order { IsOrdered index self.new }
@@ -135,7 +135,7 @@ impl Runs {
         Ok(())
     }
 
-    /// The run that an index is in: the last one that begins at or before it.
+    /// The run that contains an index: the last one that begins at or before it.
     fn run_of(&self, i: usize) -> Segment
         requires { IsRising self.now }
         ensures behind { result.index ≤ i }
@@ -160,7 +160,7 @@ impl Runs {
     }
 }
 
-/// Decoded bytes of several runs, or more than a text has room for in itself.
+/// Decoded bytes of several runs, or more bytes than fit inline.
 #[derive(Drop)]
 struct LongText {
     bytes: Vec<u8>,
@@ -180,7 +180,7 @@ impl Model for LongText {
 }
 
 impl LongText {
-    /// The text of one run, whose first byte an offset gave.
+    /// A text of one run, whose first byte came from an offset.
     fn of_run(alloc: Global, run: &[u8], first: u32) -> Result<Self, AllocError>
         requires { AreInRange (cells_from 0 run.now (first_run first ∷ [])) }
         ensures { IfOk result (λ text. text ≡ cells_from 0 run.now (first_run first ∷ [])) }
@@ -193,7 +193,7 @@ impl LongText {
         })
     }
 
-    /// Adds a byte that an offset gave.
+    /// Adds a byte that came from an offset.
     fn push(&mut self, byte: u8, at: usize) -> Result<(), AllocError>
         requires { at < 2 ^ 32 }
         ensures added { IfOk result (λ _. self.new ≡ self.old ++ (byte, at) ∷ []) }
@@ -239,7 +239,7 @@ impl LongText {
         self.bytes.as_slice()
     }
 
-    /// The offset that gave the byte at an index.
+    /// The offset from which the byte at an index came.
     fn locate(&self, i: usize) -> u32
         requires { i < length self.now }
         ensures { (end : ℕ) → result ≡ offset_or self.now end i }
@@ -248,10 +248,10 @@ impl LongText {
     }
 }
 
-/// How many bytes a text has in itself: most keys and values have no more, and take no memory of their own.
+/// The number of bytes stored inline: most keys and values fit, and need no allocation.
 const SHORT: usize = 26;
 
-/// The bytes of a text of one run, which moves.
+/// The bytes of a text of one moving run.
 #[derive(Clone, Copy)]
 pub struct ShortText {
     count: u8,
@@ -260,7 +260,7 @@ pub struct ShortText {
 }
 
 impl ShortText {
-    /// The same text, in the form that takes any bytes. Fails with `AllocError` when out of memory.
+    /// The same text, in the form that can hold any bytes. Fails with `AllocError` if memory runs out.
     fn to_long(&self, alloc: Global) -> Result<LongText, AllocError>
         requires { IsSound (Short self.now) }
         ensures { IfOk result (λ text. text ≡ short_cells self.now) }
@@ -269,14 +269,14 @@ impl ShortText {
     }
 }
 
-/// How a text is kept: most are short, and a node with one is then as small as one with a collection.
+/// How a text is stored: most are short, and a node with one is then as small as one with a collection.
 #[derive(Drop)]
 enum Form {
     Short(ShortText),
     Long(Box<LongText>),
 }
 
-/// Decoded bytes, each with the offset that gave it.
+/// Decoded bytes, each with the file offset it came from.
 #[derive(Drop)]
 pub struct Text {
     alloc: Global,
@@ -296,7 +296,7 @@ impl Model for Text {
 }
 
 impl Text {
-    /// No text. Takes no memory.
+    /// The empty text. Doesn't allocate.
     pub fn new(alloc: Global) -> Self
         ensures { result ≡ [] }
     {
@@ -311,7 +311,7 @@ impl Text {
         }
     }
 
-    /// Adds a byte that an offset gave.
+    /// Adds a byte that came from an offset.
     pub fn push(&mut self, byte: u8, at: usize) -> Result<(), AllocError>
         requires { at < 2 ^ 32 }
         ensures added { IfOk result (λ _. self.new ≡ self.old ++ (byte, at) ∷ []) }
@@ -383,7 +383,7 @@ impl Text {
         }
     }
 
-    /// The offset that gave the byte at an index.
+    /// The offset from which the byte at an index came.
     pub fn locate(&self, i: usize) -> u32
         requires { i < length self.now }
         ensures { (end : ℕ) → result ≡ offset_or self.now end i }

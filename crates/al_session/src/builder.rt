@@ -1,4 +1,4 @@
-//! Files that are read one after another, and checked once all are there.
+//! Files that are read one after another, and checked once all of them are there.
 
 ghost use Rattle.std.specs.Prelude.{◌≡◌, ◌≢◌, ◌≤◌, ◌<◌, [], None, Some, length, true, IfOk, OnOk, OnErr, IfErr};
 ghost use Rattle.std.specs.Option.{option_copied, option_map};
@@ -21,11 +21,11 @@ use indexmap::IndexMap;
 use std::alloc::{AllocError, Global};
 use std::marker::Model;
 
-/// The files that a session begins with.
+/// Builds the session of a folder from its files.
 ///
-/// Each file is read as it is put, and checked once, when the session is built. So it doesn't matter whether a file comes before or behind
-/// those that it calls, where a session checks the callers of each file that it is given again. Contracts see what they see of a session:
-/// its folder, and its linter's two counts.
+/// Each file is read when it is put, and checked once, when the session is built. So it doesn't matter whether a file
+/// is put before or after those it calls, whereas a session rechecks the callers of each file that is put. As for a
+/// session, contracts see the folder and the linter's two counts.
 #[derive(Drop)]
 pub struct SessionBuilder<L: Lint> {
     lint: L,
@@ -46,7 +46,7 @@ impl<L: Lint> Model for SessionBuilder<L> {
 }
 
 impl<L: Lint> SessionBuilder<L> {
-    /// No file yet. Takes no memory; what later calls need comes from `alloc`.
+    /// A builder without files. Doesn't allocate; later calls allocate from `alloc`.
     pub fn new(alloc: Global, lint: L) -> SessionBuilder<L>
         ensures folder { result.folder ≡ [] }
         ensures checks { result.checks ≡ L.checks_of lint }
@@ -62,14 +62,14 @@ impl<L: Lint> SessionBuilder<L> {
         }
     }
 
-    /// Whether the linter takes a file with this path. Takes no memory.
+    /// Whether the linter takes a file with this path. Doesn't allocate.
     pub fn accepts(&self, path: &str) -> bool
         ensures { result ≡ L.meaning.accepts path.now }
     {
         self.lint.accepts(path)
     }
 
-    /// The bytes of a file; `None` where no file has this path. Takes no memory.
+    /// The bytes of a file; `None` if no file has this path. Doesn't allocate.
     pub fn bytes(&self, path: &str) -> Option<&[u8]>
         ensures { option_copied result ≡ bytes_at self.now.folder path.now }
     {
@@ -79,7 +79,7 @@ impl<L: Lint> SessionBuilder<L> {
         }
     }
 
-    /// The calls of a file, in order; `None` where no file has this path. Takes no memory.
+    /// The calls of a file, in order; `None` if no file has this path. Doesn't allocate.
     pub fn calls(&self, path: &str) -> Option<&[Target]>
         ensures { option_copied result
             ≡ option_map (L.meaning.calls path.now) (bytes_at self.now.folder path.now) }
@@ -90,11 +90,11 @@ impl<L: Lint> SessionBuilder<L> {
         }
     }
 
-    /// Sets the bytes of a file, which is new or stands in the place of the one with its path, and reads it. No file is checked.
+    /// Sets the bytes of a file, which is new or replaces the one with its path, and reads it. Checks no file.
     ///
     /// # Errors
     ///
-    /// The first of E1 to E4 that applies, and E6, only where none of these does, where memory ran out. The folder is then as before.
+    /// The first of E1 to E4 that applies; if none does, E6 if memory ran out. The folder is then unchanged.
     pub fn put(&mut self, path: &str, bytes: &[u8]) -> Result<(), Refused>
         ensures accepted { OnOk result
             (put_refusal L.meaning self.old.folder path.now bytes.now ≡ None) }
@@ -119,11 +119,11 @@ impl<L: Lint> SessionBuilder<L> {
         }
     }
 
-    /// The session of these files, each of which is checked once. None is read.
+    /// The session of these files. Checks each file once and reads none.
     ///
     /// # Errors
     ///
-    /// [`AllocError`] where memory ran out.
+    /// [`AllocError`] if memory runs out.
     pub fn build(self) -> Result<Session<L>, AllocError>
         ensures folder { IfOk result (λ session. session.folder ≡ self.folder) }
         ensures meter { IfOk result
@@ -134,7 +134,7 @@ impl<L: Lint> SessionBuilder<L> {
     }
 }
 
-// Reads a file and keeps it, with no check. On failure nothing changes but the count of reads.
+// Reads a file and keeps it, without checking it. On failure only the count of reads changes.
 fn load_file<L: Lint>(
     lint: &mut L,
     kept: &mut IndexedFiles<L::Unit, L::Iface>,
@@ -168,7 +168,7 @@ fn load_file<L: Lint>(
     }
 }
 
-// A session of files that were read: checks each of them.
+// The session of files that were read: checks each of them.
 fn session_of<L: Lint>(
     mut lint: L,
     mut kept: IndexedFiles<L::Unit, L::Iface>,
@@ -183,7 +183,7 @@ fn session_of<L: Lint>(
     Ok(Session::of(lint, kept))
 }
 
-// Checks all files, and gives each its faults.
+// Checks all files, and stores the faults of each.
 fn check_all<L: Lint>(
     lint: &mut L,
     kept: &mut IndexedFiles<L::Unit, L::Iface>,
@@ -217,7 +217,7 @@ fn paths_in<L: Lint>(
     Ok(paths)
 }
 
-// A path, of a text that is one.
+// A text that is a path, as a `Path`.
 fn path_of(alloc: Global, text: &str) -> Result<Path, AllocError>
     requires { path_fault_of text.now ≡ None }
     ensures { IfOk result (λ path. path ≡ text.now) }

@@ -10,7 +10,7 @@ ghost use Rattle.al_session.specs.Private.Graphs.{IsGraphIf};
 use al_session_folder::{CallGraph, Files, KeptFile, Lint, call_graph, has_same_calls};
 use std::alloc::{AllocError, Global};
 
-/// Finds the graph of calls of these files, if it isn't known. On failure nothing changes.
+/// Computes the graph of calls of these files, if it isn't known. On failure nothing changes.
 pub(crate) fn find_graph<L: Lint>(
     alloc: Global,
     files: &Files<L::Unit, L::Iface>,
@@ -30,7 +30,7 @@ pub(crate) fn find_graph<L: Lint>(
     Ok(())
 }
 
-/// The graph of calls, which was found.
+/// The graph of calls, which was computed before.
 pub(crate) fn found_graph(calls: &Option<CallGraph>) -> &CallGraph
     requires { IsSome calls.now }
     ensures { calls.now ≡ Some result.now }
@@ -41,7 +41,7 @@ pub(crate) fn found_graph(calls: &Option<CallGraph>) -> &CallGraph
     }
 }
 
-/// Forgets the graph of calls where a file is to be put, unless one with its path is there that calls the same.
+/// Forgets the graph of calls before a file is put, unless the file replaces one with the same calls.
 pub(crate) fn forget_unless_same<L: Lint>(
     files: &Files<L::Unit, L::Iface>,
     path: &str,
@@ -61,7 +61,7 @@ pub(crate) fn forget_unless_same<L: Lint>(
     *calls = None;
 }
 
-// Whether a file with this path is there that calls what this file calls.
+// Whether there is a file with this path that has the same calls as this file.
 fn calls_the_same<U, I>(files: &Files<U, I>, path: &str, file: &KeptFile<U, I>) -> bool
     ensures { Decides result
         (option_map (λ kept. kept.calls.targets.items) (file_at files.now.entries path.now)

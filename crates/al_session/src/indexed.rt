@@ -1,9 +1,9 @@
-//! The files of a folder as they are kept, with the index of their callers.
+//! The kept files of a folder, with the index of their callers.
 
 use al_session_folder::{Callers, Files};
 use std::alloc::Global;
 
-/// The files by their paths, the index of their callers, and the memory that more of them take.
+/// The files by path, the index of their callers, and the allocator for more of them.
 #[derive(Drop)]
 pub struct IndexedFiles<U, I> {
     pub alloc: Global,

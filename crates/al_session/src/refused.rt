@@ -8,7 +8,7 @@ use al_base::limits::{LARGEST_FILE, MOST_FILES};
 use al_base::path_fault;
 use al_session_folder::{Files, Lint, Refused};
 
-/// Why a file with this path and these bytes is refused beside the files that are there, other than for memory.
+/// Why a file with this path and these bytes is refused, given the files that are there, other than for lack of memory.
 pub(crate) fn put_refused<L: Lint>(
     lint: &L,
     files: &Files<L::Unit, L::Iface>,
@@ -32,7 +32,7 @@ pub(crate) fn put_refused<L: Lint>(
     None
 }
 
-/// Whether a file has this path.
+/// Whether one of the files has this path.
 pub(crate) fn has_file<U, I>(files: &Files<U, I>, path: &str) -> bool
     ensures { result ≡ is_some (bytes_at (folder_of files.now.entries) path.now) }
 {

@@ -36,25 +36,25 @@ use std::alloc::{AllocError, Global};
 use std::io::Write;
 use std::marker::Model;
 
-/// What an accepted edit did.
+/// The result of an accepted edit.
 #[derive(Drop)]
 pub struct Edit {
-    /// The files that were checked again, in order of path: those that are new, whose bytes differ, or one of whose
-    /// calls has another answer than before.
+    /// The files that were rechecked, in order of path: those that are new, whose bytes changed, or that have a call
+    /// whose answer changed.
     pub rechecked: Paths,
 }
 
 /// A folder of files, kept linted.
 ///
-/// Contracts see its folder, a list of paths and bytes in order of path, and its linter's two counts. What
+/// Contracts see its folder, a list of paths and bytes in order of path, and the linter's two counts. What
 /// [`faults`](Session::faults), [`status`](Session::status), [`report`](Session::report) and
-/// [`missing`](Session::missing) answer is defined by that folder alone. The report and the status tell the calls on a call cycle
-/// too, which one edit can change for files that it doesn't check again.
+/// [`missing`](Session::missing) return depends on that folder alone. Report and status also include the calls on a
+/// call cycle, which one edit can change for files that it doesn't recheck.
 #[derive(Drop)]
 pub struct Session<L: Lint> {
     lint: L,
     kept: IndexedFiles<L::Unit, L::Iface>,
-    // The graph of calls of these files, where it was found since calls or paths last changed.
+    // The graph of calls of these files, if it was computed since calls or paths last changed.
     calls: Option<CallGraph>,
 }
 
@@ -72,7 +72,7 @@ impl<L: Lint> Model for Session<L> {
 }
 
 impl<L: Lint> Session<L> {
-    /// A session over the empty folder. Takes no memory; what later calls need comes from `alloc`.
+    /// A session over the empty folder. Doesn't allocate; later calls allocate from `alloc`.
     pub fn open(alloc: Global, lint: L) -> Session<L>
         ensures folder { result.folder ≡ [] }
         ensures checks { result.checks ≡ L.checks_of lint }
@@ -89,7 +89,7 @@ impl<L: Lint> Session<L> {
         }
     }
 
-    /// A session of files that were read and checked. Takes no memory.
+    /// A session of files that were read and checked. Doesn't allocate.
     pub(crate) fn of(lint: L, kept: IndexedFiles<L::Unit, L::Iface>) -> Session<L>
         requires { IsLinted L.meaning L.is_unit kept }
         ensures folder { result.folder ≡ folder_in kept }
@@ -103,15 +103,15 @@ impl<L: Lint> Session<L> {
         }
     }
 
-    /// How many checks the linter has made, those of refused edits too. It stays at its greatest value. Takes no
-    /// memory.
+    /// The number of checks the linter has made, including those of refused edits. It stays at its greatest value.
+    /// Doesn't allocate.
     pub fn meter(&self) -> u64
         ensures { result ≡ self.now.checks }
     {
         self.lint.checks()
     }
 
-    /// The bytes of a file; `None` where no file has this path. Takes no memory.
+    /// The bytes of a file; `None` if no file has this path. Doesn't allocate.
     pub fn bytes(&self, path: &str) -> Option<&[u8]>
         ensures { option_copied result ≡ bytes_at self.now.folder path.now }
     {
@@ -121,8 +121,8 @@ impl<L: Lint> Session<L> {
         }
     }
 
-    /// The faults of a file in the order of reports, each once, each of which lies in the file; `None` where no file has
-    /// this path. Takes no memory.
+    /// The faults of a file in report order, each once, with byte spans that lie in the file; `None` if no file has
+    /// this path. Faults of call cycles aren't included. Doesn't allocate.
     pub fn faults(&self, path: &str) -> Option<&[Fault]>
         ensures value { option_copied result ≡ faults_at L.meaning self.now.folder path.now }
         ensures spans { IfSome result
@@ -136,14 +136,14 @@ impl<L: Lint> Session<L> {
         }
     }
 
-    // Why a put is refused, other than for memory.
+    // Why a put is refused, other than for lack of memory.
     fn put_refused(&self, path: &str, bytes: &[u8]) -> Option<Refused>
         ensures { result ≡ put_refusal L.meaning self.now.folder path.now bytes.now }
     {
         put_refused(&self.lint, &self.kept.files, path, bytes)
     }
 
-    // Whether a file has just these bytes.
+    // Whether a file has exactly these bytes.
     fn has_bytes(&self, path: &str, bytes: &[u8]) -> bool
         ensures { Decides result (bytes_at self.now.folder path.now ≡ Some bytes.now) }
     {
@@ -153,14 +153,14 @@ impl<L: Lint> Session<L> {
         }
     }
 
-    /// Sets the bytes of a file, which is new or stands in the place of the one with its path, and checks the files
-    /// again that this affects. It reads the file put and no other, and not even that where it has just these bytes.
+    /// Sets the bytes of a file, which is new or replaces the one with its path, and checks the files that this
+    /// affects. Reads only the file that is put, and not even that if it already has these bytes.
     ///
     /// # Errors
     ///
-    /// The first of E1 to E4 that applies, and E6, only where none of these does, where memory ran out. The folder is
-    /// then as before, and so is all that is defined by it; the meter is as before after E1 to E4, and after E6 it has
-    /// risen by at most the number of files that the edit would have checked again.
+    /// The first of E1 to E4 that applies; if none does, E6 if memory ran out. The folder and everything that depends
+    /// on it are then unchanged. After E1 to E4 the meter is unchanged; after E6 it has risen by at most the number of
+    /// files that the edit would have checked.
     pub fn put(&mut self, path: &str, bytes: &[u8]) -> Result<Edit, Refused>
         ensures accepted { OnOk result
             (put_refusal L.meaning self.old.folder path.now bytes.now ≡ None) }
@@ -197,7 +197,7 @@ impl<L: Lint> Session<L> {
         }
     }
 
-    // Why a delete is refused, other than for memory.
+    // Why a delete is refused, other than for lack of memory.
     fn delete_refused(&self, path: &str) -> Option<Refused>
         ensures { result ≡ delete_refusal L.meaning self.now.folder path.now }
     {
@@ -213,13 +213,13 @@ impl<L: Lint> Session<L> {
         None
     }
 
-    /// Takes a file out of the folder, and checks the files again that this affects. It reads no file.
+    /// Removes a file from the folder, and checks the files that this affects. Reads no file.
     ///
     /// # Errors
     ///
-    /// The first of E1, E2 and E5 that applies, and E6, only where none of these does, where memory ran out. The
-    /// folder is then as before, and so is all that is defined by it; the meter is as before after E1, E2 and E5, and
-    /// after E6 it has risen by at most the number of files that the edit would have checked again.
+    /// The first of E1, E2 and E5 that applies; if none does, E6 if memory ran out. The folder and everything that
+    /// depends on it are then unchanged. After E1, E2 and E5 the meter is unchanged; after E6 it has risen by at most
+    /// the number of files that the edit would have checked.
     pub fn delete(&mut self, path: &str) -> Result<Edit, Refused>
         ensures accepted { OnOk result (delete_refusal L.meaning self.old.folder path.now ≡ None) }
         ensures folder { OnOk result (self.new.folder ≡ without_file self.old.folder path.now) }
@@ -240,7 +240,7 @@ impl<L: Lint> Session<L> {
         if let Some(refused) = self.delete_refused(path) {
             return Err(refused);
         }
-        // Without the file those behind it have other numbers.
+        // Removing the file changes the numbers of those after it.
         self.calls = None;
         match remove_file(&mut self.lint, &mut self.kept, path) {
             Ok(rechecked) => Ok(Edit { rechecked }),
@@ -248,12 +248,12 @@ impl<L: Lint> Session<L> {
         }
     }
 
-    /// 0 where no file has a fault and no call is on a call cycle, and else 1. Takes memory only where no file has a fault and the
-    /// graph of calls isn't known, and then keeps that graph.
+    /// 0 if no file has a fault and no call is on a call cycle, otherwise 1. Allocates only if no file has a fault and
+    /// the graph of calls isn't known, and then keeps that graph.
     ///
     /// # Errors
     ///
-    /// [`AllocError`] where memory ran out.
+    /// [`AllocError`] if memory runs out.
     pub fn status(&mut self) -> Result<u8, AllocError>
         ensures status { IfOk result (λ status. status ≡ status_of L.meaning self.old.folder) }
         ensures unchanged { self.new ≡ self.old }
@@ -270,14 +270,15 @@ impl<L: Lint> Session<L> {
         Ok(0)
     }
 
-    /// Writes the faults of all files, and those of calls on a call cycle, file by file in order of path: each as its
-    /// line, and the line of the file at which it starts, with marks under its span, unless `oneline` is asked for. The graph of calls is
-    /// found if it isn't known, and kept for the next report.
+    /// Writes the faults of all files, including those of calls on a call cycle, file by file in order of path. Each
+    /// fault is written as a line, followed by the source line at which it starts, with marks under its span, unless
+    /// `oneline` is set. The graph of calls is computed if it isn't known, and kept for the next report. The folder and
+    /// both counts are unchanged.
     ///
     /// # Errors
     ///
-    /// [`Stop::WriteFault`] where the writer failed, which then holds a prefix of the report, and [`Stop::Memory`]
-    /// where memory ran out, which happens only before the first byte. No other stop is answered.
+    /// [`Stop::WriteFault`] if the writer fails; it then holds a prefix of the report. [`Stop::Memory`] if memory runs
+    /// out, which happens only before the first byte. No other stop is returned.
     pub fn report<W: Write>(&mut self, writer: &mut Output<W>, oneline: bool) -> Result<(), Stop>
         ensures all { OnOk result
             (Appends (bytes_written W.contents writer.old) (bytes_written W.contents writer.new)
@@ -302,11 +303,11 @@ impl<L: Lint> Session<L> {
         write_files::<L, W>(writer, &self.kept.files, &joined, oneline)
     }
 
-    /// The candidates of calls that are not in the folder, in order of path, each once.
+    /// The paths of all candidates of calls that aren't in the folder, in order of path, each once.
     ///
     /// # Errors
     ///
-    /// [`AllocError`] where memory ran out.
+    /// [`AllocError`] if memory runs out.
     pub fn missing(&self) -> Result<Vec<Path>, AllocError>
         ensures paths { IfOk result
             (λ paths. paths.items ≡ missing_in L.meaning self.now.folder) }
@@ -318,18 +319,20 @@ impl<L: Lint> Session<L> {
         missing_paths::<L>(self.kept.alloc, &self.kept.files)
     }
 
-    /// A law: the folder's files, and so the lines of a report, stand in order of path, each path once. Does nothing.
+    /// A law: the files of the folder, and so the lines of a report, are in order of path, each path once. Does nothing
+    /// at run time.
     pub fn sorted_paths(&self)
         ensures { IsStrictlySortedBy (slice_cmp nat_cmp) (paths_of self.now.folder) }
     {
-        // What is true of the files is known where they are named.
+        // The prover knows the invariant of the files once they are named.
         let _ = &self.kept.files;
     }
 
-    /// Laws of edits. Does nothing.
+    /// Laws of edits. Does nothing at run time.
     ///
-    /// A put of the bytes that are there changes nothing, and affects no file. Two files make the same folder, whichever is put first: so
-    /// faults, report and status don't depend on it. A file that a change doesn't affect keeps its faults.
+    /// Putting the bytes that are already there changes nothing and affects no file. Two files make the same folder,
+    /// whichever is put first, so faults, report and status don't depend on the order. A file that a change doesn't
+    /// affect keeps its faults.
     pub fn edit_laws(&self)
         ensures same { SamePutChangesNothing L.Iface.eq L.meaning self.now.folder }
         ensures order { PutsInAnyOrder self.now.folder }

@@ -1,7 +1,8 @@
-//! Faults as a report prints them, and with them all of `al_base`: one crate for who uses faults, paths, positions and messages.
+//! Faults as a report prints them. Re-exports all of `al_base`, so that users of faults, paths, positions and messages
+//! need only this crate.
 //!
-//! - messages, in `wordings`: the wording and the kind of each code
-//! - printed faults, in `printing` and `snippets`: a fault's line, and the line of the file with marks below it
+//! - `wordings`: the message and the kind of each fault code
+//! - `printing` and `snippets`: the line of a fault, and the source line with marks below it
 #![tactic(auto)]
 
 mod printing;

@@ -1,4 +1,4 @@
-//! The table of fault codes: what a report says of each.
+//! The table of fault codes: what a report prints for each.
 ghost use Rattle.std.specs.Prelude.{◌≡◌, [], codes};
 ghost use Rattle.al_base.specs.Codes.{code_row, call_kind};
 ghost use Rattle.al_text.specs.Messages.{fault_kind};
@@ -6,7 +6,7 @@ ghost use Rattle.al_base.specs.declared.codes.Code.TheVariants as code;
 
 use al_base::{CallCode, Caller, Code, ExpressionCode, KeyCode, RuleCode, YamlCode};
 
-/// The kind that a report names, and the words of a message before, between and after its arguments.
+/// The kind that a report prints, and the words of a message before, between and after its arguments.
 #[derive(Clone, Copy)]
 pub(crate) struct CodeRow {
     pub(crate) kind: &'static str,
@@ -15,7 +15,7 @@ pub(crate) struct CodeRow {
     pub(crate) tail: &'static str,
 }
 
-/// The kind that a report names behind a fault's message, in brackets. Takes no memory.
+/// The kind that a report prints in brackets after the message of a fault. Doesn't allocate.
 pub fn kind(code: Code) -> &'static str
     ensures { result.now ≡ fault_kind code }
 {

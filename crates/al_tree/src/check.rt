@@ -1,4 +1,4 @@
-//! A node against the shape that its place asks for.
+//! Checking a node against the shape that its place requires.
 
 ghost use Rattle.al_tree.specs.Faults.{beside_faults, entries_faults, entry_faults, faults as faults_of};
 ghost use Rattle.al_tree.specs.Faults.{is_empty_node as empty, items_faults};
@@ -24,7 +24,7 @@ use al_scalar::Style;
 use al_yaml_tree::{Entry, Kind, Node};
 use std::alloc::{AllocError, Global};
 
-/// What the place of a node demands: a shape, or null where it takes that, below a key, which faults name.
+/// What the place of a node requires: a shape, and whether null is accepted, below a key, which faults name.
 #[derive(Clone, Copy)]
 struct Demand<'a> {
     shape: Shape,
@@ -32,7 +32,7 @@ struct Demand<'a> {
     above: &'a [u8],
 }
 
-/// Adds the fault of a key that is needed and isn't there.
+/// Adds the fault of a required key that is missing.
 fn check_row(row: &Row, all: KeySet<'_>, at: Span, faults: &mut FaultSink) -> Result<(), AllocError>
     ensures { OnOk result (faults.new
         ≡ faults.old ++ missing_fault at (holds all.entry) (field_view row.now)) }
@@ -47,7 +47,7 @@ fn check_row(row: &Row, all: KeySet<'_>, at: Span, faults: &mut FaultSink) -> Re
     Ok(())
 }
 
-/// Adds the faults of the keys that are needed and aren't there.
+/// Adds the faults of all required keys that are missing.
 fn check_missing(
     rows: &[Row],
     all: KeySet<'_>,
@@ -63,7 +63,7 @@ fn check_missing(
     Ok(())
 }
 
-/// Adds the fault of a key that stands beside another.
+/// Adds the fault of a key that can't stand beside another.
 fn check_beside(
     other: Option<&'static str>,
     key: &Node,
@@ -105,7 +105,7 @@ fn check_scalar(
     }
 }
 
-/// Adds the faults of a key that stands so in its mapping.
+/// Adds the faults of a key with this standing in its mapping.
 fn check_key(standing: Standing, key: &Node, faults: &mut FaultSink) -> Result<(), AllocError>
     ensures { OnOk result (faults.new
         ≡ faults.old ++ entry_faults (standing_view standing) (view key.now) (λ s. [])) }
@@ -224,7 +224,7 @@ fn check_entries(
     Ok(())
 }
 
-/// Adds the faults of an entry that stands so in its mapping.
+/// Adds the faults of an entry with this standing in its mapping.
 #[tactic(auto, using(al_yaml_tree::proofs::ViewLemmas::entry_parts))]
 #[cycle(checks)]
 fn check_entry(standing: Standing, entry: &Entry, faults: &mut FaultSink) -> Result<(), AllocError>
@@ -247,7 +247,7 @@ fn check_entry(standing: Standing, entry: &Entry, faults: &mut FaultSink) -> Res
     }
 }
 
-/// Whether nothing was written.
+/// Whether a root is empty, as that of a file without a node.
 fn is_empty(node: &Node) -> bool
     ensures { result ≡ empty (view node.now) }
 {
@@ -257,10 +257,13 @@ fn is_empty(node: &Node) -> bool
     }
 }
 
-/// The faults of a file's root, which should have a shape, in the order of the file's entries.
+/// The faults of the root of a file against the shape it should have, in the order of the file's entries.
 ///
-/// The time grows with the size of the tree, times the logarithm of the entries of its mappings. Fails with `AllocError`
-/// when out of memory.
+/// Takes time proportional to the size of the tree, times the logarithm of the number of entries in its mappings.
+///
+/// # Errors
+///
+/// `AllocError` if memory runs out.
 #[tactic(auto, using(al_base::proofs::Growing::same_set))]
 pub fn shape_faults(alloc: Global, shape: Shape, root: &Node) -> Result<Vec<Fault>, AllocError>
     ensures list { IfOk result (λ found. found.items ≡ root_faults shape (view root.now)) }

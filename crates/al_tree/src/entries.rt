@@ -39,7 +39,7 @@ fn entry_among<'a>(entries: &'a [Entry], key: &str) -> Option<&'a Entry>
     None
 }
 
-/// The node of a key where it first stands.
+/// The node of the first occurrence of a key.
 pub(crate) fn key_among<'a>(entries: &'a [Entry], key: &str) -> Option<&'a Node>
     ensures { option_map (λ n. view n.now) result
         ≡ option_map (λ e. e.0) (find (is_key key.now) (map entry_view entries.now)) }
@@ -54,7 +54,7 @@ pub(crate) fn value_among<'a>(entries: &'a [Entry], key: &str) -> Option<&'a Nod
     Some(value_of(entry_among(entries, key)?))
 }
 
-/// The scalar that the first entry with a key has as its value.
+/// The value of the first entry with a key, if it is a scalar.
 pub(crate) fn scalar_among<'a>(entries: &'a [Entry], key: &str) -> Option<&'a Scalar>
     ensures { option_copied result
         ≡ option_and_then scalar_in (value_in key.now (map entry_view entries.now)) }

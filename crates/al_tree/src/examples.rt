@@ -8,7 +8,7 @@ ghost use Rattle.al_tree.specs.Rows.Files.{at};
 ghost use Rattle.al_tree.specs.declared.table.Shape.TheVariants.{Action, Workflow};
 ghost use Rattle.std.specs.Prelude.{◌≡◌, [], ◌∷◌, codes};
 
-/// The faults of some small files, as the definitions give them. Does nothing.
+/// The faults of some small files, as the definitions give them. Does nothing at run time.
 pub fn rows()
     ensures step_without_script { root_faults Workflow file.step_without_script
         ≡ key_fault Missing (at 24 24) (codes "runs-on" ∷ [])

@@ -1,4 +1,4 @@
-//! A document taken as a workflow or an action, and its faults of keys and shapes.
+//! A document as a workflow or an action, and the faults of its keys and shapes.
 
 ghost use Rattle.al_tree.specs.Faults.{root_faults};
 ghost use Rattle.al_base.specs.Growth.{SameSet};
@@ -12,13 +12,13 @@ use al_base::{Fault, fault_list};
 use al_yaml_tree::{Doc, Node};
 use std::alloc::{AllocError, Global};
 
-/// A workflow, by the root of its file (GitHub, "Workflow syntax for GitHub Actions").
+/// A workflow, given by the root of its file (GitHub, "Workflow syntax for GitHub Actions").
 #[derive(Drop)]
 pub struct Workflow {
     pub root: Node,
 }
 
-/// An action, by the root of its file (GitHub, "Metadata syntax for GitHub Actions").
+/// An action, given by the root of its file (GitHub, "Metadata syntax for GitHub Actions").
 #[derive(Drop)]
 pub struct Action {
     pub root: Node,
@@ -60,10 +60,12 @@ impl Tree {
     }
 }
 
-/// The workflow that a document is, and what in it breaks the syntax of workflows: its faults in the order of the document,
-/// which are exactly those that the syntax's table gives.
+/// Reads a document as a workflow, with the faults against the syntax of workflows, in the order of the document. These
+/// are exactly the faults that the table of the syntax gives.
 ///
-/// Fails with `AllocError` when out of memory.
+/// # Errors
+///
+/// `AllocError` if memory runs out.
 #[tactic(auto, using(al_base::proofs::Growing::same_set))]
 pub fn read_workflow(alloc: Global, doc: Doc) -> Result<(Workflow, Vec<Fault>), AllocError>
     ensures tree { IfOk result (λ r. view r.0.root ≡ view doc.root) }
@@ -74,10 +76,12 @@ pub fn read_workflow(alloc: Global, doc: Doc) -> Result<(Workflow, Vec<Fault>), 
     Ok((Workflow { root: doc.root }, faults))
 }
 
-/// The action that a document is, and what in it breaks the syntax of actions: its faults in the order of the document,
-/// which are exactly those that the syntax's table gives.
+/// Reads a document as an action, with the faults against the syntax of actions, in the order of the document. These
+/// are exactly the faults that the table of the syntax gives.
 ///
-/// Fails with `AllocError` when out of memory.
+/// # Errors
+///
+/// `AllocError` if memory runs out.
 #[tactic(auto, using(al_base::proofs::Growing::same_set))]
 pub fn read_action(alloc: Global, doc: Doc) -> Result<(Action, Vec<Fault>), AllocError>
     ensures tree { IfOk result (λ r. view r.0.root ≡ view doc.root) }
@@ -88,7 +92,7 @@ pub fn read_action(alloc: Global, doc: Doc) -> Result<(Action, Vec<Fault>), Allo
     Ok((Action { root: doc.root }, faults))
 }
 
-/// The section that a file's root should be.
+/// The section that the root of a file should be.
 fn root_shape(kind: FileKind) -> Shape
     ensures { result ≡ shape_of kind }
 {
@@ -98,10 +102,12 @@ fn root_shape(kind: FileKind) -> Shape
     }
 }
 
-/// What in a document breaks the syntax of workflows or of actions: the faults of its keys and values in the order of
-/// reports, each once.
+/// The faults of a document against the syntax of workflows or of actions: those of its keys and values, in report
+/// order, each once.
 ///
-/// Fails with `AllocError` when out of memory.
+/// # Errors
+///
+/// `AllocError` if memory runs out.
 pub fn document_faults(alloc: Global, kind: FileKind, doc: &Doc) -> Result<Vec<Fault>, AllocError>
     ensures { IfOk result (λ found. found.items ≡ key_faults kind (view doc.now.root)) }
 {

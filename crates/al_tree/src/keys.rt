@@ -10,7 +10,7 @@ use al_base::TextPositions;
 use al_yaml_tree::{Entry, Node};
 use std::alloc::{AllocError, Global};
 
-/// The text of a key, empty where that is no scalar.
+/// The text of a key, or the empty text if the key isn't a scalar.
 pub fn key_text(key: &Node) -> &[u8]
     ensures { result.now ≡ text_in (view key.now) }
 {
@@ -28,7 +28,7 @@ pub fn key_of(entry: &Entry) -> &[u8]
     key_text(&entry.key)
 }
 
-/// How many keys of a mapping are compared one by one: as many as most mappings have.
+/// Up to this many keys of a mapping are compared one by one; most mappings have no more.
 const FEW: usize = 8;
 
 /// Whether an entry has a key.
@@ -43,7 +43,7 @@ fn is_key_among(key: &[u8], entries: &[Entry]) -> bool
     false
 }
 
-/// Where the keys of some entries first stand. Fails with `AllocError` when out of memory.
+/// The first positions of the keys of some entries. Fails with `AllocError` if memory runs out.
 fn positions_of(alloc: Global, entries: &[Entry]) -> Result<TextPositions<'_>, AllocError>
     ensures { IfOk result (λ p. text_position p ≡ text_place (keys_in (map entry_view entries.now))) }
 {
@@ -54,16 +54,17 @@ fn positions_of(alloc: Global, entries: &[Entry]) -> Result<TextPositions<'_>, A
     TextPositions::of(alloc, keys.as_slice())
 }
 
-/// The keys of a mapping, as they are looked up.
+/// The keys of a mapping, prepared for lookups.
 #[derive(Drop)]
 pub struct KeyIndex<'a> {
     entries: &'a [Entry],
-    /// Where each key first stands, of a mapping with many.
+    /// The first position of each key, for a mapping with many keys.
     positions: Option<TextPositions<'a>>,
 }
 
 impl<'a> KeyIndex<'a> {
-    /// The keys of some entries; of few it takes neither time nor memory. Fails with `AllocError` when out of memory.
+    /// The keys of some entries. With few entries it takes no time and doesn't allocate. Fails with `AllocError` if
+    /// memory runs out.
     #[tactic(auto, using(crate::proofs::KeyLemmas::few_keys, crate::proofs::KeyLemmas::many_keys))]
     pub fn of(alloc: Global, entries: &'a [Entry]) -> Result<KeyIndex<'a>, AllocError>
         ensures { IfOk result (λ x. IsIndexOf x entries.now) }
@@ -81,7 +82,7 @@ impl<'a> KeyIndex<'a> {
         })
     }
 
-    /// The keys of the first entries, of which there are at most so many.
+    /// The keys of the first `count` entries, or of all entries if there are fewer.
     pub fn first(&self, count: usize) -> KeySet<'_>
         ensures { holds result ≡ has_first self.now count }
     {
@@ -97,7 +98,7 @@ pub struct KeySet<'a> {
 }
 
 impl<'a> KeySet<'a> {
-    /// The entries whose keys they are.
+    /// The entries with these keys.
     #[tactic(auto, using(std::proofs::lemmas::List::take_min))]
     fn entries(self) -> &'a [Entry]
         ensures { result.now ≡ take self.entry.count self.entry.index.now.entries.now }
@@ -106,7 +107,7 @@ impl<'a> KeySet<'a> {
         &entries[..self.count.min(entries.len())]
     }
 
-    /// Whether a key is among them. Of many keys it takes time that grows with the logarithm of their number.
+    /// Whether a key is among them. With many keys it takes time logarithmic in their number.
     #[tactic(auto, using(crate::proofs::KeyLemmas::few_hold))]
     pub fn contains(self, key: &[u8]) -> bool
         ensures { result ≡ holds self.entry key.now }

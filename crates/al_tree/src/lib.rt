@@ -1,6 +1,6 @@
-//! Workflows and actions: which files are, their trees, and what in a tree breaks the syntax.
+//! Workflows and actions: which files they are, their trees, and the faults of a tree against GitHub's syntax.
 //!
-//! The syntax is a table of sections (`rule_of`); `text_under(step, "shell")` is what stands under a key of any node.
+//! The syntax is a table of sections (`rule_of`). `text_under(step, "shell")` gives the value under a key of any node.
 #![tactic(auto)]
 
 mod check;

@@ -1,4 +1,4 @@
-//! The keys of a matrix that are no rows, and the names of the events.
+//! The keys of a matrix that aren't rows, and the names of the events.
 
 ghost use Rattle.al_tree.specs.Names.{is_combination_key as combination_key, is_event as event};
 ghost use Rattle.std.specs.Prelude.{◌≡◌};
@@ -46,7 +46,8 @@ const EVENTS: [&str; 37] = [
     "workflow_dispatch",
 ];
 
-/// Whether a key of a matrix is no row: `include` or `exclude` (GitHub, "Workflow syntax", `jobs.<job_id>.strategy.matrix`).
+/// Whether a key of a matrix isn't a row: `include` or `exclude` (GitHub, "Workflow syntax",
+/// `jobs.<job_id>.strategy.matrix`).
 pub fn is_combination_key(key: &[u8]) -> bool
     ensures { result ≡ combination_key key.now }
 {

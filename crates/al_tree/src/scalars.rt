@@ -1,4 +1,4 @@
-//! Which scalars may stand where one is due.
+//! Which scalars are accepted where one is expected.
 
 ghost use Rattle.al_tree.specs.Faults.{has_chunk, has_class as class_is, is_null};
 ghost use Rattle.al_tree.specs.Faults as faults;
@@ -37,14 +37,14 @@ pub fn is_null_scalar(scalar: &Scalar) -> bool
     has_class(Class::Null, scalar)
 }
 
-/// A fault, where a scalar isn't taken.
+/// A fault, if a scalar isn't accepted.
 fn fault_unless(taken: bool, key: KeyCode) -> Option<KeyCode>
     ensures { result ≡ then_some (not taken) key }
 {
     (!taken).then_some(key)
 }
 
-/// What is wrong with a scalar where these are taken.
+/// The fault of a scalar where only the scalars of a set are accepted.
 pub fn scalar_fault(scalars: ScalarSet, scalar: &Scalar) -> Option<KeyCode>
     ensures { result ≡ faults.scalar_fault scalars scalar.now }
 {

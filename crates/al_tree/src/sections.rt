@@ -1,4 +1,5 @@
-//! The keys of each section of GitHub's syntax of workflows and actions, a row a key. `specs/Table.antt` has the same rows.
+//! The keys of each section of GitHub's syntax for workflows and actions, one row per key. `specs/Table.antt` has the
+//! same rows.
 
 use crate::table::Clash::{After, Beside, Never};
 use crate::table::Need::{May, Must, Unless};
@@ -11,7 +12,7 @@ use crate::table::Trigger::{
     Call, CallInputs, CallOutputs, CallSecrets, Dispatch, DispatchInputs, Events, Schedule,
 };
 
-// A key that may stand in its section, with the shape of its value, and what it cannot stand beside.
+// An optional key of its section, with the shape of its value, and the key it can't stand beside.
 macro_rules! may {
     ($key:literal, $shape:expr) => {
         may!($key, $shape, Never)
@@ -26,7 +27,7 @@ macro_rules! may {
     };
 }
 
-// A key that has to stand there, or has to unless another one does.
+// A required key, or one that is required unless another key is there.
 macro_rules! must {
     ($key:literal, $shape:expr) => {
         must!($key, $shape, Must, Never)
@@ -62,7 +63,7 @@ pub const RUN_DEFAULTS: &[Row] = &[may!("shell", Text), may!("working-directory"
 /// `concurrency` of a workflow or job.
 pub const CONCURRENCY: &[Row] = &[must!("group", Text), may!("cancel-in-progress", Flag)];
 
-/// A job; one with `uses` has no others than those that can stand beside it.
+/// A job. A job with `uses` has only the keys that can stand beside it.
 pub const JOB: &[Row] = &[
     may!("name", Text),
     may!("permissions", TextOrMap),
@@ -121,7 +122,7 @@ pub const STEP: &[Row] = &[
     may!("timeout-minutes", Number),
 ];
 
-/// `on` as a mapping: these events have shapes of their own.
+/// `on` as a mapping; these events have shapes of their own.
 pub const ON: &[Row] = &[
     may!("schedule", On(Schedule)),
     may!("workflow_dispatch", On(Dispatch)),
@@ -167,7 +168,7 @@ pub const CALL_SECRET: &[Row] = &[may!("description", Text), may!("required", Fl
 /// An output of `workflow_call`.
 pub const CALL_OUTPUT: &[Row] = &[may!("description", Text), must!("value", Text)];
 
-/// Every other event; a filter cannot stand beside its `-ignore`.
+/// Every other event. A filter can't stand beside its `-ignore`.
 pub const EVENT: &[Row] = &[
     may!("types", Texts),
     may!("workflows", Texts),
@@ -190,7 +191,7 @@ pub const ACTION: &[Row] = &[
     may!("branding", Any),
 ];
 
-/// `runs` where `using` says nothing known.
+/// `runs` with an unknown `using`.
 pub const RUNS: &[Row] = &[must!("using", Text)];
 
 /// `runs` of a Node action.

@@ -1,4 +1,4 @@
-//! How a key stands in its mapping: known, unknown, given twice or beside one that excludes it.
+//! The standing of a key in its mapping: known, unknown, repeated, or beside a key that excludes it.
 
 ghost use Rattle.al_tree.specs.Faults.{clash_with};
 ghost use Rattle.al_tree.specs.Faults.{is_needed as needed, other_standing, mapping_shape};
@@ -20,7 +20,7 @@ use crate::table::{Clash, Keys, Need, Others, Row, Shape, Trigger};
 use al_base::is_among;
 use al_yaml_tree::Entry;
 
-/// The section that `runs` is, by what `using` says.
+/// The section of `runs`, depending on `using`.
 pub fn runs_of(using_text: &[u8]) -> Shape
     ensures { result ≡ runs using_text.now }
 {
@@ -35,7 +35,7 @@ pub fn runs_of(using_text: &[u8]) -> Shape
     }
 }
 
-/// The shape of a mapping with these entries, which for `runs` depends on one of its keys.
+/// The shape of a mapping with these entries; that of `runs` depends on one of its keys.
 pub fn refine(shape: Shape, entries: &[Entry]) -> Shape
     ensures { result ≡ mapping_shape shape (map entry_view entries.now) }
 {
@@ -48,7 +48,7 @@ pub fn refine(shape: Shape, entries: &[Entry]) -> Shape
     }
 }
 
-/// Whether the value of a key may be null where it should have a shape.
+/// Whether the value of a key with this shape may be null.
 pub(crate) fn takes_null(shape: Shape) -> bool
     ensures { result ≡ null_taken shape }
 {
@@ -68,7 +68,7 @@ fn row_at<'a>(rows: &'a [Row], key: &[u8]) -> Option<&'a Row>
     None
 }
 
-/// Whether a key has to stand in a mapping with these keys.
+/// Whether a key is required in a mapping with these keys.
 pub(crate) fn is_needed(need: Need, all: KeySet<'_>) -> bool
     ensures { result ≡ needed (need_of need) (holds all.entry) }
 {
@@ -79,12 +79,16 @@ pub(crate) fn is_needed(need: Need, all: KeySet<'_>) -> bool
     }
 }
 
-/// How an entry stands in its mapping. A text is a key that is there and beside which it cannot stand.
+/// The standing of an entry in its mapping.
 #[derive(Clone, Copy)]
 pub enum Standing {
+    /// An earlier entry has the same key.
     Repeated,
+    /// The mapping doesn't have this key. The text is a key that is present and that the entry can't stand beside.
     Unexpected(Option<&'static str>),
+    /// The entry isn't checked.
     Ignored,
+    /// The value should have this shape. The text is a key that is present and that the entry can't stand beside.
     Expected(Shape, Option<&'static str>),
 }
 
@@ -95,7 +99,7 @@ fn if_in(set: KeySet<'_>, key: &'static str) -> Option<&'static str>
     set.contains(key.as_bytes()).then_some(key)
 }
 
-/// The key that a key cannot stand beside, if it is there.
+/// The key that a key can't stand beside, if that is present.
 fn clash(clash: Clash, seen: KeySet<'_>, all: KeySet<'_>) -> Option<&'static str>
     ensures { option_map (λ k. k.now) result
         ≡ clash_with (clash_of clash) (holds seen.entry) (holds all.entry) }
@@ -107,7 +111,7 @@ fn clash(clash: Clash, seen: KeySet<'_>, all: KeySet<'_>) -> Option<&'static str
     }
 }
 
-/// The shape of an event's filters; that of any value where there is no such event.
+/// The shape of an event; that of any value if the event is unknown.
 fn event_shape(key: &[u8]) -> Shape
     ensures { result ≡ (if event key.now then On Event else Any) }
 {
@@ -118,7 +122,7 @@ fn event_shape(key: &[u8]) -> Shape
     }
 }
 
-/// How an entry without a row stands.
+/// The standing of an entry without a row.
 fn standing_without_row(others: Others, seen: KeySet<'_>, all: KeySet<'_>, key: &[u8]) -> Standing
     ensures { standing_view result
         ≡ other_standing (others_of others) (holds seen.entry) (holds all.entry) key.now }
@@ -132,7 +136,7 @@ fn standing_without_row(others: Others, seen: KeySet<'_>, all: KeySet<'_>, key: 
     }
 }
 
-/// How an entry with a key stands behind the keys that were seen, in a mapping with all these.
+/// The standing of an entry with a key, after the keys seen so far, in a mapping with all these keys.
 pub fn standing_of(keys: Keys, seen: KeySet<'_>, all: KeySet<'_>, key: &[u8]) -> Standing
     ensures { standing_view result
         ≡ stands (keys_view keys) (holds seen.entry) (holds all.entry) key.now }

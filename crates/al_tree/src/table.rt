@@ -10,7 +10,7 @@ use crate::sections::{
     RUNS, RUNS_ON, STEP, STRATEGY, WORKFLOW,
 };
 
-/// What a value should be: a section of the syntax, or a plain kind of value.
+/// What a value should be: a section of the syntax, or a simple kind of value.
 #[derive(Clone, Copy)]
 pub enum Shape {
     Any,
@@ -42,7 +42,7 @@ pub enum Shape {
     DockerRuns,
 }
 
-/// A section of what triggers a workflow: `on` itself, which has events, or a section in it.
+/// A section for what triggers a workflow: `on` itself, which has events, or a section in it.
 #[derive(Clone, Copy)]
 pub enum Trigger {
     Events,
@@ -61,33 +61,46 @@ pub enum Trigger {
     CallOutput,
 }
 
-/// Which scalars a shape takes.
+/// Which scalars a shape accepts.
 #[derive(Clone, Copy)]
 pub enum ScalarSet {
+    /// No scalar: each is of the wrong kind.
     NoScalar,
+    /// Every scalar.
     AnyScalar,
+    /// Every scalar that isn't null.
     NotNull,
+    /// Booleans, and scalars with `${{`.
     Bools,
+    /// Integers, floats, and scalars with `${{`.
     Numbers,
+    /// Scalars with `${{`.
     Chunks,
 }
 
-/// Whether a key has to stand in its mapping.
+/// Whether a key is required in its mapping.
 #[derive(Clone, Copy)]
 pub enum Need {
+    /// The key is optional.
     May,
+    /// The key is required.
     Must,
+    /// The key is required unless this key is there.
     Unless(&'static str),
 }
 
-/// Which other key a key cannot stand beside: one before it, or one anywhere in the mapping.
+/// The key that a key can't stand beside, if that comes before it or is anywhere in the mapping.
 #[derive(Clone, Copy)]
 pub enum Clash {
+    /// The key can stand beside every other.
     Never,
+    /// The key can't come after this key.
     After(&'static str),
+    /// The key can't stand beside this key, wherever that is in the mapping.
     Beside(&'static str),
 }
 
+/// A key of a section: the shape of its value, whether it is required, and the key it can't stand beside.
 #[derive(Clone, Copy)]
 pub struct Row {
     pub key: &'static str,
@@ -96,23 +109,31 @@ pub struct Row {
     pub clash: Clash,
 }
 
-/// What keys without a row are.
+/// The meaning of keys without a row.
 #[derive(Clone, Copy)]
 pub enum Others {
+    /// They are unexpected.
     Wrong,
+    /// They are unexpected, and can't stand beside this key either.
     WrongBeside(&'static str),
+    /// They aren't checked.
     Unchecked,
+    /// They are events.
     Events,
 }
 
-/// Which mappings a shape takes: none, those with free keys, those with the keys of rows.
+/// Which mappings a shape accepts: none, those with any keys, or those with the keys of rows.
 #[derive(Clone, Copy)]
 pub enum Keys {
+    /// No mapping.
     No,
+    /// Mappings with any keys, whose values have this shape.
     Free(Shape),
+    /// Mappings with the keys of these rows, and other keys with the given meaning.
     These(&'static [Row], Others),
 }
 
+/// What a shape accepts: scalars, sequences of items with a shape (none if there is no such shape), and mappings.
 #[derive(Clone, Copy)]
 pub struct Rule {
     pub scalars: ScalarSet,
@@ -120,8 +141,8 @@ pub struct Rule {
     pub keys: Keys,
 }
 
-// What a shape takes: which scalars; of which shape the items of a sequence are; and of a mapping either any key, with values of
-// a shape, or the keys of a section and what all others are.
+// What a shape accepts: which scalars; the shape of the items of a sequence; and for a mapping, either any key with
+// values of a shape, or the keys of a section and the meaning of all others.
 macro_rules! rule {
     ($scalars:ident) => {
         rule!(@ $scalars, None, Keys::No)
@@ -147,7 +168,7 @@ macro_rules! rule {
     };
 }
 
-/// What a section of `on` takes.
+/// What a section of `on` accepts.
 fn trigger_rule(trigger: Trigger) -> Rule
     ensures { Some (rule_view result) ≡ rule (On trigger) }
 {
@@ -169,7 +190,7 @@ fn trigger_rule(trigger: Trigger) -> Rule
     }
 }
 
-/// What a shape takes; None where that is anything.
+/// What a shape accepts; `None` if it accepts anything.
 pub fn rule_of(shape: Shape) -> Option<Rule>
     ensures { option_map rule_view result ≡ rule shape }
 {

@@ -1,4 +1,4 @@
-//! Items, values and texts of nodes, where they have the kind that is asked for.
+//! Items, values and texts of nodes, if the nodes have the wanted kind.
 
 ghost use Rattle.al_base.specs.NamePlaces.{name_place, name_position};
 ghost use Rattle.al_tree.specs.Keys.{keys_in};
@@ -18,7 +18,7 @@ use al_yaml_tree::{Entry, Node};
 use std::alloc::{AllocError, Global};
 use std::slice;
 
-/// The items of a sequence, else none.
+/// The items of a sequence; no items if the node isn't one.
 pub fn items(node: &Node) -> &[Node]
     ensures { map view result.now ≡ items_in (view node.now) }
 {
@@ -28,28 +28,28 @@ pub fn items(node: &Node) -> &[Node]
     }
 }
 
-/// The value of the first entry with a key; none where the node is no mapping.
+/// The value of the first entry with a key, compared exactly; `None` if there is none or the node isn't a mapping.
 pub fn value<'a>(node: &'a Node, key: &str) -> Option<&'a Node>
     ensures { option_map (λ n. view n.now) result ≡ value_at key.now (view node.now) }
 {
     value_among(node.mapping()?, key)
 }
 
-/// The node of a key where it first stands; none where the node is no mapping.
+/// The node of the first occurrence of a key; `None` if there is none or the node isn't a mapping.
 pub fn key<'a>(node: &'a Node, key: &str) -> Option<&'a Node>
     ensures { option_map (λ n. view n.now) result ≡ key_at key.now (view node.now) }
 {
     key_among(node.mapping()?, key)
 }
 
-/// A scalar, and the span of its written form.
+/// A scalar, and the span of its written form in bytes of the file.
 #[derive(Clone, Copy)]
 pub struct ScalarNode<'a> {
     pub scalar: &'a Scalar,
     pub span: Span,
 }
 
-/// The scalar that a node is, unless it is null.
+/// The scalar of a node; `None` if it is null or the node isn't a scalar.
 pub fn text(node: &Node) -> Option<ScalarNode<'_>>
     ensures { option_map scalar_node_of result ≡ text_in (view node.now) }
 {
@@ -63,16 +63,18 @@ pub fn text(node: &Node) -> Option<ScalarNode<'_>>
     })
 }
 
-/// The scalar under a key, unless it is null.
+/// The scalar under a key; `None` if it is null, if there is no such key, or if the value isn't a scalar.
 pub fn text_under<'a>(node: &'a Node, key: &str) -> Option<ScalarNode<'a>>
     ensures { option_map scalar_node_of result ≡ text_at_key key.now (view node.now) }
 {
     text(value(node, key)?)
 }
 
-/// What a scalar or a sequence of scalars says: those that aren't null, in order.
+/// The scalars of a node that is a scalar or a sequence of scalars, in order, without those that are null.
 ///
-/// Fails with `AllocError` when out of memory.
+/// # Errors
+///
+/// `AllocError` if memory runs out.
 pub fn texts(alloc: Global, node: &Node) -> Result<Vec<ScalarNode<'_>>, AllocError>
     ensures { IfOk result (λ v. map scalar_node_of v.items ≡ texts_in (view node.now)) }
 {
@@ -96,7 +98,8 @@ fn item_texts(alloc: Global, nodes: &[Node]) -> Result<Vec<ScalarNode<'_>>, Allo
     Ok(found)
 }
 
-/// What stands under a key as a scalar or a sequence of scalars. Fails with `AllocError` when out of memory.
+/// The scalars under a key whose value is a scalar or a sequence of scalars, without those that are null. Fails with
+/// `AllocError` if memory runs out.
 pub fn texts_under<'a>(
     alloc: Global,
     node: &'a Node,
@@ -110,7 +113,7 @@ pub fn texts_under<'a>(
     }
 }
 
-/// The items of the sequence under a key.
+/// The items of the sequence under a key; no items if there is no sequence.
 pub fn items_under<'a>(node: &'a Node, key: &str) -> &'a [Node]
     ensures { map view result.now ≡ items_at key.now (view node.now) }
 {
@@ -127,9 +130,11 @@ pub struct Member<'a> {
     pub value: &'a Node,
 }
 
-/// The entries of a mapping in order, of equal keys the first; none where the node is no mapping.
+/// The entries of a mapping in order, only the first of equal keys; no entries if the node isn't a mapping.
 ///
-/// Fails with `AllocError` when out of memory.
+/// # Errors
+///
+/// `AllocError` if memory runs out.
 pub fn members(alloc: Global, node: &Node) -> Result<Vec<Member<'_>>, AllocError>
     ensures { IfOk result (λ v. map member_of v.items ≡ entries_in (view node.now)) }
 {
@@ -139,9 +144,11 @@ pub fn members(alloc: Global, node: &Node) -> Result<Vec<Member<'_>>, AllocError
     }
 }
 
-/// The entries of the mapping under a key in order, of equal keys the first; none where there is no mapping.
+/// The entries of the mapping under a key in order, only the first of equal keys; no entries if there is no mapping.
 ///
-/// Fails with `AllocError` when out of memory.
+/// # Errors
+///
+/// `AllocError` if memory runs out.
 pub fn members_under<'a>(
     alloc: Global,
     node: &'a Node,
@@ -166,7 +173,7 @@ fn key_texts<'a>(alloc: Global, members: &[Member<'a>]) -> Result<Vec<&'a [u8]>,
     Ok(keys)
 }
 
-/// Where the key of each member first stands, without regard to ASCII case. Fails with `AllocError` when out of memory.
+/// The first position of the key of each member, ignoring ASCII case. Fails with `AllocError` if memory runs out.
 pub fn member_positions(alloc: Global, members: &[Member<'_>]) -> Result<NamePositions, AllocError>
     ensures { IfOk result (λ p. name_position p ≡ name_place (keys_in (map member_of members.now))) }
 {
@@ -185,7 +192,7 @@ fn as_member(entry: &Entry) -> Member<'_>
     }
 }
 
-/// The entries with a key that no earlier one has.
+/// The entries whose key no earlier entry has.
 fn first_members(alloc: Global, entries: &[Entry]) -> Result<Vec<Member<'_>>, AllocError>
     ensures { IfOk result (λ v. map member_of v.items ≡ firsts_by among [] (map entry_view entries.now)) }
 {

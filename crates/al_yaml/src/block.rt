@@ -1,4 +1,4 @@
-//! Nodes in block context, read forward: the loop over the open block collections, and its steps.
+//! Reading nodes in block context from front to back: the loop over the open block collections, and its steps.
 
 ghost use Rattle.al_scalar.specs.ReadScalar.{read_of};
 ghost use Rattle.al_yaml.specs.Private.BlockFrames as frames;
@@ -34,22 +34,22 @@ use al_yaml_parts::slots::{Cursor, Slot, Spot, is_deeper, spot_behind};
 use al_yaml_tree::{Entry, Node, entry_of, scalar_node};
 use std::alloc::AllocError;
 
-/// What was read of an open block collection: of a sequence the items before a dash, and whether it is the value of a
-/// mapping's entry; of a mapping the entries before a key, and the key.
+/// The part of an open block collection read so far: for a sequence, the items before a dash, and whether it is the
+/// value of a mapping entry; for a mapping, the entries before a key, and the key.
 #[derive(Drop)]
 pub enum BlockOpen {
     Items(bool, Vec<Node>),
     Entries(Vec<Entry>, Key),
 }
 
-/// A node that was read, and the next content line behind it.
+/// A node that was read, and the next content line after it.
 #[derive(Drop)]
 pub struct PartBefore {
     pub part: Part,
     pub next: Next,
 }
 
-/// Where a node begins, at its first character or behind its anchor; or from where on it is looked for.
+/// Where a node begins, at its first character or after its anchor; or where the search for it begins.
 #[derive(Clone, Copy)]
 pub struct NodePlace {
     pub slot: Slot,
@@ -57,7 +57,7 @@ pub struct NodePlace {
     pub anchor: Option<usize>,
 }
 
-/// An open block collection from a dash or a key on.
+/// An open block collection, at a dash or a key.
 #[derive(Drop)]
 pub struct OpenBlock {
     pub begun: BlockStart,
@@ -65,7 +65,8 @@ pub struct OpenBlock {
     pub at: usize,
 }
 
-/// An open sequence that waits for an item: where it begins, whether it is the value of a mapping's entry, and the items so far.
+/// An open sequence that waits for an item: where it begins, whether it is the value of a mapping entry, and its items
+/// so far.
 #[derive(Drop)]
 struct WaitingSequence {
     begun: BlockStart,
@@ -73,7 +74,7 @@ struct WaitingSequence {
     items: Vec<Node>,
 }
 
-/// An open mapping that waits for the value of a key: where it begins, the entries so far, and the key.
+/// An open mapping that waits for the value of a key: where it begins, its entries so far, and the key.
 #[derive(Drop)]
 struct WaitingMapping {
     begun: BlockStart,
@@ -81,8 +82,8 @@ struct WaitingMapping {
     key: ScalarRead,
 }
 
-/// What is to be read next: a node; the innermost collection; what stands behind a node that was read, where the next content line was
-/// found or not yet.
+/// What is read next: a node; the innermost collection; or what follows a node that was read, with or without the next
+/// content line.
 #[derive(Drop)]
 pub enum BlockTask {
     Node(NodePlace),
@@ -91,7 +92,7 @@ pub enum BlockTask {
     Found(PartBefore),
 }
 
-/// Finds the node behind a dash, a colon or an anchor: on the line, or else below it; or reads the empty node.
+/// Finds the node after a dash, a colon or an anchor, on its line or else below it; or reads the empty node.
 #[inline(always)]
 pub fn find_rest(
     file: &File,
@@ -121,7 +122,7 @@ pub fn find_rest(
     }))
 }
 
-/// Finds the node on the next content line if that holds it, or else reads the empty node.
+/// Finds the node on the next content line if it is there; otherwise reads the empty node.
 fn find_below(
     file: &File,
     state: &mut State,
@@ -167,7 +168,7 @@ fn find_below(
     }))
 }
 
-/// Goes on with the innermost collection from a dash or a key on: what it waits with, and the node that it waits for.
+/// Continues the innermost collection at a dash or a key: gives the waiting collection, and the node it waits for.
 fn enter(
     file: &File,
     state: &mut State,
@@ -222,7 +223,7 @@ fn enter(
     }
 }
 
-/// The next entry of a collection in a column on the next content line, if the collection goes on.
+/// The next entry of a collection at a column of the next content line, if the collection continues there.
 fn entry_on(bytes: &[u8], column: usize, next: Next) -> Result<Option<usize>, FaultAt>
     requires { IsNextInside (length bytes.now) next }
     ensures fault { IfErr result (λ f. f.at ≤ length bytes.now) }
@@ -272,7 +273,7 @@ fn close_sequence(
     Ok(PartBefore { part, next })
 }
 
-/// Goes on behind an item that was read in a sequence.
+/// Continues after an item of a sequence.
 fn put_block_item(
     file: &File,
     progress: &mut Progress,
@@ -315,7 +316,7 @@ fn put_block_item(
     Err(no_entry(file, progress, at))
 }
 
-/// Goes on behind a value that was read in a mapping.
+/// Continues after a value of a mapping.
 fn put_block_entry(
     file: &File,
     progress: &mut Progress,
@@ -359,7 +360,7 @@ fn put_block_entry(
     }))
 }
 
-/// Goes on behind a node that was read in a collection which waited for it.
+/// Continues after a node for which a collection waited.
 fn resume_block(
     file: &File,
     progress: &mut Progress,
@@ -401,9 +402,9 @@ fn resume_block(
     }
 }
 
-/// Reads a node in block context, from its first character on.
+/// Reads a node in block context, starting at its first character.
 ///
-/// The collections that are open in it stand on the stack, which is empty at first.
+/// The stack holds the collections that are open in the node, and must be empty at first.
 pub fn read_block_node(
     file: &File,
     progress: &mut Progress,

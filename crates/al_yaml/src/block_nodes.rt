@@ -1,4 +1,4 @@
-//! Nodes in block context that are read whole, and collections that begin.
+//! Nodes in block context that are read in one step, and the beginnings of collections.
 
 ghost use Rattle.al_scalar.specs.Places.{lines_at, text_at};
 ghost use Rattle.al_yaml.specs.Private.BlockFrames.{Begins, IsBegun, IsNodeAt, node_reader};
@@ -31,7 +31,7 @@ use al_yaml_parts::scalars::read_line_scalar;
 use al_yaml_parts::slots::{Spot, is_behind_key, tab_before};
 use al_yaml_parts::starts::{block_fault, is_block_start, is_flow_start, is_property};
 
-/// Whether a scalar that stands here is no key: a block scalar, or a value on its key's line.
+/// Whether a scalar here can't be a key: it is a block scalar, or a value on the line of its key.
 fn is_no_key(bytes: &[u8], spot: Spot, at: usize) -> bool
     requires { at ≤ length bytes.now }
     ensures { result ≡
@@ -40,7 +40,7 @@ fn is_no_key(bytes: &[u8], spot: Spot, at: usize) -> bool
     is_block_start(bytes, at) || is_behind_key(spot)
 }
 
-/// Whether a colon behind a flow collection would make it a key.
+/// Whether a colon after a flow collection would make it a key.
 fn is_refused_key(bytes: &[u8], spot: Spot, next: usize) -> bool
     requires { next ≤ length bytes.now }
     ensures { result ≡
@@ -52,7 +52,7 @@ fn is_refused_key(bytes: &[u8], spot: Spot, next: usize) -> bool
     has_colon(bytes, next)
 }
 
-/// Reads a flow collection in block context with the rest of its line.
+/// Reads a flow collection in block context and the rest of its line.
 fn read_line_flow(
     file: &File,
     progress: &mut Progress,
@@ -86,8 +86,7 @@ fn read_line_flow(
     })
 }
 
-/// Reads a node in block context, from its first character on, if it is no block collection; else it begins the
-/// collection.
+/// Reads a node in block context, starting at its first character. If it is a block collection, begins that collection.
 pub fn read_node(
     file: &File,
     progress: &mut Progress,
@@ -136,7 +135,7 @@ pub fn read_node(
     begin_mapping(file, progress, node, key)
 }
 
-/// Reads an alias, or finds the node behind an anchor. Behind an anchor neither stands.
+/// Reads an alias, or finds the node after an anchor. An anchor can't be followed by another anchor or an alias.
 fn read_property(
     file: &File,
     progress: &mut Progress,
@@ -189,7 +188,7 @@ fn read_property(
     find_rest(file, &mut progress.state, from, rest)
 }
 
-/// Begins the sequence whose first dash stands at an offset.
+/// Begins the sequence whose first dash is at an offset.
 fn begin_sequence(
     file: &File,
     progress: &mut Progress,

@@ -1,4 +1,4 @@
-//! Flow collections, read forward: the loop over the open ones.
+//! Reading flow collections from front to back: the loop over the open ones.
 
 ghost use Rattle.al_scalar.specs.Places.{text_at};
 ghost use Rattle.al_yaml_tree.specs.Content as content;
@@ -25,7 +25,7 @@ use al_yaml_parts::frames::{FlowFrame, Open, OpenMapping};
 use al_yaml_parts::limits::State;
 use al_yaml_parts::part::{Part, mapping_part, sequence_part};
 
-/// A flow collection from its bracket or brace on: what was read of it, and what stands next in it.
+/// An open flow collection: the part read so far, and what comes next in it.
 #[derive(Drop)]
 pub struct OpenFlow {
     pub opening: usize,
@@ -33,7 +33,7 @@ pub struct OpenFlow {
     pub next: After,
 }
 
-/// What stands first in a collection: its closer, or an item or entry.
+/// What comes first in a collection: its closing bracket, or an item or entry.
 fn first_inside(bytes: &[u8], close: u8, at: usize) -> After
     requires inside { at ≤ length bytes.now }
     ensures is { IsFirst bytes.now close at result }
@@ -46,7 +46,7 @@ fn first_inside(bytes: &[u8], close: u8, at: usize) -> After
     After::GoesOn(at)
 }
 
-/// The collection whose bracket or brace stands at an offset, with nothing in it yet, and what stands first in it.
+/// The collection whose opening bracket is at an offset, still empty, and what comes first in it.
 #[inline(always)]
 fn open_at(file: &File, at: usize) -> OpenFlow
     requires inside { at < size file.now }
@@ -76,7 +76,7 @@ fn open_at(file: &File, at: usize) -> OpenFlow
     }
 }
 
-/// The collection that was read from its bracket up to behind its closer.
+/// The complete collection, from its opening to its closing bracket.
 #[inline(always)]
 fn closed_part(collection: OpenFlow, end: usize) -> Part
     requires start { collection.opening < 2 ^ 32 }
@@ -96,7 +96,7 @@ fn closed_part(collection: OpenFlow, end: usize) -> Part
     }
 }
 
-/// Hands a collection that was read, with its anchor, to the one that waited for it.
+/// Passes a complete collection, with its anchor, to the one that waited for it.
 #[inline(always)]
 fn resume_outer(
     file: &File,
@@ -126,7 +126,7 @@ fn resume_outer(
     Ok(OpenFlow { opening, has, next })
 }
 
-/// Reads on in an open collection: to what stands behind the next node in it, or to what stands first in a collection in it.
+/// Continues in an open collection: up to what follows its next node, or to what comes first in a nested collection.
 #[inline(always)]
 fn read_on(
     file: &File,
@@ -173,9 +173,9 @@ fn read_on(
     }
 }
 
-/// Reads the flow collection whose bracket or brace stands at an offset.
+/// Reads the flow collection whose opening bracket is at an offset.
 ///
-/// The collections that are open in it stand on the stack while one inside them is read.
+/// The stack holds the collections that are open while one inside them is read.
 pub fn read_flow_collection(
     file: &File,
     progress: &mut Progress,

@@ -1,4 +1,4 @@
-//! One step in an open flow collection: the next item or entry, and what stands behind it.
+//! One step in an open flow collection: the next item or entry, and what follows it.
 
 ghost use Rattle.al_scalar.specs.Line as line;
 ghost use Rattle.al_scalar.specs.ReadScalar.{read_of};
@@ -33,14 +33,15 @@ use al_yaml_parts::part::Part;
 use al_yaml_parts::starts::{is_flow_start, is_property};
 use al_yaml_tree::{Entry, Node, entry_of, scalar_node};
 
-/// What stands behind an item: a comma, with the offset of what follows it, or the closer, with the offset behind it.
+/// What follows an item: a comma, with the offset of what comes next, or the closing bracket, with the offset after it.
 #[derive(Clone, Copy)]
 pub enum After {
     GoesOn(usize),
     Closes(usize),
 }
 
-/// Where an open flow collection is read: where it begins, from where on, and the depth of a collection in it.
+/// The position in an open flow collection: where it begins, where reading continues, and the depth of a nested
+/// collection.
 #[derive(Clone, Copy)]
 pub struct FlowPlace {
     pub opening: usize,
@@ -48,14 +49,14 @@ pub struct FlowPlace {
     pub depth: u32,
 }
 
-/// How far one step reads: to what stands behind a node, or to the bracket of a collection inside.
+/// How far one step reads: up to what follows a node, or to the opening bracket of a nested collection.
 #[derive(Clone, Copy)]
 pub enum FlowStep {
     Behind(After),
     Opens(Bracket),
 }
 
-/// What stands behind an item or entry and the gap behind it.
+/// What follows an item or entry and the gap after it.
 #[inline(always)]
 fn after_item(bytes: &[u8], opening: usize, close: u8, at: usize) -> Result<After, FaultAt>
     requires inside { at ≤ length bytes.now }
@@ -83,7 +84,7 @@ fn after_item(bytes: &[u8], opening: usize, close: u8, at: usize) -> Result<Afte
     })
 }
 
-/// Puts an item that was read into its sequence, and reads what stands behind it.
+/// Adds an item to its sequence, and reads what follows it.
 #[inline(always)]
 fn put_item(
     file: &File,
@@ -104,7 +105,7 @@ fn put_item(
     Ok(after_item(file.bytes, opening, b']', gap_end(file.bytes, part.next))?)
 }
 
-/// Puts an entry whose value was read into its mapping, and reads what stands behind it.
+/// Adds an entry, whose value was read, to its mapping, and reads what follows it.
 #[inline(always)]
 fn put_entry(
     file: &File,
@@ -128,7 +129,7 @@ fn put_entry(
     Ok(after_item(file.bytes, opening, b'}', gap_end(file.bytes, part.next))?)
 }
 
-/// Reads an item that begins with an anchor or is an alias, to what stands behind it or to a bracket.
+/// Reads an item that begins with an anchor or is an alias, up to what follows it or to an opening bracket.
 fn read_property_item(
     file: &File,
     state: &mut State,
@@ -157,7 +158,7 @@ fn read_property_item(
     }
 }
 
-/// Reads an open sequence, where its closer doesn't stand, to what stands behind its next item or to a bracket in it.
+/// Reads an open sequence, not at its closing bracket, up to what follows its next item or to an opening bracket in it.
 fn read_item(
     file: &File,
     state: &mut State,
@@ -175,7 +176,7 @@ fn read_item(
         result (state_of state.new) }
     ensures within { IfOk result (IsStep file.now.bytes.now place.at) }
 {
-    // a bracket has no fault, and is neither anchor nor alias
+    // a bracket has no fault, and is neither an anchor nor an alias
     if is_flow_start(file.bytes, place.at) {
         return Ok(FlowStep::Opens(Bracket {
             at: place.at,
@@ -189,7 +190,7 @@ fn read_item(
     Ok(FlowStep::Behind(put_item(file, place.opening, items, part)?))
 }
 
-/// Reads an open mapping, where its closer doesn't stand, to what stands behind its next entry or to a bracket in it.
+/// Reads an open mapping, not at its closing bracket, up to what follows its next entry or to an opening bracket in it.
 #[inline(never)]
 fn read_entry(
     file: &File,
@@ -244,7 +245,7 @@ fn closer(has: &Open) -> u8
     }
 }
 
-/// Reads an open collection to what stands behind the next node in it, to its closer or to a bracket in it.
+/// Reads an open collection up to what follows its next node, to its closing bracket, or to an opening bracket in it.
 pub fn read_inside(
     file: &File,
     state: &mut State,
@@ -274,7 +275,7 @@ pub fn read_inside(
     }
 }
 
-/// Hands a collection that was read to the one that waited for it, and reads what stands behind it.
+/// Passes a complete collection to the one that waited for it, and reads what follows it.
 #[inline(always)]
 pub fn resume(
     file: &File,
