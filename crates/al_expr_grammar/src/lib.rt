@@ -20,4 +20,4 @@ pub use extents::{across, extent, path_extent};
 pub use law::{all_lie_inside, grammar};
 pub use lexer::lex;
 pub use token::{Keyword, Operator, Token, TokenKind};
-pub use worked::{chunk_rows, token_rows};
+pub use worked::{chunk_rows, token_rows, tree_rows};

@@ -1,8 +1,12 @@
-//! Chunks and tokens of small texts that were worked out by hand, computed by the definitions.
+//! Chunks, tokens and trees of small texts that were worked out by hand, computed by the definitions.
 ghost use Rattle.al_expr_grammar.specs.Rows.Chunks.{closed, cut_off};
 ghost use Rattle.al_expr_grammar.specs.Rows.Tokens as row;
+ghost use Rattle.al_expr_grammar.specs.Rows.Trees.{chain, mark_at, name_at, operation, path, property_at};
+ghost use Rattle.al_expr_grammar.specs.Building.{tree_of_content};
 ghost use Rattle.al_expr_grammar.specs.Chunks.{chunks_of};
 ghost use Rattle.al_expr_grammar.specs.Tokens.{AllRead, Bad, Unclosed, last_quote, tokens_of};
+ghost use Rattle.al_expr_grammar.specs.Tree as tree;
+ghost use Rattle.al_expr_grammar.specs.declared.token.Operator.TheVariants.{And, Equal, Less, NotEqual, Or};
 ghost use Rattle.al_base.specs.Spans.{span};
 ghost use Rattle.al_base.specs.declared.codes.ExpressionCode.TheVariants.{UnclosedChunk, UnclosedText};
 ghost use Rattle.std.specs.Prelude.{◌≡◌, [], ◌∷◌, codes, None, Some};
@@ -41,4 +45,23 @@ pub fn token_rows()
     ensures doubled_marks { tokens_of (codes "&&||==!=") ≡ AllRead (row.and (codes "&&") 0 ∷ row.or (codes "||") 2
         ∷ row.equal (codes "==") 4 ∷ row.not_equal (codes "!=") 6 ∷ []) }
     ensures hexadecimal { tokens_of (codes "0xaF 1E+2") ≡ AllRead (row.number (codes "0xaF") 0 ∷ row.number (codes "1E+2") 5 ∷ []) }
+{}
+
+/// The trees of some contents. Does nothing.
+pub fn tree_rows()
+    ensures looser_outside { tree_of_content (codes "a||b&&c<d") ≡ chain (name_at 0 (codes "a"))
+        (operation Or 1 3 (chain (name_at 3 (codes "b"))
+        (operation And 4 6 (chain (name_at 6 (codes "c")) (operation Less 7 8 (name_at 8 (codes "d")) ∷ [])) ∷ [])) ∷ []) }
+    ensures tighter_first { tree_of_content (codes "a<b||c") ≡ chain
+        (chain (name_at 0 (codes "a")) (operation Less 1 2 (name_at 2 (codes "b")) ∷ [])) (operation Or 3 5 (name_at 5 (codes "c")) ∷ []) }
+    ensures one_level { tree_of_content (codes "a==b!=c") ≡ chain (name_at 0 (codes "a"))
+        (operation Equal 1 3 (name_at 3 (codes "b")) ∷ operation NotEqual 4 6 (name_at 6 (codes "c")) ∷ []) }
+    ensures negation { tree_of_content (codes "!a.b") ≡ tree.Negated (mark_at 0)
+        (path (name_at 1 (codes "a")) (property_at 2 (codes "b") ∷ [])) }
+    ensures call { tree_of_content (codes "f(a,b)[*]") ≡ path
+        (tree.Call (codes "f") (mark_at 0) (tree.arguments_of (name_at 2 (codes "a") ∷ name_at 4 (codes "b") ∷ [])) (mark_at 5))
+        (tree.All (mark_at 6) (mark_at 8) ∷ []) }
+    ensures index { tree_of_content (codes "(a)[b.c].d") ≡ path (tree.Group (name_at 1 (codes "a")) (mark_at 0) (mark_at 2))
+        (tree.Index (mark_at 3) (path (name_at 4 (codes "b")) (property_at 5 (codes "c") ∷ [])) (mark_at 7)
+        ∷ property_at 8 (codes "d") ∷ []) }
 {}
