@@ -12,3 +12,4 @@ pub mod TwoTexts
 pub mod SameName
 pub mod NamePlaces
 pub mod SortedTexts
+pub mod Places

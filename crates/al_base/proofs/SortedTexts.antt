@@ -1,5 +1,5 @@
 -- Entries of texts in order: which is first of its text after a sort, behind a binary search, and with one more entry.
-use Rattle.std.proofs.Common.{◌≡◌, ℕ, ◌+◌, ◌<◌, ◌≤◌, Bool, true, false, not, ◌&&◌, List, [], ◌∷◌, ◌++◌, length, map, take, get_or, zero, suc, refl, sym, ap, ◌∙◌, Option, Some, None, option_map}
+use Rattle.std.proofs.Common.{◌≡◌, ℕ, ◌+◌, ◌-◌, ◌<◌, ◌≤◌, Bool, true, false, not, ◌&&◌, List, [], ◌∷◌, ◌++◌, length, map, take, get_or, zero, suc, refl, sym, ap, ◌∙◌, Option, Some, None, option_map}
 use Rattle.std.proofs.Common.{arith, ⊎_elim}
 use Rattle.std.specs.Cmp.{IsStrictWeakOrder, IsTotalOrder, Equal-is, tied_itself, tied_then}
 use Rattle.std.specs.Cmp.Lexicographic.{bytes_decides, nat_list_cmp_total, slice_cmp}
@@ -218,6 +218,30 @@ module _ {T : Type 0} (bytes : T → List ℕ) (es : List (Entry T)) (text : Lis
 
     pub position_past : length es ≤ i → None ≡ position_among bytes es text
     position_past l = sym (ap (option_map (λ (x : Entry T). x.position)) (past rank es up i point l)) ∙ at
+
+  -- one behind those of other texts is the first of its text
+  not_above : (o p : Ordering) → p ≡ Equal → ordering_index o ≤ ordering_index p → is_eq o ≡ false → is_lt o ≡ true
+  not_above Less p q l e = refl
+  not_above Equal p q l e = absurd cc
+  not_above Greater p q l e = let z = ap ordering_index q in absurd (omega (arith, l, z))
+
+  not_below : (o p : Ordering) → p ≡ Equal → ordering_index p ≤ ordering_index o → is_lt o ≡ false
+  not_below Less p q l = let z = ap ordering_index q in absurd (omega (arith, l, z))
+  not_below Equal p q l = refl
+  not_below Greater p q l = refl
+
+  pub position_first : (i : ℕ) (e : Entry T) → i < length es → e ≡ get_or es i e → entry_key bytes e ≡ (number, text) →
+      ((k : ℕ) → k + 1 ≡ i → is_eq (rank (get_or es k e)) ≡ false) → position_among bytes es text ≡ Some e.position
+  position_first i e l w key others =
+      let own : rank e ≡ Equal = ap (λ k. key_cmp k (number, text)) key ∙ tied_itself key_cmp_total (number, text) in
+      let here : (d : Entry T) → rank (get_or es i d) ≡ Equal = λ d. ap rank (get_or_default es i d e l ∙ sym w) ∙ own in
+      let last : (k : ℕ) (d : Entry T) → k + 1 ≡ i → is_lt (rank (get_or es k d)) ≡ true = λ k d n.
+      not_above (rank (get_or es k d)) (rank (get_or es i d)) (here d) (up k i d (omega (arith, n)) l)
+      (ap (λ x. is_eq (rank x)) (get_or_default es k d e (omega (arith, n, l))) ∙ others k n) in
+      sym (position_found i
+      ((λ k d z m. parted_texts k (i - 1) d (omega (arith, m)) (omega (arith, l)) (last (i - 1) d (omega (arith, m)))),
+      λ k d n m. not_below (rank (get_or es k d)) (rank (get_or es i d)) (here d) (up i k d n m))
+      e l w (ap is_eq own))
 
 -- ---- the entries of a list, one after another
 

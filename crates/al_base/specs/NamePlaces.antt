@@ -1,8 +1,9 @@
 -- Where texts and names first stand in a list.
-use Rattle.std.specs.Prelude.{ℕ, ◌+◌, List, [], ◌∷◌, Bool, Option, Some, None, option_map, if◌then◌else◌}
+use Rattle.std.specs.Prelude.{◌≡◌, ◌<◌, ℕ, ◌+◌, List, [], ◌∷◌, Bool, Option, Some, None, length, nat_eq, option_map, slice_index_or, if◌then◌else◌}
+use Rattle.std.specs.Option.{option_eq}
 use Rattle.std.specs.Str.{bytes_eq}
 use Rattle.al_base.specs.Names.{lower_case, same_name}
-use Rattle.al_base.specs.SortedTexts.{position_among}
+use Rattle.al_base.specs.SortedTexts.{is_own, position_among}
 use Rattle.al_base.specs.declared.name_positions.NamePositions.{NamePositions}
 use Rattle.al_base.specs.declared.name_positions.TextPositions.{TextPositions}
 
@@ -26,3 +27,15 @@ text_position p = position_among (λ t. t.now) p.entries.items
 -- where a name first stands
 unfoldable pub name_position : NamePositions → List ℕ → Option ℕ
 name_position p name = position_among (λ n. n.items) p.entries.items (lower_case name)
+
+-- whether the text at a position is the first of its text
+unfoldable pub is_first_text : TextPositions → ℕ → Bool
+is_first_text p = is_own p.places.items
+
+-- whether the name at a position is the first of its name
+unfoldable pub is_first_name : NamePositions → ℕ → Bool
+is_first_name p = is_own p.places.items
+
+-- a test of positions tells which texts of a list stand first, by where each is found
+abbrev pub TellsFirsts : (List ℕ → Option ℕ) → List (List ℕ) → (ℕ → Bool) → Type 0
+TellsFirsts place ts first = (i : ℕ) → i < length ts → first i ≡ option_eq nat_eq (place (slice_index_or ts i [])) (Some i)

@@ -1,5 +1,5 @@
 -- Texts with where they stand, in the order of their last bytes and then of all.
-use Rattle.std.specs.Prelude.{ℕ, ◌+◌, ◌*◌, ◌%◌, ◌^◌, List, Option, option_map}
+use Rattle.std.specs.Prelude.{◌≡◌, ◌<◌, ℕ, ◌+◌, ◌*◌, ◌%◌, ◌^◌, ◌&&◌, Bool, List, [], Option, Some, length, nat_eq, nat_lt, option_map, slice_index, slice_index_or, All}
 use Rattle.std.specs.Cmp.Lexicographic.{slice_cmp}
 use Rattle.std.specs.List.{find, fold}
 use Rattle.std.specs.List.Sorted.{IsSortedByKey}
@@ -21,6 +21,10 @@ sort_key text = (tail_number text, text)
 abbrev pub key_cmp : Key → Key → Ordering
 key_cmp a b = ordering_then (nat_cmp a.0 b.0) (slice_cmp nat_cmp a.1 b.1)
 
+-- whether a position is among those of a list of places, and is its own
+abbrev pub is_own : List ℕ → ℕ → Bool
+is_own places i = nat_lt i (length places) && nat_eq (slice_index places i) i
+
 module _ {T : Type 0} (bytes : T → List ℕ) where
   abbrev pub entry_key : Entry T → Key
   entry_key e = (e.number, bytes e.text)
@@ -31,3 +35,23 @@ module _ {T : Type 0} (bytes : T → List ℕ) where
   -- the position that the first entry of a text has
   abbrev pub position_among : List (Entry T) → List ℕ → Option ℕ
   position_among es text = option_map (λ e. e.position) (find (λ e. is_eq (key_cmp (entry_key e) (sort_key text))) es)
+
+  -- the position that the first entry with the text of one has
+  abbrev pub place_of : List (Entry T) → Entry T → Option ℕ
+  place_of es e = position_among es (bytes e.text)
+
+  -- each has the number of its text
+  abbrev pub AreNumbered : List (Entry T) → Type 0
+  AreNumbered = All (λ e. entry_key e ≡ sort_key (bytes e.text))
+
+  -- each has the text that stands at its position in a list
+  abbrev pub AreOf : List (List ℕ) → List (Entry T) → Type 0
+  AreOf ts = All (λ e. (e.position < length ts) × (entry_key e ≡ sort_key (slice_index_or ts e.position [])))
+
+  -- they are those of a list of as many texts
+  abbrev pub StandIn : List (Entry T) → Type 0
+  StandIn es = (ts : List (List ℕ)) × (length ts ≡ length es) × AreOf ts es
+
+  -- numbers that tell where the text at each position first stands
+  abbrev pub TellPlaces : List (Entry T) → List ℕ → Type 0
+  TellPlaces es places = (length places ≡ length es) × All (λ e. place_of es e ≡ Some (slice_index places e.position)) es

@@ -3,7 +3,7 @@ ghost use Rattle.std.specs.Prelude.{◌≡◌, IfOk};
 ghost use Rattle.al_base.specs.Names.{lower_case};
 ghost use Rattle.al_base.specs.SortedTexts.{AreSorted};
 
-use super::sorted_texts::{Entry, position_by, sort_entries};
+use super::sorted_texts::{Entry, is_own, places_by, position_by, sort_entries};
 use std::alloc::{AllocError, Global};
 
 /// A name in lower case, by which names that are the same but for ASCII case are found. Fails with `AllocError` when out of memory.
@@ -17,24 +17,39 @@ pub fn in_lower_case(alloc: Global, name: &[u8]) -> Result<Vec<u8>, AllocError>
 #[derive(Drop)]
 pub struct TextPositions<'a> {
     entries: Vec<Entry<&'a [u8]>>,
+    /// Where the text at each position first stands.
+    places: Vec<usize>,
     ghost sorted: { AreSorted (λ t. t.now) entries.items },
 }
 
 impl<'a> TextPositions<'a> {
     ghost use Rattle.std.specs.Prelude.{map};
-    ghost use Rattle.al_base.specs.NamePlaces.{text_place, text_position};
+    ghost use Rattle.al_base.specs.NamePlaces.{TellsFirsts, is_first_text, text_place, text_position};
 
     /// The positions of these texts. Fails with `AllocError` when out of memory.
     pub fn of(alloc: Global, texts: &[&'a [u8]]) -> Result<TextPositions<'a>, AllocError>
-        ensures { IfOk result
+        ensures position { IfOk result
             (λ p. text_position p ≡ text_place (map (λ t. t.now) texts.now)) }
+        ensures first { let ts = map (λ t. t.now) texts.now in
+            IfOk result (λ p. TellsFirsts (text_place ts) ts (is_first_text p)) }
     {
         let mut entries = Vec::with_capacity(alloc, texts.len())?;
         for (i, text) in texts.iter().enumerate() {
             entries.push(Entry::new(*text, i))?;
         }
         let sorted = sort_entries(entries)?;
-        Ok(TextPositions { entries: sorted })
+        let places = places_by(alloc, sorted.as_slice())?;
+        Ok(TextPositions {
+            entries: sorted,
+            places,
+        })
+    }
+
+    /// Whether the text at a position is the first of its text.
+    pub fn is_first(&self, i: usize) -> bool
+        ensures { result ≡ is_first_text self.now i }
+    {
+        is_own(self.places.as_slice(), i)
     }
 
     /// Where a text first stands.
@@ -50,24 +65,39 @@ impl<'a> TextPositions<'a> {
 pub struct NamePositions {
     /// Of the names in lower case.
     entries: Vec<Entry<Vec<u8>>>,
+    /// Where the name at each position first stands.
+    places: Vec<usize>,
     ghost sorted: { AreSorted (λ n. n.items) entries.items },
 }
 
 impl NamePositions {
     ghost use Rattle.std.specs.Prelude.{map};
-    ghost use Rattle.al_base.specs.NamePlaces.{name_place, name_position};
+    ghost use Rattle.al_base.specs.NamePlaces.{TellsFirsts, is_first_name, name_place, name_position};
 
     /// The positions of these names. Fails with `AllocError` when out of memory.
     pub fn of(alloc: Global, names: &[&[u8]]) -> Result<NamePositions, AllocError>
-        ensures { IfOk result
+        ensures position { IfOk result
             (λ p. name_position p ≡ name_place (map (λ n. n.now) names.now)) }
+        ensures first { let ns = map (λ n. n.now) names.now in
+            IfOk result (λ p. TellsFirsts (name_place ns) ns (is_first_name p)) }
     {
         let mut entries = Vec::with_capacity(alloc, names.len())?;
         for (i, name) in names.iter().enumerate() {
             entries.push(Entry::new(in_lower_case(alloc, name)?, i))?;
         }
         let sorted = sort_entries(entries)?;
-        Ok(NamePositions { entries: sorted })
+        let places = places_by(alloc, sorted.as_slice())?;
+        Ok(NamePositions {
+            entries: sorted,
+            places,
+        })
+    }
+
+    /// Whether the name at a position is the first of its name.
+    pub fn is_first(&self, i: usize) -> bool
+        ensures { result ≡ is_first_name self.now i }
+    {
+        is_own(self.places.as_slice(), i)
     }
 
     /// Where a name first stands. Fails with `AllocError` when out of memory.

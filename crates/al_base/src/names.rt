@@ -3,6 +3,7 @@ ghost use Rattle.std.specs.Prelude.{◌≡◌, IsTrue, map};
 ghost use Rattle.al_base.specs.Names.{among, same_name};
 
 /// Whether a text is one of some others.
+#[inline(always)]
 pub fn is_among(text: &[u8], others: &[&str]) -> bool
     ensures { result ≡ among (map (λ t. t.now) others.now) text.now }
 {

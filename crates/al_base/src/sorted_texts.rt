@@ -1,9 +1,11 @@
 //! Texts in order, each with where it stands in the list that it comes from.
 
-ghost use Rattle.std.specs.Prelude.{◌≡◌, IfOk};
-ghost use Rattle.al_base.specs.SortedTexts.{AreSorted, entry_key, key_cmp, position_among, sort_key, tail_number};
+ghost use Rattle.std.specs.Prelude.{◌≡◌, ◌+◌, ◌<◌, ℕ, IfOk, IsPermutation, Some, length, slice_index_or};
+ghost use Rattle.std.specs.Ordering.{is_eq};
+ghost use Rattle.al_base.specs.SortedTexts.{AreNumbered, AreSorted, StandIn, TellPlaces, entry_key, is_own, key_cmp, place_of, position_among};
+ghost use Rattle.al_base.specs.SortedTexts.{sort_key, tail_number};
 
-use std::alloc::AllocError;
+use std::alloc::{AllocError, Global};
 use std::cmp::Ordering;
 use std::convert::AsSlice;
 
@@ -49,6 +51,13 @@ impl<T: AsSlice<u8> + Drop> Entry<T> {
             unequal => unequal,
         }
     }
+
+    /// Whether it has the text of another.
+    fn is_equal(&self, other: &Entry<T>) -> bool
+        ensures { result ≡ is_eq (key_cmp (entry_key T.items self.now) (entry_key T.items other.now)) }
+    {
+        self.compare(other.number, other.text.as_slice()).is_eq()
+    }
 }
 
 /// The entries in order. Those of equal texts stay in the order that they had. Fails with `AllocError` when out of memory.
@@ -58,6 +67,7 @@ pub(crate) fn sort_entries<T: AsSlice<u8> + Drop>(
     ensures order { IfOk result (λ es. AreSorted T.items es.items) }
     ensures positions { IfOk result
         (λ es. position_among T.items es.items ≡ position_among T.items entries.items) }
+    ensures entries { IfOk result (λ es. IsPermutation entries.items es.items) }
 {
     let mut sorted = entries;
     sorted.sort_by(|a, b| a.compare(b.number, b.text.as_slice()))?;
@@ -79,4 +89,48 @@ pub(crate) fn position_by<T: AsSlice<u8> + Drop>(entries: &[Entry<T>], text: &[u
         return Some(entry.position);
     }
     None
+}
+
+/// Where the text of an entry first stands, by entries in order and where that of the entry before it does.
+fn place_after<T: AsSlice<u8> + Drop>(entries: &[Entry<T>], i: usize, before: usize) -> usize
+    requires order { AreSorted T.items entries.now }
+    requires numbers { AreNumbered T.items entries.now }
+    requires within { i < length entries.now }
+    requires before { (k : ℕ) (e : Entry T) → k + 1 ≡ i
+        → place_of T.items entries.now (slice_index_or entries.now k e) ≡ Some before }
+    ensures { (e : Entry T) → place_of T.items entries.now (slice_index_or entries.now i e) ≡ Some result }
+{
+    let entry = &entries[i];
+    if i == 0 {
+        return entry.position;
+    }
+    if entries[i - 1].is_equal(entry) {
+        return before;
+    }
+    entry.position
+}
+
+/// Where the text at each position first stands, by entries in order. Fails with `AllocError` when out of memory.
+pub(crate) fn places_by<T: AsSlice<u8> + Drop>(
+    alloc: Global,
+    entries: &[Entry<T>],
+) -> Result<Vec<usize>, AllocError>
+    requires order { AreSorted T.items entries.now }
+    requires texts { StandIn T.items entries.now }
+    ensures { IfOk result (λ v. TellPlaces T.items entries.now v.items) }
+{
+    let mut places = vec![in alloc; 0; entries.len()]?;
+    let mut place = 0;
+    for i in 0..entries.len() {
+        place = place_after(entries, i, place);
+        places[entries[i].position] = place;
+    }
+    Ok(places)
+}
+
+/// Whether a position is among those of a list of places, and is its own.
+pub(crate) fn is_own(places: &[usize], i: usize) -> bool
+    ensures { result ≡ is_own places.now i }
+{
+    i < places.len() && places[i] == i
 }

@@ -245,7 +245,7 @@ fn find_entries<'a>(
     let index = KeyIndex::of(walk.alloc, entries)?;
     let all = index.first(entries.len());
     for (i, entry) in entries.iter().enumerate() {
-        let standing = standing_of(takes, index.first(i), all, key_of(entry));
+        let standing = standing_of(takes, index.key_at(i), all);
         find_entry(standing, entry, walk)?;
     }
     Ok(())

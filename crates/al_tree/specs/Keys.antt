@@ -1,7 +1,7 @@
 -- The keys of a mapping's entries, and of its first ones.
-use Rattle.std.specs.Prelude.{◌≡◌, ℕ, List, [], map, take, Bool, false, nat_lt, Option}
+use Rattle.std.specs.Prelude.{◌≡◌, ◌<◌, ℕ, List, [], length, map, slice_index_or, take, Bool, false, nat_lt, not, Option}
 use Rattle.std.specs.Option.{option_map_or}
-use Rattle.al_base.specs.NamePlaces.{text_position}
+use Rattle.al_base.specs.NamePlaces.{is_first_text, text_position}
 use Rattle.al_scalar.specs.Scalar.{text_of}
 use Rattle.al_yaml_tree.specs.Access.{scalar_in}
 use Rattle.al_yaml_tree.specs.Node.{Node}
@@ -30,9 +30,16 @@ unfoldable pub has_first : KeyIndex → ℕ → List ℕ → Bool
 has_first x n k =
     option_map_or (λ p. is_before n (text_position p k)) x.positions (among (keys_in (map entry_view (take n x.entries.now))) k)
 
+-- whether the entry at a position, which has this key, is told to repeat an earlier one
+unfoldable pub repeats : KeyIndex → ℕ → List ℕ → Bool
+repeats x i k = option_map_or (λ p. not (is_first_text p i)) x.positions (has_first x i k)
+
 -- an index of the keys of these entries
 abbrev pub IsIndexOf : KeyIndex → List Entry → Type 0
-IsIndexOf x es = has_first x ≡ λ n. among (keys_in (map entry_view (take n es)))
+IsIndexOf x es =
+    let ks = keys_in (map entry_view es) in
+    (x.entries.now ≡ es) × (has_first x ≡ λ n. among (keys_in (map entry_view (take n es))))
+    × ((i : ℕ) → i < length es → repeats x i (slice_index_or ks i []) ≡ has_first x i (slice_index_or ks i []))
 
 -- which keys a set holds
 abbrev pub holds : KeySet → List ℕ → Bool

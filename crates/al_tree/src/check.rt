@@ -218,7 +218,7 @@ fn check_entries(
 {
     let all = index.first(entries.len());
     for (i, entry) in entries.iter().enumerate() {
-        let standing = standing_of(keys, index.first(i), all, key_of(entry));
+        let standing = standing_of(keys, index.key_at(i), all);
         check_entry(standing, entry, faults)?;
     }
     Ok(())

@@ -1,10 +1,10 @@
 //! The text of a key, and the keys of a mapping.
 
-ghost use Rattle.al_tree.specs.Keys.{IsIndexOf, has_first, holds, key_of as key_in, key_text as text_in, keys_in};
-ghost use Rattle.al_base.specs.NamePlaces.{text_place, text_position};
+ghost use Rattle.al_tree.specs.Keys.{IsIndexOf, has_first, holds, key_of as key_in, key_text as text_in, keys_in, repeats};
+ghost use Rattle.al_base.specs.NamePlaces.{TellsFirsts, is_first_text, text_place, text_position};
 ghost use Rattle.al_base.specs.Names.{among};
 ghost use Rattle.al_yaml_tree.specs.View.{entry_view, view};
-ghost use Rattle.std.specs.Prelude.{◌≡◌, map, take, IfOk};
+ghost use Rattle.std.specs.Prelude.{◌≡◌, ◌<◌, length, map, slice_index_or, take, IfOk, []};
 
 use al_base::TextPositions;
 use al_yaml_tree::{Entry, Node};
@@ -45,7 +45,9 @@ fn is_key_among(key: &[u8], entries: &[Entry]) -> bool
 
 /// The first positions of the keys of some entries. Fails with `AllocError` if memory runs out.
 fn positions_of(alloc: Global, entries: &[Entry]) -> Result<TextPositions<'_>, AllocError>
-    ensures { IfOk result (λ p. text_position p ≡ text_place (keys_in (map entry_view entries.now))) }
+    ensures position { IfOk result (λ p. text_position p ≡ text_place (keys_in (map entry_view entries.now))) }
+    ensures first { let ks = keys_in (map entry_view entries.now) in
+        IfOk result (λ p. TellsFirsts (text_place ks) ks (is_first_text p)) }
 {
     let mut keys = Vec::with_capacity(alloc, entries.len())?;
     for entry in entries {
@@ -88,6 +90,31 @@ impl<'a> KeyIndex<'a> {
     {
         KeySet { index: self, count }
     }
+
+    /// Whether the entry at a position, which has this key, repeats an earlier one.
+    fn repeats(&self, i: usize, key: &[u8]) -> bool
+        ensures { result ≡ repeats self.now i key.now }
+    {
+        match &self.positions {
+            None => self.first(i).contains(key),
+            Some(positions) => !positions.is_first(i),
+        }
+    }
+
+    /// The key of the entry at a position, behind those of the entries before it.
+    pub fn key_at(&self, i: usize) -> KeyBehind<'_>
+        requires index { IsIndexOf self.now self.now.entries.now }
+        requires within { i < length self.now.entries.now }
+        ensures seen { holds result.seen ≡ has_first self.now i }
+        ensures key { result.key.now ≡ slice_index_or (keys_in (map entry_view self.now.entries.now)) i [] }
+    {
+        let key = key_of(&self.entries[i]);
+        KeyBehind {
+            seen: self.first(i),
+            key,
+            is_repeated: self.repeats(i, key),
+        }
+    }
 }
 
 /// The keys of the first entries of a mapping.
@@ -120,4 +147,13 @@ impl<'a> KeySet<'a> {
             },
         }
     }
+}
+
+/// A key behind those that were seen.
+#[derive(Clone, Copy)]
+pub struct KeyBehind<'a> {
+    pub seen: KeySet<'a>,
+    pub key: &'a [u8],
+    pub is_repeated: bool,
+    ghost told: { is_repeated ≡ holds seen key.now },
 }

@@ -19,7 +19,7 @@ mod values;
 pub use check::shape_faults;
 pub use examples::rows;
 pub use files::{Action, FileKind, Tree, Workflow, document_faults, read_action, read_workflow};
-pub use keys::{KeyIndex, KeySet, key_of, key_text};
+pub use keys::{KeyBehind, KeyIndex, KeySet, key_of, key_text};
 pub use kinds::{file_kind, is_action, is_workflow, is_workflow_name};
 pub use names::{is_combination_key, is_event};
 pub use scalars::{contains_chunk, is_null_scalar, scalar_fault};

@@ -14,7 +14,7 @@ ghost use Rattle.std.specs.Prelude.{◌≡◌, find, if◌then◌else◌, map, o
 ghost use Rattle.std.specs.Str.{bytes_eq};
 
 use crate::entries::scalar_among;
-use crate::keys::KeySet;
+use crate::keys::{KeyBehind, KeySet};
 use crate::names::is_event;
 use crate::table::{Clash, Keys, Need, Others, Row, Shape, Trigger};
 use al_base::is_among;
@@ -123,40 +123,40 @@ fn event_shape(key: &[u8]) -> Shape
 }
 
 /// The standing of an entry without a row.
-fn standing_without_row(others: Others, seen: KeySet<'_>, all: KeySet<'_>, key: &[u8]) -> Standing
+fn standing_without_row(others: Others, key: KeyBehind<'_>, all: KeySet<'_>) -> Standing
     ensures { standing_view result
-        ≡ other_standing (others_of others) (holds seen.entry) (holds all.entry) key.now }
+        ≡ other_standing (others_of others) (holds (key.entry).seen) (holds all.entry) (key.entry).key.now }
 {
     match others {
         Others::Unchecked => Standing::Ignored,
-        _ if seen.contains(key) => Standing::Repeated,
+        _ if key.is_repeated => Standing::Repeated,
         Others::Wrong => Standing::Unexpected(None),
         Others::WrongBeside(other) => Standing::Unexpected(if_in(all, other)),
-        Others::Events => Standing::Expected(event_shape(key), None),
+        Others::Events => Standing::Expected(event_shape(key.key), None),
     }
 }
 
 /// The standing of an entry with a key, after the keys seen so far, in a mapping with all these keys.
-pub fn standing_of(keys: Keys, seen: KeySet<'_>, all: KeySet<'_>, key: &[u8]) -> Standing
+pub fn standing_of(keys: Keys, key: KeyBehind<'_>, all: KeySet<'_>) -> Standing
     ensures { standing_view result
-        ≡ stands (keys_view keys) (holds seen.entry) (holds all.entry) key.now }
+        ≡ stands (keys_view keys) (holds (key.entry).seen) (holds all.entry) (key.entry).key.now }
 {
     match keys {
         Keys::No => Standing::Ignored,
         Keys::Free(shape) => {
-            if seen.contains(key) {
+            if key.is_repeated {
                 Standing::Repeated
             } else {
                 Standing::Expected(shape, None)
             }
         }
-        Keys::These(rows, others) => match row_at(rows, key) {
-            None => standing_without_row(others, seen, all, key),
+        Keys::These(rows, others) => match row_at(rows, key.key) {
+            None => standing_without_row(others, key, all),
             Some(row) => {
-                if seen.contains(key) {
+                if key.is_repeated {
                     Standing::Repeated
                 } else {
-                    Standing::Expected(row.shape, clash(row.clash, seen, all))
+                    Standing::Expected(row.shape, clash(row.clash, key.seen, all))
                 }
             }
         },

@@ -1,6 +1,6 @@
 //! Items, values and texts of nodes, if the nodes have the wanted kind.
 
-ghost use Rattle.al_base.specs.NamePlaces.{name_place, name_position};
+ghost use Rattle.al_base.specs.NamePlaces.{TellsFirsts, is_first_name, name_place, name_position};
 ghost use Rattle.al_tree.specs.Keys.{keys_in};
 ghost use Rattle.al_base.specs.Names.{among};
 ghost use Rattle.al_tree.specs.Values.{entries_at, entries_in, firsts_by, items_at, items_in, key_at, member_of, text_at_key, text_in};
@@ -10,7 +10,7 @@ ghost use Rattle.std.specs.List.{filter_map};
 ghost use Rattle.std.specs.Prelude.{◌≡◌, [], map, option_map, IfOk};
 
 use crate::entries::{key_among, value_among};
-use crate::keys::{KeyIndex, key_of, key_text};
+use crate::keys::{KeyIndex, key_text};
 use crate::scalars::is_null_scalar;
 use al_base::{NamePositions, Span};
 use al_scalar::Scalar;
@@ -175,7 +175,9 @@ fn key_texts<'a>(alloc: Global, members: &[Member<'a>]) -> Result<Vec<&'a [u8]>,
 
 /// The first position of the key of each member, ignoring ASCII case. Fails with `AllocError` if memory runs out.
 pub fn member_positions(alloc: Global, members: &[Member<'_>]) -> Result<NamePositions, AllocError>
-    ensures { IfOk result (λ p. name_position p ≡ name_place (keys_in (map member_of members.now))) }
+    ensures position { IfOk result (λ p. name_position p ≡ name_place (keys_in (map member_of members.now))) }
+    ensures first { let ks = keys_in (map member_of members.now) in
+        IfOk result (λ p. TellsFirsts (name_place ks) ks (is_first_name p)) }
 {
     let keys = key_texts(alloc, members)?;
     NamePositions::of(alloc, keys.as_slice())
@@ -199,7 +201,7 @@ fn first_members(alloc: Global, entries: &[Entry]) -> Result<Vec<Member<'_>>, Al
     let index = KeyIndex::of(alloc, entries)?;
     let mut firsts = Vec::with_capacity(alloc, entries.len())?;
     for (i, entry) in entries.iter().enumerate() {
-        let is_new = !index.first(i).contains(key_of(entry));
+        let is_new = !index.key_at(i).is_repeated;
         if is_new {
             firsts.push(as_member(entry))?;
         }
