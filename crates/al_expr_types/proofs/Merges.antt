@@ -2,7 +2,7 @@
 use Rattle.std.proofs.Common.{◌≡◌, ◌≢◌, ◌+◌, ◌<◌, ℕ, List, [], ◌∷◌, ◌++◌, length, map, get_or, set, zero, suc, Bool, true, false, Option, Some, None, option_map, refl, sym, ap, ◌∙◌, arith}
 use Rattle.std.proofs.lemmas.List.{get_or_default, get_or-set_same, get_or-set_other, get_or_append_left, get_or_at}
 use Rattle.std.specs.Cmp.Lexicographic.{bytes_decides}
-use Rattle.std.specs.Option.{option_or}
+use Rattle.std.specs.Option.{option_eq, option_or}
 use Rattle.std.specs.List.{list_all}
 use Rattle.std.proofs.lemmas.Bool.Decides.{nat_tests}
 use Rattle.std.specs.Prelude.{if◌then◌else◌, nat_eq, nat_lt, option_and_then, slice_get, zip}
@@ -122,6 +122,10 @@ eq_is j i false e h = refl
 
 eq_itself : (i : ℕ) → nat_eq i i ≡ true
 eq_itself i = grind (arith, nat_tests)
+
+pub as_placed : (o : Option ℕ) (i : ℕ) → option_eq nat_eq o (Some i) ≡ is_placed o i
+as_placed None i = refl
+as_placed (Some k) i = refl
 
 placed_other : (o : Option ℕ) (i : ℕ) → ((j : ℕ) → o ≡ Some j → j ≢ i) → is_placed o i ≡ false
 placed_other None i h = refl

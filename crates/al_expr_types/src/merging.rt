@@ -181,8 +181,7 @@ impl<'a> FieldJoins<'a> {
     {
         let mut all = self;
         for i in 0..names.len() {
-            let is_first = names.is_first(alloc, i)?;
-            let more = all.and_first(alloc, names.at(i), is_first, Ty::STRING)?;
+            let more = all.and_first(alloc, names.at(i), names.is_first(i), Ty::STRING)?;
             all = more;
         }
         Ok(all)

@@ -1,7 +1,7 @@
 //! Names that are kept: texts that compare equal exactly where their bytes are the same, ASCII case and all.
 
 ghost use Rattle.std.specs.Prelude.{◌≡◌, IfOk, map};
-ghost use Rattle.al_base.specs.NamePlaces.{name_place, name_position};
+ghost use Rattle.al_base.specs.NamePlaces.{TellsFirsts, is_first_name, name_place, name_position};
 ghost use Rattle.al_expr_types.specs.Merging.{is_placed};
 
 use al_base::NamePositions;
@@ -88,13 +88,14 @@ pub struct NameList {
 impl Model for NameList {
     ghost use Rattle.std.specs.Prelude.{List, ℕ};
     ghost use Rattle.std.specs.Prelude.{◌≡◌};
-    ghost use Rattle.al_base.specs.NamePlaces.{name_place, name_position};
+    ghost use Rattle.al_base.specs.NamePlaces.{TellsFirsts, is_first_name, name_place, name_position};
 
     ghost Value = { List (List ℕ) };
 
     ghost view = { λ a. a.names.items };
 
-    ghost invariant = { λ a. name_position a.positions ≡ name_place a.names.items };
+    ghost invariant = { λ a. (name_position a.positions ≡ name_place a.names.items)
+        × TellsFirsts (name_place a.names.items) a.names.items (is_first_name a.positions) };
 }
 
 /// The bytes of each name. Fails with `AllocError` when out of memory.
@@ -110,7 +111,8 @@ fn bytes_of(alloc: Global, names: &[Name]) -> Result<Vec<&[u8]>, AllocError>
 
 /// Where each name first stands. Fails with `AllocError` when out of memory.
 fn positions_of(alloc: Global, names: &[Name]) -> Result<NamePositions, AllocError>
-    ensures { IfOk result (λ p. name_position p ≡ name_place names.now) }
+    ensures position { IfOk result (λ p. name_position p ≡ name_place names.now) }
+    ensures first { IfOk result (λ p. TellsFirsts (name_place names.now) names.now (is_first_name p)) }
 {
     let bytes = bytes_of(alloc, names)?;
     let positions = NamePositions::of(alloc, bytes.as_slice())?;
@@ -126,16 +128,6 @@ fn copies_of(alloc: Global, names: &[Name]) -> Result<Vec<Name>, AllocError>
         copies.push(name.copy(alloc)?)?;
     }
     Ok(copies)
-}
-
-/// Whether a position that was looked for is this one.
-fn is_at(position: Option<usize>, i: usize) -> bool
-    ensures { result ≡ is_placed position i }
-{
-    match position {
-        Some(k) => k == i,
-        None => false,
-    }
 }
 
 impl NameList {
@@ -190,12 +182,11 @@ impl NameList {
     }
 
     /// Whether the name at a position is the first of its name.
-    pub(crate) fn is_first(&self, alloc: Global, i: usize) -> Result<bool, AllocError>
+    pub(crate) fn is_first(&self, i: usize) -> bool
         requires { i < length self.now }
-        ensures { IfOk result (λ b. b ≡ is_placed (name_place self.now (get_or self.now i [])) i) }
+        ensures { result ≡ is_placed (name_place self.now (get_or self.now i [])) i }
     {
-        let position = self.position(alloc, self.at(i))?;
-        Ok(is_at(position, i))
+        self.positions.is_first(i)
     }
 }
 

@@ -1,13 +1,10 @@
 //! The keys of jobs and the ids of steps.
 
 ghost use Rattle.al_rules_settings.specs.Ids.{id_faults, ids_faults, repeated_faults};
-ghost use Rattle.al_base.specs.NamePlaces.{name_place, name_position};
-ghost use Rattle.al_base.specs.declared.codes.RuleCode.TheVariants.{RepeatedId};
+ghost use Rattle.al_base.specs.NamePlaces.{TellsFirsts, is_first_name, name_place};
 ghost use Rattle.al_rules_settings.specs.Views.{named_of};
-ghost use Rattle.al_rules_settings.specs.Words.{unless};
-ghost use Rattle.std.specs.Option.{option_eq};
 ghost use Rattle.std.specs.List.{flat_map};
-ghost use Rattle.std.specs.Prelude.{◌≡◌, ◌++◌, [], map, nat_eq, IfOk, OnOk, Some};
+ghost use Rattle.std.specs.Prelude.{◌≡◌, ◌++◌, [], map, IfOk, OnOk};
 
 use crate::reports::{Named, report_unless};
 use al_base::{FaultSink, NamePositions, RuleCode};
@@ -36,33 +33,18 @@ fn check_each(ids: &[Named<'_>], faults: &mut FaultSink) -> Result<(), AllocErro
     Ok(())
 }
 
-/// Adds an id, unless it first stands at its position.
-fn check_first(
-    positions: &NamePositions,
-    position: usize,
-    id: Named<'_>,
-    faults: &mut FaultSink,
-) -> Result<(), AllocError>
-    ensures { let n = named_of id.entry in
-        let is_first = option_eq nat_eq (name_position positions.now n.text) (Some position) in
-        OnOk result (faults.new ≡ faults.old ++ unless is_first RepeatedId n) }
-{
-    let first = positions.get(faults.alloc(), id.text)?;
-    report_unless(first == Some(position), RuleCode::RepeatedId, id, faults)
-}
-
-/// Adds the ids that are repeated, by where each first stands.
+/// Adds the ids that are repeated, by which are the first of their names.
 fn check_each_first(
     positions: &NamePositions,
     ids: &[Named<'_>],
     faults: &mut FaultSink,
 ) -> Result<(), AllocError>
-    requires { name_position positions.now
-        ≡ name_place (map (λ n. n.text) (map named_of ids.now)) }
+    requires { let ns = map (λ n. n.text) (map named_of ids.now) in
+        TellsFirsts (name_place ns) ns (is_first_name positions.now) }
     ensures { OnOk result (faults.new ≡ faults.old ++ repeated_faults [] (map named_of ids.now)) }
 {
     for (i, id) in ids.iter().enumerate() {
-        check_first(positions, i, *id, faults)?;
+        report_unless(positions.is_first(i), RuleCode::RepeatedId, *id, faults)?;
     }
     Ok(())
 }

@@ -12,11 +12,12 @@ use Rattle.std.proofs.lemmas.Bool.{le-ltb, lt-ltb, ltb-true, ltb_from_iff}
 use Rattle.std.proofs.lemmas.List.{length-map, take-map, take_all}
 use Rattle.std.proofs.lemmas.Slice.Eq.{bytes_eq-Decides}
 use Rattle.al_base.specs.Names.{among, lower_case, same_name}
-use Rattle.al_base.specs.NamePlaces.{first_at, name_place, text_place, text_position}
+use Rattle.al_base.specs.NamePlaces.{TellsFirsts, first_at, is_first_text, name_place, text_place, text_position}
 use Rattle.al_base.specs.declared.name_positions.TextPositions.{TextPositions}
 use Rattle.al_yaml_tree.specs.View.{entry_view}
 use Rattle.al_yaml_tree.specs.declared.node.Entry.{Entry}
-use Rattle.al_tree.specs.Keys.{IsIndexOf, has_first, holds, is_before, key_of, keys_in}
+use Rattle.al_tree.proofs.Lists.{not_not}
+use Rattle.al_tree.specs.Keys.{IsIndexOf, has_first, holds, is_before, key_of, keys_in, repeats}
 use Rattle.al_tree.specs.declared.keys.KeyIndex.{KeyIndex}
 use Rattle.al_tree.specs.declared.keys.KeySet.{KeySet}
 
@@ -44,37 +45,6 @@ placed_before [] (suc n) t = refl
 placed_before (u ∷ us) (suc n) t =
     here_or_behind (bytes_eq u t) n (text_place us t) (among (take n us) t) (placed_before us n t)
     ∙ ap (λ b. b || among (take n us) t) (bytes_swap u t)
-
--- what an index of few keys tells, and one of many
-pub few_keys : (es : Bor (List Entry)) → IsIndexOf (record { entries = es; positions = None }) es.now
-unfolding has_first
-few_keys es = refl
-
-pub many_keys : (es : Bor (List Entry)) (p : TextPositions) → text_position p ≡ text_place (keys_in (map entry_view es.now)) →
-    IsIndexOf (record { entries = es; positions = Some p }) es.now
-unfolding has_first
-many_keys es p is = λ i n k.
-    (ap (λ f. is_before n (f k)) is
-    ∙ placed_before (keys_in (map entry_view es.now)) n k
-    ∙ ap (λ ks. among ks k) (take-map key_of n (map entry_view es.now) ∙ ap keys_in (take-map entry_view n es.now))) i
-
--- what a set of few keys holds, and one of many
-pub few_hold : (s : KeySet) (k : List ℕ) → s.index.now.positions ≡ None →
-    among (keys_in (map entry_view (take s.count s.index.now.entries.now))) k ≡ holds s k
-unfolding has_first
-few_hold s k few =
-    sym (ap (λ o. option_map_or (λ p. is_before s.count (text_position p k)) o (among (keys_in (map entry_view (take s.count s.index.now.entries.now))) k)) few)
-
-pub many_hold : (s : KeySet) (k : List ℕ) (p : TextPositions) → s.index.now.positions ≡ Some p → is_before s.count (text_position p k) ≡ holds s k
-unfolding has_first
-many_hold s k p many =
-    sym (ap (λ o. option_map_or (λ p. is_before s.count (text_position p k)) o (among (keys_in (map entry_view (take s.count s.index.now.entries.now))) k)) many)
-
--- all keys of a mapping
-pub all_keys : (x : KeyIndex) (s : KeySet) (es : List Entry) (n : ℕ) → IsIndexOf x es → holds s ≡ has_first x n → length es ≤ n →
-    holds s ≡ among (keys_in (map entry_view es))
-all_keys x s es n index first all =
-    first ∙ ap (λ f. f n) index ∙ ap (λ l. among (keys_in (map entry_view l))) (take_all n es all)
 
 -- ---- where a name first stands in a list
 
@@ -114,6 +84,13 @@ module _ {A : Type 0} (test : A → Bool) where
   none_at [] = refl
   none_at (x ∷ xs) = none_step (test x) (first_at test xs) (list_any test xs) (none_at xs)
 
+-- a text that isn't the first of its text stands before itself
+repeats_before : (ts : List (List ℕ)) (i : ℕ) (t : List ℕ) → i < length ts → get_or ts i [] ≡ t → not (option_eq nat_eq (text_place ts t) (Some i)) ≡ is_before i (text_place ts t)
+repeats_before ts i t within is =
+    let test : List ℕ → Bool = λ u. bytes_eq u t in
+    ap not (stands_first test ts i [] within (ap test is ∙ (bytes_eq-Decides t t).1 refl) ∙ none_at test (take i ts))
+    ∙ not_not (list_any test (take i ts)) ∙ ap (λ f. list_any f (take i ts)) (λ d u. bytes_swap u t d) ∙ sym (placed_before ts i t)
+
 same_itself : (n : List ℕ) → same_name n n ≡ true
 same_itself n = (bytes_eq-Decides (lower_case n) (lower_case n)).1 refl
 
@@ -124,3 +101,48 @@ name_stands_first name xs i x within is =
     stands_first (λ m. same_name m (name x)) (map name xs) i (name x) (subst (λ n. i < n) (sym (length-map xs name)) within)
     (ap (λ n. same_name n (name x)) (get_or-map name xs i x ∙ ap name (sym is)) ∙ same_itself (name x))
     ∙ ap (λ ns. is_none (name_place ns (name x))) (take-map name i xs)
+
+-- ---- the keys of a mapping
+
+-- what an index of few keys tells, and one of many
+pub few_keys : (es : Bor (List Entry)) → IsIndexOf (record { entries = es; positions = None }) es.now
+unfolding has_first repeats
+few_keys es = (refl, refl, λ i l. refl)
+
+pub many_keys : (es : Bor (List Entry)) (p : TextPositions) → text_position p ≡ text_place (keys_in (map entry_view es.now)) →
+    TellsFirsts (text_place (keys_in (map entry_view es.now))) (keys_in (map entry_view es.now)) (is_first_text p) →
+    IsIndexOf (record { entries = es; positions = Some p }) es.now
+unfolding has_first repeats
+many_keys es p is first =
+    let ks : List (List ℕ) = keys_in (map entry_view es.now) in
+    (refl,
+    (λ i n k.
+    (ap (λ f. is_before n (f k)) is
+    ∙ placed_before ks n k
+    ∙ ap (λ l. among l k) (take-map key_of n (map entry_view es.now) ∙ ap keys_in (take-map entry_view n es.now))) i),
+    λ i within.
+    (let k : List ℕ = get_or ks i [] in
+    let inside : i < length ks = omega (arith, within, length-map es.now entry_view, length-map (map entry_view es.now) key_of) in
+    ap not (first i inside) ∙ repeats_before ks i k inside refl ∙ sym (ap (λ f. is_before i (f k)) is)))
+
+pub told_by : (x : KeyIndex) (i : ℕ) (k : List ℕ) (o : Option TextPositions) → o ≡ x.positions → option_map_or (λ p. not (is_first_text p i)) o (has_first x i k) ≡ repeats x i k
+unfolding repeats
+told_by x i k o is = ap (λ o. option_map_or (λ p. not (is_first_text p i)) o (has_first x i k)) is
+
+-- what a set of few keys holds, and one of many
+pub few_hold : (s : KeySet) (k : List ℕ) → s.index.now.positions ≡ None →
+    among (keys_in (map entry_view (take s.count s.index.now.entries.now))) k ≡ holds s k
+unfolding has_first
+few_hold s k few =
+    sym (ap (λ o. option_map_or (λ p. is_before s.count (text_position p k)) o (among (keys_in (map entry_view (take s.count s.index.now.entries.now))) k)) few)
+
+pub many_hold : (s : KeySet) (k : List ℕ) (p : TextPositions) → s.index.now.positions ≡ Some p → is_before s.count (text_position p k) ≡ holds s k
+unfolding has_first
+many_hold s k p many =
+    sym (ap (λ o. option_map_or (λ p. is_before s.count (text_position p k)) o (among (keys_in (map entry_view (take s.count s.index.now.entries.now))) k)) many)
+
+-- all keys of a mapping
+pub all_keys : (x : KeyIndex) (s : KeySet) (es : List Entry) (n : ℕ) → IsIndexOf x es → holds s ≡ has_first x n → length es ≤ n →
+    holds s ≡ among (keys_in (map entry_view es))
+all_keys x s es n index first all =
+    first ∙ ap (λ f. f n) index.1 ∙ ap (λ l. among (keys_in (map entry_view l))) (take_all n es all)

@@ -1,7 +1,7 @@
 -- What holds of the first entries of each key, and lists up to an item and behind it.
 use Rattle.std.specs.Prelude.{ℕ, Bool, true, false, not, List, [], ◌∷◌, ◌++◌, ◌+◌, ◌<◌, length}
-use Rattle.std.proofs.Common.{◌≡◌, refl, ap, map, cond, add-one, drop, drop-cons, get_or, sym, take, ◌∙◌}
-use Rattle.std.proofs.lemmas.List.{flat_map_more, map-append, map_more}
+use Rattle.std.proofs.Common.{◌≡◌, refl, ap, map, cond, add-one, drop, drop-cons, get_or, subst, sym, take, ◌∙◌}
+use Rattle.std.proofs.lemmas.List.{flat_map_more, get_or-map, length-map, map-append, map_more}
 use Rattle.std.specs.List.{AllByRecursion, flat_map}
 use Rattle.al_base.proofs.Elements.{each_both, each_either}
 use Rattle.al_yaml_tree.specs.Node.{Node}
@@ -32,6 +32,12 @@ keys_next es i e within is =
     ap keys_in (map_more entry_view es i e within)
     ∙ map-append key_of (map entry_view (take i es)) (entry_view (get_or es i e) ∷ [])
     ∙ ap (λ x. keys_in (map entry_view (take i es)) ++ key_of (entry_view x) ∷ []) (sym is)
+
+pub key_there : (xs es : List Entry) (i : ℕ) (e : Entry) → xs ≡ es → i < length es → e ≡ get_or es i e → get_or (keys_in (map entry_view xs)) i [] ≡ key_of (entry_view e)
+key_there xs es i e same within is =
+    ap (λ l. get_or (keys_in (map entry_view l)) i []) same
+    ∙ get_or-map key_of (map entry_view es) i (entry_view e) [] (subst (λ n. i < n) (sym (length-map es entry_view)) within)
+    ∙ ap key_of (get_or-map entry_view es i e (entry_view e) within ∙ ap entry_view (sym is))
 
 -- what the items that were read gave, and what one more gives
 pub gave_next : {X Y Z : Type 0} (v : X → Y) (f : Y → List Z) (xs : List X) (i : ℕ) (d : X) (old mid new : List Z) → i < length xs

@@ -5,7 +5,7 @@ ghost use Rattle.al_tree_declarations.specs.Declarations as declarations;
 ghost use Rattle.al_tree.specs.Values.{firsts_by, member_of};
 ghost use Rattle.al_yaml_tree.specs.View.{view};
 
-use al_tree::{Member, key_text, member_positions, members};
+use al_tree::{Member, member_positions, members};
 use al_yaml_tree::Node;
 use std::alloc::{AllocError, Global};
 
@@ -17,9 +17,7 @@ fn first_named<'a>(alloc: Global, members: &[Member<'a>]) -> Result<Vec<Member<'
     let positions = member_positions(alloc, members)?;
     let mut found = Vec::new(alloc);
     for (i, member) in members.iter().enumerate() {
-        let first = positions.get(alloc, key_text(member.key))?;
-        let is_first = first == Some(i);
-        if is_first {
+        if positions.is_first(i) {
             found.push(*member)?;
         }
     }

@@ -1,7 +1,7 @@
-use Rattle.std.proofs.Common.{◌≡◌, ◌+◌, ◌++◌, ◌∷◌, [], Some, ap, append_assoc, append-nil, drop, map, not, rules, sym, take, ◌∙◌, get_or, if◌then◌else◌}
+use Rattle.std.proofs.Common.{◌≡◌, ◌+◌, ◌++◌, ◌∷◌, ◌<◌, [], Some, ap, append_assoc, arith, length, append-nil, drop, map, not, sym, take, ◌∙◌, get_or, if◌then◌else◌}
 use Rattle.std.specs.Prelude.{nat_eq}
 use Rattle.std.specs.Option.{option_eq}
-use Rattle.std.proofs.lemmas.List.{map-append, map_more}
+use Rattle.std.proofs.lemmas.List.{get_or-map, length-map, map-append, map_more}
 use Rattle.std.proofs.lemmas.Simd.{map-map}
 use Rattle.al_base.specs.Names.{same_name}
 use Rattle.al_base.specs.NamePlaces.{name_place}
@@ -27,18 +27,20 @@ loop-i-preserved c =
     ap keys_in (map_more member_of members i member c.loop-i-test.true)
     ∙ map-append key_of (map member_of (take i members)) (member_of (get_or members i member) ∷ [])
     ∙ ap (λ m. before ++ key_of (member_of m) ∷ []) (sym c.index-members-i.is) in
-    let place : c.in_ok-first.first ≡ name_place (keys_in (map member_of members)) key =
-    c.in_ok-first.ensures ∙ ap (λ f. f c.key_text.result.now) c.in_ok-positions.ensures
-    ∙ ap (name_place (keys_in (map member_of members))) c.key_text.ensures in
-    let compared : c.eq-is_first.result ≡ option_eq nat_eq c.in_ok-first.first (Some i) = search rules in
-    let new : c.eq-is_first.result ≡ not (named_among before key) =
-    compared ∙ ap (λ o. option_eq nat_eq o (Some i)) place
+    let ks = keys_in (map member_of members) in
+    let inside : i < length (map member_of members) = omega (arith, c.loop-i-test.true, length-map members member_of) in
+    let there : get_or ks i [] ≡ key =
+    get_or-map key_of (map member_of members) i (member_of member) [] inside
+    ∙ ap key_of (get_or-map member_of members i member (member_of member) c.loop-i-test.true ∙ ap member_of (sym c.index-members-i.is)) in
+    let new : c.is_first.result ≡ not (named_among before key) =
+    c.is_first.ensures ∙ c.in_ok-positions.ensures.first i (omega (arith, inside, length-map (map member_of members) key_of))
+    ∙ ap (λ k. option_eq nat_eq (name_place ks k) (Some i)) there
     ∙ ap (λ ks. option_eq nat_eq (name_place ks key) (Some i)) (map-map key_of member_of members)
     ∙ name_stands_first (λ m. key_of (member_of m)) members i member c.loop-i-test.true c.index-members-i.is
     ∙ none_at (λ m. same_name m key) (map (λ m. key_of (member_of m)) (take i members))
     ∙ ap (λ ks. not (named_among ks key)) (sym (map-map key_of member_of (take i members))) in
-    let taken : not c.eq-is_first.result ≡ named_among before key = ap not new ∙ not_not (named_among before key) in
-    let added : map member_of c.if-is_first.found.items ≡ out ++ (if not c.eq-is_first.result then [] else member_of member ∷ []) =
+    let taken : not c.is_first.result ≡ named_among before key = ap not new ∙ not_not (named_among before key) in
+    let added : map member_of c.if-is_first.found.items ≡ out ++ (if not c.is_first.result then [] else member_of member ∷ []) =
     elim c.if-is_first.branch [
       | then-is_first+in_ok-push w ↦
           ap (λ v. map member_of v.items) w.found-is ∙ ap (map member_of) w.in_ok-push.ensures.items

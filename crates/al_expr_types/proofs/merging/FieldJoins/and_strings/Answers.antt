@@ -14,7 +14,7 @@ loop-i-preserved c =
       found = λ ms n. upto_next (λ k. Present String) (name_place ns n) i (found_in ms c.loop-i.all n) (found_in ms c.in_ok-more.more n)
           (found_in ms c.args.self n) (c.loop-i.invariant.found ms n)
           (ap (λ f. f n) (c.in_ok-more.ensures.found ms
-          ∙ and_at ns c.at.result.now i (found_in ms c.loop-i.all) (Present String) c.in_ok-is_first.is_first within c.at.ensures c.in_ok-is_first.ensures));
+          ∙ and_at ns c.at.result.now i (found_in ms c.loop-i.all) (Present String) c.is_first.result within c.at.ensures c.is_first.ensures));
       below = λ k g. c.in_ok-more.ensures.below k (c.loop-i.invariant.below k g) refl;
     }
 
