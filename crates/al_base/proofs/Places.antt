@@ -41,7 +41,8 @@ module _ {T : Type 0} (bytes : T → List ℕ) where
   numbered ts es of k d l =
       let key = (of k d l).1 in key ∙ ap sort_key (sym (ap (λ (x : Key). x.1) key))
 
-  pub place_at : (es : List (Entry T)) (i : ℕ) (x : Entry T) (place : ℕ) → i < length es → x ≡ get_or es i x → place_of bytes es x ≡ Some place → (e : Entry T) → place_of bytes es (get_or es i e) ≡ Some place
+  pub place_at : (es : List (Entry T)) (i : ℕ) (x : Entry T) (place : ℕ) → i < length es → x ≡ get_or es i x → place_of bytes es x ≡ Some place
+      → (e : Entry T) → place_of bytes es (get_or es i e) ≡ Some place
   place_at es i x place l is at e = ap (place_of bytes es) (get_or_default es i e x l ∙ sym is) ∙ at
 
   pub new_place : (es : List (Entry T)) → AreSorted bytes es → AreNumbered bytes es → (i : ℕ) (x : Entry T) → i < length es → x ≡ get_or es i x →
@@ -58,26 +59,29 @@ module _ {T : Type 0} (bytes : T → List ℕ) where
   pub turn_next : {X : Type 0} (g : X → List ℕ) (xs : List X) (i : ℕ) (d : X) (old new : List (Entry T)) (e : Entry T) → i < length xs → length old ≡ i → InTurn (map g xs) old →
       new ≡ old ++ e ∷ [] → entry_key bytes e ≡ sort_key (g (get_or xs i d)) → e.position ≡ i → (length new ≡ i + 1) × InTurn (map g xs) new
   turn_next g xs i d old new e l many turn is key at =
-      let ts : List (List ℕ) = map g xs in
-      (ap length is ∙ length-append old (e ∷ []) ∙ ap (λ n. n + 1) many,
-      subst (InTurn ts) (sym is)
-      (λ k f m. ⊎_elim
-      (λ earlier. subst (λ (y : Entry T). (y.position ≡ k) × (entry_key bytes y ≡ sort_key (get_or ts k []))) (sym (get_or_append_left old (e ∷ []) f k earlier)) (turn k f earlier))
-      (λ n.
-      (let z : k ≡ i = omega (arith, n, many, m, length-append old (e ∷ [])) in
-      let here : get_or (old ++ e ∷ []) k f ≡ e = get_or-append_right old (e ∷ []) i k f many (omega (arith, z)) ∙ ap (λ j. get_or (e ∷ []) j f) (let o : k - i ≡ 0 = omega (arith, z) in o) in
-      subst (λ (y : Entry T). (y.position ≡ k) × (entry_key bytes y ≡ sort_key (get_or ts k []))) (sym here)
-      (at ∙ sym z, key ∙ ap sort_key (sym (get_or-map g xs i d [] l) ∙ ap (λ j. get_or ts j []) (sym z)))))
-      (cases_lt k (length old))))
+      let ts : List (List ℕ) = map g xs in (
+        ap length is ∙ length-append old (e ∷ []) ∙ ap (λ n. n + 1) many,
+        subst (InTurn ts) (sym is)
+            (λ k f m. ⊎_elim
+            (λ earlier. subst (λ (y : Entry T). (y.position ≡ k) × (entry_key bytes y ≡ sort_key (get_or ts k []))) (sym (get_or_append_left old (e ∷ []) f k earlier)) (turn k f earlier))
+            (λ n.
+            (let z : k ≡ i = omega (arith, n, many, m, length-append old (e ∷ [])) in
+            let here : get_or (old ++ e ∷ []) k f ≡ e = get_or-append_right old (e ∷ []) i k f many (omega (arith, z)) ∙ ap (λ j. get_or (e ∷ []) j f) (let o : k - i ≡ 0 = omega (arith, z) in o) in
+            subst (λ (y : Entry T). (y.position ≡ k) × (entry_key bytes y ≡ sort_key (get_or ts k []))) (sym here)
+            (at ∙ sym z, key ∙ ap sort_key (sym (get_or-map g xs i d [] l) ∙ ap (λ j. get_or ts j []) (sym z)))))
+            (cases_lt k (length old))),
+      )
 
   -- ---- and after it
 
   module _ (ts : List (List ℕ)) (old new : List (Entry T)) (many : length old ≡ length ts) (turn : InTurn ts old) (permuted : IsPermutation old new) where
     pub stand : StandIn bytes new
-    stand =
-        (ts, sym many ∙ sym (length_permutation old new permuted),
-        All-permutation (λ e. (e.position < length ts) × (entry_key bytes e ≡ sort_key (get_or ts e.position []))) old new permuted
-        (λ k d l. (omega (arith, (turn k d l).0, l, many), (turn k d l).1 ∙ ap (λ n. sort_key (get_or ts n [])) (sym (turn k d l).0))))
+    stand = (
+      ts,
+      sym many ∙ sym (length_permutation old new permuted),
+      All-permutation (λ e. (e.position < length ts) × (entry_key bytes e ≡ sort_key (get_or ts e.position []))) old new permuted
+          (λ k d l. (omega (arith, (turn k d l).0, l, many), (turn k d l).1 ∙ ap (λ n. sort_key (get_or ts n [])) (sym (turn k d l).0))),
+    )
 
     own_place : (places : List ℕ) → TellPlaces bytes new places → (place : List ℕ → Option ℕ) → position_among bytes new ≡ place → (i : ℕ) (d : Entry T) → i < length old →
         is_own places i ≡ option_eq nat_eq (place (get_or ts i [])) (Some i)

@@ -238,9 +238,10 @@ module _ {T : Type 0} (bytes : T → List ℕ) (es : List (Entry T)) (text : Lis
       let last : (k : ℕ) (d : Entry T) → k + 1 ≡ i → is_lt (rank (get_or es k d)) ≡ true = λ k d n.
       not_above (rank (get_or es k d)) (rank (get_or es i d)) (here d) (up k i d (omega (arith, n)) l)
       (ap (λ x. is_eq (rank x)) (get_or_default es k d e (omega (arith, n, l))) ∙ others k n) in
-      sym (position_found i
-      ((λ k d z m. parted_texts k (i - 1) d (omega (arith, m)) (omega (arith, l)) (last (i - 1) d (omega (arith, m)))),
-      λ k d n m. not_below (rank (get_or es k d)) (rank (get_or es i d)) (here d) (up i k d n m))
+      sym (position_found i (
+        (λ k d z m. parted_texts k (i - 1) d (omega (arith, m)) (omega (arith, l)) (last (i - 1) d (omega (arith, m)))),
+        λ k d n m. not_below (rank (get_or es k d)) (rank (get_or es i d)) (here d) (up i k d n m),
+      )
       e l w (ap is_eq own))
 
 -- ---- the entries of a list, one after another

@@ -1,5 +1,6 @@
 -- Texts with where they stand, in the order of their last bytes and then of all.
-use Rattle.std.specs.Prelude.{◌≡◌, ◌<◌, ℕ, ◌+◌, ◌*◌, ◌%◌, ◌^◌, ◌&&◌, Bool, List, [], Option, Some, length, nat_eq, nat_lt, option_map, slice_index, slice_index_or, All}
+use Rattle.std.specs.Prelude.{◌≡◌, ◌<◌, ℕ, ◌+◌, ◌*◌, ◌%◌, ◌^◌, ◌&&◌, Bool, List, [], Option, Some, length, nat_eq, nat_lt}
+use Rattle.std.specs.Prelude.{option_map, slice_index, slice_index_or, All}
 use Rattle.std.specs.Cmp.Lexicographic.{slice_cmp}
 use Rattle.std.specs.List.{find, fold}
 use Rattle.std.specs.List.Sorted.{IsSortedByKey}

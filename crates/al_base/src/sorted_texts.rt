@@ -2,8 +2,8 @@
 
 ghost use Rattle.std.specs.Prelude.{◌≡◌, ◌+◌, ◌<◌, ℕ, IfOk, IsPermutation, Some, length, slice_index_or};
 ghost use Rattle.std.specs.Ordering.{is_eq};
-ghost use Rattle.al_base.specs.SortedTexts.{AreNumbered, AreSorted, StandIn, TellPlaces, entry_key, is_own, key_cmp, place_of, position_among};
-ghost use Rattle.al_base.specs.SortedTexts.{sort_key, tail_number};
+ghost use Rattle.al_base.specs.SortedTexts.{AreNumbered, AreSorted, StandIn, TellPlaces, entry_key, is_own, key_cmp};
+ghost use Rattle.al_base.specs.SortedTexts.{place_of, position_among, sort_key, tail_number};
 
 use std::alloc::{AllocError, Global};
 use std::cmp::Ordering;

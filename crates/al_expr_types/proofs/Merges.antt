@@ -102,10 +102,6 @@ pushed_behind ms ns js name x at len n =
 
 -- ---- in the code
 
-pub if_new : {X : Type 0} (b : Bool) (x y z : X) → b ≡ true → x ≡ (if b then y else z) → x ≡ y
-if_new true x y z h e = e
-if_new false x y z h e = absurd cc
-
 pub all_set : {X : Type 0} (test : X → Bool) (xs : List X) (i : ℕ) (x : X) → list_all test xs ≡ true → test x ≡ true → list_all test (set xs i x) ≡ true
 all_set test [] i x h k = refl
 all_set test (y ∷ xs) zero x h k = both_are (test x) _ k (right_of (test y) (list_all test xs) h)

@@ -1,6 +1,5 @@
 -- Paths, levels and arguments, item by item.
 use Rattle.std.proofs.Common.{◌≡◌, ℕ, List, [], ◌∷◌, ◌++◌, Bool, true, map, Option, Some, None, refl, sym, ap, ◌∙◌, append_assoc}
-use Rattle.std.specs.Prelude.{if◌then◌else◌}
 use Rattle.std.specs.Option.{option_map_or}
 use Rattle.al_base.specs.declared.faults.Fault.{Fault}
 use Rattle.al_base.specs.declared.faults.Span.{Span}
@@ -8,13 +7,12 @@ use Rattle.al_base.specs.declared.codes.ExpressionCode.TheVariants as code
 use Rattle.al_types.specs.declared.names.Context.{Context}
 use Rattle.al_types.specs.declared.names.Function.{Function}
 use Rattle.al_expr_grammar.specs.Refusal.{expression_fault}
-use Rattle.al_types.specs.Names.{context_of}
-use Rattle.al_types.specs.Types.{Type', Any}
+use Rattle.al_types.specs.Types.{Type'}
 use Rattle.al_expr_grammar.specs.Tree.{Tree, Named, Path, PathSteps, Sign, sign, Arguments, StepTree, Property, All, Index, steps_of, operands_of, arguments_of}
 use Rattle.al_types.specs.Scopes.{Scope}
 use Rattle.al_expr_grammar.specs.Extents.{extent}
 use Rattle.al_expr_typing.specs.Untrusted.{chain_part, untrusted_chain}
-use Rattle.al_expr_typing.specs.Meaning.{Typed, typed, faults_then, name_type, call, call_from, untrusted_faults}
+use Rattle.al_expr_typing.specs.Meaning.{Typed, typed, faults_then, call, call_from, untrusted_faults}
 use Rattle.al_expr_typing.specs.Meaning.{and_then, argument_then, all_behind, parts_of, step_from, index_from}
 use Rattle.al_expr_typing.specs.Meaning.{index_of, operation, meaning, walk, operations, meanings}
 use Rattle.al_expr_typing.specs.Steps.{base_name}
@@ -91,10 +89,6 @@ chain_of : (name : List ℕ) (t : Tree) (ss : PathSteps) → Some name ≡ base_
 chain_of name (Named b s) ss h = cc
 chain_of name t ss h = absurd cc
 
-pub nameless : (t : Tree) (ss : PathSteps) → None ≡ base_name t → untrusted_faults true t ss ≡ []
-nameless (Named b s) ss h = absurd cc
-nameless t ss h = refl
-
 pub untrusted_none : (name : List ℕ) (t : Tree) (ss : List StepTree) → Some name ≡ base_name t → None
     ≡ untrusted_chain (name ∷ map chain_part ss) → untrusted_faults true t (steps_of ss) ≡ []
 untrusted_none name t ss h k =
@@ -115,7 +109,3 @@ pub indexed_on : (o : Option (List ℕ × Span)) (whole : Span) (u by v : Type')
     → typed by mid ≡ faults_then old x → typed v new ≡ faults_then mid (index_of whole u by) → typed v new ≡ faults_then old (index_from o whole u x)
 indexed_on None whole u by v old mid new x h e f = f ∙ follows old mid by x (λ w. index_of whole u w) e
 indexed_on (Some n) whole u by v old mid new x h e f = absurd cc
-
--- a name of a context that is available
-pub named_available : (sc : Scope) (b : List ℕ) (s : Span) (k : Context) → Some k ≡ context_of b → sc.available.contexts k ≡ true → (safe : Bool) → meaning sc safe (Named b s) ≡ typed (sc.types k) []
-named_available sc b s k h a safe = ap (name_type sc b s) (sym h) ∙ ap (λ y. if y then typed (sc.types k) [] else typed Any (expression_fault code.UnavailableContext s (b ∷ []) ∷ [])) a

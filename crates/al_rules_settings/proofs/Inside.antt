@@ -19,7 +19,7 @@ use Rattle.al_tree.proofs.Lists.{firsts_kept}
 use Rattle.al_base.specs.Names.{among}
 use Rattle.al_tree.specs.Faults.{is_key, is_null, value_in}
 use Rattle.al_tree.specs.Values.{entries_at, entries_in, firsts_by, items_at, items_in, key_at, text_at_key, text_below, text_in, texts_at, texts_in, value_at, value_below}
-use Rattle.al_rules_settings.specs.Words.{Named, about, of_key, rule_fault, unless}
+use Rattle.al_rules_settings.specs.Words.{Named, about, rule_fault, unless}
 
 abbrev pub Lies : ℕ → Fault → Type 0
 Lies size f = LiesIn size f.span
@@ -123,9 +123,6 @@ module _ (size : ℕ) where
 
   pub texts_at_fine : (k : List ℕ) (n : Node) → Fine size n → AllByRecursion (Text size) (texts_at k n)
   texts_at_fine k n f = map_or (Fine size) (Text size) texts_in texts_in_fine (value_at k n) (value_fine k n f)
-
-  pub key_place : (n : Node) → Fine size n → NameLies (of_key n)
-  key_place n f = span_lies n f
 
   -- ---- faults that name a text
 

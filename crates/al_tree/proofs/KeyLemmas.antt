@@ -114,16 +114,17 @@ pub many_keys : (es : Bor (List Entry)) (p : TextPositions) → text_position p 
     IsIndexOf (record { entries = es; positions = Some p }) es.now
 unfolding has_first repeats
 many_keys es p is first =
-    let ks : List (List ℕ) = keys_in (map entry_view es.now) in
-    (refl,
-    (λ i n k.
-    (ap (λ f. is_before n (f k)) is
-    ∙ placed_before ks n k
-    ∙ ap (λ l. among l k) (take-map key_of n (map entry_view es.now) ∙ ap keys_in (take-map entry_view n es.now))) i),
-    λ i within.
-    (let k : List ℕ = get_or ks i [] in
-    let inside : i < length ks = omega (arith, within, length-map es.now entry_view, length-map (map entry_view es.now) key_of) in
-    ap not (first i inside) ∙ repeats_before ks i k inside refl ∙ sym (ap (λ f. is_before i (f k)) is)))
+    let ks : List (List ℕ) = keys_in (map entry_view es.now) in (
+      refl,
+      (λ i n k.
+          (ap (λ f. is_before n (f k)) is
+          ∙ placed_before ks n k
+          ∙ ap (λ l. among l k) (take-map key_of n (map entry_view es.now) ∙ ap keys_in (take-map entry_view n es.now))) i),
+      λ i within.
+          (let k : List ℕ = get_or ks i [] in
+          let inside : i < length ks = omega (arith, within, length-map es.now entry_view, length-map (map entry_view es.now) key_of) in
+          ap not (first i inside) ∙ repeats_before ks i k inside refl ∙ sym (ap (λ f. is_before i (f k)) is)),
+    )
 
 pub told_by : (x : KeyIndex) (i : ℕ) (k : List ℕ) (o : Option TextPositions) → o ≡ x.positions → option_map_or (λ p. not (is_first_text p i)) o (has_first x i k) ≡ repeats x i k
 unfolding repeats

@@ -79,20 +79,10 @@ pub optional_back : (o : Option Type') → option_of (optional o) ≡ o
 optional_back None = refl
 optional_back (Some t) = refl
 
-pub common_option : (a b : Optional) → option_of (fuse_optional a b) ≡ common_type (option_of a) (option_of b)
-common_option Absent b = refl
-common_option (Present t) Absent = refl
-common_option (Present t) (Present u) = refl
-
 pub common_optional : (a b : Option Type') → optional (common_type a b) ≡ fuse_optional (optional a) (optional b)
 common_optional None b = refl
 common_optional (Some t) None = refl
 common_optional (Some t) (Some u) = refl
-
--- a part of what is in common to what may be there
-pub common_part : (t : Option Type') (a b : Optional) → t ≡ common_type (option_of a) (option_of b) → optional t ≡ fuse_optional a b
-common_part t a b e =
-    ap optional e ∙ common_optional (option_of a) (option_of b) ∙ (λ d. fuse_optional (option_back a d) (option_back b d))
 
 -- likewise of what the code has in hand
 pub common_more : (t o u : Option Type') (b : Optional) → t ≡ common_type o u → u ≡ option_of b → optional t ≡ fuse_optional (optional o) b
@@ -100,10 +90,6 @@ common_more t o u b e is =
     ap optional e ∙ common_optional o u ∙ ap (λ x. fuse_optional (optional o) (optional x)) is ∙ ap (fuse_optional (optional o)) (option_back b)
 
 -- ---- objects
-
--- an object without fields adds nothing to another, before it ..
-pub empty_first : (p : Parts) → fuse_parts (parts_with [] Absent) p ≡ p
-empty_first p = refl
 
 -- .. or after it
 pub empty_last : (p : Parts) → fuse_parts p (parts_with [] Absent) ≡ p

@@ -13,7 +13,7 @@ loop-i-preserved c =
     c.loop-i.invariant.turn c.in_ok-push.ensures.items (c.new.ensures.key ∙ ap sort_key c.in_ok-in_lower_case.ensures) c.new.ensures.position in
     record {
       position = entries_next (λ n. n.items) (λ n. lower_case n.now) c.args.names.now c.loop-i.i _ c.loop-i.entries.items _ c.new.result c.loop-i-test.true c.loop-i.invariant.position
-      c.in_ok-push.ensures.items (c.new.ensures.key ∙ ap sort_key c.in_ok-in_lower_case.ensures) c.new.ensures.position;
+          c.in_ok-push.ensures.items (c.new.ensures.key ∙ ap sort_key c.in_ok-in_lower_case.ensures) c.new.ensures.position;
       many = turn.0;
       turn = turn.1;
     }
@@ -22,7 +22,8 @@ pub places_by-requires-clause-texts : goal.places_by-requires-clause-texts
 places_by-requires-clause-texts c =
     let ts = map (λ n. lower_case n.now) c.args.names.now in
     let many : length c.loop-i.entries.items ≡ length ts = omega (arith, c.loop-i.invariant.many, c.loop-i-test.false, c.loop-i.auto.i-end, length-map c.args.names.now (λ n. lower_case n.now)) in
-    subst (StandIn (λ n. n.items)) (sym c.as_slice.ensures.value) (stand (λ n. n.items) ts c.loop-i.entries.items c.in_ok-sorted.sorted.items many c.loop-i.invariant.turn c.in_ok-sorted.ensures.entries)
+    subst (StandIn (λ n. n.items)) (sym c.as_slice.ensures.value)
+    (stand (λ n. n.items) ts c.loop-i.entries.items c.in_ok-sorted.sorted.items many c.loop-i.invariant.turn c.in_ok-sorted.ensures.entries)
 
 pub returns-clause-position : goal.returns-clause-position
 unfolding name_position

@@ -12,7 +12,7 @@ loop-i-preserved c =
     c.loop-i.invariant.turn c.in_ok-push.ensures.items c.new.ensures.key c.new.ensures.position in
     record {
       position = entries_next (λ t. t.now) (λ t. t.now) c.args.texts.now c.loop-i.i _ c.loop-i.entries.items _ c.new.result c.loop-i-test.true c.loop-i.invariant.position
-      c.in_ok-push.ensures.items c.new.ensures.key c.new.ensures.position;
+          c.in_ok-push.ensures.items c.new.ensures.key c.new.ensures.position;
       many = turn.0;
       turn = turn.1;
     }

@@ -8,7 +8,8 @@ pub invariant_of-result : goal.invariant_of-result
 invariant_of-result c =
     let x = c.args.self.now in
     let i = c.args.i in
-    let key = c.key_of-key.ensures ∙ ap (λ e. key_of (entry_view e)) (sym c.index-self-i.is) ∙ sym (key_there x.entries.now x.entries.now i c.index-self-i.result refl c.requires.within c.index-self-i.is) in
+    let key = c.key_of-key.ensures ∙ ap (λ e. key_of (entry_view e)) (sym c.index-self-i.is)
+    ∙ sym (key_there x.entries.now x.entries.now i c.index-self-i.result refl c.requires.within c.index-self-i.is) in
     record {
       told = c.repeats.ensures ∙ ap (repeats x i) key ∙ c.requires.index.2 i c.requires.within ∙ sym (ap (has_first x i) key)
           ∙ sym (ap (λ f. f c.key_of-key.result.now) c.first.ensures);
