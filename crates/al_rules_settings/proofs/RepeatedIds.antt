@@ -1,8 +1,8 @@
 -- The ids that repeat an earlier one, with one id more.
-use Rattle.std.proofs.Common.{◌≡◌, ◌<◌, ◌+◌, ◌++◌, ◌∷◌, [], ℕ, Bool, List, Some, length, get_or, ap, append_assoc, drop, map, sym, take, ◌∙◌}
+use Rattle.std.proofs.Common.{arith, ◌≡◌, ◌<◌, ◌+◌, ◌++◌, ◌∷◌, [], ℕ, Bool, List, Some, length, get_or, ap, append_assoc, drop, map, sym, take, ◌∙◌}
 use Rattle.std.specs.Prelude.{is_none, nat_eq}
 use Rattle.std.specs.Option.{option_eq}
-use Rattle.std.proofs.lemmas.List.{get_or-map, length-map, map-append, map_more}
+use Rattle.std.proofs.lemmas.List.{get_or-map, get_or_default, length-map, map-append, map_more}
 use Rattle.std.proofs.lemmas.Simd.{map-map}
 use Rattle.al_base.specs.NamePlaces.{TellsFirsts, name_place}
 use Rattle.al_base.specs.declared.codes.RuleCode.TheVariants.{RepeatedId}
@@ -17,24 +17,25 @@ use Rattle.al_rules_settings.specs.declared.reports.Named.{Named}
 abbrev texts : List Named → List (List ℕ)
 texts ids = map (λ n. n.text) (map named_of ids)
 
-pub repeated_next : (first : ℕ → Bool) (ids : List Named) (i : ℕ) (id : Named) (mid new all : List Fault) → TellsFirsts (name_place (texts ids)) (texts ids) first
+pub repeated_next : (first : ℕ → Bool) (ids : List Named) (i : ℕ) (d : Named) (told : Bool) (mid new all : List Fault) → TellsFirsts (name_place (texts ids)) (texts ids) first → told ≡ first i
     → i < length ids → mid ++ repeated_faults (texts (take i ids)) (map named_of (drop i ids)) ≡ all
-    → id ≡ get_or ids i id → new ≡ mid ++ unless (first i) RepeatedId (named_of id)
+    → new ≡ mid ++ unless told RepeatedId (named_of (get_or ids i d))
     → new ++ repeated_faults (texts (take (i + 1) ids)) (map named_of (drop (i + 1) ids)) ≡ all
-repeated_next first ids i id mid new all told within before here added =
+repeated_next first ids i d told mid new all firsts is within before added =
+    let id = get_or ids i d in
     let text = id.text.now in
+    let here : id ≡ get_or ids i id = get_or_default ids i d id within in
     let seen = texts (take i ids) in
     let behind = texts (take (i + 1) ids) in
     let left = map named_of (drop (i + 1) ids) in
     let more : behind ≡ seen ++ text ∷ [] =
-    ap (map (λ n. n.text)) (map_more named_of ids i id within) ∙ map-append (λ n. n.text) (map named_of (take i ids)) (named_of (get_or ids i id) ∷ [])
-    ∙ ap (λ x. seen ++ (named_of x).text ∷ []) (sym here) in
+    ap (map (λ n. n.text)) (map_more named_of ids i d within) ∙ map-append (λ n. n.text) (map named_of (take i ids)) (named_of id ∷ []) in
     let inside : i < length (map named_of ids) = omega (arith, within, length-map ids named_of) in
     let there : get_or (texts ids) i [] ≡ text =
     get_or-map (λ n. n.text) (map named_of ids) i (named_of id) [] inside
     ∙ ap (λ n. n.text) (get_or-map named_of ids i id (named_of id) within ∙ ap named_of (sym here)) in
-    let right : first i ≡ is_none (name_place seen text) =
-    told i (omega (arith, inside, length-map (map named_of ids) (λ n. n.text)))
+    let right : told ≡ is_none (name_place seen text) =
+    is ∙ firsts i (omega (arith, inside, length-map (map named_of ids) (λ n. n.text)))
     ∙ ap (λ t. option_eq nat_eq (name_place (texts ids) t) (Some i)) there
     ∙ ap (λ ns. option_eq nat_eq (name_place ns text) (Some i)) (map-map (λ n. n.text) named_of ids)
     ∙ name_stands_first (λ x. (named_of x).text) ids i id within here
