@@ -219,7 +219,7 @@ def fixed_contexts(crates):
         fields = {name: TYPES[of] for name, of in re.findall(r'\(codes "([^"]+)", ([\w\']+)\)', right)}
         for body in re.findall(r"strings (\w+|\([^)]*\))", right):
             fields |= dict.fromkeys(NAME.findall(lists.get(body, body)), "string")
-        found[context] = fields, TYPES[right.split()[-1]] if right.startswith("loosely") else "none"
+        found[context] = fields, TYPES[others[1]] if (others := re.search(r"\(Present (\w+)\)$", right)) else "none"
     if len(found) != len(re.findall(r"^abbrev pub \w+_type", text, re.MULTILINE)):
         sys.exit("a type isn't read")
     return found

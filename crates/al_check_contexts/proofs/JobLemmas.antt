@@ -15,7 +15,7 @@ use Rattle.al_tree.specs.Keys.{key_of}
 use Rattle.al_tree.specs.Values.{entries_at}
 use Rattle.al_tree_declarations.specs.Declarations.{has_value, names_of}
 use Rattle.al_check_objects.specs.Objects.{loose_any}
-use Rattle.al_check_contexts.specs.Contexts.{OutputNames, outputs_type, dependency, job_field}
+use Rattle.al_check_contexts.specs.Contexts.{OutputNames, dependency, job_field}
 use Rattle.al_base.specs.Growth.{BeginsWith}
 use Rattle.al_expr_types.specs.Tables.{objects_of}
 use Rattle.al_expr_types.specs.declared.ty.Ty.{Ty}
@@ -54,14 +54,14 @@ no_dependency k (x ∷ js) n e =
     ap (option_map (job_field k)) (find_first (λ j. same_name (key_of j) n) (x ∷ js) x ∙ ap (option_map (λ m. get_or (x ∷ js) m x)) e)
 
 -- what a job shows that calls a workflow, and one that doesn't
-pub shown_called : (k : OutputNames) (j : Node × Node) → has_value (codes "uses") j.1 ≡ true → shown_with (outputs_type loose_any (k (Some (key_of j)) None)) ≡ (job_field k j).1
+pub shown_called : (k : OutputNames) (j : Node × Node) → has_value (codes "uses") j.1 ≡ true → shown_with (option_map_or named_strings (k (Some (key_of j)) None) loose_any) ≡ (job_field k j).1
 shown_called k j e =
-    sym (ap (λ b. shown_with (if b then outputs_type loose_any (k (Some (key_of j)) None) else named_strings (names_of (entries_at (codes "outputs") j.1)))) e)
+    sym (ap (λ b. shown_with (if b then option_map_or named_strings (k (Some (key_of j)) None) loose_any else named_strings (names_of (entries_at (codes "outputs") j.1)))) e)
 
 pub shown_own : (k : OutputNames) (j : Node × Node) → has_value (codes "uses") j.1 ≡ false →
     shown_with (named_strings (names_of (entries_at (codes "outputs") j.1))) ≡ (job_field k j).1
 shown_own k j e =
-    sym (ap (λ b. shown_with (if b then outputs_type loose_any (k (Some (key_of j)) None) else named_strings (names_of (entries_at (codes "outputs") j.1)))) e)
+    sym (ap (λ b. shown_with (if b then option_map_or named_strings (k (Some (key_of j)) None) loose_any else named_strings (names_of (entries_at (codes "outputs") j.1)))) e)
 
 -- ---- in longer tables
 

@@ -33,18 +33,14 @@ OutputNames = Option (List ℕ) → Option ℕ → Option (List (List ℕ))
 abbrev pub nothing_known : OutputNames
 nothing_known job step = None
 
--- outputs, by what is known of their names
-abbrev pub outputs_type : Type' → Option (List (List ℕ)) → Type'
-outputs_type unknown names = option_map_or named_strings names unknown
-
 -- `steps`: each step with an id, of those that are seen; of equal ids the first
-abbrev pub step_type : Option (List (List ℕ)) → Type'
-step_type names =
-    strictly ((codes "conclusion", String) ∷ (codes "outcome", String) ∷ (codes "outputs", outputs_type loose_strings names) ∷ [])
+abbrev pub step_type : Type' → Type'
+step_type outputs = strictly ((codes "conclusion", String) ∷ (codes "outcome", String) ∷ (codes "outputs", outputs) ∷ [])
 
 abbrev pub step_field : OutputNames → Option (List ℕ) → ℕ × Node → Option TypedName
 step_field known job s =
-    option_map (λ id. (text_of id.0, step_type (known job (Some s.0)))) (text_at_key (codes "id") s.1)
+    let outputs = option_map_or named_strings (known job (Some s.0)) loose_strings in
+    option_map (λ id. (text_of id.0, step_type outputs)) (text_at_key (codes "id") s.1)
 
 abbrev pub seen_of : Seen → List Node → List Node
 seen_of no_step steps = []
@@ -55,14 +51,14 @@ seen_of every_step steps = steps
 abbrev pub Owner : Type 0
 Owner = Option (List ℕ) × List Node
 
-abbrev pub steps_fields : OutputNames → Owner → Seen → List TypedName
-steps_fields known o seen =
-    firsts (filter_map (step_field known o.0) (enumerate_from 0 (seen_of seen o.1)))
+abbrev pub steps_type : OutputNames → Option Owner → Seen → Type'
+steps_type known owner seen =
+    option_map_or (λ o. strictly (firsts (filter_map (step_field known o.0) (enumerate_from 0 (seen_of seen o.1))))) owner Any
 
 -- what a job shows to others: its result, and its outputs, those of the called workflow where it calls one
 abbrev pub job_outputs : OutputNames → Node × Node → Type'
 job_outputs known j =
-    if has_value (codes "uses") j.1 then outputs_type loose_any (known (Some (key_of j)) None)
+    if has_value (codes "uses") j.1 then option_map_or named_strings (known (Some (key_of j)) None) loose_any
     else named_strings (names_of (entries_at (codes "outputs") j.1))
 
 abbrev pub job_field : OutputNames → Node × Node → TypedName
@@ -91,18 +87,11 @@ owner_of kind.Workflow root job =
     option_map (λ j. (Some (key_of j), items_at (codes "steps") j.1)) job
 owner_of kind.Action root job = if is_composite root then Some (None, action_steps root) else None
 
--- What contexts are that change with the position: any where they aren't there. An action has no section but `apart`.
-abbrev pub type_in_job : (Node × Node → Type') → Option (Node × Node) → Type'
-type_in_job of job = option_map_or of job Any
-
 abbrev pub jobs_in : OutputNames → List (Node × Node) → Section → Type'
 jobs_in known jobs apart = Any
 jobs_in known jobs _ = jobs_type known jobs
 
-abbrev pub steps_type : OutputNames → Option Owner → Seen → Type'
-steps_type known owner seen = option_map_or (λ o. strictly (steps_fields known o seen)) owner Any
-
--- The table of contexts. Some are the same in every file.
+-- The table of contexts. Some are the same in every file; the others are any where they aren't there. An action has no section but `apart`.
 abbrev pub context_type_at : FileKind → OutputNames → Node → Position → Context → Type'
 context_type_at k known root p context.Github = github_type
 context_type_at k known root p context.Env = loose_strings
@@ -110,11 +99,11 @@ context_type_at k known root p context.Vars = loose_strings
 context_type_at k known root p context.Secrets = loose_strings
 context_type_at k known root p context.Runner = runner_type
 context_type_at k known root p context.Job = job_type
-context_type_at k known root p context.Strategy = type_in_job (λ j. strategy_type) (job_in (jobs_of root) p.section)
+context_type_at k known root p context.Strategy = option_map_or (λ j. strategy_type) (job_in (jobs_of root) p.section) Any
 context_type_at k known root p context.Needs =
-    type_in_job (λ j. needs_type known (jobs_of root) j.1) (job_in (jobs_of root) p.section)
+    option_map_or (λ j. needs_type known (jobs_of root) j.1) (job_in (jobs_of root) p.section) Any
 context_type_at k known root p context.Jobs = jobs_in known (jobs_of root) p.section
 context_type_at k known root p context.Steps =
     steps_type known (owner_of k root (job_in (jobs_of root) p.section)) p.seen
-context_type_at k known root p context.Matrix = type_in_job (λ j. matrix_type j.1) (job_in (jobs_of root) p.section)
+context_type_at k known root p context.Matrix = option_map_or (λ j. matrix_type j.1) (job_in (jobs_of root) p.section) Any
 context_type_at k known root p context.Inputs = inputs_type k root

@@ -4,11 +4,12 @@ use Rattle.std.specs.BTreeMap.{get_by}
 use Rattle.std.specs.Cmp.Lexicographic.{slice_cmp}
 use Rattle.std.specs.Option.{option_cmp, option_copied, option_map_or}
 use Rattle.std.specs.Ordering.{nat_cmp, ordering_then}
+use Rattle.al_types.specs.Strings.{named_strings}
 use Rattle.al_types.specs.Types.{Type', Any, String}
 use Rattle.al_yaml_tree.specs.Node.{Node}
 use Rattle.al_check_contexts.specs.Answered.{Behind, is_at}
-use Rattle.al_check_contexts.specs.Contexts.{OutputNames, job_field, outputs_type, step_type}
-use Rattle.al_check_objects.specs.Objects.{loose_any, strictly}
+use Rattle.al_check_contexts.specs.Contexts.{OutputNames, job_field, step_type}
+use Rattle.al_check_objects.specs.Objects.{loose_any, loose_strings, strictly}
 use Rattle.al_check_contexts.specs.declared.known.Outputs.{Outputs}
 
 -- the names at a place, None where nothing is known of them; None where nothing was answered there
@@ -36,7 +37,7 @@ known_by o job step = option_and_then (λ names. names) (found_at o job step)
 
 -- the type of a step by the position of the names of its outputs
 abbrev pub step_at : Outputs → ℕ → Type'
-step_at o i = step_type (list_at o i)
+step_at o i = step_type (option_map_or named_strings (list_at o i) loose_strings)
 
 -- what a job shows to others that has outputs of a type
 abbrev pub shown_with : Type' → Type'
@@ -44,7 +45,7 @@ shown_with outputs = strictly ((codes "result", String) ∷ (codes "outputs", ou
 
 -- what a job that calls a workflow shows, likewise by a position
 abbrev pub called_at : Outputs → ℕ → Type'
-called_at o i = shown_with (outputs_type loose_any (list_at o i))
+called_at o i = shown_with (option_map_or named_strings (list_at o i) loose_any)
 
 -- what the job at a position shows
 abbrev pub shown_at : Outputs → List (Node × Node) → ℕ → Type'

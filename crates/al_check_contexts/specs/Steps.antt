@@ -1,23 +1,17 @@
 -- The fields of `steps` by counts of steps.
-use Rattle.std.specs.Prelude.{◌≡◌, ◌+◌, ◌<◌, ◌≤◌, ℕ, List, [], ◌∷◌, true, Option, Some, None, codes, get_or, length, take}
-use Rattle.al_types.specs.Puts.{TypedName}
-use Rattle.al_types.specs.Types.{Type', String}
-use Rattle.al_check_places.specs.declared.positions.Seen.TheVariants.{Before as before}
-use Rattle.al_check_contexts.specs.Contexts.{OutputNames, Owner, steps_fields}
-use Rattle.al_check_objects.specs.Objects.{strictly}
+use Rattle.std.specs.Prelude.{◌≡◌, ◌+◌, ◌<◌, ◌≤◌, ℕ, List, [], true, Option, Some, None, get_or, length, take}
+use Rattle.std.specs.List.{enumerate_from, filter_map}
+use Rattle.al_types.specs.Puts.{TypedName, firsts}
+use Rattle.al_check_contexts.specs.Contexts.{OutputNames, Owner, step_field}
 use Rattle.al_expr_types.specs.Prefixes.{HasPrefix, map_in}
 use Rattle.al_expr_types.specs.Tables.{objects_of}
 use Rattle.al_expr_types.specs.declared.types.Types.{Types}
 use Rattle.al_check_objects.specs.Numbers.{fields_in, is_map_below}
 use Rattle.al_check_contexts.specs.declared.steps.StepFields.{StepFields}
 
--- the type of a step that has outputs of a type
-abbrev pub step_with : Type' → Type'
-step_with outputs = strictly ((codes "conclusion", String) ∷ (codes "outcome", String) ∷ (codes "outputs", outputs) ∷ [])
-
 -- the fields of the first so many steps
 abbrev pub first_fields : OutputNames → Owner → ℕ → List TypedName
-first_fields known o k = steps_fields known o (before k)
+first_fields known o k = firsts (filter_map (step_field known o.0) (enumerate_from 0 (take k o.1)))
 
 -- so many fields are there, and the first so many are these
 abbrev pub IsCount : List TypedName → ℕ → List TypedName → Type 0

@@ -1,11 +1,12 @@
 -- Numbers of a table of types that stand for the types of contexts: for all of a position, those that a file fixes, those of a section.
 use Rattle.std.specs.Prelude.{List, Option}
-use Rattle.al_types.specs.Types.{Type'}
+use Rattle.std.specs.Option.{option_map_or}
+use Rattle.al_types.specs.Types.{Any, Type'}
 use Rattle.al_types.specs.declared.names.Context.{Context}
 use Rattle.al_yaml_tree.specs.Node.{Node}
 use Rattle.al_check_places.specs.Positions.{Position, Section}
 use Rattle.al_check_places.specs.declared.positions.Seen.{Seen}
-use Rattle.al_check_contexts.specs.Contexts.{OutputNames, jobs_in, needs_type, type_in_job}
+use Rattle.al_check_contexts.specs.Contexts.{OutputNames, jobs_in, needs_type}
 use Rattle.al_check_objects.specs.Fixed.{github_type, job_type, runner_type, strategy_type}
 use Rattle.al_check_objects.specs.Matrix.{matrix_type}
 use Rattle.al_check_objects.specs.Objects.{loose_strings}
@@ -33,7 +34,7 @@ pub record AreFixed (types : Types) (ts : FixedTypes) : Type 0 where
 -- the types of a section of a workflow with these jobs, of which this is the section's
 pub record AreOfSection (types : Types) (known : OutputNames) (js : List (Node × Node)) (s : Section)
     (job : Option (Node × Node)) (st : SectionTypes) : Type 0 where
-  pub strategy : Means types st.strategy (type_in_job (λ j. strategy_type) job)
-  pub needs : Means types st.needs (type_in_job (λ j. needs_type known js j.1) job)
+  pub strategy : Means types st.strategy (option_map_or (λ j. strategy_type) job Any)
+  pub needs : Means types st.needs (option_map_or (λ j. needs_type known js j.1) job Any)
   pub jobs : Means types st.jobs (jobs_in known js s)
-  pub matrix : Means types st.matrix (type_in_job (λ j. matrix_type j.1) job)
+  pub matrix : Means types st.matrix (option_map_or (λ j. matrix_type j.1) job Any)

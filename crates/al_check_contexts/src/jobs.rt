@@ -1,8 +1,8 @@
 //! What a job shows to others, made once a file, and the types of `jobs` and `needs`.
 ghost use Rattle.std.specs.Prelude.{◌≡◌, ◌<◌, [], IfOk, OnOk, List, codes, length, option_map, true};
-ghost use Rattle.std.specs.Option.{option_to_list};
+ghost use Rattle.std.specs.Option.{option_map_or, option_to_list};
 ghost use Rattle.al_base.specs.Growth.{BeginsWith};
-ghost use Rattle.al_check_contexts.specs.Contexts.{dependency, job_field, jobs_type, needs_type, outputs_type};
+ghost use Rattle.al_check_contexts.specs.Contexts.{dependency, job_field, jobs_type, needs_type};
 ghost use Rattle.al_check_contexts.specs.Lookups.{called_at, shown_at, shown_with};
 ghost use Rattle.al_check_contexts.specs.Made.{KeepsBare, KeepsJobs, KeepsJobsOf, jobs_from, known_from};
 ghost use Rattle.al_check_contexts.specs.Caches.{Keeps};
@@ -60,7 +60,7 @@ fn call_outputs_type<'a>(
 ) -> Result<Ty, AllocError>
     ensures ty { IfOk result
         (λ t. Means types.new t
-        (outputs_type objects.loose_any (option_map (λ l. l.now) outputs.entry))) }
+        (option_map_or named_strings (option_map (λ l. l.now) outputs.entry) objects.loose_any)) }
     ensures kept { OnOk result (BeginsWith (objects_of types.new) (objects_of types.old)) }
 {
     match outputs {

@@ -1,7 +1,9 @@
 //! The types of contexts that change with the section, and whose steps are seen there.
 ghost use Rattle.std.specs.Prelude.{◌≡◌, IfOk, OnOk, option_map};
+ghost use Rattle.std.specs.Option.{option_map_or};
+ghost use Rattle.al_types.specs.Types.{Any};
 ghost use Rattle.al_base.specs.Growth.{BeginsWith};
-ghost use Rattle.al_check_contexts.specs.Contexts.{jobs_in, needs_type, owner_of, type_in_job};
+ghost use Rattle.al_check_contexts.specs.Contexts.{jobs_in, needs_type, owner_of};
 ghost use Rattle.al_check_objects.specs.Fixed.{strategy_type};
 ghost use Rattle.al_check_objects.specs.Matrix as specs;
 ghost use Rattle.al_check_places.specs.Positions.{section_view};
@@ -37,7 +39,7 @@ pub(crate) struct SectionTypes {
 /// The type of `strategy` in a job or outside of jobs, from that in jobs.
 fn strategy_at(in_job: Ty, job: Option<Member<'_>>) -> Ty
     ensures { (types : declared.Types) → Means types in_job strategy_type
-        → Means types result (type_in_job (λ j. strategy_type) (option_map member_of job.entry)) }
+        → Means types result (option_map_or (λ j. strategy_type) (option_map member_of job.entry) Any) }
 {
     match job {
         None => Ty::ANY,
@@ -52,7 +54,7 @@ fn matrix_at<'a>(
 ) -> Result<Ty, AllocError>
     ensures ty { IfOk result
         (λ t. Means types.new t
-        (type_in_job (λ j. specs.matrix_type j.1) (option_map member_of job.entry))) }
+        (option_map_or (λ j. specs.matrix_type j.1) (option_map member_of job.entry) Any)) }
     ensures kept { OnOk result (BeginsWith (objects_of types.new) (objects_of types.old)) }
 {
     match job {
@@ -72,8 +74,8 @@ fn needs_at<'a>(
 ) -> Result<Ty, AllocError>
     requires { KeepsJobsOf types.old basis.now made.old }
     ensures ty { IfOk result
-        (λ t. Means types.new t (type_in_job (λ j. needs_type (known_from basis.now)
-        (jobs_from basis.now) j.1) (option_map member_of job.entry))) }
+        (λ t. Means types.new t (option_map_or (λ j. needs_type (known_from basis.now)
+        (jobs_from basis.now) j.1) (option_map member_of job.entry) Any)) }
     ensures keeps { OnOk result (KeepsJobsOf types.new basis.now made.new) }
     ensures kept { OnOk result (BeginsWith (objects_of types.new) (objects_of types.old)) }
 {

@@ -1,6 +1,6 @@
 //! The type of `steps`: its fields are made once for all steps of a job or an action, and each step sees the first of them.
 ghost use Rattle.std.specs.Prelude.{◌≡◌, ◌-◌, ◌≤◌, IfOk, List, None, Option, OnOk, length, option_map, true};
-ghost use Rattle.std.specs.Option.{option_copied, option_to_list};
+ghost use Rattle.std.specs.Option.{option_copied, option_map_or, option_to_list};
 ghost use Rattle.al_base.specs.Growth.{BeginsWith};
 ghost use Rattle.al_check_contexts.specs.Contexts as contexts;
 ghost use Rattle.al_check_contexts.specs.Contexts.{OutputNames, Owner as StepOwner, step_field, steps_type};
@@ -11,11 +11,11 @@ ghost use Rattle.al_check_contexts.specs.Caches.{Keeps};
 ghost use Rattle.al_check_objects.specs.Numbers.{Lists, Means};
 ghost use Rattle.al_check_objects.specs.Objects as objects;
 ghost use Rattle.al_check_contexts.specs.Steps.{ArePrefixes, AreSteps, AreStepsOf};
-ghost use Rattle.al_check_contexts.specs.Steps as specs;
 ghost use Rattle.al_check_contexts.specs.Private.Owners.{owner_view};
 ghost use Rattle.al_expr_types.specs.Tables.{is_known, objects_of, type_at};
 ghost use Rattle.al_expr_types.specs.declared.types.Types as declared;
 ghost use Rattle.al_types.specs.Puts.{TypedName, put_all, put_new};
+ghost use Rattle.al_types.specs.Strings.{named_strings};
 ghost use Rattle.al_yaml_tree.specs.View.{view};
 
 use crate::basis::Basis;
@@ -39,7 +39,7 @@ pub(crate) struct StepFields<'a> {
 fn step_with(alloc: Global, types: &mut Types<'_>, outputs: Ty) -> Result<Ty, AllocError>
     requires { is_known types.old outputs ≡ true }
     ensures ty { IfOk result
-        (λ t. Means types.new t (specs.step_with (type_at types.old outputs))) }
+        (λ t. Means types.new t (contexts.step_type (type_at types.old outputs))) }
     ensures kept { OnOk result (BeginsWith (objects_of types.new) (objects_of types.old)) }
 {
     let one = FieldList::new(alloc).and(alloc, b"conclusion", Ty::STRING)?;
@@ -56,8 +56,8 @@ fn outputs_type<'a>(
     outputs: Option<&'a NameList>,
 ) -> Result<Ty, AllocError>
     ensures ty { IfOk result
-        (λ t. Means types.new t (contexts.outputs_type objects.loose_strings
-        (option_map (λ l. l.now) outputs.entry))) }
+        (λ t. Means types.new t
+        (option_map_or named_strings (option_map (λ l. l.now) outputs.entry) objects.loose_strings)) }
     ensures kept { OnOk result (BeginsWith (objects_of types.new) (objects_of types.old)) }
 {
     match outputs {

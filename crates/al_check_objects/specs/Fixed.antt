@@ -1,8 +1,8 @@
 -- The types of contexts that are the same in every file (GitHub, "Contexts reference").
 use Rattle.std.specs.Prelude.{ℕ, List, [], ◌∷◌, codes}
-use Rattle.al_types.specs.Types.{Type', Any, Number, Bool'}
+use Rattle.al_types.specs.Types.{Type', Any, Number, Bool', Present, object_with}
 use Rattle.al_types.specs.Strings.{strings}
-use Rattle.al_check_objects.specs.Objects.{strictly, loosely}
+use Rattle.al_check_objects.specs.Objects.{strictly}
 
 abbrev pub github_names : List (List ℕ)
 github_names =
@@ -22,10 +22,10 @@ runner_names =
     codes "name" ∷ codes "os" ∷ codes "arch" ∷ codes "temp" ∷ codes "tool_cache" ∷ codes "debug" ∷ codes "environment" ∷ []
 
 abbrev pub runner_type : Type'
-runner_type = loosely (strings runner_names) Any
+runner_type = object_with (strings runner_names) (Present Any)
 
 abbrev pub job_type : Type'
-job_type = loosely (strings (codes "status" ∷ [])) Any
+job_type = object_with (strings (codes "status" ∷ [])) (Present Any)
 
 abbrev pub strategy_type : Type'
 strategy_type =

@@ -66,12 +66,9 @@ combination _ = []
 abbrev pub include_all : List TypedName → List Node → List TypedName
 include_all = fold (λ ts n. put_all put_or_fuse ts (combination n))
 
-abbrev pub is_scalar : Node → Bool
-is_scalar n = is_some (scalar_in n)
-
 -- an `include` that isn't known before the workflow runs
 abbrev pub is_open_include : Node → Bool
-is_open_include n = is_scalar n || list_any is_scalar (items_in n)
+is_open_include n = is_some (scalar_in n) || list_any (λ i. is_some (scalar_in i)) (items_in n)
 
 -- the rows, and what each combination of `include` adds to them
 abbrev pub with_combinations : List TypedName → Option Node → Type'

@@ -1,5 +1,5 @@
 //! The type of `matrix`.
-ghost use Rattle.std.specs.Prelude.{◌≡◌, [], codes, map, option_map, IfOk, List, OnOk, true};
+ghost use Rattle.std.specs.Prelude.{◌≡◌, [], codes, is_some, map, option_map, IfOk, List, OnOk, true};
 ghost use Rattle.std.specs.List.{list_any};
 ghost use Rattle.std.specs.Option.{option_to_list};
 ghost use Rattle.al_base.specs.Growth.{BeginsWith};
@@ -12,6 +12,7 @@ ghost use Rattle.al_expr_types.specs.declared.types.Types as declared;
 ghost use Rattle.al_tree.specs.Values.{member_of, value_at};
 ghost use Rattle.al_types.specs.Puts.{TypedName, put_all, put_new};
 ghost use Rattle.al_types.specs.Types.{Absent, ArrayOf, Type', option_of, or_any};
+ghost use Rattle.al_yaml_tree.specs.Access.{scalar_in};
 ghost use Rattle.al_yaml_tree.specs.View.{entries_of, entry_view, nodes_of, view};
 
 use crate::field_lists::FieldList;
@@ -207,13 +208,13 @@ fn include<'a>(
 }
 
 fn is_scalar(node: &Node) -> bool
-    ensures { result ≡ matrix.is_scalar (view node.now) }
+    ensures { result ≡ is_some (scalar_in (view node.now)) }
 {
     node.scalar().is_some()
 }
 
 fn has_scalar(nodes: &[Node]) -> bool
-    ensures { result ≡ list_any matrix.is_scalar (map view nodes.now) }
+    ensures { result ≡ list_any (λ i. is_some (scalar_in i)) (map view nodes.now) }
 {
     for node in nodes {
         if is_scalar(node) {

@@ -37,12 +37,9 @@ pub record Place : Type 0 where
 abbrev pub rule_or_any : Option Rule → Rule
 rule_or_any r = unwrap_or r (record { scalars = AnyScalar; items = Some Any; keys_of = free Any })
 
-abbrev pub has_no_keys : Keys → Bool
-has_no_keys no_keys = true
-has_no_keys _ = false
-
+-- no lists, and no mappings
 abbrev pub takes_scalars_only : Rule → Bool
-takes_scalars_only r = is_none r.items && has_no_keys r.keys_of
+takes_scalars_only r = elim r.keys_of [ no_keys ↦ is_none r.items | _ ↦ false ]
 
 abbrev pub row_of_way : FileKind → List WayStep → Option Row
 row_of_way kind.Workflow way = availability (keys_of way)

@@ -70,22 +70,13 @@ fn rule_at(shape: Shape) -> Rule
     }
 }
 
-fn has_no_keys(keys: Keys) -> bool
-    ensures { result ≡ places.has_no_keys (keys_view keys) }
-{
-    match keys {
-        Keys::No => true,
-        Keys::Free(_) => false,
-        Keys::These(_, _) => false,
-    }
-}
-
 fn takes_scalars_only(rule: Rule) -> bool
     ensures { result ≡ places.takes_scalars_only (rule_view rule) }
 {
-    match rule.items {
-        Some(_) => false,
-        None => has_no_keys(rule.keys),
+    match rule.keys {
+        Keys::No => rule.items.is_none(),
+        Keys::Free(_) => false,
+        Keys::These(_, _) => false,
     }
 }
 

@@ -6,8 +6,6 @@ use Rattle.std.specs.Str.{bytes_eq}
 use Rattle.al_base.specs.declared.codes.RuleCode.TheVariants.{ScheduleTooOften, UnknownActivity, UnknownEvent, UnknownInputType}
 use Rattle.al_base.specs.declared.codes.RuleCode.TheVariants.{WrongPattern, WrongSchedule}
 use Rattle.al_base.specs.declared.faults.Fault.{Fault}
-use Rattle.al_base.specs.declared.faults.Span.{Span}
-use Rattle.al_scalar.specs.Scalar.{Scalar}
 use Rattle.al_yaml_tree.specs.Node.{Node}
 use Rattle.al_tree.specs.Names.{is_event}
 use Rattle.al_tree.specs.Values.{text_at_key, texts_in, texts_at, entries_in, entries_at, items_in}
@@ -20,12 +18,10 @@ use Rattle.al_rules_formats.specs.declared.patterns.Filter.TheVariants.{Names, P
 use Rattle.al_rules_formats.specs.declared.schedules.Item.{Item}
 
 -- an activity type that isn't in the event's row
-abbrev pub activity_faults : List (List ℕ) → Scalar × Span → List Fault
-activity_faults types s = unless_among UnknownActivity types (of_scalar s)
-
 abbrev pub activity_type_faults : List ℕ → Node → List Fault
 activity_type_faults name event =
-    option_map_or (λ types. flat_map (activity_faults types) (texts_at (codes "types") event)) (activities_of name) []
+    option_map_or (λ types. flat_map (λ s. unless_among UnknownActivity types (of_scalar s)) (texts_at (codes "types") event))
+    (activities_of name) []
 
 -- a filter that is no pattern
 abbrev pub filter_faults : Filter → Node → List ℕ → List Fault

@@ -29,11 +29,8 @@ step_faults step =
     env_faults step ++ condition_faults (text_at_key (codes "if") step) ++ shell_faults (text_at_key (codes "shell") step)
     ++ script_faults (text_at_key (codes "run") step)
 
-abbrev pub step_ids : List Node → List Named
-step_ids steps = map of_scalar (filter_map (text_at_key (codes "id")) steps)
-
 abbrev pub steps_faults : List Node → List Fault
-steps_faults steps = ids_faults (step_ids steps) ++ flat_map step_faults steps
+steps_faults steps = ids_faults (map of_scalar (filter_map (text_at_key (codes "id")) steps)) ++ flat_map step_faults steps
 
 -- of a container or a service
 abbrev pub container_faults : Node → List Fault

@@ -1,12 +1,12 @@
 //! Rules of events: their names, activity types, filters, schedules, and the types of inputs.
 
-ghost use Rattle.al_base.specs.declared.codes.RuleCode.TheVariants.{WrongPattern};
-ghost use Rattle.al_rules.specs.Events.{activity_faults, cron_faults, event_faults, filter_faults, filters_faults, input_faults};
+ghost use Rattle.al_base.specs.declared.codes.RuleCode.TheVariants.{UnknownActivity, WrongPattern};
+ghost use Rattle.al_rules.specs.Events.{cron_faults, event_faults, filter_faults, filters_faults, input_faults};
 ghost use Rattle.al_rules.specs.Events.{activity_type_faults, event_name_faults, inputs_faults, named_faults, on_faults, schedule_faults};
 ghost use Rattle.al_rules_formats.specs.Patterns.{is_pattern as means_pattern};
 ghost use Rattle.al_rules_formats.specs.Schedules.{schedule_of};
 ghost use Rattle.al_rules_settings.specs.Views.{named_of};
-ghost use Rattle.al_rules_settings.specs.Words.{of_scalar, unless};
+ghost use Rattle.al_rules_settings.specs.Words.{of_scalar, unless, unless_among};
 ghost use Rattle.al_tree.specs.Values.{member_of, scalar_node_of};
 ghost use Rattle.al_yaml_tree.specs.View.{view};
 ghost use Rattle.std.specs.List.{flat_map};
@@ -29,7 +29,8 @@ fn check_type(
     faults: &mut FaultSink,
 ) -> Result<(), AllocError>
     ensures { OnOk result (faults.new ≡ faults.old
-        ++ activity_faults (map (λ n. n.now) types.now) (scalar_node_of scalar.entry)) }
+        ++ unless_among UnknownActivity (map (λ n. n.now) types.now)
+        (of_scalar (scalar_node_of scalar.entry))) }
 {
     report_unless_among(RuleCode::UnknownActivity, types, named_text(scalar), faults)
 }
@@ -41,7 +42,7 @@ fn check_types(
     faults: &mut FaultSink,
 ) -> Result<(), AllocError>
     ensures { OnOk result (faults.new ≡ faults.old
-        ++ flat_map (activity_faults (map (λ n. n.now) types.now))
+        ++ flat_map (λ s. unless_among UnknownActivity (map (λ n. n.now) types.now) (of_scalar s))
         (map scalar_node_of scalars.now)) }
 {
     for scalar in scalars {

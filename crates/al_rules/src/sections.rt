@@ -1,12 +1,13 @@
 //! Steps, containers and jobs: which rules apply where.
 
 ghost use Rattle.al_rules.specs.Rules.{container_faults, containers_faults, job_faults, section_faults};
-ghost use Rattle.al_rules.specs.Rules.{settings_faults, step_faults, step_ids, steps_faults};
+ghost use Rattle.al_rules.specs.Rules.{settings_faults, step_faults, steps_faults};
 ghost use Rattle.al_rules_settings.specs.Matrix.{matrix_faults};
 ghost use Rattle.al_rules_settings.specs.Views.{named_of};
-ghost use Rattle.al_tree.specs.Values.{entries_at, member_of, scalar_node_of, text_below, value_at, value_below};
+ghost use Rattle.al_rules_settings.specs.Words.{of_scalar};
+ghost use Rattle.al_tree.specs.Values.{entries_at, member_of, scalar_node_of, text_at_key, text_below, value_at, value_below};
 ghost use Rattle.al_yaml_tree.specs.View.{view};
-ghost use Rattle.std.specs.List.{flat_map};
+ghost use Rattle.std.specs.List.{filter_map, flat_map};
 ghost use Rattle.std.specs.Option.{option_map_or};
 ghost use Rattle.std.specs.Prelude.{◌≡◌, ◌++◌, [], ◌∷◌, codes, map, option_map, IfOk, OnOk};
 
@@ -31,7 +32,8 @@ fn check_step(step: &Node, faults: &mut FaultSink) -> Result<(), AllocError>
 
 /// The ids of some steps.
 fn ids_of(alloc: Global, steps: &[Node]) -> Result<Vec<Named<'_>>, AllocError>
-    ensures { IfOk result (λ v. map named_of v.items ≡ step_ids (map view steps.now)) }
+    ensures { IfOk result (λ v. map named_of v.items
+        ≡ map of_scalar (filter_map (text_at_key (codes "id")) (map view steps.now))) }
 {
     let mut ids = Vec::new(alloc);
     for step in steps {

@@ -4,7 +4,7 @@ use Rattle.std.proofs.lemmas.Bool.Decides.{nat_tests}
 use Rattle.std.proofs.lemmas.List.{at_drop_all, at_drop_more}
 use Rattle.std.specs.Prelude.{option_and_then}
 use Rattle.al_base.specs.Ascii.{ascii}
-use Rattle.al_rules_formats.specs.Patterns.{is_mark, before_bracket, ascends, is_class, are_items_from, goes_on_escaped, goes_on_in_class, are_items}
+use Rattle.al_rules_formats.specs.Patterns.{is_mark, before_bracket, ascends, is_class, are_items_from, goes_on_escaped, goes_on_in_class}
 use Rattle.al_rules_formats.specs.Private.PatternStates.{read, read_all, is_done}
 use Rattle.al_rules_formats.specs.declared.patterns.State.{State}
 use Rattle.al_rules_formats.specs.declared.patterns.State.TheVariants.{FirstItem, AfterItem, AfterEscape, ClassFirst, ClassNext, ClassLow, ClassDash}
@@ -96,17 +96,17 @@ is_read (c ∷ cs) =
       (λ a. dash_at a c cs (c == ascii "]") (nat_lt c a) refl f.0 f.3),
     )
 
-states_say : (cs : List ℕ) → done FirstItem cs ≡ are_items cs
+states_say : (cs : List ℕ) → done FirstItem cs ≡ are_items_from false cs
 states_say [] = refl
 states_say (c ∷ cs) =
     let f = is_read cs in item_at false cs (c == ascii "\\") (c == ascii "[") (is_mark c) f.0 f.1 f.2
 
 -- the code at its end, and where no character may stand
-pub read_to_end : (state : State) (cs : List ℕ) (i : ℕ) → length cs ≤ i → read_all state (drop i cs) ≡ read_all FirstItem cs → is_done (Some state) ≡ are_items cs
+pub read_to_end : (state : State) (cs : List ℕ) (i : ℕ) → length cs ≤ i → read_all state (drop i cs) ≡ read_all FirstItem cs → is_done (Some state) ≡ are_items_from false cs
 read_to_end state cs i h e = sym (at_drop_all (λ l. is_done (read_all state l)) cs i h) ∙ ap is_done e ∙ states_say cs
 
 pub read_wrong : (state : State) (x : ℕ) (cs : List ℕ) (i : ℕ) → i < length cs → x ≡ get_or cs i x → None ≡ read state x
-    → read_all state (drop i cs) ≡ read_all FirstItem cs → false ≡ are_items cs
+    → read_all state (drop i cs) ≡ read_all FirstItem cs → false ≡ are_items_from false cs
 read_wrong state x cs i h f n e =
     ap (goes (drop (i + 1) cs)) n ∙ ap (λ y. goes (drop (i + 1) cs) (read state y)) f
     ∙ sym (at_drop_more (λ l. is_done (read_all state l)) cs i x h) ∙ ap is_done e ∙ states_say cs

@@ -1,5 +1,5 @@
 -- Texts that are one expression.
-use Rattle.std.specs.Prelude.{ℕ, List, [], ◌∷◌, Bool, false, ◌&&◌, ◌+◌, ◌-◌, nat_le, length, take, drop, Option, None}
+use Rattle.std.specs.Prelude.{ℕ, List, [], ◌∷◌, ◌++◌, Bool, false, ◌&&◌, ◌+◌, ◌-◌, nat_le, length, take, drop, Option, None}
 use Rattle.std.specs.List.{list_all}
 use Rattle.std.specs.Str.{is_utf8}
 use Rattle.al_base.specs.declared.faults.Fault.{Fault}
@@ -15,11 +15,8 @@ abbrev pub may_stand : Around → ℕ → Bool
 may_stand Nothing b = false
 may_stand Blanks b = is_blank_byte b
 
-abbrev pub stands_alone : Around → List ℕ → Span → Bool
-stands_alone around text s = list_all (may_stand around) (take (s.start - 3) text) && list_all (may_stand around) (drop (s.end + 2) text)
-
 abbrev pub is_lone : Around → List ℕ → List Span → Option Fault → Bool
-is_lone around text (s ∷ []) None = stands_alone around text s
+is_lone around text (s ∷ []) None = list_all (may_stand around) (take (s.start - 3) text ++ drop (s.end + 2) text)
 is_lone around text _ _ = false
 
 -- A text that has chunks: UTF-8 of at most 4,194,304 bytes, which each text of a file is.

@@ -5,8 +5,9 @@
 --
 -- A character of an item isn't `\`, `[`, `?` or `+`. A class is one or more characters up to the first `]`; read from left to right,
 -- two of them with `-` between them are a range, whose second one isn't less than its first.
-use Rattle.std.specs.Prelude.{ℕ, List, [], ◌∷◌, Bool, true, false, ◌==◌, nat_le, ◌||◌, ◌&&◌, not, drop, if◌then◌else◌}
-use Rattle.std.specs.List.{list_any}
+use Rattle.std.specs.Prelude.{ℕ, List, [], ◌∷◌, Bool, true, false, ◌==◌, nat_eq, nat_le, ◌||◌, ◌&&◌, not, codes, drop}
+use Rattle.std.specs.Prelude.{if◌then◌else◌}
+use Rattle.std.specs.List.{list_any, starts_with}
 use Rattle.std.specs.Str.{chars}
 use Rattle.std.specs.Str.Lossy.{utf8_lossy}
 use Rattle.al_base.specs.Ascii.{ascii}
@@ -52,17 +53,9 @@ abbrev mutual
   goes_on_in_class [] = false
   goes_on_in_class (c ∷ cs) = if c == ascii "]" then are_items_from true cs else goes_on_in_class cs
 
--- one or more items
-abbrev pub are_items : List ℕ → Bool
-are_items cs = are_items_from false cs
-
 -- the characters behind a `!` at the start
 abbrev pub behind_not : List ℕ → List ℕ
 behind_not cs = if begins_with (ascii "!") cs then drop 1 cs else cs
-
--- `./`
-abbrev pub is_relative : List ℕ → Bool
-is_relative cs = begins_with (ascii ".") cs && begins_with (ascii "/") (drop 1 cs)
 
 abbrev pub is_barred : ℕ → Bool
 is_barred c = c == ascii " " || c == ascii "~" || c == ascii "^" || c == ascii ":"
@@ -70,11 +63,11 @@ is_barred c = c == ascii " " || c == ascii "~" || c == ascii "^" || c == ascii "
 -- a path filter doesn't begin with `./`, branch and tag filters lack some characters
 abbrev pub has_barred : Filter → List ℕ → Bool
 has_barred Names cs = list_any is_barred cs
-has_barred Paths cs = is_relative (behind_not cs)
+has_barred Paths cs = starts_with nat_eq (behind_not cs) (codes "./")
 
--- a pattern by its characters: an optional `!`, or none, and then items
+-- a pattern by its characters: an optional `!`, or none, and then one or more items
 abbrev pub is_right : Filter → List ℕ → Bool
-is_right filter cs = not (has_barred filter cs) && (are_items cs || are_items (behind_not cs))
+is_right filter cs = not (has_barred filter cs) && (are_items_from false cs || are_items_from false (behind_not cs))
 
 abbrev pub is_pattern : Filter → List ℕ → Bool
 is_pattern filter bs = is_right filter (chars (utf8_lossy bs))

@@ -67,9 +67,6 @@ item_parts r (head ∷ []) = head_of r None (pieces (ascii "-") head)
 item_parts r (head ∷ step ∷ []) = option_and_then (λ n. head_of r (Some n) (pieces (ascii "-") head)) (number_in 1 r.high step)
 item_parts r _ = None
 
-abbrev pub item_of : Range → List ℕ → Option Item
-item_of r bs = item_parts r (pieces (ascii "/") bs)
-
 -- all of them, if each is there
 abbrev pub collect_all : {X : Type 0} → List (Option X) → Option (List X)
 collect_all [] = Some []
@@ -77,7 +74,7 @@ collect_all (x ∷ xs) = option_and_then (λ y. option_map (λ ys. y ∷ ys) (co
 
 -- items separated by commas
 abbrev pub items_of_field : Range → List ℕ → Option (List Item)
-items_of_field r bs = collect_all (map (item_of r) (pieces (ascii ",") bs))
+items_of_field r bs = collect_all (map (λ item. item_parts r (pieces (ascii "/") item)) (pieces (ascii ",") bs))
 
 abbrev pub is_field : Range → List ℕ → Bool
 is_field r bs = is_some (items_of_field r bs)
@@ -108,8 +105,5 @@ minute_set items = filter (λ n. list_any (picks n) items) (range_with_len 0 60)
 abbrev pub is_just_below : ℕ → ℕ → Bool
 is_just_below m n = nat_lt m n && nat_lt (n - m) 5
 
-abbrev pub are_close : List ℕ → Bool
-are_close ns = list_any (λ m. list_any (is_just_below m) ns) ns
-
 abbrev pub is_too_often : List Item → Bool
-is_too_often items = are_close (minute_set items)
+is_too_often items = let minutes = minute_set items in list_any (λ m. list_any (is_just_below m) minutes) minutes

@@ -1,8 +1,8 @@
 //! Texts that are one expression.
 
-ghost use Rattle.al_rules_formats.specs.Chunks.{is_lone_chunk as lone_chunk, is_short, may_stand, stands_alone as alone};
+ghost use Rattle.al_rules_formats.specs.Chunks.{is_lone_chunk as lone_chunk, is_short, is_lone, may_stand};
 ghost use Rattle.std.specs.List.{list_all};
-ghost use Rattle.std.specs.Prelude.{◌≡◌, false, true, drop, take, IfOk, MatchOption};
+ghost use Rattle.std.specs.Prelude.{◌≡◌, [], ◌∷◌, false, true, drop, take, IfOk, MatchOption, None};
 
 use al_base::Span;
 use al_base::limits::LONGEST_TEXT;
@@ -64,7 +64,7 @@ fn suffix(bytes: &[u8], count: usize) -> &[u8]
 
 /// Whether nothing but what may stands outside the braces of a chunk.
 fn stands_alone(around: Around, bytes: &[u8], content: Span) -> bool
-    ensures { result ≡ alone around bytes.now content }
+    ensures { result ≡ is_lone around bytes.now (content ∷ []) None }
 {
     may_all(
         around,

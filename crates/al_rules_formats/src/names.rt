@@ -1,26 +1,27 @@
 //! The names that jobs, steps and environment variables take.
 
-ghost use Rattle.al_rules_formats.specs.Names.{begins_id, continues_id, is_id as id, is_variable as variable, is_variable_byte};
+ghost use Rattle.al_expr_grammar.specs.Tokens.{begins_name, goes_on_name};
+ghost use Rattle.al_rules_formats.specs.Names.{is_id as id, is_variable as variable, is_variable_byte};
 ghost use Rattle.std.specs.List.{list_all};
 ghost use Rattle.std.specs.Prelude.{◌≡◌};
 
 /// Whether a byte may begin an id.
 fn begins(byte: u8) -> bool
-    ensures { result ≡ begins_id byte }
+    ensures { result ≡ begins_name byte }
 {
     byte.is_ascii_alphabetic() || byte == b'_'
 }
 
 /// Whether a byte may stand in an id behind the first one.
 fn continues(byte: u8) -> bool
-    ensures { result ≡ continues_id byte }
+    ensures { result ≡ goes_on_name byte }
 {
-    byte.is_ascii_alphanumeric() || byte == b'_' || byte == b'-'
+    begins(byte) || byte.is_ascii_digit() || byte == b'-'
 }
 
 /// Whether all of some bytes may.
 fn all_continue(bytes: &[u8]) -> bool
-    ensures { result ≡ list_all continues_id bytes.now }
+    ensures { result ≡ list_all goes_on_name bytes.now }
 {
     for byte in bytes {
         if !continues(*byte) {

@@ -1,10 +1,10 @@
 //! Filter patterns, of branches, tags and paths (GitHub, "Workflow syntax", "Filter pattern cheat sheet").
 
-ghost use Rattle.al_rules_formats.specs.Patterns.{are_items as items, behind_not as without_not, has_barred as barred, is_barred};
-ghost use Rattle.al_rules_formats.specs.Patterns.{is_pattern as pattern, is_relative as relative, is_right};
+ghost use Rattle.al_rules_formats.specs.Patterns.{are_items_from, behind_not as without_not, has_barred as barred, is_barred};
+ghost use Rattle.al_rules_formats.specs.Patterns.{is_pattern as pattern, is_right};
 ghost use Rattle.al_rules_formats.specs.Private.PatternStates.{outside as outside_class, read as read_one};
-ghost use Rattle.std.specs.List.{list_any};
-ghost use Rattle.std.specs.Prelude.{◌≡◌, IfOk};
+ghost use Rattle.std.specs.List.{list_any, starts_with};
+ghost use Rattle.std.specs.Prelude.{◌≡◌, codes, false, nat_eq, IfOk};
 ghost use Rattle.std.specs.Str.{chars};
 
 use std::alloc::{AllocError, Global};
@@ -73,7 +73,7 @@ fn read(state: State, c: char) -> Option<State>
 
 /// Whether characters are one or more items.
 fn are_items(characters: &[char]) -> bool
-    ensures { result ≡ items characters.now }
+    ensures { result ≡ are_items_from false characters.now }
 {
     let mut state = State::FirstItem;
     for c in characters {
@@ -97,7 +97,7 @@ fn behind_not(characters: &[char]) -> &[char]
 
 /// Whether a path begins with `./`.
 fn is_relative(characters: &[char]) -> bool
-    ensures { result ≡ relative characters.now }
+    ensures { result ≡ starts_with nat_eq characters.now (codes "./") }
 {
     matches!(characters, ['.', '/', ..])
 }

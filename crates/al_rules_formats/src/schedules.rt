@@ -1,8 +1,8 @@
 //! Schedules: five fields, each a set of numbers (GitHub, "Events that trigger workflows", `schedule`).
 
-ghost use Rattle.al_rules_formats.specs.Schedules.{are_close as close, collect_all, from_to as numbers_from_to, head_of, items_of_field};
+ghost use Rattle.al_rules_formats.specs.Schedules.{collect_all, from_to as numbers_from_to, head_of, items_of_field};
 ghost use Rattle.al_rules_formats.specs.Schedules.{is_field as field_is_right, is_just_below, is_too_often as too_often};
-ghost use Rattle.al_rules_formats.specs.Schedules.{item_of, minute_set};
+ghost use Rattle.al_rules_formats.specs.Schedules.{item_parts, minute_set};
 ghost use Rattle.al_rules_formats.specs.Schedules.{day_names, minutes_in, month_names, number_in as in_range_number, written_number};
 ghost use Rattle.al_rules_formats.specs.Schedules.{picks as item_picks};
 ghost use Rattle.al_rules_formats.specs.Schedules.{range, schedule_of, schedule_value, words};
@@ -269,7 +269,7 @@ fn head(
 /// An item of a field.
 fn item_at(alloc: Global, range: Range, text: &[u8]) -> Result<Option<Item>, AllocError>
     requires { range.high < 1000 }
-    ensures { IfOk result (λ r. r ≡ item_of (range_of range) text.now) }
+    ensures { IfOk result (λ r. r ≡ item_parts (range_of range) (pieces (ascii "/") text.now)) }
 {
     let parts = split(alloc, text, b'/')?;
     match parts.as_slice() {
@@ -296,7 +296,7 @@ fn items_of(alloc: Global, range: Range, parts: &[&[u8]]) -> Result<Option<Vec<I
     requires { range.high < 1000 }
     ensures { IfOk result
         (λ r. option_map (λ v. v.items) r
-        ≡ collect_all (map (item_of (range_of range)) (map (λ p. p.now) parts.now))) }
+        ≡ collect_all (map (λ item. item_parts (range_of range) (pieces (ascii "/") item)) (map (λ p. p.now) parts.now))) }
 {
     let mut items = Vec::new(alloc);
     for part in parts {
@@ -456,7 +456,7 @@ fn is_close_below(low: u32, numbers: &[u32]) -> bool
 
 /// Whether two of some numbers differ by less than 5.
 fn are_close(numbers: &[u32]) -> bool
-    ensures { result ≡ close numbers.now }
+    ensures { result ≡ list_any (λ m. list_any (is_just_below m) numbers.now) numbers.now }
 {
     for low in numbers {
         if is_close_below(*low, numbers) {

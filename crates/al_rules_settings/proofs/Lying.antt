@@ -9,11 +9,12 @@ use Rattle.al_base.specs.NamePlaces.{name_place}
 use Rattle.al_base.specs.declared.faults.Span.{Span}
 use Rattle.al_rules_formats.specs.Names.{is_id, is_variable}
 use Rattle.al_scalar.specs.Scalar.{Scalar, text_of}
+use Rattle.al_yaml_tree.specs.Access.{mapping_in}
 use Rattle.al_yaml_tree.specs.Node.{Node, span_of}
 use Rattle.al_base.specs.Names.{among}
 use Rattle.al_tree.specs.Values.{entries_at, entries_in, items_at, text_in, value_at, value_below}
-use Rattle.al_rules_settings.specs.Ids.{id_faults, ids_faults, repeated_faults}
-use Rattle.al_rules_settings.specs.Matrix.{exclude_faults, exclude_keys, is_dynamic, is_mapping, is_null_node, is_row_value, matrix_faults, row_faults, row_names, shape_faults}
+use Rattle.al_rules_settings.specs.Ids.{ids_faults, repeated_faults}
+use Rattle.al_rules_settings.specs.Matrix.{exclude_faults, exclude_keys, is_dynamic, is_null_node, is_row_value, matrix_faults, row_faults, row_names, shape_faults}
 use Rattle.al_rules_settings.specs.Names.{permissions, scope_values, whole_values}
 use Rattle.al_rules_settings.specs.Settings.{all_permissions_faults, condition_faults, credentials_faults, env_faults, is_always_true}
 use Rattle.al_rules_settings.specs.Settings.{is_password, is_shell, password_faults, permission_faults, permissions_faults, script_faults}
@@ -35,8 +36,8 @@ module _ (size : ℕ) where
 
   pub ids_lie : (ids : List Named) → AllByRecursion (NameLies size) ids → Are size (ids_faults ids)
   ids_lie ids h =
-      both size (flat_map id_faults ids) (repeated_faults [] ids)
-      (each_of (NameLies size) (Lies size) id_faults (λ n p. unless_lies size (is_id n.text) WrongId n p) ids h) (repeated_lie [] ids h)
+      both size (flat_map (λ n. unless (is_id n.text) WrongId n) ids) (repeated_faults [] ids)
+      (each_of (NameLies size) (Lies size) (λ n. unless (is_id n.text) WrongId n) (λ n p. unless_lies size (is_id n.text) WrongId n p) ids h) (repeated_lie [] ids h)
 
   -- ---- matrices
 
@@ -60,7 +61,7 @@ module _ (size : ℕ) where
   matrix_lies n f =
       let place = name_place (row_names (entries_in n)) in
       let keys = exclude_keys (items_at (codes "exclude") n) in
-      or_lies size (is_mapping n) _ _
+      or_lies size (is_some (mapping_in n)) _ _
       (both size (flat_map row_faults (entries_in n)) (flat_map (exclude_faults place) keys)
       (each_of (Pair size) (Lies size) row_faults row_lies (entries_in n) (entries_in_fine size n f))
       (excludes_lie place keys (exclude_place (items_at (codes "exclude") n) (items_at_fine size (codes "exclude") n f))))

@@ -22,12 +22,9 @@ is_null_node n = option_map_or is_null (scalar_in n) false
 abbrev pub is_dynamic : Node → Bool
 is_dynamic n = option_map_or (λ s. has_chunk (text_of s)) (scalar_in n) false
 
-abbrev pub is_mapping : Node → Bool
-is_mapping n = is_some (mapping_in n)
-
 -- `include` and `exclude`: a list of mappings or scalars with an expression
 abbrev pub is_combination : Node → Bool
-is_combination n = is_mapping n || is_dynamic n
+is_combination n = is_some (mapping_in n) || is_dynamic n
 
 abbrev pub are_combinations : Node → Bool
 are_combinations n = option_map_or (list_all is_combination) (sequence_in n) false
@@ -61,4 +58,5 @@ mapping_faults n =
     ++ flat_map (exclude_faults (name_place (row_names (entries_in n)))) (exclude_keys (items_at (codes "exclude") n))
 
 abbrev pub matrix_faults : Node → List Fault
-matrix_faults n = if is_mapping n then mapping_faults n else shape_faults (is_null_node n || is_dynamic n) (span_of n) (codes "matrix")
+matrix_faults n =
+    if is_some (mapping_in n) then mapping_faults n else shape_faults (is_null_node n || is_dynamic n) (span_of n) (codes "matrix")

@@ -1,8 +1,11 @@
 //! The keys of jobs and the ids of steps.
 
-ghost use Rattle.al_rules_settings.specs.Ids.{id_faults, ids_faults, repeated_faults};
+ghost use Rattle.al_rules_settings.specs.Ids.{ids_faults, repeated_faults};
 ghost use Rattle.al_base.specs.NamePlaces.{TellsFirsts, is_first_name, name_place};
+ghost use Rattle.al_base.specs.declared.codes.RuleCode.TheVariants.{WrongId};
+ghost use Rattle.al_rules_formats.specs.Names.{is_id as id};
 ghost use Rattle.al_rules_settings.specs.Views.{named_of};
+ghost use Rattle.al_rules_settings.specs.Words.{unless};
 ghost use Rattle.std.specs.List.{flat_map};
 ghost use Rattle.std.specs.Prelude.{◌≡◌, ◌++◌, [], map, IfOk, OnOk};
 
@@ -25,7 +28,8 @@ fn texts_of<'a>(alloc: Global, ids: &[Named<'a>]) -> Result<Vec<&'a [u8]>, Alloc
 
 /// Adds the ids that are wrong.
 fn check_each(ids: &[Named<'_>], faults: &mut FaultSink) -> Result<(), AllocError>
-    ensures { OnOk result (faults.new ≡ faults.old ++ flat_map id_faults (map named_of ids.now)) }
+    ensures { OnOk result (faults.new ≡ faults.old
+        ++ flat_map (λ n. unless (id n.text) WrongId n) (map named_of ids.now)) }
 {
     for id in ids {
         report_unless(is_id(id.text), RuleCode::WrongId, *id, faults)?;

@@ -3,15 +3,16 @@
 ghost use Rattle.al_base.specs.NamePlaces.{name_place, name_position};
 ghost use Rattle.al_rules_settings.specs.Matrix.{are_combinations as all_combinations, exclude_faults, exclude_keys};
 ghost use Rattle.al_rules_settings.specs.Matrix.{is_combination as combination, is_dynamic as dynamic};
-ghost use Rattle.al_rules_settings.specs.Matrix.{is_mapping as mapping, is_null_node as null_node, is_row_value as row_value};
+ghost use Rattle.al_rules_settings.specs.Matrix.{is_null_node as null_node, is_row_value as row_value};
 ghost use Rattle.al_rules_settings.specs.Matrix.{mapping_faults, matrix_faults};
 ghost use Rattle.al_rules_settings.specs.Matrix.{row_faults, row_names as names_of_rows, shape_faults};
 ghost use Rattle.al_rules_settings.specs.Views.{named_of};
 ghost use Rattle.al_rules_settings.specs.Words.{of_key};
 ghost use Rattle.al_tree.specs.Values.{entries_in, member_of};
+ghost use Rattle.al_yaml_tree.specs.Access.{mapping_in};
 ghost use Rattle.al_yaml_tree.specs.View.{view};
 ghost use Rattle.std.specs.List.{flat_map, list_all};
-ghost use Rattle.std.specs.Prelude.{◌≡◌, ◌++◌, map, IfOk, OnOk};
+ghost use Rattle.std.specs.Prelude.{◌≡◌, ◌++◌, is_some, map, IfOk, OnOk};
 
 use crate::reports::{Named, named_key, report_unless};
 use al_base::{Code, FaultSink, NamePositions, RuleCode, Span};
@@ -43,7 +44,7 @@ fn is_dynamic(node: &Node) -> bool
 
 /// Whether a node is a mapping.
 fn is_mapping(node: &Node) -> bool
-    ensures { result ≡ mapping (view node.now) }
+    ensures { result ≡ is_some (mapping_in (view node.now)) }
 {
     node.mapping().is_some()
 }

@@ -6,10 +6,6 @@ use Rattle.al_base.specs.Printable.{printable}
 use Rattle.al_base.specs.declared.codes.Code.{Code}
 use Rattle.al_base.specs.declared.faults.Fault.{Fault}
 
--- the kind that a report names
-abbrev pub fault_kind : Code → List ℕ
-fault_kind code = (code_row code).kind
-
 -- the argument i, as it is printed
 abbrev pub argument : List (List ℕ) → ℕ → List ℕ
 argument args i = printable (unwrap_or (slice_get args i) [])
@@ -21,4 +17,4 @@ message code args = let row = code_row code in row.head ++ argument args 0 ++ ro
 abbrev pub fault_line : List ℕ → List ℕ → Fault → List ℕ
 fault_line path bytes fault =
     path ++ codes ":" ++ decimal (line_at bytes fault.span.start) ++ codes ":" ++ decimal (column_at bytes fault.span.start) ++ codes ": "
-    ++ message fault.code fault.args ++ (codes " [" ++ fault_kind fault.code ++ codes "]\n")
+    ++ message fault.code fault.args ++ (codes " [" ++ (code_row fault.code).kind ++ codes "]\n")

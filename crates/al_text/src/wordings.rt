@@ -1,7 +1,6 @@
 //! The table of fault codes: what a report prints for each.
 ghost use Rattle.std.specs.Prelude.{◌≡◌, [], codes};
 ghost use Rattle.al_base.specs.Codes.{code_row, call_kind};
-ghost use Rattle.al_text.specs.Messages.{fault_kind};
 ghost use Rattle.al_base.specs.declared.codes.Code.TheVariants as code;
 
 use al_base::{CallCode, Caller, Code, ExpressionCode, KeyCode, RuleCode, YamlCode};
@@ -17,7 +16,7 @@ pub(crate) struct CodeRow {
 
 /// The kind that a report prints in brackets after the message of a fault. Doesn't allocate.
 pub fn kind(code: Code) -> &'static str
-    ensures { result.now ≡ fault_kind code }
+    ensures { result.now ≡ (code_row code).kind }
 {
     row_of(code).kind
 }

@@ -1,7 +1,8 @@
 use Rattle.std.proofs.Common.{None, Some, ◌∙◌, ap, sym}
 use Rattle.al_tree.specs.Values.{member_of}
 use Rattle.al_check_objects.specs.Objects.{loose_any}
-use Rattle.al_check_contexts.specs.Contexts.{outputs_type}
+use Rattle.al_types.specs.Strings.{named_strings}
+use Rattle.std.specs.Option.{option_map_or}
 use Rattle.al_check_contexts.specs.Lookups.{called_at, known_by, shown_with}
 use Rattle.al_check_contexts.specs.Made.{known_from}
 use Rattle.al_check_contexts.proofs.JobLemmas.{keeps_bare_stays, shown_called, shown_own}
@@ -13,7 +14,7 @@ pub returns-then-has_value-clause-ty : goal.returns-then-has_value-clause-ty
 returns-then-has_value-clause-ty c =
     let known = c.args.basis.now.outputs.now in
     means_as c.called_type.new.types c.in_ok-ty.ty _ _
-    (ap (λ o. shown_with (outputs_type loose_any o)) (c.position-position.ensures ∙ ap (λ k. known_by known (Some k) None) c.key_text.ensures)
+    (ap (λ o. shown_with (option_map_or named_strings o loose_any)) (c.position-position.ensures ∙ ap (λ k. known_by known (Some k) None) c.key_text.ensures)
     ∙ shown_called (known_by known) (member_of c.args.job) (sym c.has_value.ensures ∙ c.if-has_value.true))
     c.in_ok-ty.ensures.ty
 
