@@ -1,5 +1,8 @@
 -- Which files a change of one path can affect.
-use Rattle.std.proofs.Common.{zero, suc, ◌+◌, ◌<◌, ◌++◌, take, get_or, arith, ◌≡◌, ℕ, Bool, true, false, not, ◌&&◌, ◌||◌, cond, filter}
+use Rattle.std.proofs.Math.Bool.{or-false, and-true, and-false, or_comm, and_comm}
+use Rattle.std.proofs.lemmas.Map.Lookups.{btree_set_from_contains, exact_bytes}
+use Rattle.std.proofs.lemmas.Map.Keys.{sorted_tail}
+use Rattle.std.proofs.Common.{◌+◌, ◌<◌, ◌++◌, take, get_or, ◌≡◌, ℕ, Bool, true, false, not, ◌&&◌, ◌||◌, cond, filter}
 use Rattle.std.proofs.Common.{List, [], ◌∷◌, length, Option, Some, None, is_some, refl, sym, ◌∙◌, ap, subst}
 use Rattle.std.specs.Prelude.{bytes_eq}
 use Rattle.std.proofs.Common.{Bor}
@@ -8,57 +11,36 @@ use Rattle.al_session_folder.specs.declared.kept.KeptFile.{KeptFile}
 use Rattle.std.specs.Option.{option_map, option_map_or, option_eq, option_or}
 use Rattle.std.specs.List.{AllByRecursion, list_all, list_any}
 use Rattle.std.specs.List.Sorted.{IsStrictlySortedBy}
-use Rattle.std.specs.Ordering.{nat_cmp, is_eq, match_ordering}
+use Rattle.std.specs.Ordering.{nat_cmp, is_eq, match_ordering, eq_by_cmp}
 use Rattle.std.specs.declared.cmp.Ordering.{Ordering}
 use Rattle.std.specs.declared.cmp.Ordering.TheVariants.{Less}
 use Rattle.std.specs.Cmp.Lexicographic.{slice_cmp}
-use Rattle.std.proofs.lemmas.Bool.{cond-true, cond-false}
+use Rattle.std.proofs.lemmas.Bool.{cond-true, cond-false, or_parts, and_from, cond_both}
 use Rattle.std.proofs.lemmas.Map.Text.{is_eq-slice_cmp}
-use Rattle.std.proofs.lemmas.Cmp.{nat_list_cmp_total}
+use Rattle.std.proofs.lemmas.Cmp.{nat_list_cmp_total, nat_list_eq_equiv}
 use Rattle.al_session_folder.specs.Meaning.{Meaning, candidates, is_candidate}
-use Rattle.std.proofs.lemmas.List.{take_more}
-use Rattle.std.proofs.lemmas.List.Folds.{list_any-append}
-use Rattle.al_session_folder.proofs.Missings.{paths_same}
+use Rattle.std.proofs.lemmas.List.Folds.{list_any-append, list_all_more, list_all_at}
 use Rattle.al_session_folder.specs.Folder.{Folder, without_file, bytes_at, paths_of, interface_in, find_map, answer}
 use Rattle.al_session_folder.specs.Affected.{is_untouched, affected_paths, is_affected, is_among}
 use Rattle.al_session_folder.specs.Kept.{with_bytes_at}
 use Rattle.al_base.specs.InOrder.{in_order, with_one}
 use Rattle.al_base.proofs.InOrder.{IsStrictlySortedBy-in_order}
 use Rattle.al_session_folder.specs.declared.lint.Target.{Target}
-use Rattle.al_session_folder.proofs.Places.{by_ordering, exact_path, rest_sorted, sorted_put}
+use Rattle.al_session_folder.proofs.Places.{by_ordering, sorted_put}
 use Rattle.al_session_folder.proofs.Views.{bytes_changed, bytes_same, bytes_self, none_behind}
 
-or_left : (a b : Bool) → a || b ≡ false → a ≡ false
-or_left true b h = h
-or_left false b h = refl
-
-or_right : (a b : Bool) → a || b ≡ false → b ≡ false
-or_right true b h = absurd (true_false h)
-  where
-    true_false : true ≡ false → ⊥
-    true_false h = cc
-or_right false b h = h
-
 pub eq_flipped : (p q : List ℕ) (t : Bool) → bytes_eq p q ≡ t → bytes_eq q p ≡ t
-eq_flipped p q true h = subst (λ (x : List ℕ). bytes_eq x p ≡ true) (bytes_same p q h) (bytes_self p)
-eq_flipped p q false h = by (bytes_eq q p) refl
-  where
-    by : (t : Bool) → bytes_eq q p ≡ t → bytes_eq q p ≡ false
-    by false a = a
-    by true a = absurd (both (sym (subst (λ (x : List ℕ). bytes_eq p x ≡ true) (sym (bytes_same q p a)) (bytes_self p)) ∙ h))
-      where
-        both : true ≡ false → ⊥
-        both h = cc
+eq_flipped p q t h = nat_list_eq_equiv.symm q p ∙ h
 
 -- a change at p leaves the answer of every call that has no candidate p
 module _ {I : Type 0} (m : Meaning I) (p : List ℕ) (f : Folder) (now : Option (List ℕ)) (ordered : IsStrictlySortedBy (slice_cmp nat_cmp) (paths_of f)) where
   among_changed : (ps : List (List ℕ)) → list_any (bytes_eq p) ps ≡ false → find_map (interface_in m (with_bytes_at f p now)) ps ≡ find_map (interface_in m f) ps
   among_changed [] none = refl
   among_changed (q ∷ ps) none =
-      let far : bytes_eq q p ≡ false = eq_flipped p q false (or_left (bytes_eq p q) (list_any (bytes_eq p) ps) none) in
+      let far : bytes_eq q p ≡ false = eq_flipped p q false (or_parts (bytes_eq p q) (list_any (bytes_eq p) ps) none).0 in
       let same : bytes_at (with_bytes_at f p now) q ≡ bytes_at f q = bytes_changed p q f now ordered ∙ cond-false _ _ _ far in
       ap (λ o. option_or (option_map (m.interface q) o) (find_map (interface_in m (with_bytes_at f p now)) ps)) same
-      ∙ ap (option_or (interface_in m f q)) (among_changed ps (or_right (bytes_eq p q) (list_any (bytes_eq p) ps) none))
+      ∙ ap (option_or (interface_in m f q)) (among_changed ps (or_parts (bytes_eq p q) (list_any (bytes_eq p) ps) none).1)
 
   pub answer_changed : (t : Target) → list_any (bytes_eq p) (candidates t) ≡ false → answer m (with_bytes_at f p now) t ≡ answer m f t
   unfolding answer
@@ -87,10 +69,10 @@ module _ {I : Type 0} (m : Meaning I) (p : List ℕ) (f : Folder) (now : Option 
     pub same_answers : (ts : List Target) → is_candidate ts p ≡ false → list_all (λ t. option_eq eq (answer m f t) (answer m (with_bytes_at f p now) t)) ts ≡ true
     same_answers [] none = refl
     same_answers (t ∷ ts) none =
-        let here : answer m (with_bytes_at f p now) t ≡ answer m f t = answer_changed t (or_left (list_any (bytes_eq p) (candidates t)) (is_candidate ts p) none) in
+        let here : answer m (with_bytes_at f p now) t ≡ answer m f t = answer_changed t (or_parts (list_any (bytes_eq p) (candidates t)) (is_candidate ts p) none).0 in
         let first : option_eq eq (answer m f t) (answer m (with_bytes_at f p now) t) ≡ true = ap (option_eq eq (answer m f t)) here ∙ same_as_itself (answer m f t) in
         ap (λ b. b && list_all (λ t. option_eq eq (answer m f t) (answer m (with_bytes_at f p now) t)) ts) first
-        ∙ same_answers ts (or_right (list_any (bytes_eq p) (candidates t)) (is_candidate ts p) none)
+        ∙ same_answers ts (or_parts (list_any (bytes_eq p) (candidates t)) (is_candidate ts p) none).1
 
     -- a file at another path is affected just where one of its calls has another answer
     pub affected_other : (q b : List ℕ) → bytes_eq q p ≡ false → bytes_at f q ≡ Some b
@@ -168,131 +150,49 @@ module _ {I : Type 0} (m : Meaning I) (p : List ℕ) (f : Folder) (now : Option 
         → (any && (not (bytes_eq q p) && is_affected eq m f (with_bytes_at f p now) q)) || is_among q (cond (is_some now) (p ∷ []) []) ≡ is_affected eq m f (with_bytes_at f p now) q
     affected_members q any calls other = by (bytes_eq q p) any refl calls
       where
-        and_false : (b : Bool) → b && false ≡ false
-        and_false true = refl
-        and_false false = refl
-
-        or_false : (b : Bool) → b || false ≡ b
-        or_false true = refl
-        or_false false = refl
-
         first : (t s : Bool) → bytes_eq q p ≡ t → is_among q (cond s (p ∷ []) []) ≡ s && t
-        first t true a = or_false (bytes_eq q p) ∙ a
+        first t true a = or-false (bytes_eq q p) ∙ a
         first t false a = refl
-
-        and_true : (b : Bool) → b && true ≡ b
-        and_true true = refl
-        and_true false = refl
 
         by : (t any2 : Bool) → bytes_eq q p ≡ t → any2 ≡ option_map_or (λ b. is_candidate (m.calls q b) p) (bytes_at f q) false
             → (any2 && (not (bytes_eq q p) && is_affected eq m f (with_bytes_at f p now) q)) || is_among q (cond (is_some now) (p ∷ []) []) ≡ is_affected eq m f (with_bytes_at f p now) q
         by true any2 a e =
             ap (λ t. (any2 && (not t && is_affected eq m f (with_bytes_at f p now) q)) || is_among q (cond (is_some now) (p ∷ []) [])) a
-            ∙ ap (λ t. t || is_among q (cond (is_some now) (p ∷ []) [])) (and_false any2) ∙ first true (is_some now) a ∙ and_true (is_some now) ∙ sym (affected_itself q now refl a other)
+            ∙ ap (λ t. t || is_among q (cond (is_some now) (p ∷ []) [])) (and-false any2) ∙ first true (is_some now) a ∙ and-true (is_some now) ∙ sym (affected_itself q now refl a other)
         by false true a e =
             ap (λ t. (not t && is_affected eq m f (with_bytes_at f p now) q) || is_among q (cond (is_some now) (p ∷ []) [])) a
-            ∙ ap (λ t. is_affected eq m f (with_bytes_at f p now) q || t) (first false (is_some now) a ∙ and_false (is_some now)) ∙ or_false _
-        by false false a e = first false (is_some now) a ∙ and_false (is_some now) ∙ sym (affected_stranger q a (sym e))
+            ∙ ap (λ t. is_affected eq m f (with_bytes_at f p now) q || t) (first false (is_some now) a ∙ and-false (is_some now)) ∙ or-false _
+        by false false a e = first false (is_some now) a ∙ and-false (is_some now) ∙ sym (affected_stranger q a (sym e))
 
 -- Strictly sorted lists with the same members are the same
 
-module _ (q : List ℕ) where
-  below_among : (p : List ℕ) (ps : List (List ℕ)) → AllByRecursion (λ y. slice_cmp nat_cmp p y ≡ Less) ps → is_among q ps ≡ true → slice_cmp nat_cmp p q ≡ Less
-  below_among p [] below h = absurd (false_true h)
-    where
-      false_true : false ≡ true → ⊥
-      false_true h = cc
-  below_among p (r ∷ rs) below h = by (bytes_eq q r) refl (λ there. below_among p rs below.1 there)
-    where
-      by : (t : Bool) → bytes_eq q r ≡ t → (is_among q rs ≡ true → slice_cmp nat_cmp p q ≡ Less) → slice_cmp nat_cmp p q ≡ Less
-      by true a rest = ap (slice_cmp nat_cmp p) (bytes_same q r a) ∙ below.0
-      by false a rest = rest (sym (ap (λ t. t || is_among q rs) a) ∙ h)
-
-not_below_itself : (p : List ℕ) → slice_cmp nat_cmp p p ≡ Less → ⊥
-not_below_itself p h = wrong (sym (is_eq-slice_cmp p p ∙ bytes_self p) ∙ ap is_eq h)
-  where
-    wrong : true ≡ false → ⊥
-    wrong h = cc
-
-head_sorted : (p : List ℕ) (ps : List (List ℕ)) → IsStrictlySortedBy (slice_cmp nat_cmp) (p ∷ ps) → AllByRecursion (λ y. slice_cmp nat_cmp p y ≡ Less) ps
-unfolding IsStrictlySortedBy
-head_sorted p ps s = s.0
-
-tail_sorted : (p : List ℕ) (ps : List (List ℕ)) → IsStrictlySortedBy (slice_cmp nat_cmp) (p ∷ ps) → IsStrictlySortedBy (slice_cmp nat_cmp) ps
-unfolding IsStrictlySortedBy
-tail_sorted p ps s = s.1
-
-not_behind : (p : List ℕ) (ps : List (List ℕ)) → IsStrictlySortedBy (slice_cmp nat_cmp) (p ∷ ps) → is_among p ps ≡ false
-not_behind p ps s = by (is_among p ps) refl
-  where
-    by : (t : Bool) → is_among p ps ≡ t → is_among p ps ≡ false
-    by false a = a
-    by true a = absurd (not_below_itself p (below_among p p ps (head_sorted p ps s) a))
-
-first_among : (p : List ℕ) (ps : List (List ℕ)) → is_among p (p ∷ ps) ≡ true
-first_among p ps = ap (λ t. t || is_among p ps) (bytes_self p)
-
 pub same_members : (ps qs : List (List ℕ)) → IsStrictlySortedBy (slice_cmp nat_cmp) ps → IsStrictlySortedBy (slice_cmp nat_cmp) qs
     → ((q : List ℕ) → is_among q ps ≡ is_among q qs) → ps ≡ qs
-same_members [] [] s t same = refl
-same_members [] (q ∷ qs) s t same = absurd (wrong (same q ∙ first_among q qs))
+same_members ps qs s t same =
+    btree_set_from_contains nat_list_cmp_total (record { keys = ps }) (record { keys = qs }) s t (λ q. by_order q ps ∙ same q ∙ sym (by_order q qs)) exact_bytes
   where
-    wrong : false ≡ true → ⊥
-    wrong h = cc
-same_members (p ∷ ps) [] s t same = absurd (wrong (sym (first_among p ps) ∙ same p))
-  where
-    wrong : true ≡ false → ⊥
-    wrong h = cc
-same_members (p ∷ ps) (q ∷ qs) s t same = by (bytes_eq p q) refl (λ rest. same_members ps qs (tail_sorted p ps s) (tail_sorted q qs t) rest)
-  where
-    wrong : true ≡ false → ⊥
-    wrong h = cc
-
-    by : (b : Bool) → bytes_eq p q ≡ b → (((r : List ℕ) → is_among r ps ≡ is_among r qs) → ps ≡ qs) → p ∷ ps ≡ q ∷ qs
-    by false a rest =
-        let later : is_among p qs ≡ true = sym (ap (λ t. t || is_among p qs) a) ∙ sym (same p) ∙ first_among p ps in
-        let later2 : is_among q ps ≡ true = sym (ap (λ t. t || is_among q ps) (eq_flipped p q false a)) ∙ same q ∙ first_among q qs in
-        absurd (not_below_itself p (nat_list_cmp_total.trans p q p (below_among q p ps (head_sorted p ps s) later2) (below_among p q qs (head_sorted q qs t) later)))
-    by true a rest =
-        let e : p ≡ q = bytes_same p q a in
-        let P : List ℕ → Type 0 = λ x. (r : List ℕ) → is_among r (p ∷ ps) ≡ is_among r (x ∷ qs) in
-        let S : List ℕ → Type 0 = λ x. IsStrictlySortedBy (slice_cmp nat_cmp) (x ∷ qs) in
-        let same2 : P p = subst P (sym e) same in
-        let t2 : S p = subst S (sym e) t in
-        ap (λ l. p ∷ l) (rest (λ r. without r same2 t2 (bytes_eq r p) refl)) ∙ ap (λ x. x ∷ qs) e
-      where
-        without : (r : List ℕ) → ((r : List ℕ) → is_among r (p ∷ ps) ≡ is_among r (p ∷ qs))
-            → IsStrictlySortedBy (slice_cmp nat_cmp) (p ∷ qs) → (b : Bool) → bytes_eq r p ≡ b → is_among r ps ≡ is_among r qs
-        without r same2 t2 true at =
-            let here : r ≡ p = bytes_same r p at in
-            ap (λ x. is_among x ps) here ∙ not_behind p ps s ∙ sym (ap (λ x. is_among x qs) here ∙ not_behind p qs t2)
-        without r same2 t2 false at = sym (ap (λ t. t || is_among r ps) at) ∙ same2 r ∙ ap (λ t. t || is_among r qs) at
+    by_order : (q : List ℕ) (rs : List (List ℕ)) → list_any (eq_by_cmp (slice_cmp nat_cmp) q) rs ≡ is_among q rs
+    by_order q [] = refl
+    by_order q (r ∷ rs) = ap (λ t. t || list_any (eq_by_cmp (slice_cmp nat_cmp) q) rs) (is_eq-slice_cmp q r) ∙ ap (λ t. bytes_eq q r || t) (by_order q rs)
 
 -- The affected files, as members
 
 module _ (T : List ℕ × List ℕ → Bool) where
   pub all_kept : (P : List ℕ → Type 0) (g : Folder) → AllByRecursion P (paths_of g) → AllByRecursion P (paths_of (filter T g))
   all_kept P [] all = tt
-  all_kept P (e ∷ es) all = by (T e) refl (all_kept P es all.1)
-    where
-      by : (t : Bool) → T e ≡ t → AllByRecursion P (paths_of (filter T es)) → AllByRecursion P (paths_of (filter T (e ∷ es)))
-      by true a rest = subst (λ (l : Folder). AllByRecursion P (paths_of l)) (sym (ap (λ t. cond t (e ∷ filter T es) (filter T es)) a)) (all.0, rest)
-      by false a rest = subst (λ (l : Folder). AllByRecursion P (paths_of l)) (sym (ap (λ t. cond t (e ∷ filter T es) (filter T es)) a)) rest
+  all_kept P (e ∷ es) all =
+      cond_both (T e) (e ∷ filter T es) (filter T es) (λ l. AllByRecursion P (paths_of l)) (λ _. (all.0, all_kept P es all.1)) (λ _. all_kept P es all.1)
 
   pub sorted_kept : (g : Folder) → IsStrictlySortedBy (slice_cmp nat_cmp) (paths_of g) → IsStrictlySortedBy (slice_cmp nat_cmp) (paths_of (filter T g))
   unfolding IsStrictlySortedBy
   sorted_kept [] s = tt
-  sorted_kept (e ∷ es) s = by (T e) refl (all_kept (λ y. slice_cmp nat_cmp e.0 y ≡ Less) es s.0) (sorted_kept es s.1)
-    where
-      by : (t : Bool) → T e ≡ t → AllByRecursion (λ y. slice_cmp nat_cmp e.0 y ≡ Less) (paths_of (filter T es))
-          → IsStrictlySortedBy (slice_cmp nat_cmp) (paths_of (filter T es))
-          → IsStrictlySortedBy (slice_cmp nat_cmp) (paths_of (filter T (e ∷ es)))
-      by true a all rest = subst (λ (l : Folder). IsStrictlySortedBy (slice_cmp nat_cmp) (paths_of l)) (sym (ap (λ t. cond t (e ∷ filter T es) (filter T es)) a)) (all, rest)
-      by false a all rest = subst (λ (l : Folder). IsStrictlySortedBy (slice_cmp nat_cmp) (paths_of l)) (sym (ap (λ t. cond t (e ∷ filter T es) (filter T es)) a)) rest
+  sorted_kept (e ∷ es) s =
+      cond_both (T e) (e ∷ filter T es) (filter T es) (λ l. IsStrictlySortedBy (slice_cmp nat_cmp) (paths_of l))
+      (λ _. (all_kept (λ y. slice_cmp nat_cmp e.0 y ≡ Less) es s.0, sorted_kept es s.1)) (λ _. sorted_kept es s.1)
 
   pub member_kept : (g : Folder) (q : List ℕ) → IsStrictlySortedBy (slice_cmp nat_cmp) (paths_of g) → is_among q (paths_of (filter T g)) ≡ option_map_or (λ b. T (q, b)) (bytes_at g q) false
   member_kept [] q s = refl
-  member_kept (e ∷ es) q s = by (bytes_eq q e.0) (T e) refl refl (member_kept es q (rest_sorted q e es s))
+  member_kept (e ∷ es) q s = by (bytes_eq q e.0) (T e) refl refl (member_kept es q (sorted_tail _ _ _ s))
     where
       filtered : (t : Bool) → T e ≡ t → is_among q (paths_of (filter T (e ∷ es))) ≡ is_among q (paths_of (cond t (e ∷ filter T es) (filter T es)))
       filtered t a = ap (λ t. is_among q (paths_of (cond t (e ∷ filter T es) (filter T es)))) a
@@ -320,7 +220,7 @@ pub among_put : (q n : List ℕ) (ps : List (List ℕ)) → is_among q (with_one
 among_put q n [] = refl
 among_put q n (r ∷ rs) = by_ordering (slice_cmp nat_cmp n r)
     (λ a. ap (is_among q) (put a))
-    (λ a. ap (is_among q) (put a) ∙ there (bytes_eq q n) refl (exact_path n r a))
+    (λ a. ap (is_among q) (put a) ∙ there (bytes_eq q n) refl (exact_bytes n r a))
     (λ a. ap (is_among q) (put a) ∙ ap (λ t. bytes_eq q r || t) (among_put q n rs) ∙ swap (bytes_eq q r) (bytes_eq q n) (is_among q rs))
   where
     put : {o : Ordering} → slice_cmp nat_cmp n r ≡ o → with_one (slice_cmp nat_cmp) n (r ∷ rs) ≡ match_ordering o (n ∷ r ∷ rs) (r ∷ rs) (r ∷ with_one (slice_cmp nat_cmp) n rs)
@@ -342,13 +242,7 @@ among_ordered q [] = refl
 among_ordered q (r ∷ rs) = among_put q r (in_order (slice_cmp nat_cmp) rs) ∙ ap (λ t. bytes_eq q r || t) (among_ordered q rs)
 
 among_last : (q n : List ℕ) (ps : List (List ℕ)) → is_among q (ps ++ n ∷ []) ≡ bytes_eq q n || is_among q ps
-among_last q n ps = list_any-append (bytes_eq q) ps (n ∷ []) ∙ turned (is_among q ps) (bytes_eq q n)
-  where
-    turned : (a b : Bool) → a || (b || false) ≡ b || a
-    turned true true = refl
-    turned true false = refl
-    turned false true = refl
-    turned false false = refl
+among_last q n ps = list_any-append (bytes_eq q) ps (n ∷ []) ∙ or_comm (is_among q ps) (is_among q (n ∷ [])) ∙ ap (λ t. t || is_among q ps) (or-false (bytes_eq q n))
 
 -- One path more among affected ones
 
@@ -363,18 +257,10 @@ members_more q n p aff old new e = ap (is_among q) e ∙ by (not (bytes_eq n p) 
         same true z = ap (λ b. b && (not (bytes_eq q p) && aff q)) z ∙ ap (λ x. not (bytes_eq x p) && aff x) (bytes_same q n z) ∙ a ∙ sym (ap (λ b. b && t) z)
         same false z = ap (λ b. b && (not (bytes_eq q p) && aff q)) z ∙ sym (ap (λ b. b && t) z)
 
-    and_true : (b : Bool) → b && true ≡ b
-    and_true true = refl
-    and_true false = refl
-
-    and_false : (b : Bool) → b && false ≡ false
-    and_false true = refl
-    and_false false = refl
-
     by : (t : Bool) → not (bytes_eq n p) && aff n ≡ t → is_among q (cond (not (bytes_eq n p) && aff n) (old ++ n ∷ []) old)
         ≡ (bytes_eq q n && (not (bytes_eq q p) && aff q)) || is_among q old
-    by true a = ap (λ t. is_among q (cond t (old ++ n ∷ []) old)) a ∙ among_last q n old ∙ sym (ap (λ t. t || is_among q old) (here true a ∙ and_true (bytes_eq q n)))
-    by false a = ap (λ t. is_among q (cond t (old ++ n ∷ []) old)) a ∙ sym (ap (λ t. t || is_among q old) (here false a ∙ and_false (bytes_eq q n)))
+    by true a = ap (λ t. is_among q (cond t (old ++ n ∷ []) old)) a ∙ among_last q n old ∙ sym (ap (λ t. t || is_among q old) (here true a ∙ and-true (bytes_eq q n)))
+    by false a = ap (λ t. is_among q (cond t (old ++ n ∷ []) old)) a ∙ sym (ap (λ t. t || is_among q old) (here false a ∙ and-false (bytes_eq q n)))
 
 module _ {I : Type 0} (eq : I → I → Bool) (m : Meaning I) (f g : Folder) (ordered : IsStrictlySortedBy (slice_cmp nat_cmp) (paths_of g)) where
   pub affected_sorted : IsStrictlySortedBy (slice_cmp nat_cmp) (affected_paths eq m f g)
@@ -391,27 +277,10 @@ module _ {I : Type 0} (eq : I → I → Bool) (m : Meaning I) (f g : Folder) (or
 
 module _ (T : Target → Bool) where
   pub all_next : (ts : List Target) (i : ℕ) (t : Target) → i < length ts → t ≡ get_or ts i t → list_all T (take i ts) ≡ true → T t ≡ true → list_all T (take (i + 1) ts) ≡ true
-  all_next ts i t within read before now = ap (list_all T) (take_more ts i t within) ∙ all_append (take i ts) (get_or ts i t) before (ap T (sym read) ∙ now)
-    where
-      all_append : (xs : List Target) (y : Target) → list_all T xs ≡ true → T y ≡ true → list_all T (xs ++ y ∷ []) ≡ true
-      all_append [] y a b = ap (λ t. t && true) b
-      all_append (x ∷ xs) y a b = by (T x) refl (λ rest. all_append xs y rest b)
-        where
-          by : (t : Bool) → T x ≡ t → (list_all T xs ≡ true → list_all T (xs ++ y ∷ []) ≡ true) → list_all T (x ∷ xs ++ y ∷ []) ≡ true
-          by true z rest = ap (λ t. t && list_all T (xs ++ y ∷ [])) z ∙ rest (sym (ap (λ t. t && list_all T xs) z) ∙ a)
-          by false z rest = absurd (wrong (sym (ap (λ t. t && list_all T xs) z) ∙ a))
-            where
-              wrong : false ≡ true → ⊥
-              wrong h = cc
+  all_next ts i t within read before now = list_all_more T ts i t within ∙ and_from _ _ before (ap T (sym read) ∙ now)
 
   pub all_stop : (ts : List Target) (i : ℕ) (t : Target) → i < length ts → t ≡ get_or ts i t → T t ≡ false → list_all T ts ≡ false
-  all_stop [] i t within read stop = absurd (omega (arith, within))
-  all_stop (x ∷ xs) zero t within read stop = ap (λ b. b && list_all T xs) (ap T (sym read) ∙ stop)
-  all_stop (x ∷ xs) (suc i) t within read stop = ap (λ b. T x && b) (all_stop xs i t (omega (arith, within)) read stop) ∙ and_false (T x)
-    where
-      and_false : (b : Bool) → b && false ≡ false
-      and_false true = refl
-      and_false false = refl
+  all_stop ts i t within read stop = list_all_at T ts i t within (ap T (sym read) ∙ stop)
 
 start_sorted : (t : Bool) (p : List ℕ) (ps : List (List ℕ)) → ps ≡ cond t (p ∷ []) [] → IsStrictlySortedBy (slice_cmp nat_cmp) ps
 unfolding IsStrictlySortedBy
@@ -423,22 +292,16 @@ start_sorted t p ps e = subst (IsStrictlySortedBy (slice_cmp nat_cmp)) (sym e) (
 
 all_gone : (P : List ℕ → Type 0) (p : List ℕ) (f : Folder) → AllByRecursion P (paths_of f) → AllByRecursion P (paths_of (without_file f p))
 all_gone P p [] all = tt
-all_gone P p (e ∷ es) all = by (is_eq (slice_cmp nat_cmp p e.0)) refl (all_gone P p es all.1)
-  where
-    by : (t : Bool) → is_eq (slice_cmp nat_cmp p e.0) ≡ t → AllByRecursion P (paths_of (without_file es p)) → AllByRecursion P (paths_of (without_file (e ∷ es) p))
-    by true a rest = subst (λ (l : Folder). AllByRecursion P (paths_of l)) (sym (cond-true _ es (e ∷ without_file es p) a)) all.1
-    by false a rest = subst (λ (l : Folder). AllByRecursion P (paths_of l)) (sym (cond-false _ es (e ∷ without_file es p) a)) (all.0, rest)
+all_gone P p (e ∷ es) all =
+    cond_both (is_eq (slice_cmp nat_cmp p e.0)) es (e ∷ without_file es p) (λ l. AllByRecursion P (paths_of l))
+    (λ _. all.1) (λ _. (all.0, all_gone P p es all.1))
 
 pub sorted_gone : (p : List ℕ) (f : Folder) → IsStrictlySortedBy (slice_cmp nat_cmp) (paths_of f) → IsStrictlySortedBy (slice_cmp nat_cmp) (paths_of (without_file f p))
 unfolding IsStrictlySortedBy
 sorted_gone p [] s = tt
-sorted_gone p (e ∷ es) s = by (is_eq (slice_cmp nat_cmp p e.0)) refl (all_gone (λ y. slice_cmp nat_cmp e.0 y ≡ Less) p es s.0) (sorted_gone p es s.1)
-  where
-    by : (t : Bool) → is_eq (slice_cmp nat_cmp p e.0) ≡ t → AllByRecursion (λ y. slice_cmp nat_cmp e.0 y ≡ Less)
-        (paths_of (without_file es p)) → IsStrictlySortedBy (slice_cmp nat_cmp) (paths_of (without_file es p))
-        → IsStrictlySortedBy (slice_cmp nat_cmp) (paths_of (without_file (e ∷ es) p))
-    by true a all rest = subst (λ (l : Folder). IsStrictlySortedBy (slice_cmp nat_cmp) (paths_of l)) (sym (cond-true _ es (e ∷ without_file es p) a)) s.1
-    by false a all rest = subst (λ (l : Folder). IsStrictlySortedBy (slice_cmp nat_cmp) (paths_of l)) (sym (cond-false _ es (e ∷ without_file es p) a)) (all, rest)
+sorted_gone p (e ∷ es) s =
+    cond_both (is_eq (slice_cmp nat_cmp p e.0)) es (e ∷ without_file es p) (λ l. IsStrictlySortedBy (slice_cmp nat_cmp) (paths_of l))
+    (λ _. s.1) (λ _. (all_gone (λ y. slice_cmp nat_cmp e.0 y ≡ Less) p es s.0, sorted_gone p es s.1))
 
 pub changed_sorted : (p : List ℕ) (f : Folder) (now : Option (List ℕ)) → IsStrictlySortedBy (slice_cmp nat_cmp) (paths_of f) → IsStrictlySortedBy (slice_cmp nat_cmp) (paths_of (with_bytes_at f p now))
 changed_sorted p f None s = sorted_gone p f s
@@ -448,16 +311,10 @@ changed_sorted p f (Some b) s = sorted_put p f b s
 module _ {I : Type 0} (m : Meaning I) (eq : I → I → Bool) (itself : (x : I) → eq x x ≡ true) (p : List ℕ) (f : Folder) (now : Option (List ℕ))
     (ordered : IsStrictlySortedBy (slice_cmp nat_cmp) (paths_of f)) (other : now ≡ bytes_at f p → ⊥) (any : List ℕ → Bool)
     (calls : (q : List ℕ) → any q ≡ option_map_or (λ b. is_candidate (m.calls q b) p) (bytes_at f q) false) where
-  and_swap : (a b : Bool) → a && b ≡ b && a
-  and_swap true true = refl
-  and_swap true false = refl
-  and_swap false true = refl
-  and_swap false false = refl
-
   affected_all : (start paths : List (List ℕ)) → start ≡ cond (is_some now) (p ∷ []) [] → IsStrictlySortedBy (slice_cmp nat_cmp) paths
       → ((q : List ℕ) → is_among q paths ≡ ((not (bytes_eq q p) && is_affected eq m f (with_bytes_at f p now) q) && any q) || is_among q start) → paths ≡ affected_paths eq m f (with_bytes_at f p now)
   affected_all start paths e s members = affected_is eq m f (with_bytes_at f p now) (changed_sorted p f now ordered) paths s
-      (λ q. members q ∙ ap (λ t. t || is_among q start) (and_swap (not (bytes_eq q p) && is_affected eq m f (with_bytes_at f p now) q) (any q))
+      (λ q. members q ∙ ap (λ t. t || is_among q start) (and_comm (not (bytes_eq q p) && is_affected eq m f (with_bytes_at f p now) q) (any q))
       ∙ ap (λ l. (any q && (not (bytes_eq q p) && is_affected eq m f (with_bytes_at f p now) q)) || is_among q l) e ∙ affected_members m p f now ordered eq itself q (any q) (calls q) other)
 
   -- put in order
@@ -465,11 +322,11 @@ module _ {I : Type 0} (m : Meaning I) (eq : I → I → Bool) (itself : (x : I) 
       → ((q : List ℕ) → is_among q paths ≡ ((not (bytes_eq q p) && is_affected eq m f (with_bytes_at f p now) q) && any q) || is_among q start)
       → in_order (slice_cmp nat_cmp) paths ≡ affected_paths eq m f (with_bytes_at f p now)
   affected_found start paths e members =
-      affected_all start (in_order (slice_cmp nat_cmp) paths) e (IsStrictlySortedBy-in_order nat_list_cmp_total paths_same paths) (λ q. among_ordered q paths ∙ members q)
+      affected_all start (in_order (slice_cmp nat_cmp) paths) e (IsStrictlySortedBy-in_order nat_list_cmp_total exact_bytes paths) (λ q. among_ordered q paths ∙ members q)
 
   pub affected_none : (start : List (List ℕ)) → start ≡ cond (is_some now) (p ∷ []) [] → ((q : List ℕ) → any q ≡ false) → start ≡ affected_paths eq m f (with_bytes_at f p now)
   affected_none start e none = affected_all start start e (start_sorted (is_some now) p start e)
-      (λ q. sym (ap (λ t. ((not (bytes_eq q p) && is_affected eq m f (with_bytes_at f p now) q) && t) || is_among q start) (none q) ∙ ap (λ t. t || is_among q start) (and_swap _ false)))
+      (λ q. sym (ap (λ t. ((not (bytes_eq q p) && is_affected eq m f (with_bytes_at f p now) q) && t) || is_among q start) (none q) ∙ ap (λ t. t || is_among q start) (and-false _)))
 
   pub affected_still : (start : List (List ℕ)) → start ≡ cond (is_some now) (p ∷ []) []
       → interface_in m f p ≡ interface_in m (with_bytes_at f p now) p → start ≡ affected_paths eq m f (with_bytes_at f p now)
@@ -479,14 +336,8 @@ module _ {I : Type 0} (m : Meaning I) (eq : I → I → Bool) (itself : (x : I) 
 pub same_answer_exact : {I : Type 0} (eq : I → I → Bool) → ((x y : I) → eq x y ≡ true → x ≡ y) → (a b : Option I) → option_eq eq a b ≡ true → a ≡ b
 same_answer_exact eq exact None None h = refl
 same_answer_exact eq exact (Some x) (Some y) h = ap Some (exact x y h)
-same_answer_exact eq exact None (Some y) h = absurd (wrong h)
-  where
-    wrong : false ≡ true → ⊥
-    wrong h = cc
-same_answer_exact eq exact (Some x) None h = absurd (wrong h)
-  where
-    wrong : false ≡ true → ⊥
-    wrong h = cc
+same_answer_exact eq exact None (Some y) h = absurd cc
+same_answer_exact eq exact (Some x) None h = absurd cc
 
 pub some_kept : {U I : Type 0} (now : Option (Bor (KeptFile U I))) → is_some now ≡ is_some (option_map (λ (file : KeptFile U I). file.bytes.items) (option_copied now))
 some_kept None = refl

@@ -1,5 +1,7 @@
 -- The index of callers, as a relation between texts.
-use Rattle.std.proofs.Common.{◌≡◌, ℕ, zero, suc, ◌+◌, ◌<◌, Bool, true, false, not, ◌&&◌, ◌||◌, cond, List, [], ◌∷◌, ◌++◌, length, take, get_or, Option, Some, None, refl, sym, ◌∙◌, ap, String}
+use Rattle.std.proofs.lemmas.List.Folds.{list_any_more, list_any-append}
+use Rattle.std.proofs.lemmas.Bool.{or_left}
+use Rattle.std.proofs.Common.{◌≡◌, ℕ, ◌+◌, ◌<◌, Bool, true, false, not, ◌&&◌, ◌||◌, cond, List, length, drop, take, get_or, Option, Some, None, refl, sym, ◌∙◌, ap, String}
 use Rattle.std.specs.Prelude.{string_bytes, bytes_eq}
 use Rattle.std.specs.Global.{Global}
 use Rattle.std.specs.Option.{option_map_or}
@@ -7,12 +9,12 @@ use Rattle.std.specs.List.{list_any}
 use Rattle.std.specs.Map.{update}
 use Rattle.std.specs.HashSet as bag
 use Rattle.std.specs.String.{string_eq}
-use Rattle.std.proofs.lemmas.List.{take_more}
+use Rattle.std.proofs.lemmas.List.{take-append-drop}
 use Rattle.std.proofs.lemmas.Map.Text.{hash_map_updates_text, hash_set_updates_text}
 use Rattle.indexmap.specs.IndexMap.{get_by_text, UpdatesBy}
 use Rattle.indexmap.specs.IndexSet.{IndexSet, contains_text}
 use Rattle.al_session_folder.specs.Kept.{Callers, is_caller}
-use Rattle.std.proofs.Common.{Result, Ok, Err, OnOk, OnErr}
+use Rattle.std.proofs.Common.{Result, Ok, Err, OnErr}
 use Rattle.al_session_folder.proofs.Affecting.{eq_flipped}
 use Rattle.al_session_folder.proofs.Views.{bytes_same}
 
@@ -58,14 +60,6 @@ known_at callers p known h c q same = sym (ap (λ (o : Option (IndexSet (String 
 pub none_at : {S R : Type 0} (callers : Callers S R) (p : List ℕ) → get_by_text callers p ≡ None → (c q : List ℕ) → bytes_eq c p ≡ true → false ≡ is_caller callers c q
 none_at callers p h c q same = sym (ap (λ (o : Option (IndexSet (String Global) _)). option_map_or (λ k. contains_text k q) o false) (ap (get_by_text callers) (bytes_same c p same) ∙ h))
 
-pub on_ok : {A E P Q : Type 0} (r : Result A E) → (P → Q) → OnOk r P → OnOk r Q
-on_ok (Ok x) f h = f h
-on_ok (Err e) f h = h
-
-pub on_err : {A E P Q : Type 0} (r : Result A E) → (P → Q) → OnErr r P → OnErr r Q
-on_err (Ok x) f h = h
-on_err (Err e) f h = f h
-
 -- a text was taken out of a set
 pub name_dropped : {S : Type 0} (old new : IndexSet (String Global) S) (p : List ℕ) → bag.UpdatesBy string_eq (λ k. bytes_eq p (string_bytes k)) old new false
     → (c : List ℕ) → contains_text new c ≡ not (bytes_eq c p) && contains_text old c
@@ -100,32 +94,11 @@ dropped_table false some name keeps old = refl
 
 module _ (T : String Global → Bool) where
   any_more : (xs : List (String Global)) (i : ℕ) (x : String Global) → i < length xs → x ≡ get_or xs i x → list_any T (take (i + 1) xs) ≡ list_any T (take i xs) || T x
-  any_more xs i x within read = ap (list_any T) (take_more xs i x within) ∙ any_append (take i xs) (get_or xs i x) ∙ ap (λ y. list_any T (take i xs) || T y) (sym read)
-    where
-      or_false : (b : Bool) → b || false ≡ b
-      or_false true = refl
-      or_false false = refl
-
-      or_assoc : (a b d : Bool) → a || (b || d) ≡ (a || b) || d
-      or_assoc true b d = refl
-      or_assoc false b d = refl
-
-      any_append : (ys : List (String Global)) (y : String Global) → list_any T (ys ++ y ∷ []) ≡ list_any T ys || T y
-      any_append [] y = or_false (T y)
-      any_append (z ∷ zs) y = ap (λ t. T z || t) (any_append zs y) ∙ or_assoc (T z) (list_any T zs) (T y)
+  any_more xs i x within read = list_any_more T xs i x within ∙ ap (λ y. list_any T (take i xs) || T y) (sym read)
 
   pub any_take : (xs : List (String Global)) (i : ℕ) → list_any T (take i xs) ≡ true → list_any T xs ≡ true
-  any_take [] zero h = h
-  any_take [] (suc i) h = h
-  any_take (x ∷ xs) zero h = absurd (wrong h)
-    where
-      wrong : false ≡ true → ⊥
-      wrong h = cc
-  any_take (x ∷ xs) (suc i) h = by (T x) refl (λ there. any_take xs i there)
-    where
-      by : (t : Bool) → T x ≡ t → (list_any T (take i xs) ≡ true → list_any T xs ≡ true) → list_any T (x ∷ xs) ≡ true
-      by true a rest = ap (λ t. t || list_any T xs) a
-      by false a rest = ap (λ t. t || list_any T xs) a ∙ rest (sym (ap (λ t. t || list_any T (take i xs)) a) ∙ h)
+  any_take xs i h =
+      ap (list_any T) (sym (take-append-drop i xs)) ∙ list_any-append T (take i xs) (drop i xs) ∙ or_left (list_any T (take i xs)) (list_any T (drop i xs)) h
 
 -- one name more is added, or dropped
 pub added_next : (T : String Global → Bool) (xs : List (String Global)) (i : ℕ) (x : String Global) (here old so_far new : Bool) → i < length xs → x ≡ get_or xs i x

@@ -1,13 +1,14 @@
 -- The faults that a report lists: each file's own, and those of its calls on a call cycle.
+use Rattle.std.proofs.Math.Bool.{or-true, or-false}
+use Rattle.al_session_folder.proofs.Places.{each_at}
 use Rattle.std.proofs.Common.{◌≤◌, ◌≡◌, ◌<◌, ℕ, zero, suc, ◌+◌, Bool, true, false, cond, not, List, [], ◌∷◌, ◌++◌, length}
-use Rattle.std.proofs.Common.{get_or, Option, Some, None, String, slice_get, refl, sym, ◌∙◌, ap, subst, ◌||◌, arith, length-append, ⊎_elim}
+use Rattle.std.proofs.Common.{get_or, Option, Some, String, slice_get, refl, sym, ◌∙◌, ap, subst, ◌||◌, arith, length-append, ⊎_elim}
 use Rattle.std.specs.Prelude.{string_bytes}
 use Rattle.std.specs.Bool.{◌==◌}
 use Rattle.std.specs.Borrow.{Bor}
 use Rattle.std.specs.Global.{Global}
 use Rattle.std.specs.List.{AllByRecursion, dedup, enumerate_from, flat_map, list_any}
 use Rattle.std.specs.List.Sorted.{IsPermutation, IsSorted, IsStrictlySortedBy}
-use Rattle.std.specs.Option.{unwrap_or}
 use Rattle.std.specs.Ordering.{match_ordering}
 use Rattle.std.specs.declared.cmp.Ordering.{Ordering}
 use Rattle.std.specs.declared.cmp.Ordering.TheVariants.{Less, Equal, Greater}
@@ -41,12 +42,7 @@ use Rattle.al_session_folder.proofs.Reports.{any_fault}
 -- the faults of a kept file with this number
 pub checked_number : {U I : Type 0} (m : Meaning I) (f : Folder) (files : Files U I) (i : ℕ) (e : String Global × KeptFile U I) → AllChecked m f files → slice_get files i ≡ Some e →
     e.1.faults.items ≡ faults_in m f (string_bytes e.0) e.1.bytes.items
-checked_number m f [] i e h at = absurd (wrong at)
-  where
-    wrong : None ≡ Some e → ⊥
-    wrong h = cc
-checked_number m f (x ∷ xs) zero e h at = subst (λ y. y.1.faults.items ≡ faults_in m f (string_bytes y.0) y.1.bytes.items) (ap (λ o. unwrap_or o x) at) h.0
-checked_number m f (x ∷ xs) (suc i) e h at = checked_number m f xs i e h.1 at
+checked_number m f files i e h at = each_at (λ e. e.1.faults.items ≡ faults_in m f (string_bytes e.0) e.1.bytes.items) files i e h at
 
 module _ {I : Type 0} (m : Meaning I) (ordered : (p b : List ℕ) (given : List (Option I)) → IsStrictlySortedBy fault_cmp (m.faults p b given)) (f : Folder) where
   -- where no call is on a cycle, a file's own faults are listed
@@ -112,10 +108,7 @@ some_list x xs = ap not (apart (length xs))
 
 none_of : {X : Type 0} (xs : List X) → (length xs == 0) ≡ true → xs ≡ []
 none_of [] e = refl
-none_of (x ∷ xs) e = absurd (apart (length xs) e)
-  where
-    apart : (n : ℕ) → (suc n == 0) ≡ true → ⊥
-    apart n h = grind (arith, nat_tests)
+none_of (x ∷ xs) e = let some : length (x ∷ xs) ≡ 0 = grind (arith, nat_tests) in absurd (omega (arith, some))
 
 put_some : (x : Fault) (ys : List Fault) → not (length (with_one fault_cmp x ys) == 0) ≡ true
 put_some x [] = some_list x []
@@ -164,21 +157,13 @@ module _ {U I : Type 0} (m : Meaning I) (files : Files U I) (checked : AllChecke
 
   pub status_faults : list_any (λ (e : String Global × KeptFile U I). not (length e.1.faults.items == 0)) files ≡ true → 1 ≡ status_of m (folder_of files)
   unfolding status_of
-  status_faults h = sym (ap (λ b. cond b 1 0) (any_reported ∙ ap (λ b. list_any LoopAt (enumerate_from 0 (folder_of files)) || b) h ∙ or_true (list_any LoopAt (enumerate_from 0 (folder_of files)))))
-    where
-      or_true : (b : Bool) → (b || true) ≡ true
-      or_true true = refl
-      or_true false = refl
+  status_faults h = sym (ap (λ b. cond b 1 0) (any_reported ∙ ap (λ b. list_any LoopAt (enumerate_from 0 (folder_of files)) || b) h ∙ or-true (list_any LoopAt (enumerate_from 0 (folder_of files)))))
 
   pub status_loops : (some : Bool) → list_any (λ (e : String Global × KeptFile U I). not (length e.1.faults.items == 0)) files ≡ false → some ≡ list_any LoopAt (enumerate_from 0 (folder_of files)) →
       cond some 1 0 ≡ status_of m (folder_of files)
   unfolding status_of
   status_loops some h s = ap (λ b. cond b 1 0) (s ∙ sym (any_reported ∙ ap (λ b. list_any LoopAt (enumerate_from 0 (folder_of files)) || b) h
-      ∙ or_false (list_any LoopAt (enumerate_from 0 (folder_of files)))))
-    where
-      or_false : (b : Bool) → (b || false) ≡ b
-      or_false true = refl
-      or_false false = refl
+      ∙ or-false (list_any LoopAt (enumerate_from 0 (folder_of files)))))
 
 -- ---- faults in order by references to them
 
@@ -187,11 +172,6 @@ pub ordered_faults : (xs sorted out : List (Bor Fault)) → IsPermutation xs sor
 ordered_faults xs sorted out moved by_cmp is =
     ordered_referred fault_cmp_total fault_cmp_same derived_eq.ghosts.eq derived_ties xs sorted out moved
     (subst (λ (cmp : Fault → Fault → Ordering). IsSorted (λ (x y : Bor Fault). cmp x.now y.now) sorted) (λ i x y. derived_is x y i) by_cmp) is
-
--- what is printed of each fault that is referred to
-pub flat_map-referred : (f : Fault → List ℕ) (xs : List (Bor Fault)) → flat_map (λ (r : Bor Fault). f r.now) xs ≡ flat_map f (referents xs)
-flat_map-referred f [] = refl
-flat_map-referred f (x ∷ xs) = ap (λ l. f x.now ++ l) (flat_map-referred f xs)
 
 pub all-referred : (P : Fault → Type 0) (xs : List (Bor Fault)) (i : ℕ) (r : Bor Fault) → AllByRecursion P (referents xs) → i < length xs → r ≡ get_or xs i r → P r.now
 all-referred P [] i r all lt is = absurd (omega (arith, lt))
@@ -214,6 +194,10 @@ listed_both m files i e all list checked at a o =
 module _ {U I : Type 0} (m : Meaning I) (ordered : (p b : List ℕ) (given : List (Option I)) → IsStrictlySortedBy fault_cmp (m.faults p b given)) (files : Files U I) (i : ℕ)
     (e : String Global × KeptFile U I) (own loops : List Fault) (joined : List (Bor Fault)) (checked : AllChecked m (folder_of files) files) (at : slice_get files i ≡ Some e)
     (is : own ≡ e.1.faults.items) (all : loops ≡ loop_faults m (folder_of files) i (string_bytes e.0) e.1.bytes.items) (now : referents joined ≡ joined_faults own loops) where
+  not_true : (b : Bool) → not b ≡ true → b ≡ false
+  not_true false h = refl
+  not_true true h = absurd cc
+
   none_listed : loops ≡ [] → joined_or_own e.1 joined ≡ report_faults m (folder_of files) i (string_bytes e.0) e.1.bytes.items
   none_listed none =
       let empty : referents joined ≡ [] = now ∙ ap (joined_faults own) none in
@@ -227,20 +211,9 @@ module _ {U I : Type 0} (m : Meaning I) (ordered : (p b : List ℕ) (given : Lis
       let put : referents joined ≡ fault_list (own ++ loops) = now ∙ ap (λ b. cond b [] (fault_list (own ++ loops))) some in
       let n : length (referents joined) ≡ length joined = length-map joined (λ (r : Bor Fault). r.now) in
       let told : not (length joined == 0) ≡ true =
-      ap (λ k. not (k == 0)) (sym n ∙ ap length put) ∙ some_in_order (own ++ loops) ∙ some_of_both own loops ∙ ap (λ b. not (length own == 0) || not b) some ∙ or_true (not (length own == 0)) in
-      ap (λ b. cond b e.1.faults.items (referents joined)) (other (length joined == 0) told)
+      ap (λ k. not (k == 0)) (sym n ∙ ap length put) ∙ some_in_order (own ++ loops) ∙ some_of_both own loops ∙ ap (λ b. not (length own == 0) || not b) some ∙ or-true (not (length own == 0)) in
+      ap (λ b. cond b e.1.faults.items (referents joined)) (not_true (length joined == 0) told)
       ∙ listed_both m files i e (own ++ loops) joined checked at (ap (λ l. l ++ loops) is ∙ ap (λ l. e.1.faults.items ++ l) all) put
-    where
-      or_true : (b : Bool) → (b || true) ≡ true
-      or_true true = refl
-      or_true false = refl
-
-      other : (b : Bool) → not b ≡ true → b ≡ false
-      other false h = refl
-      other true h = absurd (wrong h)
-        where
-          wrong : false ≡ true → ⊥
-          wrong h = cc
 
   pub listed_is : joined_or_own e.1 joined ≡ report_faults m (folder_of files) i (string_bytes e.0) e.1.bytes.items
   listed_is = by (length loops == 0) refl

@@ -1,17 +1,21 @@
 -- Which calls are on a call cycle.
-use Rattle.std.proofs.Common.{◌≡◌, ℕ, zero, suc, ◌+◌, ◌<◌, ◌≤◌, Bool, true, false, cond, not, List, [], ◌∷◌, ◌++◌, length, map}
-use Rattle.std.proofs.Common.{get_or, drop, take, Option, Some, None, String, Vec, slice_get, refl, sym, ◌∙◌, ◌||◌, ap, subst, arith, append_assoc, append-nil, nat_lt, nat_eq}
+use Rattle.al_session_folder.proofs.Places.{each_at}
+use Rattle.std.proofs.lemmas.List.Elements.{Contains-get_or}
+use Rattle.std.proofs.lemmas.List.Folds.{list_any_at, list_any_none}
+use Rattle.std.proofs.lemmas.List.Quantifiers.{position-Some}
+use Rattle.std.proofs.Common.{ap₂, ◌≡◌, ℕ, zero, suc, ◌+◌, ◌<◌, ◌≤◌, Bool, true, false, cond, not, List, [], ◌∷◌, ◌++◌, length, map, true≢false}
+use Rattle.std.proofs.Common.{get_or, drop, take, Option, Some, None, String, Vec, slice_get, refl, sym, ◌∙◌, ap, subst, arith, append_assoc, append-nil, nat_lt, nat_eq}
 use Rattle.std.proofs.Common.{⊎_elim, inl, inr}
 use Rattle.std.specs.Prelude.{string_bytes, bytes_eq, Contains, IfSome, ◌↔◌, ◌&&◌, nat_le}
 use Rattle.std.specs.Global.{Global}
 use Rattle.std.specs.Bool.{◌==◌}
 use Rattle.std.specs.List.{AllByRecursion, cons_option, enumerate_from, filter_map, flat_map, list_any, position, prefix_len, zip}
 use Rattle.std.specs.Option.{unwrap_or, option_map, option_eq, option_or}
-use Rattle.std.proofs.lemmas.Bool.{cases_lt}
+use Rattle.std.proofs.lemmas.Bool.{cases_lt, false_from_ne_true}
 use Rattle.std.proofs.lemmas.Bool.Decides.{nat_tests}
 use Rattle.std.proofs.lemmas.List.{drop_more, drop_all, get_or_past, length-map, take_more, map-append}
-use Rattle.std.proofs.lemmas.List.FromFn.{length-enumerate_from}
-use Rattle.std.proofs.lemmas.Option.{slice_get-map, get_or_from_slice_get}
+use Rattle.std.proofs.lemmas.List.FromFn.{length-enumerate_from, get_or-enumerate_from}
+use Rattle.std.proofs.lemmas.Option.{slice_get-map, get_or_from_slice_get, slice_get_within, slice_get-get_or}
 use Rattle.al_base.specs.declared.faults.Fault.{Fault}
 use Rattle.al_graph.specs.Graphs.{Edge, StronglyConnected, Walk, edges_of}
 use Rattle.al_graph.specs.Within.{leads}
@@ -57,31 +61,11 @@ number_kept {U} {I} files q =
     ∙ sym (position_map (λ (e : List ℕ × List ℕ). e.0) (bytes_eq q) (folder_of files)
     ∙ position_map entry_of (λ (e : List ℕ × List ℕ). bytes_eq q e.0) files)
 
-position_below : {X : Type 0} (p : X → Bool) (xs : List X) (k : ℕ) → position p xs ≡ Some k → k < length xs
-position_below p xs k e = by (nat_lt (prefix_len (λ x. not (p x)) xs) (length xs)) refl
-  where
-    n : ℕ
-    n = prefix_len (λ x. not (p x)) xs
-
-    wrong : None ≡ Some k → ⊥
-    wrong h = cc
-
-    by : (t : Bool) → nat_lt (prefix_len (λ x. not (p x)) xs) (length xs) ≡ t → k < length xs
-    by true a =
-        let same : Some (prefix_len (λ x. not (p x)) xs) ≡ Some k = sym (ap (λ b. cond b (Some (prefix_len (λ x. not (p x)) xs)) None) a) ∙ e in
-        let is : prefix_len (λ x. not (p x)) xs ≡ k = ap (λ o. unwrap_or o 0) same in
-        let below : prefix_len (λ x. not (p x)) xs < length xs = grind (arith, nat_tests) in
-        omega (arith, below, is)
-    by false a = absurd (wrong (sym (ap (λ b. cond b (Some (prefix_len (λ x. not (p x)) xs)) None) a) ∙ e))
-
 number_below : (f : Folder) (p : List ℕ) (k : ℕ) → number_of_path f p ≡ Some k → k < length f
-number_below f p k e = let h = position_below (bytes_eq p) (paths_of f) k e in let l : length (paths_of f) ≡ length f = length-map f (λ e. e.0) in omega (arith, h, l)
+number_below f p k e = let h = (position-Some (bytes_eq p) (paths_of f) k [] e).0 in let l : length (paths_of f) ≡ length f = length-map f (λ e. e.0) in omega (arith, h, l)
 
 among_below : (f : Folder) (ps : List (List ℕ)) (k : ℕ) → find_map (number_of_path f) ps ≡ Some k → k < length f
-among_below f [] k e = absurd (wrong e)
-  where
-    wrong : None ≡ Some k → ⊥
-    wrong h = cc
+among_below f [] k e = absurd cc
 among_below f (p ∷ ps) k e = by (number_of_path f p) refl (λ h. among_below f ps k h)
   where
     by : (o : Option ℕ) → number_of_path f p ≡ o → (find_map (number_of_path f) ps ≡ Some k → k < length f) → k < length f
@@ -122,26 +106,11 @@ entry_there [] i h = absurd (omega (arith, h))
 entry_there (x ∷ xs) zero h = (x, refl)
 entry_there (x ∷ xs) (suc i) h = entry_there xs i (omega arith)
 
-numbered_from : {X : Type 0} (n : ℕ) (xs : List X) (i j : ℕ) (x : X) → j ≡ n + i → slice_get xs i ≡ Some x → slice_get (enumerate_from n xs) i ≡ Some (j, x)
-numbered_from n [] i j x is e = absurd (wrong e)
-  where
-    wrong : None ≡ Some x → ⊥
-    wrong h = cc
-numbered_from n (y ∷ ys) zero j x is e =
-    let same : n ≡ j = omega (arith, is) in
-    ap (λ k. Some (k, y)) same ∙ ap (λ o. Some (j, unwrap_or o y)) e
-numbered_from n (y ∷ ys) (suc i) j x is e = numbered_from (n + 1) ys i j x (omega (arith, is)) e
-
 pub numbered : {X : Type 0} (xs : List X) (i : ℕ) (x : X) → slice_get xs i ≡ Some x → slice_get (enumerate_from 0 xs) i ≡ Some (i, x)
-numbered xs i x e = numbered_from 0 xs i i x (omega arith) e
-
-pub below_length : {X : Type 0} (xs : List X) (n : ℕ) (x : X) → slice_get xs n ≡ Some x → n < length xs
-below_length [] n x e = absurd (wrong e)
-  where
-    wrong : None ≡ Some x → ⊥
-    wrong h = cc
-below_length (y ∷ ys) zero x e = omega arith
-below_length (y ∷ ys) (suc n) x e = let h = below_length ys n x e in omega (arith, h)
+numbered xs i x e =
+    let within = slice_get_within xs i x e in
+    slice_get-get_or (enumerate_from 0 xs) i (i, x) (omega (arith, within, length-enumerate_from 0 xs))
+    ∙ ap Some (get_or-enumerate_from 0 xs i (i, x) within ∙ ap₂ (λ j y. (j, y)) (omega arith) (get_or_from_slice_get xs i x x e))
 
 -- ---- files that call one way
 
@@ -158,7 +127,7 @@ module _ {U I : Type 0} (files : Files U I) where
       (cases_lt k n)
 
   pub none_left : (end : ℕ) → end ≡ length files → NoneBackward files end
-  none_left end is k e past at = let below = below_length files k e at in absurd (omega (arith, past, is, below))
+  none_left end is k e past at = let below = slice_get_within files k e at in absurd (omega (arith, past, is, below))
 
   pub next_backward : (n end : ℕ) (x : String Global × KeptFile U I) → end ≡ n + 1 → slice_get files n ≡ Some x → x.1.calls.go_backward ≡ false → NoneBackward files end → NoneBackward files n
   next_backward n end x one there quiet behind k e past at = ⊎_elim
@@ -190,7 +159,7 @@ module _ (graph : List (List ℕ)) (f : Folder) (i : ℕ) (ts : List Target) (ss
   pub looping_next : (more : List Fault) (t : Target) (s : Fault) → at < length ts → t ≡ get_or ts at t → slice_get ss at ≡ Some s →
       more ≡ done ++ fault_if (leads_back graph i (callee f t)) s → more ++ looping graph f i (drop (at + 1) ts) (drop (at + 1) ss) ≡ whole
   looping_next more t s within read known now =
-      let inside : at < length ss = below_length ss at s known in
+      let inside : at < length ss = slice_get_within ss at s known in
       let is : get_or ss at s ≡ s = get_or_from_slice_get ss at s s known in
       let one : drop at ts ≡ t ∷ drop (at + 1) ts = drop_more ts at t within ∙ sym (ap (λ c. c ∷ drop (at + 1) ts) read) in
       let two : drop at ss ≡ s ∷ drop (at + 1) ss = drop_more ss at s inside ∙ ap (λ a. a ∷ drop (at + 1) ss) is in
@@ -264,12 +233,7 @@ graph_next H xs i x old new v lt read is more same =
 -- a kept file, by its number
 pub kept_number : {U I : Type 0} (m : Meaning I) (is_unit : U → List ℕ → List ℕ → Type 0) (files : Files U I) (i : ℕ) (e : String Global × KeptFile U I) → AllKept m is_unit files →
     slice_get files i ≡ Some e → IsKept m is_unit (string_bytes e.0) e.1
-kept_number m is_unit [] i e kept at = absurd (wrong at)
-  where
-    wrong : None ≡ Some e → ⊥
-    wrong h = cc
-kept_number m is_unit (x ∷ xs) zero e kept at = subst (λ y. IsKept m is_unit (string_bytes y.0) y.1) (ap (λ o. unwrap_or o x) at) kept.0
-kept_number m is_unit (x ∷ xs) (suc i) e kept at = kept_number m is_unit xs i e kept.1 at
+kept_number m is_unit files i e kept at = each_at (λ e. IsKept m is_unit (string_bytes e.0) e.1) files i e kept at
 
 pub entry_number : {U I : Type 0} (files : Files U I) (i : ℕ) (e : String Global × KeptFile U I) → slice_get files i ≡ Some e → slice_get (folder_of files) i ≡ Some (string_bytes e.0, e.1.bytes.items)
 entry_number files i e at = slice_get-map entry_of files i ∙ ap (option_map entry_of) at
@@ -377,7 +341,7 @@ module _ {U I : Type 0} (m : Meaning I) (is_unit : U → List ℕ → List ℕ �
       let at = entry_number files y e there.1 in
       let p = string_bytes e.0 in
       let b = e.1.bytes.items in
-      let inside = below_length files y e there.1 in
+      let inside = slice_get_within files y e there.1 in
       leads_behind F kept.ordered y p b at (omega (arith, inside, paths_number)) (m.calls p b) z (sym one.calls.backward ∙ none y e past there.1)
       (subst (λ ns. Contains ns z) (at_file m F y p b at) edge)
 
@@ -433,16 +397,7 @@ module _ {U I : Type 0} (m : Meaning I) (is_unit : U → List ℕ → List ℕ �
 -- ---- files none of whose calls is on a cycle
 
 none_has : {X : Type 0} (T : X → Bool) (xs : List X) (x : X) → list_any T xs ≡ false → Contains xs x → T x ≡ false
-none_has T [] x h c = absurd (let below : c.0 < 0 = c.1 in omega (arith, below))
-none_has T (y ∷ ys) x h c = by (T y) refl c.0 c.1 c.2 (λ rest at. none_has T ys x rest at)
-  where
-    wrong : true ≡ false → ⊥
-    wrong e = cc
-
-    by : (b : Bool) → T y ≡ b → (i : ℕ) → i < length (y ∷ ys) → get_or (y ∷ ys) i x ≡ x → (list_any T ys ≡ false → Contains ys x → T x ≡ false) → T x ≡ false
-    by true a i lt e more = absurd (wrong (sym (ap (λ b. b || list_any T ys) a) ∙ h))
-    by false a zero lt e more = sym (ap T e) ∙ a
-    by false a (suc i) lt e more = more (sym (ap (λ b. b || list_any T ys) a) ∙ h) (i, omega (arith, lt), e)
+none_has T xs x h c = false_from_ne_true (T x) (λ t. true≢false (sym (list_any_at T xs c.0 x c.1 (ap T c.2 ∙ t)) ∙ h))
 
 module _ (graph : List (List ℕ)) (f : Folder) (i : ℕ) where
   -- where nothing that these calls lead to is on a cycle
@@ -463,29 +418,17 @@ module _ (graph : List (List ℕ)) (f : Folder) (i : ℕ) where
 
 -- ---- files with a call on a cycle
 
-none_any : {X : Type 0} (T : X → Bool) (xs : List X) → ((x : X) → Contains xs x → T x ≡ false) → list_any T xs ≡ false
-none_any T [] h = refl
-none_any T (y ∷ ys) h =
-    ap (λ b. b || list_any T ys) (h y (0, omega arith, refl)) ∙ none_any T ys (λ x c. let lt = c.1 in h x (suc c.0, omega (arith, lt), c.2))
-
-not_true : (b : Bool) → (b ≡ true → ⊥) → b ≡ false
-not_true true f = absurd (f refl)
-not_true false f = refl
-
 module _ (graph : List (List ℕ)) (f : Folder) (i : ℕ) where
   last_none : (a b : List Fault) → a ++ b ≡ [] → b ≡ []
   last_none [] b e = e
-  last_none (x ∷ a) b e = absurd (wrong e)
-    where
-      wrong : x ∷ a ++ b ≡ [] → ⊥
-      wrong h = cc
+  last_none (x ∷ a) b e = absurd cc
 
   -- where no call is on a cycle, none of the files that these calls lead to does
   none_of_calls : (ts : List Target) (ss : List Fault) → length ss ≡ length ts → looping graph f i ts ss ≡ [] → AllByRecursion (λ t. (k : ℕ) → callee f t ≡ Some k → leads graph k i ≡ false) ts
   none_of_calls [] ss n e = tt
   none_of_calls (t ∷ ts) [] n e = absurd (let wrong : 0 ≡ length (t ∷ ts) = n in omega (arith, wrong))
   none_of_calls (t ∷ ts) (s ∷ ss) n e = (
-    λ k is. not_true (leads graph k i)
+    λ k is. false_from_ne_true (leads graph k i)
         (λ yes. wrong (sym (ap (λ o. fault_if (leads_back graph i o) s ++ looping graph f i ts ss) is ∙ ap (λ b. fault_if b s ++ looping graph f i ts ss) yes) ∙ e)),
     none_of_calls ts ss (omega (arith, n)) (last_none (fault_if (leads_back graph i (callee f t)) s) (looping graph f i ts ss) e),
   )
@@ -525,12 +468,12 @@ module _ {I : Type 0} (m : Meaning I) (f : Folder) (edges : List (Vec ℕ Global
           cc
 
       apart : (k : ℕ) → Edge (calls_graph m f) i k → leads (calls_graph m f) k i ≡ false
-      apart k edge = not_true (leads (calls_graph m f) k i) (has_it k edge)
+      apart k edge = false_from_ne_true (leads (calls_graph m f) k i) (has_it k edge)
 
   -- such a call is there just where a fault of it is told
   row_told : (p b : List ℕ) → slice_get f i ≡ Some (p, b) → length (m.sites p b) ≡ length (m.calls p b) → loop_faults m f i p b ≡ [] →
       list_any (λ k. option_eq nat_eq (get_or seen k None) (get_or seen i None)) row ≡ false
-  row_told p b at sited none = none_any (λ k. option_eq nat_eq (get_or seen k None) (get_or seen i None)) row apart
+  row_told p b at sited none = list_any_none (λ k. option_eq nat_eq (get_or seen k None) (get_or seen i None)) row (λ j d lt. apart (get_or row j d) (Contains-get_or row j d lt))
     where
       G : List (List ℕ)
       G = calls_graph m f
@@ -550,7 +493,7 @@ module _ {I : Type 0} (m : Meaning I) (f : Folder) (edges : List (Vec ℕ Global
           cc
 
       apart : (k : ℕ) → Contains row k → option_eq nat_eq (get_or seen k None) (get_or seen i None) ≡ false
-      apart k there = not_true (option_eq nat_eq (get_or seen k None) (get_or seen i None)) (has_it k there)
+      apart k there = false_from_ne_true (option_eq nat_eq (get_or seen k None) (get_or seen i None)) (has_it k there)
 
   pub row_tells : (r : Bool) → r ≡ list_any (λ k. option_eq nat_eq (get_or seen k None) (get_or seen i None)) row → (p b : List ℕ) → slice_get f i ≡ Some (p, b) →
       length (m.sites p b) ≡ length (m.calls p b) → r ≡ not (length (loop_faults m f i p b) == 0)

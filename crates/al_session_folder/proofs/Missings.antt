@@ -1,6 +1,7 @@
 -- The candidates that are missing, and paths that are put in order.
-use Rattle.std.proofs.Common.{◌≡◌, ℕ, zero, suc, ◌+◌, ◌<◌, Bool, true, false, cond, List, [], ◌∷◌, ◌++◌, length, get_or, take}
-use Rattle.std.proofs.Common.{filter, Option, Some, None, is_some, String, slice_get, refl, sym, ◌∙◌, ap}
+use Rattle.std.proofs.lemmas.Map.Lookups.{exact_bytes}
+use Rattle.std.proofs.Common.{◌≡◌, ℕ, ◌+◌, ◌<◌, Bool, cond, List, [], ◌∷◌, ◌++◌, length, get_or, take}
+use Rattle.std.proofs.Common.{filter, Option, Some, None, is_some, String, refl, sym, ◌∙◌, ap}
 use Rattle.std.proofs.Common.{append-nil, append_assoc}
 use Rattle.std.specs.List.{dedup, flat_map}
 use Rattle.std.specs.List.Sorted.{IsPermutation, IsSortedBy, IsStrictlySortedBy}
@@ -9,11 +10,10 @@ use Rattle.std.specs.Cmp.{IsStrictWeakOrder}
 use Rattle.std.specs.Fn.{Called, ComparesAs, Mut}
 use Rattle.std.specs.Prelude.{bytes_eq, string_bytes}
 use Rattle.std.specs.Global.{Global}
-use Rattle.std.specs.Option.{option_map, unwrap_or}
+use Rattle.std.specs.Option.{option_map}
 use Rattle.std.specs.Ordering.{is_lt, nat_cmp}
 use Rattle.std.specs.declared.cmp.Ordering.{Ordering}
 use Rattle.std.specs.Cmp.Lexicographic.{slice_cmp}
-use Rattle.std.specs.FinMap.{IsAntisymmetric, nat_cmp-IsAntisymmetric, slice_cmp-IsAntisymmetric}
 use Rattle.std.proofs.lemmas.Cmp.{nat_list_cmp_total}
 use Rattle.std.proofs.lemmas.List.{take_more}
 use Rattle.std.proofs.lemmas.Grind.{flat_map-append}
@@ -31,10 +31,6 @@ use Rattle.al_base.proofs.InOrder.{IsStrictlySortedBy-in_order, dedup-in_order}
 use Rattle.al_session_folder.specs.declared.lint.Target.{Target}
 use Rattle.al_session_folder.proofs.Views.{bytes_kept}
 use Rattle.al_session_folder.proofs.Referring.{ordered_referred}
-
--- paths that compare equal are one
-pub paths_same : IsAntisymmetric (slice_cmp nat_cmp)
-paths_same = slice_cmp-IsAntisymmetric nat_cmp-IsAntisymmetric
 
 module _ (f : Folder) where
   -- a path that is in the folder isn't put, and one that is not in it is
@@ -96,7 +92,7 @@ missing_of m is_unit files paths kept is = is ∙ ap (in_order (slice_cmp nat_cm
 -- what is missing stands in order
 pub missing_sorted : {I : Type 0} (m : Meaning I) (f : Folder) → IsStrictlySortedBy (slice_cmp nat_cmp) (missing_in m f)
 unfolding missing_in
-missing_sorted m f = IsStrictlySortedBy-in_order nat_list_cmp_total paths_same (flat_map (λ e. absent_candidates f (m.calls e.0 e.1)) f)
+missing_sorted m f = IsStrictlySortedBy-in_order nat_list_cmp_total exact_bytes (flat_map (λ e. absent_candidates f (m.calls e.0 e.1)) f)
 
 -- what a sort by the order of paths and then a `dedup` leave of references
 pub ordered_references : {F : Type 0} {g : Mut F (Bor (Bor (List ℕ)) × (Bor (Bor (List ℕ)) × Unit {0})) Ordering} {f : F} (xs sorted out : List (Bor (List ℕ)))
@@ -104,7 +100,7 @@ pub ordered_references : {F : Type 0} {g : Mut F (Bor (Bor (List ℕ)) × (Bor (
     → ((a : Bor (Bor (List ℕ)) × (Bor (Bor (List ℕ)) × Unit {0})) (r : Ordering) (f' : F) → Called g f a r f' → (r ≡ slice_cmp nat_cmp a.0.now.now a.1.0.now.now) × (f' ≡ f))
     → out ≡ dedup (λ (p q : Bor (List ℕ)). bytes_eq p.now q.now) sorted → referents out ≡ in_order (slice_cmp nat_cmp) (referents xs)
 ordered_references {g = g} {f = f} xs sorted out moved up h is =
-    ordered_referred nat_list_cmp_total paths_same bytes_eq (λ x y. sym (is_eq-slice_cmp x y)) xs sorted out moved
+    ordered_referred nat_list_cmp_total exact_bytes bytes_eq (λ x y. sym (is_eq-slice_cmp x y)) xs sorted out moved
     (up (λ x y. is_lt (slice_cmp nat_cmp x.now y.now)) (ranks_by nat_list_cmp_total (λ (x : Bor (List ℕ)). x.now))
     (always_returns_same g (λ a r. is_lt r ≡ is_lt (slice_cmp nat_cmp a.0.now.now a.1.0.now.now)) f (λ a r f' k. (ap is_lt (h a r f' k).0, (h a r f' k).1)))) is
 
@@ -114,7 +110,7 @@ pub ordered_paths : {F : Type 0} {g : Mut F (Bor (List ℕ) × (Bor (List ℕ) �
     → ((a : Bor (List ℕ) × (Bor (List ℕ) × Unit {0})) (r : Ordering) (f' : F) → Called g f a r f' → (r ≡ slice_cmp nat_cmp a.0.now a.1.0.now) × (f' ≡ f))
     → out ≡ dedup bytes_eq sorted → out ≡ in_order (slice_cmp nat_cmp) xs
 ordered_paths {g = g} {f = f} xs sorted out moved up h is =
-    is ∙ dedup-in_order nat_list_cmp_total paths_same bytes_eq (λ x y. sym (is_eq-slice_cmp x y)) xs sorted moved
+    is ∙ dedup-in_order nat_list_cmp_total exact_bytes bytes_eq (λ x y. sym (is_eq-slice_cmp x y)) xs sorted moved
     (up (λ x y. is_lt (slice_cmp nat_cmp x y)) (ranks_by nat_list_cmp_total (λ (x : List ℕ). x))
     (always_returns_same g (λ a r. is_lt r ≡ is_lt (slice_cmp nat_cmp a.0.now a.1.0.now)) f (λ a r f' k. (ap is_lt (h a r f' k).0, (h a r f' k).1))))
 
@@ -122,18 +118,6 @@ ordered_paths {g = g} {f = f} xs sorted out moved up h is =
 pub absent_by : {U I : Type 0} (files : Files U I) (p : List ℕ) (t : Bool) → is_some (file_at files p) ≡ t → filter (is_absent (folder_of files)) (p ∷ []) ≡ cond t [] (p ∷ [])
 absent_by {U} {I} files p t h = by (file_at files p) refl
   where
-    wrong : {A : Type 0} → true ≡ false → A
-    wrong h = absurd (no h)
-      where
-        no : true ≡ false → ⊥
-        no h = cc
-
     by : (o : Option (KeptFile U I)) → file_at files p ≡ o → filter (is_absent (folder_of files)) (p ∷ []) ≡ cond t [] (p ∷ [])
     by None a = absent_absent (folder_of files) p (bytes_kept files p ∙ ap (option_map (λ file. file.bytes.items)) a) ∙ ap (λ b. cond b [] (p ∷ [])) (sym (ap is_some a) ∙ h)
     by (Some file) a = absent_present (folder_of files) p file.bytes.items (bytes_kept files p ∙ ap (option_map (λ file. file.bytes.items)) a) ∙ ap (λ b. cond b [] (p ∷ [])) (sym (ap is_some a) ∙ h)
-
--- what was read at an index
-pub read_is : {X : Type 0} (xs : List X) (i : ℕ) (x : X) → slice_get xs i ≡ Some x → x ≡ get_or xs i x
-read_is [] i x h = refl
-read_is (y ∷ ys) zero x h = sym (ap (λ o. unwrap_or o x) h)
-read_is (y ∷ ys) (suc i) x h = read_is ys i x h

@@ -1,4 +1,10 @@
 -- Files in order of path, and the place of a path among them.
+use Rattle.std.proofs.lemmas.List.{length-map}
+use Rattle.std.proofs.lemmas.Map.Lookups.{exact_bytes}
+use Rattle.std.proofs.lemmas.Map.Keys.{sorted_tail}
+use Rattle.std.proofs.lemmas.Map.Entries.{none_below_head}
+use Rattle.std.proofs.lemmas.List.Elements.{All-from_recursion}
+use Rattle.std.proofs.lemmas.Option.{slice_get_within, get_or_from_slice_get}
 use Rattle.std.proofs.Common.{◌≡◌, ℕ, zero, suc, ◌<◌, ◌≤◌, List, [], ◌∷◌, length, map, set, Some, None, Result, Ok, Err, refl, sym, ◌∙◌, ap, subst, arith, slice_get, String}
 use Rattle.std.specs.Prelude.{string_bytes}
 use Rattle.std.specs.Global.{Global}
@@ -9,23 +15,22 @@ use Rattle.std.specs.declared.cmp.Ordering.{Ordering}
 use Rattle.std.specs.declared.cmp.Ordering.TheVariants.{Less, Equal, Greater}
 use Rattle.std.specs.Cmp.Lexicographic.{slice_cmp}
 use Rattle.std.specs.BTreeMap.{is_at}
-use Rattle.std.proofs.lemmas.Map.Text.{is_eq-slice_cmp}
-use Rattle.std.proofs.lemmas.Slice.Eq.{bytes_eq-Decides}
 use Rattle.std.proofs.lemmas.Cmp.{nat_list_cmp_total}
 use Rattle.std.proofs.lemmas.Map.{NonePasses, lookup-none}
 use Rattle.std.proofs.lemmas.Bool.{cond-true, cond-false}
 use Rattle.al_session_folder.specs.Folder.{Folder, bytes_at, with_file, without_file, paths_of}
 use Rattle.al_session_folder.specs.Place.{path_place, one_further}
-use Rattle.al_session_folder.specs.Kept.{Files, folder_of}
+use Rattle.al_session_folder.specs.Kept.{Files, folder_of, entry_of}
 use Rattle.al_session_folder.specs.declared.kept.KeptFile.{KeptFile}
-
-pub exact_path : (p q : List ℕ) → slice_cmp nat_cmp p q ≡ Equal → p ≡ q
-exact_path p q h = (bytes_eq-Decides p q).0 (sym (is_eq-slice_cmp p q) ∙ ap is_eq h)
 
 pub by_ordering : {P : Type 0} (r : Ordering) → (r ≡ Less → P) → (r ≡ Equal → P) → (r ≡ Greater → P) → P
 by_ordering Less a b c = a refl
 by_ordering Equal a b c = b refl
 by_ordering Greater a b c = c refl
+
+-- what holds of each element holds of the one at a place
+pub each_at : {X : Type 0} (P : X → Type 0) (xs : List X) (i : ℕ) (x : X) → AllByRecursion P xs → slice_get xs i ≡ Some x → P x
+each_at P xs i x all at = subst P (get_or_from_slice_get xs i x x at) (All-from_recursion P xs all i x (slice_get_within xs i x at))
 
 module _ (p : List ℕ) where
   -- where the place is Ok i: the entry there is that of p, and a look-up finds it
@@ -65,7 +70,7 @@ module _ (p : List ℕ) where
   found [] i h = cc
   found (e ∷ es) zero h = by_ordering (slice_cmp nat_cmp p e.0)
       (λ a. let s = step e es Less a in cc)
-      (λ a. let same = exact_path p e.0 a in record {
+      (λ a. let same = exact_bytes p e.0 a in record {
         within = omega arith;
         bytes = e.1;
         entry = ap (λ q. Some (q, e.1)) (sym same);
@@ -86,23 +91,11 @@ module _ (p : List ℕ) where
         puts = λ b. ap (λ l. e ∷ l) (r.puts b) ∙ sym (put_step e es b Greater a);
       })
 
-  below_rest : (e : List ℕ × List ℕ) (es : Folder) → slice_cmp nat_cmp p e.0 ≡ Less → AllByRecursion (λ y. slice_cmp nat_cmp e.0 y ≡ Less) (paths_of es) → NonePasses (is_at (slice_cmp nat_cmp p)) es
-  below_rest e [] h a = tt
-  below_rest e (f ∷ es) h a = (ap is_eq (nat_list_cmp_total.trans p e.0 f.0 h a.0), below_rest e es h a.1)
-
   -- where the place is Err i: p would go there, and isn't there
   pub record IsGap (es : Folder) (i : ℕ) : Type 0 where
     pub within : i ≤ length es
     pub puts : (b : List ℕ) → insert es i (p, b) ≡ with_file es p b
     pub lacks : IsStrictlySortedBy (slice_cmp nat_cmp) (paths_of es) → NonePasses (is_at (slice_cmp nat_cmp p)) es
-
-  pub first_below : (e : List ℕ × List ℕ) (es : Folder) → IsStrictlySortedBy (slice_cmp nat_cmp) (paths_of (e ∷ es)) → AllByRecursion (λ y. slice_cmp nat_cmp e.0 y ≡ Less) (paths_of es)
-  unfolding IsStrictlySortedBy
-  first_below e es s = s.0
-
-  pub rest_sorted : (e : List ℕ × List ℕ) (es : Folder) → IsStrictlySortedBy (slice_cmp nat_cmp) (paths_of (e ∷ es)) → IsStrictlySortedBy (slice_cmp nat_cmp) (paths_of es)
-  unfolding IsStrictlySortedBy
-  rest_sorted e es s = s.1
 
   pub gap : (es : Folder) (i : ℕ) → path_place (paths_of es) p ≡ Err i → IsGap es i
   gap [] zero h = record { within = omega arith; puts = λ b. refl; lacks = λ s. tt }
@@ -111,7 +104,7 @@ module _ (p : List ℕ) where
       (λ a. record {
         within = omega arith;
         puts = λ b. sym (put_step e es b Less a);
-        lacks = λ s. (ap is_eq a, below_rest e es a (first_below e es s));
+        lacks = λ s. none_below_head nat_list_cmp_total p e es s a;
       })
       (λ a. let s = step e es Equal a in cc)
       (λ a. absurd (not_zero_err _ (sym (step e es Greater a) ∙ h)))
@@ -121,7 +114,7 @@ module _ (p : List ℕ) where
       (λ a. let r = gap es i (one_less_err _ i (sym (step e es Greater a) ∙ h)) in record {
         within = omega (arith, r.within);
         puts = λ b. ap (λ l. e ∷ l) (r.puts b) ∙ sym (put_step e es b Greater a);
-        lacks = λ s. (ap is_eq a, r.lacks (rest_sorted e es s));
+        lacks = λ s. (ap is_eq a, r.lacks (sorted_tail _ _ _ s));
       })
 
   all_put : (P : List ℕ → Type 0) (es : Folder) (b : List ℕ) → P p → AllByRecursion P (paths_of es) → AllByRecursion P (paths_of (with_file es p b))
@@ -155,8 +148,7 @@ absent es p i s h = lookup-none _ es ((gap p es i h).lacks s)
 
 module _ {U I : Type 0} where
   pub length-folder_of : (files : Files U I) → length (folder_of files) ≡ length files
-  length-folder_of [] = refl
-  length-folder_of (f ∷ fs) = ap suc (length-folder_of fs)
+  length-folder_of files = length-map files entry_of
 
   pub paths_of-folder_of : (files : Files U I) → map (λ (e : String Global × KeptFile U I). string_bytes e.0) files ≡ paths_of (folder_of files)
   paths_of-folder_of [] = refl

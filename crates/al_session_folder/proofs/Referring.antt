@@ -45,11 +45,6 @@ ordered_referred {X} {cmp} total same E ties xs sorted out moved s is =
     ap referents is ∙ dedup_referred E sorted
     ∙ dedup-in_order total same E ties (referents xs) (referents sorted) (IsPermutation-map (λ (r : Bor X). r.now) xs sorted moved) (sorted_referred cmp sorted s)
 
--- one reference more
-pub referred-append : {X : Type 0} (xs : List (Bor X)) (x : Bor X) → referents (xs ++ x ∷ []) ≡ referents xs ++ x.now ∷ []
-referred-append [] x = refl
-referred-append (y ∷ ys) x = ap (λ l. y.now ∷ l) (referred-append ys x)
-
 -- what one more refers to, in a list that takes them in turn
 pub next_referred : {X : Type 0} (xs : List (Bor X)) (i : ℕ) (x : Bor X) (old new : List X) (y : X) → i < length xs → x ≡ get_or xs i x → y ≡ x.now →
     old ≡ take i (referents xs) → new ≡ old ++ y ∷ [] → new ≡ take (i + 1) (referents xs)

@@ -1,9 +1,12 @@
 -- What the kept faults of a folder's files say of its report and status.
-use Rattle.std.proofs.Common.{◌≤◌, ◌≡◌, ℕ, Bool, true, false, not, List, [], ◌∷◌, length, Option, refl, sym, ◌∙◌, ap, subst, ◌||◌}
+use Rattle.std.proofs.lemmas.List.Folds.{list_any_at, list_any_more}
+use Rattle.std.proofs.lemmas.Option.{slice_get_within, get_or_from_slice_get}
+use Rattle.std.proofs.lemmas.Bool.{or_from}
+use Rattle.std.proofs.Common.{◌+◌, ◌≤◌, ◌≡◌, ℕ, Bool, true, false, not, List, [], ◌∷◌, length, Option, refl, sym, ◌∙◌, ap, subst}
 use Rattle.std.specs.Prelude.{string_bytes, bytes_eq}
 use Rattle.std.specs.Global.{Global}
 use Rattle.std.specs.Option.{option_map, unwrap_or}
-use Rattle.std.proofs.Common.{String, Some, None, slice_get, zero, suc, take}
+use Rattle.std.proofs.Common.{String, Some, slice_get, take}
 use Rattle.al_session_folder.proofs.Views.{bytes_kept, bytes_same, kept_at}
 use Rattle.std.specs.Bool.{◌==◌}
 use Rattle.std.specs.List.{AllByRecursion, list_any}
@@ -80,32 +83,8 @@ spans_kept m is_unit law files q b faults file kept checked found there same =
     subst P (sym (same ∙ list)) (subst Q bytes (law q file.bytes.items (answers m (folder_of files) q file.bytes.items) one.small))
 
 pub any_found : {X : Type 0} (T : X → Bool) (xs : List X) (i : ℕ) (x : X) → slice_get xs i ≡ Some x → T x ≡ true → list_any T xs ≡ true
-any_found T [] i x h t = absurd (wrong h)
-  where
-    wrong : None ≡ Some x → ⊥
-    wrong h = cc
-any_found T (y ∷ ys) zero x h t = ap (λ b. b || list_any T ys) (ap T (ap (λ o. unwrap_or o x) h) ∙ t)
-any_found T (y ∷ ys) (suc i) x h t = ap (λ b. T y || b) (any_found T ys i x h t) ∙ or_true (T y)
-  where
-    or_true : (b : Bool) → b || true ≡ true
-    or_true true = refl
-    or_true false = refl
+any_found T xs i x h t = list_any_at T xs i x (slice_get_within xs i x h) (ap T (get_or_from_slice_get xs i x x h) ∙ t)
 
-take_none : {X : Type 0} (xs : List X) → take 0 xs ≡ []
-take_none [] = refl
-take_none (x ∷ xs) = refl
-
-pub any_none : {X : Type 0} (T : X → Bool) (xs : List X) (i : ℕ) (x : X) → slice_get xs i ≡ Some x → T x ≡ false → list_any T (take i xs) ≡ false → list_any T (take (suc i) xs) ≡ false
-any_none T [] i x h t before = absurd (wrong h)
-  where
-    wrong : None ≡ Some x → ⊥
-    wrong h = cc
-any_none T (y ∷ ys) zero x h t before = ap (λ b. b || list_any T (take 0 ys)) (ap T (ap (λ o. unwrap_or o x) h) ∙ t) ∙ ap (list_any T) (take_none ys)
-any_none T (y ∷ ys) (suc i) x h t before = by (T y) refl (λ rest. any_none T ys i x h t rest)
-  where
-    by : (b : Bool) → T y ≡ b → (list_any T (take i ys) ≡ false → list_any T (take (suc i) ys) ≡ false) → T y || list_any T (take (suc i) ys) ≡ false
-    by true a rest = absurd (wrong (sym (ap (λ b. b || list_any T (take i ys)) a) ∙ before))
-      where
-        wrong : true ≡ false → ⊥
-        wrong h = cc
-    by false a rest = ap (λ b. b || list_any T (take (suc i) ys)) a ∙ rest (sym (ap (λ b. b || list_any T (take i ys)) a) ∙ before)
+pub any_none : {X : Type 0} (T : X → Bool) (xs : List X) (i : ℕ) (x : X) → slice_get xs i ≡ Some x → T x ≡ false → list_any T (take i xs) ≡ false → list_any T (take (i + 1) xs) ≡ false
+any_none T xs i x h t before =
+    list_any_more T xs i x (slice_get_within xs i x h) ∙ or_from _ _ before (ap T (get_or_from_slice_get xs i x x h) ∙ t)

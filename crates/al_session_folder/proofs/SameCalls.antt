@@ -1,6 +1,7 @@
 -- Folders whose files have the same paths and call the same have the same graph of calls.
-use Rattle.std.proofs.Common.{◌≡◌, ℕ, zero, suc, ◌+◌, ◌<◌, Bool, true, false, List, [], ◌∷◌, length, map, get_or, set, slice_get, take, Option, Some, None}
-use Rattle.std.proofs.Common.{Result, Ok, Err, Vec, refl, sym, ◌∙◌, ap, subst, arith, ◌&&◌}
+use Rattle.std.proofs.lemmas.Bool.{and_parts}
+use Rattle.std.proofs.Common.{◌≡◌, ℕ, zero, suc, ◌+◌, ◌<◌, true, false, List, [], ◌∷◌, length, map, get_or, set, slice_get, take, Option, Some, None}
+use Rattle.std.proofs.Common.{Result, Ok, Err, Vec, refl, sym, ◌∙◌, ap, subst, arith, ◌&&◌, true≢false}
 use Rattle.std.specs.Prelude.{bytes_eq, ◌⊎◌}
 use Rattle.std.specs.Bool.{Decides}
 use Rattle.std.specs.Global.{Global}
@@ -10,7 +11,7 @@ use Rattle.std.specs.Option.{option_map, unwrap_or, option_or}
 use Rattle.std.specs.Ordering.{nat_cmp}
 use Rattle.std.specs.Cmp.Lexicographic.{slice_cmp}
 use Rattle.std.proofs.lemmas.List.{length-map, take_more_same}
-use Rattle.std.proofs.lemmas.Option.{slice_get-map}
+use Rattle.std.proofs.lemmas.Option.{slice_get-map, slice_get_within}
 use Rattle.al_graph.specs.Graphs.{Edge, Walk, edges_of}
 use Rattle.al_session_folder.specs.Meaning.{Meaning, candidates}
 use Rattle.al_session_folder.specs.Folder.{Folder, bytes_at, find_map, paths_of, with_file}
@@ -21,29 +22,21 @@ use Rattle.al_session_folder.specs.Place.{path_place}
 use Rattle.al_session_folder.specs.declared.kept.KeptFile.{KeptFile}
 use Rattle.al_session_folder.specs.declared.lint.Target.{Target}
 use Rattle.al_session_folder.specs.declared.lint.Target.TheVariants.{FirstOf, Only}
-use Rattle.al_session_folder.proofs.Looping.{below_length, entry_there}
+use Rattle.al_session_folder.proofs.Looping.{entry_there, same_read}
 use Rattle.al_session_folder.proofs.Places.{absent, found}
 use Rattle.al_session_folder.proofs.Views.{bytes_kept, bytes_same, bytes_self, kept_at}
 
 -- ---- calls that are compared
 
 pub differ : {P : Type 0} → (P → ⊥) → Decides false P
-differ apart = (λ h. absurd (wrong h), λ p. absurd (apart p))
-  where
-    wrong : false ≡ true → ⊥
-    wrong h = cc
-
-both : (a b : Bool) → a && b ≡ true → (a ≡ true) × (b ≡ true)
-both true true h = (refl, refl)
-both true false h = cc
-both false b h = cc
+differ apart = (λ h. absurd (true≢false (sym h)), λ p. absurd (apart p))
 
 pub same_target : (t u : Target) → is_same_target t u ≡ true → t ≡ u
 same_target (Only p) (Only q) h = ap Only (bytes_same p q h)
 same_target (Only p) (FirstOf q r) h = cc
 same_target (FirstOf p q) (Only r) h = cc
 same_target (FirstOf p q) (FirstOf r s) h =
-    let parts = both (bytes_eq p r) (bytes_eq q s) h in
+    let parts = and_parts (bytes_eq p r) (bytes_eq q s) h in
     ap (λ x. FirstOf x q) (bytes_same p r parts.0) ∙ ap (FirstOf r) (bytes_same q s parts.1)
 
 same_itself : (t : Target) → is_same_target t t ≡ true
@@ -63,19 +56,11 @@ pub take_same : {X : Type 0} (xs ys : List X) (i : ℕ) (x y : X) → i < length
 take_same {X} xs ys i x y lt below is at same before =
     take_more_same xs ys i x lt below before (sym is ∙ subst (λ (z : X). z ≡ get_or ys i z) (sym same) at)
 
-one_at : {X : Type 0} (xs : List X) (i : ℕ) (x y : X) → i < length xs → x ≡ get_or xs i x → y ≡ get_or xs i y → x ≡ y
-one_at [] i x y lt a b = absurd (omega (arith, lt))
-one_at (z ∷ zs) zero x y lt a b = a ∙ sym b
-one_at (z ∷ zs) (suc i) x y lt a b = one_at zs i x y (omega (arith, lt)) a b
-
 -- lists that differ at a place are not the same
 pub apart : (xs ys : List Target) (i : ℕ) (x y : Target) → i < length xs → x ≡ get_or xs i x → y ≡ get_or ys i y → is_same_target x y ≡ false → xs ≡ ys → ⊥
 apart xs ys i x y lt is at other e =
-    let same : x ≡ y = one_at xs i x y lt is (at ∙ ap (λ l. get_or l i y) (sym e)) in
-    wrong (sym (same_itself y) ∙ ap (λ t. is_same_target t y) (sym same) ∙ other)
-  where
-    wrong : true ≡ false → ⊥
-    wrong h = cc
+    let same : x ≡ y = same_read xs i x y lt is (at ∙ ap (λ l. get_or l i y) (sym e)) in
+    true≢false (sym (same_itself y) ∙ ap (λ t. is_same_target t y) (sym same) ∙ other)
 
 -- ---- the graph of such a folder
 
@@ -116,7 +101,7 @@ module _ {I : Type 0} (m : Meaning I) (f g : Folder) (same : HasSameCalls m f g)
   row_still : (graph : List (Vec ℕ Global)) (labels : List (Option ℕ)) → IsCallGraph m f graph labels → (i : ℕ) (p b : List ℕ) → slice_get g i ≡ Some (p, b) →
       IsRow g (get_or (edges_of graph) i []) (m.calls p b)
   row_still graph labels is i p b at =
-      let below = below_length g i (p, b) at in
+      let below = slice_get_within g i (p, b) at in
       let e = entry_there f i (omega (arith, below, as_many)) in
       let one : Some (m.calls e.0.0 e.0.1) ≡ Some (m.calls p b) = sym (calls_number f i e.0 e.1) ∙ ap (λ l. slice_get l i) (sym same.calls) ∙ calls_number g i (p, b) at in
       let calls : m.calls e.0.0 e.0.1 ≡ m.calls p b = ap (λ o. unwrap_or o []) one in
@@ -154,10 +139,7 @@ module _ {I : Type 0} (m : Meaning I) where
   put_calls f p b now s there same = by (path_place (paths_of f) p) refl
     where
       by : (r : Result ℕ ℕ) → path_place (paths_of f) p ≡ r → HasSameCalls m f (with_file f p now)
-      by (Err i) h = absurd (wrong (sym (absent f p i s h) ∙ there))
-        where
-          wrong : None ≡ Some b → ⊥
-          wrong h = cc
+      by (Err i) h = let none : None ≡ Some b = sym (absent f p i s h) ∙ there in absurd cc
       by (Ok i) h =
           let r = found p f i h in
           let one : Some r.bytes ≡ Some b = sym r.finds ∙ there in
@@ -171,10 +153,7 @@ module _ {I : Type 0} (m : Meaning I) where
   put_same_calls {U} is_unit files p file kept one same = by (file_at files p) refl
     where
       by : (o : Option (KeptFile U I)) → file_at files p ≡ o → HasSameCalls m (folder_of files) (with_file (folder_of files) p file.bytes.items)
-      by None a = absurd (wrong (sym (ap (option_map (λ (kept : KeptFile U I). kept.calls.targets.items)) a) ∙ same))
-        where
-          wrong : None ≡ Some file.calls.targets.items → ⊥
-          wrong h = cc
+      by None a = let none : None ≡ Some file.calls.targets.items = sym (ap (option_map (λ (kept : KeptFile U I). kept.calls.targets.items)) a) ∙ same in absurd cc
       by (Some old) a =
           let before : IsKept m is_unit p old = kept_at m is_unit files p old kept.kept a in
           let there : bytes_at (folder_of files) p ≡ Some old.bytes.items = bytes_kept files p ∙ ap (option_map (λ (kept : KeptFile U I). kept.bytes.items)) a in

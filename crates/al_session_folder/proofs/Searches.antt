@@ -1,4 +1,5 @@
 -- A binary search among paths in order answers the path's place.
+use Rattle.std.proofs.lemmas.Map.Keys.{sorted_head, sorted_tail, Less-from_sorted}
 use Rattle.std.proofs.Common.{◌≡◌, ℕ, zero, suc, ◌<◌, ◌≤◌, List, [], ◌∷◌, length, map, get_or, Result, Ok, Err, refl, sym, ◌∙◌, ap, subst, arith, inl, inr}
 use Rattle.std.specs.List.Sorted.{IsStrictlySortedBy, IsSearchInRange, IsBinarySearchResult, IsNonDecreasingBy}
 use Rattle.std.specs.Ordering.{nat_cmp, match_ordering, ordering_reverse, ordering_index}
@@ -18,28 +19,14 @@ use Rattle.std.specs.Prelude.{string_bytes}
 use Rattle.std.specs.Global.{Global}
 use Rattle.indexmap.specs.Calls.{ComputesOnEntry}
 use Rattle.al_session_folder.specs.Place.{path_place, one_further}
-use Rattle.al_session_folder.proofs.Places.{exact_path, by_ordering}
+use Rattle.std.proofs.lemmas.Map.Lookups.{exact_bytes}
+use Rattle.al_session_folder.proofs.Places.{by_ordering}
 
 abbrev cmp : List ℕ → List ℕ → Ordering
 cmp a b = slice_cmp nat_cmp a b
 
 flipped : (a b : List ℕ) (o : Ordering) → cmp a b ≡ o → cmp b a ≡ ordering_reverse o
 flipped a b o h = nat_list_cmp_total.antisymm b a ∙ ap ordering_reverse h
-
--- a path is below each one behind it
-below_at : (q : List ℕ) (qs : List (List ℕ)) (i : ℕ) (d : List ℕ) → IsStrictlySortedBy (slice_cmp nat_cmp) (q ∷ qs) → i < length qs → cmp q (get_or qs i d) ≡ Less
-unfolding IsStrictlySortedBy
-below_at q qs i d s h = All-from_recursion (λ y. cmp q y ≡ Less) qs s.0 i d h
-
-rest_sorted : (q : List ℕ) (qs : List (List ℕ)) → IsStrictlySortedBy (slice_cmp nat_cmp) (q ∷ qs) → IsStrictlySortedBy (slice_cmp nat_cmp) qs
-unfolding IsStrictlySortedBy
-rest_sorted q qs s = s.1
-
-ordered_at : (qs : List (List ℕ)) (i j : ℕ) (d : List ℕ) → IsStrictlySortedBy (slice_cmp nat_cmp) qs → i < j → j < length qs → cmp (get_or qs i d) (get_or qs j d) ≡ Less
-ordered_at [] i j d s l h = absurd (omega arith)
-ordered_at (q ∷ qs) i zero d s l h = absurd (omega arith)
-ordered_at (q ∷ qs) zero (suc j) d s l h = below_at q qs j d s (omega arith)
-ordered_at (q ∷ qs) (suc i) (suc j) d s l h = ordered_at qs i j d (rest_sorted q qs s) (omega arith) (omega arith)
 
 module _ (p : List ℕ) where
   step : (q : List ℕ) (qs : List (List ℕ)) (o : Ordering) → cmp q p ≡ o → path_place (q ∷ qs) p ≡ match_ordering (ordering_reverse o) (Err 0) (Ok 0) (one_further (path_place qs p))
@@ -49,8 +36,8 @@ module _ (p : List ℕ) where
   place_at [] i d s h e = absurd (omega arith)
   place_at (q ∷ qs) zero d s h e = step q qs Equal e
   place_at (q ∷ qs) (suc i) d s h e =
-      let less : cmp q p ≡ Less = ap (cmp q) (sym (exact_path (get_or qs i d) p e)) ∙ below_at q qs i d s (omega arith) in
-      step q qs Less less ∙ ap one_further (place_at qs i d (rest_sorted q qs s) (omega arith) e)
+      let less : cmp q p ≡ Less = ap (cmp q) (sym (exact_bytes (get_or qs i d) p e)) ∙ All-from_recursion (λ y. cmp q y ≡ Less) qs (sorted_head cmp q qs s) i d (omega arith) in
+      step q qs Less less ∙ ap one_further (place_at qs i d (sorted_tail cmp q qs s) (omega arith) e)
 
   place_between : (qs : List (List ℕ)) (i : ℕ) (d : List ℕ) → i ≤ length qs
       → ((k : ℕ) → k < i → cmp (get_or qs k d) p ≡ Less)
@@ -69,10 +56,10 @@ module _ (p : List ℕ) where
       elim (eq-or-lt_of_le le) [
         | inl same ↦ subst (λ (k : ℕ). ordering_index (cmp (get_or qs i d) p) ≤ ordering_index (cmp (get_or qs k d) p)) same (omega arith)
         | inr lt ↦
-            let under : cmp (get_or qs i d) (get_or qs j d) ≡ Less = ordered_at qs i j d s lt within in
+            let under : cmp (get_or qs i d) (get_or qs j d) ≡ Less = Less-from_sorted cmp qs i j d s lt within in
             by_ordering (cmp (get_or qs j d) p)
             (λ a. least (get_or qs i d) (get_or qs j d) (nat_list_cmp_total.trans (get_or qs i d) (get_or qs j d) p under a))
-            (λ a. least (get_or qs i d) (get_or qs j d) (ap (cmp (get_or qs i d)) (sym (exact_path (get_or qs j d) p a)) ∙ under))
+            (λ a. least (get_or qs i d) (get_or qs j d) (ap (cmp (get_or qs i d)) (sym (exact_bytes (get_or qs j d) p a)) ∙ under))
             (λ a. subst (λ (o : Ordering). ordering_index (cmp (get_or qs i d) p) ≤ ordering_index o) (sym a) (at_most (cmp (get_or qs i d) p)))
       ]
     where

@@ -1,15 +1,23 @@
 -- What look-ups among kept files say of the folder that they make, and of that folder after a change.
-use Rattle.std.proofs.Common.{zero, suc, set, slice_get, Result, Ok, Err, ◌≡◌, ℕ, Bool, true, false, cond, List, [], ◌∷◌, Option, Some, None, refl, sym, ◌∙◌, ap, subst}
+use Rattle.std.specs.FinMap.Entries.{find, put, by_order, find-put}
+use Rattle.std.proofs.lemmas.List.{set-get_or}
+use Rattle.std.proofs.lemmas.Map.Keys.{IsDistinct-from_sorted}
+use Rattle.std.proofs.lemmas.Cmp.{eq_by_cmp_equiv, nat_list_cmp_total, nat_list_eq_equiv}
+use Rattle.std.proofs.lemmas.Map.Entries.{none_past_head, lookup_from_place, place_from_lookup}
+use Rattle.std.proofs.lemmas.List.Elements.{recursion_from_All}
+use Rattle.std.proofs.lemmas.Option.{slice_get-get_or, get_or_from_slice_get}
+use Rattle.std.proofs.Common.{String, is_some, true≢false, set, Result, Ok, Err, ◌≡◌, ℕ, Bool, true, false, cond, List, [], ◌∷◌, Option, Some, None, refl, sym, ◌∙◌, ap, subst}
+use Rattle.std.specs.Global.{Global}
 use Rattle.std.specs.Prelude.{string_bytes, bytes_eq, IsSome, IfSome}
 use Rattle.std.specs.Borrow.{Bor}
 use Rattle.std.specs.Option.{option_copied, option_map, unwrap_or}
 use Rattle.std.specs.List.{AllByRecursion}
 use Rattle.std.specs.List.Sorted.{IsStrictlySortedBy}
-use Rattle.std.specs.Ordering.{nat_cmp, is_eq}
+use Rattle.std.specs.Ordering.{nat_cmp, is_eq, match_ordering}
 use Rattle.std.specs.declared.cmp.Ordering.TheVariants.{Less, Equal, Greater}
 use Rattle.std.specs.Cmp.Lexicographic.{slice_cmp}
 use Rattle.std.specs.BTreeMap.{is_at}
-use Rattle.std.proofs.lemmas.Map.{NonePasses, lookup-none}
+use Rattle.std.proofs.lemmas.Map.{lookup-none, lookup-remove_entry}
 use Rattle.std.proofs.lemmas.Bool.{cond-true, cond-false}
 use Rattle.std.proofs.lemmas.Map.Text.{is_eq-slice_cmp}
 use Rattle.std.proofs.lemmas.Slice.Eq.{bytes_eq-Decides}
@@ -18,7 +26,7 @@ use Rattle.al_session_folder.specs.Folder.{Folder, bytes_at, with_file, without_
 use Rattle.al_session_folder.specs.Kept.{Files, folder_of, file_at, file_after, next_folder, with_bytes_at, IsKept, AllKept, IsKeptIf, IsView, AreKept}
 use Rattle.al_session_folder.specs.FolderViews.{IsViewIf, folder_in_view}
 use Rattle.al_session_folder.specs.declared.kept.KeptFile.{KeptFile}
-use Rattle.al_session_folder.proofs.Places.{by_ordering, exact_path, put_step, first_below, rest_sorted, found, absent}
+use Rattle.al_session_folder.proofs.Places.{absent, each_at, found}
 use Rattle.al_session_folder.specs.Place.{path_place}
 
 pub bytes_same : (p q : List ℕ) → bytes_eq p q ≡ true → p ≡ q
@@ -26,9 +34,6 @@ bytes_same p q h = (bytes_eq-Decides p q).0 h
 
 pub bytes_self : (p : List ℕ) → bytes_eq p p ≡ true
 bytes_self p = (bytes_eq-Decides p p).1 refl
-
-at_is : (q p : List ℕ) (b : Bool) → bytes_eq q p ≡ b → is_eq (slice_cmp nat_cmp q p) ≡ b
-at_is q p b h = is_eq-slice_cmp q p ∙ h
 
 cond_map : {A B : Type 0} (f : A → B) (t : Bool) (x : A) (o : Option A) → cond t (Some (f x)) (option_map f o) ≡ option_map f (cond t (Some x) o)
 cond_map f true x o = refl
@@ -39,71 +44,48 @@ cond_map2 f true n o = refl
 cond_map2 f false n o = refl
 
 -- a file that was put is there, and one at another path stays
-module _ (p q : List ℕ) where
-  pub bytes_put : (f : Folder) (b : List ℕ) → bytes_eq q p ≡ true → bytes_at (with_file f p b) q ≡ Some b
-  bytes_put [] b same = cond-true _ _ _ (at_is q p true same)
-  bytes_put (e ∷ es) b same =
-      let here : is_eq (slice_cmp nat_cmp q p) ≡ true = at_is q p true same in
-      by_ordering (slice_cmp nat_cmp p e.0)
-      (λ a. ap (λ l. bytes_at l q) (put_step p e es b Less a) ∙ cond-true _ _ _ here)
-      (λ a. ap (λ l. bytes_at l q) (put_step p e es b Equal a) ∙ cond-true _ _ _ (ap (λ x. is_eq (slice_cmp nat_cmp q x)) (sym (exact_path p e.0 a)) ∙ here))
-      (λ a. ap (λ l. bytes_at l q) (put_step p e es b Greater a) ∙ cond-false _ _ _ (ap (λ x. is_eq (slice_cmp nat_cmp x e.0)) (bytes_same q p same) ∙ ap is_eq a) ∙ bytes_put es b same)
+with_is : (f : Folder) (p b : List ℕ) → with_file f p b ≡ put (slice_cmp nat_cmp) p b f
+with_is [] p b = refl
+with_is (e ∷ es) p b = elim (slice_cmp nat_cmp p e.0) as (λ o. match_ordering o ((p, b) ∷ e ∷ es) ((e.0, b) ∷ es) (e ∷ with_file es p b)
+    ≡ by_order o ((p, b) ∷ e ∷ es) ((e.0, b) ∷ es) (e ∷ put (slice_cmp nat_cmp) p b es)) [
+      | Less ↦ refl
+      | Equal ↦ refl
+      | Greater ↦ ap (λ l. e ∷ l) (with_is es p b)
+    ]
 
-  pub bytes_put_other : (f : Folder) (b : List ℕ) → bytes_eq q p ≡ false → bytes_at (with_file f p b) q ≡ bytes_at f q
-  bytes_put_other [] b apart = cond-false _ _ _ (at_is q p false apart)
-  bytes_put_other (e ∷ es) b apart =
-      let far : is_eq (slice_cmp nat_cmp q p) ≡ false = at_is q p false apart in
-      by_ordering (slice_cmp nat_cmp p e.0)
-      (λ a. ap (λ l. bytes_at l q) (put_step p e es b Less a) ∙ cond-false _ _ _ far)
-      (λ a. let there : is_eq (slice_cmp nat_cmp q e.0) ≡ false = ap (λ x. is_eq (slice_cmp nat_cmp q x)) (sym (exact_path p e.0 a)) ∙ far in
-      ap (λ l. bytes_at l q) (put_step p e es b Equal a) ∙ cond-false _ _ _ there ∙ sym (cond-false _ _ _ there))
-      (λ a. ap (λ l. bytes_at l q) (put_step p e es b Greater a) ∙ ap (λ (rest : Option (List ℕ)). cond (is_eq (slice_cmp nat_cmp q e.0)) (Some e.1) rest) (bytes_put_other es b apart))
+at_is : (f : Folder) (q : List ℕ) → bytes_at f q ≡ find (slice_cmp nat_cmp) q f
+at_is [] q = refl
+at_is (e ∷ es) q = ap (cond (is_eq (slice_cmp nat_cmp q e.0)) (Some e.1)) (at_is es q)
 
-  pub bytes_gone_other : (f : Folder) → bytes_eq q p ≡ false → bytes_at (without_file f p) q ≡ bytes_at f q
-  bytes_gone_other [] apart = refl
-  bytes_gone_other (e ∷ es) apart = by (is_eq (slice_cmp nat_cmp p e.0)) refl (bytes_gone_other es apart)
-    where
-      by : (t : Bool) → is_eq (slice_cmp nat_cmp p e.0) ≡ t → bytes_at (without_file es p) q ≡ bytes_at es q → bytes_at (without_file (e ∷ es) p) q ≡ bytes_at (e ∷ es) q
-      by true a rest =
-          let same : p ≡ e.0 = bytes_same p e.0 (sym (is_eq-slice_cmp p e.0) ∙ a) in
-          let far : is_eq (slice_cmp nat_cmp q e.0) ≡ false = ap (λ x. is_eq (slice_cmp nat_cmp q x)) (sym same) ∙ at_is q p false apart in
-          ap (λ l. bytes_at l q) (cond-true _ es (e ∷ without_file es p) a) ∙ sym (cond-false _ _ _ far)
-      by false a rest = ap (λ l. bytes_at l q) (cond-false _ es (e ∷ without_file es p) a) ∙ ap (λ (r : Option (List ℕ)). cond (is_eq (slice_cmp nat_cmp q e.0)) (Some e.1) r) rest
+bytes_with : (p q : List ℕ) (f : Folder) (b : List ℕ) → bytes_at (with_file f p b) q ≡ cond (bytes_eq q p) (Some b) (bytes_at f q)
+bytes_with p q f b =
+    at_is (with_file f p b) q ∙ ap (find (slice_cmp nat_cmp) q) (with_is f p b) ∙ find-put (slice_cmp nat_cmp) nat_list_cmp_total q p b f
+    ∙ ap (cond (is_eq (slice_cmp nat_cmp q p)) (Some b)) (sym (at_is f q)) ∙ ap (λ t. cond t (Some b) (bytes_at f q)) (is_eq-slice_cmp q p)
 
-below_none : (q : List ℕ) (es : Folder) → AllByRecursion (λ y. slice_cmp nat_cmp q y ≡ Less) (paths_of es) → NonePasses (is_at (slice_cmp nat_cmp q)) es
-below_none q [] a = tt
-below_none q (f ∷ es) a = (ap is_eq a.0, below_none q es a.1)
+pub bytes_put : (p q : List ℕ) (f : Folder) (b : List ℕ) → bytes_eq q p ≡ true → bytes_at (with_file f p b) q ≡ Some b
+bytes_put p q f b same = bytes_with p q f b ∙ cond-true _ _ _ same
+
+pub bytes_put_other : (p q : List ℕ) (f : Folder) (b : List ℕ) → bytes_eq q p ≡ false → bytes_at (with_file f p b) q ≡ bytes_at f q
+bytes_put_other p q f b apart = bytes_with p q f b ∙ cond-false _ _ _ apart
 
 -- where the first path is q, no further file has it
 pub none_behind : (q : List ℕ) (e : List ℕ × List ℕ) (es : Folder) → q ≡ e.0 → IsStrictlySortedBy (slice_cmp nat_cmp) (paths_of (e ∷ es)) → bytes_at es q ≡ None
 none_behind q e es same s =
-    let below : AllByRecursion (λ y. slice_cmp nat_cmp q y ≡ Less) (paths_of es) = subst
-    (λ (x : List ℕ). AllByRecursion (λ y. slice_cmp nat_cmp x y ≡ Less) (paths_of es)) (sym same) (first_below q e es s) in
-    lookup-none _ es (below_none q es below)
+    lookup-none _ es (none_past_head (eq_by_cmp_equiv nat_list_cmp_total) q e es (IsDistinct-from_sorted _ _ s)
+    (is_eq-slice_cmp q e.0 ∙ ap (bytes_eq q) (sym same) ∙ bytes_self q))
 
--- a file that was taken out is gone
-pub bytes_gone : (p q : List ℕ) (f : Folder) → IsStrictlySortedBy (slice_cmp nat_cmp) (paths_of f) → bytes_eq q p ≡ true → bytes_at (without_file f p) q ≡ None
-bytes_gone p q [] s same = refl
-bytes_gone p q (e ∷ es) s same = by (is_eq (slice_cmp nat_cmp p e.0)) refl (bytes_gone p q es (rest_sorted p e es s) same)
-  where
-    by : (t : Bool) → is_eq (slice_cmp nat_cmp p e.0) ≡ t → bytes_at (without_file es p) q ≡ None → bytes_at (without_file (e ∷ es) p) q ≡ None
-    by true a rest =
-        let at : q ≡ e.0 = bytes_same q p same ∙ bytes_same p e.0 (sym (is_eq-slice_cmp p e.0) ∙ a) in
-        ap (λ l. bytes_at l q) (cond-true _ es (e ∷ without_file es p) a) ∙ none_behind q e es at s
-    by false a rest =
-        let far : is_eq (slice_cmp nat_cmp q e.0) ≡ false = ap (λ x. is_eq (slice_cmp nat_cmp x e.0)) (bytes_same q p same) ∙ a in
-        ap (λ l. bytes_at l q) (cond-false _ es (e ∷ without_file es p) a) ∙ cond-false _ _ _ far ∙ rest
+-- a file that was taken out is gone, and one at another path stays
+pub bytes_gone : (p q : List ℕ) (f : Folder) → IsStrictlySortedBy (slice_cmp nat_cmp) (paths_of f) → bytes_at (without_file f p) q ≡ cond (bytes_eq q p) None (bytes_at f q)
+bytes_gone p q f s =
+    let laws = eq_by_cmp_equiv nat_list_cmp_total in
+    lookup-remove_entry laws (is_at (slice_cmp nat_cmp p)) (laws.congr p) q f (IsDistinct-from_sorted _ _ s)
+    ∙ ap (λ t. cond t None (bytes_at f q)) (is_eq-slice_cmp p q ∙ nat_list_eq_equiv.symm p q)
 
 -- the bytes at each path after a change
 pub bytes_changed : (p q : List ℕ) (f : Folder) (now : Option (List ℕ)) → IsStrictlySortedBy (slice_cmp nat_cmp) (paths_of f)
     → bytes_at (with_bytes_at f p now) q ≡ cond (bytes_eq q p) now (bytes_at f q)
-bytes_changed p q f now s = by now (bytes_eq q p) refl
-  where
-    by : (now : Option (List ℕ)) (t : Bool) → bytes_eq q p ≡ t → bytes_at (with_bytes_at f p now) q ≡ cond (bytes_eq q p) now (bytes_at f q)
-    by None true a = bytes_gone p q f s a ∙ sym (cond-true _ _ _ a)
-    by None false a = bytes_gone_other p q f a ∙ sym (cond-false _ _ _ a)
-    by (Some b) true a = bytes_put p q f b a ∙ sym (cond-true _ _ _ a)
-    by (Some b) false a = bytes_put_other p q f b a ∙ sym (cond-false _ _ _ a)
+bytes_changed p q f None s = bytes_gone p q f s
+bytes_changed p q f (Some b) s = bytes_with p q f b
 
 module _ {U I : Type 0} where
   -- a look-up among kept files finds what the folder has
@@ -125,18 +107,10 @@ module _ {U I : Type 0} where
   module _ (m : Meaning I) (is_unit : U → List ℕ → List ℕ → Type 0) where
     -- a file that was found is kept
     pub kept_at : (files : Files U I) (q : List ℕ) (file : KeptFile U I) → AllKept m is_unit files → file_at files q ≡ Some file → IsKept m is_unit q file
-    kept_at [] q file all h = absurd (none_some h)
-      where
-        none_some : {A : Type 0} {x : A} → None ≡ Some x → ⊥
-        none_some h = cc
-    kept_at (e ∷ es) q file all h = by (bytes_eq q (string_bytes e.0)) refl (λ there. kept_at es q file all.1 there)
-      where
-        by : (t : Bool) → bytes_eq q (string_bytes e.0) ≡ t → (file_at es q ≡ Some file → IsKept m is_unit q file) → IsKept m is_unit q file
-        by true a rest =
-            let here : Some e.1 ≡ Some file = sym (cond-true _ _ _ a) ∙ h in
-            let is : e.1 ≡ file = ap (λ o. unwrap_or o file) here in
-            subst (IsKept m is_unit q) is (subst (λ (x : List ℕ). IsKept m is_unit x e.1) (sym (bytes_same q (string_bytes e.0) a)) all.0)
-        by false a rest = rest (sym (cond-false _ _ _ a) ∙ h)
+    kept_at files q file all h =
+        let there = place_from_lookup (λ k. bytes_eq q (string_bytes k)) files file h in
+        subst (λ (x : List ℕ). IsKept m is_unit x file) (sym (bytes_same q (string_bytes there.1) there.3))
+        (each_at (λ (e : String Global × KeptFile U I). IsKept m is_unit (string_bytes e.0) e.1) files there.0 (there.1, file) all there.2)
 
     pub kept_after : (files : Files U I) (p q : List ℕ) (now : Option (KeptFile U I)) (file : KeptFile U I) → IsView m is_unit files p now
         → file_after files p now q ≡ Some file → IsKept m is_unit q file
@@ -144,10 +118,7 @@ module _ {U I : Type 0} where
       where
         by : (now : Option (KeptFile U I)) (t : Bool) → IsKeptIf m is_unit p now → file_after files p now q ≡ Some file → bytes_eq q p ≡ t → IsKept m is_unit q file
         by now false next h a = kept_at files q file view.kept.kept (sym (cond-false _ _ _ a) ∙ h)
-        by None true next h a = absurd (none_some (sym (cond-true _ _ _ a) ∙ h))
-          where
-            none_some : {A : Type 0} {x : A} → None ≡ Some x → ⊥
-            none_some h = cc
+        by None true next h a = let none : None ≡ Some file = sym (cond-true _ _ _ a) ∙ h in absurd cc
         by (Some kept) true next h a =
             let here : Some kept ≡ Some file = sym (cond-true _ _ _ a) ∙ h in
             let is : kept ≡ file = ap (λ o. unwrap_or o file) here in
@@ -169,51 +140,25 @@ module _ {U I : Type 0} where
 
     pub bytes_lacking : (files : Files U I) (p q : List ℕ) (now : Option (KeptFile U I)) → IsView m is_unit files p now → None ≡ file_after files p now q
         → IsSome (bytes_at (next_folder files p now) q) → ⊥
-    bytes_lacking files p q now view h there = wrong (subst IsSome (bytes_after files p q now view.kept.ordered ∙ ap (option_map (λ (file : KeptFile U I). file.bytes.items)) (sym h)) there)
-      where
-        wrong : IsSome {T = List ℕ} None → ⊥
-        wrong h = cc
+    bytes_lacking files p q now view h there =
+        true≢false (sym there ∙ ap is_some (bytes_after files p q now view.kept.ordered ∙ ap (option_map (λ (file : KeptFile U I). file.bytes.items)) (sym h)))
 
 -- a file that is put with the bytes that it has
 pub put_same : (p b : List ℕ) (f : Folder) → IsStrictlySortedBy (slice_cmp nat_cmp) (paths_of f) → bytes_at f p ≡ Some b → with_file f p b ≡ f
 put_same p b f s there = by (path_place (paths_of f) p) refl
   where
     by : (r : Result ℕ ℕ) → path_place (paths_of f) p ≡ r → with_file f p b ≡ f
-    by (Err i) h = absurd (wrong (sym (absent f p i s h) ∙ there))
-      where
-        wrong : None ≡ Some b → ⊥
-        wrong h = cc
+    by (Err i) h = let none : None ≡ Some b = sym (absent f p i s h) ∙ there in absurd cc
     by (Ok i) h =
         let r = found p f i h in
         let same : Some r.bytes ≡ Some b = sym r.finds ∙ there in
         let bytes : r.bytes ≡ b = ap (λ o. unwrap_or o b) same in
-        sym (r.puts b) ∙ set_same f i (p, b) (r.entry ∙ ap (λ x. Some (p, x)) bytes)
-      where
-        set_same : (g : Folder) (i : ℕ) (e : List ℕ × List ℕ) → slice_get g i ≡ Some e → set g i e ≡ g
-        set_same [] i e h = refl
-        set_same (x ∷ xs) zero e h = ap (λ y. y ∷ xs) (sym (ap (λ o. unwrap_or o e) h))
-        set_same (x ∷ xs) (suc i) e h = ap (λ l. x ∷ l) (set_same xs i e h)
+        sym (r.puts b) ∙ ap (set f i) (sym (get_or_from_slice_get f i (p, b) (p, b) (r.entry ∙ ap (λ x. Some (p, x)) bytes))) ∙ set-get_or f i (p, b)
 
 -- each file of a folder in order is found in it
-all_in_rest : (e : List ℕ × List ℕ) (es more : Folder) → AllByRecursion (λ y. slice_cmp nat_cmp e.0 y ≡ Less) (paths_of more)
-    → AllByRecursion (λ x. bytes_at es x.0 ≡ Some x.1) more → AllByRecursion (λ x. bytes_at (e ∷ es) x.0 ≡ Some x.1) more
-all_in_rest e es [] below all = tt
-all_in_rest e es (x ∷ xs) below all =
-    (cond-false _ (Some e.1) (bytes_at es x.0) (is_eq-slice_cmp x.0 e.0 ∙ above) ∙ all.0, all_in_rest e es xs below.1 all.1)
-  where
-    by : (t : Bool) → bytes_eq x.0 e.0 ≡ t → bytes_eq x.0 e.0 ≡ false
-    by false a = a
-    by true a = absurd (wrong (sym (ap is_eq (sym below.0 ∙ ap (slice_cmp nat_cmp e.0) (bytes_same x.0 e.0 a)) ∙ is_eq-slice_cmp e.0 e.0 ∙ bytes_self e.0)))
-      where
-        wrong : true ≡ false → ⊥
-        wrong h = cc
-
-    above : bytes_eq x.0 e.0 ≡ false
-    above = by (bytes_eq x.0 e.0) refl
-
 pub all_in : (f : Folder) → IsStrictlySortedBy (slice_cmp nat_cmp) (paths_of f) → AllByRecursion (λ x. bytes_at f x.0 ≡ Some x.1) f
-all_in [] s = tt
-all_in (e ∷ es) s = (cond-true _ _ _ (is_eq-slice_cmp e.0 e.0 ∙ bytes_self e.0), all_in_rest e es es (first_below e.0 e es s) (all_in es (rest_sorted e.0 e es s)))
+all_in f s = recursion_from_All (λ (x : List ℕ × List ℕ). bytes_at f x.0 ≡ Some x.1) f
+    (λ i d within. lookup_from_place (eq_by_cmp_equiv nat_list_cmp_total) f i _ _ (IsDistinct-from_sorted _ _ s) (slice_get-get_or f i d within))
 
 -- the file that a view has at a path
 module _ {U I : Type 0} (m : Meaning I) (is_unit : U → List ℕ → List ℕ → Type 0) (files : Files U I) (o : Option (List ℕ)) (next : Option (KeptFile U I))
@@ -251,7 +196,4 @@ module _ {U I : Type 0} (m : Meaning I) (is_unit : U → List ℕ → List ℕ �
     still_kept = kept_if r (λ file h. kept_at m is_unit files q file as_is.kept (sym found ∙ h))
 
 pub never_lacking : {A : Type 0} (o : Option A) → None ≡ o → IsSome o → ⊥
-never_lacking {A} o h there = wrong (subst IsSome (sym h) there)
-  where
-    wrong : IsSome {T = A} None → ⊥
-    wrong h = cc
+never_lacking o h there = true≢false (sym there ∙ sym (ap is_some h))

@@ -1,16 +1,16 @@
 -- Which way calls go: from the order of paths to that of numbers.
-use Rattle.std.proofs.Common.{◌≡◌, ◌∙◌, ℕ, suc, ◌+◌, ◌<◌, ◌≤◌, Bool, true, false, cond, not, List, [], ◌∷◌, length, get_or}
-use Rattle.std.proofs.Common.{Option, Some, None, slice_get, refl, sym, ap, arith, nat_lt, ◌||◌, ⊎_elim}
+use Rattle.std.proofs.lemmas.List.Quantifiers.{position-Some}
+use Rattle.std.proofs.Common.{◌≡◌, ◌∙◌, ℕ, ◌<◌, ◌≤◌, Bool, true, false, List, [], ◌∷◌, length, get_or}
+use Rattle.std.proofs.Common.{Option, Some, None, slice_get, refl, sym, ap, arith, ⊎_elim}
 use Rattle.std.specs.Prelude.{bytes_eq, Contains}
-use Rattle.std.specs.List.{AllByRecursion, filter_map, list_any, position, prefix_len}
+use Rattle.std.specs.List.{AllByRecursion, filter_map, list_any}
 use Rattle.std.specs.List.Sorted.{IsStrictlySortedBy}
-use Rattle.std.specs.Option.{option_map, unwrap_or, option_or}
+use Rattle.std.specs.Option.{option_map, option_or}
 use Rattle.std.specs.Ordering.{is_eq, is_ge, is_le, nat_cmp, ordering_reverse}
 use Rattle.std.specs.declared.cmp.Ordering.{Ordering}
 use Rattle.std.specs.declared.cmp.Ordering.TheVariants.{Less, Equal, Greater}
 use Rattle.std.specs.Cmp.Lexicographic.{slice_cmp}
-use Rattle.std.proofs.lemmas.Bool.{cases_eq, cases_lt}
-use Rattle.std.proofs.lemmas.Bool.Decides.{nat_tests}
+use Rattle.std.proofs.lemmas.Bool.{cases_eq, cases_lt, or_parts}
 use Rattle.std.proofs.lemmas.Cmp.{nat_list_cmp_total}
 use Rattle.std.proofs.lemmas.Map.Keys.{Less-from_sorted}
 use Rattle.std.proofs.lemmas.Map.Text.{is_eq-slice_cmp}
@@ -23,48 +23,8 @@ use Rattle.al_session_folder.specs.Loops.{callee, number_of_path}
 use Rattle.al_session_folder.specs.declared.lint.Target.{Target}
 use Rattle.al_session_folder.proofs.Views.{bytes_same, bytes_self}
 
-or_none : (a b : Bool) → (a || b) ≡ false → (a ≡ false) × (b ≡ false)
-or_none true b h = absurd cc
-or_none false b h = (refl, h)
-
--- ---- the path at a number
-
-run_ends : {X : Type 0} (q : X → Bool) (xs : List X) (d : X) → prefix_len q xs < length xs → q (get_or xs (prefix_len q xs) d) ≡ false
-run_ends q [] d h = absurd (omega (arith, h))
-run_ends q (x ∷ xs) d h = by (q x) refl (λ later. run_ends q xs d later)
-  where
-    by : (b : Bool) → q x ≡ b → (prefix_len q xs < length xs → q (get_or xs (prefix_len q xs) d) ≡ false) → q (get_or (x ∷ xs) (prefix_len q (x ∷ xs)) d) ≡ false
-    by true a rest =
-        let one : 1 + prefix_len q xs ≡ suc (prefix_len q xs) = omega arith in
-        let n : prefix_len q (x ∷ xs) ≡ suc (prefix_len q xs) = ap (λ t. cond t (1 + prefix_len q xs) 0) a ∙ one in
-        ap (λ k. q (get_or (x ∷ xs) k d)) n ∙ rest (omega (arith, h, n))
-    by false a rest =
-        let n : prefix_len q (x ∷ xs) ≡ 0 = ap (λ t. cond t (1 + prefix_len q xs) 0) a in
-        ap (λ k. q (get_or (x ∷ xs) k d)) n ∙ a
-
-position_holds : {X : Type 0} (p : X → Bool) (xs : List X) (k : ℕ) (d : X) → position p xs ≡ Some k → p (get_or xs k d) ≡ true
-position_holds p xs k d e = by (nat_lt (prefix_len (λ x. not (p x)) xs) (length xs)) refl
-  where
-    n : ℕ
-    n = prefix_len (λ x. not (p x)) xs
-
-    wrong : None ≡ Some k → ⊥
-    wrong h = cc
-
-    twice : (b : Bool) → not b ≡ false → b ≡ true
-    twice true h = refl
-    twice false h = absurd cc
-
-    by : (t : Bool) → nat_lt (prefix_len (λ x. not (p x)) xs) (length xs) ≡ t → p (get_or xs k d) ≡ true
-    by true a =
-        let same : Some (prefix_len (λ x. not (p x)) xs) ≡ Some k = sym (ap (λ b. cond b (Some (prefix_len (λ x. not (p x)) xs)) None) a) ∙ e in
-        let is : prefix_len (λ x. not (p x)) xs ≡ k = ap (λ o. unwrap_or o 0) same in
-        let below : prefix_len (λ x. not (p x)) xs < length xs = grind (arith, nat_tests) in
-        ap (λ j. p (get_or xs j d)) (sym is) ∙ twice (p (get_or xs (prefix_len (λ x. not (p x)) xs) d)) (run_ends (λ x. not (p x)) xs d below)
-    by false a = absurd (wrong (sym (ap (λ b. cond b (Some (prefix_len (λ x. not (p x)) xs)) None) a) ∙ e))
-
 path_numbered : (f : Folder) (c : List ℕ) (k : ℕ) → number_of_path f c ≡ Some k → c ≡ get_or (paths_of f) k []
-path_numbered f c k e = bytes_same c (get_or (paths_of f) k []) (position_holds (bytes_eq c) (paths_of f) k [] e)
+path_numbered f c k e = bytes_same c (get_or (paths_of f) k []) (position-Some (bytes_eq c) (paths_of f) k [] e).1
 
 -- ---- numbers of candidates
 
@@ -82,21 +42,18 @@ module _ (f : Folder) where
   -- what is known of the number of each candidate that fails a test
   among : (T : List ℕ → Bool) (P : ℕ → Type 0) → ((c : List ℕ) (k : ℕ) → number_of_path f c ≡ Some k → T c ≡ false → P k) → (ps : List (List ℕ)) (k : ℕ) →
       find_map (number_of_path f) ps ≡ Some k → list_any T ps ≡ false → P k
-  among T P one [] k e none = absurd (wrong e)
-    where
-      wrong : None ≡ Some k → ⊥
-      wrong h = cc
-  among T P one (c ∷ ps) k e none = by (number_of_path f c) refl (λ h. among T P one ps k h (or_none (T c) (list_any T ps) none).1)
+  among T P one [] k e none = absurd cc
+  among T P one (c ∷ ps) k e none = by (number_of_path f c) refl (λ h. among T P one ps k h (or_parts (T c) (list_any T ps) none).1)
     where
       by : (o : Option ℕ) → number_of_path f c ≡ o → (find_map (number_of_path f) ps ≡ Some k → P k) → P k
       by None a rest = rest (sym (ap (λ o. option_or o (find_map (number_of_path f) ps)) a) ∙ e)
-      by (Some n) a rest = one c k (a ∙ (sym (ap (λ o. option_or o (find_map (number_of_path f) ps)) a) ∙ e)) (or_none (T c) (list_any T ps) none).0
+      by (Some n) a rest = one c k (a ∙ (sym (ap (λ o. option_or o (find_map (number_of_path f) ps)) a) ∙ e)) (or_parts (T c) (list_any T ps) none).0
 
   each : (T : List ℕ → Bool) (P : ℕ → Type 0) → ((c : List ℕ) (k : ℕ) → number_of_path f c ≡ Some k → T c ≡ false → P k) → (ts : List Target) →
       list_any (λ t. list_any T (candidates t)) ts ≡ false → AllByRecursion (λ t. (k : ℕ) → callee f t ≡ Some k → P k) ts
   each T P one [] none = tt
   each T P one (t ∷ ts) none =
-      let two = or_none (list_any T (candidates t)) (list_any (λ t. list_any T (candidates t)) ts) none in
+      let two = or_parts (list_any T (candidates t)) (list_any (λ t. list_any T (candidates t)) ts) none in
       (λ k e. among T P one (candidates t) k e two.0, each T P one ts two.1)
 
   module _ (sorted : IsStrictlySortedBy (slice_cmp nat_cmp) (paths_of f)) (i : ℕ) (p b : List ℕ) (at : slice_get f i ≡ Some (p, b)) where

@@ -1,7 +1,8 @@
 use Rattle.std.proofs.Common.{sym, ap, Some, is_some}
+use Rattle.std.proofs.lemmas.Result.{on_err_weaker, on_ok_weaker}
 use Rattle.indexmap.specs.IndexSet.{contains_text}
 use Rattle.al_session_folder.specs.Kept.{is_caller}
-use Rattle.al_session_folder.proofs.Indexing.{callers_set, added_to, stays, known_at, on_ok, on_err}
+use Rattle.al_session_folder.proofs.Indexing.{callers_set, added_to, stays, known_at}
 use Rattle.al_session_folder.proofs.callers.add_caller.Goals as goal
 
 pub returns-in-Some-clause-added : goal.returns-in-Some-clause-added
@@ -13,7 +14,7 @@ returns-in-Some-clause-added c =
     let known = c.in-Some.known.now in
     let here = sym c.in-Some.ensures.value in
     let up = (c.get_mut.follows.holds w).3 (ap is_some here) in
-    on_ok c.add_name.result (λ added c' q. added_to c' p q x _ (is_caller old c' q) (contains_text w q) (contains_text known q)
+    on_ok_weaker c.add_name.result (λ added c' q. added_to c' p q x _ (is_caller old c' q) (contains_text w q) (contains_text known q)
     (callers_set old (c.get_mut.follows.lender w) p (Some w) up c' q) (added q) (known_at old p known here c' q))
     c.add_name.ensures.added
 
@@ -25,6 +26,6 @@ returns-in-Some-clause-as_before c =
     let known = c.in-Some.known.now in
     let here = sym c.in-Some.ensures.value in
     let up = (c.get_mut.follows.holds w).3 (ap is_some here) in
-    on_err c.add_name.result (λ kept c' q. stays _ _ (is_caller old c' q) (contains_text w q) (contains_text known q)
+    on_err_weaker c.add_name.result (λ kept c' q. stays _ _ (is_caller old c' q) (contains_text w q) (contains_text known q)
     (callers_set old (c.get_mut.follows.lender w) p (Some w) up c' q) (kept q) (known_at old p known here c' q))
     c.add_name.ensures.as_before

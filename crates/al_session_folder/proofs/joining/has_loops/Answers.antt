@@ -1,4 +1,4 @@
-use Rattle.std.proofs.Common.{◌≡◌, ◌∙◌, ◌+◌, ap, sym, not, Bool, length, arith, suc, take, List, ℕ}
+use Rattle.std.proofs.Common.{◌∙◌, ap, sym, not, Bool, length, arith, List, ℕ}
 use Rattle.std.specs.Bool.{◌==◌}
 use Rattle.std.specs.List.{enumerate_from, list_any}
 use Rattle.std.proofs.lemmas.List.{take_all}
@@ -21,8 +21,7 @@ loop-index-preserved g c =
     let F = c.args.linked.now in
     let T : ℕ × (List ℕ × List ℕ) → Bool = λ x. not (length (loop_faults g.L.Lint.meaning F x.0 x.1.0 x.1.1) == 0) in
     let x = entry_there F c.loop-index.index (omega (arith, c.count-index-end.ensures, c.loop-index-test.true)) in
-    let e : c.loop-index.index + 1 ≡ suc c.loop-index.index = omega arith in
-    ap (λ j. list_any T (take j (enumerate_from 0 F))) e ∙ any_none T (enumerate_from 0 F) c.loop-index.index (c.loop-index.index, x.0)
+    any_none T (enumerate_from 0 F) c.loop-index.index (c.loop-index.index, x.0)
     (numbered F c.loop-index.index x.0 x.1) (sym (c.is_on_loop.ensures x.0.0 x.0.1 x.1) ∙ c.if-is_on_loop.false) c.loop-index.invariant
 
 pub returns : goal.returns

@@ -1,4 +1,4 @@
-use Rattle.std.proofs.Common.{◌∙◌, ◌≡◌, [], ap, rules, arith, cond, length, map, String}
+use Rattle.std.proofs.Common.{sym, ◌∙◌, ◌≡◌, [], ap, rules, arith, cond, length, map, String}
 use Rattle.std.specs.Global.{Global}
 use Rattle.std.specs.List.{enumerate_from, filter_map}
 use Rattle.std.proofs.lemmas.List.{take_all}
@@ -7,7 +7,7 @@ use Rattle.al_graph.specs.Graphs.{edges_of}
 use Rattle.al_session_folder.specs.Kept.{folder_of}
 use Rattle.al_session_folder.specs.Loops.{callee}
 use Rattle.al_session_folder.specs.declared.kept.KeptFile.{KeptFile}
-use Rattle.al_session_folder.proofs.Missings.{read_is}
+use Rattle.std.proofs.lemmas.Option.{get_or_from_slice_get}
 use Rattle.al_session_folder.proofs.Looping.{Inside, graph_next, numbered, part_of_kept}
 use Rattle.al_session_folder.proofs.loops.calls_graph.Goals as goal
 
@@ -25,7 +25,7 @@ loop-index-preserved g c =
     graph_next (λ x. filter_map h (cond (Inside c.args.first c.args.end x.0) x.1.1.calls.targets.items [])) (enumerate_from 0 files) c.loop-index.index
     (c.loop-index.index, e) c.loop-index.graph.items c.push.new.self.items c.in_ok-callees.field-0
     (omega (arith, n, c.len-index-end.ensures.len, c.loop-index-test.true))
-    (read_is (enumerate_from 0 files) c.loop-index.index (c.loop-index.index, e) (numbered files c.loop-index.index e c.file_number.ensures))
+    (sym (get_or_from_slice_get (enumerate_from 0 files) c.loop-index.index (c.loop-index.index, e) _ (numbered files c.loop-index.index e c.file_number.ensures)))
     c.loop-index.invariant c.in_ok-push.ensures.items
     (c.in_ok-callees.ensures ∙ ap (filter_map h) (c.calls_if-calls.ensures ∙ ap (λ b. cond b e.1.calls.targets.items []) c.is_between-is_wanted.ensures))
 

@@ -3,12 +3,13 @@ use Rattle.std.specs.List.Sorted.{IsStrictlySortedBy}
 use Rattle.std.specs.Ordering.{nat_cmp}
 use Rattle.std.specs.Cmp.Lexicographic.{slice_cmp}
 use Rattle.std.proofs.lemmas.List.{take_all}
+use Rattle.std.proofs.lemmas.Option.{get_or_from_slice_get}
 use Rattle.al_base.specs.InOrder.{in_order}
 use Rattle.al_session_folder.specs.Affected.{is_among}
 use Rattle.al_session_folder.proofs.MissingPaths.{missing_members}
 use Rattle.al_session_folder.specs.Kept.{folder_of, referents}
 use Rattle.al_session_folder.specs.Missing.{absent_candidates}
-use Rattle.al_session_folder.proofs.Missings.{next_missing, missing_of, missing_sorted, read_is}
+use Rattle.al_session_folder.proofs.Missings.{next_missing, missing_of, missing_sorted}
 use Rattle.al_session_folder.proofs.missing.missing_paths.Goals as goal
 
 pub loop-index-preserved : goal.loop-index-preserved
@@ -16,7 +17,7 @@ loop-index-preserved g c =
     next_missing (λ e. absent_candidates (folder_of c.args.files.now.entries) e.1.calls.targets.items) (referents c.loop-index.missing.items)
     (referents c.add_absent.new.missing.items) c.args.files.now.entries c.loop-index.index (c.file_number.result.0.now, c.file_number.result.1.now)
     (omega (arith, c.len-index-end.ensures.len))
-    (read_is c.args.files.now.entries c.loop-index.index (c.file_number.result.0.now, c.file_number.result.1.now) c.file_number.ensures)
+    (sym (get_or_from_slice_get c.args.files.now.entries c.loop-index.index (c.file_number.result.0.now, c.file_number.result.1.now) _ c.file_number.ensures))
     c.loop-index.invariant (rw c.deref.ensures.value at c.in_ok-add_absent.ensures)
 
 pub returns-clause-paths : goal.returns-clause-paths

@@ -1,7 +1,6 @@
-use Rattle.std.proofs.Common.{◌≡◌, sym, ap, ◌∙◌, not, Bool, length, String, arith, ◌+◌, suc, take}
+use Rattle.std.proofs.Common.{sym, ap, ◌∙◌, not, Bool, length, String}
 use Rattle.std.specs.Bool.{◌==◌}
 use Rattle.std.specs.Global.{Global}
-use Rattle.std.specs.List.{list_any}
 use Rattle.al_session_folder.specs.declared.kept.KeptFile.{KeptFile}
 use Rattle.al_session_folder.proofs.Reports.{any_found, any_none}
 use Rattle.al_session_folder.proofs.report.has_faults.Goals as goal
@@ -15,7 +14,6 @@ returns-then-not-is_clean g c =
 pub loop-index-preserved : goal.loop-index-preserved
 loop-index-preserved g c =
     let T : String Global × KeptFile g.row.U.Denot g.row.I.Denot → Bool = λ e. not (length e.1.faults.items == 0) in
-    let e : c.loop-index.index + 1 ≡ suc c.loop-index.index = omega arith in
-    ap (λ j. list_any T (take j c.args.files.now.entries)) e ∙ any_none T c.args.files.now.entries c.loop-index.index
+    any_none T c.args.files.now.entries c.loop-index.index
     (c.file_number.result.0.now, c.file_number.result.1.now) c.file_number.ensures
     (ap not (sym c.is_clean.ensures ∙ c.if-not-is_clean.false)) c.loop-index.invariant
