@@ -57,13 +57,6 @@ module _ (f : Folder) where
       ∙ append_assoc ps (absent_candidates f (take i ts)) (filter (is_absent f) (candidates t))
       ∙ sym (ap (λ l. ps ++ l) (absent_more ts i t within read))
 
-  -- those of both candidates of a call
-  pub absent_both : (ps mid more : List (List ℕ)) (p q : List ℕ) → mid ≡ ps ++ filter (is_absent f) (p ∷ []) → more ≡ mid ++ filter (is_absent f) (q ∷ [])
-      → more ≡ ps ++ filter (is_absent f) (p ∷ q ∷ [])
-  absent_both ps mid more p q one two =
-      two ∙ ap (λ l. l ++ filter (is_absent f) (q ∷ [])) one ∙ append_assoc ps (filter (is_absent f) (p ∷ [])) (filter (is_absent f) (q ∷ []))
-      ∙ ap (λ l. ps ++ l) (sym (filter-append (is_absent f) (p ∷ []) (q ∷ [])))
-
 -- those of one file more
 pub next_missing : {X : Type 0} (part : X → List (List ℕ)) (so_far more : List (List ℕ)) (xs : List X) (i : ℕ) (x : X) → i < length xs → x ≡ get_or xs i x
     → so_far ≡ flat_map part (take i xs) → more ≡ so_far ++ part x → more ≡ flat_map part (take (i + 1) xs)

@@ -10,7 +10,7 @@ use Rattle.std.proofs.lemmas.Cmp.{nat_list_cmp_total}
 use Rattle.std.proofs.lemmas.List.{get_or-map, length-map}
 use Rattle.std.proofs.lemmas.List.Elements.{All-from_recursion}
 use Rattle.std.proofs.Math.Nat.{eq-or-lt_of_le}
-use Rattle.std.specs.Fn.{Called, ComputesKey}
+use Rattle.std.specs.Fn.{Called}
 use Rattle.std.proofs.lemmas.Fn.{always_returns_same}
 use denote.Ref.{Bor}
 use denote.Param.Members.{Mut}
@@ -89,16 +89,6 @@ module _ (p : List ℕ) where
       sym (place_between (map key ys) i (key x) (omega (arith, long, within))
       (λ k l. ap (λ q. cmp q p) (read k (omega (arith, l, within)) x) ∙ parted.0 k x (omega arith) l)
       (λ k l m. ap (λ q. cmp q p) (read k (omega (arith, m, long)) x) ∙ parted.1 k x l (omega (arith, m, long))))
-
--- what the clauses of `binary_search_by` give, where each call compares the element's path with p
-pub place_from_search : {X : Type 0} (key : X → List ℕ) (p : List ℕ) {F : Type 0} {g : Mut F (Bor X × Unit {0}) Ordering} {f : F} (xs : List X) (ps : List (List ℕ)) (r : Result ℕ ℕ)
-    → map key xs ≡ ps → IsStrictlySortedBy (slice_cmp nat_cmp) ps → IsSearchInRange r (length xs)
-    → ((ord : X → Ordering) → ComputesKey g ord f → IsBinarySearchResult ord xs r)
-    → ((a : Bor X × Unit {0}) (o : Ordering) (f' : F) → Called g f a o f' → (o ≡ slice_cmp nat_cmp (key a.0.now) p) × (f' ≡ f))
-    → r ≡ path_place ps p
-place_from_search key p {g = g} {f = f} xs ps r same s within found calls =
-    let sorted = subst (IsStrictlySortedBy (slice_cmp nat_cmp)) (sym same) s in
-    place_is p key xs r sorted within (found (λ x. slice_cmp nat_cmp (key x) p) (always_returns_same g (λ a o. o ≡ slice_cmp nat_cmp (key a.0.now) p) f calls)) ∙ ap (λ l. path_place l p) same
 
 -- the same of the entries of a map
 pub place_from_entries : {V : Type 0} (p : List ℕ) {F : Type 0} {g : Mut F (Bor (String Global) × (Bor V × Unit {0})) Ordering} {f : F}

@@ -22,7 +22,7 @@ use Rattle.std.proofs.lemmas.Bool.{cond-true, cond-false}
 use Rattle.std.proofs.lemmas.Map.Text.{is_eq-slice_cmp}
 use Rattle.std.proofs.lemmas.Slice.Eq.{bytes_eq-Decides}
 use Rattle.al_session_folder.specs.Meaning.{Meaning}
-use Rattle.al_session_folder.specs.Folder.{Folder, bytes_at, with_file, without_file, paths_of, interface_in}
+use Rattle.al_session_folder.specs.Folder.{Folder, bytes_at, with_file, without_file, paths_of}
 use Rattle.al_session_folder.specs.Kept.{Files, folder_of, file_at, file_after, next_folder, with_bytes_at, IsKept, AllKept, IsKeptIf, IsView, AreKept}
 use Rattle.al_session_folder.specs.FolderViews.{IsViewIf, folder_in_view}
 use Rattle.al_session_folder.specs.declared.kept.KeptFile.{KeptFile}
@@ -123,25 +123,6 @@ module _ {U I : Type 0} where
             let here : Some kept ≡ Some file = sym (cond-true _ _ _ a) ∙ h in
             let is : kept ≡ file = ap (λ o. unwrap_or o file) here in
             subst (IsKept m is_unit q) is (subst (λ (x : List ℕ). IsKept m is_unit x kept) (sym (bytes_same q p a)) next)
-
-    -- what a file offers after a change
-    pub iface_after : (files : Files U I) (p q : List ℕ) (now found : Option (KeptFile U I)) → IsView m is_unit files p now → found ≡ file_after files p now q
-        → option_map (λ (file : KeptFile U I). file.iface) found ≡ interface_in m (next_folder files p now) q
-    iface_after files p q now None view h = sym (ap (option_map (m.interface q)) (bytes_after files p q now view.kept.ordered ∙ ap (option_map (λ (file : KeptFile U I). file.bytes.items)) (sym h)))
-    iface_after files p q now (Some file) view h =
-        ap Some (kept_after files p q now file view (sym h)).iface ∙ sym
-        (ap (option_map (m.interface q))
-        (bytes_after files p q now view.kept.ordered ∙ ap (option_map (λ (file : KeptFile U I). file.bytes.items)) (sym h)))
-
-    -- where a file was found, its bytes are in the folder
-    pub bytes_found : (files : Files U I) (p q : List ℕ) (now : Option (KeptFile U I)) (file : KeptFile U I) → IsView m is_unit files p now
-        → Some file ≡ file_after files p now q → bytes_at (next_folder files p now) q ≡ Some file.bytes.items
-    bytes_found files p q now file view h = bytes_after files p q now view.kept.ordered ∙ ap (option_map (λ (file : KeptFile U I). file.bytes.items)) (sym h)
-
-    pub bytes_lacking : (files : Files U I) (p q : List ℕ) (now : Option (KeptFile U I)) → IsView m is_unit files p now → None ≡ file_after files p now q
-        → IsSome (bytes_at (next_folder files p now) q) → ⊥
-    bytes_lacking files p q now view h there =
-        true≢false (sym there ∙ ap is_some (bytes_after files p q now view.kept.ordered ∙ ap (option_map (λ (file : KeptFile U I). file.bytes.items)) (sym h)))
 
 -- a file that is put with the bytes that it has
 pub put_same : (p b : List ℕ) (f : Folder) → IsStrictlySortedBy (slice_cmp nat_cmp) (paths_of f) → bytes_at f p ≡ Some b → with_file f p b ≡ f
