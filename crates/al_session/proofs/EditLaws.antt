@@ -1,23 +1,24 @@
 -- The laws of edits, for `Session::edit_laws`.
+use Rattle.std.proofs.lemmas.Map.Lookups.{exact_bytes}
+use Rattle.std.proofs.lemmas.Map.Keys.{sorted_tail}
+use Rattle.std.proofs.lemmas.Map.Entries.{none_below_head}
 use Rattle.std.proofs.Common.{◌≡◌, ℕ, Bool, true, false, ◌&&◌, not, List, [], ◌∷◌, Option, Some, None, refl, sym, ◌∙◌, ap}
 use Rattle.std.specs.Prelude.{bytes_eq}
-use Rattle.std.specs.List.{AllByRecursion, list_all}
+use Rattle.std.specs.List.{list_all}
 use Rattle.std.specs.List.Sorted.{IsStrictlySortedBy}
 use Rattle.std.specs.Option.{option_map, option_map_or, unwrap_or, option_eq}
-use Rattle.std.specs.Ordering.{is_eq, nat_cmp, ordering_reverse}
-use Rattle.std.specs.declared.cmp.Ordering.TheVariants.{Less}
+use Rattle.std.specs.Ordering.{nat_cmp, ordering_reverse}
 use Rattle.std.specs.Cmp.Lexicographic.{slice_cmp}
-use Rattle.std.specs.BTreeMap.{is_at}
 use Rattle.std.proofs.lemmas.Bool.{cond-true, cond-false}
 use Rattle.std.proofs.lemmas.Cmp.{nat_list_cmp_total}
-use Rattle.std.proofs.lemmas.Map.{NonePasses, lookup-none}
+use Rattle.std.proofs.lemmas.Map.{lookup-none}
 use Rattle.std.proofs.lemmas.Map.Text.{is_eq-slice_cmp}
 use Rattle.std.proofs.lemmas.Slice.Eq.{bytes_eq-Decides}
 use Rattle.al_session_folder.specs.Meaning.{Meaning}
 use Rattle.al_session_folder.specs.Affected.{affected_paths, is_affected, is_untouched}
 use Rattle.al_session_folder.specs.Folder.{Folder, answer, bytes_at, faults_in, paths_of, with_file}
 use Rattle.al_session_folder.proofs.Affecting.{affected_member}
-use Rattle.al_session_folder.proofs.Places.{by_ordering, exact_path, first_below, rest_sorted, sorted_put}
+use Rattle.al_session_folder.proofs.Places.{by_ordering, sorted_put}
 use Rattle.al_session_folder.proofs.Views.{bytes_put, bytes_put_other, bytes_same, bytes_self, none_behind, put_same}
 use Rattle.al_session.specs.EditLaws.{OthersKeepFaults, PutsInAnyOrder, SamePutChangesNothing}
 use Rattle.al_session.proofs.Giving.{faults_stay}
@@ -27,10 +28,7 @@ abbrev InOrder : Folder → Type 0
 InOrder f = IsStrictlySortedBy (slice_cmp nat_cmp) (paths_of f)
 
 never : {A B : Type 0} {x : A} → None ≡ Some x → B
-never {A} {B} {x} h = absurd (wrong h)
-  where
-    wrong : None ≡ Some x → ⊥
-    wrong h = cc
+never h = absurd cc
 
 -- ---- the bytes at all paths tell a folder
 
@@ -40,27 +38,19 @@ at_first e es = cond-true _ _ _ (is_eq-slice_cmp e.0 e.0 ∙ bytes_self e.0)
 behind_first : (e : List ℕ × List ℕ) (es : Folder) (q : List ℕ) → bytes_eq q e.0 ≡ false → bytes_at (e ∷ es) q ≡ bytes_at es q
 behind_first e es q apart = cond-false _ _ _ (is_eq-slice_cmp q e.0 ∙ apart)
 
--- a path in front of all others is nowhere
-none_in_front : (q : List ℕ) (e : List ℕ × List ℕ) (es : Folder) → InOrder (e ∷ es) → slice_cmp nat_cmp q e.0 ≡ Less → bytes_at (e ∷ es) q ≡ None
-none_in_front q e es s less = lookup-none _ (e ∷ es) (ap is_eq less, others es (first_below q e es s))
-  where
-    others : (fs : Folder) → AllByRecursion (λ y. slice_cmp nat_cmp e.0 y ≡ Less) (paths_of fs) → NonePasses (is_at (slice_cmp nat_cmp q)) fs
-    others [] below = tt
-    others (f ∷ fs) below = (ap is_eq (nat_list_cmp_total.trans q e.0 f.0 less below.0), others fs below.1)
-
 one_folder : (f g : Folder) → InOrder f → InOrder g → ((q : List ℕ) → bytes_at f q ≡ bytes_at g q) → f ≡ g
 one_folder [] [] s t h = refl
 one_folder [] (y ∷ ys) s t h = never (h y.0 ∙ at_first y ys)
 one_folder (x ∷ xs) [] s t h = never (sym (h x.0) ∙ at_first x xs)
 one_folder (x ∷ xs) (y ∷ ys) s t h =
-    let rest : xs ≡ ys = one_folder xs ys (rest_sorted x.0 x xs s) (rest_sorted y.0 y ys t) (λ q. later q (bytes_eq q x.0) refl) in
+    let rest : xs ≡ ys = one_folder xs ys (sorted_tail _ _ _ s) (sorted_tail _ _ _ t) (λ q. later q (bytes_eq q x.0) refl) in
     λ i. (path i, bytes i) ∷ rest i
   where
     path : x.0 ≡ y.0
     path = by_ordering (slice_cmp nat_cmp x.0 y.0)
-        (λ less. never (sym (none_in_front x.0 y ys t less) ∙ sym (h x.0) ∙ at_first x xs))
-        (exact_path x.0 y.0)
-        (λ more. never (sym (none_in_front y.0 x xs s (nat_list_cmp_total.antisymm y.0 x.0 ∙ ap ordering_reverse more)) ∙ h y.0 ∙ at_first y ys))
+        (λ less. never (sym (lookup-none _ (y ∷ ys) (none_below_head nat_list_cmp_total x.0 y ys t less)) ∙ sym (h x.0) ∙ at_first x xs))
+        (exact_bytes x.0 y.0)
+        (λ more. never (sym (lookup-none _ (x ∷ xs) (none_below_head nat_list_cmp_total y.0 x xs s (nat_list_cmp_total.antisymm y.0 x.0 ∙ ap ordering_reverse more))) ∙ h y.0 ∙ at_first y ys))
 
     bytes : x.1 ≡ y.1
     bytes = ap (λ o. unwrap_or o x.1) (sym (at_first x xs) ∙ h x.0 ∙ ap (bytes_at (y ∷ ys)) path ∙ at_first y ys)
@@ -94,18 +84,12 @@ any_order f s p b q c apart =
         ∙ sym (bytes_put_other p r (with_file f q c) b l ∙ bytes_put_other q r f c k)
 
 same_text : (o : Option (List ℕ)) (b : List ℕ) → option_eq bytes_eq o (Some b) ≡ true → o ≡ Some b
-same_text None b h = absurd (wrong h)
-  where
-    wrong : false ≡ true → ⊥
-    wrong h = cc
+same_text None b h = absurd cc
 same_text (Some a) b h = ap Some ((bytes_eq-Decides a b).0 h)
 
 left : (a b : Bool) → not (a && b) ≡ false → a ≡ true
 left true b h = refl
-left false b h = absurd (wrong h)
-  where
-    wrong : true ≡ false → ⊥
-    wrong h = cc
+left false b h = absurd cc
 
 pub others_keep : {I : Type 0} (eq : I → I → Bool) → ((x y : I) → eq x y ≡ true → x ≡ y) → (m : Meaning I) (f : Folder) → OthersKeepFaults eq m f
 unfolding is_untouched
