@@ -37,7 +37,7 @@ THEOREMS = (
         )),
         ("al_session", "changes.rt", ("pub fn apply_changes",)),
     )),
-    ("W", "the words of the command line", (("al_cli", "words.rt", ("pub fn parse_words",)),)),
+    ("W", "the words of the command line", (("al_cli_words", "words.rt", ("pub fn parse_words",)),)),
     ("S", "the output of a script", (("al_cli_scripts", "run.rt", ("pub fn run_session",)),)),
     ("F", "the report and status of a folder", (("al_cli", "linted.rt", ("pub fn lint_all",)),)),
 )

@@ -14,11 +14,11 @@ ghost use Rattle.al_cli.specs.Private.Turns.{AreAmong, IsCalling, IsTakenAs, IsT
 ghost use Rattle.al_cli.specs.Taken.{AreGathered, AreInOrder, IsGathered, owned_entry};
 ghost use Rattle.al_cli.specs.Taken.{called_by, each_once, path_named, with_path};
 
-use crate::Words;
 use crate::disk::{Disk, DiskError, Entry, SystemFolder, WORKFLOWS};
 use crate::taken::TakenFiles;
 use al_base::{Path, path_fault, printable};
 use al_check::Actions;
+use al_cli_words::Words;
 use al_session::{Refused, SessionBuilder, Target};
 use std::alloc::{AllocError, AllocFailed, Global};
 use std::collections::BTreeSet;

@@ -4,22 +4,20 @@ use Rattle.std.specs.List.{fold}
 use Rattle.clap.specs.Words.{App, IsAmong, Kinds, Row, Rule, Text, all_of, fault_of, first_of, one_of, matches_of, new_app, new_rule}
 use Rattle.clap.specs.Words.{with_rule}
 use Rattle.clap.specs.Simple.{on_top}
-use Rattle.clap.specs.declared.builder.action.ArgAction.TheVariants.{Append, Help, SetTrue}
+use Rattle.clap.specs.declared.builder.action.ArgAction.{ArgAction}
+use Rattle.clap.specs.declared.builder.action.ArgAction.TheVariants.{Append, Help, Set, SetTrue}
 use Rattle.clap.specs.declared.error.kind.ErrorKind.{ErrorKind}
 use Rattle.clap.specs.declared.error.kind.ErrorKind.TheVariants.{DisplayHelp, OutOfMemory}
-use Rattle.al_cli.specs.declared.words.Words.{Words}
-use Rattle.al_cli.specs.declared.words.Usage.{Usage}
-use Rattle.al_cli.specs.declared.words.Usage.TheVariants as usage
+use Rattle.al_cli_words.specs.declared.words.Words.{Words}
+use Rattle.al_cli_words.specs.declared.words.Usage.{Usage}
+use Rattle.al_cli_words.specs.declared.words.Usage.TheVariants as usage
 
--- an option without a value
-abbrev pub flag_rule : Text → Rule
-flag_rule name = record (new_rule name) { long = Some name; action = Some SetTrue }
+-- the option that is written as this name behind two minuses
+abbrev pub option_rule : Text → ArgAction → Rule
+option_rule name action = record (new_rule name) { long = Some name; action = Some action }
 
 abbrev pub root_rule : Rule
-root_rule = record (new_rule (codes "root")) { long = Some (codes "root"); value_names = 1 }
-
-abbrev pub help_rule : Rule
-help_rule = record (new_rule (codes "help")) { long = Some (codes "help"); action = Some Help }
+root_rule = record (option_rule (codes "root") Set) { value_names = 1 }
 
 abbrev pub file_rule : Rule
 file_rule = record (new_rule (codes "file")) { action = Some Append; value_names = 1 }
@@ -29,10 +27,10 @@ abbrev pub bare_app : App
 bare_app = on_top (λ s. record s { disable_help_flag = true }) (new_app (codes "actionlint"))
 
 -- `actionlint [--oneline] [--root DIR] [--session] [--help] [FILE]...`
-abbrev pub linter_app : App
+unfoldable pub linter_app : App
 linter_app = fold with_rule bare_app
-    (flag_rule (codes "oneline") ∷ root_rule ∷ flag_rule (codes "session")
-    ∷ help_rule ∷ file_rule ∷ [])
+    (option_rule (codes "oneline") SetTrue ∷ root_rule ∷ option_rule (codes "session") SetTrue
+    ∷ option_rule (codes "help") Help ∷ file_rule ∷ [])
 
 -- what clap finds in these words, of which the first is the program's name
 unfoldable pub rows_in : List Text → List Row

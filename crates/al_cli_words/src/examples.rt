@@ -2,7 +2,7 @@
 
 ghost use Rattle.std.specs.Prelude.{◌≡◌, [], ◌∷◌, Some, codes};
 ghost use Rattle.clap.specs.Words.{one_of};
-ghost use Rattle.al_cli.specs.Words.{files_in, kinds_in, root_in, rows_in};
+ghost use Rattle.al_cli_words.specs.Words.{files_in, kinds_in, root_in, rows_in};
 ghost use Rattle.clap.specs.declared.error.kind.ErrorKind.TheVariants.{DisplayHelp, InvalidValue, UnknownArgument};
 
 /// What is found in some command lines, as the definitions give it. Does nothing.

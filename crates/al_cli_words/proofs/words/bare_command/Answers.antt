@@ -2,7 +2,7 @@ use Rattle.std.proofs.Common.{ap, true, ◌∙◌}
 use Rattle.clap.specs.Simple.{Shape, app_of_fields, on_top}
 use Rattle.clap.specs.declared.builder.command.Command.{Command}
 use Rattle.clap.specs.declared.builder.command.Command.TheOpen.{Command-F}
-use Rattle.al_cli.proofs.words.bare_command.Goals as goal
+use Rattle.al_cli_words.proofs.words.bare_command.Goals as goal
 
 abbrev without_flag : Shape → Shape
 without_flag s = record s { disable_help_flag = true }

@@ -4,9 +4,9 @@ use Rattle.std.specs.Prelude.{OnOk}
 use Rattle.std.specs.Borrow.{Bor}
 use Rattle.clap.specs.Words.{HasKind, IsAmong, Text, kind_of}
 use Rattle.clap.specs.declared.error.Error.{Error}
-use Rattle.al_cli.specs.Words.{IsNoRun, IsSaidAs, IsUsage, kinds_in, rows_in}
-use Rattle.al_cli.specs.declared.words.Usage.{Usage}
-use Rattle.al_cli.specs.declared.words.Usage.TheVariants as usage
+use Rattle.al_cli_words.specs.Words.{IsNoRun, IsSaidAs, IsUsage, kinds_in, rows_in}
+use Rattle.al_cli_words.specs.declared.words.Usage.{Usage}
+use Rattle.al_cli_words.specs.declared.words.Usage.TheVariants as usage
 
 abbrev text_of : Bor Text → Text
 text_of t = t.now
