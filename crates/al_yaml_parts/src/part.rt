@@ -16,12 +16,17 @@ pub struct Part {
     pub next: usize,
 }
 
-/// The same elements in no more memory than they take: a list that grows has room for more, and mappings of one entry or two are many.
-fn shrink<T>(elements: Vec<T>) -> Vec<T>
+/// The same elements in a list without spare room, as most mappings have few entries. They move, so that the room in which
+/// they were read is free for those of the next collection. If memory runs out, they stay in their list.
+fn fit<T: Drop>(elements: Vec<T>) -> Vec<T>
     ensures { result.items ≡ elements.items }
 {
     let mut list = elements;
-    list.shrink_to_fit();
+    if let Ok(mut fitting) = Vec::with_capacity(*list.allocator(), list.len()) {
+        if fitting.append(&mut list).is_ok() {
+            return fitting;
+        }
+    }
     list
 }
 
@@ -39,7 +44,7 @@ pub fn sequence_part(items: Vec<Node>, start: usize, end: usize, next: usize) ->
         end: end as u32,
     };
     Part {
-        node: sequence_node(shrink(items), span),
+        node: sequence_node(fit(items), span),
         end,
         next,
     }
@@ -59,7 +64,7 @@ pub fn mapping_part(entries: Vec<Entry>, start: usize, end: usize, next: usize) 
         end: end as u32,
     };
     Part {
-        node: mapping_node(shrink(entries), span),
+        node: mapping_node(fit(entries), span),
         end,
         next,
     }
