@@ -1,4 +1,4 @@
-"""Checks that no two cases of a folder are the same, in input, words and output: case_copies.py FOLDER.."""
+"""Checks that no two cases of a folder, with those below it, are the same, in input, words and output: case_copies.py FOLDER.."""
 
 import pathlib
 import sys
@@ -14,10 +14,10 @@ def content(case):
 def copies(folder):
     """The cases of a folder that are another one's copies, each with that one."""
     seen = {}
-    for case in cases_in(folder):
-        first = seen.setdefault(content(case), case.name)
-        if first != case.name:
-            yield f"{folder}: {case.name} is a copy of {first}"
+    for name, case in cases_in(folder).items():
+        first = seen.setdefault(content(case), name)
+        if first != name:
+            yield f"{folder}: {name} is a copy of {first}"
 
 
 if __name__ == "__main__":

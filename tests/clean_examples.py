@@ -153,9 +153,9 @@ def refusals(path, tree):
 
 def files(top):
     """Each file that is called clean: where it stands, its path, its bytes."""
-    for case in cases_in(top / "tests/faults"):
+    for name, case in cases_in(top / "tests/faults").items():
         if not report_of(case):
-            yield from ((f"tests/faults: {case.name}", path, data) for path, data in files_of(case).items())
+            yield from ((f"tests/faults: {name}", path, data) for path, data in files_of(case).items())
     for page in [*top.glob("*.md"), *(top / "docs").glob("*.md")]:
         for path, text in BLOCK.findall(page.read_text()):
             yield page.name, path, text.encode()

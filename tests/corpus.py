@@ -2,7 +2,7 @@
 
 import pathlib
 
-from run_cases import words_of
+from run_cases import cases_in, words_of
 from running import SCRIPT, WORKFLOWS
 
 TOP = pathlib.Path(__file__).resolve().parent.parent
@@ -27,8 +27,7 @@ LARGEST = 1_048_576
 
 def scripts_in(folder, prefix):
     """The scripts of a folder of cases: of each, under a name, the words and the standard input."""
-    cases = sorted(it for it in pathlib.Path(folder).iterdir() if it.with_name(it.name + ".stdout").exists())
-    return {f"{prefix}/{it.name}": (words_of(it, SCRIPT), it.read_bytes()) for it in cases}
+    return {f"{prefix}/{name}": (words_of(case, SCRIPT), case.read_bytes()) for name, case in cases_in(folder).items()}
 
 
 def refused_files(folder):

@@ -23,6 +23,7 @@ import tempfile
 import time
 
 from calling_files import PATHS, File
+from run_cases import cases_in
 from running import REPORT, SCRIPT, delete, put, wrong_line
 
 TOP = pathlib.Path(__file__).resolve().parent.parent
@@ -41,9 +42,7 @@ CALL_FAULT = re.compile(rb"\[(action|workflow-call)\]\n")
 def seeds():
     """Files to begin with: those of examples/, and those that the scripts of tests/cases put."""
     found = {path.read_bytes() for path in (TOP / "examples").rglob("*.y*ml")}
-    for script in (TOP / "tests" / "cases").iterdir():
-        if script.suffix:
-            continue
+    for script in cases_in(TOP / "tests" / "cases").values():
         data, at = script.read_bytes(), 0
         while found_put := PUT.match(data, at):
             size = int(found_put[2])

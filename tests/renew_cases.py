@@ -34,17 +34,17 @@ def renew(case, ran):
 
 def main(program, folder, words, is_written):
     differing, often, unended = 0, collections.Counter(), 0
-    for case in cases_in(folder):
+    for name, case in cases_in(folder).items():
         ran = run(program, case, words)
         if ran is None:
-            print(f"{case.name}: no end")
+            print(f"{name}: no end")
             unended += 1
             continue
         old = case.with_name(case.name + ".stdout").read_bytes()
         if (old, status_of(case)) == (ran.stdout, ran.returncode):
             continue
         changed = changes(lines_of(old, status_of(case)), lines_of(ran.stdout, ran.returncode))
-        print(f"== {case.name}", *changed, sep="\n")
+        print(f"== {name}", *changed, sep="\n")
         differing += 1
         often[tuple(changed)] += 1
         if is_written:

@@ -2,10 +2,10 @@
 
     python3 tests/run_cases.py PROGRAM FOLDER [WORD..]
 
-A case is a file NAME, which is what stands on standard input, with NAME.stdout, the exact output, and NAME.status, the status of the run
-(0 without it); NAME.args holds the words of its run, one a line, and without it the run gets the WORDs. Prints a line for each case,
-`case=NAME output=expected status=N`, or how the output or the status differs. Ends with 0 where there was a case and each was as
-expected.
+A case is a file, which is what stands on standard input, in the FOLDER or in a folder below it; its NAME is its path from there. Beside it
+stand NAME.stdout, the exact output, and NAME.status, the status of the run (0 without it); NAME.args holds the words of its run, one a
+line, and without it the run gets the WORDs. Prints a line for each case, in order of their paths: `case=NAME output=expected status=N`, or
+how the output or the status differs. Ends with 0 where there was a case and each was as expected.
 """
 
 import pathlib
@@ -28,8 +28,10 @@ def status_of(case):
 
 
 def cases_in(folder):
-    """The cases of a folder, in order of their names."""
-    return sorted(it for it in pathlib.Path(folder).iterdir() if it.with_name(it.name + ".stdout").exists())
+    """The cases of a folder and of those below it: of each, under its name, its file; in order of their paths, part by part."""
+    top = pathlib.Path(folder)
+    found = sorted(it for it in top.rglob("*") if it.with_name(it.name + ".stdout").exists())
+    return {it.relative_to(top).as_posix(): it for it in found}
 
 
 def run(program, case, words):
@@ -47,27 +49,27 @@ def difference(got, wanted):
     return f"at byte {at}, expected {wanted[at : at + 200]!r}, found {got[at : at + 200]!r}"
 
 
-def is_right(program, case, words):
+def is_right(program, name, case, words):
     """Runs a case and prints its line; answers whether output and status were as expected."""
     ran = run(program, case, words)
     if ran is None:
-        print(f"case={case.name} output=none, no end after {SECONDS} seconds")
+        print(f"case={name} output=none, no end after {SECONDS} seconds")
         return False
     wanted, status = case.with_name(case.name + ".stdout").read_bytes(), status_of(case)
     if ran.stdout != wanted:
-        print(f"case={case.name} output=differs status={ran.returncode}")
+        print(f"case={name} output=differs status={ran.returncode}")
         print(f"  {difference(ran.stdout, wanted)}")
     elif ran.returncode != status:
-        print(f"case={case.name} output=as-expected-but-the-status status={ran.returncode}")
+        print(f"case={name} output=as-expected-but-the-status status={ran.returncode}")
         print(f"  expected status {status}, standard error {ran.stderr[:200]!r}")
     else:
-        print(f"case={case.name} output=expected status={ran.returncode}")
+        print(f"case={name} output=expected status={ran.returncode}")
         return True
     return False
 
 
 def main(program, folder, words):
-    right = [is_right(program, case, words) for case in cases_in(folder)]
+    right = [is_right(program, name, case, words) for name, case in cases_in(folder).items()]
     return 0 if right and all(right) else 1
 
 

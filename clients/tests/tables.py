@@ -25,7 +25,7 @@ LEAST_LINES = 1_000
 
 def printed_lines() -> list[bytes]:
     """The fault lines of the outputs that the cases and the examples should have."""
-    files = [*(TOP / "tests/cases").glob("*.stdout"), *(TOP / "examples").glob("*.oneline")]
+    files = [*sorted((TOP / "tests/cases").rglob("*.stdout")), *sorted((TOP / "examples").glob("*.oneline"))]
     return [line for file in files for line in FAULT_LINE.findall(file.read_bytes())]
 
 
