@@ -1,7 +1,7 @@
 """Compares docs/EDITS.md with the edits that the gate leaves to the hand: edits_page.py TOP.
 
 Its table names each file of crates/*/more-edits/ after the name of its crate. What it names as showing an edit is there: edits of the gate,
-tests of a crate, cases, and files of tests/. Each edit can be made: the text that it takes away stands once in its file.
+tests of a crate, cases and folders of them, and files of tests/. Each edit can be made: the text that it takes away stands once in its file.
 """
 
 import pathlib
@@ -12,6 +12,9 @@ from more_edits import pairs_of
 
 ROW = re.compile(r"^\| (?:(\w+) )?\| (`\w+`(?:, `\w+`)*) \| (.*) \|$", re.MULTILINE)
 BY = re.compile(r"\bedits? ((?:`\w+`(?: \(`\w+`\))?(?:, | and )?)+)")
+# cases and their folders, behind the word; and what else is named by a path
+CASES = re.compile(r"\bcases? (?:[^`;]*\()?((?:`\w[\w/-]*`(?:, )?)+)")
+PATHS = re.compile(r"`(?!tests/)[\w-]+/[\w/-]+`")
 TESTS = re.compile(r"tests? ((?:`\w+`(?:, | and )?)+) of `(\w+)`")
 
 
@@ -20,7 +23,7 @@ def absent(top, shown):
     for names, crate in TESTS.findall(shown):
         source = "".join(it.read_text() for it in (top / "crates" / crate / "src").glob("*.rt"))
         yield from (f"test {it} of {crate}" for it in re.findall(r"`(\w+)`", names) if not re.search(rf"\b{it}\b", source))
-    for case in re.findall(r"cases? `([\w-]+)`", shown):
+    for case in sorted(set(re.findall(r"`([^`]+)`", " ".join([*CASES.findall(shown), *PATHS.findall(shown)])))):
         if not any((top / "tests" / folder / case).exists() for folder in ("cases", "faults", "yaml-trees", "expressions", "chunks")):
             yield f"case {case}"
     yield from (it for it in re.findall(r"`(tests/[\w./-]+)`", shown) if not (top / it).exists())

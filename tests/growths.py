@@ -33,7 +33,7 @@ from running import CALLED, CALLER, CLEAN, SCRIPT, WORKFLOWS, put
 PROGRAM = TOP / "crates" / "actionlint" / "out" / "actionlint"
 TESTS = TOP / "crates" / "al_tests" / "out" / "al_tests_tests"
 EDITS = "edits::edits_refused_for_memory_change_nothing"
-TEN_EDITS = "tests/cases/edits-ten-with-a-loop"
+TEN_EDITS = "tests/cases/edits/ten-with-a-loop"
 CHOSEN = TOP / "tests" / "growth-runs"
 NO_MEMORY = b"actionlint: out of memory\n"
 MOST = 64
