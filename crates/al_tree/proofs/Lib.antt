@@ -1,3 +1,4 @@
+pub mod Dollars
 pub mod Lists
 pub mod KeyLemmas
 pub mod Shapes

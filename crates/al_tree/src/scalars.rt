@@ -8,17 +8,20 @@ ghost use Rattle.std.specs.Prelude.{◌≡◌, not};
 use crate::table::ScalarSet;
 use al_base::KeyCode;
 use al_scalar::{Class, Scalar};
+use memchr::memchr;
 
 /// Whether a text has a `${{`.
+#[tactic(auto)]
 pub fn contains_chunk(text: &[u8]) -> bool
     ensures { result ≡ has_chunk text.now }
 {
     let mut rest = text;
-    while let Some((_, tail)) = rest.split_first() {
-        if rest.starts_with(b"${{") {
+    'dollars: while let Some(at) = memchr(b'$', rest) {
+        let found = &rest[at..];
+        if found.starts_with(b"${{") {
             return true;
         }
-        rest = tail;
+        rest = &found[1..];
     }
     false
 }
