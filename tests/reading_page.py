@@ -38,7 +38,7 @@ THEOREMS = (
         ("al_session", "changes.rt", ("pub fn apply_changes",)),
     )),
     ("W", "the words of the command line", (("al_cli_words", "words.rt", ("pub fn parse_words",)),)),
-    ("S", "the output of a script", (("al_cli_scripts", "run.rt", ("pub fn run_session",)),)),
+    ("S", "the output of a script", (("al_cli_scripts", "run.rt", ("pub fn run_session", "pub fn run_commands")),)),
     ("F", "the report and status of a folder", (("al_cli", "linted.rt", ("pub fn lint_all",)),)),
 )
 # the one name that two of the definitions have: what is done with what was read, where lines are left and where anchors are known

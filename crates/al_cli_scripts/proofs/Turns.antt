@@ -12,7 +12,7 @@ use Rattle.al_base.specs.Counted.{AppendsPrefix, HasRisen}
 use Rattle.al_base.proofs.Bytes.{AppendsPrefix-after, AppendsPrefix-wider, AppendsPrefix-all, AppendsPrefix-none}
 use Rattle.al_cli_scripts.specs.Script.{Command, command_bytes, line_bytes, line_of, body_of, IsCommand, IsWrong, IsPending, BeginsWithCommand}
 use Rattle.al_cli_scripts.specs.Runs.{CountsFailures, Steps, Served, Puts, Ends, replies_to}
-use Rattle.al_cli_scripts.specs.Runs.{RunsToEnd, IsCutShort, PausesAfter, RunState, GoesOn, TurnStops, Stops, ReadsLast, ReadsNoFurther}
+use Rattle.al_cli_scripts.specs.Runs.{RunsToEnd, LeavesFolder, IsCutShort, PausesAfter, RunState, GoesOn, TurnStops, Stops, ReadsLast, ReadsNoFurther}
 use Rattle.al_base.specs.declared.stops.Stop.{Stop}
 use Rattle.al_base.specs.declared.stops.Stop.TheVariants.{ReadFault, WriteFault, Memory, TooManyTurns}
 use Rattle.al_cli_scripts.specs.Private.Answered.{IsStuck}
@@ -198,6 +198,23 @@ module _ {F : Type 0} (steps : Steps F) where
     w,
   )
 
+  pub end_leaves : (f g : F) (waiting : List ℕ) (left then : Option (List ℕ)) → g ≡ f → Consumes left then [] → IsAtEnd then
+      → (BeginsWithCommand waiting → ⊥) → LeavesFolder steps f waiting left g
+  end_leaves f g waiting None then same k e unbegun = tt
+  end_leaves f g waiting (Some s) None same k e unbegun = absurd k
+  end_leaves f g waiting (Some s) (Some t) same k e unbegun =
+      let all : waiting ≡ waiting ++ s = sym (ap (λ l. waiting ++ l) (k ∙ e) ∙ append-nil waiting) in
+      let none : Served steps f waiting g [] waiting = subst (λ h. Served steps f waiting h [] waiting) (sym same) (Served-none steps f waiting) in
+      ([], waiting, subst (λ l. Served steps f l g [] waiting) all none, unbegun)
+
+  pub bad_leaves : (f g : F) (waiting read replies rest : List ℕ) (left then : Option (List ℕ)) → Consumes left then read
+      → Served steps f (waiting ++ read) g replies rest → IsWrong rest → LeavesFolder steps f waiting left g
+  bad_leaves f g waiting read replies rest None then k s wrong = tt
+  bad_leaves f g waiting read replies rest (Some x) None k s wrong = absurd k
+  bad_leaves f g waiting read replies rest (Some x) (Some y) k s wrong =
+      let all : (waiting ++ read) ++ y ≡ waiting ++ x = append_assoc waiting read y ∙ ap (λ l. waiting ++ l) (sym k) in
+      (replies, rest ++ y, subst (λ l. Served steps f l g replies (rest ++ y)) all (Served-more steps f (waiting ++ read) g replies rest y s), wrong_never rest y wrong)
+
   pub TurnStops-cut : (old new : RunState F) (e : Stop) → (e ≡ WriteFault) ⊎ (e ≡ Memory)
       → IsCutShort steps old.folder old.waiting old.left old.wrote new.wrote → TurnStops steps old new e
   TurnStops-cut old new e which cut = elim which [
@@ -262,6 +279,16 @@ module _ {F : Type 0} (steps : Steps F) where
         },
         Appends-trans wrote now final p.replies r.0 p.written r.2,
       )
+
+  -- the folder that it leaves
+  pub Leaves-after : (f g h : F) (waited read : List ℕ) (left mid wrote now : Option (List ℕ)) → PausesAfter steps f g waited left mid wrote now read
+      → LeavesFolder steps g waited mid h → LeavesFolder steps f [] left h
+  Leaves-after f g h waited read None mid wrote now p r = tt
+  Leaves-after f g h waited read (Some x) None wrote now p r = absurd p.consumed
+  Leaves-after f g h waited read (Some x) (Some y) wrote now p r =
+      let whole : x ≡ read ++ y = p.consumed in
+      let joined = Served-join f g h read y p.replies r.0 waited r.1 p.served r.2 in
+      (p.replies ++ r.0, r.1, subst (λ l. Served steps f l h (p.replies ++ r.0) r.1) (sym whole) joined, r.3)
 
   -- and what it read last
   pub Last-after : (f g : F) (waited read : List ℕ) (left mid then wrote now : Option (List ℕ)) → PausesAfter steps f g waited left mid wrote now read

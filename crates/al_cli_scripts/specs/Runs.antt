@@ -49,6 +49,11 @@ abbrev pub RunsToEnd : {F : Type 0} → Steps F → F → List ℕ → Option (L
 RunsToEnd steps start waiting left wrote now answer =
     IfSome left (λ script. (out : List ℕ) × Puts steps start (waiting ++ script) out answer × Appends wrote now out)
 
+-- the run left this folder: the one that the whole commands of that script leave
+abbrev pub LeavesFolder : {F : Type 0} → Steps F → F → List ℕ → Option (List ℕ) → F → Type 0
+LeavesFolder steps start waiting left folder = IfSome left (λ script. (replies : List ℕ) × (rest : List ℕ)
+    × Served steps start (waiting ++ script) folder replies rest × (BeginsWithCommand rest → ⊥))
+
 -- the run put out a prefix of that output
 abbrev pub IsCutShort : {F : Type 0} → Steps F → F → List ℕ → Option (List ℕ) → Option (List ℕ) → Option (List ℕ) → Type 0
 IsCutShort steps start waiting left wrote now =
@@ -136,5 +141,5 @@ TurnStops steps old new TooManyTurns = ⊥
 abbrev pub Turns : {F : Type 0} → Steps F → RunState F → RunState F → Result (Option ℕ) Stop → Type 0
 Turns steps old new (Ok None) = GoesOn steps old new
 Turns steps old new (Ok (Some answer)) = RunsToEnd steps old.folder old.waiting old.left old.wrote new.wrote answer
-    × ReadsLast steps old.folder old.waiting old.left new.left
+    × ReadsLast steps old.folder old.waiting old.left new.left × LeavesFolder steps old.folder old.waiting old.left new.folder
 Turns steps old new (Err stop) = TurnStops steps old new stop

@@ -7,7 +7,7 @@ ghost use Rattle.al_base.specs.Counted.{count_after, HasRisen, AppendsPrefix};
 ghost use Rattle.al_base.specs.Streams.{bytes_left, turns_of, read_failures, largest_ask, bytes_written, write_failures};
 ghost use Rattle.al_cli_scripts.specs.Private.Next.{meaning};
 ghost use Rattle.al_cli_scripts.specs.Script.{IsPending, BeginsWithCommand};
-ghost use Rattle.al_cli_scripts.specs.Runs.{CountsFailures, RunsToEnd, Stops, Ends, ReadsNoFurther, Turns, run_state};
+ghost use Rattle.al_cli_scripts.specs.Runs.{CountsFailures, RunsToEnd, LeavesFolder, Stops, Ends, ReadsNoFurther, Turns, run_state};
 ghost use Rattle.al_cli_scripts.specs.Replies as replies;
 ghost use Rattle.al_cli_scripts.specs.Script as script;
 ghost use Rattle.al_session.specs.declared.lint.Refused.TheVariants as refused;
@@ -60,12 +60,44 @@ pub fn run_session<R: Read, W: Write>(
     ensures asks { result ≢ Err Memory
         → largest_ask reader.new ≡ max (largest_ask reader.old) largest_read }
 {
-    // A proof knows that a count fits its type where the body reads it.
-    let _turns_before = reader.turns();
+    let mut session = Session::open(alloc, Actions::new());
+    run_commands(&mut session, alloc, reader, writer, oneline)
+}
+
+/// Runs the script that the reader gives over a session, which then has the folder that the commands leave. Output, reads and
+/// errors are as for [`run_session`], which begins with the empty folder.
+pub fn run_commands<R: Read, W: Write>(
+    session: &mut Session<Actions>,
+    alloc: Global,
+    reader: &mut Input<R>,
+    writer: &mut Output<W>,
+    oneline: bool,
+) -> Result<u8, Stop>
+    ensures end { IfOk result
+        (RunsToEnd (replies.session oneline) session.old.folder [] (bytes_left R.remaining reader.old)
+        (bytes_written W.contents writer.old) (bytes_written W.contents writer.new)) }
+    ensures stop { IfErr result (Stops (replies.session oneline) session.old.folder
+        (bytes_left R.remaining reader.old) (bytes_left R.remaining reader.new)
+        (bytes_written W.contents writer.old) (bytes_written W.contents writer.new)) }
+    ensures folder { OnOk result (LeavesFolder (replies.session oneline) session.old.folder []
+        (bytes_left R.remaining reader.old) session.new.folder) }
+    ensures last_read { OnOk result (ReadsNoFurther (replies.session oneline) session.old.folder
+        (bytes_left R.remaining reader.old) (bytes_left R.remaining reader.new)) }
+    ensures reads { turns_of reader.new ≤ turns_of reader.old + most_reads }
+    ensures read_failures { CountsFailures result Stop.ReadFault (read_failures reader.old)
+        (read_failures reader.new) }
+    ensures write_failures { CountsFailures result Stop.WriteFault (write_failures writer.old)
+        (write_failures writer.new) }
+    ensures all_turns { IsErrOf result Stop.TooManyTurns
+        → turns_of reader.new ≡ count_after (turns_of reader.old) most_reads }
+    ensures asked { largest_ask reader.new ≤ max (largest_ask reader.old) largest_read }
+    ensures asks { result ≢ Err Memory
+        → largest_ask reader.new ≡ max (largest_ask reader.old) largest_read }
+{
     let mut run = Run::new(alloc, oneline);
     let mut piece = empty_piece(alloc)?;
     for _turn in 0..MOST_READS {
-        match run.take_turn(&mut piece, reader, writer)? {
+        match run.take_turn(session, &mut piece, reader, writer)? {
             Some(answer) => return Ok(answer),
             None => {}
         }
@@ -84,7 +116,6 @@ fn empty_piece(alloc: Global) -> Result<Vec<u8>, AllocError>
 #[derive(Drop)]
 struct Run {
     oneline: bool,
-    session: Session<Actions>,
     // the bytes behind the last whole command
     waiting: Vec<u8>,
 }
@@ -93,12 +124,10 @@ impl Run {
     // A run that has read nothing.
     fn new(alloc: Global, oneline: bool) -> Run
         ensures oneline { result.oneline ≡ oneline }
-        ensures folder { result.session.folder ≡ [] }
         ensures waiting { result.waiting.items ≡ [] }
     {
         Run {
             oneline,
-            session: Session::open(alloc, Actions::new()),
             waiting: Vec::new(alloc),
         }
     }
@@ -106,6 +135,7 @@ impl Run {
     // One read, and the answers to what came. `Some` is the answer of a run that is over.
     fn take_turn<R: Read, W: Write>(
         &mut self,
+        session: &mut Session<Actions>,
         piece: &mut [u8],
         reader: &mut Input<R>,
         writer: &mut Output<W>,
@@ -113,9 +143,9 @@ impl Run {
         requires room { length piece.old ≡ largest_read }
         requires pending { IsPending self.old.waiting.items }
         ensures turn { Turns (replies.session self.old.oneline)
-            (run_state self.old.session.folder self.old.waiting.items
+            (run_state session.old.folder self.old.waiting.items
             (bytes_left R.remaining reader.old) (bytes_written W.contents writer.old))
-            (run_state self.new.session.folder self.new.waiting.items
+            (run_state session.new.folder self.new.waiting.items
             (bytes_left R.remaining reader.new) (bytes_written W.contents writer.new))
             result }
         ensures oneline { self.new.oneline ≡ self.old.oneline }
@@ -128,10 +158,10 @@ impl Run {
     {
         let count = reader.read(piece)?;
         if count == 0 {
-            return Ok(Some(finish(&mut self.session, &self.waiting, writer)?));
+            return Ok(Some(finish(session, &self.waiting, writer)?));
         }
         self.waiting.extend_from_slice(&piece[..count])?;
-        match answer_all(&mut self.session, &self.waiting, writer, self.oneline)? {
+        match answer_all(session, &self.waiting, writer, self.oneline)? {
             Progress::Bad => Ok(Some(2)),
             Progress::Waits(done) => {
                 drop_prefix(&mut self.waiting, done);

@@ -1,9 +1,10 @@
-use Rattle.std.proofs.Common.{◌≡◌, ◌≤◌, ◌++◌, [], refl, rules, arith, take, length, length-take-le, inl, inr}
+use Rattle.std.proofs.Common.{◌≡◌, ◌≤◌, ap, ◌++◌, [], refl, rules, arith, take, length, length-take-le, inl, inr}
 use Rattle.std.proofs.lemmas.Grind.{common_steps}
 use Rattle.std.proofs.KnownBytes.{Keeps-refl, Appends-kept}
 use Rattle.std.proofs.lemmas.Result.{err_from_is_err_and}
+use Rattle.al_session.specs.Session.{SessionState}
 use Rattle.al_cli_scripts.specs.Replies.{session}
-use Rattle.al_cli_scripts.proofs.Turns.{turn_end, turn_end_cut, turn_unwritten, turn_stuck, turn_answered, turn_bad, TurnStops-cut}
+use Rattle.al_cli_scripts.proofs.Turns.{turn_end, turn_end_cut, turn_unwritten, turn_stuck, turn_answered, turn_bad, end_leaves, bad_leaves, TurnStops-cut}
 use Rattle.al_cli_scripts.proofs.run.Run.take_turn.Goals as goal
 
 pub finish-requires : goal.finish-requires
@@ -29,6 +30,8 @@ returns-then-count-eq0-clause-turn g c =
     let k = rw z at c.in_ok-count.ensures.bytes.0 in (
       turn_end (session c.args.self.now.oneline) _ _ e.0 _ _ _ _ _ k (c.in_ok-count.ensures.bytes.1 z (search rules)) e.1 e.2,
       ([], omega arith, k, inl refl),
+      end_leaves (session c.args.self.now.oneline) c.args.session.now.folder c.finish.new.session.folder _ _ _ (ap (λ (s : SessionState). s.folder) c.finish.ensures.unchanged)
+          k (c.in_ok-count.ensures.bytes.1 z (search rules)) c.requires.pending.unfinished,
     )
 
 pub returns-in_err-extend_from_slice-clause-turn : goal.returns-in_err-extend_from_slice-clause-turn
@@ -63,4 +66,5 @@ returns-in-Bad-clause-turn g c =
     let short : length (take c.in_ok-count.count c.read.new.buf) ≤ 65536 = omega (arith, some, room, length-take-le c.in_ok-count.count c.read.new.buf some) in (
       turn_bad (session c.args.self.now.oneline) _ _ c.args.self.now.waiting.items (take c.in_ok-count.count c.read.new.buf) s.0 s.1 _ _ _ _ c.in_ok-count.ensures.bytes.0 s.2 s.3 s.4,
       (take c.in_ok-count.count c.read.new.buf, short, c.in_ok-count.ensures.bytes.0, inr (_, s.0, s.1, s.2, s.3)),
+      bad_leaves (session c.args.self.now.oneline) _ _ c.args.self.now.waiting.items (take c.in_ok-count.count c.read.new.buf) s.0 s.1 _ _ c.in_ok-count.ensures.bytes.0 s.2 s.3,
     )
