@@ -2,14 +2,15 @@
 #![tactic(auto)]
 
 use al_base::{Input, Output, Stop};
+use al_check::Actions;
 use al_cli::{
-    Loaded, Unread, Usage, WaitingOutput, Words, lint_loaded, load, number_of, parse_words,
-    run_session,
+    Loaded, Unread, Usage, WaitingOutput, Words, load, number_of, parse_words, run_commands,
+    write_report,
 };
-use al_session::Refused;
+use al_session::{Refused, Session};
 use std::io::{BufWriter, ErrorKind, Write};
 use std::process::ExitCode;
-use std::{env, io};
+use std::{env, io, mem};
 
 /// The exit status for a wrong command line.
 const BAD_WORDS: u8 = 2;
@@ -73,9 +74,12 @@ fn run_script(rt: &HostRuntime, oneline: bool) -> u8 {
     };
     let mut reader = Input::new(rt.stdin());
     let mut writer = Output::new(buffer);
-    let answer = run_session(rt.alloc(), &mut reader, &mut writer, oneline);
+    let mut session = Session::open(rt.alloc(), Actions::new());
+    let answer = run_commands(&mut session, rt.alloc(), &mut reader, &mut writer, oneline);
     // Buffered output is flushed whatever the result is.
     let flushed = writer.flush();
+    // The program ends, and the system frees all of its memory at once.
+    mem::forget(session);
     match (answer, flushed) {
         (Ok(status), Ok(())) => status,
         (Ok(_), Err(stop)) => say_stop(rt, stop),
@@ -103,9 +107,12 @@ fn lint_files(rt: &HostRuntime, files: Loaded, oneline: bool) -> Result<u8, Stop
         return Err(Stop::Memory);
     };
     let mut writer = Output::new(buffer);
-    let answer = lint_loaded(files, &mut writer, oneline);
+    let mut session = files.build()?;
+    let answer = write_report(&mut session, &mut writer, oneline);
     // A complete report was already flushed; of one that stopped, as much as possible is written.
     let _ = writer.flush();
+    // The program ends, and the system frees all of its memory at once.
+    mem::forget(session);
     answer
 }
 

@@ -1,8 +1,11 @@
 //! `al_cli`: words, scripts, and the files of a folder of the disk.
 
 use crate::files::{CALLER, action, caller, missing_input};
-use al_cli::{Fatal, Unread, Usage, Words, gather, lint_all, parse_words, run_session};
-use al_session::Refused;
+use al_check::Actions;
+use al_cli::{
+    Fatal, Unread, Usage, Words, gather, lint_all, parse_words, run_commands, run_session,
+};
+use al_session::{Refused, Session};
 use al_text::{Input, Output, Path, Stop};
 use std::alloc::Global;
 use std::fs;
@@ -63,6 +66,37 @@ fn answers(alloc: Global, script: &[u8], wanted: &[u8]) -> Result<bool, Stop> {
 #[test]
 fn a_script(rt: HostRuntime) -> Result<(), Stop> {
     assert!(rt; answers(rt.alloc(), script(), replies())?);
+    Ok(())
+}
+
+fn run_over(
+    session: &mut Session<Actions>,
+    alloc: Global,
+    script: &[u8],
+    output: &mut Vec<u8>,
+) -> Result<u8, Stop> {
+    run_commands(
+        session,
+        alloc,
+        &mut Input::new(script),
+        &mut Output::new(output),
+        true,
+    )
+}
+
+/// Whether a script has the folder that the one before it left.
+fn goes_on(alloc: Global, first: &[u8], second: &[u8], wanted: &[u8]) -> Result<bool, Stop> {
+    let mut session = Session::open(alloc, Actions::new());
+    let mut output = Vec::new(alloc);
+    run_over(&mut session, alloc, first, &mut output)?;
+    let status = run_over(&mut session, alloc, second, &mut output)?;
+    Ok(status == 1 && output.as_slice() == wanted)
+}
+
+#[test]
+fn two_scripts_over_a_session(rt: HostRuntime) -> Result<(), Stop> {
+    let put = b"put .github/workflows/a.yml 0\n\n";
+    assert!(rt; goes_on(rt.alloc(), put, b"report\n", replies())?);
     Ok(())
 }
 
