@@ -21,7 +21,7 @@ put_all_more put_or_fuse ts [] qs = refl
 put_all_more put_or_fuse ts (p ∷ ps) qs = put_all_more put_or_fuse (put_or_fuse ts p) ps qs
 
 module _ {X Y : Type 0} (g : X → Y) where
-  mapped_more : (xs : List X) (i : ℕ) (x : X) → i < length xs → x ≡ get_or xs i x → map g (take (i + 1) xs) ≡ map g (take i xs) ++ g x ∷ []
+  pub mapped_more : (xs : List X) (i : ℕ) (x : X) → i < length xs → x ≡ get_or xs i x → map g (take (i + 1) xs) ≡ map g (take i xs) ++ g x ∷ []
   mapped_more xs i x lt e =
       ap (map g) (take_more xs i x lt) ∙ ap (λ y. map g (take i xs ++ y ∷ [])) (sym e) ∙ map-append g (take i xs) (x ∷ [])
 

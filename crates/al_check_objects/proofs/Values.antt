@@ -1,36 +1,28 @@
 -- The types of nodes that the program holds as a sequence or a mapping, and what combinations add to a matrix.
-use Rattle.std.proofs.Common.{◌≡◌, ◌<◌, ◌+◌, ℕ, List, [], ◌∷◌, ◌++◌, Some, None, true, false, ap, refl, sym, drop, get_or, length, map, take, ◌∙◌}
-use Rattle.std.proofs.lemmas.List.{drop_more, map-append, take_more}
-use Rattle.std.specs.Prelude.{if◌then◌else◌}
+use Rattle.std.proofs.Common.{◌≡◌, ◌<◌, ◌+◌, ℕ, List, [], ◌∷◌, ◌++◌, Bool, Some, None, true, ap, refl, sym, drop, get_or, length, map, take, ◌∙◌}
+use Rattle.std.proofs.lemmas.List.{drop_more}
+use Rattle.std.specs.Option.{option_map_or}
+use Rattle.std.specs.Prelude.{Option, if◌then◌else◌}
 use Rattle.al_tree.specs.Keys.{key_of, key_text}
 use Rattle.al_tree.specs.Names.{is_combination_key}
 use Rattle.al_types.specs.FusedFields.{are_distinct}
-use Rattle.al_types.specs.Puts.{TypedName, put_or_fuse, put_all, put_new}
+use Rattle.al_types.specs.Puts.{TypedName, firsts, put_or_fuse, put_all, put_new}
 use Rattle.al_types.specs.Types.{Optional, Present, fuse_optional}
 use Rattle.al_types.proofs.GatheredFields.{firsts_distinct}
-use Rattle.al_yaml_tree.specs.Node.{Entries, Node, entry, mapping, no_entries, scalar, sequence}
+use Rattle.al_yaml_tree.specs.Access.{mapping_in}
+use Rattle.al_yaml_tree.specs.Node.{Node}
 use Rattle.al_yaml_tree.specs.View.{entries_of, entry_view, nodes_of, view}
 use Rattle.al_yaml_tree.specs.declared.node.Entry as code_entry
 use Rattle.al_yaml_tree.proofs.ViewLemmas.{entry_parts}
-use Rattle.al_check_objects.specs.Matrix.{combination, entries_types, include_all, items_type, node_type, row_field, row_type}
+use Rattle.al_check_objects.specs.Matrix.{combination, fields_of, include_all, items_type, node_type, row_field, row_type}
 use Rattle.al_check_objects.specs.Objects.{strictly}
-use Rattle.al_check_objects.proofs.FieldLists.{put_together}
+use Rattle.al_check_objects.proofs.FieldLists.{mapped_more, put_together}
 
--- ---- fields that entries are
+-- ---- combinations
 
-listed : Entries → List TypedName
-listed no_entries = []
-listed (entry k v es) = (key_text k, node_type v) ∷ listed es
-
-entries_listed : (ts : List TypedName) (es : Entries) → entries_types ts es ≡ put_all put_new ts (listed es)
-unfolding listed
-entries_listed ts no_entries = refl
-entries_listed ts (entry k v es) = entries_listed (put_new ts (key_text k, node_type v)) es
-
-distinct_combination : (n : Node) → are_distinct (combination n) ≡ true
-distinct_combination (scalar s at) = refl
-distinct_combination (sequence ns at) = refl
-distinct_combination (mapping es at) = ap are_distinct (entries_listed [] es) ∙ firsts_distinct (listed es)
+distinct_fields : (o : Option (List (Node × Node))) → are_distinct (option_map_or (λ es. firsts (fields_of (entries_of es))) o []) ≡ true
+distinct_fields None = refl
+distinct_fields (Some es) = firsts_distinct (fields_of (entries_of es))
 
 -- one combination more
 include_more : (ts : List TypedName) (ns : List Node) (n : Node) → include_all ts (ns ++ n ∷ []) ≡ put_all put_or_fuse (include_all ts ns) (combination n)
@@ -44,10 +36,10 @@ pub include_next : {X : Type 0} (g : X → Node) (ts : List TypedName) (xs : Lis
 include_next g ts xs i x sofar new lt e old step =
     let prefix = map g (take i xs) in
     step ∙ ap (λ o. fuse_optional o (Present (strictly (combination (g x))))) old
-    ∙ ap Present (sym (put_together (include_all ts prefix) (combination (g x)) (distinct_combination (g x))))
+    ∙ ap Present (sym (put_together (include_all ts prefix) (combination (g x)) (distinct_fields (mapping_in (g x)))))
     ∙ ap (λ us. Present (strictly us)) (sym (include_more ts prefix (g x)))
     ∙ ap (λ ns. Present (strictly (include_all ts ns)))
-    (sym (ap (map g) (take_more xs i x lt) ∙ ap (λ y. map g (take i xs ++ y ∷ [])) (sym e) ∙ map-append g (take i xs) (x ∷ [])))
+    (sym (mapped_more g xs i x lt e))
 
 -- ---- what items have in common
 
@@ -63,17 +55,14 @@ items_next g xs i x sofar new lt e step =
 
 pub entries_next : (es : List code_entry.Entry) (i : ℕ) (x : code_entry.Entry) (ts us : List TypedName) → i < length es → x ≡ get_or es i x →
     us ≡ put_new ts (key_text (view x.key), node_type (view x.value)) →
-    entries_types us (entries_of (map entry_view (drop (i + 1) es))) ≡ entries_types ts (entries_of (map entry_view (drop i es)))
+    put_all put_new us (fields_of (entries_of (map entry_view (drop (i + 1) es)))) ≡ put_all put_new ts (fields_of (entries_of (map entry_view (drop i es))))
 entries_next es i x ts us lt e is =
     let rest = map entry_view (drop (i + 1) es) in
-    ap (λ vs. entries_types vs (entries_of rest)) is
-    ∙ ap (λ p. entries_types ts (entries_of (p ∷ rest))) (sym (entry_parts x))
-    ∙ ap (λ ys. entries_types ts (entries_of (map entry_view ys))) (ap (λ y. y ∷ drop (i + 1) es) e ∙ sym (drop_more es i x lt))
+    ap (λ vs. put_all put_new vs (fields_of (entries_of rest))) is
+    ∙ ap (λ p. put_all put_new ts (fields_of (entries_of (p ∷ rest)))) (sym (entry_parts x))
+    ∙ ap (λ ys. put_all put_new ts (fields_of (entries_of (map entry_view ys)))) (ap (λ y. y ∷ drop (i + 1) es) e ∙ sym (drop_more es i x lt))
 
 -- ---- whether an entry is a row
 
-pub no_row : (e : Node × Node) → is_combination_key (key_of e) ≡ true → row_field e ≡ None
-no_row e is = ap (λ b. if b then None else Some (key_of e, row_type e.1)) is
-
-pub one_row : (e : Node × Node) → is_combination_key (key_of e) ≡ false → row_field e ≡ Some (key_of e, row_type e.1)
-one_row e is = ap (λ b. if b then None else Some (key_of e, row_type e.1)) is
+pub row_by : (e : Node × Node) (b : Bool) → is_combination_key (key_of e) ≡ b → row_field e ≡ (if b then None else Some (key_of e, row_type e.1))
+row_by e b is = ap (λ b. if b then None else Some (key_of e, row_type e.1)) is

@@ -9,14 +9,15 @@ use Rattle.al_rules_formats.specs.Chunks.{is_lone_chunk}
 use Rattle.al_rules_formats.specs.declared.chunks.Around.TheVariants.{Nothing}
 use Rattle.al_types.specs.Types.{Type', Any, Null, Number, Bool', String, ArrayOf, Optional, Absent, Present}
 use Rattle.al_types.specs.Types.{fuse_optional, option_of, or_any}
-use Rattle.al_yaml_tree.specs.Access.{scalar_in}
+use Rattle.al_yaml_tree.specs.Access.{mapping_in, scalar_in}
 use Rattle.al_yaml_tree.specs.Node.{Node, Nodes, Entries, scalar, sequence, mapping, no_nodes, item, no_entries, entry}
+use Rattle.al_yaml_tree.specs.View.{entries_of, nodes_of}
 use Rattle.al_tree.specs.Faults.{has_chunk}
 use Rattle.al_tree.specs.Keys.{key_of, key_text}
 use Rattle.al_tree.specs.Names.{is_combination_key}
 use Rattle.al_tree.specs.Values.{entries_in, items_in, value_at, value_below}
 use Rattle.al_check_objects.specs.Objects.{loose_any, strictly}
-use Rattle.al_types.specs.Puts.{TypedName, firsts, put_or_fuse, put_all, put_new}
+use Rattle.al_types.specs.Puts.{TypedName, firsts, put_or_fuse, put_all}
 
 -- a scalar by its class; one with `${{` is any where it is one expression, else a string
 abbrev pub class_type : Class → Type'
@@ -34,22 +35,20 @@ abbrev mutual
   pub node_type : Node → Type'
   node_type (scalar s at) = matrix_scalar_type s
   node_type (sequence ns at) = ArrayOf (or_any (option_of (items_type Absent ns)))
-  node_type (mapping es at) = strictly (entries_types [] es)
+  node_type (mapping es at) = strictly (firsts (fields_of es))
 
   -- what some types and those of these items have in common
   pub items_type : Optional → Nodes → Optional
   items_type sofar no_nodes = sofar
   items_type sofar (item n ns) = items_type (fuse_optional sofar (Present (node_type n))) ns
 
-  -- fields, and those of these entries
-  pub entries_types : List TypedName → Entries → List TypedName
-  entries_types ts no_entries = ts
-  entries_types ts (entry k v es) = entries_types (put_new ts (key_text k, node_type v)) es
+  pub fields_of : Entries → List TypedName
+  fields_of no_entries = []
+  fields_of (entry k v es) = (key_text k, node_type v) ∷ fields_of es
 
--- of a row: what its entries have in common
+-- of a row: what its items have in common, any of none
 abbrev pub row_type : Node → Type'
-row_type (sequence ns at) = or_any (option_of (items_type Absent ns))
-row_type _ = Any
+row_type n = or_any (option_of (items_type Absent (nodes_of (items_in n))))
 
 -- the rows of a matrix, of which each has a name
 abbrev pub row_field : Node × Node → Option TypedName
@@ -60,8 +59,7 @@ rows_of n = firsts (filter_map row_field (entries_in n))
 
 -- the entries of one combination
 abbrev pub combination : Node → List TypedName
-combination (mapping es at) = entries_types [] es
-combination _ = []
+combination n = option_map_or (λ es. firsts (fields_of (entries_of es))) (mapping_in n) []
 
 abbrev pub include_all : List TypedName → List Node → List TypedName
 include_all = fold (λ ts n. put_all put_or_fuse ts (combination n))
@@ -75,10 +73,9 @@ abbrev pub with_combinations : List TypedName → Option Node → Type'
 with_combinations rows None = strictly rows
 with_combinations rows (Some n) = if is_open_include n then loose_any else strictly (include_all rows (items_in n))
 
+-- of a scalar, as an expression is, any field
 abbrev pub matrix_of : Node → Type'
-matrix_of (scalar s at) = loose_any
-matrix_of (sequence ns at) = strictly []
-matrix_of (mapping es at) = with_combinations (rows_of (mapping es at)) (value_at (codes "include") (mapping es at))
+matrix_of n = if is_some (scalar_in n) then loose_any else with_combinations (rows_of n) (value_at (codes "include") n)
 
 -- of a job; without a matrix it has no properties
 abbrev pub matrix_type : Node → Type'

@@ -1,16 +1,16 @@
 //! The type of `matrix`.
-ghost use Rattle.std.specs.Prelude.{◌≡◌, [], codes, is_some, map, option_map, IfOk, List, OnOk, true};
+ghost use Rattle.std.specs.Prelude.{◌≡◌, is_some, map, option_map, IfOk, List, OnOk, true};
 ghost use Rattle.std.specs.List.{list_any};
 ghost use Rattle.std.specs.Option.{option_to_list};
 ghost use Rattle.al_base.specs.Growth.{BeginsWith};
 ghost use Rattle.al_check_objects.specs.Matrix as matrix;
-ghost use Rattle.al_check_objects.specs.Matrix.{entries_types, include_all, items_type, row_field, rows_of};
+ghost use Rattle.al_check_objects.specs.Matrix.{fields_of, include_all, items_type, row_field, rows_of};
 ghost use Rattle.al_check_objects.specs.Objects.{strictly};
 ghost use Rattle.al_check_objects.specs.Numbers.{Lists, Means};
 ghost use Rattle.al_expr_types.specs.Tables.{is_known, objects_of};
 ghost use Rattle.al_expr_types.specs.declared.types.Types as declared;
-ghost use Rattle.al_tree.specs.Values.{member_of, value_at};
-ghost use Rattle.al_types.specs.Puts.{TypedName, put_all, put_new};
+ghost use Rattle.al_tree.specs.Values.{member_of};
+ghost use Rattle.al_types.specs.Puts.{TypedName, firsts, put_all, put_new};
 ghost use Rattle.al_types.specs.Types.{Absent, ArrayOf, Type', option_of, or_any};
 ghost use Rattle.al_yaml_tree.specs.Access.{scalar_in};
 ghost use Rattle.al_yaml_tree.specs.View.{entries_of, entry_view, nodes_of, view};
@@ -106,7 +106,7 @@ fn entries_type<'a>(
 ) -> Result<Ty, AllocError>
     ensures ty { IfOk result
         (λ t. Means types.new t
-        (strictly (entries_types [] (entries_of (map entry_view entries.entry.now))))) }
+        (strictly (firsts (fields_of (entries_of (map entry_view entries.entry.now)))))) }
     ensures kept { OnOk result (BeginsWith (objects_of types.new) (objects_of types.old)) }
 {
     let mut fields = FieldList::new(alloc);
@@ -117,21 +117,6 @@ fn entries_type<'a>(
     }
     let ty = fields.into_type(alloc, types, None)?;
     Ok(ty)
-}
-
-/// The type of a row.
-fn row_type<'a>(alloc: Global, types: &mut Types<'a>, row: &'a Node) -> Result<Ty, AllocError>
-    ensures ty { IfOk result (λ t. Means types.new t (matrix.row_type (view row.entry.now))) }
-    ensures kept { OnOk result (BeginsWith (objects_of types.new) (objects_of types.old)) }
-{
-    match &row.kind {
-        Kind::Sequence(nodes) => {
-            let ty = items_type(alloc, types, nodes.as_slice())?;
-            Ok(ty)
-        }
-        Kind::Scalar(_) | Kind::Mapping(_) => Ok(Ty::ANY),
-        Kind::Shared(inner) => row_type(alloc, types, inner),
-    }
 }
 
 /// Rows, and that of an entry, where it is one.
@@ -149,7 +134,7 @@ fn and_row<'a>(
     if is_combination_key(key_text(entry.key)) {
         return Ok(rows);
     }
-    let ty = row_type(alloc, types, entry.value)?;
+    let ty = items_type(alloc, types, items(entry.value))?;
     let more = rows.and(alloc, key_text(entry.key), ty)?;
     Ok(more)
 }
@@ -175,14 +160,11 @@ fn combination<'a>(alloc: Global, types: &mut Types<'a>, node: &'a Node) -> Resu
         (λ t. Means types.new t (strictly (matrix.combination (view node.entry.now)))) }
     ensures kept { OnOk result (BeginsWith (objects_of types.new) (objects_of types.old)) }
 {
-    match &node.kind {
-        Kind::Mapping(entries) => {
-            let ty = entries_type(alloc, types, entries.as_slice())?;
-            Ok(ty)
-        }
-        Kind::Scalar(_) | Kind::Sequence(_) => no_fields(alloc, types),
-        Kind::Shared(inner) => combination(alloc, types, inner),
-    }
+    let Some(entries) = node.mapping() else {
+        return no_fields(alloc, types);
+    };
+    let ty = entries_type(alloc, types, entries)?;
+    Ok(ty)
 }
 
 /// What an object of rows and one of each combination have in common: to combinations a matrix is an object as to its rows.
@@ -256,29 +238,17 @@ fn with_combinations<'a>(
     }
 }
 
-/// The type of a matrix that is a mapping.
-fn mapped_matrix<'a>(alloc: Global, types: &mut Types<'a>, node: &'a Node) -> Result<Ty, AllocError>
-    ensures ty { IfOk result (λ t. Means types.new t
-        (matrix.with_combinations (rows_of (view node.entry.now))
-        (value_at (codes "include") (view node.entry.now)))) }
-    ensures kept { OnOk result (BeginsWith (objects_of types.new) (objects_of types.old)) }
-{
-    let rows = rows_type(alloc, types, node)?;
-    let ty = with_combinations(alloc, types, rows, value(node, "include"))?;
-    Ok(ty)
-}
-
 /// The type of a matrix.
 fn matrix_of<'a>(alloc: Global, types: &mut Types<'a>, node: &'a Node) -> Result<Ty, AllocError>
     ensures ty { IfOk result (λ t. Means types.new t (matrix.matrix_of (view node.entry.now))) }
     ensures kept { OnOk result (BeginsWith (objects_of types.new) (objects_of types.old)) }
 {
-    match &node.kind {
-        Kind::Scalar(_) => loose_any(alloc, types),
-        Kind::Sequence(_) => no_fields(alloc, types),
-        Kind::Mapping(_) => mapped_matrix(alloc, types, node),
-        Kind::Shared(inner) => matrix_of(alloc, types, inner),
+    if is_scalar(node) {
+        return loose_any(alloc, types);
     }
+    let rows = rows_type(alloc, types, node)?;
+    let ty = with_combinations(alloc, types, rows, value(node, "include"))?;
+    Ok(ty)
 }
 
 /// The type of `matrix` in a job: of a job without one an object without fields.

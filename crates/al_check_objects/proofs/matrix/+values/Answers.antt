@@ -2,14 +2,14 @@ use Rattle.std.proofs.Common.{◌∙◌, ap, arith, length, map, refl, sym}
 use Rattle.std.proofs.lemmas.List.{drop_all}
 use Rattle.al_base.proofs.Growing.{begins_trans}
 use Rattle.al_tree.specs.Keys.{key_of}
-use Rattle.al_types.specs.Puts.{put_new}
+use Rattle.al_types.specs.Puts.{put_all, put_new}
 use Rattle.al_types.specs.Types.{Present, fuse_optional}
 use Rattle.al_yaml_tree.specs.View.{entries_of, entry_view, view}
 use Rattle.al_yaml_tree.proofs.ViewLemmas.{entry_parts}
 use Rattle.al_expr_types.specs.Joining.{join_in}
 use Rattle.al_expr_types.specs.Tables.{objects_of}
 use Rattle.al_expr_types.proofs.Keeping.{joined_longer, joined_wider, longer}
-use Rattle.al_check_objects.specs.Matrix.{entries_types, node_type}
+use Rattle.al_check_objects.specs.Matrix.{fields_of, node_type}
 use Rattle.al_check_objects.specs.Objects.{strictly}
 use Rattle.al_check_objects.specs.Numbers.{fields_in}
 use Rattle.al_check_objects.proofs.Numbers.{lists_stay, means_as}
@@ -58,5 +58,5 @@ entries_type-returns-clause-ty t c =
     let fields = fields_in (objects_of types) c.loop-entry.fields.map in
     let none = drop_all c.loop-entry.entry-index c.args.entries.now (omega (arith, c.loop-entry-test.false)) in
     means_as c.into_type.new.types c.in_ok-ty-2.ty _ _
-    (ap strictly (sym (ap (λ ys. entries_types fields (entries_of (map entry_view ys))) none) ∙ was.all))
+    (ap strictly (sym (ap (λ ys. put_all put_new fields (fields_of (entries_of (map entry_view ys)))) none) ∙ was.all))
     (c.in_ok-ty-2.ensures.ty fields (record { known = was.known; are = refl }))
