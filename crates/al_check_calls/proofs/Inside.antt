@@ -12,11 +12,11 @@ use Rattle.al_base.specs.declared.faults.Fault.{Fault}
 use Rattle.al_base.specs.declared.faults.Span.{Span}
 use Rattle.al_types.specs.Types.{Type', assignable_type}
 use Rattle.al_check_objects.specs.Inputs.{input_type}
-use Rattle.al_tree_declarations.specs.Declarations.{named_among, names_of}
+use Rattle.al_tree_declarations.specs.Declarations.{named_among}
 use Rattle.al_scalar.specs.Scalar.{Scalar}
 use Rattle.al_yaml_tree.specs.Node.{Node, scalar, sequence, mapping, span_of}
 use Rattle.al_yaml_tree.specs.Spans.{IsInside}
-use Rattle.al_tree.specs.Keys.{key_of}
+use Rattle.al_tree.specs.Keys.{key_of, keys_in}
 use Rattle.al_tree.specs.Values.{entries_at}
 use Rattle.al_check_interfaces.specs.Parameters.{is_parameter, mandatory_of}
 use Rattle.al_check_interfaces.specs.Kinds.{parameters_of}
@@ -77,7 +77,7 @@ module _ (size : ℕ) where
 
   missing_lies : (k : ParameterKind) (c : Call) (s : Signature) → LiesIn size c.at → (i : Parameter) → AllLie (missing_name k c s i)
   missing_lies k c s at i =
-      unless (named_among (names_of (given_by k c.site.node)) i.name) (call_fault (missing_code k) c c.at (i.name ∷ called_name c s ∷ []) ∷ [])
+      unless (named_among (keys_in (given_by k c.site.node)) i.name) (call_fault (missing_code k) c c.at (i.name ∷ called_name c s ∷ []) ∷ [])
       (one_lies (missing_code k) c c.at (i.name ∷ called_name c s ∷ []) at)
 
   entries_lie : (k : List ℕ) (n : Node) → IsInside size n → AllByRecursion Pair (entries_at k n)

@@ -16,9 +16,9 @@ use Rattle.al_scalar.specs.Scalar.{Scalar, text_of}
 use Rattle.al_types.specs.Types.{Type', Any, assignable_type}
 use Rattle.al_yaml_tree.specs.Access.{scalar_in}
 use Rattle.al_yaml_tree.specs.Node.{Node, span_of}
-use Rattle.al_tree.specs.Keys.{key_of}
+use Rattle.al_tree.specs.Keys.{key_of, keys_in}
 use Rattle.al_tree.specs.Values.{entries_at, text_at_key}
-use Rattle.al_tree_declarations.specs.Declarations.{named_among, names_of}
+use Rattle.al_tree_declarations.specs.Declarations.{named_among}
 use Rattle.al_check_objects.specs.Inputs.{input_type}
 use Rattle.al_tree_declarations.specs.declared.inputs.InputType.{InputType}
 use Rattle.al_tree_declarations.specs.declared.inputs.InputType.TheVariants as input
@@ -96,7 +96,7 @@ undefined_name k c s e =
 
 abbrev pub missing_name : ParameterKind → Call → Signature → Parameter → List Fault
 missing_name k c s p =
-    if named_among (names_of (given_by k c.site.node)) p.name then []
+    if named_among (keys_in (given_by k c.site.node)) p.name then []
     else call_fault (missing_code k) c c.at (p.name ∷ called_name c s ∷ []) ∷ []
 
 abbrev pub names_against : ParameterKind → Call → Signature → List Fault

@@ -2,7 +2,6 @@
 //! by one `uses` a parameter is looked up as long as all of them so far have given it, and is said where the first doesn't.
 ghost use Rattle.std.specs.Prelude.{◌≡◌, ◌++◌, ◌∷◌, [], map, IfOk, IfSome, OnOk};
 ghost use Rattle.al_base.specs.NamePlaces.{name_place, name_position};
-ghost use Rattle.al_tree_declarations.specs.Declarations.{names_of};
 ghost use Rattle.std.specs.List.{flat_map};
 ghost use Rattle.std.specs.List.Sorted.{IsPermutation};
 ghost use Rattle.al_base.specs.Growth.{SameSet};
@@ -10,6 +9,7 @@ ghost use Rattle.al_check_calls.specs.CallFaults as meant;
 ghost use Rattle.al_check_calls.specs.Private.AnswerViews.{compared_of};
 ghost use Rattle.al_check_calls.specs.Private.Comparing as comparing;
 ghost use Rattle.al_check_calls.specs.Private.Comparing.{HaveOneSignature, IsSaid, TellSignatures};
+ghost use Rattle.al_tree.specs.Keys.{keys_in};
 ghost use Rattle.al_tree.specs.Values.{member_of};
 
 use crate::comparisons::{Comparison, call_alike, given_by};
@@ -28,7 +28,7 @@ struct Giver<'a> {
 
 /// The texts of the keys of members.
 fn texts_of<'a>(alloc: Global, given: &[Member<'a>]) -> Result<Vec<&'a [u8]>, AllocError>
-    ensures { IfOk result (λ v. map (λ n. n.now) v.items ≡ names_of (map member_of given.now)) }
+    ensures { IfOk result (λ v. map (λ n. n.now) v.items ≡ keys_in (map member_of given.now)) }
 {
     let mut texts = Vec::with_capacity(alloc, given.len())?;
     for member in given {
@@ -40,7 +40,7 @@ fn texts_of<'a>(alloc: Global, given: &[Member<'a>]) -> Result<Vec<&'a [u8]>, Al
 /// The keys of members, as names.
 fn names_in(alloc: Global, given: &[Member<'_>]) -> Result<NamePositions, AllocError>
     ensures { IfOk result
-        (λ p. name_position p ≡ name_place (names_of (map member_of given.now))) }
+        (λ p. name_position p ≡ name_place (keys_in (map member_of given.now))) }
 {
     let texts = texts_of(alloc, given)?;
     let names = NamePositions::of(alloc, texts.as_slice())?;
@@ -51,7 +51,7 @@ fn giver_of<'a>(alloc: Global, call: Comparison<'a>) -> Result<Giver<'a>, AllocE
     ensures call { IfOk result (λ g. compared_of g.call ≡ compared_of call.entry) }
     ensures names { let q = compared_of call.entry in IfOk result
         (λ g. name_position g.names
-        ≡ name_place (names_of (meant.given_by q.kind q.call.site.node))) }
+        ≡ name_place (keys_in (meant.given_by q.kind q.call.site.node))) }
 {
     let given = given_by(alloc, call.kind, call.call.site.node)?;
     let names = names_in(alloc, given.as_slice())?;
@@ -85,7 +85,7 @@ fn report_missing(
 /// Whether a call gives a parameter.
 fn is_given(alloc: Global, giver: &Giver<'_>, parameter: &Parameter) -> Result<bool, AllocError>
     requires { let q = compared_of giver.now.call in name_position giver.now.names
-        ≡ name_place (names_of (meant.given_by q.kind q.call.site.node)) }
+        ≡ name_place (keys_in (meant.given_by q.kind q.call.site.node)) }
     ensures { IfOk result
         (λ b. b ≡ comparing.gives (compared_of giver.now.call) parameter.now) }
 {
@@ -101,7 +101,7 @@ fn check_parameter<'a>(
     faults: &mut FaultSink,
 ) -> Result<(), AllocError>
     requires { let q = compared_of giver.now.call in name_position giver.now.names
-        ≡ name_place (names_of (meant.given_by q.kind q.call.site.node)) }
+        ≡ name_place (keys_in (meant.given_by q.kind q.call.site.node)) }
     ensures faults { OnOk result (faults.new ≡ faults.old
         ++ comparing.fault_unless_given (compared_of giver.now.call) parameter.entry.now) }
     ensures left { OnOk result (map (λ p. p.now) left.new.items

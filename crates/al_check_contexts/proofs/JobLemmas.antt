@@ -11,9 +11,9 @@ use Rattle.std.proofs.lemmas.List.{length-map}
 use Rattle.al_types.specs.Strings.{named_strings}
 use Rattle.al_types.specs.Types.{Any}
 use Rattle.al_yaml_tree.specs.Node.{Node}
-use Rattle.al_tree.specs.Keys.{key_of}
+use Rattle.al_tree.specs.Keys.{key_of, keys_in}
 use Rattle.al_tree.specs.Values.{entries_at}
-use Rattle.al_tree_declarations.specs.Declarations.{has_value, names_of}
+use Rattle.al_tree_declarations.specs.Declarations.{has_value}
 use Rattle.al_check_objects.specs.Objects.{loose_any}
 use Rattle.al_check_contexts.specs.Contexts.{OutputNames, dependency, job_field}
 use Rattle.al_base.specs.Growth.{BeginsWith}
@@ -56,12 +56,12 @@ no_dependency k (x ∷ js) n e =
 -- what a job shows that calls a workflow, and one that doesn't
 pub shown_called : (k : OutputNames) (j : Node × Node) → has_value (codes "uses") j.1 ≡ true → shown_with (option_map_or named_strings (k (Some (key_of j)) None) loose_any) ≡ (job_field k j).1
 shown_called k j e =
-    sym (ap (λ b. shown_with (if b then option_map_or named_strings (k (Some (key_of j)) None) loose_any else named_strings (names_of (entries_at (codes "outputs") j.1)))) e)
+    sym (ap (λ b. shown_with (if b then option_map_or named_strings (k (Some (key_of j)) None) loose_any else named_strings (keys_in (entries_at (codes "outputs") j.1)))) e)
 
 pub shown_own : (k : OutputNames) (j : Node × Node) → has_value (codes "uses") j.1 ≡ false →
-    shown_with (named_strings (names_of (entries_at (codes "outputs") j.1))) ≡ (job_field k j).1
+    shown_with (named_strings (keys_in (entries_at (codes "outputs") j.1))) ≡ (job_field k j).1
 shown_own k j e =
-    sym (ap (λ b. shown_with (if b then option_map_or named_strings (k (Some (key_of j)) None) loose_any else named_strings (names_of (entries_at (codes "outputs") j.1)))) e)
+    sym (ap (λ b. shown_with (if b then option_map_or named_strings (k (Some (key_of j)) None) loose_any else named_strings (keys_in (entries_at (codes "outputs") j.1)))) e)
 
 -- ---- in longer tables
 

@@ -9,7 +9,7 @@ use Rattle.al_types.specs.Types.{Type', Any, String}
 use Rattle.al_types.specs.declared.names.Context.{Context}
 use Rattle.al_types.specs.declared.names.Context.TheVariants as context
 use Rattle.al_yaml_tree.specs.Node.{Node}
-use Rattle.al_tree.specs.Keys.{key_of}
+use Rattle.al_tree.specs.Keys.{key_of, keys_in}
 use Rattle.al_tree.specs.Values.{entries_at, items_at, text_at_key, texts_at}
 use Rattle.al_tree.specs.Files.{jobs_of}
 use Rattle.al_tree.specs.declared.files.FileKind.{FileKind}
@@ -17,7 +17,7 @@ use Rattle.al_tree.specs.declared.files.FileKind.TheVariants as kind
 use Rattle.al_check_places.specs.Positions.{Position, Section, apart, in_job}
 use Rattle.al_check_places.specs.declared.positions.Seen.{Seen}
 use Rattle.al_check_places.specs.declared.positions.Seen.TheVariants.{Nothing as no_step, Before as before, Everything as every_step}
-use Rattle.al_tree_declarations.specs.Declarations.{action_steps, has_value, is_composite, names_of}
+use Rattle.al_tree_declarations.specs.Declarations.{action_steps, has_value, is_composite}
 use Rattle.al_check_objects.specs.Fixed.{github_type, runner_type, job_type, strategy_type}
 use Rattle.al_check_objects.specs.Inputs.{inputs_type}
 use Rattle.al_check_objects.specs.Matrix.{matrix_type}
@@ -59,7 +59,7 @@ steps_type known owner seen =
 abbrev pub job_outputs : OutputNames → Node × Node → Type'
 job_outputs known j =
     if has_value (codes "uses") j.1 then option_map_or named_strings (known (Some (key_of j)) None) loose_any
-    else named_strings (names_of (entries_at (codes "outputs") j.1))
+    else named_strings (keys_in (entries_at (codes "outputs") j.1))
 
 abbrev pub job_field : OutputNames → Node × Node → TypedName
 job_field known j =

@@ -2,9 +2,9 @@
 ghost use Rattle.std.specs.Prelude.{◌≡◌, ◌<◌, IfOk, length, map, option_map, slice_get};
 ghost use Rattle.al_base.specs.NamePlaces.{name_place, name_position, text_place, text_position};
 ghost use Rattle.al_check_places.specs.Positions.{section_view};
+ghost use Rattle.al_tree.specs.Keys.{keys_in};
 ghost use Rattle.al_tree.specs.Values.{member_of};
 ghost use Rattle.al_tree.specs.Files.{jobs_of};
-ghost use Rattle.al_tree_declarations.specs.Declarations.{names_of};
 ghost use Rattle.al_yaml_tree.specs.View.{view};
 ghost use Rattle.al_check_contexts.specs.Contexts.{job_in};
 
@@ -23,8 +23,8 @@ pub(crate) struct JobList<'a> {
     keys: TextPositions<'a>,
     /// Where each key first stands, without regard to ASCII case.
     names: NamePositions,
-    ghost by_key: { text_position keys ≡ text_place (names_of (map member_of members.items)) },
-    ghost by_name: { name_position names ≡ name_place (names_of (map member_of members.items)) },
+    ghost by_key: { text_position keys ≡ text_place (keys_in (map member_of members.items)) },
+    ghost by_name: { name_position names ≡ name_place (keys_in (map member_of members.items)) },
 }
 
 impl<'a> JobList<'a> {
@@ -80,7 +80,7 @@ impl<'a> JobList<'a> {
         name: &[u8],
     ) -> Result<Option<usize>, AllocError>
         ensures { IfOk result
-            (λ i. i ≡ name_place (names_of (map member_of self.now.members.items)) name.now) }
+            (λ i. i ≡ name_place (keys_in (map member_of self.now.members.items)) name.now) }
     {
         let i = self.names.get(alloc, name)?;
         Ok(i)

@@ -11,8 +11,8 @@ ghost use Rattle.al_check_objects.specs.Objects as objects;
 ghost use Rattle.al_expr_types.specs.Tables.{is_known, objects_of, type_at};
 ghost use Rattle.al_expr_types.specs.declared.types.Types as declared;
 ghost use Rattle.al_check_contexts.specs.declared.known.Outputs as outputs;
+ghost use Rattle.al_tree.specs.Keys.{keys_in};
 ghost use Rattle.al_tree.specs.Values.{entries_at, member_of};
-ghost use Rattle.al_tree_declarations.specs.Declarations.{names_of};
 ghost use Rattle.al_types.specs.Puts.{TypedName, put_all, put_new};
 ghost use Rattle.al_types.specs.Strings.{named_strings};
 ghost use Rattle.al_yaml_tree.specs.Node as tree;
@@ -119,7 +119,7 @@ fn own_type<'a>(
     requires { KeepsBare types.old made.old }
     ensures ty { IfOk result (λ t. Means types.new t
         (shown_with (named_strings
-        (names_of (entries_at (codes "outputs") (view (job.entry).value.now)))))) }
+        (keys_in (entries_at (codes "outputs") (view (job.entry).value.now)))))) }
     ensures keeps { OnOk result (KeepsBare types.new made.new) }
     ensures kept { OnOk result (BeginsWith (objects_of types.new) (objects_of types.old)) }
 {

@@ -13,11 +13,11 @@ use Rattle.al_base.specs.Spans.{span}
 use Rattle.al_yaml_tree.specs.Access.{entries, mapping_in, nodes, scalar_in, sequence_in}
 use Rattle.al_yaml_tree.specs.Node.{Node, Nodes, Entries, scalar, sequence, mapping, no_nodes, item, no_entries, entry}
 use Rattle.al_tree.specs.Faults.{is_key, is_null, value_in}
-use Rattle.al_tree.specs.Keys.{key_of, key_text}
+use Rattle.al_tree.specs.Keys.{key_of, key_text, keys_in}
 use Rattle.al_tree.specs.Values.{entries_in, firsts_by, text_at_key, text_in, texts_in, value_at, value_below}
 use Rattle.al_tree.specs.declared.files.FileKind.{FileKind}
 use Rattle.al_tree.specs.declared.files.FileKind.TheVariants as kind
-use Rattle.al_tree_declarations.specs.Declarations.{declared_below, declared_in, has_value, named_among, names_of, says}
+use Rattle.al_tree_declarations.specs.Declarations.{declared_below, declared_in, has_value, named_among, says}
 use Rattle.al_tree_declarations.specs.Inputs.{input_named, input_of}
 use Rattle.al_tree_declarations.specs.declared.inputs.InputType.TheVariants as input
 use Rattle.al_check_interfaces.specs.Interfaces.{has_default, is_required, is_true, name_of}
@@ -255,8 +255,8 @@ parameters_same : (by : Declaring) (ks : List (List ℕ)) (n : Node) → paramet
 parameters_same by ks n =
     ap (map (parameter by)) (declared_below_same ks n) ∙ mapped_same (parameter by) (parameter_same by) (declared_below ks n)
 
-outputs_same : (ks : List (List ℕ)) (n : Node) → names_of (declared_below ks (placeless n)) ≡ names_of (declared_below ks n)
-outputs_same ks n = ap names_of (declared_below_same ks n) ∙ mapped_same key_of key_same (declared_below ks n)
+outputs_same : (ks : List (List ℕ)) (n : Node) → keys_in (declared_below ks (placeless n)) ≡ keys_in (declared_below ks n)
+outputs_same ks n = ap keys_in (declared_below_same ks n) ∙ mapped_same key_of key_same (declared_below ks n)
 
 name_of_text : (o : Option (Scalar × Span)) →
     option_map (λ t. text_of t.0) (option_map placeless_text o) ≡ option_map (λ t. text_of t.0) o

@@ -8,11 +8,11 @@ use Rattle.al_scalar.specs.Scalar.{text_of}
 use Rattle.al_base.specs.Names.{same_name}
 use Rattle.al_yaml_tree.specs.Access.{scalar_in}
 use Rattle.al_yaml_tree.specs.Node.{Node, mapping}
-use Rattle.al_tree.specs.Keys.{key_of}
+use Rattle.al_tree.specs.Keys.{key_of, keys_in}
 use Rattle.al_tree.specs.Values.{text_at_key, texts_in, value_at}
 use Rattle.al_tree.specs.declared.files.FileKind.{FileKind}
 use Rattle.al_tree.specs.declared.files.FileKind.TheVariants as kind
-use Rattle.al_tree_declarations.specs.Declarations.{declared_below, has_value, is_composite, names_of}
+use Rattle.al_tree_declarations.specs.Declarations.{declared_below, has_value, is_composite}
 use Rattle.al_tree_declarations.specs.Inputs.{input_of}
 use Rattle.al_tree_declarations.specs.declared.inputs.InputType.{InputType}
 use Rattle.al_tree_declarations.specs.declared.inputs.InputType.TheVariants as input
@@ -65,14 +65,14 @@ signature_of kind.Workflow n = record {
       else role.Workflow;
   inputs = parameters declared.CallInputs (of_call (codes "inputs")) n;
   secrets = parameters declared.Secrets (of_call (codes "secrets")) n;
-  outputs = names_of (declared_below (of_call (codes "outputs")) n);
+  outputs = keys_in (declared_below (of_call (codes "outputs")) n);
 }
 signature_of kind.Action n = record {
   name = name_of n;
   role = if is_composite n then role.Composite else role.Action;
   inputs = parameters declared.ActionInputs (codes "inputs" ∷ []) n;
   secrets = [];
-  outputs = names_of (declared_below (codes "outputs" ∷ []) n);
+  outputs = keys_in (declared_below (codes "outputs" ∷ []) n);
 }
 
 -- of a file with this root

@@ -2,8 +2,9 @@
 ghost use Rattle.std.specs.Prelude.{◌≡◌, [], map, option_map, IfOk};
 ghost use Rattle.std.specs.List.{list_any};
 ghost use Rattle.std.specs.Option.{option_map_or};
-ghost use Rattle.al_tree_declarations.specs.Declarations.{declared_in, names_of};
+ghost use Rattle.al_tree_declarations.specs.Declarations.{declared_in};
 ghost use Rattle.al_scalar.specs.Scalar.{text_of};
+ghost use Rattle.al_tree.specs.Keys.{keys_in};
 ghost use Rattle.al_tree.specs.Values.{member_of, scalar_node_of};
 ghost use Rattle.al_tree.specs.declared.files.FileKind.TheVariants as kind;
 ghost use Rattle.al_yaml_tree.specs.View.{view};
@@ -114,7 +115,7 @@ fn parameters(alloc: Global, by: Declaring, node: Option<&Node>) -> Result<Param
 
 /// The names of members.
 fn names(alloc: Global, members: &[Member<'_>]) -> Result<NameList, AllocError>
-    ensures { IfOk result (λ ns. ns ≡ names_of (map member_of members.now)) }
+    ensures { IfOk result (λ ns. ns ≡ keys_in (map member_of members.now)) }
 {
     let mut names = Vec::new(alloc);
     for member in members {
@@ -127,7 +128,7 @@ fn names(alloc: Global, members: &[Member<'_>]) -> Result<NameList, AllocError>
 /// The names of what a mapping declares, where there is one.
 fn declared_names(alloc: Global, node: Option<&Node>) -> Result<NameList, AllocError>
     ensures { IfOk result (λ ns. ns
-        ≡ names_of (option_map_or declared_in (option_map (λ n. view n.now) node.entry) [])) }
+        ≡ keys_in (option_map_or declared_in (option_map (λ n. view n.now) node.entry) [])) }
 {
     let declared = declared_at(alloc, node)?;
     names(alloc, declared.as_slice())

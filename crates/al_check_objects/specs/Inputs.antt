@@ -2,10 +2,10 @@
 use Rattle.std.specs.Prelude.{ℕ, List, [], ◌∷◌, codes, map}
 use Rattle.al_types.specs.Types.{Type', Number, Bool', String}
 use Rattle.al_yaml_tree.specs.Node.{Node}
-use Rattle.al_tree.specs.Keys.{key_of}
+use Rattle.al_tree.specs.Keys.{key_of, keys_in}
 use Rattle.al_tree.specs.declared.files.FileKind.{FileKind}
 use Rattle.al_tree.specs.declared.files.FileKind.TheVariants as kind
-use Rattle.al_tree_declarations.specs.Declarations.{declared_below, names_of}
+use Rattle.al_tree_declarations.specs.Declarations.{declared_below}
 use Rattle.al_tree_declarations.specs.Inputs.{input_of}
 use Rattle.al_tree_declarations.specs.declared.inputs.InputType.{InputType}
 use Rattle.al_tree_declarations.specs.declared.inputs.InputType.TheVariants as input
@@ -30,4 +30,4 @@ event_inputs event root = map input_field (declared_below (codes "on" ∷ event 
 abbrev pub inputs_type : FileKind → Node → Type'
 inputs_type kind.Workflow root =
     strictly (put_all put_or_fuse (event_inputs (codes "workflow_call") root) (event_inputs (codes "workflow_dispatch") root))
-inputs_type kind.Action root = named_strings (names_of (declared_below (codes "inputs" ∷ []) root))
+inputs_type kind.Action root = named_strings (keys_in (declared_below (codes "inputs" ∷ []) root))

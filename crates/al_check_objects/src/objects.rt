@@ -6,8 +6,8 @@ ghost use Rattle.al_check_objects.specs.Objects as objects;
 ghost use Rattle.al_check_objects.specs.Objects.{strictly};
 ghost use Rattle.al_check_objects.specs.Numbers.{Means};
 ghost use Rattle.al_expr_types.specs.Tables.{objects_of};
+ghost use Rattle.al_tree.specs.Keys.{keys_in};
 ghost use Rattle.al_tree.specs.Values.{member_of};
-ghost use Rattle.al_tree_declarations.specs.Declarations.{names_of};
 ghost use Rattle.al_types.specs.Strings.{named_strings};
 
 use crate::field_lists::FieldList;
@@ -44,7 +44,7 @@ pub fn loose_any(alloc: Global, types: &mut Types<'_>) -> Result<Ty, AllocError>
 
 /// The keys of entries.
 pub fn key_texts<'a>(alloc: Global, entries: &[Member<'a>]) -> Result<Vec<&'a [u8]>, AllocError>
-    ensures { IfOk result (λ v. map (λ n. n.now) v.items ≡ names_of (map member_of entries.now)) }
+    ensures { IfOk result (λ v. map (λ n. n.now) v.items ≡ keys_in (map member_of entries.now)) }
 {
     let mut keys = Vec::new(alloc);
     for entry in entries {
@@ -60,7 +60,7 @@ pub fn declared_strings<'a>(
     entries: &[Member<'a>],
 ) -> Result<Ty, AllocError>
     ensures ty { IfOk result
-        (λ t. Means types.new t (named_strings (names_of (map member_of entries.now)))) }
+        (λ t. Means types.new t (named_strings (keys_in (map member_of entries.now)))) }
     ensures kept { OnOk result (BeginsWith (objects_of types.new) (objects_of types.old)) }
 {
     let keys = key_texts(alloc, entries)?;

@@ -1,5 +1,5 @@
 -- Inputs, secrets and outputs that a file declares, by their names.
-use Rattle.std.specs.Prelude.{ℕ, List, [], ◌∷◌, Bool, false, codes, map, is_some}
+use Rattle.std.specs.Prelude.{ℕ, List, [], ◌∷◌, Bool, false, codes, is_some}
 use Rattle.std.specs.List.{list_any}
 use Rattle.std.specs.Option.{option_map_or}
 use Rattle.std.specs.Str.{bytes_eq}
@@ -7,7 +7,6 @@ use Rattle.al_scalar.specs.Scalar.{text_of}
 use Rattle.al_base.specs.Names.{same_name}
 use Rattle.al_yaml_tree.specs.Access.{scalar_in}
 use Rattle.al_yaml_tree.specs.Node.{Node}
-use Rattle.al_tree.specs.Keys.{key_of}
 use Rattle.al_tree.specs.Values.{entries_in, firsts_by, items_at, value_at, value_below}
 
 -- one of these texts is this name, but for ASCII case
@@ -20,9 +19,6 @@ declared_in n = firsts_by named_among [] (entries_in n)
 
 abbrev pub declared_below : List (List ℕ) → Node → List (Node × Node)
 declared_below ks n = option_map_or declared_in (value_below ks n) []
-
-abbrev pub names_of : List (Node × Node) → List (List ℕ)
-names_of = map key_of
 
 abbrev pub has_value : List ℕ → Node → Bool
 has_value k n = is_some (value_at k n)

@@ -8,8 +8,8 @@ use Rattle.al_base.specs.contracts.faults.SpanPartialEq.TheImpl as span
 use Rattle.al_base.specs.declared.codes.Caller.{Caller}
 use Rattle.al_base.specs.declared.faults.Fault.{Fault}
 use Rattle.al_yaml_tree.specs.Node.{Node, span_of}
-use Rattle.al_tree.specs.Keys.{key_of}
-use Rattle.al_tree_declarations.specs.Declarations.{named_among, names_of}
+use Rattle.al_tree.specs.Keys.{key_of, keys_in}
+use Rattle.al_tree_declarations.specs.Declarations.{named_among}
 use Rattle.al_check_interfaces.specs.Kinds.{parameters_of}
 use Rattle.al_check_interfaces.specs.Parameters.{mandatory_of}
 use Rattle.al_check_interfaces.specs.contracts.interfaces.ParameterKindPartialEq.TheImpl as kinds
@@ -113,7 +113,7 @@ abbrev pub is_by_same_uses : Comparison → Comparison → Bool
 is_by_same_uses q r = call_alike q r && span.ghosts.eq q.call.at r.call.at
 
 abbrev pub gives : Comparison → Parameter → Bool
-gives q p = named_among (names_of (given_by q.kind q.call.site.node)) p.name
+gives q p = named_among (keys_in (given_by q.kind q.call.site.node)) p.name
 
 abbrev pub missing_fault : Comparison → Parameter → Fault
 missing_fault q p = call_fault (missing_code q.kind) q.call q.call.at (p.name ∷ called_name q.call q.signature ∷ [])

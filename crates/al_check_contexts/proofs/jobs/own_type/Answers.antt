@@ -1,7 +1,7 @@
 use Rattle.std.proofs.Common.{◌∙◌, ap, map}
 use Rattle.al_base.proofs.Growing.{begins_trans}
+use Rattle.al_tree.specs.Keys.{keys_in}
 use Rattle.al_tree.specs.Values.{member_of}
-use Rattle.al_tree_declarations.specs.Declarations.{names_of}
 use Rattle.al_types.specs.Strings.{named_strings}
 use Rattle.al_expr_types.specs.Tables.{objects_of}
 use Rattle.al_check_contexts.specs.Lookups.{shown_with}
@@ -16,7 +16,7 @@ pub returns-clause-ty : goal.returns-clause-ty
 returns-clause-ty c =
     means_as c.shown_with.new.types c.in_ok-ty-2.ty _ _
     (ap shown_with (c.in_ok-outputs.ensures.ty.is
-    ∙ ap (λ es. named_strings (names_of es)) (ap (map member_of) c.as_slice.ensures.value ∙ c.in_ok-entries.ensures))) c.in_ok-ty-2.ensures.ty
+    ∙ ap (λ es. named_strings (keys_in es)) (ap (map member_of) c.as_slice.ensures.value ∙ c.in_ok-entries.ensures))) c.in_ok-ty-2.ensures.ty
 
 pub returns-clause-kept : goal.returns-clause-kept
 returns-clause-kept c =
