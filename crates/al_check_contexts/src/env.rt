@@ -80,6 +80,7 @@ fn is_same_section(a: Section<'_>, b: Section<'_>) -> bool
 }
 
 /// Goes on to another section, where no step is seen.
+#[tactic(auto, using(al_base::proofs::Growing::growth))]
 fn enter_section<'a>(
     alloc: Global,
     file: File<'a>,
@@ -156,6 +157,7 @@ fn see<'a>(file: File<'a>, env: &mut Env<'a>, seen: Seen) -> Result<(), AllocErr
 }
 
 /// Goes on to a position of the file.
+#[tactic(auto, using(al_base::proofs::Growing::growth))]
 fn go<'a>(
     alloc: Global,
     file: File<'a>,

@@ -1,13 +1,12 @@
 //! What a job shows to others, made once a file, and the types of `jobs` and `needs`.
-ghost use Rattle.std.specs.Prelude.{◌≡◌, ◌<◌, [], IfOk, OnOk, List, codes, length, option_map, true};
-ghost use Rattle.std.specs.Option.{option_map_or, option_to_list};
+ghost use Rattle.std.specs.Prelude.{◌≡◌, ◌<◌, [], IfOk, OnOk, List, codes, length, true};
+ghost use Rattle.std.specs.Option.{option_to_list};
 ghost use Rattle.al_base.specs.Growth.{BeginsWith};
 ghost use Rattle.al_check_contexts.specs.Contexts.{dependency, job_field, jobs_type, needs_type};
 ghost use Rattle.al_check_contexts.specs.Lookups.{called_at, shown_at, shown_with};
 ghost use Rattle.al_check_contexts.specs.Made.{KeepsBare, KeepsJobs, KeepsJobsOf, jobs_from, known_from};
 ghost use Rattle.al_check_contexts.specs.Caches.{Keeps};
 ghost use Rattle.al_check_objects.specs.Numbers.{Lists, Means};
-ghost use Rattle.al_check_objects.specs.Objects as objects;
 ghost use Rattle.al_expr_types.specs.Tables.{is_known, objects_of, type_at};
 ghost use Rattle.al_expr_types.specs.declared.types.Types as declared;
 ghost use Rattle.al_check_contexts.specs.declared.known.Outputs as outputs;
@@ -20,8 +19,9 @@ ghost use Rattle.al_yaml_tree.specs.View.{view};
 
 use crate::basis::Basis;
 use crate::caches::TypeCache;
-use al_check_objects::{FieldList, declared_strings, loose_any, no_fields};
-use al_expr_types::{NameList, Ty, Types};
+use crate::steps::outputs_type;
+use al_check_objects::{FieldList, declared_strings, object_of};
+use al_expr_types::{Ty, Types};
 use al_tree::{Member, key_text, members_under, texts_under};
 use al_tree_declarations::has_value;
 use al_yaml_tree::Node;
@@ -46,33 +46,17 @@ fn shown_with(alloc: Global, types: &mut Types<'_>, outputs: Ty) -> Result<Ty, A
     ensures ty { IfOk result (λ t. Means types.new t (shown_with (type_at types.old outputs))) }
     ensures kept { OnOk result (BeginsWith (objects_of types.new) (objects_of types.old)) }
 {
-    let result = FieldList::new(alloc).and(alloc, b"result", Ty::STRING)?;
-    let both = result.and(alloc, b"outputs", outputs)?;
-    let ty = both.into_type(alloc, types, None)?;
+    let ty = object_of(
+        alloc,
+        types,
+        &[(b"result", Ty::STRING), (b"outputs", outputs)],
+        None,
+    )?;
     Ok(ty)
 }
 
-/// The type of the outputs of a job that calls a workflow, by what is known of them.
-fn call_outputs_type<'a>(
-    alloc: Global,
-    types: &mut Types<'a>,
-    outputs: Option<&'a NameList>,
-) -> Result<Ty, AllocError>
-    ensures ty { IfOk result
-        (λ t. Means types.new t
-        (option_map_or named_strings (option_map (λ l. l.now) outputs.entry) objects.loose_any)) }
-    ensures kept { OnOk result (BeginsWith (objects_of types.new) (objects_of types.old)) }
-{
-    match outputs {
-        None => loose_any(alloc, types),
-        Some(names) => {
-            let ty = types.strings(names)?;
-            Ok(ty)
-        }
-    }
-}
-
 /// What a job that calls a workflow shows, by the position of the names of its outputs.
+#[tactic(auto, using(al_base::proofs::Growing::growth))]
 fn called_type<'a>(
     types: &mut Types<'a>,
     basis: &Basis<'_, 'a>,
@@ -87,13 +71,14 @@ fn called_type<'a>(
     if let Some(ty) = made.get(position) {
         return Ok(ty);
     }
-    let outputs = call_outputs_type(basis.alloc, types, basis.outputs.list(position))?;
+    let outputs = outputs_type(basis.alloc, types, basis.outputs.list(position), Ty::ANY)?;
     let ty = shown_with(basis.alloc, types, outputs)?;
     made.set(position, ty);
     Ok(ty)
 }
 
 /// What a job shows that has no outputs. It is made once.
+#[tactic(auto, using(al_base::proofs::Growing::growth))]
 fn bare_type(alloc: Global, types: &mut Types<'_>, made: &mut Option<Ty>) -> Result<Ty, AllocError>
     requires { KeepsBare types.old made.old }
     ensures ty { IfOk result (λ t. Means types.new t (shown_with (named_strings []))) }
@@ -103,13 +88,14 @@ fn bare_type(alloc: Global, types: &mut Types<'_>, made: &mut Option<Ty>) -> Res
     if let Some(ty) = *made {
         return Ok(ty);
     }
-    let outputs = no_fields(alloc, types)?;
+    let outputs = object_of(alloc, types, &[], None)?;
     let ty = shown_with(alloc, types, outputs)?;
     *made = Some(ty);
     Ok(ty)
 }
 
 /// What a job shows that calls no workflow.
+#[tactic(auto, using(al_base::proofs::Growing::growth))]
 fn own_type<'a>(
     alloc: Global,
     types: &mut Types<'a>,

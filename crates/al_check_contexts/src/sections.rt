@@ -108,6 +108,7 @@ fn jobs_at<'a>(
 }
 
 /// The types in a section, which is that of a job. Fails with `AllocError` when out of memory.
+#[tactic(auto, using(al_base::proofs::Growing::growth))]
 pub(crate) fn section_types<'a>(
     types: &mut Types<'a>,
     basis: &Basis<'_, 'a>,

@@ -11,7 +11,7 @@ ghost use Rattle.al_types.specs.declared.names.Context.TheVariants as context;
 ghost use Rattle.al_yaml_tree.specs.View.{view};
 
 use crate::env::File;
-use al_check_objects::{github_type, inputs_type, job_type, loose_strings, runner_type};
+use al_check_objects::{github_type, inputs_type, job_type, object_of, runner_type};
 use al_expr_types::{Ty, Types};
 use al_expr_typing::ContextTypes;
 use std::alloc::{AllocError, Global};
@@ -26,12 +26,13 @@ pub(crate) struct FixedTypes {
 }
 
 /// The types of contexts that are the same in every file. Fails with `AllocError` when out of memory.
+#[tactic(auto, using(al_base::proofs::Growing::growth))]
 fn fixed_types(alloc: Global, types: &mut Types<'_>) -> Result<FixedTypes, AllocError>
     ensures fixed { IfOk result (λ ts. AreFixed types.new ts) }
     ensures kept { OnOk result (BeginsWith (objects_of types.new) (objects_of types.old)) }
 {
     let github = github_type(alloc, types)?;
-    let strings = loose_strings(alloc, types)?;
+    let strings = object_of(alloc, types, &[], Some(Ty::STRING))?;
     let runner = runner_type(alloc, types)?;
     let job = job_type(alloc, types)?;
     Ok(FixedTypes {
@@ -43,6 +44,7 @@ fn fixed_types(alloc: Global, types: &mut Types<'_>) -> Result<FixedTypes, Alloc
 }
 
 /// The types of contexts at the start of a file, with that of `steps`. Fails with `AllocError` when out of memory.
+#[tactic(auto, using(al_base::proofs::Growing::growth))]
 pub(crate) fn first_types<'a>(
     alloc: Global,
     types: &mut Types<'a>,

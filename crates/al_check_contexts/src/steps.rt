@@ -1,5 +1,5 @@
 //! The type of `steps`: its fields are made once for all steps of a job or an action, and each step sees the first of them.
-ghost use Rattle.std.specs.Prelude.{◌≡◌, ◌-◌, ◌≤◌, IfOk, List, None, Option, OnOk, length, option_map, true};
+ghost use Rattle.std.specs.Prelude.{◌≡◌, ◌-◌, ◌≤◌, [], IfOk, List, None, Option, OnOk, length, option_map, true};
 ghost use Rattle.std.specs.Option.{option_copied, option_map_or, option_to_list};
 ghost use Rattle.al_base.specs.Growth.{BeginsWith};
 ghost use Rattle.al_check_contexts.specs.Contexts as contexts;
@@ -9,19 +9,19 @@ ghost use Rattle.al_check_contexts.specs.Lookups.{step_at};
 ghost use Rattle.al_check_contexts.specs.Made.{known_from};
 ghost use Rattle.al_check_contexts.specs.Caches.{Keeps};
 ghost use Rattle.al_check_objects.specs.Numbers.{Lists, Means};
-ghost use Rattle.al_check_objects.specs.Objects as objects;
 ghost use Rattle.al_check_contexts.specs.Steps.{ArePrefixes, AreSteps, AreStepsOf};
 ghost use Rattle.al_check_contexts.specs.Private.Owners.{owner_view};
 ghost use Rattle.al_expr_types.specs.Tables.{is_known, objects_of, type_at};
 ghost use Rattle.al_expr_types.specs.declared.types.Types as declared;
 ghost use Rattle.al_types.specs.Puts.{TypedName, put_all, put_new};
 ghost use Rattle.al_types.specs.Strings.{named_strings};
+ghost use Rattle.al_types.specs.Types.{Present, object_with};
 ghost use Rattle.al_yaml_tree.specs.View.{view};
 
 use crate::basis::Basis;
 use crate::caches::TypeCache;
 use crate::owners::{Owner, Step};
-use al_check_objects::{FieldList, loose_strings};
+use al_check_objects::{FieldList, object_of};
 use al_check_places::Seen;
 use al_expr_types::{FieldMap, NameList, Prefixes, Ty, Types};
 use al_tree::text_under;
@@ -42,26 +42,34 @@ fn step_with(alloc: Global, types: &mut Types<'_>, outputs: Ty) -> Result<Ty, Al
         (λ t. Means types.new t (contexts.step_type (type_at types.old outputs))) }
     ensures kept { OnOk result (BeginsWith (objects_of types.new) (objects_of types.old)) }
 {
-    let one = FieldList::new(alloc).and(alloc, b"conclusion", Ty::STRING)?;
-    let two = one.and(alloc, b"outcome", Ty::STRING)?;
-    let three = two.and(alloc, b"outputs", outputs)?;
-    let ty = three.into_type(alloc, types, None)?;
+    let ty = object_of(
+        alloc,
+        types,
+        &[
+            (b"conclusion", Ty::STRING),
+            (b"outcome", Ty::STRING),
+            (b"outputs", outputs),
+        ],
+        None,
+    )?;
     Ok(ty)
 }
 
-/// The type of the outputs of a step, by what is known of them.
-fn outputs_type<'a>(
+/// The type of the outputs of a step or a job, by what is known of them: others are of this type where nothing is.
+pub(crate) fn outputs_type<'a>(
     alloc: Global,
     types: &mut Types<'a>,
     outputs: Option<&'a NameList>,
+    others: Ty,
 ) -> Result<Ty, AllocError>
-    ensures ty { IfOk result
-        (λ t. Means types.new t
-        (option_map_or named_strings (option_map (λ l. l.now) outputs.entry) objects.loose_strings)) }
+    requires { is_known types.old others ≡ true }
+    ensures ty { IfOk result (λ t. Means types.new t
+        (option_map_or named_strings (option_map (λ l. l.now) outputs.entry)
+        (object_with [] (Present (type_at types.old others))))) }
     ensures kept { OnOk result (BeginsWith (objects_of types.new) (objects_of types.old)) }
 {
     match outputs {
-        None => loose_strings(alloc, types),
+        None => object_of(alloc, types, &[], Some(others)),
         Some(names) => {
             let ty = types.strings(names)?;
             Ok(ty)
@@ -70,6 +78,7 @@ fn outputs_type<'a>(
 }
 
 /// The type of a step, by the position of the names of its outputs. It is made once.
+#[tactic(auto, using(al_base::proofs::Growing::growth))]
 fn step_type<'a>(
     types: &mut Types<'a>,
     basis: &Basis<'_, 'a>,
@@ -84,7 +93,7 @@ fn step_type<'a>(
     if let Some(ty) = made.get(position) {
         return Ok(ty);
     }
-    let outputs = outputs_type(basis.alloc, types, basis.outputs.list(position))?;
+    let outputs = outputs_type(basis.alloc, types, basis.outputs.list(position), Ty::STRING)?;
     let ty = step_with(basis.alloc, types, outputs)?;
     made.set(position, ty);
     Ok(ty)

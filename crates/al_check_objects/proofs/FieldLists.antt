@@ -9,7 +9,7 @@ use Rattle.al_base.specs.Names.{same_name}
 use Rattle.al_types.specs.FusedFields.{are_distinct}
 use Rattle.al_types.specs.Puts.{TypedName, firsts, put_or_fuse, put_all, put_new}
 use Rattle.al_types.specs.Strings.{named_strings, strings}
-use Rattle.al_types.specs.Types.{Absent, ObjectOf, Optional, Present, String, common_in, fuse_optional, fuse_type, optional}
+use Rattle.al_types.specs.Types.{Absent, ObjectOf, Present, String, common_in, fuse_optional, fuse_type, optional}
 use Rattle.al_types.proofs.FuseLaws.{last_turned, nothing_last, optional_assoc}
 use Rattle.al_types.proofs.GatheredFields.{firsts_found, found_in_both}
 use Rattle.al_check_objects.specs.Objects.{strictly}
@@ -69,26 +69,23 @@ unfolding put_name
 put_string [] n = refl
 put_string (m ∷ ms) n = named_step (same_name m n) m ms (put_name ms n) (put_new (strings ms) (n, String)) (put_string ms n)
 
-abbrev common_of : List TypedName → Optional
-common_of ts = common_in ts
-
-common_step : (b : Bool) (m : List ℕ) (ms : List (List ℕ)) (ts : List TypedName) → common_of ts ≡ fuse_optional (common_of (strings ms)) (Present String) →
-    common_of (if b then (m, String) ∷ strings ms else (m, String) ∷ ts) ≡ fuse_optional (common_of (strings (m ∷ ms))) (Present String)
-common_step true m ms ts e = sym (last_turned (Present String) (common_of (strings ms)) (Present String))
+common_step : (b : Bool) (m : List ℕ) (ms : List (List ℕ)) (ts : List TypedName) → common_in ts ≡ fuse_optional (common_in (strings ms)) (Present String) →
+    common_in (if b then (m, String) ∷ strings ms else (m, String) ∷ ts) ≡ fuse_optional (common_in (strings (m ∷ ms))) (Present String)
+common_step true m ms ts e = sym (last_turned (Present String) (common_in (strings ms)) (Present String))
 common_step false m ms ts e =
-    ap (fuse_optional (Present String)) e ∙ sym (optional_assoc (Present String) (common_of (strings ms)) (Present String))
+    ap (fuse_optional (Present String)) e ∙ sym (optional_assoc (Present String) (common_in (strings ms)) (Present String))
 
-common_string : (ms : List (List ℕ)) (n : List ℕ) → common_of (put_new (strings ms) (n, String)) ≡ fuse_optional (common_of (strings ms)) (Present String)
+common_string : (ms : List (List ℕ)) (n : List ℕ) → common_in (put_new (strings ms) (n, String)) ≡ fuse_optional (common_in (strings ms)) (Present String)
 common_string [] n = refl
 common_string (m ∷ ms) n = common_step (same_name m n) m ms (put_new (strings ms) (n, String)) (common_string ms n)
 
-common_strings : (ms ns : List (List ℕ)) → common_of (put_all put_new (strings ms) (strings ns)) ≡ fuse_optional (common_of (strings ms)) (common_of (strings ns))
-common_strings ms [] = sym (nothing_last (common_of (strings ms)))
+common_strings : (ms ns : List (List ℕ)) → common_in (put_all put_new (strings ms) (strings ns)) ≡ fuse_optional (common_in (strings ms)) (common_in (strings ns))
+common_strings ms [] = sym (nothing_last (common_in (strings ms)))
 common_strings ms (n ∷ ns) =
     let one = put_string ms n in
-    ap (λ ts. common_of (put_all put_new ts (strings ns))) one ∙ common_strings (put_name ms n) ns
-    ∙ ap (λ o. fuse_optional o (common_of (strings ns))) (ap common_of (sym one) ∙ common_string ms n)
-    ∙ optional_assoc (common_of (strings ms)) (Present String) (common_of (strings ns))
+    ap (λ ts. common_in (put_all put_new ts (strings ns))) one ∙ common_strings (put_name ms n) ns
+    ∙ ap (λ o. fuse_optional o (common_in (strings ns))) (ap common_in (sym one) ∙ common_string ms n)
+    ∙ optional_assoc (common_in (strings ms)) (Present String) (common_in (strings ns))
 
 -- strings of which each name is there once are those of all names
 pub strings_once : (ns : List (List ℕ)) → strictly (firsts (strings ns)) ≡ named_strings ns
@@ -97,26 +94,26 @@ strings_once ns =
 
 -- ---- objects of which the fields are put together
 
-put_step : (b : Bool) (q p : TypedName) (qs more : List TypedName) → common_of more ≡ fuse_optional (common_of qs) (Present p.1) →
-    common_of (if b then (q.0, fuse_type q.1 p.1) ∷ qs else q ∷ more) ≡ fuse_optional (common_of (q ∷ qs)) (Present p.1)
-put_step true q p qs more e = last_turned (Present q.1) (Present p.1) (common_of qs)
+put_step : (b : Bool) (q p : TypedName) (qs more : List TypedName) → common_in more ≡ fuse_optional (common_in qs) (Present p.1) →
+    common_in (if b then (q.0, fuse_type q.1 p.1) ∷ qs else q ∷ more) ≡ fuse_optional (common_in (q ∷ qs)) (Present p.1)
+put_step true q p qs more e = last_turned (Present q.1) (Present p.1) (common_in qs)
 put_step false q p qs more e =
-    ap (fuse_optional (Present q.1)) e ∙ sym (optional_assoc (Present q.1) (common_of qs) (Present p.1))
+    ap (fuse_optional (Present q.1)) e ∙ sym (optional_assoc (Present q.1) (common_in qs) (Present p.1))
 
-common_put : (ts : List TypedName) (p : TypedName) → common_of (put_or_fuse ts p) ≡ fuse_optional (common_of ts) (Present p.1)
+common_put : (ts : List TypedName) (p : TypedName) → common_in (put_or_fuse ts p) ≡ fuse_optional (common_in ts) (Present p.1)
 common_put [] p = refl
 common_put (q ∷ qs) p = put_step (same_name q.0 p.0) q p qs (put_or_fuse qs p) (common_put qs p)
 
-common_put_all : (ts us : List TypedName) → common_of (put_all put_or_fuse ts us) ≡ fuse_optional (common_of ts) (common_of us)
-common_put_all ts [] = sym (nothing_last (common_of ts))
+common_put_all : (ts us : List TypedName) → common_in (put_all put_or_fuse ts us) ≡ fuse_optional (common_in ts) (common_in us)
+common_put_all ts [] = sym (nothing_last (common_in ts))
 common_put_all ts (p ∷ us) =
-    common_put_all (put_or_fuse ts p) us ∙ ap (λ o. fuse_optional o (common_of us)) (common_put ts p)
-    ∙ optional_assoc (common_of ts) (Present p.1) (common_of us)
+    common_put_all (put_or_fuse ts p) us ∙ ap (λ o. fuse_optional o (common_in us)) (common_put ts p)
+    ∙ optional_assoc (common_in ts) (Present p.1) (common_in us)
 
 -- an object of the fields of two objects, fused at each name, is what these have in common
 pub put_together : (ts us : List TypedName) → are_distinct us ≡ true → strictly (put_all put_or_fuse ts us) ≡ fuse_type (strictly ts) (strictly us)
 put_together ts us h =
     λ d. ObjectOf (found_in_both ts us h d) Absent (all d)
   where
-    all : fuse_optional (common_of (put_all put_or_fuse ts us)) Absent ≡ fuse_optional (fuse_optional (common_of ts) Absent) (fuse_optional (common_of us) Absent)
-    all = nothing_last _ ∙ common_put_all ts us ∙ (λ d. fuse_optional (sym (nothing_last (common_of ts)) d) (sym (nothing_last (common_of us)) d))
+    all : fuse_optional (common_in (put_all put_or_fuse ts us)) Absent ≡ fuse_optional (fuse_optional (common_in ts) Absent) (fuse_optional (common_in us) Absent)
+    all = nothing_last _ ∙ common_put_all ts us ∙ (λ d. fuse_optional (sym (nothing_last (common_in ts)) d) (sym (nothing_last (common_in us)) d))

@@ -1,5 +1,7 @@
 -- Inputs that are declared have names of their own, so that none is left out of a list of fields.
 use Rattle.std.proofs.Common.{◌≡◌, ◌||◌, List, [], ◌∷◌, ◌++◌, ℕ, Bool, true, false, Option, Some, None, refl, sym, ap, ◌∙◌, append-nil, append_assoc, map}
+use Rattle.std.proofs.Math.Bool.{or-false}
+use Rattle.std.proofs.lemmas.List.Folds.{list_any-append}
 use Rattle.std.specs.List.{list_any}
 use Rattle.std.specs.Option.{option_map_or}
 use Rattle.std.specs.Prelude.{codes, if◌then◌else◌, option_and_then}
@@ -20,17 +22,8 @@ use Rattle.al_check_objects.proofs.FieldLists.{put_together}
 abbrev has_name : List TypedName → List ℕ → Bool
 has_name ts n = list_any (λ q. same_name q.0 n) ts
 
-or_assoc : (a b c : Bool) → (a || b) || c ≡ a || (b || c)
-or_assoc true b c = refl
-or_assoc false b c = refl
-
 any_more : {X : Type 0} (test : X → Bool) (xs : List X) (x : X) → list_any test (xs ++ x ∷ []) ≡ list_any test xs || test x
-any_more test [] x = alone (test x)
-  where
-    alone : (b : Bool) → b || false ≡ b
-    alone true = refl
-    alone false = refl
-any_more test (y ∷ xs) x = ap (λ b. test y || b) (any_more test xs x) ∙ sym (or_assoc (test y) (list_any test xs) (test x))
+any_more test xs x = list_any-append test xs (x ∷ []) ∙ ap (λ b. list_any test xs || b) (or-false (test x))
 
 last_step : (b had : Bool) (q p : TypedName) (qs more : List TypedName) → (b || had) ≡ false → (had ≡ false → more ≡ qs ++ p ∷ []) →
     (if b then q ∷ qs else q ∷ more) ≡ (q ∷ qs) ++ p ∷ []

@@ -9,7 +9,7 @@ use Rattle.al_base.specs.NamePlaces.{name_place}
 use Rattle.al_types.specs.Puts.{TypedName, put_new}
 use Rattle.al_types.specs.Types.{Any, Parts, String, Type'}
 use Rattle.al_expr_types.specs.Names.{names_in}
-use Rattle.al_expr_types.specs.Tables.{is_known, objects_of, type_at}
+use Rattle.al_expr_types.specs.Tables.{objects_of}
 use Rattle.al_expr_types.specs.Types.{is_below, type_in}
 use Rattle.al_expr_types.specs.declared.fields.FieldMap.{FieldMap}
 use Rattle.al_expr_types.specs.declared.ty.Base.TheVariants as base
@@ -39,10 +39,6 @@ string_means types = record { known = refl; is = refl }
 
 pub means_as : (types : Types) (t : Ty) (m n : Type') → m ≡ n → Means types t m → Means types t n
 means_as types t m n e h = record { known = h.known; is = h.is ∙ e }
-
--- a number of the table stands for what it is there
-pub means_itself : (types : Types) (t : Ty) → is_known types t ≡ true → Means types t (type_at types t)
-means_itself types t h = record { known = h; is = refl }
 
 -- ---- in longer tables
 

@@ -17,10 +17,8 @@ impl<'a> FieldList<'a> {
     ghost use Rattle.al_types.specs.Strings.{strings};
     ghost use Rattle.al_types.specs.Types.{Type', object_with};
     ghost use Rattle.al_check_objects.specs.Numbers.{Lists, Means, is_map_below};
-    ghost use Rattle.al_expr_types.specs.Once.{are_once};
-    ghost use Rattle.al_expr_types.specs.Tables.{objects_of, type_at};
-    ghost use Rattle.al_expr_types.specs.Types.{is_below, is_rest_below, rest_in};
-    ghost use Rattle.std.specs.List.{list_all};
+    ghost use Rattle.al_expr_types.specs.Tables.{objects_of};
+    ghost use Rattle.al_expr_types.specs.Types.{is_rest_below, rest_in};
     ghost use Rattle.al_expr_types.specs.declared.types.Types as declared;
 
     /// No fields. Takes no memory.
@@ -30,18 +28,6 @@ impl<'a> FieldList<'a> {
         FieldList {
             map: FieldMap::new(alloc),
         }
-    }
-
-    /// These fields, of which no two have the same name. Fails with `AllocError` when out of memory, as all here.
-    pub(crate) fn of(alloc: Global, fields: &[(&'a [u8], Ty)]) -> Result<FieldList<'a>, AllocError>
-        requires { are_once (map (λ f. f.0.now) fields.now) ≡ true }
-        ensures { IfOk result
-            (λ l. (types : declared.Types)
-            → list_all (is_below (length types.objects.items)) (map (λ f. f.1) fields.now) ≡ true
-            → Lists types l (map (λ f. (f.0.now, type_at types f.1)) fields.now)) }
-    {
-        let map = FieldMap::of(alloc, fields)?;
-        Ok(FieldList { map })
     }
 
     /// The fields, and one more behind them unless one has its name.

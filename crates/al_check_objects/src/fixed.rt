@@ -1,18 +1,11 @@
 //! The types of contexts that are the same in every file.
-ghost use Rattle.std.specs.List.{list_all};
-ghost use Rattle.std.specs.Prelude.{◌≡◌, ◌∷◌, IfOk, OnOk, codes, map, true, ℕ};
+ghost use Rattle.std.specs.Prelude.{IfOk, OnOk};
 ghost use Rattle.al_base.specs.Growth.{BeginsWith};
 ghost use Rattle.al_check_objects.specs.Fixed as fixed;
 ghost use Rattle.al_check_objects.specs.Numbers.{Means};
-ghost use Rattle.al_expr_types.specs.Once.{are_once};
-ghost use Rattle.al_expr_types.specs.Tables.{objects_of, type_at};
-ghost use Rattle.al_expr_types.specs.Types.{is_below};
-ghost use Rattle.al_expr_types.specs.declared.types.Types as declared;
-ghost use Rattle.al_types.specs.Strings.{strings};
-ghost use Rattle.al_types.specs.Types.{Any, Bool'};
+ghost use Rattle.al_expr_types.specs.Tables.{objects_of};
 
-use crate::field_lists::FieldList;
-use crate::scalars::scalar;
+use crate::objects::object_of;
 use al_expr_types::{Base, Scalar, Ty, Types};
 use std::alloc::{AllocError, Global};
 
@@ -68,38 +61,36 @@ const GITHUB: &[(&[u8], Ty)] = &[
     (b"workspace", Ty::STRING),
 ];
 
-const RUNNER: &[&[u8]] = &[
-    b"name",
-    b"os",
-    b"arch",
-    b"temp",
-    b"tool_cache",
-    b"debug",
-    b"environment",
+const NUMBER: Ty = Ty {
+    arrays: 0,
+    of: Base::Scalar(Scalar::Number),
+};
+
+const RUNNER: &[(&[u8], Ty)] = &[
+    (b"name", Ty::STRING),
+    (b"os", Ty::STRING),
+    (b"arch", Ty::STRING),
+    (b"temp", Ty::STRING),
+    (b"tool_cache", Ty::STRING),
+    (b"debug", Ty::STRING),
+    (b"environment", Ty::STRING),
 ];
 
-fn github_fields() -> &'static [(&'static [u8], Ty)]
-    ensures once { are_once (map (λ f. f.0.now) result.now) ≡ true }
-    ensures known { (n : ℕ) → list_all (is_below n) (map (λ f. f.1) result.now) ≡ true }
-    ensures fields { (types : declared.Types) → map (λ f. (f.0.now, type_at types f.1)) result.now
-        ≡ (codes "event", Any) ∷ (codes "ref_protected", Bool') ∷ strings fixed.github_names }
-{
-    GITHUB
-}
+const JOB: &[(&[u8], Ty)] = &[(b"status", Ty::STRING)];
 
-fn runner_names() -> &'static [&'static [u8]]
-    ensures { map (λ n. n.now) result.now ≡ fixed.runner_names }
-{
-    RUNNER
-}
+const STRATEGY: &[(&[u8], Ty)] = &[
+    (b"fail-fast", BOOL),
+    (b"job-index", NUMBER),
+    (b"job-total", NUMBER),
+    (b"max-parallel", NUMBER),
+];
 
 /// The type of `github`. Fails with `AllocError` when out of memory, as all here.
 pub fn github_type(alloc: Global, types: &mut Types<'_>) -> Result<Ty, AllocError>
     ensures ty { IfOk result (λ t. Means types.new t fixed.github_type) }
     ensures kept { OnOk result (BeginsWith (objects_of types.new) (objects_of types.old)) }
 {
-    let all = FieldList::of(alloc, github_fields())?;
-    let ty = all.into_type(alloc, types, None)?;
+    let ty = object_of(alloc, types, GITHUB, None)?;
     Ok(ty)
 }
 
@@ -108,8 +99,7 @@ pub fn runner_type(alloc: Global, types: &mut Types<'_>) -> Result<Ty, AllocErro
     ensures ty { IfOk result (λ t. Means types.new t fixed.runner_type) }
     ensures kept { OnOk result (BeginsWith (objects_of types.new) (objects_of types.old)) }
 {
-    let all = FieldList::new(alloc).and_strings(alloc, runner_names())?;
-    let ty = all.into_type(alloc, types, Some(Ty::ANY))?;
+    let ty = object_of(alloc, types, RUNNER, Some(Ty::ANY))?;
     Ok(ty)
 }
 
@@ -118,8 +108,7 @@ pub fn job_type(alloc: Global, types: &mut Types<'_>) -> Result<Ty, AllocError>
     ensures ty { IfOk result (λ t. Means types.new t fixed.job_type) }
     ensures kept { OnOk result (BeginsWith (objects_of types.new) (objects_of types.old)) }
 {
-    let status = FieldList::new(alloc).and(alloc, b"status", Ty::STRING)?;
-    let ty = status.into_type(alloc, types, Some(Ty::ANY))?;
+    let ty = object_of(alloc, types, JOB, Some(Ty::ANY))?;
     Ok(ty)
 }
 
@@ -128,10 +117,6 @@ pub fn strategy_type(alloc: Global, types: &mut Types<'_>) -> Result<Ty, AllocEr
     ensures ty { IfOk result (λ t. Means types.new t fixed.strategy_type) }
     ensures kept { OnOk result (BeginsWith (objects_of types.new) (objects_of types.old)) }
 {
-    let one = FieldList::new(alloc).and(alloc, b"fail-fast", scalar(Scalar::Bool))?;
-    let two = one.and(alloc, b"job-index", scalar(Scalar::Number))?;
-    let three = two.and(alloc, b"job-total", scalar(Scalar::Number))?;
-    let four = three.and(alloc, b"max-parallel", scalar(Scalar::Number))?;
-    let ty = four.into_type(alloc, types, None)?;
+    let ty = object_of(alloc, types, STRATEGY, None)?;
     Ok(ty)
 }

@@ -54,6 +54,7 @@ fn event_inputs<'a>(
 }
 
 /// The type of `inputs` in a workflow: what an object of the inputs of a call and one of those of a dispatch have in common.
+#[tactic(auto, using(al_base::proofs::Growing::growth))]
 fn workflow_inputs<'a>(
     alloc: Global,
     types: &mut Types<'a>,

@@ -16,7 +16,7 @@ ghost use Rattle.al_yaml_tree.specs.Access.{scalar_in};
 ghost use Rattle.al_yaml_tree.specs.View.{entries_of, entry_view, nodes_of, view};
 
 use crate::field_lists::FieldList;
-use crate::objects::{loose_any, no_fields};
+use crate::objects::object_of;
 use crate::scalars::{class_type_of, scalar as scalar_ty};
 use al_expr_types::{Join, Ty, Types};
 use al_rules_formats::{Around, is_lone_chunk};
@@ -161,7 +161,7 @@ fn combination<'a>(alloc: Global, types: &mut Types<'a>, node: &'a Node) -> Resu
     ensures kept { OnOk result (BeginsWith (objects_of types.new) (objects_of types.old)) }
 {
     let Some(entries) = node.mapping() else {
-        return no_fields(alloc, types);
+        return object_of(alloc, types, &[], None);
     };
     let ty = entries_type(alloc, types, entries)?;
     Ok(ty)
@@ -230,7 +230,7 @@ fn with_combinations<'a>(
         None => Ok(rows),
         Some(node) => {
             if is_open_include(node) {
-                return loose_any(alloc, types);
+                return object_of(alloc, types, &[], Some(Ty::ANY));
             }
             let ty = include(alloc, types, rows, items(node))?;
             Ok(ty)
@@ -244,7 +244,7 @@ fn matrix_of<'a>(alloc: Global, types: &mut Types<'a>, node: &'a Node) -> Result
     ensures kept { OnOk result (BeginsWith (objects_of types.new) (objects_of types.old)) }
 {
     if is_scalar(node) {
-        return loose_any(alloc, types);
+        return object_of(alloc, types, &[], Some(Ty::ANY));
     }
     let rows = rows_type(alloc, types, node)?;
     let ty = with_combinations(alloc, types, rows, value(node, "include"))?;
@@ -261,7 +261,7 @@ pub fn matrix_type<'a>(
     ensures kept { OnOk result (BeginsWith (objects_of types.new) (objects_of types.old)) }
 {
     match value_below_two(job, "strategy", "matrix") {
-        None => no_fields(alloc, types),
+        None => object_of(alloc, types, &[], None),
         Some(node) => matrix_of(alloc, types, node),
     }
 }

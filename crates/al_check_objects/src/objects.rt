@@ -1,44 +1,40 @@
-//! Objects that are made of nothing but names.
+//! Objects of fields that are given at once.
 
-ghost use Rattle.std.specs.Prelude.{◌≡◌, [], IfOk, OnOk, map};
+ghost use Rattle.std.specs.List.{list_all};
+ghost use Rattle.std.specs.Prelude.{◌≡◌, IfOk, OnOk, length, map, true};
 ghost use Rattle.al_base.specs.Growth.{BeginsWith};
-ghost use Rattle.al_check_objects.specs.Objects as objects;
-ghost use Rattle.al_check_objects.specs.Objects.{strictly};
 ghost use Rattle.al_check_objects.specs.Numbers.{Means};
-ghost use Rattle.al_expr_types.specs.Tables.{objects_of};
+ghost use Rattle.al_expr_types.specs.Once.{are_once};
+ghost use Rattle.al_expr_types.specs.Tables.{objects_of, type_at};
+ghost use Rattle.al_expr_types.specs.Types.{is_below, is_rest_below, rest_in};
 ghost use Rattle.al_tree.specs.Keys.{keys_in};
 ghost use Rattle.al_tree.specs.Values.{member_of};
 ghost use Rattle.al_types.specs.Strings.{named_strings};
+ghost use Rattle.al_types.specs.Types.{object_with};
 
 use crate::field_lists::FieldList;
-use al_expr_types::{Ty, Types};
+use al_expr_types::{FieldMap, Ty, Types};
 use al_tree::{Member, key_text};
 use std::alloc::{AllocError, Global};
 
-/// An object without fields. Fails with `AllocError` when out of memory, as all here.
-pub fn no_fields(alloc: Global, types: &mut Types<'_>) -> Result<Ty, AllocError>
-    ensures ty { IfOk result (λ t. Means types.new t (strictly [])) }
+/// An object of these fields, of which no two have the same name, and of others of a type where there may be others. Fails with
+/// `AllocError` when out of memory, as all here.
+pub fn object_of<'a>(
+    alloc: Global,
+    types: &mut Types<'a>,
+    fields: &[(&'a [u8], Ty)],
+    rest: Option<Ty>,
+) -> Result<Ty, AllocError>
+    requires once { are_once (map (λ f. f.0.now) fields.now) ≡ true }
+    requires known { list_all (is_below (length types.old.objects.items)) (map (λ f. f.1) fields.now) ≡ true }
+    requires rest { is_rest_below (length types.old.objects.items) rest ≡ true }
+    ensures ty { IfOk result (λ t. Means types.new t
+        (object_with (map (λ f. (f.0.now, type_at types.old f.1)) fields.now)
+        (rest_in (objects_of types.old) rest))) }
     ensures kept { OnOk result (BeginsWith (objects_of types.new) (objects_of types.old)) }
 {
-    let ty = FieldList::new(alloc).into_type(alloc, types, None)?;
-    Ok(ty)
-}
-
-/// An object whose fields all are strings.
-pub fn loose_strings(alloc: Global, types: &mut Types<'_>) -> Result<Ty, AllocError>
-    ensures ty { IfOk result (λ t. Means types.new t objects.loose_strings) }
-    ensures kept { OnOk result (BeginsWith (objects_of types.new) (objects_of types.old)) }
-{
-    let ty = FieldList::new(alloc).into_type(alloc, types, Some(Ty::STRING))?;
-    Ok(ty)
-}
-
-/// An object whose fields are of any type.
-pub fn loose_any(alloc: Global, types: &mut Types<'_>) -> Result<Ty, AllocError>
-    ensures ty { IfOk result (λ t. Means types.new t objects.loose_any) }
-    ensures kept { OnOk result (BeginsWith (objects_of types.new) (objects_of types.old)) }
-{
-    let ty = FieldList::new(alloc).into_type(alloc, types, Some(Ty::ANY))?;
+    let map = FieldMap::of(alloc, fields)?;
+    let ty = FieldList { map }.into_type(alloc, types, rest)?;
     Ok(ty)
 }
 

@@ -59,12 +59,3 @@ returns-clause-stands c =
       job_types = keeps_jobs_stay now one env.outputs js c.section_types.new.made from_one made.keeps;
       step_types = keeps_stays now two (step_at env.outputs) c.of.new.made seen.kept steps.keeps;
     }
-
-pub returns-clause-kept : goal.returns-clause-kept
-returns-clause-kept c =
-    let env = c.args.env.now in
-    let one = c.section_types.new.types in
-    let two = c.of.new.types in
-    let now = c.first.new.types in
-    begins_trans (objects_of env.types) (objects_of one) (objects_of now) c.in_ok-made.ensures.kept
-    (begins_trans (objects_of one) (objects_of two) (objects_of now) c.in_ok-steps.ensures.kept c.in_ok-none_seen.ensures.kept)

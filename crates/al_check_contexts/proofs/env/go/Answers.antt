@@ -1,8 +1,6 @@
 use Rattle.std.proofs.Common.{subst}
-use Rattle.al_base.proofs.Growing.{begins_trans}
 use Rattle.al_check_places.specs.Positions.{section_view}
 use Rattle.al_yaml_tree.specs.View.{view}
-use Rattle.al_expr_types.specs.Tables.{objects_of}
 use Rattle.al_check_contexts.specs.Lookups.{known_by}
 use Rattle.al_check_contexts.specs.Contexts.{context_type_at}
 use Rattle.al_check_contexts.specs.Table.{Shows, position}
@@ -16,8 +14,3 @@ returns-clause-shows c =
     let seen = c.args.position.seen in
     subst (λ k. Shows now.types now.scope.types (context_type_at kind k root (position (section_view c.args.position.section) seen))) c.in_ok-see.ensures.stands.known
     (subst (λ s. Shows now.types now.scope.types (context_type_at kind (known_by now.outputs) root (position s seen))) c.in_ok-enter.ensures.same c.in_ok-see.ensures.shows)
-
-pub returns-clause-kept : goal.returns-clause-kept
-returns-clause-kept c =
-    begins_trans (objects_of c.args.env.now.types) (objects_of c.enter.new.env.types) (objects_of c.see.new.env.types) c.in_ok-enter.ensures.kept
-    c.in_ok-see.ensures.kept

@@ -21,10 +21,6 @@ returns-clause-keeps c =
     let entry = c.args.types.now in
     let now = c.shown_with.new.types in
     let at = called_at c.args.basis.now.outputs.now in
-    let kept = begins_trans (objects_of entry) (objects_of c.call_outputs_type.new.types) (objects_of now) c.in_ok-outputs.ensures.kept c.in_ok-ty.ensures.kept in
+    let kept = begins_trans (objects_of entry) (objects_of c.outputs_type.new.types) (objects_of now) c.in_ok-outputs.ensures.kept c.in_ok-ty.ensures.kept in
     c.set.ensures now at (keeps_stays now entry at c.args.made.now kept c.requires)
     (means_as now c.in_ok-ty.ty _ _ (ap shown_with (c.in_ok-outputs.ensures.ty.is ∙ ap (λ names. option_map_or named_strings names loose_any) c.list.ensures)) c.in_ok-ty.ensures.ty)
-
-pub returns-clause-kept : goal.returns-clause-kept
-returns-clause-kept c =
-    begins_trans (objects_of c.args.types.now) (objects_of c.call_outputs_type.new.types) (objects_of c.shown_with.new.types) c.in_ok-outputs.ensures.kept c.in_ok-ty.ensures.kept

@@ -18,11 +18,6 @@ returns-clause-ty c =
     (ap shown_with (c.in_ok-outputs.ensures.ty.is
     ∙ ap (λ es. named_strings (keys_in es)) (ap (map member_of) c.as_slice.ensures.value ∙ c.in_ok-entries.ensures))) c.in_ok-ty-2.ensures.ty
 
-pub returns-clause-kept : goal.returns-clause-kept
-returns-clause-kept c =
-    begins_trans (objects_of c.args.types.now) (objects_of c.declared_strings.new.types) (objects_of c.shown_with.new.types) c.in_ok-outputs.ensures.kept
-    c.in_ok-ty-2.ensures.kept
-
 pub returns-clause-keeps : goal.returns-clause-keeps
 returns-clause-keeps c =
     let kept = begins_trans (objects_of c.args.types.now) (objects_of c.declared_strings.new.types) (objects_of c.shown_with.new.types)

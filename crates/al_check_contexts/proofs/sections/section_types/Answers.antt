@@ -24,9 +24,3 @@ pub returns-clause-keeps : goal.returns-clause-keeps
 returns-clause-keeps c =
     keeps_jobs_stay c.matrix_at.new.types c.jobs_at.new.types c.args.basis.now.outputs.now (jobs_from c.args.basis.now) c.jobs_at.new.made
     c.in_ok-matrix.ensures.kept c.in_ok-jobs.ensures.keeps
-
-pub returns-clause-kept : goal.returns-clause-kept
-returns-clause-kept c =
-    begins_trans (objects_of c.args.types.now) (objects_of c.needs_at.new.types) (objects_of c.matrix_at.new.types) c.in_ok-needs.ensures.kept
-    (begins_trans (objects_of c.needs_at.new.types) (objects_of c.jobs_at.new.types) (objects_of c.matrix_at.new.types) c.in_ok-jobs.ensures.kept
-    c.in_ok-matrix.ensures.kept)

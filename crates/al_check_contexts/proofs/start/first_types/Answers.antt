@@ -14,8 +14,3 @@ returns-clause-types c = λ known h.
     shows_first now c.in_ok-fixed.fixed c.in_ok-inputs.inputs c.args.steps c.args.file.kind known (view c.args.file.root.now)
     (fixed_stay now one c.in_ok-fixed.fixed c.in_ok-inputs.ensures.kept c.in_ok-fixed.ensures.fixed) c.in_ok-inputs.ensures.ty
     (means_stays now entry c.args.steps _ kept h)
-
-pub returns-clause-kept : goal.returns-clause-kept
-returns-clause-kept c =
-    begins_trans (objects_of c.args.types.now) (objects_of c.fixed_types.new.types) (objects_of c.inputs_type.new.types) c.in_ok-fixed.ensures.kept
-    c.in_ok-inputs.ensures.kept

@@ -6,7 +6,7 @@ use Rattle.al_check_contexts.proofs.start.fixed_types.Goals as goal
 pub returns-clause-fixed : goal.returns-clause-fixed
 returns-clause-fixed c =
     let one = c.github_type.new.types in
-    let two = c.loose_strings.new.types in
+    let two = c.object_of.new.types in
     let three = c.runner_type.new.types in
     let now = c.job_type.new.types in
     let from_two = begins_trans (objects_of two) (objects_of three) (objects_of now) c.in_ok-runner.ensures.kept c.in_ok-job.ensures.kept in
@@ -17,12 +17,3 @@ returns-clause-fixed c =
       runner = means_stays now three c.in_ok-runner.runner _ c.in_ok-job.ensures.kept c.in_ok-runner.ensures.ty;
       job = c.in_ok-job.ensures.ty;
     }
-
-pub returns-clause-kept : goal.returns-clause-kept
-returns-clause-kept c =
-    let two = c.loose_strings.new.types in
-    let three = c.runner_type.new.types in
-    let now = c.job_type.new.types in
-    begins_trans (objects_of c.args.types.now) (objects_of c.github_type.new.types) (objects_of now) c.in_ok-github.ensures.kept
-    (begins_trans (objects_of c.github_type.new.types) (objects_of two) (objects_of now) c.in_ok-strings.ensures.kept
-    (begins_trans (objects_of two) (objects_of three) (objects_of now) c.in_ok-runner.ensures.kept c.in_ok-job.ensures.kept))

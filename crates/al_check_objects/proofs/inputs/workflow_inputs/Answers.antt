@@ -1,9 +1,7 @@
 use Rattle.std.proofs.Common.{◌∙◌}
 use Rattle.std.specs.Prelude.{codes}
-use Rattle.al_base.proofs.Growing.{begins_trans}
 use Rattle.al_types.specs.Types.{fuse_type}
 use Rattle.al_yaml_tree.specs.View.{view}
-use Rattle.al_expr_types.specs.Tables.{objects_of}
 use Rattle.al_check_objects.proofs.InputLemmas.{both_events}
 use Rattle.al_check_objects.proofs.Numbers.{means_stays}
 use Rattle.al_check_objects.proofs.inputs.workflow_inputs.Goals as goal
@@ -24,9 +22,3 @@ returns-clause-ty c =
       is = c.in_ok-ty.ensures.ty ∙ (λ d. fuse_type (call.is d) (c.in_ok-dispatch.ensures.ty.is d))
           ∙ both_events (codes "workflow_call") (codes "workflow_dispatch") (view c.args.root.now);
     }
-
-pub returns-clause-kept : goal.returns-clause-kept
-returns-clause-kept c =
-    let now = c.event_inputs-2.new.types in
-    begins_trans (objects_of c.args.types.now) (objects_of c.event_inputs.new.types) (objects_of c.join.new.self) c.in_ok-call.ensures.kept
-    (begins_trans (objects_of c.event_inputs.new.types) (objects_of now) (objects_of c.join.new.self) c.in_ok-dispatch.ensures.kept c.in_ok-ty.ensures.kept)
