@@ -1,5 +1,5 @@
 -- What jobs show to others, and the jobs that names find.
-use Rattle.std.proofs.Common.{◌≡◌, ◌<◌, ◌+◌, ℕ, Bool, true, false, List, [], ◌∷◌, refl, sym, ap, ◌∙◌, Option, Some, None, option_map, length, map, get_or, arith}
+use Rattle.std.proofs.Common.{◌≡◌, ◌<◌, ◌+◌, ℕ, Bool, List, [], ◌∷◌, refl, sym, ap, ◌∙◌, Option, Some, None, option_map, length, map, get_or, arith}
 use Rattle.std.proofs.Math.ListN.{get_or-map}
 use Rattle.std.proofs.lemmas.Option.{get_or_from_slice_get, slice_get_read}
 use Rattle.std.specs.Option.{option_map_or}
@@ -53,14 +53,10 @@ no_dependency k [] n e = refl
 no_dependency k (x ∷ js) n e =
     ap (option_map (job_field k)) (find_first (λ j. same_name (key_of j) n) (x ∷ js) x ∙ ap (option_map (λ m. get_or (x ∷ js) m x)) e)
 
--- what a job shows that calls a workflow, and one that doesn't
-pub shown_called : (k : OutputNames) (j : Node × Node) → has_value (codes "uses") j.1 ≡ true → shown_with (option_map_or named_strings (k (Some (key_of j)) None) loose_any) ≡ (job_field k j).1
-shown_called k j e =
-    sym (ap (λ b. shown_with (if b then option_map_or named_strings (k (Some (key_of j)) None) loose_any else named_strings (keys_in (entries_at (codes "outputs") j.1)))) e)
-
-pub shown_own : (k : OutputNames) (j : Node × Node) → has_value (codes "uses") j.1 ≡ false →
-    shown_with (named_strings (keys_in (entries_at (codes "outputs") j.1))) ≡ (job_field k j).1
-shown_own k j e =
+-- what a job shows, whether it calls a workflow or not
+pub shown_by : (k : OutputNames) (j : Node × Node) (b : Bool) → has_value (codes "uses") j.1 ≡ b →
+    shown_with (if b then option_map_or named_strings (k (Some (key_of j)) None) loose_any else named_strings (keys_in (entries_at (codes "outputs") j.1))) ≡ (job_field k j).1
+shown_by k j b e =
     sym (ap (λ b. shown_with (if b then option_map_or named_strings (k (Some (key_of j)) None) loose_any else named_strings (keys_in (entries_at (codes "outputs") j.1)))) e)
 
 -- ---- in longer tables

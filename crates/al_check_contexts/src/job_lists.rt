@@ -1,8 +1,9 @@
 //! The jobs of a workflow, found by their keys.
 ghost use Rattle.std.specs.Prelude.{◌≡◌, ◌<◌, IfOk, length, map, option_map, slice_get};
-ghost use Rattle.al_base.specs.NamePlaces.{name_place, name_position, text_place, text_position};
+ghost use Rattle.al_base.specs.NamePlaces.{first_at, name_place, name_position, text_place, text_position};
+ghost use Rattle.al_base.specs.Names.{same_name};
 ghost use Rattle.al_check_places.specs.Positions.{section_view};
-ghost use Rattle.al_tree.specs.Keys.{keys_in};
+ghost use Rattle.al_tree.specs.Keys.{key_of, keys_in};
 ghost use Rattle.al_tree.specs.Values.{member_of};
 ghost use Rattle.al_tree.specs.Files.{jobs_of};
 ghost use Rattle.al_yaml_tree.specs.View.{view};
@@ -79,8 +80,8 @@ impl<'a> JobList<'a> {
         alloc: Global,
         name: &[u8],
     ) -> Result<Option<usize>, AllocError>
-        ensures { IfOk result
-            (λ i. i ≡ name_place (keys_in (map member_of self.now.members.items)) name.now) }
+        ensures { IfOk result (λ i. i ≡ first_at (λ j. same_name (key_of j) name.now)
+            (map member_of self.now.members.items)) }
     {
         let i = self.names.get(alloc, name)?;
         Ok(i)
