@@ -75,7 +75,7 @@ fn run_script(rt: &HostRuntime, oneline: bool) -> u8 {
     let mut reader = Input::new(rt.stdin());
     let mut writer = Output::new(buffer);
     let mut session = Session::open(rt.alloc(), Actions::new());
-    let answer = run_commands(&mut session, rt.alloc(), &mut reader, &mut writer, oneline);
+    let answer = run_commands(rt.alloc(), &mut session, &mut reader, &mut writer, oneline);
     // Buffered output is flushed whatever the result is.
     let flushed = writer.flush();
     // The program ends, and the system frees all of its memory at once.

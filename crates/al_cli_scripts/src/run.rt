@@ -61,14 +61,14 @@ pub fn run_session<R: Read, W: Write>(
         → largest_ask reader.new ≡ max (largest_ask reader.old) largest_read }
 {
     let mut session = Session::open(alloc, Actions::new());
-    run_commands(&mut session, alloc, reader, writer, oneline)
+    run_commands(alloc, &mut session, reader, writer, oneline)
 }
 
 /// Runs the script that the reader gives over a session, which then has the folder that the commands leave. Output, reads and
 /// errors are as for [`run_session`], which begins with the empty folder.
 pub fn run_commands<R: Read, W: Write>(
-    session: &mut Session<Actions>,
     alloc: Global,
+    session: &mut Session<Actions>,
     reader: &mut Input<R>,
     writer: &mut Output<W>,
     oneline: bool,

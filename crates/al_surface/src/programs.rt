@@ -70,14 +70,14 @@ fn a_script(rt: HostRuntime) -> Result<(), Stop> {
 }
 
 fn run_over(
-    session: &mut Session<Actions>,
     alloc: Global,
+    session: &mut Session<Actions>,
     script: &[u8],
     output: &mut Vec<u8>,
 ) -> Result<u8, Stop> {
     run_commands(
-        session,
         alloc,
+        session,
         &mut Input::new(script),
         &mut Output::new(output),
         true,
@@ -88,8 +88,8 @@ fn run_over(
 fn goes_on(alloc: Global, first: &[u8], second: &[u8], wanted: &[u8]) -> Result<bool, Stop> {
     let mut session = Session::open(alloc, Actions::new());
     let mut output = Vec::new(alloc);
-    run_over(&mut session, alloc, first, &mut output)?;
-    let status = run_over(&mut session, alloc, second, &mut output)?;
+    run_over(alloc, &mut session, first, &mut output)?;
+    let status = run_over(alloc, &mut session, second, &mut output)?;
     Ok(status == 1 && output.as_slice() == wanted)
 }
 
