@@ -1,5 +1,5 @@
 -- A `${{` begins at a dollar sign.
-use Rattle.std.proofs.Common.{◌≡◌, ℕ, zero, suc, ◌+◌, ◌-◌, ◌≤◌, List, [], ◌∷◌, drop, take, take_all, length, Bool, true, false, ◌||◌, ◌&&◌, ◌==◌, refl, sym, subst, arith, ◌∙◌, ap, length-drop}
+use Rattle.std.proofs.Common.{◌≡◌, ℕ, zero, suc, ◌-◌, ◌≤◌, List, [], ◌∷◌, drop, take, take_all, length, Bool, true, false, ◌||◌, ◌==◌, refl, sym, arith, ◌∙◌, ap, length-drop}
 use Rattle.std.specs.Prelude.{codes, nat_eq}
 use Rattle.std.specs.List.{starts_with}
 use Rattle.std.proofs.lemmas.Bool.Decides.{nat_tests}
