@@ -20,9 +20,9 @@ use Rattle.al_check_interfaces.specs.declared.interfaces.Interface.{Interface}
 use Rattle.al_check_interfaces.specs.declared.interfaces.ParameterKind.{ParameterKind}
 use Rattle.al_check_interfaces.specs.declared.interfaces.ParameterKind.TheVariants.{Input, Secret}
 use Rattle.al_check_interfaces.specs.declared.interfaces.Signature.{Signature}
-use Rattle.al_check_interfaces.specs.Uses.{Call}
+use Rattle.al_check_interfaces.specs.Uses.{Call, site_caller}
 use Rattle.al_check_calls.specs.Answers.{Answered}
-use Rattle.al_check_calls.specs.CallFaults.{callable_signature, caller_of, is_compared}
+use Rattle.al_check_calls.specs.CallFaults.{callable_signature, is_compared}
 use Rattle.al_check_calls.specs.Private.AnswerViews.{compared_of}
 use Rattle.al_check_calls.specs.Private.Comparing.{AreToldByUses, CallAlike, Comparison, HaveOneSignature, TellSignatures, call_alike, compared_with}
 use Rattle.al_check_calls.specs.Private.Comparing.{comparison_of, comparisons}
@@ -49,7 +49,7 @@ span_exact a b h =
 
 pub likeness : (q r : Comparison) → call_alike q r ≡ true → CallAlike q r
 likeness q r h =
-    let by = caller_eq.ghosts.eq (caller_of q.call) (caller_of r.call) in
+    let by = caller_eq.ghosts.eq (site_caller q.call.site) (site_caller r.call.site) in
     let text = bytes_eq q.call.text r.call.text in
     let p = and_parts (kind_eq.ghosts.eq q.kind r.kind) (by && text) h in
     let t = and_parts by text p.1 in
@@ -59,20 +59,20 @@ likeness q r h =
 
 module _ (answer : Caller → List ℕ → Option Interface) where
   abbrev IsTold : Comparison → Type 0
-  IsTold q = callable_signature (caller_of q.call) (answer (caller_of q.call) q.call.text) ≡ Some q.signature
+  IsTold q = callable_signature (site_caller q.call.site) (answer (site_caller q.call.site) q.call.text) ≡ Some q.signature
 
-  told_if : (k : ParameterKind) (c : Call) (b : Bool) (o : Option Signature) → callable_signature (caller_of c) (answer (caller_of c) c.text) ≡ o →
+  told_if : (k : ParameterKind) (c : Call) (b : Bool) (o : Option Signature) → callable_signature (site_caller c.site) (answer (site_caller c.site) c.text) ≡ o →
       IfSome (option_map (compared_with k c) (cond b o None)) IsTold
   told_if k c false o is = tt
   told_if k c true None is = tt
   told_if k c true (Some s) is = is
 
   abbrev IsToldBy : Answered → Type 0
-  IsToldBy a = a.answer ≡ answer (caller_of a.call) a.call.text
+  IsToldBy a = a.answer ≡ answer (site_caller a.call.site) a.call.text
 
   one_told : (k : ParameterKind) (a : Answered) → IsToldBy a → IfSome (comparison_of k a) IsTold
   one_told k a is =
-      told_if k a.call (is_compared k (caller_of a.call) a.call.site.node) (callable_signature (caller_of a.call) a.answer) (ap (callable_signature (caller_of a.call)) (sym is))
+      told_if k a.call (is_compared k (site_caller a.call.site) a.call.site.node) (callable_signature (site_caller a.call.site) a.answer) (ap (callable_signature (site_caller a.call.site)) (sym is))
 
   put : (o : Option Comparison) (qs : List Comparison) → IfSome o IsTold → AllByRecursion IsTold qs → AllByRecursion IsTold (cons_option o qs)
   put None qs h hs = hs
@@ -87,8 +87,8 @@ module _ (answer : Caller → List ℕ → Option Interface) where
 
   pair_told : (q r : Comparison) → IsTold q → IsTold r → HaveOneSignature q r
   pair_told q r a b by text =
-      let same : callable_signature (caller_of q.call) (answer (caller_of q.call) q.call.text)
-      ≡ callable_signature (caller_of r.call) (answer (caller_of r.call) r.call.text) =
+      let same : callable_signature (site_caller q.call.site) (answer (site_caller q.call.site) q.call.text)
+      ≡ callable_signature (site_caller r.call.site) (answer (site_caller r.call.site) r.call.text) =
       λ i. callable_signature (by i) (answer (by i) (text i)) in
       cc
 

@@ -1,7 +1,7 @@
 -- The calls that reading kept, with their answers, are those of the file.
 use Rattle.std.proofs.Common.{◌≡◌, ◌<◌, ◌+◌, ◌++◌, ◌∙◌, ℕ, List, [], ◌∷◌, Option, Some, None, ap, append-nil, append_assoc, drop, get_or, length, map, option_map, refl, sym}
 use Rattle.std.proofs.lemmas.List.{drop_more}
-use Rattle.std.specs.Prelude.{codes, IfSome, option_and_then, slice_get}
+use Rattle.std.specs.Prelude.{codes, IfSome, option_and_then, slice_get, slice_index_or}
 use Rattle.std.specs.List.{AllByRecursion, cons_option, filter_map}
 use Rattle.std.specs.Option.{option_map_or}
 use Rattle.al_base.specs.declared.codes.CallCode.TheVariants.{LeadsBack}
@@ -15,7 +15,7 @@ use Rattle.al_check_interfaces.specs.declared.interfaces.Interface.{Interface}
 use Rattle.al_check_interfaces.specs.FolderCalls.{AreCallsOf, FolderCall, as_folder_call, folder_call}
 use Rattle.al_check_interfaces.specs.Uses.{Call, Site, call_at, calls_in, sites_in, target_in, that_uses}
 use Rattle.al_check_interfaces.specs.declared.calls.Call as code
-use Rattle.al_check_calls.specs.Answers.{Answered, calls_with_answers, first_answer}
+use Rattle.al_check_calls.specs.Answers.{Answered, calls_with_answers}
 use Rattle.al_check_calls.specs.Private.AnswerViews.{answered_at, call_of_site, answered_by}
 use Rattle.al_check_interfaces.specs.CallViews.{call_by}
 
@@ -39,7 +39,7 @@ all_at_sites (s ∷ sites) = put IsAtSite (call_at s) (filter_map call_at sites)
 -- ---- those that are kept
 
 abbrev with_answer : List (Option Interface) → Call → Answered
-with_answer answers c = answered_by c (first_answer answers)
+with_answer answers c = answered_by c (slice_index_or answers 0 None)
 
 abbrev answered_of_kept : List FolderCall → List (Option Interface) → List Answered
 answered_of_kept [] answers = []
@@ -73,7 +73,7 @@ put_next None old new rest whole more so_far = ap (λ l. l ++ rest) (more ∙ ap
 put_next (Some x) old new rest whole more so_far = ap (λ l. l ++ rest) more ∙ append_assoc old (x ∷ []) rest ∙ so_far
 
 pub answered_more : (sites : List Site) (calls : List code.Call) (i : ℕ) (call : code.Call) (left others : List (Option Interface)) (answer : Option Interface) (old new whole : List Answered) →
-    i < length calls → call ≡ get_or calls i call → answer ≡ first_answer left → others ≡ drop 1 left →
+    i < length calls → call ≡ get_or calls i call → answer ≡ slice_index_or left 0 None → others ≡ drop 1 left →
     new ≡ old ++ cons_option (option_map (λ c. answered_by c answer) (call_of_site sites call.site)) [] →
     old ++ answered_at sites (map (λ c. c.site) (drop i calls)) left ≡ whole → new ++ answered_at sites (map (λ c. c.site) (drop (i + 1) calls)) others ≡ whole
 answered_more sites calls i call left others answer old new whole room is first behind more so_far =

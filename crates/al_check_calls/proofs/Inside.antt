@@ -1,5 +1,5 @@
 -- Each fault of a file's calls lies in the file that its tree lies in.
-use Rattle.std.specs.Prelude.{ℕ, Bool, List, [], ◌∷◌, ◌++◌, codes, drop, IfSome, Option, Some, None, find, option_map}
+use Rattle.std.specs.Prelude.{ℕ, Bool, List, [], ◌∷◌, ◌++◌, codes, drop, IfSome, Option, Some, None, find, option_map, slice_index_or}
 use Rattle.std.proofs.Common.{cond}
 use Rattle.std.specs.List.{AllByRecursion, cons_option, flat_map}
 use Rattle.std.specs.Option.{option_map_or}
@@ -26,13 +26,13 @@ use Rattle.al_check_interfaces.specs.declared.interfaces.Parameter.{Parameter}
 use Rattle.al_check_interfaces.specs.declared.interfaces.ParameterKind.{ParameterKind}
 use Rattle.al_check_interfaces.specs.declared.interfaces.ParameterKind.TheVariants.{Input, Secret}
 use Rattle.al_check_interfaces.specs.declared.interfaces.Signature.{Signature}
-use Rattle.al_check_interfaces.specs.Uses.{Call, calls_in, target_in, that_uses}
+use Rattle.al_check_interfaces.specs.Uses.{Call, calls_in, target_in, that_uses, site_caller}
 use Rattle.al_session_folder.specs.declared.lint.Target.{Target}
 use Rattle.al_check_interfaces.proofs.Inside.{AtLies, calls_lie, inside_kept}
 use Rattle.al_base.proofs.Elements.{each_both, each_either, each_of}
 use Rattle.al_check_interfaces.proofs.Parts.{entries_kept}
-use Rattle.al_check_calls.specs.Answers.{Answered, Typing, calls_with_answers, answered_faults, first_answer, values_in}
-use Rattle.al_check_calls.specs.CallFaults.{Given, absent_faults, call_fault, call_faults, callable_signature, called_name, caller_of}
+use Rattle.al_check_calls.specs.Answers.{Answered, Typing, calls_with_answers, answered_faults, values_in}
+use Rattle.al_check_calls.specs.CallFaults.{Given, absent_faults, call_fault, call_faults, callable_signature, called_name}
 use Rattle.al_check_calls.specs.CallFaults.{given_by, is_callable, is_taken, missing_code, missing_name}
 use Rattle.al_check_calls.specs.CallFaults.{name_faults, names_against, names_of_kind, signature_for, type_faults, undefined_code}
 use Rattle.al_check_calls.specs.CallFaults.{undefined_name, uses_faults, value_faults, values_against, values_of, wrong_input}
@@ -117,15 +117,15 @@ module _ (size : ℕ) where
   absent_lies c caller.Job i = (i, tt)
 
   uses_lie : (c : Call) (answer : Option Interface) → LiesIn size c.at → AllLie (uses_faults c answer)
-  uses_lie c None i = absent_lies c (caller_of c) i
+  uses_lie c None i = absent_lies c (site_caller c.site) i
   uses_lie c (Some Unreadable) i = tt
-  uses_lie c (Some (Readable s)) i = unless (is_callable (caller_of c) s.role) (that_uses code.NotCallable c ∷ []) (i, tt)
+  uses_lie c (Some (Readable s)) i = unless (is_callable (site_caller c.site) s.role) (that_uses code.NotCallable c ∷ []) (i, tt)
 
   call_lies : (c : Call) (values : List Given) (answer : Option Interface) → CallLies c → AllByRecursion GivenLies values → AllLie (call_faults c values answer)
   call_lies c values answer p v =
       each_both Lies (uses_faults c answer ++ value_faults c values answer) (name_faults c answer)
       (each_both Lies (uses_faults c answer) (value_faults c values answer) (uses_lie c answer p.0)
-      (values_against_lie (caller_of c) c values (callable_signature (caller_of c) answer) v))
+      (values_against_lie (site_caller c.site) c values (callable_signature (site_caller c.site) answer) v))
       (each_both Lies (names_of_kind Input c answer) (names_of_kind Secret c answer)
       (kind_lies Input c (signature_for Input c answer) p) (kind_lies Secret c (signature_for Secret c answer) p))
 
@@ -148,8 +148,8 @@ module _ (size : ℕ) where
   all_answered : (cs : List Call) (answers : List (Option Interface)) → AllByRecursion CallLies cs → AllByRecursion (λ a. CallLies a.call) (calls_with_answers cs answers)
   all_answered [] answers p = tt
   all_answered (c ∷ cs) answers p =
-      put (option_map (λ t. answered_by c (first_answer answers)) (target_in c.form)) (calls_with_answers cs (option_map_or (λ t. drop 1 answers) (target_in c.form) answers))
-      (one_answered c (target_in c.form) (first_answer answers) p.0) (all_answered cs (option_map_or (λ t. drop 1 answers) (target_in c.form) answers) p.1)
+      put (option_map (λ t. answered_by c (slice_index_or answers 0 None)) (target_in c.form)) (calls_with_answers cs (option_map_or (λ t. drop 1 answers) (target_in c.form) answers))
+      (one_answered c (target_in c.form) (slice_index_or answers 0 None) p.0) (all_answered cs (option_map_or (λ t. drop 1 answers) (target_in c.form) answers) p.1)
 
 pub call_faults_lie : CallFaultsLie
 call_faults_lie size kind typing root answers i =

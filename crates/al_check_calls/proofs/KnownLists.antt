@@ -14,7 +14,8 @@ use Rattle.std.proofs.lemmas.Map.Text.{is_eq-slice_cmp}
 use Rattle.std.proofs.lemmas.Slice.Eq.{bytes_eq-Decides}
 use Rattle.al_base.specs.declared.codes.Caller.TheVariants as caller
 use Rattle.al_check_calls.specs.Answers.{Answered}
-use Rattle.al_check_calls.specs.CallFaults.{callable_signature, caller_of}
+use Rattle.al_check_calls.specs.CallFaults.{callable_signature}
+use Rattle.al_check_interfaces.specs.Uses.{site_caller}
 use Rattle.al_check_interfaces.specs.declared.interfaces.Signature.{Signature}
 use Rattle.al_check_calls.specs.Outputs.{outputs_behind, shows_outputs}
 use Rattle.al_check_calls.specs.Private.AnswerViews.{answered_of}
@@ -197,7 +198,7 @@ pub all_known : (answered : List code.Answered) (i : ℕ) (ls : Lists) (known : 
 all_known answered i ls known end told so_far =
     let found = map answered_of answered in
     let naming = naming_of found told in
-    let named = all_named naming found (λ (a : Answered). a.answer ≡ told.answer (caller_of a.call) a.call.text)
-    (λ a h. ap (λ o. option_and_then outputs_in (callable_signature (caller_of a.call) o)) (sym h)) told.told in
+    let named = all_named naming found (λ (a : Answered). a.answer ≡ told.answer (site_caller a.call.site) a.call.text)
+    (λ a h. ap (λ o. option_and_then outputs_in (callable_signature (site_caller a.call.site) o)) (sym h)) told.told in
     ap (λ l. map (behind_of l) known) (sym (append-nil (lists_of ls))) ∙ (so_far naming named).1 []
     ∙ ap (λ l. map behind (map answered_of l)) (take_all i answered end)

@@ -1,6 +1,6 @@
 -- The texts of a file that was read are short, and so are those of the nodes that call.
 use Rattle.std.proofs.Common.{◌≡◌, ℕ, List, [], ◌∷◌, map, Option, Some, None, option_map, sym, subst}
-use Rattle.std.specs.Prelude.{All}
+use Rattle.std.specs.Prelude.{All, slice_index_or}
 use Rattle.std.specs.List.{AllByRecursion, cons_option}
 use Rattle.std.specs.Option.{option_map_or}
 use Rattle.std.proofs.Common.{drop}
@@ -21,7 +21,7 @@ use Rattle.al_check_interfaces.specs.Uses.{Call, calls_in, target_in}
 use Rattle.al_check_interfaces.proofs.Parts.{IsKept, calls_kept, entries_kept}
 use Rattle.al_check_calls.specs.Private.AnswerViews.{answered_of, answered_by}
 use Rattle.al_session_folder.specs.declared.lint.Target.{Target}
-use Rattle.al_check_calls.specs.Answers.{Answered, calls_with_answers, first_answer}
+use Rattle.al_check_calls.specs.Answers.{Answered, calls_with_answers}
 use Rattle.al_check_calls.specs.declared.answers.Answered as code
 use Rattle.al_check_calls.specs.FileCalls.{AreShort, EntriesShort, IsShort, ItemsShort}
 
@@ -73,7 +73,7 @@ answered_short : (cs : List Call) (answers : List (Option Interface)) → AllByR
 answered_short [] answers h = tt
 answered_short (c ∷ cs) answers h =
     let others = option_map_or (λ t. drop 1 answers) (target_in c.form) answers in
-    put_short c (target_in c.form) (first_answer answers) (calls_with_answers cs others) (h.0).1 (answered_short cs others h.1)
+    put_short c (target_in c.form) (slice_index_or answers 0 None) (calls_with_answers cs others) (h.0).1 (answered_short cs others h.1)
 
 calls_back : (as' : List code.Answered) → AllByRecursion AnsweredIsShort (map answered_of as') →
     AllByRecursion (λ (a : code.Answered). AreShort (view a.call.site.node.now)) as'

@@ -1,6 +1,6 @@
 -- The answers of a file's calls are told by who calls and by the text of `uses`, since these tell what is called.
 use Rattle.std.proofs.Common.{◌≡◌, ◌∙◌, ℕ, List, [], ◌∷◌, Option, Some, None, ap, drop, map, option_map, refl, subst, sym}
-use Rattle.std.specs.Prelude.{codes, option_and_then}
+use Rattle.std.specs.Prelude.{codes, option_and_then, slice_index_or}
 use Rattle.std.specs.List.{AllByRecursion, cons_option, filter_map}
 use Rattle.std.specs.Option.{option_map_or}
 use Rattle.al_base.specs.declared.codes.Caller.{Caller}
@@ -13,9 +13,8 @@ use Rattle.al_tree.specs.Values.{text_at_key}
 use Rattle.al_tree.specs.declared.files.FileKind.{FileKind}
 use Rattle.al_check_interfaces.specs.declared.interfaces.Interface.{Interface}
 use Rattle.al_check_interfaces.specs.Forms.{form_by}
-use Rattle.al_check_interfaces.specs.Uses.{Call, Site, call_at, calls_in, sites_in, target_in, targets_of}
-use Rattle.al_check_calls.specs.Answers.{Answered, calls_with_answers, first_answer}
-use Rattle.al_check_calls.specs.CallFaults.{caller_of}
+use Rattle.al_check_interfaces.specs.Uses.{Call, Site, call_at, calls_in, sites_in, target_in, targets_of, site_caller}
+use Rattle.al_check_calls.specs.Answers.{Answered, calls_with_answers}
 use Rattle.al_check_calls.specs.Private.AnswerViews.{answered_of, answered_by}
 use Rattle.al_check_calls.specs.declared.answers.Answered as code
 use Rattle.al_check_calls.specs.Private.Comparing.{AreToldByUses}
@@ -24,7 +23,7 @@ use Rattle.al_check_interfaces.specs.CallViews.{call_by}
 -- ---- what is called
 
 abbrev IsFormed : Call → Type 0
-IsFormed c = c.form ≡ form_by (caller_of c) c.text
+IsFormed c = c.form ≡ form_by (site_caller c.site) c.text
 
 put_formed : (s : Site) (o : Option (Scalar × Span)) (cs : List Call) → AllByRecursion IsFormed cs → AllByRecursion IsFormed (cons_option (option_map (call_by s) o) cs)
 put_formed s None cs h = h
@@ -41,12 +40,12 @@ module _ (answer : Target → Option Interface) where
   answer_by by text = option_and_then answer (target_in (form_by by text))
 
   abbrev IsTold : Answered → Type 0
-  IsTold a = a.answer ≡ answer_by (caller_of a.call) a.call.text
+  IsTold a = a.answer ≡ answer_by (site_caller a.call.site) a.call.text
 
   -- of the answers the first is that of the first call, and the others are those of the others
   put_told : (c : Call) (o : Option Target) (rest : List Target) (more : List (Option Interface) → List Answered) → target_in c.form ≡ o → IsFormed c →
       AllByRecursion IsTold (more (map answer rest)) →
-      AllByRecursion IsTold (cons_option (option_map (λ t. answered_by c (first_answer (map answer (cons_option o rest)))) o)
+      AllByRecursion IsTold (cons_option (option_map (λ t. answered_by c (slice_index_or (map answer (cons_option o rest)) 0 None)) o)
       (more (option_map_or (λ t. drop 1 (map answer (cons_option o rest))) o (map answer (cons_option o rest)))))
   put_told c None rest more is formed h = h
   put_told c (Some t) rest more is formed h = (ap (option_and_then answer) (sym is) ∙ ap (λ f. option_and_then answer (target_in f)) formed, h)

@@ -1,5 +1,5 @@
 -- Which answer belongs to which call, and the faults of all calls of a file that are of files of the folder.
-use Rattle.std.specs.Prelude.{List, [], ◌∷◌, drop, Option, None, option_map}
+use Rattle.std.specs.Prelude.{List, [], ◌∷◌, drop, Option, None, option_map, slice_index_or}
 use Rattle.std.specs.List.{cons_option, flat_map}
 use Rattle.std.specs.Option.{option_map_or}
 use Rattle.al_base.specs.declared.faults.Fault.{Fault}
@@ -17,14 +17,10 @@ pub record Answered : Type 0 where
   pub call : Call
   pub answer : Option Interface
 
-abbrev pub first_answer : List (Option Interface) → Option Interface
-first_answer [] = None
-first_answer (a ∷ more) = a
-
 abbrev pub calls_with_answers : List Call → List (Option Interface) → List Answered
 calls_with_answers [] answers = []
 calls_with_answers (c ∷ cs) answers =
-    cons_option (option_map (λ t. record { call = c; answer = first_answer answers }) (target_in c.form))
+    cons_option (option_map (λ t. record { call = c; answer = slice_index_or answers 0 None }) (target_in c.form))
     (calls_with_answers cs (option_map_or (λ t. drop 1 answers) (target_in c.form) answers))
 
 -- the type of what is given at a call, by its key and its scalar

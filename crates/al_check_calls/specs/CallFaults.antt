@@ -32,14 +32,10 @@ use Rattle.al_check_interfaces.specs.declared.interfaces.ParameterKind.TheVarian
 use Rattle.al_check_interfaces.specs.declared.interfaces.Role.{Role}
 use Rattle.al_check_interfaces.specs.declared.interfaces.Role.TheVariants as role
 use Rattle.al_check_interfaces.specs.declared.interfaces.Signature.{Signature}
-use Rattle.al_check_interfaces.specs.Uses as uses
-use Rattle.al_check_interfaces.specs.Uses.{Call, that_uses}
-
-abbrev pub caller_of : Call → Caller
-caller_of c = uses.site_caller c.site
+use Rattle.al_check_interfaces.specs.Uses.{Call, site_caller, that_uses}
 
 abbrev pub call_fault : CallCode → Call → Span → List (List ℕ) → Fault
-call_fault f c at texts = record { span = at; code = kind_of_code.Call f (caller_of c); args = map utf8_lossy texts }
+call_fault f c at texts = record { span = at; code = kind_of_code.Call f (site_caller c.site); args = map utf8_lossy texts }
 
 -- which files a step may call, and which a job
 abbrev pub is_callable : Caller → Role → Bool
@@ -55,9 +51,9 @@ absent_faults c caller.Job = that_uses code.NoWorkflow c ∷ []
 
 -- of `uses`: C1 where no file answers, C8 where the one that does can't be called
 abbrev pub uses_faults : Call → Option Interface → List Fault
-uses_faults c None = absent_faults c (caller_of c)
+uses_faults c None = absent_faults c (site_caller c.site)
 uses_faults c (Some Unreadable) = []
-uses_faults c (Some (Readable s)) = if is_callable (caller_of c) s.role then [] else that_uses code.NotCallable c ∷ []
+uses_faults c (Some (Readable s)) = if is_callable (site_caller c.site) s.role then [] else that_uses code.NotCallable c ∷ []
 
 -- what a file shows to a step, or a job, that may call it: none where the call has C1 or C8, or the file can't be read
 abbrev pub callable_signature : Caller → Option Interface → Option Signature
@@ -88,7 +84,7 @@ is_free_for kind.Input caller.Job name = false
 is_free_for kind.Secret by name = false
 
 abbrev pub is_taken : ParameterKind → Call → Signature → List ℕ → Bool
-is_taken k c s name = has_parameter (parameters_of k s) name || is_free_for k (caller_of c) name
+is_taken k c s name = has_parameter (parameters_of k s) name || is_free_for k (site_caller c.site) name
 
 abbrev pub undefined_name : ParameterKind → Call → Signature → Node × Node → List Fault
 undefined_name k c s e =
@@ -114,7 +110,7 @@ is_compared kind.Secret caller.Job n = not (is_inherit n)
 
 abbrev pub signature_for : ParameterKind → Call → Option Interface → Option Signature
 signature_for k c answer =
-    if is_compared k (caller_of c) c.site.node then callable_signature (caller_of c) answer else None
+    if is_compared k (site_caller c.site) c.site.node then callable_signature (site_caller c.site) answer else None
 
 abbrev pub names_of_kind : ParameterKind → Call → Option Interface → List Fault
 names_of_kind k c answer = option_map_or (names_against k c) (signature_for k c answer) []
@@ -144,16 +140,13 @@ values_of type_of = map (λ e. (e, option_map_or (type_of e.0) (scalar_in e.1) A
 abbrev pub wrong_input : Call → List Parameter → Given → List Fault
 wrong_input c inputs v = option_map_or (type_faults c v.0 v.1) (find (is_parameter (key_of v.0)) inputs) []
 
-abbrev pub wrong_inputs : Call → List Given → Signature → List Fault
-wrong_inputs c values s = flat_map (wrong_input c s.inputs) values
-
 -- of the types of values: a step's aren't compared
 abbrev pub values_against : Caller → Call → List Given → Option Signature → List Fault
 values_against caller.Step c values o = []
-values_against caller.Job c values o = option_map_or (wrong_inputs c values) o []
+values_against caller.Job c values o = option_map_or (λ s. flat_map (wrong_input c s.inputs) values) o []
 
 abbrev pub value_faults : Call → List Given → Option Interface → List Fault
-value_faults c values answer = values_against (caller_of c) c values (callable_signature (caller_of c) answer)
+value_faults c values answer = values_against (site_caller c.site) c values (callable_signature (site_caller c.site) answer)
 
 -- The faults of a call of a file of the folder, given the values under `with` with their types, and its answer.
 abbrev pub call_faults : Call → List Given → Option Interface → List Fault

@@ -1,10 +1,11 @@
 -- The outputs that answers make known: those of a composite action to a step, those of a callable workflow to a job.
 use Rattle.std.specs.Prelude.{ℕ, List, Bool, true, false, Option, option_and_then}
 use Rattle.std.specs.Bool.{then_some}
+use Rattle.al_check_interfaces.specs.Uses.{site_caller}
 use Rattle.al_check_interfaces.specs.declared.interfaces.Role.{Role}
 use Rattle.al_check_interfaces.specs.declared.interfaces.Role.TheVariants as role
 use Rattle.al_check_calls.specs.Answers.{Answered}
-use Rattle.al_check_calls.specs.CallFaults.{callable_signature, caller_of}
+use Rattle.al_check_calls.specs.CallFaults.{callable_signature}
 
 -- what an action of another kind sets is told by its code alone
 abbrev pub shows_outputs : Role → Bool
@@ -13,4 +14,4 @@ shows_outputs r = true
 
 -- behind a call
 abbrev pub outputs_behind : Answered → Option (List (List ℕ))
-outputs_behind a = option_and_then (λ s. then_some (shows_outputs s.role) s.outputs) (callable_signature (caller_of a.call) a.answer)
+outputs_behind a = option_and_then (λ s. then_some (shows_outputs s.role) s.outputs) (callable_signature (site_caller a.call.site) a.answer)

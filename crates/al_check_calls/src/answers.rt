@@ -1,5 +1,5 @@
 //! The calls of a file, each with what answers it.
-ghost use Rattle.std.specs.Prelude.{◌≡◌, ◌++◌, [], drop, map, option_map, IfOk, OnOk};
+ghost use Rattle.std.specs.Prelude.{◌≡◌, ◌++◌, [], None, drop, map, option_map, slice_index_or, IfOk, OnOk};
 ghost use Rattle.std.specs.List.{cons_option};
 ghost use Rattle.std.specs.Option.{option_copied};
 ghost use Rattle.al_check_calls.specs.Answers as answering;
@@ -33,7 +33,7 @@ pub(crate) struct Answered<'a> {
 /// The first of the answers.
 fn first<'a>(answers: &[Option<&'a Interface>]) -> Option<&'a Interface>
     ensures { option_copied result
-        ≡ answering.first_answer (map (λ a. option_copied a) answers.now) }
+        ≡ slice_index_or (map (λ a. option_copied a) answers.now) 0 None }
 {
     match answers {
         [] => None,
@@ -56,20 +56,15 @@ fn rest<'s, 'a>(answers: &'s [Option<&'a Interface>]) -> &'s [Option<&'a Interfa
 fn call_at<'a>(site: Site<'a>) -> Option<SiteCall<'a>>
     ensures { option_map call_of result ≡ uses.call_at (site_of site.entry) }
 {
-    match text_under(site.node, "uses") {
-        None => None,
-        Some(uses) => Some(SiteCall { site, uses }),
-    }
+    let uses = text_under(site.node, "uses")?;
+    Some(SiteCall { site, uses })
 }
 
 /// The call of the site with a number, if there is one.
 fn call_of_site<'a>(sites: &[Site<'a>], number: usize) -> Option<SiteCall<'a>>
     ensures { option_map call_of result ≡ call_of_site (map site_of sites.now) number }
 {
-    match sites.get(number) {
-        None => None,
-        Some(site) => call_at(*site),
-    }
+    call_at(*sites.get(number)?)
 }
 
 /// Adds the call of the site with a number, with its answer.

@@ -2,14 +2,15 @@
 ghost use Rattle.std.specs.Prelude.{◌≡◌, ◌++◌, List, map, OnOk};
 ghost use Rattle.std.specs.Option.{option_copied};
 ghost use Rattle.al_check_calls.specs.CallFaults as meant;
+ghost use Rattle.al_check_interfaces.specs.Uses.{site_caller};
 ghost use Rattle.al_check_calls.specs.Private.AnswerViews.{answered_of, call_of, given_in};
 ghost use Rattle.al_types.specs.Types.{Parts};
 
 use crate::answers::{Answered, SiteCall};
-use crate::reports::{caller_of, report_uses};
+use crate::reports::report_uses;
 use crate::wrong_types::{Value, check_values};
 use al_base::{CallCode, Caller, FaultSink};
-use al_check_interfaces::{Interface, Role, Signature};
+use al_check_interfaces::{Interface, Role, Signature, caller_of};
 use std::alloc::AllocError;
 
 /// Whether a step, or a job, may call a file that is this.
@@ -45,18 +46,18 @@ pub(crate) fn called_signature<'a>(
     answer: Option<&'a Interface>,
 ) -> Option<&'a Signature>
     ensures { option_copied result
-        ≡ meant.callable_signature (meant.caller_of (call_of call.entry))
+        ≡ meant.callable_signature (site_caller (call_of call.entry).site)
         (option_copied answer.entry) }
 {
-    callable_signature(caller_of(call), answer)
+    callable_signature(caller_of(call.site), answer)
 }
 
 /// C1: a job's call that no file of the folder answers.
 fn check_absent(call: SiteCall<'_>, faults: &mut FaultSink) -> Result<(), AllocError>
     ensures { OnOk result (faults.new ≡ faults.old
-        ++ meant.absent_faults (call_of call.entry) (meant.caller_of (call_of call.entry))) }
+        ++ meant.absent_faults (call_of call.entry) (site_caller (call_of call.entry).site)) }
 {
-    match caller_of(call) {
+    match caller_of(call.site) {
         Caller::Step => Ok(()),
         Caller::Job => report_uses(call, CallCode::NoWorkflow, faults),
     }
@@ -75,7 +76,7 @@ fn check_uses(
         None => check_absent(call, faults),
         Some(Interface::Unreadable) => Ok(()),
         Some(Interface::Readable(signature)) => {
-            if is_callable(caller_of(call), signature.role) {
+            if is_callable(caller_of(call.site), signature.role) {
                 Ok(())
             } else {
                 report_uses(call, CallCode::NotCallable, faults)
@@ -100,7 +101,7 @@ pub(crate) fn check_call(
 {
     let call = answered.call;
     check_uses(call, answered.answer, faults)?;
-    match caller_of(call) {
+    match caller_of(call.site) {
         Caller::Step => Ok(()),
         Caller::Job => check_values(
             call,

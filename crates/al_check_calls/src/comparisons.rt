@@ -3,6 +3,7 @@ ghost use Rattle.std.specs.Prelude.{◌≡◌, ◌++◌, [], map, option_map, If
 ghost use Rattle.std.specs.List.{cons_option, flat_map};
 ghost use Rattle.std.specs.Option.{option_copied};
 ghost use Rattle.al_check_calls.specs.CallFaults as faults;
+ghost use Rattle.al_check_interfaces.specs.Uses.{site_caller};
 ghost use Rattle.al_check_calls.specs.Private.AnswerViews.{answered_of, call_of, compared_of};
 ghost use Rattle.al_check_calls.specs.Private.Comparing as comparing;
 ghost use Rattle.al_tree.specs.Values.{member_of};
@@ -10,9 +11,9 @@ ghost use Rattle.al_yaml_tree.specs.View.{view};
 
 use crate::answers::{Answered, SiteCall};
 use crate::calls::called_signature;
-use crate::reports::{caller_of, uses_text};
+use crate::reports::uses_text;
 use al_base::Caller;
-use al_check_interfaces::{ParameterKind, Signature};
+use al_check_interfaces::{ParameterKind, Signature, caller_of};
 use al_tree::{Member, members_under, text_under};
 use al_yaml_tree::Node;
 use std::alloc::{AllocError, Global};
@@ -52,12 +53,12 @@ fn is_inherit(job: &Node) -> bool
 /// Whether names of a kind are compared: of a step no secrets, and of a job none that it inherits.
 fn is_compared(kind: ParameterKind, call: SiteCall<'_>) -> bool
     ensures { result
-        ≡ faults.is_compared kind (faults.caller_of (call_of call.entry))
+        ≡ faults.is_compared kind (site_caller (call_of call.entry).site)
         (call_of call.entry).site.node }
 {
     match kind {
         ParameterKind::Input => true,
-        ParameterKind::Secret => match caller_of(call) {
+        ParameterKind::Secret => match caller_of(call.site) {
             Caller::Step => false,
             Caller::Job => !is_inherit(call.site.node),
         },
@@ -80,14 +81,11 @@ fn comparison_of<'a>(kind: ParameterKind, answered: Answered<'a>) -> Option<Comp
     ensures { option_map compared_of result
         ≡ comparing.comparison_of kind (answered_of answered.entry) }
 {
-    match signature_for(kind, answered) {
-        None => None,
-        Some(signature) => Some(Comparison {
-            kind,
-            call: answered.call,
-            signature,
-        }),
-    }
+    Some(Comparison {
+        kind,
+        call: answered.call,
+        signature: signature_for(kind, answered)?,
+    })
 }
 
 /// Adds a call, if its names of a kind are compared.
@@ -140,6 +138,6 @@ pub(crate) fn call_alike(one: Comparison<'_>, other: Comparison<'_>) -> bool
     ensures { result ≡ comparing.call_alike (compared_of one.entry) (compared_of other.entry) }
 {
     one.kind == other.kind
-        && caller_of(one.call) == caller_of(other.call)
+        && caller_of(one.call.site) == caller_of(other.call.site)
         && uses_text(one.call) == uses_text(other.call)
 }

@@ -10,13 +10,12 @@ ghost use Rattle.al_check_calls.specs.Private.AnswerViews.{compared_of};
 ghost use Rattle.al_check_calls.specs.Private.Comparing as comparing;
 ghost use Rattle.al_check_calls.specs.Private.Comparing.{HaveOneSignature, IsSaid, TellSignatures};
 ghost use Rattle.al_tree.specs.Keys.{keys_in};
-ghost use Rattle.al_tree.specs.Values.{member_of};
 
 use crate::comparisons::{Comparison, call_alike, given_by};
-use crate::reports::{called_name, caller_of, code_at, uses_span};
+use crate::reports::{called_name, code_at, uses_span};
 use al_base::{CallCode, Caller, FaultSink, NamePositions};
-use al_check_interfaces::{Parameter, ParameterKind};
-use al_tree::{Member, key_text};
+use al_check_interfaces::{Parameter, ParameterKind, caller_of};
+use al_tree::member_positions;
 use std::alloc::{AllocError, Global};
 
 /// A call, and the names that it gives.
@@ -26,27 +25,6 @@ struct Giver<'a> {
     names: NamePositions,
 }
 
-/// The texts of the keys of members.
-fn texts_of<'a>(alloc: Global, given: &[Member<'a>]) -> Result<Vec<&'a [u8]>, AllocError>
-    ensures { IfOk result (λ v. map (λ n. n.now) v.items ≡ keys_in (map member_of given.now)) }
-{
-    let mut texts = Vec::with_capacity(alloc, given.len())?;
-    for member in given {
-        texts.push(key_text(member.key))?;
-    }
-    Ok(texts)
-}
-
-/// The keys of members, as names.
-fn names_in(alloc: Global, given: &[Member<'_>]) -> Result<NamePositions, AllocError>
-    ensures { IfOk result
-        (λ p. name_position p ≡ name_place (keys_in (map member_of given.now))) }
-{
-    let texts = texts_of(alloc, given)?;
-    let names = NamePositions::of(alloc, texts.as_slice())?;
-    Ok(names)
-}
-
 fn giver_of<'a>(alloc: Global, call: Comparison<'a>) -> Result<Giver<'a>, AllocError>
     ensures call { IfOk result (λ g. compared_of g.call ≡ compared_of call.entry) }
     ensures names { let q = compared_of call.entry in IfOk result
@@ -54,7 +32,7 @@ fn giver_of<'a>(alloc: Global, call: Comparison<'a>) -> Result<Giver<'a>, AllocE
         ≡ name_place (keys_in (meant.given_by q.kind q.call.site.node))) }
 {
     let given = given_by(alloc, call.kind, call.call.site.node)?;
-    let names = names_in(alloc, given.as_slice())?;
+    let names = member_positions(alloc, given.as_slice())?;
     Ok(Giver { call, names })
 }
 
@@ -115,28 +93,7 @@ fn check_parameter<'a>(
     report_missing(giver.call, parameter, faults)
 }
 
-/// Adds C3 and C6 of these parameters, and answers those that the call gives.
-fn check_each_parameter<'a>(
-    call: Comparison<'_>,
-    parameters: &[&'a Parameter],
-    faults: &mut FaultSink,
-) -> Result<Vec<&'a Parameter>, AllocError>
-    ensures faults { OnOk result (faults.new ≡ faults.old
-        ++ flat_map (comparing.fault_unless_given (compared_of call.entry))
-        (map (λ p. p.now) parameters.now)) }
-    ensures left { IfOk result (λ v. map (λ p. p.now) v.items
-        ≡ flat_map (comparing.parameter_if_given (compared_of call.entry))
-        (map (λ p. p.now) parameters.now)) }
-{
-    let giver = giver_of(faults.alloc(), call)?;
-    let mut left = Vec::new(faults.alloc());
-    for parameter in parameters {
-        check_parameter(&giver, *parameter, &mut left, faults)?;
-    }
-    Ok(left)
-}
-
-/// Likewise; where there are none, what the call gives isn't looked at.
+/// Adds C3 and C6 of these parameters, and answers those that the call gives. Where there are none, what the call gives isn't looked at.
 fn check_parameters<'a>(
     call: Comparison<'_>,
     parameters: &[&'a Parameter],
@@ -149,13 +106,15 @@ fn check_parameters<'a>(
         ≡ flat_map (comparing.parameter_if_given (compared_of call.entry))
         (map (λ p. p.now) parameters.now)) }
 {
-    match parameters {
-        [] => Ok(Vec::new(faults.alloc())),
-        _ => {
-            let left = check_each_parameter(call, parameters, faults)?;
-            Ok(left)
-        }
+    let mut left = Vec::new(faults.alloc());
+    if let [] = parameters {
+        return Ok(left);
     }
+    let giver = giver_of(faults.alloc(), call)?;
+    for parameter in parameters {
+        check_parameter(&giver, *parameter, &mut left, faults)?;
+    }
+    Ok(left)
 }
 
 /// Whether calls alike are by one `uses`.
@@ -211,7 +170,11 @@ fn check_in_turn<'a>(calls: &[Comparison<'a>], faults: &mut FaultSink) -> Result
 
 /// What puts calls in order: where `uses` stands, and then who calls, and the kind.
 fn order_of(call: &Comparison<'_>) -> (u32, Caller, ParameterKind) {
-    (uses_span(call.call).start, caller_of(call.call), call.kind)
+    (
+        uses_span(call.call).start,
+        caller_of(call.call.site),
+        call.kind,
+    )
 }
 
 /// Puts calls in order, so that those alike by one `uses` stand together.

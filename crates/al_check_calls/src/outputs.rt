@@ -25,14 +25,10 @@ fn has_outputs(role: Role) -> bool
 pub(crate) fn outputs_of<'a>(answered: Answered<'a>) -> Option<&'a NameList>
     ensures { option_copied result ≡ outputs_behind (answered_of answered.entry) }
 {
-    match called_signature(answered.call, answered.answer) {
-        None => None,
-        Some(signature) => {
-            if has_outputs(signature.role) {
-                Some(&signature.outputs)
-            } else {
-                None
-            }
-        }
+    let signature = called_signature(answered.call, answered.answer)?;
+    if has_outputs(signature.role) {
+        Some(&signature.outputs)
+    } else {
+        None
     }
 }

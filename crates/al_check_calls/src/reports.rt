@@ -1,12 +1,12 @@
 //! How faults of calls are reported.
 ghost use Rattle.std.specs.Prelude.{◌≡◌, ◌++◌, ◌∷◌, [], OnOk};
 ghost use Rattle.al_check_calls.specs.CallFaults as meant;
-ghost use Rattle.al_check_interfaces.specs.Uses.{that_uses};
+ghost use Rattle.al_check_interfaces.specs.Uses.{site_caller, that_uses};
 ghost use Rattle.al_check_calls.specs.Private.AnswerViews.{call_of};
 
 use crate::answers::SiteCall;
-use al_base::{CallCode, Caller, Code, FaultSink, Span};
-use al_check_interfaces::{Signature, caller_of as caller_of_site};
+use al_base::{CallCode, Code, FaultSink, Span};
+use al_check_interfaces::{Signature, caller_of};
 use std::alloc::AllocError;
 
 /// The text of `uses`.
@@ -33,18 +33,11 @@ pub(crate) fn called_name<'a>(call: SiteCall<'a>, signature: &'a Signature) -> &
     }
 }
 
-/// Who calls.
-pub(crate) fn caller_of(call: SiteCall<'_>) -> Caller
-    ensures { result ≡ meant.caller_of (call_of call.entry) }
-{
-    caller_of_site(call.site)
-}
-
 /// The code of a fault of a call, which names who calls.
 pub(crate) fn code_at(call: SiteCall<'_>, code: CallCode) -> Code
-    ensures { result ≡ Code.Call code (meant.caller_of (call_of call.entry)) }
+    ensures { result ≡ Code.Call code (site_caller (call_of call.entry).site) }
 {
-    Code::Call(code, caller_of(call))
+    Code::Call(code, caller_of(call.site))
 }
 
 /// Adds a fault of a call at its `uses`, whose text it names.

@@ -11,9 +11,9 @@ ghost use Rattle.al_check_calls.specs.Private.Comparing.{AreThere, HaveOneSignat
 ghost use Rattle.al_tree.specs.Values.{member_of};
 
 use crate::comparisons::{Comparison, call_alike, given_by};
-use crate::reports::{called_name, caller_of, code_at, uses_text};
+use crate::reports::{called_name, code_at, uses_text};
 use al_base::{CallCode, Caller, FaultSink};
-use al_check_interfaces::ParameterKind;
+use al_check_interfaces::{ParameterKind, caller_of};
 use al_tree::{Member, key_text};
 use al_tree_declarations::is_named_among;
 use std::alloc::{AllocError, Global};
@@ -46,7 +46,7 @@ fn is_taken(alloc: Global, by: Comparison<'_>, name: &[u8]) -> Result<bool, Allo
     if by.signature.parameters(by.kind).has(alloc, name)? {
         return Ok(true);
     }
-    Ok(is_free_for(by.kind, caller_of(by.call), name))
+    Ok(is_free_for(by.kind, caller_of(by.call.site), name))
 }
 
 fn undefined_code(kind: ParameterKind) -> CallCode
@@ -167,7 +167,7 @@ fn order_of<'a>(name: &GivenName<'a>) -> (u32, ParameterKind, Caller, &'a [u8]) 
     (
         name.member.key.span().start,
         name.by.kind,
-        caller_of(call),
+        caller_of(call.site),
         uses_text(call),
     )
 }

@@ -1,5 +1,6 @@
 //! The types of what a job gives to the workflow that it calls: C4.
 ghost use Rattle.std.specs.Prelude.{◌≡◌, ◌++◌, List, map, OnOk};
+ghost use Rattle.std.specs.List.{flat_map};
 ghost use Rattle.std.specs.Option.{option_copied};
 ghost use Rattle.al_base.specs.declared.codes.Caller.TheVariants as by;
 ghost use Rattle.al_expr_types.specs.Types.{type_in};
@@ -90,7 +91,8 @@ fn check_all(
     faults: &mut FaultSink,
 ) -> Result<(), AllocError>
     ensures { OnOk result ((ms : List Parts) → faults.new ≡ faults.old
-        ++ meant.wrong_inputs (call_of call.entry) (map (given_in ms) values.now) signature.now) }
+        ++ flat_map (meant.wrong_input (call_of call.entry) signature.now.inputs)
+        (map (given_in ms) values.now)) }
 {
     for value in values {
         check_value(call, &signature.inputs, value, faults)?;

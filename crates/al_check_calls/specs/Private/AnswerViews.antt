@@ -1,5 +1,5 @@
 -- What the program's calls, values and answers stand for.
-use Rattle.std.specs.Prelude.{ℕ, List, [], ◌∷◌, Bool, drop, Option, option_and_then, option_map, slice_get}
+use Rattle.std.specs.Prelude.{ℕ, List, [], ◌∷◌, Bool, drop, Option, option_and_then, option_map, slice_get, slice_index_or, None}
 use Rattle.std.specs.List.{cons_option, list_all}
 use Rattle.std.specs.Option.{option_copied, option_map_or}
 use Rattle.al_tree.specs.Values.{member_of, scalar_node_of}
@@ -13,7 +13,7 @@ use Rattle.al_expr_types.specs.declared.types.Types.{Types}
 use Rattle.al_check_interfaces.specs.declared.interfaces.Interface.{Interface}
 use Rattle.al_check_interfaces.specs.CallViews.{site_of, call_by}
 use Rattle.al_check_interfaces.specs.Uses.{Call, Site, call_at}
-use Rattle.al_check_calls.specs.Answers.{Answered, Typing, first_answer}
+use Rattle.al_check_calls.specs.Answers.{Answered, Typing}
 use Rattle.al_check_calls.specs.CallFaults.{Given}
 use Rattle.al_check_calls.specs.FileCalls.{typing}
 use Rattle.al_check_calls.specs.Private.Comparing.{Comparison, GivenName}
@@ -67,5 +67,5 @@ call_of_site sites number = option_and_then call_at (slice_get sites number)
 abbrev pub answered_at : List Site → List ℕ → List (Option Interface) → List Answered
 answered_at sites [] answers = []
 answered_at sites (number ∷ more) answers =
-    cons_option (option_map (λ c. answered_by c (first_answer answers)) (call_of_site sites number))
+    cons_option (option_map (λ c. answered_by c (slice_index_or answers 0 None)) (call_of_site sites number))
     (answered_at sites more (drop 1 answers))

@@ -18,9 +18,9 @@ use Rattle.al_check_interfaces.specs.declared.interfaces.Parameter.{Parameter}
 use Rattle.al_check_interfaces.specs.declared.interfaces.ParameterKind.{ParameterKind}
 use Rattle.al_check_interfaces.specs.declared.interfaces.ParameterKind.TheVariants.{Input, Secret}
 use Rattle.al_check_interfaces.specs.declared.interfaces.Signature.{Signature}
-use Rattle.al_check_interfaces.specs.Uses.{Call}
+use Rattle.al_check_interfaces.specs.Uses.{Call, site_caller}
 use Rattle.al_check_calls.specs.Answers.{Answered, Typing, values_in}
-use Rattle.al_check_calls.specs.CallFaults.{call_fault, called_name, caller_of, given_by, missing_code, missing_name, name_faults}
+use Rattle.al_check_calls.specs.CallFaults.{call_fault, called_name, given_by, missing_code, missing_name, name_faults}
 use Rattle.al_check_calls.specs.CallFaults.{names_against, signature_for, undefined_name, uses_faults, value_faults}
 
 -- all but those of names
@@ -58,7 +58,7 @@ missing_of q = flat_map (missing_name q.kind q.call q.signature) (mandatory_of (
 
 -- who calls, and by which text, tells what is shown
 abbrev pub HaveOneSignature : Comparison → Comparison → Type 0
-HaveOneSignature q r = caller_of q.call ≡ caller_of r.call → q.call.text ≡ r.call.text → q.signature ≡ r.signature
+HaveOneSignature q r = site_caller q.call.site ≡ site_caller r.call.site → q.call.text ≡ r.call.text → q.signature ≡ r.signature
 
 abbrev pub TellSignatures : List Comparison → Type 0
 TellSignatures qs = (q r : Comparison) → Contains qs q → Contains qs r → HaveOneSignature q r
@@ -66,17 +66,17 @@ TellSignatures qs = (q r : Comparison) → Contains qs q → Contains qs r → H
 -- calls whose answers are told so
 pub record AreToldByUses (found : List Answered) : Type 0 where
   pub answer : Caller → List ℕ → Option Interface
-  pub told : AllByRecursion (λ a. a.answer ≡ answer (caller_of a.call) a.call.text) found
+  pub told : AllByRecursion (λ a. a.answer ≡ answer (site_caller a.call.site) a.call.text) found
 
 -- steps, or jobs, that call by one text
 abbrev pub call_alike : Comparison → Comparison → Bool
 call_alike q r =
     kinds.ghosts.eq q.kind r.kind
-    && (caller.ghosts.eq (caller_of q.call) (caller_of r.call) && bytes_eq q.call.text r.call.text)
+    && (caller.ghosts.eq (site_caller q.call.site) (site_caller r.call.site) && bytes_eq q.call.text r.call.text)
 
 pub record CallAlike (q r : Comparison) : Type 0 where
   pub kind : q.kind ≡ r.kind
-  pub by : caller_of q.call ≡ caller_of r.call
+  pub by : site_caller q.call.site ≡ site_caller r.call.site
   pub text : q.call.text ≡ r.call.text
 
 -- ---- names that aren't declared

@@ -2,7 +2,7 @@ use Rattle.std.proofs.Common.{◌≡◌, ◌++◌, drop, map}
 use Rattle.std.specs.List.{flat_map}
 use Rattle.al_check_calls.specs.Private.AnswerViews.{compared_of}
 use Rattle.al_check_calls.specs.Private.Comparing.{fault_unless_given, parameter_if_given}
-use Rattle.al_check_calls.proofs.missing.check_each_parameter.Given as goal
+use Rattle.al_check_calls.proofs.missing.check_parameters.Given as goal
 
 abbrev pub invariant-loop-parameter : goal.invariant-loop-parameter
 invariant-loop-parameter l = record {
