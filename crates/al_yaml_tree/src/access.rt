@@ -7,30 +7,41 @@ ghost use Rattle.al_yaml_tree.specs.Access.{mapping_in, scalar_in, sequence_in};
 ghost use Rattle.al_yaml_tree.specs.Node.{span_of};
 ghost use Rattle.al_yaml_tree.specs.Texts.{HasTexts};
 ghost use Rattle.al_yaml_tree.specs.View.{entry_view, view};
+ghost use Rattle.al_yaml_tree.specs.declared.node.Kind.TheVariants.{Shared};
 
 use crate::node::{Entry, Kind, Node};
 use al_base::Span;
 use al_scalar::Scalar;
 
 impl Node {
-    /// The span of the written form.
-    pub fn span(&self) -> Span
-        ensures { result ≡ span_of (view self.now) }
+    /// The node itself, or the one that it shares.
+    fn unshared(&self) -> &Node
+        ensures view { view result.now ≡ view self.now }
+        ensures own { (node : _) → result.now.kind ≡ Shared node → ⊥ }
     {
         match &self.kind {
-            Kind::Scalar(_) | Kind::Sequence(_) | Kind::Mapping(_) => self.span,
-            Kind::Shared(node) => node.span(),
+            Kind::Scalar(_) | Kind::Sequence(_) | Kind::Mapping(_) => self,
+            Kind::Shared(node) => node.unshared(),
         }
     }
 
+    /// The span of the written form.
+    #[inline(always)]
+    pub fn span(&self) -> Span
+        ensures { result ≡ span_of (view self.now) }
+    {
+        self.unshared().span
+    }
+
     /// The scalar that the node is.
+    #[inline(always)]
     pub fn scalar(&self) -> Option<&Scalar>
         ensures { option_copied result ≡ scalar_in (view self.now) }
     {
-        match &self.kind {
+        match &self.unshared().kind {
             Kind::Scalar(scalar) => Some(scalar),
             Kind::Sequence(_) | Kind::Mapping(_) => None,
-            Kind::Shared(node) => node.scalar(),
+            Kind::Shared(_) => unreachable!(),
         }
     }
 
@@ -46,24 +57,26 @@ impl Node {
     }
 
     /// The items of the sequence that the node is.
+    #[inline(always)]
     pub fn sequence(&self) -> Option<&[Node]>
         ensures { option_map (λ v. map view v.now) result ≡ sequence_in (view self.now) }
     {
-        match &self.kind {
+        match &self.unshared().kind {
             Kind::Sequence(items) => Some(items.as_slice()),
             Kind::Scalar(_) | Kind::Mapping(_) => None,
-            Kind::Shared(node) => node.sequence(),
+            Kind::Shared(_) => unreachable!(),
         }
     }
 
     /// The entries of the mapping that the node is.
+    #[inline(always)]
     pub fn mapping(&self) -> Option<&[Entry]>
         ensures { option_map (λ v. map entry_view v.now) result ≡ mapping_in (view self.now) }
     {
-        match &self.kind {
+        match &self.unshared().kind {
             Kind::Mapping(entries) => Some(entries.as_slice()),
             Kind::Scalar(_) | Kind::Sequence(_) => None,
-            Kind::Shared(node) => node.mapping(),
+            Kind::Shared(_) => unreachable!(),
         }
     }
 }
