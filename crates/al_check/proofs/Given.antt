@@ -23,8 +23,8 @@ use Rattle.al_check_interfaces.proofs.CallLists.{kept_faults, kept_targets}
 use Rattle.al_check_interfaces.specs.Interfaces.{interface_of}
 use Rattle.al_check_interfaces.specs.declared.interfaces.Interface.TheVariants.{Unreadable}
 use Rattle.al_check_interfaces.specs.Uses as uses
-use Rattle.al_check_interfaces.specs.Uses.{calls_in, cycle_faults, sites_in, target_in, that_uses}
-use Rattle.al_check_interfaces.specs.declared.calls.Call.{Call}
+use Rattle.al_check_interfaces.specs.Uses.{calls_in, cycle_faults, target_in, that_uses}
+use Rattle.al_check_interfaces.specs.declared.calls.FolderCall.{FolderCall}
 use Rattle.al_check.specs.Calling.{call_targets, file_interface, file_targets, shown_by, shown_read, targets_read}
 use Rattle.al_check.specs.Reading.{CallsGiven, IsGiven, IsRead}
 use Rattle.al_check.specs.Sites.{file_sites}
@@ -66,17 +66,17 @@ interface_shown file kind bytes is = interface_is kind bytes file.tree is.given
 
 -- ---- the calls that reading kept
 
-targets_in : (read : Result Tree YamlFault) (calls : List Call) → CallsGiven read calls → map (λ c. c.target) calls ≡ targets_read read
-targets_in (Ok t) calls are = kept_targets (sites_in (kind_in t) (root_of t)) (calls_in (kind_in t) (root_of t)) calls are
+targets_in : (read : Result Tree YamlFault) (calls : List FolderCall) → CallsGiven read calls → map (λ c. c.target) calls ≡ targets_read read
+targets_in (Ok t) calls are = kept_targets (calls_in (kind_in t) (root_of t)) calls are
 targets_in (Err fault) calls none = ap (map (λ c. c.target)) none
 
 pub targets_kept : (file : ReadFile) (kind : FileKind) (bytes : List ℕ) → IsRead file kind bytes → map (λ c. c.target) file.calls.items ≡ file_targets kind bytes
 targets_kept file kind bytes is = targets_in file.tree file.calls.items is.calls ∙ targets_are kind bytes file.tree is.given
 
-faults_in : (kind : FileKind) (bytes : List ℕ) (read : Result Tree YamlFault) (calls : List Call) → IsGiven kind bytes read → CallsGiven read calls →
+faults_in : (kind : FileKind) (bytes : List ℕ) (read : Result Tree YamlFault) (calls : List FolderCall) → IsGiven kind bytes read → CallsGiven read calls →
     map (λ c. c.fault) calls ≡ file_sites kind bytes
 faults_in kind bytes (Ok t) calls is are =
-    kept_faults (sites_in (kind_in t) (root_of t)) (calls_in (kind_in t) (root_of t)) calls are
+    kept_faults (calls_in (kind_in t) (root_of t)) calls are
     ∙ of_tree sites_in_tree [] kind bytes t is
 faults_in kind bytes (Err fault) calls is none = ap (map (λ c. c.fault)) none ∙ of_fault sites_in_tree [] kind bytes fault is
 
@@ -92,14 +92,14 @@ pub interface_kept_of : (unit : Unit) (kind : FileKind) (bytes : List ℕ) → I
 interface_kept_of (unit.Whole file) kind bytes is = interface_shown file kind bytes is
 interface_kept_of (unit.Brief brief) kind bytes is = is.interface
 
-pub call_inside : (calls : List Call) (kind : FileKind) (bytes : List ℕ) (call : ℕ) → HasCalls calls kind bytes → call < length (file_targets kind bytes) → call < length calls
+pub call_inside : (calls : List FolderCall) (kind : FileKind) (bytes : List ℕ) (call : ℕ) → HasCalls calls kind bytes → call < length (file_targets kind bytes) → call < length calls
 call_inside calls kind bytes call has lt =
     let kept : length (map (λ c. c.target) calls) ≡ length (file_targets kind bytes) = ap length has.targets in
     let all : length (map (λ c. c.target) calls) ≡ length calls = length-map calls (λ c. c.target) in
     omega (arith, lt, kept, all)
 
 -- the fault of a call with this number is kept
-pub site_kept : (calls : List Call) (kind : FileKind) (bytes : List ℕ) (call : ℕ) (found : Call) → HasCalls calls kind bytes → found ≡ get_or calls call found →
+pub site_kept : (calls : List FolderCall) (kind : FileKind) (bytes : List ℕ) (call : ℕ) (found : FolderCall) → HasCalls calls kind bytes → found ≡ get_or calls call found →
     call < length calls → slice_get (file_sites kind bytes) call ≡ Some found.fault
 site_kept calls kind bytes call found has read lt =
     ap (λ l. slice_get l call) (sym has.sites) ∙ slice_get-map (λ c. c.fault) calls call
@@ -122,7 +122,7 @@ sites_named : (kind : FileKind) (read : Result Node FaultAt) → AllByRecursion 
 sites_named kind (Ok root) = loops_named (calls_in kind root)
 sites_named kind (Err fault) = tt
 
-pub site_named : (calls : List Call) (kind : FileKind) (bytes : List ℕ) (call : ℕ) (found : Call) → HasCalls calls kind bytes → found ≡ get_or calls call found →
+pub site_named : (calls : List FolderCall) (kind : FileKind) (bytes : List ℕ) (call : ℕ) (found : FolderCall) → HasCalls calls kind bytes → found ≡ get_or calls call found →
     call < length calls → IsNamed found.fault
 site_named calls kind bytes call found has read lt =
     let there = mapped_in (λ c. c.fault) calls call found lt read in

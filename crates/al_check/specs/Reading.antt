@@ -13,7 +13,7 @@ use Rattle.al_yaml_tree.specs.Document.{tree_of}
 use Rattle.al_yaml_tree.specs.Spans.{AreFrom, IsInside, IsLaid}
 use Rattle.al_yaml_tree.specs.Texts.{HasTexts}
 use Rattle.al_check_interfaces.specs.FolderCalls.{AreCallsOf}
-use Rattle.al_check_interfaces.specs.declared.calls.Call.{Call}
+use Rattle.al_check_interfaces.specs.declared.calls.FolderCall.{FolderCall}
 use Rattle.al_check.specs.FileFaults.{own_faults}
 use Rattle.al_check.specs.declared.files.ReadFile.{ReadFile}
 
@@ -42,7 +42,7 @@ own_given (Ok t) = own_faults (kind_in t) (root_of t)
 own_given (Err f) = []
 
 -- its calls of files of the folder, of which a file that is no YAML has none
-abbrev pub CallsGiven : Result Tree YamlFault → List Call → Type 0
+abbrev pub CallsGiven : Result Tree YamlFault → List FolderCall → Type 0
 CallsGiven (Ok t) calls = AreCallsOf (kind_in t) (root_of t) calls
 CallsGiven (Err f) calls = calls ≡ []
 

@@ -1,7 +1,7 @@
 -- What is kept of a file that was read.
 use Rattle.std.specs.Prelude.{◌≡◌, ℕ, List, map}
 use Rattle.al_tree.specs.declared.files.FileKind.{FileKind}
-use Rattle.al_check_interfaces.specs.declared.calls.Call.{Call}
+use Rattle.al_check_interfaces.specs.declared.calls.FolderCall.{FolderCall}
 use Rattle.al_check_interfaces.specs.declared.interfaces.Interface.{Interface}
 use Rattle.al_check.specs.Calling.{file_interface, file_targets, shown_by}
 use Rattle.al_check.specs.Reading.{IsRead}
@@ -11,7 +11,7 @@ use Rattle.al_check.specs.declared.units.Unit.{Unit}
 use Rattle.al_check.specs.declared.units.Unit.TheVariants as unit
 
 -- these are the calls of files of the folder that a file of this kind with these bytes has
-pub record HasCalls (calls : List Call) (kind : FileKind) (bytes : List ℕ) : Type 0 where
+pub record HasCalls (calls : List FolderCall) (kind : FileKind) (bytes : List ℕ) : Type 0 where
   pub targets : map (λ c. c.target) calls ≡ file_targets kind bytes
   pub sites : map (λ c. c.fault) calls ≡ file_sites kind bytes
 
@@ -23,7 +23,7 @@ abbrev pub IsUnit : Unit → FileKind → List ℕ → Type 0
 IsUnit (unit.Whole file) kind bytes = IsRead file kind bytes
 IsUnit (unit.Brief brief) kind bytes = IsBriefOf brief kind bytes
 
-abbrev pub calls_kept : Unit → List Call
+abbrev pub calls_kept : Unit → List FolderCall
 calls_kept (unit.Whole file) = file.calls.items
 calls_kept (unit.Brief brief) = brief.calls.items
 

@@ -27,7 +27,7 @@ ghost use Rattle.al_check.specs.RuleFaults.{rule_faults};
 use crate::printing::with_printed_args;
 use al_base::{Code, Fault, FaultSink, add_copies, fault_list};
 use al_check_calls::{Calling, behind_faults};
-use al_check_interfaces::{Call, Interface, calls_by, interface_of, sites_in};
+use al_check_interfaces::{FolderCall, Interface, calls_in, folder_calls, interface_of};
 use al_rules::rules;
 use al_scalar::YamlFault;
 use al_session_folder::Target;
@@ -49,7 +49,7 @@ pub(crate) struct Source<'a> {
 pub struct ReadFile {
     pub(crate) tree: Result<Tree, YamlFault>,
     pub(crate) own: Vec<Fault>,
-    pub(crate) calls: Vec<Call>,
+    pub(crate) calls: Vec<FolderCall>,
 }
 
 /// A document as a workflow or an action, with the faults of its keys and values.
@@ -81,17 +81,17 @@ fn with_rules(alloc: Global, tree: &Tree, keys: Vec<Fault>) -> Result<Vec<Fault>
 }
 
 /// The calls of files in the folder that a document makes. Adds the fault of every invalid `uses`.
-fn document_calls(alloc: Global, tree: &Tree, own: &mut Vec<Fault>) -> Result<Vec<Call>, AllocError>
+fn document_calls(alloc: Global, tree: &Tree, own: &mut Vec<Fault>) -> Result<Vec<FolderCall>, AllocError>
     ensures calls { IfOk result
         (λ calls. AreCallsOf (kind_in tree.now) (root_of tree.now) calls.items) }
     ensures own { OnOk result (own.new.items ≡ own.old.items
         ++ flat_map uses.wrong_uses (uses.calls_in (kind_in tree.now) (root_of tree.now))) }
 {
-    let sites = sites_in(alloc, tree.kind(), tree.root())?;
+    let calls = calls_in(alloc, tree.kind(), tree.root())?;
     let mut wrong = FaultSink::new(alloc);
-    let calls = calls_by(sites.as_slice(), &mut wrong)?;
+    let kept = folder_calls(calls.as_slice(), &mut wrong)?;
     wrong.append_to(own)?;
-    Ok(calls)
+    Ok(kept)
 }
 
 /// A document that was read from these bytes, as a workflow or an action.
@@ -132,7 +132,7 @@ pub(crate) fn read_file(alloc: Global, source: Source<'_>) -> Result<ReadFile, A
 /// Adds the faults that depend on the answers of the file's calls: those of its expressions and of its calls.
 fn add_behind(
     tree: &Tree,
-    calls: &[Call],
+    calls: &[FolderCall],
     answers: &[Option<&Interface>],
     faults: &mut FaultSink,
 ) -> Result<(), AllocError>
@@ -219,7 +219,7 @@ pub(crate) fn file_faults(
 }
 
 /// The targets of these calls.
-pub(crate) fn targets(alloc: Global, calls: &[Call]) -> Result<Vec<Target>, AllocError>
+pub(crate) fn targets(alloc: Global, calls: &[FolderCall]) -> Result<Vec<Target>, AllocError>
     ensures { IfOk result (λ found. found.items ≡ map (λ c. c.target) calls.now) }
 {
     let mut found = Vec::new(alloc);

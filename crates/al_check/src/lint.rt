@@ -10,7 +10,7 @@ ghost use Rattle.al_session_folder.specs.Sites.{site_fault};
 use crate::files::{Source, read_file};
 use crate::units::{Unit, brief_of, call_at, unit_faults, unit_interface, unit_targets};
 use al_base::{Args, Fault};
-use al_check_interfaces::{Call, Interface};
+use al_check_interfaces::{FolderCall, Interface};
 use al_session_folder::{Lint, Site, Target};
 use al_tree::{file_kind, is_action, is_workflow};
 use std::alloc::{AllocError, Global};
@@ -26,7 +26,7 @@ fn first_text(args: &Args) -> &str
 }
 
 /// The fault of a call on a call cycle.
-fn site_of(call: &Call) -> Site<'_>
+fn site_of(call: &FolderCall) -> Site<'_>
     ensures { (text : List ℕ) → call.now.fault.args ≡ text ∷ [] → site_fault result ≡ call.now.fault }
 {
     Site {

@@ -11,7 +11,7 @@ ghost use Rattle.al_check.specs.Units.{calls_kept, interface_kept, IsBriefOf, Is
 
 use crate::files::{ReadFile, Source, file_faults, file_interface, read_file, targets};
 use al_base::Fault;
-use al_check_interfaces::{Call, Interface};
+use al_check_interfaces::{FolderCall, Interface};
 use al_session_folder::Target;
 use std::alloc::{AllocError, Global};
 
@@ -19,7 +19,7 @@ use std::alloc::{AllocError, Global};
 #[derive(Drop)]
 pub struct Brief {
     pub(crate) interface: Interface,
-    pub(crate) calls: Vec<Call>,
+    pub(crate) calls: Vec<FolderCall>,
 }
 
 /// What is kept of a file after it was read.
@@ -44,7 +44,7 @@ pub(crate) fn brief_of(alloc: Global, file: ReadFile) -> Result<Brief, AllocErro
 }
 
 /// The calls of files in the folder.
-pub(crate) fn calls_of(unit: &Unit) -> &[Call]
+pub(crate) fn calls_of(unit: &Unit) -> &[FolderCall]
     ensures { result.now ≡ calls_kept unit.now }
 {
     match unit {
@@ -54,7 +54,7 @@ pub(crate) fn calls_of(unit: &Unit) -> &[Call]
 }
 
 /// The call of a file in the folder with a given number, counted from 0.
-pub(crate) fn call_at(unit: &Unit, number: usize) -> &Call
+pub(crate) fn call_at(unit: &Unit, number: usize) -> &FolderCall
     requires { number < length (calls_kept unit.now) }
     ensures { result.now ≡ slice_index_or (calls_kept unit.now) number result.now }
 {

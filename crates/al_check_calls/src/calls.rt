@@ -3,14 +3,15 @@ ghost use Rattle.std.specs.Prelude.{◌≡◌, ◌++◌, List, map, OnOk};
 ghost use Rattle.std.specs.Option.{option_copied};
 ghost use Rattle.al_check_calls.specs.CallFaults as meant;
 ghost use Rattle.al_check_interfaces.specs.Uses.{site_caller};
-ghost use Rattle.al_check_calls.specs.Private.AnswerViews.{answered_of, call_of, given_in};
+ghost use Rattle.al_check_calls.specs.Private.AnswerViews.{answered_of, given_in};
+ghost use Rattle.al_check_interfaces.specs.CallViews.{call_of};
 ghost use Rattle.al_types.specs.Types.{Parts};
 
-use crate::answers::{Answered, SiteCall};
+use crate::answers::Answered;
 use crate::reports::report_uses;
 use crate::wrong_types::{Value, check_values};
 use al_base::{CallCode, Caller, FaultSink};
-use al_check_interfaces::{Interface, Role, Signature, caller_of};
+use al_check_interfaces::{Call, Interface, Role, Signature, caller_of};
 use std::alloc::AllocError;
 
 /// Whether a step, or a job, may call a file that is this.
@@ -42,7 +43,7 @@ fn callable_signature<'a>(caller: Caller, answer: Option<&'a Interface>) -> Opti
 
 /// What a call is compared with, if the file that answers it may be called.
 pub(crate) fn called_signature<'a>(
-    call: SiteCall<'_>,
+    call: Call<'_>,
     answer: Option<&'a Interface>,
 ) -> Option<&'a Signature>
     ensures { option_copied result
@@ -53,7 +54,7 @@ pub(crate) fn called_signature<'a>(
 }
 
 /// C1: a job's call that no file of the folder answers.
-fn check_absent(call: SiteCall<'_>, faults: &mut FaultSink) -> Result<(), AllocError>
+fn check_absent(call: Call<'_>, faults: &mut FaultSink) -> Result<(), AllocError>
     ensures { OnOk result (faults.new ≡ faults.old
         ++ meant.absent_faults (call_of call.entry) (site_caller (call_of call.entry).site)) }
 {
@@ -65,7 +66,7 @@ fn check_absent(call: SiteCall<'_>, faults: &mut FaultSink) -> Result<(), AllocE
 
 /// C1 and C8.
 fn check_uses(
-    call: SiteCall<'_>,
+    call: Call<'_>,
     answer: Option<&Interface>,
     faults: &mut FaultSink,
 ) -> Result<(), AllocError>

@@ -4,16 +4,17 @@ ghost use Rattle.std.specs.List.{cons_option, flat_map};
 ghost use Rattle.std.specs.Option.{option_copied};
 ghost use Rattle.al_check_calls.specs.CallFaults as faults;
 ghost use Rattle.al_check_interfaces.specs.Uses.{site_caller};
-ghost use Rattle.al_check_calls.specs.Private.AnswerViews.{answered_of, call_of, compared_of};
+ghost use Rattle.al_check_calls.specs.Private.AnswerViews.{answered_of, compared_of};
+ghost use Rattle.al_check_interfaces.specs.CallViews.{call_of};
 ghost use Rattle.al_check_calls.specs.Private.Comparing as comparing;
 ghost use Rattle.al_tree.specs.Values.{member_of};
 ghost use Rattle.al_yaml_tree.specs.View.{view};
 
-use crate::answers::{Answered, SiteCall};
+use crate::answers::Answered;
 use crate::calls::called_signature;
 use crate::reports::uses_text;
 use al_base::Caller;
-use al_check_interfaces::{ParameterKind, Signature, caller_of};
+use al_check_interfaces::{Call, ParameterKind, Signature, caller_of};
 use al_tree::{Member, members_under, text_under};
 use al_yaml_tree::Node;
 use std::alloc::{AllocError, Global};
@@ -22,7 +23,7 @@ use std::alloc::{AllocError, Global};
 #[derive(Clone, Copy)]
 pub(crate) struct Comparison<'a> {
     pub(crate) kind: ParameterKind,
-    pub(crate) call: SiteCall<'a>,
+    pub(crate) call: Call<'a>,
     pub(crate) signature: &'a Signature,
 }
 
@@ -51,7 +52,7 @@ fn is_inherit(job: &Node) -> bool
 }
 
 /// Whether names of a kind are compared: of a step no secrets, and of a job none that it inherits.
-fn is_compared(kind: ParameterKind, call: SiteCall<'_>) -> bool
+fn is_compared(kind: ParameterKind, call: Call<'_>) -> bool
     ensures { result
         ≡ faults.is_compared kind (site_caller (call_of call.entry).site)
         (call_of call.entry).site.node }

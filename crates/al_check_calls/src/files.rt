@@ -24,7 +24,7 @@ use crate::known::known_behind;
 use al_base::FaultSink;
 use al_check_contexts::{Env, File};
 use al_check_expressions::expression_faults;
-use al_check_interfaces::{Call, Interface, sites_in};
+use al_check_interfaces::{FolderCall, Interface, calls_in};
 use al_tree::FileKind;
 use al_yaml_tree::Node;
 use std::alloc::AllocError;
@@ -74,7 +74,7 @@ fn check_with_answers<'a>(
 pub struct Calling<'a> {
     pub kind: FileKind,
     pub root: &'a Node,
-    pub calls: &'a [Call],
+    pub calls: &'a [FolderCall],
 }
 
 /// Adds the faults of a file that depend on what answers its calls, X1 to X20 and C1 to C6 and C8: those of its expressions, which see the
@@ -98,8 +98,8 @@ pub fn behind_faults<'a>(
         (map (λ a. option_copied a) answers.now))) }
 {
     let alloc = faults.alloc();
-    let sites = sites_in(alloc, file.kind, file.root)?;
-    let answered = with_answers(alloc, sites.as_slice(), file.calls, answers)?;
+    let calls = calls_in(alloc, file.kind, file.root)?;
+    let answered = with_answers(alloc, calls.as_slice(), file.calls, answers)?;
     check_with_answers(file.kind, file.root, answered.as_slice(), faults)?;
     Ok(())
 }

@@ -2,29 +2,28 @@
 ghost use Rattle.std.specs.Prelude.{◌≡◌, ◌++◌, ◌∷◌, [], OnOk};
 ghost use Rattle.al_check_calls.specs.CallFaults as meant;
 ghost use Rattle.al_check_interfaces.specs.Uses.{site_caller, that_uses};
-ghost use Rattle.al_check_calls.specs.Private.AnswerViews.{call_of};
+ghost use Rattle.al_check_interfaces.specs.CallViews.{call_of};
 
-use crate::answers::SiteCall;
 use al_base::{CallCode, Code, FaultSink, Span};
-use al_check_interfaces::{Signature, caller_of};
+use al_check_interfaces::{Call, Signature, caller_of};
 use std::alloc::AllocError;
 
 /// The text of `uses`.
-pub(crate) fn uses_text<'a>(call: SiteCall<'a>) -> &'a [u8]
+pub(crate) fn uses_text<'a>(call: Call<'a>) -> &'a [u8]
     ensures { result.now ≡ (call_of call.entry).text }
 {
     call.uses.scalar.text()
 }
 
 /// Where the value of `uses` stands.
-pub(crate) fn uses_span(call: SiteCall<'_>) -> Span
+pub(crate) fn uses_span(call: Call<'_>) -> Span
     ensures { result ≡ (call_of call.entry).at }
 {
     call.uses.span
 }
 
 /// How the called file is named.
-pub(crate) fn called_name<'a>(call: SiteCall<'a>, signature: &'a Signature) -> &'a [u8]
+pub(crate) fn called_name<'a>(call: Call<'a>, signature: &'a Signature) -> &'a [u8]
     ensures { result.now ≡ meant.called_name (call_of call.entry) signature.now }
 {
     match &signature.name {
@@ -34,7 +33,7 @@ pub(crate) fn called_name<'a>(call: SiteCall<'a>, signature: &'a Signature) -> &
 }
 
 /// The code of a fault of a call, which names who calls.
-pub(crate) fn code_at(call: SiteCall<'_>, code: CallCode) -> Code
+pub(crate) fn code_at(call: Call<'_>, code: CallCode) -> Code
     ensures { result ≡ Code.Call code (site_caller (call_of call.entry).site) }
 {
     Code::Call(code, caller_of(call.site))
@@ -42,7 +41,7 @@ pub(crate) fn code_at(call: SiteCall<'_>, code: CallCode) -> Code
 
 /// Adds a fault of a call at its `uses`, whose text it names.
 pub(crate) fn report_uses(
-    call: SiteCall<'_>,
+    call: Call<'_>,
     code: CallCode,
     faults: &mut FaultSink,
 ) -> Result<(), AllocError>

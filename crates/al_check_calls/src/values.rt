@@ -2,7 +2,8 @@
 ghost use Rattle.std.specs.Prelude.{◌≡◌, [], map, true, unwrap_or, IfOk, OnOk};
 ghost use Rattle.std.specs.Option.{option_copied};
 ghost use Rattle.al_base.specs.Growth.{BeginsWith};
-ghost use Rattle.al_check_calls.specs.Private.AnswerViews.{call_of, given_at, typing_in, given_type};
+ghost use Rattle.al_check_calls.specs.Private.AnswerViews.{given_at, typing_in, given_type};
+ghost use Rattle.al_check_interfaces.specs.CallViews.{call_of};
 ghost use Rattle.al_check_contexts.specs.Answered.{known_of};
 ghost use Rattle.al_check_contexts.specs.Standing.{Stands};
 ghost use Rattle.al_check_calls.specs.FileCalls as file_calls;
@@ -13,9 +14,9 @@ ghost use Rattle.al_expr_types.specs.Tables.{is_known, objects_of, type_at};
 ghost use Rattle.al_tree.specs.Values.{member_of};
 ghost use Rattle.al_yaml_tree.specs.View.{view};
 
-use crate::answers::SiteCall;
 use crate::types::scalar_type;
 use crate::wrong_types::Value;
+use al_check_interfaces::Call;
 use al_check_contexts::{Env, File};
 use al_check_places::{Place, Position, Section, Seen, available};
 use al_expr_types::Ty;
@@ -95,7 +96,7 @@ pub(crate) fn job_values<'a>(
     alloc: Global,
     file: File<'a>,
     env: &mut Env<'a>,
-    call: SiteCall<'a>,
+    call: Call<'a>,
 ) -> Result<Vec<Value<'a>>, AllocError>
     requires stands { Stands file env.old }
     requires short { AreShort (view call.site.node.now) }

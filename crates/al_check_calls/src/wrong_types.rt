@@ -8,12 +8,12 @@ ghost use Rattle.al_tree.specs.Values.{member_of};
 ghost use Rattle.al_types.specs.Types.{Parts, assignable_type};
 ghost use Rattle.al_check_objects.specs.Inputs.{input_type};
 ghost use Rattle.al_check_calls.specs.CallFaults as meant;
-ghost use Rattle.al_check_calls.specs.Private.AnswerViews.{call_of, given_in};
+ghost use Rattle.al_check_calls.specs.Private.AnswerViews.{given_in};
+ghost use Rattle.al_check_interfaces.specs.CallViews.{call_of};
 
-use crate::answers::SiteCall;
 use crate::reports::code_at;
 use al_base::{CallCode, FaultSink};
-use al_check_interfaces::{Parameter, Parameters, Signature};
+use al_check_interfaces::{Call, Parameter, Parameters, Signature};
 use al_check_objects::type_of_input;
 use al_expr_types::{Base, Ty};
 use al_tree::{Member, key_text};
@@ -49,7 +49,7 @@ fn is_right(ty: Ty, takes: InputType) -> bool
 }
 
 fn check_type(
-    call: SiteCall<'_>,
+    call: Call<'_>,
     value: &Value<'_>,
     input: &Parameter,
     faults: &mut FaultSink,
@@ -68,7 +68,7 @@ fn check_type(
 
 /// C4.
 fn check_value(
-    call: SiteCall<'_>,
+    call: Call<'_>,
     inputs: &Parameters,
     value: &Value<'_>,
     faults: &mut FaultSink,
@@ -85,7 +85,7 @@ fn check_value(
 
 /// C4 of all values, against what a file shows.
 fn check_all(
-    call: SiteCall<'_>,
+    call: Call<'_>,
     values: &[Value<'_>],
     signature: &Signature,
     faults: &mut FaultSink,
@@ -102,7 +102,7 @@ fn check_all(
 
 /// C4 of what a job gives, against what the called file shows, if it may be called.
 pub(crate) fn check_values(
-    call: SiteCall<'_>,
+    call: Call<'_>,
     values: &[Value<'_>],
     signature: Option<&Signature>,
     faults: &mut FaultSink,

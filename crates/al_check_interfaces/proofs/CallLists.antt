@@ -1,16 +1,16 @@
--- The calls of sites, a site further.
+-- The calls of files of the folder, a call further.
 use Rattle.std.proofs.Common.{◌≡◌, ◌<◌, ◌+◌, ◌∙◌, ℕ, List, [], ◌∷◌, ◌++◌, Option, Some, None, ap, append-nil, append_assoc, get_or, length, map, refl, slice_get, sym, take}
-use Rattle.std.specs.Prelude.{option_and_then, option_map}
+use Rattle.std.specs.Prelude.{option_map}
 use Rattle.std.specs.List.{cons_option, filter_map, flat_map}
-use Rattle.std.specs.Option.{option_map_or}
+use Rattle.std.proofs.lemmas.Grind.{flat_map-append}
 use Rattle.std.proofs.lemmas.List.{map-append, take_more}
 use Rattle.std.proofs.lemmas.Option.{slice_get-get_or, slice_get-map}
 use Rattle.al_base.specs.declared.codes.CallCode.TheVariants as code
 use Rattle.al_base.specs.declared.faults.Fault.{Fault}
 use Rattle.al_session_folder.specs.declared.lint.Target.{Target}
 use Rattle.al_check_interfaces.specs.FolderCalls.{FolderCall, as_folder_call, folder_call}
-use Rattle.al_check_interfaces.specs.Uses.{Call, Site, cycle_faults, target_in, targets_of, that_uses}
-use Rattle.al_check_interfaces.specs.declared.calls.Call as code_calls
+use Rattle.al_check_interfaces.specs.Uses.{Call, cycle_faults, target_in, targets_of, that_uses}
+use Rattle.al_check_interfaces.specs.declared.calls.FolderCall as code_calls
 use Rattle.al_check_interfaces.specs.declared.forms.Form.TheVariants.{Local}
 
 pub made_more : {X Y : Type 0} (f : X → Option Y) (xs : List X) (x : X) → filter_map f (xs ++ x ∷ []) ≡ filter_map f xs ++ cons_option (f x) []
@@ -22,43 +22,30 @@ made_more f (y ∷ xs) x = put (f y) (made_more f xs x)
     put None h = h
     put (Some z) h = ap (λ l. z ∷ l) h
 
-made_of_made : {X Y : Type 0} (g : X → Option Y) (xs : List X) (o : Option X) → filter_map g (xs ++ cons_option o []) ≡ filter_map g xs ++ cons_option (option_and_then g o) []
-made_of_made g xs None = ap (filter_map g) (append-nil xs) ∙ sym (append-nil (filter_map g xs))
-made_of_made g xs (Some x) = made_more g xs x
+module _ {A X : Type 0} (v : A → X) (xs : List A) (i : ℕ) (x : A) (room : i < length xs) (is : x ≡ get_or xs i x) where
+  taken : map v (take (i + 1) xs) ≡ map v (take i xs) ++ v x ∷ []
+  taken = ap (map v) (take_more xs i x room ∙ ap (λ y. take i xs ++ y ∷ []) (sym is)) ∙ map-append v (take i xs) (x ∷ [])
 
-all_of_made : {X Y : Type 0} (g : X → List Y) (xs : List X) (o : Option X) → flat_map g (xs ++ cons_option o []) ≡ flat_map g xs ++ option_map_or g o []
-all_of_made g [] None = refl
-all_of_made g [] (Some x) = append-nil (g x)
-all_of_made g (y ∷ xs) o = ap (λ l. g y ++ l) (all_of_made g xs o) ∙ sym (append_assoc (g y) (flat_map g xs) (option_map_or g o []))
+  pub kept_more : {Y : Type 0} (f : X → Option Y) (old new : List Y) → old ≡ filter_map f (map v (take i xs)) → new ≡ old ++ cons_option (f (v x)) [] →
+      new ≡ filter_map f (map v (take (i + 1) xs))
+  kept_more f old new o n = n ∙ ap (λ l. l ++ cons_option (f (v x)) []) o ∙ sym (ap (filter_map f) taken ∙ made_more f (map v (take i xs)) (v x))
 
-module _ {A X Y : Type 0} (v : A → X) (f : X → Option Y) (xs : List A) (i : ℕ) (x : A) (room : i < length xs) (is : x ≡ get_or xs i x) where
-  taken : filter_map f (map v (take (i + 1) xs)) ≡ filter_map f (map v (take i xs)) ++ cons_option (f (v x)) []
-  taken =
-      ap (λ l. filter_map f (map v l)) (take_more xs i x room ∙ ap (λ y. take i xs ++ y ∷ []) (sym is)) ∙ ap (filter_map f) (map-append v (take i xs) (x ∷ []))
-      ∙ made_more f (map v (take i xs)) (v x)
-
-  -- of what is made of what is made of each
-  pub kept_more : {Z : Type 0} (g : Y → Option Z) (old new : List Z) → old ≡ filter_map g (filter_map f (map v (take i xs))) → new ≡ old ++ cons_option (option_and_then g (f (v x))) [] →
-      new ≡ filter_map g (filter_map f (map v (take (i + 1) xs)))
-  kept_more g old new o n =
-      n ∙ ap (λ l. l ++ cons_option (option_and_then g (f (v x))) []) o ∙ sym (made_of_made g (filter_map f (map v (take i xs))) (f (v x))) ∙ ap (filter_map g) (sym taken)
-
-  pub all_more : {Z : Type 0} (g : Y → List Z) (before old new : List Z) → old ≡ before ++ flat_map g (filter_map f (map v (take i xs))) → new ≡ old ++ option_map_or g (f (v x)) [] →
-      new ≡ before ++ flat_map g (filter_map f (map v (take (i + 1) xs)))
+  pub all_more : {Y : Type 0} (g : X → List Y) (before old new : List Y) → old ≡ before ++ flat_map g (map v (take i xs)) → new ≡ old ++ g (v x) →
+      new ≡ before ++ flat_map g (map v (take (i + 1) xs))
   all_more g before old new o n =
-      n ∙ ap (λ l. l ++ option_map_or g (f (v x)) []) o ∙ append_assoc before (flat_map g (filter_map f (map v (take i xs)))) (option_map_or g (f (v x)) [])
-      ∙ ap (λ l. before ++ l) (sym (all_of_made g (filter_map f (map v (take i xs))) (f (v x))) ∙ ap (flat_map g) (sym taken))
+      n ∙ ap (λ l. l ++ g (v x)) o ∙ append_assoc before (flat_map g (map v (take i xs))) (g (v x))
+      ∙ ap (λ l. before ++ l) (sym (ap (flat_map g) taken ∙ flat_map-append g (map v (take i xs)) (v x ∷ []) ∙ ap (λ l. flat_map g (map v (take i xs)) ++ l) (append-nil (g (v x)))))
 
 pub at_number : {A X : Type 0} (v : A → X) (xs : List A) (i : ℕ) (x : A) → i < length xs → x ≡ get_or xs i x → slice_get (map v xs) i ≡ Some (v x)
 at_number v xs i x room is = slice_get-map v xs i ∙ ap (option_map v) (slice_get-get_or xs i x room ∙ ap Some (sym is))
 
 -- a call that is kept
-pub local_added : (c : Call) (t : Target) (number : ℕ) (fault : Fault) (all : List Site) (old new : List code_calls.Call) → c.form ≡ Local t → slice_get all number ≡ Some c.site →
-    fault ≡ that_uses code.LeadsBack c → new ≡ old ++ record { site = number; target = t; fault = fault } ∷ [] →
+pub local_added : (c : Call) (t : Target) (number : ℕ) (fault : Fault) (all : List Call) (old new : List code_calls.FolderCall) → c.form ≡ Local t → slice_get all number ≡ Some c →
+    fault ≡ that_uses code.LeadsBack c → new ≡ old ++ record { number = number; target = t; fault = fault } ∷ [] →
     map (folder_call all) new ≡ map (folder_call all) old ++ cons_option (as_folder_call c) []
 local_added c t number fault all old new form at said more =
-    ap (map (folder_call all)) more ∙ map-append (folder_call all) old (record { site = number; target = t; fault = fault } ∷ []) ∙ (λ i. map (folder_call all) old ++ (at i, t, said i) ∷ [])
-    ∙ ap (λ f. map (folder_call all) old ++ cons_option (option_map (λ x. (Some c.site, x, that_uses code.LeadsBack c)) (target_in f)) []) (sym form)
+    ap (map (folder_call all)) more ∙ map-append (folder_call all) old (record { number = number; target = t; fault = fault } ∷ []) ∙ (λ i. map (folder_call all) old ++ (at i, t, said i) ∷ [])
+    ∙ ap (λ f. map (folder_call all) old ++ cons_option (option_map (λ x. (Some c, x, that_uses code.LeadsBack c)) (target_in f)) []) (sym form)
 
 -- what kept calls call, and what is said of them
 of_kept : {X : Type 0} (f : FolderCall → X) (g : Call → Option X) → ((c : Call) → option_map f (as_folder_call c) ≡ g c) → (cs : List Call) → map f (filter_map as_folder_call cs) ≡ filter_map g cs
@@ -69,24 +56,24 @@ of_kept f g h (c ∷ cs) = put (as_folder_call c) (of_kept f g h cs) ∙ ap (λ 
     put None rest = rest
     put (Some k) rest = ap (λ l. f k ∷ l) rest
 
-map_seen : {X : Type 0} (f : FolderCall → X) (all : List Site) (calls : List code_calls.Call) → map f (map (folder_call all) calls) ≡ map (λ c. f (folder_call all c)) calls
+map_seen : {X : Type 0} (f : FolderCall → X) (all : List Call) (calls : List code_calls.FolderCall) → map f (map (folder_call all) calls) ≡ map (λ c. f (folder_call all c)) calls
 map_seen f all [] = refl
 map_seen f all (c ∷ calls) = ap (λ l. f (folder_call all c) ∷ l) (map_seen f all calls)
 
-module _ (all : List Site) (cs : List Call) (calls : List code_calls.Call) (are : map (folder_call all) calls ≡ filter_map as_folder_call cs) where
+module _ (cs : List Call) (calls : List code_calls.FolderCall) (are : map (folder_call cs) calls ≡ filter_map as_folder_call cs) where
   pub kept_targets : map (λ c. c.target) calls ≡ targets_of cs
-  kept_targets = sym (map_seen (λ k. k.1) all calls) ∙ ap (map (λ k. k.1)) are ∙ of_kept (λ k. k.1) (λ c. target_in c.form) (λ c. by (target_in c.form) c) cs
+  kept_targets = sym (map_seen (λ k. k.1) cs calls) ∙ ap (map (λ k. k.1)) are ∙ of_kept (λ k. k.1) (λ c. target_in c.form) (λ c. by (target_in c.form) c) cs
     where
-      by : (o : Option Target) (c : Call) → option_map (λ (k : FolderCall). k.1) (option_map (λ t. (Some c.site, t, that_uses code.LeadsBack c)) o) ≡ o
+      by : (o : Option Target) (c : Call) → option_map (λ (k : FolderCall). k.1) (option_map (λ t. (Some c, t, that_uses code.LeadsBack c)) o) ≡ o
       by None c = refl
       by (Some t) c = refl
 
   pub kept_faults : map (λ c. c.fault) calls ≡ cycle_faults cs
   kept_faults =
-      sym (map_seen (λ k. k.2) all calls) ∙ ap (map (λ k. k.2)) are
+      sym (map_seen (λ k. k.2) cs calls) ∙ ap (map (λ k. k.2)) are
       ∙ of_kept (λ k. k.2) (λ c. option_map (λ t. that_uses code.LeadsBack c) (target_in c.form)) (λ c. by (target_in c.form) c) cs
     where
-      by : (o : Option Target) (c : Call) → option_map (λ (k : FolderCall). k.2) (option_map (λ t. (Some c.site, t, that_uses code.LeadsBack c)) o)
+      by : (o : Option Target) (c : Call) → option_map (λ (k : FolderCall). k.2) (option_map (λ t. (Some c, t, that_uses code.LeadsBack c)) o)
           ≡ option_map (λ t. that_uses code.LeadsBack c) o
       by None c = refl
       by (Some t) c = refl

@@ -1,15 +1,14 @@
--- What the program's sites stand for.
-use Rattle.std.specs.Prelude.{ℕ, List, Option, option_and_then, option_map}
+-- What the program's sites and calls stand for.
+use Rattle.std.specs.Prelude.{ℕ, List, Option, option_map}
 use Rattle.std.specs.Borrow.{Bor}
 use Rattle.al_base.specs.declared.faults.Span.{Span}
 use Rattle.al_scalar.specs.Scalar.{Scalar, text_of}
 use Rattle.al_tree.specs.Values.{scalar_node_of}
 use Rattle.al_yaml_tree.specs.View.{view}
-use Rattle.al_check_interfaces.specs.FolderCalls.{FolderCall, as_folder_call}
 use Rattle.al_check_interfaces.specs.Forms.{form_by}
-use Rattle.al_check_interfaces.specs.Uses.{Call, Site, call_at, site_caller}
-use Rattle.al_check_interfaces.specs.declared.calls.Uses as code_uses
+use Rattle.al_check_interfaces.specs.Uses.{Call, Site, site_caller}
 use Rattle.al_check_interfaces.specs.declared.sites.Site as code_sites
+use Rattle.al_check_interfaces.specs.declared.sites.Call as code_calls
 
 abbrev pub bytes_of : Option (Bor (List ℕ)) → Option (List ℕ)
 bytes_of o = option_map (λ b. b.now) o
@@ -20,9 +19,5 @@ site_of s = record { job = bytes_of s.job; step = s.step; node = view s.node.now
 abbrev pub call_by : Site → Scalar × Span → Call
 call_by s t = record { site = s; at = t.1; text = text_of t.0; form = form_by (site_caller s) (text_of t.0) }
 
-abbrev pub uses_of : code_uses.Uses → Call
-uses_of u = call_by (site_of u.site) (scalar_node_of u.text)
-
--- the call of a site, if it is of a file of the folder
-abbrev pub folder_call_at : Site → Option FolderCall
-folder_call_at s = option_and_then as_folder_call (call_at s)
+abbrev pub call_of : code_calls.Call → Call
+call_of c = call_by (site_of c.site) (scalar_node_of c.uses)

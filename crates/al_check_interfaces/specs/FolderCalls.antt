@@ -6,21 +6,21 @@ use Rattle.al_base.specs.declared.faults.Fault.{Fault}
 use Rattle.al_session_folder.specs.declared.lint.Target.{Target}
 use Rattle.al_tree.specs.declared.files.FileKind.{FileKind}
 use Rattle.al_yaml_tree.specs.Node.{Node}
-use Rattle.al_check_interfaces.specs.Uses.{Call, Site, calls_in, sites_in, target_in, that_uses}
-use Rattle.al_check_interfaces.specs.declared.calls.Call as code_calls
+use Rattle.al_check_interfaces.specs.Uses.{Call, calls_in, target_in, that_uses}
+use Rattle.al_check_interfaces.specs.declared.calls.FolderCall as code_calls
 
--- who calls, what, and what is said of it where it is on a call cycle
+-- a call, what it calls, and what is said of it where it is on a call cycle
 abbrev pub FolderCall : Type 0
-FolderCall = Option Site × Target × Fault
+FolderCall = Option Call × Target × Fault
 
--- a call of the code, by the sites of its file
-abbrev pub folder_call : List Site → code_calls.Call → FolderCall
-folder_call sites k = (slice_get sites k.site, k.target, k.fault)
+-- a call that is kept, by all calls of its file
+abbrev pub folder_call : List Call → code_calls.FolderCall → FolderCall
+folder_call calls k = (slice_get calls k.number, k.target, k.fault)
 
 abbrev pub as_folder_call : Call → Option FolderCall
-as_folder_call c = option_map (λ t. (Some c.site, t, that_uses code.LeadsBack c)) (target_in c.form)
+as_folder_call c = option_map (λ t. (Some c, t, that_uses code.LeadsBack c)) (target_in c.form)
 
--- these are the calls of files of the folder that a file's sites make, in order
-abbrev pub AreCallsOf : FileKind → Node → List code_calls.Call → Type 0
+-- these are the calls of files of the folder that a file makes, in order
+abbrev pub AreCallsOf : FileKind → Node → List code_calls.FolderCall → Type 0
 AreCallsOf kind root calls =
-    map (folder_call (sites_in kind root)) calls ≡ filter_map as_folder_call (calls_in kind root)
+    map (folder_call (calls_in kind root)) calls ≡ filter_map as_folder_call (calls_in kind root)

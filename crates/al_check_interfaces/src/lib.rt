@@ -14,11 +14,11 @@ mod signatures;
 mod sites;
 
 pub use al_expr_types::{Name, NameList};
-pub use calls::{Call, calls_by};
+pub use calls::{FolderCall, folder_calls};
 pub use equality::equal_interfaces;
 pub use examples::rows;
 pub use interfaces::{Interface, Parameter, ParameterKind, Role, Signature};
 pub use laws::{calls_of_trees, interfaces_of_trees};
 pub use lists::Parameters;
 pub use signatures::interface_of;
-pub use sites::{Site, caller_of, sites_in};
+pub use sites::{Call, Site, caller_of, calls_in};

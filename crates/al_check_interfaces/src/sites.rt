@@ -1,14 +1,14 @@
-//! The steps and the jobs of a file, which may call.
-ghost use Rattle.std.specs.Prelude.{◌≡◌, ◌++◌, map, IfOk, OnOk};
-ghost use Rattle.std.specs.List.{flat_map};
+//! The steps and the jobs of a file that call.
+ghost use Rattle.std.specs.Prelude.{◌≡◌, ◌++◌, [], map, option_map, IfOk, OnOk};
+ghost use Rattle.std.specs.List.{cons_option, filter_map, flat_map};
 ghost use Rattle.al_tree.specs.Values.{member_of};
 ghost use Rattle.al_tree.specs.Files.{jobs_of};
-ghost use Rattle.al_check_interfaces.specs.CallViews.{bytes_of, site_of};
+ghost use Rattle.al_check_interfaces.specs.CallViews.{bytes_of, call_of, site_of};
 ghost use Rattle.al_check_interfaces.specs.Uses as calling;
 ghost use Rattle.al_yaml_tree.specs.View.{view};
 
 use al_base::Caller;
-use al_tree::{FileKind, Member, items_under, key_text, members_under};
+use al_tree::{FileKind, Member, ScalarNode, items_under, key_text, members_under, text_under};
 use al_tree_declarations::{action_steps, is_composite};
 use al_yaml_tree::Node;
 use std::alloc::{AllocError, Global};
@@ -23,6 +23,13 @@ pub struct Site<'a> {
     pub node: &'a Node,
 }
 
+/// A step or a job that calls, and the value of its `uses`.
+#[derive(Clone, Copy)]
+pub struct Call<'a> {
+    pub site: Site<'a>,
+    pub uses: ScalarNode<'a>,
+}
+
 /// Whether a step or a job stands there.
 pub fn caller_of(site: Site<'_>) -> Caller
     ensures { result ≡ calling.site_caller (site_of site.entry) }
@@ -33,38 +40,63 @@ pub fn caller_of(site: Site<'_>) -> Caller
     }
 }
 
+/// The call of a step or a job, where a scalar that is not null stands under `uses`.
+fn call_at(site: Site<'_>) -> Option<Call<'_>>
+    ensures { option_map call_of result ≡ calling.call_at (site_of site.entry) }
+{
+    let uses = text_under(site.node, "uses")?;
+    Some(Call { site, uses })
+}
+
+/// Adds the call of a step or a job, if it has one.
+fn add_call<'a>(site: Site<'a>, out: &mut Vec<Call<'a>>) -> Result<(), AllocError>
+    ensures { OnOk result (map call_of out.new.items ≡ map call_of out.old.items
+        ++ cons_option (calling.call_at (site_of site.entry)) []) }
+{
+    match call_at(site) {
+        None => Ok(()),
+        Some(call) => {
+            out.push(call)?;
+            Ok(())
+        }
+    }
+}
+
+/// Adds the calls of steps, which are those of a job or of an action.
 fn add_steps<'a>(
     job: Option<&'a [u8]>,
     steps: &'a [Node],
-    out: &mut Vec<Site<'a>>,
+    out: &mut Vec<Call<'a>>,
 ) -> Result<(), AllocError>
-    ensures { OnOk result (map site_of out.new.items ≡ map site_of out.old.items
-        ++ calling.step_sites (bytes_of job.entry) (map view steps.now)) }
+    ensures { OnOk result (map call_of out.new.items ≡ map call_of out.old.items
+        ++ filter_map calling.call_at (calling.step_sites (bytes_of job.entry) (map view steps.now))) }
 {
     for (number, node) in steps.iter().enumerate() {
         let step = Some(number);
-        out.push(Site { job, step, node })?;
+        add_call(Site { job, step, node }, out)?;
     }
     Ok(())
 }
 
-/// Adds a job and its steps.
-fn add_job<'a>(job: Member<'a>, out: &mut Vec<Site<'a>>) -> Result<(), AllocError>
-    ensures { OnOk result (map site_of out.new.items ≡ map site_of out.old.items
-        ++ calling.job_sites (member_of job.entry)) }
+/// Adds the calls of a job and of its steps.
+fn add_job<'a>(job: Member<'a>, out: &mut Vec<Call<'a>>) -> Result<(), AllocError>
+    ensures { OnOk result (map call_of out.new.items ≡ map call_of out.old.items
+        ++ filter_map calling.call_at (calling.job_sites (member_of job.entry))) }
 {
     let key = Some(key_text(job.key));
-    out.push(Site {
+    let site = Site {
         job: key,
         step: None,
         node: job.value,
-    })?;
+    };
+    add_call(site, out)?;
     add_steps(key, items_under(job.value, "steps"), out)
 }
 
-fn sites_of_jobs<'a>(alloc: Global, jobs: &[Member<'a>]) -> Result<Vec<Site<'a>>, AllocError>
-    ensures { IfOk result (λ v. map site_of v.items
-        ≡ flat_map calling.job_sites (map member_of jobs.now)) }
+/// The calls of these jobs and of their steps.
+fn calls_of_jobs<'a>(alloc: Global, jobs: &[Member<'a>]) -> Result<Vec<Call<'a>>, AllocError>
+    ensures { IfOk result (λ v. map call_of v.items
+        ≡ filter_map calling.call_at (flat_map calling.job_sites (map member_of jobs.now))) }
 {
     let mut found = Vec::new(alloc);
     for job in jobs {
@@ -73,22 +105,23 @@ fn sites_of_jobs<'a>(alloc: Global, jobs: &[Member<'a>]) -> Result<Vec<Site<'a>>
     Ok(found)
 }
 
-fn workflow_sites(alloc: Global, root: &Node) -> Result<Vec<Site<'_>>, AllocError>
-    ensures { IfOk result (λ v. map site_of v.items
-        ≡ flat_map calling.job_sites (jobs_of (view root.now))) }
+/// The calls of a workflow.
+fn workflow_calls(alloc: Global, root: &Node) -> Result<Vec<Call<'_>>, AllocError>
+    ensures { IfOk result (λ v. map call_of v.items
+        ≡ filter_map calling.call_at (flat_map calling.job_sites (jobs_of (view root.now)))) }
 {
     let jobs = members_under(alloc, root, "jobs")?;
-    sites_of_jobs(alloc, jobs.as_slice())
+    calls_of_jobs(alloc, jobs.as_slice())
 }
 
-/// The jobs of a workflow, each before its steps, or the steps of a composite action.
+/// The calls of the jobs of a workflow, each before those of its steps, or of the steps of a composite action.
 ///
 /// Fails with `AllocError` when out of memory.
-pub fn sites_in(alloc: Global, kind: FileKind, root: &Node) -> Result<Vec<Site<'_>>, AllocError>
-    ensures { IfOk result (λ v. map site_of v.items ≡ calling.sites_in kind (view root.now)) }
+pub fn calls_in(alloc: Global, kind: FileKind, root: &Node) -> Result<Vec<Call<'_>>, AllocError>
+    ensures { IfOk result (λ v. map call_of v.items ≡ calling.calls_in kind (view root.now)) }
 {
     match kind {
-        FileKind::Workflow => workflow_sites(alloc, root),
+        FileKind::Workflow => workflow_calls(alloc, root),
         FileKind::Action => {
             let mut found = Vec::new(alloc);
             if is_composite(root) {

@@ -6,6 +6,8 @@ ghost use Rattle.al_scalar.specs.Places.{first_end, lines_at, text_at};
 ghost use Rattle.al_scalar.specs.LineEnds.{cells_between, with_cells_before, broken_line, AreBlank};
 ghost use Rattle.al_scalar.specs.LineEnds.{AreSpaces, IsBlankByte, IsLineEnd, IsBreakAt, OnLine, BlankTo, FirstByte};
 
+use memchr::memchr2;
+
 /// Whether the text of the line has ended at an offset.
 pub fn is_line_end(bytes: &[u8], at: usize) -> bool
     requires { at ≤ length bytes.now }
@@ -82,7 +84,6 @@ pub fn spaces_end(bytes: &[u8], at: usize, most: usize) -> usize
 }
 
 /// The end of the line that an offset is on.
-#[tactic(auto, using(crate::proofs::LineParts::end_further))]
 pub fn line_end(bytes: &[u8], at: usize) -> usize
     requires { at ≤ length bytes.now }
     ensures is_end { IsLineEnd bytes.now result }
@@ -90,11 +91,10 @@ pub fn line_end(bytes: &[u8], at: usize) -> usize
     ensures text { text_at bytes.now at ≡ cells_between bytes.now at result }
     ensures end { first_end (lines_at bytes.now at) ≡ result }
 {
-    let mut i = at;
-    while !is_line_end(bytes, i) {
-        i += 1;
+    match memchr2(b'\n', b'\r', &bytes[at..]) {
+        Some(break_at) => at + break_at,
+        None => bytes.len(),
     }
-    i
 }
 
 /// The end of the line if the rest of the line is all blanks.

@@ -1,8 +1,8 @@
 -- What the program's calls, values and answers stand for.
-use Rattle.std.specs.Prelude.{ℕ, List, [], ◌∷◌, Bool, drop, Option, option_and_then, option_map, slice_get, slice_index_or, None}
+use Rattle.std.specs.Prelude.{ℕ, List, [], ◌∷◌, Bool, drop, Option, option_map, slice_get, slice_index_or, None}
 use Rattle.std.specs.List.{cons_option, list_all}
 use Rattle.std.specs.Option.{option_copied, option_map_or}
-use Rattle.al_tree.specs.Values.{member_of, scalar_node_of}
+use Rattle.al_tree.specs.Values.{member_of}
 use Rattle.al_types.specs.Types.{Parts, Type', Any}
 use Rattle.al_yaml_tree.specs.View.{view}
 use Rattle.al_check_contexts.specs.Answered.{known_of}
@@ -11,14 +11,13 @@ use Rattle.al_expr_types.specs.Tables.{is_known, objects_of}
 use Rattle.al_expr_types.specs.Types.{type_in}
 use Rattle.al_expr_types.specs.declared.types.Types.{Types}
 use Rattle.al_check_interfaces.specs.declared.interfaces.Interface.{Interface}
-use Rattle.al_check_interfaces.specs.CallViews.{site_of, call_by}
-use Rattle.al_check_interfaces.specs.Uses.{Call, Site, call_at}
+use Rattle.al_check_interfaces.specs.CallViews.{call_of}
+use Rattle.al_check_interfaces.specs.Uses.{Call}
 use Rattle.al_check_calls.specs.Answers.{Answered, Typing}
 use Rattle.al_check_calls.specs.CallFaults.{Given}
 use Rattle.al_check_calls.specs.FileCalls.{typing}
 use Rattle.al_check_calls.specs.Private.Comparing.{Comparison, GivenName}
 use Rattle.al_check_calls.specs.declared.answers.Answered as code_answers
-use Rattle.al_check_calls.specs.declared.answers.SiteCall as code_calls
 use Rattle.al_check_calls.specs.declared.comparisons.Comparison as code_comparisons
 use Rattle.al_check_calls.specs.declared.undefined.GivenName as code_names
 use Rattle.al_check_calls.specs.declared.wrong_types.Value as code_values
@@ -36,9 +35,6 @@ given_at types v = given_in (objects_of types) v
 -- whether the types of values are those of the table
 abbrev pub are_values_known : Types → List code_values.Value → Bool
 are_values_known types vs = list_all (λ v. is_known types v.ty) vs
-
-abbrev pub call_of : code_calls.SiteCall → Call
-call_of c = call_by (site_of c.site) (scalar_node_of c.uses)
 
 abbrev pub answered_of : code_answers.Answered → Answered
 answered_of a = record { call = call_of a.call; answer = option_copied a.answer }
@@ -59,13 +55,9 @@ given_type type_of e = option_map_or (type_of e.0) (scalar_in e.1) Any
 abbrev pub answered_by : Call → Option Interface → Answered
 answered_by c answer = record { call = c; answer = answer }
 
--- the call of the site with a number
-abbrev pub call_of_site : List Site → ℕ → Option Call
-call_of_site sites number = option_and_then call_at (slice_get sites number)
-
--- those of some numbers with their answers
-abbrev pub answered_at : List Site → List ℕ → List (Option Interface) → List Answered
-answered_at sites [] answers = []
-answered_at sites (number ∷ more) answers =
-    cons_option (option_map (λ c. answered_by c (slice_index_or answers 0 None)) (call_of_site sites number))
-    (answered_at sites more (drop 1 answers))
+-- the calls with some numbers, with their answers
+abbrev pub answered_at : List Call → List ℕ → List (Option Interface) → List Answered
+answered_at calls [] answers = []
+answered_at calls (number ∷ more) answers =
+    cons_option (option_map (λ c. answered_by c (slice_index_or answers 0 None)) (slice_get calls number))
+    (answered_at calls more (drop 1 answers))

@@ -1,6 +1,6 @@
 use Rattle.std.proofs.Common.{◌≡◌, ◌++◌, drop, map}
 use Rattle.std.specs.Option.{option_copied}
-use Rattle.al_check_interfaces.specs.CallViews.{site_of}
+use Rattle.al_check_interfaces.specs.CallViews.{call_of}
 use Rattle.al_check_calls.specs.Private.AnswerViews as views
 use Rattle.al_check_calls.specs.Private.AnswerViews.{answered_of}
 use Rattle.al_check_calls.proofs.answers.answered_at.Given as goal
@@ -9,5 +9,5 @@ use Rattle.al_check_calls.proofs.answers.answered_at.Given as goal
 abbrev pub invariant-loop-call : goal.invariant-loop-call
 invariant-loop-call l =
     map answered_of l.found.items
-    ++ views.answered_at (map site_of l.sites) (map (λ c. c.site) (drop l.call-index l.calls)) (map (λ a. option_copied a) l.left)
-    ≡ views.answered_at (map site_of l.sites) (map (λ c. c.site) l.calls) (map (λ a. option_copied a) l.answers)
+    ++ views.answered_at (map call_of l.calls) (map (λ c. c.number) (drop l.call-index l.kept)) (map (λ a. option_copied a) l.left)
+    ≡ views.answered_at (map call_of l.calls) (map (λ c. c.number) l.kept) (map (λ a. option_copied a) l.answers)

@@ -7,8 +7,8 @@ use Rattle.al_check_calls.proofs.Answering.{all_answered}
 use Rattle.al_check_calls.proofs.answers.with_answers.Goals as goal
 
 pub returns : goal.returns
-returns c kind root sites calls =
+returns c kind root calls kept =
     let answers = map (λ a. option_copied a) c.args.answers.now in
-    let numbers = map (λ k. k.site) c.args.calls.now in
+    let numbers = map (λ k. k.number) c.args.kept.now in
     subst (λ l. IfOk c.answered_at.result (λ v. map answered_of v.items ≡ l))
-    (ap (λ s. views.answered_at s numbers answers) sites ∙ all_answered kind root c.args.calls.now answers calls) c.answered_at.ensures
+    (ap (λ l. views.answered_at l numbers answers) calls ∙ all_answered kind root c.args.kept.now answers kept) c.answered_at.ensures

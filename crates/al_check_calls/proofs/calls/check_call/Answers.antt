@@ -4,7 +4,8 @@ use Rattle.std.proofs.lemmas.Result.{on_ok_weaker}
 use Rattle.std.specs.Option.{option_copied}
 use Rattle.al_base.specs.declared.codes.Caller.TheVariants.{Job}
 use Rattle.al_check_calls.specs.CallFaults.{uses_faults, value_faults, values_against}
-use Rattle.al_check_calls.specs.Private.AnswerViews.{call_of, given_in}
+use Rattle.al_check_calls.specs.Private.AnswerViews.{given_in}
+use Rattle.al_check_interfaces.specs.CallViews.{call_of}
 use Rattle.al_check_calls.proofs.calls.check_call.Goals as goal
 
 pub returns-in-Job : goal.returns-in-Job

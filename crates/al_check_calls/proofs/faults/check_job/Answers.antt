@@ -1,7 +1,8 @@
 use Rattle.std.proofs.Common.{◌++◌, ap, ◌∙◌, map}
 use Rattle.std.specs.Option.{option_copied}
 use Rattle.al_check_calls.specs.CallFaults.{uses_faults, value_faults}
-use Rattle.al_check_calls.specs.Private.AnswerViews.{call_of, given_at}
+use Rattle.al_check_calls.specs.Private.AnswerViews.{given_at}
+use Rattle.al_check_interfaces.specs.CallViews.{call_of}
 use Rattle.al_expr_types.specs.Tables.{objects_of}
 use Rattle.al_check_calls.proofs.faults.check_job.Goals as goal
 

@@ -6,7 +6,7 @@ use Rattle.std.specs.Prelude.{if◌then◌else◌}
 use Rattle.al_base.specs.declared.codes.Caller.TheVariants.{Job, Step}
 use Rattle.al_check_calls.specs.Answers.{values_in}
 use Rattle.al_check_calls.specs.CallFaults.{callable_signature, uses_faults}
-use Rattle.al_check_calls.specs.Private.AnswerViews.{call_of}
+use Rattle.al_check_interfaces.specs.CallViews.{call_of}
 use Rattle.al_check_calls.proofs.ValueTypes.{values_of_step}
 use Rattle.al_check_calls.proofs.faults.check_step.Goals as goal
 

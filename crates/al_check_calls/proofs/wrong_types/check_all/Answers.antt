@@ -3,7 +3,8 @@ use Rattle.std.proofs.lemmas.List.{take_all}
 use Rattle.std.specs.List.{flat_map}
 use Rattle.al_base.proofs.Sets.{list_more}
 use Rattle.al_check_calls.specs.CallFaults.{wrong_input}
-use Rattle.al_check_calls.specs.Private.AnswerViews.{call_of, given_in}
+use Rattle.al_check_calls.specs.Private.AnswerViews.{given_in}
+use Rattle.al_check_interfaces.specs.CallViews.{call_of}
 use Rattle.al_check_calls.proofs.wrong_types.check_all.Goals as goal
 
 pub loop-value-init : goal.loop-value-init

@@ -2,7 +2,8 @@ use Rattle.std.proofs.Common.{◌≡◌, ◌++◌, List, map, take}
 use Rattle.std.specs.List.{flat_map}
 use Rattle.al_types.specs.Types.{Parts}
 use Rattle.al_check_calls.specs.CallFaults.{wrong_input}
-use Rattle.al_check_calls.specs.Private.AnswerViews.{call_of, given_in}
+use Rattle.al_check_calls.specs.Private.AnswerViews.{given_in}
+use Rattle.al_check_interfaces.specs.CallViews.{call_of}
 use Rattle.al_check_calls.proofs.wrong_types.check_all.Given as goal
 
 abbrev pub invariant-loop-value : goal.invariant-loop-value

@@ -3,7 +3,8 @@ use Rattle.std.specs.List.{flat_map}
 use Rattle.std.proofs.lemmas.Result.{on_ok_weaker}
 use Rattle.std.specs.Option.{option_copied, option_map_or}
 use Rattle.al_check_calls.specs.CallFaults.{wrong_input}
-use Rattle.al_check_calls.specs.Private.AnswerViews.{call_of, given_in}
+use Rattle.al_check_calls.specs.Private.AnswerViews.{given_in}
+use Rattle.al_check_interfaces.specs.CallViews.{call_of}
 use Rattle.al_check_calls.proofs.wrong_types.check_values.Goals as goal
 
 pub returns-in-Some : goal.returns-in-Some

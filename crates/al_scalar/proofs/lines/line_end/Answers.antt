@@ -1,19 +1,20 @@
-use Rattle.std.proofs.Common.{arith}
-use Rattle.al_scalar.proofs.SingleLemmas.{is_inside, never}
-use Rattle.al_scalar.proofs.BlockLemmas.{run-none, run-more}
+use Rattle.al_scalar.proofs.LineSearch.{to_break, to_file_end}
 use Rattle.al_scalar.proofs.lines.line_end.Goals as goal
 
-pub loop-i-init : goal.loop-i-init
-loop-i-init c = record { from = omega arith; inside = omega arith; run = run-none c.args.bytes.now c.args.at }
+pub returns-in-Some-clause-on_line : goal.returns-in-Some-clause-on_line
+returns-in-Some-clause-on_line c = (to_break c.args.bytes.now c.args.at c.requires c.in-Some.break_at c.in-Some.ensures.0 c.in-Some.ensures.1).on_line
 
-pub loop-i-preserved : goal.loop-i-preserved
-loop-i-preserved c =
-    let bytes = c.args.bytes.now in
-    let i = c.loop-i.i in
-    let kept = c.loop-i.invariant in
-    let here = is_inside bytes i kept.inside (λ h. never (c.loop-i-test.ensures.1 h)) in
-    record {
-      from = omega arith;
-      inside = omega (arith, here.inside);
-      run = run-more bytes c.args.at i kept.from here kept.run;
-    }
+pub returns-in-Some-clause-text : goal.returns-in-Some-clause-text
+returns-in-Some-clause-text c = (to_break c.args.bytes.now c.args.at c.requires c.in-Some.break_at c.in-Some.ensures.0 c.in-Some.ensures.1).text
+
+pub returns-in-Some-clause-end : goal.returns-in-Some-clause-end
+returns-in-Some-clause-end c = (to_break c.args.bytes.now c.args.at c.requires c.in-Some.break_at c.in-Some.ensures.0 c.in-Some.ensures.1).end
+
+pub returns-in-None-clause-on_line : goal.returns-in-None-clause-on_line
+returns-in-None-clause-on_line c = (to_file_end c.args.bytes.now c.args.at c.requires c.in-None.ensures).on_line
+
+pub returns-in-None-clause-text : goal.returns-in-None-clause-text
+returns-in-None-clause-text c = (to_file_end c.args.bytes.now c.args.at c.requires c.in-None.ensures).text
+
+pub returns-in-None-clause-end : goal.returns-in-None-clause-end
+returns-in-None-clause-end c = (to_file_end c.args.bytes.now c.args.at c.requires c.in-None.ensures).end
