@@ -157,39 +157,19 @@ part_more p first f bytes at i j e r b o h l k n s =
 
 -- ---- bytes of words
 
-not_a_word : (n : ℕ) → ((97 ≤ n) × (n ≤ 122) → ⊥) → ((45 ≤ n) × (n ≤ 57) → ⊥) → ((65 ≤ n) × (n ≤ 90) → ⊥) → (b : ℕ) → IsWordByte b → b ≢ n
-not_a_word n f g h b (inl w) e = f (omega (arith, e, w.0), omega (arith, e, w.1))
-not_a_word n f g h b (inr (inl w)) e = g (omega (arith, e, w.0), omega (arith, e, w.1))
-not_a_word n f g h b (inr (inr w)) e = h (omega (arith, e, w.0), omega (arith, e, w.1))
-
-no_indicator : (b : ℕ) → b ≢ 44 → b ≢ 91 → b ≢ 93 → b ≢ 123 → b ≢ 125 → is_flow_indicator b ≡ false
-no_indicator b h i j k l = grind (arith, common_steps, h, i, j, k, l)
-
 module _ (b : ℕ) (w : IsWordByte b) where
-  apart : (n : ℕ) → ((97 ≤ n) × (n ≤ 122) → ⊥) → ((45 ≤ n) × (n ≤ 57) → ⊥) → ((65 ≤ n) × (n ≤ 90) → ⊥) → b ≢ n
-  apart n f g h = not_a_word n f g h b w
-
   word-feed : b ≢ 10
-  word-feed = apart 10 (λ h. omega (arith, h.0)) (λ h. omega (arith, h.0)) (λ h. omega (arith, h.0))
+  word-feed e = omega (arith, e, w.solid)
 
   word-return : b ≢ 13
-  word-return = apart 13 (λ h. omega (arith, h.0)) (λ h. omega (arith, h.0)) (λ h. omega (arith, h.0))
+  word-return e = omega (arith, e, w.solid)
 
   word-blank : IsBlankByte b → ⊥
-  word-blank (inl e) = apart 32 (λ h. omega (arith, h.0)) (λ h. omega (arith, h.0)) (λ h. omega (arith, h.0)) e
-  word-blank (inr e) = apart 9 (λ h. omega (arith, h.0)) (λ h. omega (arith, h.0)) (λ h. omega (arith, h.0)) e
+  word-blank (inl e) = omega (arith, e, w.solid)
+  word-blank (inr e) = omega (arith, e, w.solid)
 
   word-ends : (p : Context) (f : Bool) (i : ℕ) (cs : List Cell) → ends_plain p f ((b, i) ∷ cs) ≡ false
-  word-ends p f i cs =
-      ends-other p f (b, i) cs (apart 58 (λ h. omega (arith, h.0)) (λ h. omega (arith, h.1)) (λ h. omega (arith, h.0)))
-      (apart 35 (λ h. omega (arith, h.0)) (λ h. omega (arith, h.0)) (λ h. omega (arith, h.0)))
-      ∙ ap (λ x. is_flow p && x)
-      (no_indicator b (apart 44 (λ h. omega (arith, h.0)) (λ h. omega (arith, h.0)) (λ h. omega (arith, h.0)))
-      (apart 91 (λ h. omega (arith, h.0)) (λ h. omega (arith, h.1)) (λ h. omega (arith, h.1)))
-      (apart 93 (λ h. omega (arith, h.0)) (λ h. omega (arith, h.1)) (λ h. omega (arith, h.1)))
-      (apart 123 (λ h. omega (arith, h.1)) (λ h. omega (arith, h.1)) (λ h. omega (arith, h.1)))
-      (apart 125 (λ h. omega (arith, h.1)) (λ h. omega (arith, h.1)) (λ h. omega (arith, h.1))))
-      ∙ and-false (is_flow p)
+  word-ends p f i cs = ends-other p f (b, i) cs w.no_colon w.no_hash ∙ ap (λ x. is_flow p && x) w.no_indicator ∙ and-false (is_flow p)
 
 no_run : (bytes : List ℕ) (i : ℕ) → RunBefore (cells_between bytes i i) (lines_at bytes i) (lines_at bytes i)
 no_run bytes i = record { text = ap (λ r. r ++ text_at bytes i) (sym (cells_between-none bytes i)); same = record { end = refl; last = refl; later = refl } }

@@ -94,15 +94,14 @@ fn is_behind_blank(before: bool, from: usize, to: usize) -> bool
     before || from < to
 }
 
-/// Whether a byte is an ASCII letter or digit, or one of `-`, `.` and `/`.
+/// Whether a byte is no blank and no part of a break, and no scalar ends before it.
 fn is_word(byte: u8) -> bool
     ensures { IsTrue result → IsWordByte byte }
 {
-    byte >= b'a' && byte <= b'z' || byte >= b'-' && byte <= b'9' || byte >= b'A' && byte <= b'Z'
+    byte > b' ' && byte != b':' && byte != b'#' && !is_flow_indicator(byte)
 }
 
-/// Whether there is a word byte at an offset. Most bytes of plain scalars are; they aren't blanks and don't end a
-/// scalar.
+/// Whether there is a word byte at an offset. Most bytes of plain scalars are.
 fn is_word_at(bytes: &[u8], at: usize) -> bool
     ensures { IsTrue result → IsWordAt bytes.now at }
 {

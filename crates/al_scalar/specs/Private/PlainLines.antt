@@ -1,10 +1,10 @@
 -- What the reader of plain scalars answers, in terms of offsets.
-use Rattle.std.specs.Prelude.{◌≡◌, ◌<◌, ◌≤◌, ◌⊎◌, length, slice_index}
+use Rattle.std.specs.Prelude.{◌≡◌, ◌≢◌, ◌<◌, length, slice_index}
 use Rattle.std.specs.Prelude.{ℕ, List, [], ◌∷◌, Bool, true, false, not, ◌&&◌, if◌then◌else◌, Result, Ok}
 use Rattle.al_scalar.specs.Line.{Cell, Line, after_blanks, is_empty, is_all_blank}
 use Rattle.al_scalar.specs.Taken.{Taken, feeds, folded_break}
 use Rattle.al_scalar.specs.declared.faults.FaultAt.{FaultAt}
-use Rattle.al_scalar.specs.Plain.{Context, flow, block, plain_part, plain_lines}
+use Rattle.al_scalar.specs.Plain.{Context, flow, block, is_flow_indicator, plain_part, plain_lines}
 use Rattle.al_scalar.specs.Places.{first_text, first_end, lines_at, text_at}
 use Rattle.al_scalar.specs.LineEnds.{cells_between, later}
 use Rattle.al_scalar.specs.declared.plain.PlainContext.{PlainContext}
@@ -56,9 +56,12 @@ after_part p bytes end =
 abbrev pub PartTo : Context → Bool → List ℕ → ℕ → ℕ → Type 0
 PartTo p after_blank bytes at end = plain_part p after_blank (text_at bytes at) ≡ (cells_between bytes at end, text_at bytes end)
 
--- a letter or a digit, or one of - . /
-abbrev pub IsWordByte : ℕ → Type 0
-IsWordByte b = ((97 ≤ b) × (b ≤ 122)) ⊎ ((45 ≤ b) × (b ≤ 57)) ⊎ ((65 ≤ b) × (b ≤ 90))
+-- no blank and no part of a break, and no byte before which a scalar may end
+pub record IsWordByte (b : ℕ) : Type 0 where
+  pub solid : 32 < b
+  pub no_colon : b ≢ 58
+  pub no_hash : b ≢ 35
+  pub no_indicator : is_flow_indicator b ≡ false
 
 abbrev pub IsWordAt : List ℕ → ℕ → Type 0
 IsWordAt bytes at = (at < length bytes) × IsWordByte (slice_index bytes at)
