@@ -76,11 +76,14 @@ fn add_call(
     }
 }
 
-/// Those of a file's calls that are of files of the folder, in order. Adds the faults of a `uses` that names nothing, C7, which depend on no
-/// other file.
+/// The calls of files of the folder, of all calls of a file, in order. Adds the faults of a `uses` that names nothing, C7, which depend on
+/// no other file.
 ///
 /// Fails with `AllocError` when out of memory.
-pub fn folder_calls(calls: &[Call<'_>], faults: &mut FaultSink) -> Result<Vec<FolderCall>, AllocError>
+pub fn folder_calls(
+    calls: &[Call<'_>],
+    faults: &mut FaultSink,
+) -> Result<Vec<FolderCall>, AllocError>
     ensures calls { IfOk result (λ v. map (folder_call (map call_of calls.now)) v.items
         ≡ filter_map as_folder_call (map call_of calls.now)) }
     ensures faults { OnOk result
