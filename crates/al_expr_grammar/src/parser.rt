@@ -1,6 +1,6 @@
 //! The tree that tokens spell, level by level of the operators.
 
-ghost use Rattle.std.specs.Prelude.{map, IfOk, ◌≡◌, ◌≢◌, ◌+◌, MatchOption, MatchResult, List, [], ◌∷◌};
+ghost use Rattle.std.specs.Prelude.{map, IfOk, ◌≡◌, ◌≢◌, ◌+◌, ◌++◌, MatchOption, MatchResult, List, [], ◌∷◌};
 ghost use Rattle.al_expr_grammar.specs.Lexeme.{seen, kinds, kind_of, lexeme_text, lexeme_span};
 ghost use Rattle.al_expr_grammar.specs.Parsed.{EndsPath, IsStray, NoOperator, Parses};
 ghost use Rattle.al_expr_grammar.specs.Parsed.{ParsesStep, StepRead, StepRefused, ArgumentsRead};
@@ -78,6 +78,17 @@ fn word<'a>(token: Token<'a>) -> Word<'a>
         text: token.text,
         span: token.span,
     }
+}
+
+/// Adds to the steps of a path or the operands of a chain. The first takes room for itself alone, as most have no other.
+fn add<T: Drop>(list: &mut Vec<T>, item: T) -> Result<(), AllocError>
+    ensures { IfOk result (λ _. list.new.items ≡ list.old.items ++ item ∷ []) }
+{
+    if list.is_empty() {
+        list.reserve_exact(1)?;
+    }
+    list.push(item)?;
+    Ok(())
 }
 
 /// The path from a base, which is the base itself where there is no step.
@@ -301,7 +312,7 @@ fn postfix<'t, 'a>(
     let (base, mut left) = primary(alloc, tokens, room)?;
     let mut steps = Vec::new(alloc);
     'walk: while let Some((taken, rest)) = step(alloc, left, room)? {
-        steps.push(taken)?;
+        add(&mut steps, taken)?;
         left = rest;
     }
     Ok((with_steps(alloc, base, steps)?, left))
@@ -380,11 +391,12 @@ fn binary<'t, 'a>(
     let mut more = Vec::new(alloc);
     'chain: while let Some((found, sign, inner)) = operator(level, left) {
         let (expr, rest) = operand(alloc, level, inner, room)?;
-        more.push(Operand {
+        let next = Operand {
             operator: found,
             at: sign.span,
             expr,
-        })?;
+        };
+        add(&mut more, next)?;
         left = rest;
     }
     Ok((with_operands(alloc, first, more)?, left))

@@ -123,7 +123,7 @@ postfix-walk-init t c = record { same = refl; so_far = rw c.new-steps.ensures.it
 
 pub postfix-walk-preserved : goal.postfix-walk-preserved
 postfix-walk-preserved t c =
-    let a = c.in_ok-push.ensures.items in
+    let a = c.in_ok-add.ensures in
     let s = rw c.in-Some.is at c.in_ok-taken.ensures in
     let b = path_goes_on _ _ _ _ _ _ c.walk.invariant.so_far s in
     record { same = c.walk.invariant.same; so_far = rw (a, map-append) b }
@@ -220,7 +220,7 @@ binary-chain-init t c = record { same = refl; so_far = rw c.new-more.ensures.ite
 
 pub binary-chain-preserved : goal.binary-chain-preserved
 binary-chain-preserved t c =
-    let a = c.in_ok-push.ensures.items in
+    let a = c.in_ok-add.ensures in
     let g = c.in-Some.ensures in
     let h = rw (g.0, g.1) at c.chain.invariant.so_far in
     let b = chain_goes_on _ _ _ _ _ _ _ _ _ _ h g.2 c.in_ok-expr.ensures in
