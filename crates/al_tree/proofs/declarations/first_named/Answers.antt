@@ -9,9 +9,9 @@ use Rattle.al_tree.proofs.KeyLemmas.{name_stands_first, none_at}
 use Rattle.al_tree.proofs.Lists.{left_next, not_not}
 use Rattle.al_tree.specs.Keys.{key_of, keys_in}
 use Rattle.al_tree.specs.Values.{firsts_by, member_of}
-use Rattle.al_tree_declarations.specs.Declarations.{named_among}
-use Rattle.al_tree_declarations.proofs.mappings.first_named.Goals.{then-is_first+in_ok-push, else-is_first}
-use Rattle.al_tree_declarations.proofs.mappings.first_named.Goals as goal
+use Rattle.al_tree.specs.Declarations.{named_among}
+use Rattle.al_tree.proofs.declarations.first_named.Goals.{then-is_first+in_ok-push, else-is_first}
+use Rattle.al_tree.proofs.declarations.first_named.Goals as goal
 
 pub loop-i-preserved : goal.loop-i-preserved
 loop-i-preserved c =
