@@ -4,7 +4,7 @@ use Rattle.al_yaml_tree.specs.View.{entry_view}
 use Rattle.al_tree.specs.Keys.{key_of, keys_in}
 use Rattle.al_base.specs.Names.{among}
 use Rattle.al_tree.specs.Values.{member_of}
-use Rattle.al_tree.proofs.Lists.{firsts_next, key_there}
+use Rattle.al_tree.proofs.Lists.{firsts_next, text_there}
 use Rattle.al_tree.proofs.values.first_members.Goals.{then-is_new+in_ok-push, else-is_new}
 use Rattle.al_tree.proofs.values.first_members.Goals as goal
 
@@ -17,7 +17,7 @@ loop-i-preserved c =
     let members = map member_of c.loop-i.firsts.items in
     let repeats : c.key_at.result.is_repeated ≡ among before (key_of (entry_view e)) =
     c.key_at.result.told ∙ ap (λ f. f c.key_at.result.key.now) (c.key_at.ensures.seen ∙ ap (λ f. f i) c.in_ok-index.ensures.1)
-    ∙ ap (among before) (c.key_at.ensures.key ∙ key_there entry_view c.in_ok-index.index.entries.now es i e c.in_ok-index.ensures.0 c.loop-i-test.true c.index-entries-i.is) in
+    ∙ ap (among before) (c.key_at.ensures.key ∙ text_there key_of entry_view c.in_ok-index.index.entries.now es i e c.in_ok-index.ensures.0 c.loop-i-test.true c.index-entries-i.is) in
     let added : map member_of c.if-is_new.firsts.items ≡ members ++ (if c.key_at.result.is_repeated then [] else entry_view e ∷ []) =
     elim c.if-is_new.branch [
       | then-is_new+in_ok-push w ↦
