@@ -12,7 +12,7 @@ use Rattle.al_base.specs.declared.faults.Fault.{Fault}
 use Rattle.al_base.specs.declared.faults.Span.{Span}
 use Rattle.al_types.specs.Types.{Type', assignable_type}
 use Rattle.al_check_objects.specs.Inputs.{input_type}
-use Rattle.al_tree_declarations.specs.Declarations.{named_among}
+use Rattle.al_tree.specs.Declarations.{named_among}
 use Rattle.al_scalar.specs.Scalar.{Scalar}
 use Rattle.al_yaml_tree.specs.Node.{Node, scalar, sequence, mapping, span_of}
 use Rattle.al_yaml_tree.specs.Spans.{IsInside}

@@ -18,10 +18,10 @@ use Rattle.al_yaml_tree.specs.Access.{scalar_in}
 use Rattle.al_yaml_tree.specs.Node.{Node, span_of}
 use Rattle.al_tree.specs.Keys.{key_of, keys_in}
 use Rattle.al_tree.specs.Values.{entries_at, text_at_key}
-use Rattle.al_tree_declarations.specs.Declarations.{named_among}
+use Rattle.al_tree.specs.Declarations.{named_among}
 use Rattle.al_check_objects.specs.Inputs.{input_type}
-use Rattle.al_tree_declarations.specs.declared.inputs.InputType.{InputType}
-use Rattle.al_tree_declarations.specs.declared.inputs.InputType.TheVariants as input
+use Rattle.al_tree.specs.declared.inputs.InputType.{InputType}
+use Rattle.al_tree.specs.declared.inputs.InputType.TheVariants as input
 use Rattle.al_check_interfaces.specs.Parameters.{has_parameter, is_parameter, mandatory_of}
 use Rattle.al_check_interfaces.specs.Kinds.{parameters_of}
 use Rattle.al_check_interfaces.specs.declared.interfaces.Interface.{Interface}

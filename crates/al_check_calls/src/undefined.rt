@@ -14,8 +14,7 @@ use crate::comparisons::{Comparison, call_alike, given_by};
 use crate::reports::{called_name, code_at, uses_text};
 use al_base::{CallCode, Caller, FaultSink};
 use al_check_interfaces::{ParameterKind, caller_of};
-use al_tree::{Member, key_text};
-use al_tree_declarations::is_named_among;
+use al_tree::{Member, is_named_among, key_text};
 use std::alloc::{AllocError, Global};
 
 /// A name that a call gives.

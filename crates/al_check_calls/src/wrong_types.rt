@@ -16,8 +16,7 @@ use al_base::{CallCode, FaultSink};
 use al_check_interfaces::{Call, Parameter, Parameters, Signature};
 use al_check_objects::type_of_input;
 use al_expr_types::{Base, Ty};
-use al_tree::{Member, key_text};
-use al_tree_declarations::InputType;
+use al_tree::{InputType, Member, key_text};
 use std::alloc::AllocError;
 
 /// What is given under a name, and its type, of the file's table.

@@ -13,7 +13,7 @@ use Rattle.al_types.specs.Types.{Any}
 use Rattle.al_yaml_tree.specs.Node.{Node}
 use Rattle.al_tree.specs.Keys.{key_of, keys_in}
 use Rattle.al_tree.specs.Values.{entries_at}
-use Rattle.al_tree_declarations.specs.Declarations.{has_value}
+use Rattle.al_tree.specs.Declarations.{has_value}
 use Rattle.al_check_objects.specs.Objects.{loose_any}
 use Rattle.al_check_contexts.specs.Contexts.{OutputNames, dependency, job_field}
 use Rattle.al_base.specs.Growth.{BeginsWith}

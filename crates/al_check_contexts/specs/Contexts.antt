@@ -17,7 +17,7 @@ use Rattle.al_tree.specs.declared.files.FileKind.TheVariants as kind
 use Rattle.al_check_places.specs.Positions.{Position, Section, apart, in_job}
 use Rattle.al_check_places.specs.declared.positions.Seen.{Seen}
 use Rattle.al_check_places.specs.declared.positions.Seen.TheVariants.{Nothing as no_step, Before as before, Everything as every_step}
-use Rattle.al_tree_declarations.specs.Declarations.{action_steps, has_value, is_composite}
+use Rattle.al_tree.specs.Declarations.{action_steps, has_value, is_composite}
 use Rattle.al_check_objects.specs.Fixed.{github_type, runner_type, job_type, strategy_type}
 use Rattle.al_check_objects.specs.Inputs.{inputs_type}
 use Rattle.al_check_objects.specs.Matrix.{matrix_type}

@@ -10,9 +10,8 @@ ghost use Rattle.al_yaml_tree.specs.View.{view};
 ghost use Rattle.al_check_contexts.specs.Contexts.{job_in};
 
 use al_base::{NamePositions, TextPositions};
-use al_check_objects::key_texts;
 use al_check_places::Section;
-use al_tree::{Member, members_under};
+use al_tree::{Member, key_texts, members_under};
 use al_yaml_tree::Node;
 use std::alloc::{AllocError, Global};
 

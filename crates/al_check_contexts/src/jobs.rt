@@ -22,8 +22,7 @@ use crate::caches::TypeCache;
 use crate::steps::outputs_type;
 use al_check_objects::{FieldList, declared_strings, object_of};
 use al_expr_types::{Ty, Types};
-use al_tree::{Member, key_text, members_under, texts_under};
-use al_tree_declarations::has_value;
+use al_tree::{Member, has_value, key_text, members_under, texts_under};
 use al_yaml_tree::Node;
 use std::alloc::{AllocError, Global};
 

@@ -22,8 +22,7 @@ use crate::owners::Owner;
 use al_check_objects::matrix_type;
 use al_check_places::Section;
 use al_expr_types::{Ty, Types};
-use al_tree::{FileKind, Member, items_under, key_text};
-use al_tree_declarations::{action_steps, is_composite};
+use al_tree::{FileKind, Member, action_steps, is_composite, items_under, key_text};
 use al_yaml_tree::Node;
 use std::alloc::{AllocError, Global};
 

@@ -6,9 +6,9 @@ use Rattle.std.specs.Cmp.Lexicographic.{pointwise}
 use Rattle.std.specs.Option.{option_eq}
 use Rattle.std.proofs.lemmas.Bool.{and_parts}
 use Rattle.std.proofs.lemmas.Slice.Eq.{bytes_eq-Decides}
-use Rattle.al_tree_declarations.specs.declared.inputs.InputType.{InputType}
-use Rattle.al_tree_declarations.specs.declared.inputs.InputType.TheVariants as T
-use Rattle.al_tree_declarations.specs.contracts.inputs.InputTypePartialEq.TheImpl as takes
+use Rattle.al_tree.specs.declared.inputs.InputType.{InputType}
+use Rattle.al_tree.specs.declared.inputs.InputType.TheVariants as T
+use Rattle.al_tree.specs.contracts.inputs.InputTypePartialEq.TheImpl as takes
 use Rattle.al_check_interfaces.specs.declared.interfaces.Interface.{Interface}
 use Rattle.al_check_interfaces.specs.declared.interfaces.Interface.TheVariants.{Readable, Unreadable}
 use Rattle.al_check_interfaces.specs.declared.interfaces.Role.{Role}

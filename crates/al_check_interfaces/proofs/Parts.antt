@@ -15,7 +15,7 @@ use Rattle.al_tree.specs.Values.{entries_at, entries_in, firsts_by, items_at, it
 use Rattle.al_tree.specs.Files.{jobs_of}
 use Rattle.al_tree.specs.declared.files.FileKind.{FileKind}
 use Rattle.al_tree.specs.declared.files.FileKind.TheVariants as kind
-use Rattle.al_tree_declarations.specs.Declarations.{action_steps, is_composite}
+use Rattle.al_tree.specs.Declarations.{action_steps, is_composite}
 use Rattle.al_check_interfaces.specs.Uses.{Call, Site, call_at, calls_in, job_sites, sites_in, step_sites}
 use Rattle.al_check_interfaces.specs.CallViews.{call_by}
 

@@ -17,9 +17,9 @@ use Rattle.al_tree.specs.Keys.{key_of, key_text, keys_in}
 use Rattle.al_tree.specs.Values.{entries_in, firsts_by, text_at_key, text_in, texts_in, value_at, value_below}
 use Rattle.al_tree.specs.declared.files.FileKind.{FileKind}
 use Rattle.al_tree.specs.declared.files.FileKind.TheVariants as kind
-use Rattle.al_tree_declarations.specs.Declarations.{declared_below, declared_in, has_value, named_among, says}
-use Rattle.al_tree_declarations.specs.Inputs.{input_named, input_of}
-use Rattle.al_tree_declarations.specs.declared.inputs.InputType.TheVariants as input
+use Rattle.al_tree.specs.Declarations.{declared_below, declared_in, has_value, named_among, says}
+use Rattle.al_tree.specs.Inputs.{input_named, input_of}
+use Rattle.al_tree.specs.declared.inputs.InputType.TheVariants as input
 use Rattle.al_check_interfaces.specs.Interfaces.{has_default, is_required, is_true, name_of}
 use Rattle.al_check_interfaces.specs.Interfaces.{names_call, parameter, parameters, signature_of, type_taken}
 use Rattle.al_check_interfaces.specs.Placeless.{ShowsNoPlaces, ShowsNothingElse, placeless, placeless_entries, placeless_items, placeless_scalar}

@@ -4,7 +4,7 @@ use Rattle.std.specs.Prelude.{find, if◌then◌else◌}
 use Rattle.al_base.specs.Names.{same_name}
 use Rattle.al_base.specs.NamePlaces.{first_at, name_place}
 use Rattle.al_base.proofs.NamePlaces.{find_first, found_nowhere, found_within}
-use Rattle.al_tree_declarations.specs.Declarations.{named_among}
+use Rattle.al_tree.specs.Declarations.{named_among}
 use Rattle.al_check_interfaces.specs.Parameters.{is_parameter}
 use Rattle.al_check_interfaces.specs.declared.interfaces.Parameter.{Parameter}
 

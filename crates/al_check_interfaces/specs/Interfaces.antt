@@ -12,10 +12,10 @@ use Rattle.al_tree.specs.Keys.{key_of, keys_in}
 use Rattle.al_tree.specs.Values.{text_at_key, texts_in, value_at}
 use Rattle.al_tree.specs.declared.files.FileKind.{FileKind}
 use Rattle.al_tree.specs.declared.files.FileKind.TheVariants as kind
-use Rattle.al_tree_declarations.specs.Declarations.{declared_below, has_value, is_composite}
-use Rattle.al_tree_declarations.specs.Inputs.{input_of}
-use Rattle.al_tree_declarations.specs.declared.inputs.InputType.{InputType}
-use Rattle.al_tree_declarations.specs.declared.inputs.InputType.TheVariants as input
+use Rattle.al_tree.specs.Declarations.{declared_below, has_value, is_composite}
+use Rattle.al_tree.specs.Inputs.{input_of}
+use Rattle.al_tree.specs.declared.inputs.InputType.{InputType}
+use Rattle.al_tree.specs.declared.inputs.InputType.TheVariants as input
 use Rattle.al_check_interfaces.specs.declared.interfaces.Interface.{Interface}
 use Rattle.al_check_interfaces.specs.declared.interfaces.Interface.TheVariants.{Readable, Unreadable}
 use Rattle.al_check_interfaces.specs.declared.interfaces.Parameter.{Parameter}

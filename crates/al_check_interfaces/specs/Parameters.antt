@@ -2,7 +2,7 @@
 use Rattle.std.specs.Prelude.{ℕ, List, Bool, ◌&&◌, not, map}
 use Rattle.std.specs.List.{filter}
 use Rattle.al_base.specs.Names.{same_name}
-use Rattle.al_tree_declarations.specs.Declarations.{named_among}
+use Rattle.al_tree.specs.Declarations.{named_among}
 use Rattle.al_check_interfaces.specs.declared.interfaces.Parameter.{Parameter}
 
 abbrev pub is_parameter : List ℕ → Parameter → Bool

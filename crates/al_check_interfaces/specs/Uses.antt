@@ -17,7 +17,7 @@ use Rattle.al_tree.specs.Values.{items_at, text_at_key}
 use Rattle.al_tree.specs.Files.{jobs_of}
 use Rattle.al_tree.specs.declared.files.FileKind.{FileKind}
 use Rattle.al_tree.specs.declared.files.FileKind.TheVariants as kind
-use Rattle.al_tree_declarations.specs.Declarations.{action_steps, is_composite}
+use Rattle.al_tree.specs.Declarations.{action_steps, is_composite}
 use Rattle.al_check_interfaces.specs.Forms.{form_by}
 use Rattle.al_check_interfaces.specs.declared.forms.Form.{Form}
 use Rattle.al_check_interfaces.specs.declared.forms.Form.TheVariants.{Local, Wrong}

@@ -5,7 +5,7 @@ ghost use Rattle.al_check_interfaces.specs.Kinds.{parameters_of};
 
 use crate::lists::Parameters;
 use al_expr_types::{Name, NameList};
-use al_tree_declarations::InputType;
+use al_tree::InputType;
 
 /// What a file is to its callers.
 #[derive(Clone, Copy, Debug, PartialEq, Eq)]

@@ -2,7 +2,7 @@
 ghost use Rattle.std.specs.Prelude.{◌≡◌, [], map, option_map, IfOk};
 ghost use Rattle.std.specs.List.{list_any};
 ghost use Rattle.std.specs.Option.{option_map_or};
-ghost use Rattle.al_tree_declarations.specs.Declarations.{declared_in};
+ghost use Rattle.al_tree.specs.Declarations.{declared_in};
 ghost use Rattle.al_scalar.specs.Scalar.{text_of};
 ghost use Rattle.al_tree.specs.Keys.{keys_in};
 ghost use Rattle.al_tree.specs.Values.{member_of, scalar_node_of};
@@ -15,9 +15,9 @@ use crate::interfaces::{Interface, Parameter, Role, Signature};
 use crate::lists::Parameters;
 use al_base::is_same_name;
 use al_expr_types::{Name, NameList};
-use al_tree::{FileKind, Member, ScalarNode, key_text, text_under, texts, value};
-use al_tree_declarations::{
-    InputType, declared_at, has_value, input_of, is_composite, value_below_three,
+use al_tree::{
+    FileKind, InputType, Member, ScalarNode, declared_at, has_value, input_of, is_composite,
+    key_text, text_under, texts, value, value_below_three,
 };
 use al_yaml_tree::Node;
 use std::alloc::{AllocError, Global};

@@ -8,8 +8,10 @@ ghost use Rattle.al_check_interfaces.specs.Uses as calling;
 ghost use Rattle.al_yaml_tree.specs.View.{view};
 
 use al_base::Caller;
-use al_tree::{FileKind, Member, ScalarNode, items_under, key_text, members_under, text_under};
-use al_tree_declarations::{action_steps, is_composite};
+use al_tree::{
+    FileKind, Member, ScalarNode, action_steps, is_composite, items_under, key_text, members_under,
+    text_under,
+};
 use al_yaml_tree::Node;
 use std::alloc::{AllocError, Global};
 

@@ -1,6 +1,6 @@
 -- Lists of fields, as more are put to them; and what all of them have in common.
 use Rattle.std.proofs.Common.{◌≡◌, ◌<◌, ◌+◌, ℕ, List, [], ◌∷◌, ◌++◌, length, map, take, get_or, refl, sym, ap, ◌∙◌, Bool, true, false, Option, Some, None}
-use Rattle.std.proofs.lemmas.List.{get_or_default, map-append, take_more}
+use Rattle.std.proofs.lemmas.List.{get_or_default, map-append, map_more}
 use Rattle.std.proofs.lemmas.List.Elements.{filter_map-append}
 use Rattle.std.specs.List.{cons_option, filter_map}
 use Rattle.std.specs.Option.{option_to_list}
@@ -22,8 +22,7 @@ put_all_more put_or_fuse ts (p ∷ ps) qs = put_all_more put_or_fuse (put_or_fus
 
 module _ {X Y : Type 0} (g : X → Y) where
   pub mapped_more : (xs : List X) (i : ℕ) (x : X) → i < length xs → x ≡ get_or xs i x → map g (take (i + 1) xs) ≡ map g (take i xs) ++ g x ∷ []
-  mapped_more xs i x lt e =
-      ap (map g) (take_more xs i x lt) ∙ ap (λ y. map g (take i xs ++ y ∷ [])) (sym e) ∙ map-append g (take i xs) (x ∷ [])
+  mapped_more xs i x lt e = map_more g xs i x lt ∙ ap (λ y. map g (take i xs) ++ g y ∷ []) (sym e)
 
   -- one more of those that are put
   pub put_next : (f : Y → TypedName) (ts : List TypedName) (xs : List X) (i : ℕ) (x : X) → i < length xs → x ≡ get_or xs i x →

@@ -8,9 +8,9 @@ use Rattle.std.specs.Prelude.{codes, if◌then◌else◌, option_and_then}
 use Rattle.al_base.specs.Names.{same_name}
 use Rattle.al_tree.specs.Keys.{key_of}
 use Rattle.al_tree.specs.Values.{entries_in, firsts_by, value_at, value_below}
-use Rattle.al_tree_declarations.specs.Declarations.{declared_in, named_among}
+use Rattle.al_tree.specs.Declarations.{declared_in, named_among}
 use Rattle.al_check_objects.specs.Inputs.{input_type, event_inputs, input_field}
-use Rattle.al_tree_declarations.specs.Inputs.{input_of}
+use Rattle.al_tree.specs.Inputs.{input_of}
 use Rattle.al_types.specs.Puts.{TypedName, firsts, put_or_fuse, put_all, put_new}
 use Rattle.al_types.specs.Types.{Type', fuse_type}
 use Rattle.al_types.proofs.GatheredFields.{firsts_distinct}

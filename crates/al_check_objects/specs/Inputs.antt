@@ -5,10 +5,10 @@ use Rattle.al_yaml_tree.specs.Node.{Node}
 use Rattle.al_tree.specs.Keys.{key_of, keys_in}
 use Rattle.al_tree.specs.declared.files.FileKind.{FileKind}
 use Rattle.al_tree.specs.declared.files.FileKind.TheVariants as kind
-use Rattle.al_tree_declarations.specs.Declarations.{declared_below}
-use Rattle.al_tree_declarations.specs.Inputs.{input_of}
-use Rattle.al_tree_declarations.specs.declared.inputs.InputType.{InputType}
-use Rattle.al_tree_declarations.specs.declared.inputs.InputType.TheVariants as input
+use Rattle.al_tree.specs.Declarations.{declared_below}
+use Rattle.al_tree.specs.Inputs.{input_of}
+use Rattle.al_tree.specs.declared.inputs.InputType.{InputType}
+use Rattle.al_tree.specs.declared.inputs.InputType.TheVariants as input
 use Rattle.al_types.specs.Strings.{named_strings}
 use Rattle.al_check_objects.specs.Objects.{strictly}
 use Rattle.al_types.specs.Puts.{TypedName, put_or_fuse, put_all}

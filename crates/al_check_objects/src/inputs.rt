@@ -15,8 +15,7 @@ use crate::field_lists::FieldList;
 use crate::objects::declared_strings;
 use crate::scalars::{scalar, type_of_input};
 use al_expr_types::{Ty, Types};
-use al_tree::{FileKind, Member, key_text, value};
-use al_tree_declarations::{declared_at, input_of, value_below_three};
+use al_tree::{FileKind, Member, declared_at, input_of, key_text, value, value_below_three};
 use al_yaml_tree::Node;
 use std::alloc::{AllocError, Global};
 

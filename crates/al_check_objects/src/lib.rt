@@ -13,5 +13,5 @@ pub use field_lists::FieldList;
 pub use fixed::{github_type, job_type, runner_type, strategy_type};
 pub use inputs::inputs_type;
 pub use matrix::matrix_type;
-pub use objects::{declared_strings, key_texts, object_of};
+pub use objects::{declared_strings, object_of};
 pub use scalars::{class_type_of, type_of_input};

@@ -23,8 +23,8 @@ use al_rules_formats::{Around, is_lone_chunk};
 use al_scalar::Scalar;
 use al_tree::{
     Member, contains_chunk, is_combination_key, items, key_of, key_text, members, value,
+    value_below_two,
 };
-use al_tree_declarations::value_below_two;
 use al_yaml_tree::{Entry, Kind, Node};
 use std::alloc::{AllocError, Global};
 

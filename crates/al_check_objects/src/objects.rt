@@ -14,7 +14,7 @@ ghost use Rattle.al_types.specs.Types.{object_with};
 
 use crate::field_lists::FieldList;
 use al_expr_types::{FieldMap, Ty, Types};
-use al_tree::{Member, key_text};
+use al_tree::{Member, key_texts};
 use std::alloc::{AllocError, Global};
 
 /// An object of these fields, of which no two have the same name, and of others of a type where there may be others. Fails with
@@ -36,17 +36,6 @@ pub fn object_of<'a>(
     let map = FieldMap::of(alloc, fields)?;
     let ty = FieldList { map }.into_type(alloc, types, rest)?;
     Ok(ty)
-}
-
-/// The keys of entries.
-pub fn key_texts<'a>(alloc: Global, entries: &[Member<'a>]) -> Result<Vec<&'a [u8]>, AllocError>
-    ensures { IfOk result (λ v. map (λ n. n.now) v.items ≡ keys_in (map member_of entries.now)) }
-{
-    let mut keys = Vec::new(alloc);
-    for entry in entries {
-        keys.push(key_text(entry.key))?;
-    }
-    Ok(keys)
 }
 
 /// An object whose fields are strings of the keys of entries, and no others.

@@ -8,7 +8,7 @@ ghost use Rattle.al_check_objects.specs.Inputs.{input_type};
 
 use al_expr_types::{Base, Scalar, Ty};
 use al_scalar::Class;
-use al_tree_declarations::InputType;
+use al_tree::InputType;
 
 /// The type of a scalar of a class.
 pub fn class_type_of(class: Class) -> Scalar

@@ -1,17 +1,14 @@
 -- Numbers that are cut off, and counting up.
-use Rattle.std.proofs.Common.{◌≡◌, ℕ, zero, suc, ◌+◌, ◌*◌, ◌-◌, ◌<◌, true, List, [], ◌∷◌, ◌++◌, length, drop}
-use Rattle.std.proofs.Common.{get_or, sym, ap, ◌∙◌, arith, ◌&&◌, add-one}
-use Rattle.std.proofs.lemmas.List.{at_drop_more}
+use Rattle.std.proofs.Common.{◌≡◌, ℕ, ◌+◌, ◌*◌, ◌-◌, ◌<◌, true, List, [], ◌∷◌, ◌++◌, length, drop}
+use Rattle.std.proofs.Common.{get_or, sym, ap, ◌∙◌, arith, ◌&&◌}
+use Rattle.std.proofs.lemmas.List.{at_drop_more, map-id}
+use Rattle.std.proofs.lemmas.List.FromFn.{map-range_with_len_more}
 use Rattle.std.specs.Char.{is_ascii_digit}
 use Rattle.std.specs.List.{list_all, range_with_len}
 use Rattle.al_rules_formats.specs.Private.Views.{least_thousand, number_on}
 
-counted_next : (n a : ℕ) → range_with_len a (suc n) ≡ range_with_len a n ++ (a + n) ∷ []
-counted_next zero a = ap (λ k. k ∷ []) (omega arith)
-counted_next (suc n) a = ap (λ l. a ∷ l) (counted_next n (a + 1) ∙ ap (λ k. range_with_len (a + 1) n ++ k ∷ []) (omega arith))
-
 pub counted_more : (n : ℕ) → range_with_len 0 (n + 1) ≡ range_with_len 0 n ++ n ∷ []
-counted_more n = ap (range_with_len 0) (add-one n) ∙ counted_next n 0 ∙ ap (λ k. range_with_len 0 n ++ k ∷ []) (omega arith)
+counted_more n = sym (map-id (range_with_len 0 (n + 1))) ∙ map-range_with_len_more (λ k. k) 0 n n (omega arith) ∙ ap (λ l. l ++ n ∷ []) (map-id (range_with_len 0 n))
 
 -- a number that is cut off stays so
 cut_next : (n d : ℕ) → least_thousand (least_thousand n * 10 + d) ≡ least_thousand (n * 10 + d)

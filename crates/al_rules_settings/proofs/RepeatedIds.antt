@@ -1,14 +1,12 @@
 -- The ids that repeat an earlier one, with one id more.
-use Rattle.std.proofs.Common.{arith, ◌≡◌, ◌<◌, ◌+◌, ◌++◌, ◌∷◌, [], ℕ, Bool, List, Some, length, get_or, ap, append_assoc, drop, map, sym, take, ◌∙◌}
-use Rattle.std.specs.Prelude.{is_none, nat_eq}
-use Rattle.std.specs.Option.{option_eq}
-use Rattle.std.proofs.lemmas.List.{get_or-map, get_or_default, length-map, map-append, map_more}
-use Rattle.std.proofs.lemmas.Simd.{map-map}
+use Rattle.std.proofs.Common.{◌≡◌, ◌<◌, ◌+◌, ◌++◌, ◌∷◌, [], ℕ, Bool, List, length, get_or, ap, append_assoc, drop, map, refl, sym, take, ◌∙◌}
+use Rattle.std.specs.Prelude.{is_none}
+use Rattle.std.proofs.lemmas.List.{get_or_default}
 use Rattle.al_base.specs.NamePlaces.{TellsFirsts, name_place}
 use Rattle.al_base.specs.declared.codes.RuleCode.TheVariants.{RepeatedId}
 use Rattle.al_base.specs.declared.faults.Fault.{Fault}
-use Rattle.al_tree.proofs.KeyLemmas.{name_stands_first}
-use Rattle.al_tree.proofs.Lists.{left_next}
+use Rattle.al_tree.proofs.KeyLemmas.{told_first}
+use Rattle.al_tree.proofs.Lists.{left_next, text_there, texts_next}
 use Rattle.al_rules_settings.specs.Ids.{repeated_faults}
 use Rattle.al_rules_settings.specs.Views.{named_of}
 use Rattle.al_rules_settings.specs.Words.{unless}
@@ -28,18 +26,9 @@ repeated_next first ids i d told mid new all firsts is within before added =
     let seen = texts (take i ids) in
     let behind = texts (take (i + 1) ids) in
     let left = map named_of (drop (i + 1) ids) in
-    let more : behind ≡ seen ++ text ∷ [] =
-    ap (map (λ n. n.text)) (map_more named_of ids i d within) ∙ map-append (λ n. n.text) (map named_of (take i ids)) (named_of id ∷ []) in
-    let inside : i < length (map named_of ids) = omega (arith, within, length-map ids named_of) in
-    let there : get_or (texts ids) i [] ≡ text =
-    get_or-map (λ n. n.text) (map named_of ids) i (named_of id) [] inside
-    ∙ ap (λ n. n.text) (get_or-map named_of ids i id (named_of id) within ∙ ap named_of (sym here)) in
-    let right : told ≡ is_none (name_place seen text) =
-    is ∙ firsts i (omega (arith, inside, length-map (map named_of ids) (λ n. n.text)))
-    ∙ ap (λ t. option_eq nat_eq (name_place (texts ids) t) (Some i)) there
-    ∙ ap (λ ns. option_eq nat_eq (name_place ns text) (Some i)) (map-map (λ n. n.text) named_of ids)
-    ∙ name_stands_first (λ x. (named_of x).text) ids i id within here
-    ∙ ap (λ ns. is_none (name_place ns text)) (sym (map-map (λ n. n.text) named_of (take i ids))) in
+    let more : behind ≡ seen ++ text ∷ [] = texts_next (λ n. n.text) named_of ids i id within here in
+    let there : get_or (texts ids) i [] ≡ text = text_there (λ n. n.text) named_of ids ids i id refl within here in
+    let right : told ≡ is_none (name_place seen text) = is ∙ told_first (λ n. n.text) named_of ids i text first firsts within there in
     ap (λ l. l ++ repeated_faults behind left) added
     ∙ ap (λ b. (mid ++ unless b RepeatedId (named_of id)) ++ repeated_faults behind left) right
     ∙ ap (λ ts. (mid ++ unless (is_none (name_place seen text)) RepeatedId (named_of id)) ++ repeated_faults ts left) more

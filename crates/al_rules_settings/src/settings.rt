@@ -10,10 +10,10 @@ ghost use Rattle.al_rules_settings.specs.Settings.{script_faults, shell_faults};
 ghost use Rattle.al_rules_settings.specs.Settings.{variable_faults};
 ghost use Rattle.al_scalar.specs.Scalar.{text_of};
 ghost use Rattle.al_tree.specs.Faults.{is_null};
-ghost use Rattle.al_tree.specs.Values.{member_of, scalar_node_of, value_below};
+ghost use Rattle.al_tree.specs.Values.{member_of, scalar_node_of};
 ghost use Rattle.al_yaml_tree.specs.View.{view};
 ghost use Rattle.std.specs.List.{flat_map};
-ghost use Rattle.std.specs.Prelude.{◌≡◌, ◌++◌, ◌||◌, [], ◌∷◌, codes, false, map, option_map, IfOk, OnOk};
+ghost use Rattle.std.specs.Prelude.{◌≡◌, ◌++◌, ◌||◌, false, map, option_map, IfOk, OnOk};
 
 use crate::commands::check_commands;
 use crate::names::{PERMISSIONS, SCOPE_VALUES, SHELLS, WHOLE_VALUES};
@@ -21,7 +21,9 @@ use crate::reports::{named_key, named_text, report_unless, report_unless_among};
 use al_base::{Code, FaultSink, RuleCode, is_among};
 use al_rules_formats::{Around, has_part, is_lone_chunk, is_variable};
 use al_scalar::Scalar;
-use al_tree::{Member, ScalarNode, contains_chunk, is_null_scalar, members, text, value};
+use al_tree::{
+    Member, ScalarNode, contains_chunk, is_null_scalar, members, text, value, value_below_two,
+};
 use al_yaml_tree::Node;
 use std::alloc::{AllocError, Global};
 
@@ -175,21 +177,13 @@ fn check_password(node: &Node, faults: &mut FaultSink) -> Result<(), AllocError>
     faults.report_plain(node.span(), Code::Rule(RuleCode::PasswordNotExpression))
 }
 
-/// The password of a container or a service, as a node.
-fn password_of(container: &Node) -> Option<&Node>
-    ensures { option_map (λ n. view n.now) result
-        ≡ value_below (codes "credentials" ∷ codes "password" ∷ []) (view container.now) }
-{
-    value(value(container, "credentials")?, "password")
-}
-
 /// Adds the fault of the credentials of a container or a service: a password that isn't one expression.
 ///
 /// Fails with `AllocError` when out of memory.
 pub fn check_credentials(container: &Node, faults: &mut FaultSink) -> Result<(), AllocError>
     ensures { OnOk result (faults.new ≡ faults.old ++ credentials_faults (view container.now)) }
 {
-    match password_of(container) {
+    match value_below_two(container, "credentials", "password") {
         None => Ok(()),
         Some(node) => check_password(node, faults),
     }

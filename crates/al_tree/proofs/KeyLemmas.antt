@@ -1,5 +1,5 @@
 -- The keys of the first entries of a mapping, and where keys and names first stand.
-use Rattle.std.proofs.Common.{◌≡◌, Bor, ◌≤◌, ◌<◌, ℕ, ◌+◌, zero, suc, Bool, true, false, List, [], ◌∷◌, length, map, take, get_or, refl, sym, ap, subst, arith, add-one, ◌∙◌, ◌||◌}
+use Rattle.std.proofs.Common.{◌≡◌, Bor, ◌≤◌, ◌<◌, ℕ, ◌+◌, zero, suc, Bool, true, false, List, [], ◌∷◌, length, map, take, get_or, refl, sym, ap, arith, add-one, ◌∙◌, ◌||◌}
 use Rattle.std.specs.Prelude.{Option, Some, None, is_none, nat_eq, not, option_map, if◌then◌else◌}
 use Rattle.std.specs.List.{list_any}
 use Rattle.std.specs.Option.{option_eq, option_map_or}
@@ -7,7 +7,6 @@ use Rattle.std.specs.Str.{bytes_eq}
 use Rattle.std.specs.Cmp.{nat_eq_equiv, partial_equiv_from_equiv, IsPartialEquivalence}
 use Rattle.std.specs.Cmp.Lexicographic.{lists_per}
 use Rattle.std.proofs.Math.Dec.{eqb-suc-suc, eqb-zero-suc}
-use Rattle.std.proofs.Math.ListN.{get_or-map}
 use Rattle.std.proofs.lemmas.Bool.{le-ltb, lt-ltb, ltb-true, ltb_from_iff}
 use Rattle.std.proofs.lemmas.List.{length-map, take-map, take_all}
 use Rattle.std.proofs.lemmas.Slice.Eq.{bytes_eq-Decides}
@@ -16,7 +15,7 @@ use Rattle.al_base.specs.NamePlaces.{TellsFirsts, first_at, is_first_text, name_
 use Rattle.al_base.specs.declared.name_positions.TextPositions.{TextPositions}
 use Rattle.al_yaml_tree.specs.View.{entry_view}
 use Rattle.al_yaml_tree.specs.declared.node.Entry.{Entry}
-use Rattle.al_tree.proofs.Lists.{not_not}
+use Rattle.std.proofs.Math.Bool.{not-not}
 use Rattle.al_tree.specs.Keys.{IsIndexOf, has_first, holds, is_before, key_of, keys_in, repeats}
 use Rattle.al_tree.specs.declared.keys.KeyIndex.{KeyIndex}
 use Rattle.al_tree.specs.declared.keys.KeySet.{KeySet}
@@ -89,18 +88,21 @@ repeats_before : (ts : List (List ℕ)) (i : ℕ) (t : List ℕ) → i < length 
 repeats_before ts i t within is =
     let test : List ℕ → Bool = λ u. bytes_eq u t in
     ap not (stands_first test ts i [] within (ap test is ∙ (bytes_eq-Decides t t).1 refl) ∙ none_at test (take i ts))
-    ∙ not_not (list_any test (take i ts)) ∙ ap (λ f. list_any f (take i ts)) (λ d u. bytes_swap u t d) ∙ sym (placed_before ts i t)
+    ∙ not-not (list_any test (take i ts)) ∙ ap (λ f. list_any f (take i ts)) (λ d u. bytes_swap u t d) ∙ sym (placed_before ts i t)
 
 same_itself : (n : List ℕ) → same_name n n ≡ true
 same_itself n = (bytes_eq-Decides (lower_case n) (lower_case n)).1 refl
 
--- a name that no earlier one equals first stands where it does
-pub name_stands_first : {X : Type 0} (name : X → List ℕ) (xs : List X) (i : ℕ) (x : X) → i < length xs → x ≡ get_or xs i x →
-    option_eq nat_eq (name_place (map name xs) (name x)) (Some i) ≡ is_none (name_place (map name (take i xs)) (name x))
-name_stands_first name xs i x within is =
-    stands_first (λ m. same_name m (name x)) (map name xs) i (name x) (subst (λ n. i < n) (sym (length-map xs name)) within)
-    (ap (λ n. same_name n (name x)) (get_or-map name xs i x ∙ ap name (sym is)) ∙ same_itself (name x))
-    ∙ ap (λ ns. is_none (name_place ns (name x))) (take-map name i xs)
+-- a name is told to stand first where no earlier one is the same
+pub told_first : {X Y : Type 0} (g : Y → List ℕ) (f : X → Y) (xs : List X) (i : ℕ) (n : List ℕ) (first : ℕ → Bool) →
+    TellsFirsts (name_place (map g (map f xs))) (map g (map f xs)) first → i < length xs → get_or (map g (map f xs)) i [] ≡ n →
+    first i ≡ is_none (name_place (map g (map f (take i xs))) n)
+told_first g f xs i n first told within is =
+    let ns = map g (map f xs) in
+    let inside : i < length ns = omega (arith, within, length-map xs f, length-map (map f xs) g) in
+    told i inside ∙ ap (λ m. option_eq nat_eq (name_place ns m) (Some i)) is
+    ∙ stands_first (λ m. same_name m n) ns i [] inside (ap (λ m. same_name m n) is ∙ same_itself n)
+    ∙ ap (λ ms. is_none (name_place ms n)) (take-map g i (map f xs) ∙ ap (map g) (take-map f i xs))
 
 -- ---- the keys of a mapping
 

@@ -1,18 +1,12 @@
 -- What holds of the first entries of each key, and lists up to an item and behind it.
-use Rattle.std.specs.Prelude.{ℕ, Bool, true, false, not, List, [], ◌∷◌, ◌++◌, ◌+◌, ◌<◌, length}
-use Rattle.std.proofs.Common.{◌≡◌, refl, ap, map, cond, add-one, drop, drop-cons, get_or, subst, sym, take, ◌∙◌}
+use Rattle.std.specs.Prelude.{ℕ, Bool, List, [], ◌∷◌, ◌++◌, ◌+◌, ◌<◌, length, if◌then◌else◌}
+use Rattle.std.proofs.Common.{◌≡◌, ap, append_assoc, map, cond, add-one, drop, drop-cons, get_or, subst, sym, take, ◌∙◌}
 use Rattle.std.proofs.lemmas.List.{flat_map_more, get_or-map, length-map, map-append, map_more}
 use Rattle.std.specs.List.{AllByRecursion, flat_map}
 use Rattle.al_base.proofs.Elements.{each_both, each_either}
 use Rattle.al_yaml_tree.specs.Node.{Node}
-use Rattle.al_yaml_tree.specs.View.{entry_view}
-use Rattle.al_yaml_tree.specs.declared.node.Entry.{Entry}
 use Rattle.al_tree.specs.Keys.{key_of, keys_in}
 use Rattle.al_tree.specs.Values.{firsts_by}
-
-pub not_not : (b : Bool) → not (not b) ≡ b
-not_not true = refl
-not_not false = refl
 
 pub firsts_kept : (is_in : List (List ℕ) → List ℕ → Bool) (P : Node × Node → Type 0) (seen : List (List ℕ)) (es : List (Node × Node)) → AllByRecursion P es
     → AllByRecursion P (firsts_by is_in seen es)
@@ -21,23 +15,40 @@ firsts_kept is_in P seen (e ∷ es) p =
     each_both P (cond (is_in seen (key_of e)) [] (e ∷ [])) (firsts_by is_in (seen ++ key_of e ∷ []) es)
     (each_either P (is_in seen (key_of e)) [] (e ∷ []) tt (p.0, tt)) (firsts_kept is_in P (seen ++ key_of e ∷ []) es p.1)
 
--- the items behind those that were read, and the keys of the entries that were, one further
+-- the items behind those that were read, and the texts of those that were, one further
 pub left_next : {X Y : Type 0} (f : X → Y) (xs : List X) (i : ℕ) (x : X) → i < length xs → x ≡ get_or xs i x
     → map f (drop i xs) ≡ f x ∷ map f (drop (i + 1) xs)
 left_next f xs i x within is = ap (map f) (rw add-one (drop-cons xs i x within) ∙ ap (λ y. y ∷ drop (i + 1) xs) (sym is))
 
-pub keys_next : (es : List Entry) (i : ℕ) (e : Entry) → i < length es → e ≡ get_or es i e
-    → keys_in (map entry_view (take (i + 1) es)) ≡ keys_in (map entry_view (take i es)) ++ key_of (entry_view e) ∷ []
-keys_next es i e within is =
-    ap keys_in (map_more entry_view es i e within)
-    ∙ map-append key_of (map entry_view (take i es)) (entry_view (get_or es i e) ∷ [])
-    ∙ ap (λ x. keys_in (map entry_view (take i es)) ++ key_of (entry_view x) ∷ []) (sym is)
+pub texts_next : {X Y : Type 0} (g : Y → List ℕ) (f : X → Y) (xs : List X) (i : ℕ) (x : X) → i < length xs → x ≡ get_or xs i x
+    → map g (map f (take (i + 1) xs)) ≡ map g (map f (take i xs)) ++ g (f x) ∷ []
+texts_next g f xs i x within is =
+    ap (map g) (map_more f xs i x within)
+    ∙ map-append g (map f (take i xs)) (f (get_or xs i x) ∷ [])
+    ∙ ap (λ y. map g (map f (take i xs)) ++ g (f y) ∷ []) (sym is)
 
-pub key_there : (xs es : List Entry) (i : ℕ) (e : Entry) → xs ≡ es → i < length es → e ≡ get_or es i e → get_or (keys_in (map entry_view xs)) i [] ≡ key_of (entry_view e)
-key_there xs es i e same within is =
-    ap (λ l. get_or (keys_in (map entry_view l)) i []) same
-    ∙ get_or-map key_of (map entry_view es) i (entry_view e) [] (subst (λ n. i < n) (sym (length-map es entry_view)) within)
-    ∙ ap key_of (get_or-map entry_view es i e (entry_view e) within ∙ ap entry_view (sym is))
+-- the text of the item at a place
+pub text_there : {X Y : Type 0} (g : Y → List ℕ) (f : X → Y) (ys xs : List X) (i : ℕ) (x : X) → ys ≡ xs → i < length xs → x ≡ get_or xs i x
+    → get_or (map g (map f ys)) i [] ≡ g (f x)
+text_there g f ys xs i x same within is =
+    ap (λ l. get_or (map g (map f l)) i []) same
+    ∙ get_or-map g (map f xs) i (f x) [] (subst (λ n. i < n) (sym (length-map xs f)) within)
+    ∙ ap g (get_or-map f xs i x (f x) within ∙ ap f (sym is))
+
+-- the first entries so far, and those among what is left, one further
+module _ (is_in : List (List ℕ) → List ℕ → Bool) {X : Type 0} (f : X → Node × Node) (xs : List X) (i : ℕ) (x : X) where
+  pub firsts_next : (found more : List (Node × Node)) (repeats : Bool) → i < length xs → x ≡ get_or xs i x
+      → repeats ≡ is_in (keys_in (map f (take i xs))) (key_of (f x)) → more ≡ found ++ (if repeats then [] else f x ∷ [])
+      → more ++ firsts_by is_in (keys_in (map f (take (i + 1) xs))) (map f (drop (i + 1) xs))
+      ≡ found ++ firsts_by is_in (keys_in (map f (take i xs))) (map f (drop i xs))
+  firsts_next found more repeats within is known added =
+      let before = keys_in (map f (take i xs)) in
+      let left = map f (drop (i + 1) xs) in
+      let new = if is_in before (key_of (f x)) then [] else f x ∷ [] in
+      ap (λ ms. ms ++ firsts_by is_in (keys_in (map f (take (i + 1) xs))) left) (added ∙ ap (λ b. found ++ (if b then [] else f x ∷ [])) known)
+      ∙ ap (λ ks. (found ++ new) ++ firsts_by is_in ks left) (texts_next key_of f xs i x within is)
+      ∙ append_assoc found new (firsts_by is_in (before ++ key_of (f x) ∷ []) left)
+      ∙ ap (λ es. found ++ firsts_by is_in before es) (sym (left_next f xs i x within is))
 
 -- what the items that were read gave, and what one more gives
 pub gave_next : {X Y Z : Type 0} (v : X → Y) (f : Y → List Z) (xs : List X) (i : ℕ) (d : X) (old mid new : List Z) → i < length xs

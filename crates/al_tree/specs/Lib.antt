@@ -3,6 +3,8 @@ pub mod Table
 pub mod Keys
 pub mod Faults
 pub mod Values
+pub mod Declarations
+pub mod Inputs
 pub mod Rows
 pub mod Files
 pub mod Kinds

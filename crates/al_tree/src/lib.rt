@@ -1,12 +1,17 @@
-//! Workflows and actions: which files they are, their trees, and the faults of a tree against GitHub's syntax.
+//! Workflows and actions: which files they are, their trees, the faults of a tree against GitHub's syntax, and what a file declares by
+//! names.
 //!
-//! The syntax is a table of sections (`rule_of`). `text_under(step, "shell")` gives the value under a key of any node.
+//! The syntax is a table of sections (`rule_of`). `text_under(step, "shell")` gives the value under a key of any node. Inputs, secrets and
+//! outputs are declared by names, which are the same in any ASCII case; of equal ones the first counts.
 #![tactic(auto)]
 
+mod below;
 mod check;
+mod declarations;
 mod entries;
 mod examples;
 mod files;
+mod inputs;
 mod keys;
 mod kinds;
 mod names;
@@ -16,9 +21,12 @@ mod standings;
 mod table;
 mod values;
 
+pub use below::{action_steps, has_value, is_composite, value_below_three, value_below_two};
 pub use check::shape_faults;
+pub use declarations::{declared_at, declared_in, is_named_among};
 pub use examples::rows;
 pub use files::{Action, FileKind, Tree, Workflow, document_faults, read_action, read_workflow};
+pub use inputs::{InputType, input_of};
 pub use keys::{KeyBehind, KeyIndex, KeySet, key_of, key_text};
 pub use kinds::{file_kind, is_action, is_workflow, is_workflow_name};
 pub use names::{is_combination_key, is_event};
@@ -26,6 +34,6 @@ pub use scalars::{contains_chunk, is_null_scalar, scalar_fault};
 pub use standings::{Standing, refine, runs_of, standing_of};
 pub use table::{Clash, Keys, Need, Others, Row, Rule, ScalarSet, Shape, Trigger, rule_of};
 pub use values::{
-    Member, ScalarNode, items, items_under, key, member_positions, members, members_under, text,
-    text_under, texts, texts_under, value,
+    Member, ScalarNode, items, items_under, key, key_texts, member_positions, members,
+    members_under, text, text_under, texts, texts_under, value,
 };

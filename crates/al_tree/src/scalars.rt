@@ -11,7 +11,6 @@ use al_scalar::{Class, Scalar};
 use memchr::memchr;
 
 /// Whether a text has a `${{`.
-#[tactic(auto)]
 pub fn contains_chunk(text: &[u8]) -> bool
     ensures { result ≡ has_chunk text.now }
 {

@@ -162,8 +162,8 @@ pub fn members_under<'a>(
     }
 }
 
-/// The texts of the keys of members.
-fn key_texts<'a>(alloc: Global, members: &[Member<'a>]) -> Result<Vec<&'a [u8]>, AllocError>
+/// The texts of the keys of members, in order. Fails with `AllocError` if memory runs out.
+pub fn key_texts<'a>(alloc: Global, members: &[Member<'a>]) -> Result<Vec<&'a [u8]>, AllocError>
     ensures { IfOk result (λ v. map (λ k. k.now) v.items ≡ keys_in (map member_of members.now)) }
 {
     let mut keys = Vec::with_capacity(alloc, members.len())?;

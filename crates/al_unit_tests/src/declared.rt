@@ -1,10 +1,9 @@
 //! What files declare.
 
 use crate::files::document;
-use al_tree::{Member, key_text};
-use al_tree_declarations::{
-    InputType, declared_at, declared_in, has_value, input_of, is_composite, is_named_among,
-    value_below_three, value_below_two,
+use al_tree::{
+    InputType, Member, declared_at, declared_in, has_value, input_of, is_composite, is_named_among,
+    key_text, value_below_three, value_below_two,
 };
 use al_yaml_tree::Node;
 use std::alloc::{AllocError, Global};

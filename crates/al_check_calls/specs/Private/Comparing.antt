@@ -9,7 +9,7 @@ use Rattle.al_base.specs.declared.codes.Caller.{Caller}
 use Rattle.al_base.specs.declared.faults.Fault.{Fault}
 use Rattle.al_yaml_tree.specs.Node.{Node, span_of}
 use Rattle.al_tree.specs.Keys.{key_of, keys_in}
-use Rattle.al_tree_declarations.specs.Declarations.{named_among}
+use Rattle.al_tree.specs.Declarations.{named_among}
 use Rattle.al_check_interfaces.specs.Kinds.{parameters_of}
 use Rattle.al_check_interfaces.specs.Parameters.{mandatory_of}
 use Rattle.al_check_interfaces.specs.contracts.interfaces.ParameterKindPartialEq.TheImpl as kinds

@@ -3,7 +3,7 @@ use Rattle.std.specs.Option.{option_map_or}
 use Rattle.std.specs.Prelude.{codes}
 use Rattle.al_tree.specs.Keys.{keys_in}
 use Rattle.al_tree.specs.Values.{member_of}
-use Rattle.al_tree_declarations.specs.Declarations.{declared_in}
+use Rattle.al_tree.specs.Declarations.{declared_in}
 use Rattle.al_yaml_tree.specs.View.{view}
 use Rattle.al_types.specs.Strings.{named_strings}
 use Rattle.al_check_objects.proofs.InputLemmas.{below_itself}

@@ -1,7 +1,7 @@
 use Rattle.std.proofs.Common.{◌∙◌, [], ap, map}
 use Rattle.std.specs.Option.{option_map_or}
 use Rattle.al_tree.specs.Values.{member_of}
-use Rattle.al_tree_declarations.specs.Declarations.{declared_in}
+use Rattle.al_tree.specs.Declarations.{declared_in}
 use Rattle.al_types.specs.Puts.{firsts}
 use Rattle.al_check_objects.specs.Inputs.{input_field}
 use Rattle.al_check_objects.specs.Objects.{strictly}

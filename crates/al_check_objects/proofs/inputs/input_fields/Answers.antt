@@ -2,7 +2,7 @@ use Rattle.std.proofs.Common.{◌∙◌, [], ap, arith, map, subst, sym, take}
 use Rattle.std.proofs.lemmas.List.{take_all}
 use Rattle.al_tree.specs.Values.{member_of}
 use Rattle.al_check_objects.specs.Inputs.{input_type, input_field}
-use Rattle.al_tree_declarations.specs.Inputs.{input_of}
+use Rattle.al_tree.specs.Inputs.{input_of}
 use Rattle.al_yaml_tree.specs.View.{view}
 use Rattle.al_types.specs.Puts.{firsts, put_all, put_new}
 use Rattle.al_check_objects.specs.Numbers.{Lists}

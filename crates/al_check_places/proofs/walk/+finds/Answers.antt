@@ -1,7 +1,7 @@
 use Rattle.std.proofs.Common.{◌≡◌, ℕ, ◌+◌, List, [], ◌∷◌, ◌++◌, arith, false, ap, append_assoc, drop, map, sym, take, ◌∙◌}
 use Rattle.al_yaml_tree.specs.View.{entries_of, entry_view}
 use Rattle.al_tree.proofs.KeyLemmas.{all_keys}
-use Rattle.al_tree.proofs.Lists.{key_there, keys_next, left_next}
+use Rattle.al_tree.proofs.Lists.{left_next, text_there, texts_next}
 use Rattle.al_tree.specs.Faults.{Standing, mapping_shape, standing, standing_view}
 use Rattle.al_tree.specs.Keys.{holds, key_of, keys_in}
 use Rattle.al_base.specs.Names.{among}
@@ -35,7 +35,7 @@ find_entries-loop-i-preserved t c =
     let way = map way_step_view c.args.walk.now.way.items in
     let before = keys_in (map entry_view (take i es)) in
     let left = map entry_view (drop (i + 1) es) in
-    let more = keys_next es i e c.loop-i-test.true c.index-entries-i.is in
+    let more = texts_next key_of entry_view es i e c.loop-i-test.true c.index-entries-i.is in
     let rest = left_next entry_view es i e c.loop-i-test.true c.index-entries-i.is in
     let st = standing ks (among before) all (key_of (entry_view e)) in
     let stands : standing_view c.standing_of-standing.result ≡ st =
@@ -44,7 +44,7 @@ find_entries-loop-i-preserved t c =
     ∙ ap (λ f. standing ks (among before) f c.key_at.result.key.now)
     (all_keys c.in_ok-index.index c.first-all.result es _ c.in_ok-index.ensures c.first-all.ensures (omega arith))
     ∙ ap (standing ks (among before) all)
-    (c.key_at.ensures.key ∙ key_there c.in_ok-index.index.entries.now es i e c.in_ok-index.ensures.0 c.loop-i-test.true c.index-entries-i.is) in
+    (c.key_at.ensures.key ∙ text_there key_of entry_view c.in_ok-index.index.entries.now es i e c.in_ok-index.ensures.0 c.loop-i-test.true c.index-entries-i.is) in
     let out = map place_of c.loop-i.walk.found.items in
     let here : Standing → FileKind → List WayStep → List Place = λ s k w. entry_places s
     (λ s. places_of_node k s false (w ++ under (key_of (entry_view e)) ∷ []) (entry_view e).1) in

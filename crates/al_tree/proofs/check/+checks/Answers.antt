@@ -6,7 +6,7 @@ use Rattle.al_tree.specs.Keys.{holds, key_of, keys_in}
 use Rattle.al_base.specs.Names.{among}
 use Rattle.al_tree.specs.Table.{keys_view}
 use Rattle.al_tree.proofs.KeyLemmas.{all_keys}
-use Rattle.al_tree.proofs.Lists.{key_there, keys_next, left_next}
+use Rattle.al_tree.proofs.Lists.{left_next, text_there, texts_next}
 use Rattle.al_tree.proofs.Shapes.{faults_mapping}
 use Rattle.al_tree.proofs.check.+checks.Goals as goal
 
@@ -40,14 +40,14 @@ check_entries-loop-i-preserved t c =
     let before = keys_in (map entry_view (take i es)) in
     let left = map entry_view (drop (i + 1) es) in
     let out = c.loop-i.faults in
-    let more = keys_next es i e c.loop-i-test.true c.index-entries-i.is in
+    let more = texts_next key_of entry_view es i e c.loop-i-test.true c.index-entries-i.is in
     let rest = left_next entry_view es i e c.loop-i-test.true c.index-entries-i.is in
     let stands : standing_view c.standing_of-standing.result ≡ standing ks (among before) all (key_of (entry_view e)) =
     c.standing_of-standing.ensures
     ∙ ap (λ f. standing ks f (holds c.first-all.result) c.key_at.result.key.now) (c.key_at.ensures.seen ∙ ap (λ f. f i) c.requires.1)
     ∙ ap (λ f. standing ks (among before) f c.key_at.result.key.now)
     (all_keys c.args.index.now c.first-all.result es _ c.requires c.first-all.ensures (omega arith))
-    ∙ ap (standing ks (among before) all) (c.key_at.ensures.key ∙ key_there c.args.index.now.entries.now es i e c.requires.0 c.loop-i-test.true c.index-entries-i.is) in
+    ∙ ap (standing ks (among before) all) (c.key_at.ensures.key ∙ text_there key_of entry_view c.args.index.now.entries.now es i e c.requires.0 c.loop-i-test.true c.index-entries-i.is) in
     let here : Standing → List Fault = λ st. entry_faults st (entry_view e).0 (λ s. faults s (takes_null s) (key_of (entry_view e)) (entry_view e).1) in
     let behind : List _ → List Fault = λ ks'. entries_faults ks ks' all (entries_of left) in
     ap (λ l. l ++ behind (keys_in (map entry_view (take (i + 1) es)))) c.in_ok-check_entry.ensures

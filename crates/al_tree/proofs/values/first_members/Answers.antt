@@ -1,10 +1,10 @@
-use Rattle.std.proofs.Common.{◌≡◌, ◌∷◌, ◌++◌, [], ◌+◌, ap, append_assoc, append-nil, drop, map, sym, take, ◌∙◌, if◌then◌else◌}
+use Rattle.std.proofs.Common.{◌≡◌, ◌∷◌, ◌++◌, [], ap, append-nil, map, sym, take, ◌∙◌, if◌then◌else◌}
 use Rattle.std.proofs.lemmas.List.{map-append}
 use Rattle.al_yaml_tree.specs.View.{entry_view}
 use Rattle.al_tree.specs.Keys.{key_of, keys_in}
 use Rattle.al_base.specs.Names.{among}
-use Rattle.al_tree.specs.Values.{firsts_by, member_of}
-use Rattle.al_tree.proofs.Lists.{key_there, keys_next, left_next}
+use Rattle.al_tree.specs.Values.{member_of}
+use Rattle.al_tree.proofs.Lists.{firsts_next, text_there}
 use Rattle.al_tree.proofs.values.first_members.Goals.{then-is_new+in_ok-push, else-is_new}
 use Rattle.al_tree.proofs.values.first_members.Goals as goal
 
@@ -14,13 +14,10 @@ loop-i-preserved c =
     let i = c.loop-i.i in
     let e = c.index-entries-i.result in
     let before = keys_in (map entry_view (take i es)) in
-    let left = map entry_view (drop (i + 1) es) in
     let members = map member_of c.loop-i.firsts.items in
-    let more = keys_next es i e c.loop-i-test.true c.index-entries-i.is in
-    let rest = left_next entry_view es i e c.loop-i-test.true c.index-entries-i.is in
     let repeats : c.key_at.result.is_repeated ≡ among before (key_of (entry_view e)) =
     c.key_at.result.told ∙ ap (λ f. f c.key_at.result.key.now) (c.key_at.ensures.seen ∙ ap (λ f. f i) c.in_ok-index.ensures.1)
-    ∙ ap (among before) (c.key_at.ensures.key ∙ key_there c.in_ok-index.index.entries.now es i e c.in_ok-index.ensures.0 c.loop-i-test.true c.index-entries-i.is) in
+    ∙ ap (among before) (c.key_at.ensures.key ∙ text_there key_of entry_view c.in_ok-index.index.entries.now es i e c.in_ok-index.ensures.0 c.loop-i-test.true c.index-entries-i.is) in
     let added : map member_of c.if-is_new.firsts.items ≡ members ++ (if c.key_at.result.is_repeated then [] else entry_view e ∷ []) =
     elim c.if-is_new.branch [
       | then-is_new+in_ok-push w ↦
@@ -32,9 +29,4 @@ loop-i-preserved c =
           ap (λ v. map member_of v.items) w.firsts-is ∙ sym (append-nil members)
           ∙ ap (λ b. members ++ (if b then [] else entry_view e ∷ [])) (sym w.if-is_new.false)
     ] in
-    ap (λ ms. ms ++ firsts_by among (keys_in (map entry_view (take (i + 1) es))) left) added
-    ∙ ap (λ b. (members ++ (if b then [] else entry_view e ∷ [])) ++ firsts_by among (keys_in (map entry_view (take (i + 1) es))) left) repeats
-    ∙ ap (λ ks. (members ++ (if among before (key_of (entry_view e)) then [] else entry_view e ∷ [])) ++ firsts_by among ks left) more
-    ∙ append_assoc members (if among before (key_of (entry_view e)) then [] else entry_view e ∷ []) (firsts_by among (before ++ key_of (entry_view e) ∷ []) left)
-    ∙ ap (λ l. members ++ firsts_by among before l) (sym rest)
-    ∙ c.loop-i.invariant
+    firsts_next among entry_view es i e members _ _ c.loop-i-test.true c.index-entries-i.is repeats added ∙ c.loop-i.invariant

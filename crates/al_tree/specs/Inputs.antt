@@ -5,8 +5,8 @@ use Rattle.std.specs.Str.{bytes_eq}
 use Rattle.al_scalar.specs.Scalar.{text_of}
 use Rattle.al_yaml_tree.specs.Node.{Node}
 use Rattle.al_tree.specs.Values.{text_at_key}
-use Rattle.al_tree_declarations.specs.declared.inputs.InputType.{InputType}
-use Rattle.al_tree_declarations.specs.declared.inputs.InputType.TheVariants as input
+use Rattle.al_tree.specs.declared.inputs.InputType.{InputType}
+use Rattle.al_tree.specs.declared.inputs.InputType.TheVariants as input
 
 -- `boolean` and `number` in this spelling; anything else, and no type, is a string
 abbrev pub input_named : List ℕ → InputType

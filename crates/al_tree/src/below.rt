@@ -1,11 +1,11 @@
 //! Values below paths of keys.
 ghost use Rattle.std.specs.Prelude.{◌≡◌, ◌∷◌, [], map, option_map};
-ghost use Rattle.al_tree_declarations.specs.Declarations as declarations;
-ghost use Rattle.al_tree_declarations.specs.Declarations.{says};
+ghost use Rattle.al_tree.specs.Declarations as declarations;
+ghost use Rattle.al_tree.specs.Declarations.{says};
 ghost use Rattle.al_tree.specs.Values.{value_below};
 ghost use Rattle.al_yaml_tree.specs.View.{view};
 
-use al_tree::{items_under, value};
+use crate::values::{items_under, value};
 use al_yaml_tree::Node;
 
 /// The value below two keys, each of which stands in a mapping; of equal keys the first counts.

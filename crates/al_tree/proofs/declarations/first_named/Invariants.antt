@@ -1,8 +1,8 @@
 use Rattle.std.proofs.Common.{◌≡◌, ◌++◌, [], take, drop, map}
 use Rattle.al_tree.specs.Keys.{keys_in}
 use Rattle.al_tree.specs.Values.{firsts_by, member_of}
-use Rattle.al_tree_declarations.specs.Declarations.{named_among}
-use Rattle.al_tree_declarations.proofs.mappings.first_named.Given as goal
+use Rattle.al_tree.specs.Declarations.{named_among}
+use Rattle.al_tree.proofs.declarations.first_named.Given as goal
 
 -- what was found, with what of the rest no name before it equals
 abbrev pub invariant-loop-i : goal.invariant-loop-i

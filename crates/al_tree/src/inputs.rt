@@ -1,10 +1,10 @@
 //! The types that inputs are declared with.
 ghost use Rattle.std.specs.Prelude.{◌≡◌};
-ghost use Rattle.al_tree_declarations.specs.Inputs as inputs;
-ghost use Rattle.al_tree_declarations.specs.Inputs.{input_named};
+ghost use Rattle.al_tree.specs.Inputs as inputs;
+ghost use Rattle.al_tree.specs.Inputs.{input_named};
 ghost use Rattle.al_yaml_tree.specs.View.{view};
 
-use al_tree::text_under;
+use crate::values::text_under;
 use al_yaml_tree::Node;
 
 /// The type of an input, as far as expressions tell types apart.

@@ -1,6 +1,6 @@
 use Rattle.std.proofs.Common.{◌≡◌, drop, map}
-use Rattle.al_tree_declarations.specs.Declarations.{named_among}
-use Rattle.al_tree_declarations.proofs.names.is_named_among.Given as goal
+use Rattle.al_tree.specs.Declarations.{named_among}
+use Rattle.al_tree.proofs.declarations.is_named_among.Given as goal
 
 abbrev pub invariant-loop-text : goal.invariant-loop-text
 invariant-loop-text l =

@@ -1,11 +1,13 @@
-//! What a mapping declares.
+//! What a mapping declares by names, ignoring ASCII case.
 ghost use Rattle.std.specs.Prelude.{◌≡◌, [], map, option_map, IfOk};
 ghost use Rattle.std.specs.Option.{option_map_or};
-ghost use Rattle.al_tree_declarations.specs.Declarations as declarations;
+ghost use Rattle.al_tree.specs.Declarations as declarations;
+ghost use Rattle.al_tree.specs.Declarations.{named_among};
 ghost use Rattle.al_tree.specs.Values.{firsts_by, member_of};
 ghost use Rattle.al_yaml_tree.specs.View.{view};
 
-use al_tree::{Member, member_positions, members};
+use crate::values::{Member, member_positions, members};
+use al_base::is_same_name;
 use al_yaml_tree::Node;
 use std::alloc::{AllocError, Global};
 
@@ -43,4 +45,16 @@ pub fn declared_at(alloc: Global, node: Option<&Node>) -> Result<Vec<Member<'_>>
         Some(node) => declared_in(alloc, node),
         None => Ok(Vec::new(alloc)),
     }
+}
+
+/// Whether one of some texts is a name, ignoring ASCII case.
+pub fn is_named_among(texts: &[&[u8]], name: &[u8]) -> bool
+    ensures { result ≡ named_among (map (λ t. t.now) texts.now) name.now }
+{
+    for text in texts {
+        if is_same_name(text, name) {
+            return true;
+        }
+    }
+    false
 }

@@ -1,2 +1,0 @@
-pub mod Declarations
-pub mod Inputs
