@@ -2,21 +2,19 @@
 use Rattle.std.proofs.lemmas.Map.Lookups.{exact_bytes}
 use Rattle.std.proofs.lemmas.Map.Keys.{sorted_tail}
 use Rattle.std.proofs.lemmas.Map.Entries.{none_below_head}
-use Rattle.std.proofs.Common.{◌≡◌, ℕ, Bool, true, false, ◌&&◌, not, List, [], ◌∷◌, Option, Some, None, refl, sym, ◌∙◌, ap}
+use Rattle.std.proofs.Common.{◌≡◌, ℕ, Bool, true, false, List, [], ◌∷◌, Some, None, refl, sym, ◌∙◌, ap}
 use Rattle.std.specs.Prelude.{bytes_eq}
-use Rattle.std.specs.List.{list_all}
 use Rattle.std.specs.List.Sorted.{IsStrictlySortedBy}
-use Rattle.std.specs.Option.{option_map, option_map_or, unwrap_or, option_eq}
+use Rattle.std.specs.Option.{option_map, unwrap_or}
 use Rattle.std.specs.Ordering.{nat_cmp, ordering_reverse}
 use Rattle.std.specs.Cmp.Lexicographic.{slice_cmp}
 use Rattle.std.proofs.lemmas.Bool.{cond-true, cond-false}
 use Rattle.std.proofs.lemmas.Cmp.{nat_list_cmp_total}
 use Rattle.std.proofs.lemmas.Map.{lookup-none}
 use Rattle.std.proofs.lemmas.Map.Text.{is_eq-slice_cmp}
-use Rattle.std.proofs.lemmas.Slice.Eq.{bytes_eq-Decides}
 use Rattle.al_session_folder.specs.Meaning.{Meaning}
-use Rattle.al_session_folder.specs.Affected.{affected_paths, is_affected, is_untouched}
-use Rattle.al_session_folder.specs.Folder.{Folder, answer, bytes_at, faults_in, paths_of, with_file}
+use Rattle.al_session_folder.specs.Affected.{affected_paths}
+use Rattle.al_session_folder.specs.Folder.{Folder, bytes_at, faults_in, paths_of, with_file}
 use Rattle.al_session_folder.proofs.Affecting.{affected_member}
 use Rattle.al_session_folder.proofs.Places.{by_ordering, sorted_put}
 use Rattle.al_session_folder.proofs.Views.{bytes_put, bytes_put_other, bytes_same, bytes_self, none_behind, put_same}
@@ -83,20 +81,7 @@ any_order f s p b q c apart =
         bytes_put_other q r (with_file f p b) c k ∙ bytes_put_other p r f b l
         ∙ sym (bytes_put_other p r (with_file f q c) b l ∙ bytes_put_other q r f c k)
 
-same_text : (o : Option (List ℕ)) (b : List ℕ) → option_eq bytes_eq o (Some b) ≡ true → o ≡ Some b
-same_text None b h = absurd cc
-same_text (Some a) b h = ap Some ((bytes_eq-Decides a b).0 h)
-
-left : (a b : Bool) → not (a && b) ≡ false → a ≡ true
-left true b h = refl
-left false b h = absurd cc
-
 pub others_keep : {I : Type 0} (eq : I → I → Bool) → ((x y : I) → eq x y ≡ true → x ≡ y) → (m : Meaning I) (f : Folder) → OthersKeepFaults eq m f
-unfolding is_untouched
 others_keep eq exact m f g s q b there none =
-    let stays : is_affected eq m f g q ≡ false = sym (affected_member eq m f g s q) ∙ none in
-    let untouched : not (option_eq bytes_eq (bytes_at f q) (Some b) && list_all (λ t. option_eq eq (answer m f t) (answer m g t)) (m.calls q b)) ≡ false =
-    sym (ap (λ (o : Option (List ℕ)). option_map_or
-    (λ x. not (option_eq bytes_eq (bytes_at f q) (Some x) && list_all (λ t. option_eq eq (answer m f t) (answer m g t)) (m.calls q x))) o false) there) ∙ stays in
-    let before : bytes_at f q ≡ Some b = same_text (bytes_at f q) b (left _ _ untouched) in
-    ap (option_map (faults_in m g q)) there ∙ ap Some (faults_stay eq exact m f g q b there stays) ∙ sym (ap (option_map (faults_in m f q)) before)
+    let stays = faults_stay eq exact m f g q b there (sym (affected_member eq m f g s q) ∙ none) in
+    ap (option_map (faults_in m g q)) there ∙ ap Some stays.1 ∙ sym (ap (option_map (faults_in m f q)) stays.0)

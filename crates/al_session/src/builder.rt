@@ -11,12 +11,12 @@ ghost use Rattle.al_session_folder.specs.Meaning.{IsUpTo};
 ghost use Rattle.al_session.specs.Builder.{IsLoaded};
 ghost use Rattle.al_session.specs.Session.{IsLinted, folder_in};
 
-use crate::edit::{insert_file, read_file, replace_file, set_faults};
+use crate::edit::{keep_file, read_file, set_faults};
 use crate::indexed::IndexedFiles;
 use crate::refused::put_refused;
 use crate::session::Session;
 use al_base::Path;
-use al_session_folder::{Files, FolderView, Lint, Refused, Target, file_number, place_in};
+use al_session_folder::{Files, FolderView, Lint, Refused, Target, file_number};
 use indexmap::IndexMap;
 use std::alloc::{AllocError, Global};
 use std::marker::Model;
@@ -155,17 +155,8 @@ fn load_file<L: Lint>(
     ensures reads { L.reads_of lint.new ≡ count_after (L.reads_of lint.old) 1 }
 {
     let file = read_file(lint, kept.alloc, path, bytes)?;
-    match place_in(&kept.files, path) {
-        Ok(_) => {
-            replace_file::<L>(kept, path, file)?;
-            Ok(())
-        }
-        Err(index) => {
-            let name = String::from_str(kept.alloc, path)?;
-            insert_file::<L>(kept, index, name, file)?;
-            Ok(())
-        }
-    }
+    keep_file::<L>(kept, path, file)?;
+    Ok(())
 }
 
 // The session of files that were read: checks each of them.

@@ -1,8 +1,14 @@
--- Faults that are given to files.
-use Rattle.std.specs.Prelude.{ℕ, List, [], ◌∷◌, Vec, string_bytes, bytes_eq, cond}
+-- Kept files with one more, and faults that are given to them.
+use Rattle.std.specs.Prelude.{◌≡◌, ◌⊎◌, ◌<◌, ℕ, List, [], ◌∷◌, length, Err, IsSome, String, Vec, string_bytes, bytes_eq, cond}
 use Rattle.std.specs.Global.{Global}
+use Rattle.std.specs.List.{insert}
+use Rattle.std.specs.Map.{set_value}
+use Rattle.al_base.specs.Limits.{most_files}
 use Rattle.al_base.specs.declared.faults.Fault.{Fault}
-use Rattle.al_session_folder.specs.Kept.{Files}
+use Rattle.al_session_folder.specs.Folder.{paths_of}
+use Rattle.al_session_folder.specs.Kept.{Files, file_at, folder_of}
+use Rattle.al_session_folder.specs.Place.{path_place}
+use Rattle.al_session_folder.specs.declared.kept.KeptFile.{KeptFile}
 
 -- the file at a path with other faults
 abbrev pub with_faults : {U I : Type 0} → Files U I → List ℕ → Vec Fault Global → Files U I
@@ -14,3 +20,9 @@ abbrev pub with_lists : {U I : Type 0} → Files U I → List (List ℕ) → Lis
 with_lists files [] lists = files
 with_lists files (p ∷ ps) [] = files
 with_lists files (p ∷ ps) (list ∷ lists) = with_faults (with_lists files ps lists) p list
+
+-- these files with one more, or with it in the place of the one with its path
+abbrev pub IsWithFile : {U I : Type 0} → List ℕ → KeptFile U I → Files U I → Files U I → Type 0
+IsWithFile p file old new = (IsSome (file_at old p) × (new ≡ set_value (λ k. bytes_eq p (string_bytes k)) old file))
+    ⊎ ((index : ℕ) × (name : String Global) × (string_bytes name ≡ p) × (path_place (paths_of (folder_of old)) p ≡ Err index)
+    × (length old < most_files) × (new ≡ insert old index (name, file)))

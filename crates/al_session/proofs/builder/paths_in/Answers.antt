@@ -4,13 +4,14 @@ use Rattle.std.proofs.lemmas.List.{length-map, take_all}
 use Rattle.al_session_folder.specs.Folder.{paths_of}
 use Rattle.al_session_folder.specs.Kept.{folder_of}
 use Rattle.al_session_folder.proofs.Places.{length-folder_of}
-use Rattle.al_session.proofs.Loading.{paths_more, valid_at}
+use Rattle.al_session_folder.proofs.Looping.{kept_number}
+use Rattle.al_session.proofs.Loading.{paths_more}
 use Rattle.al_session.proofs.builder.paths_in.Goals as goal
 
 pub path_of-requires : goal.path_of-requires
 path_of-requires g c =
-    ap path_fault_of c.as_str.ensures.value ∙ valid_at g.L.Lint.meaning g.L.Lint.is_unit c.args.files.now.entries c.loop-index.index
-    (c.file_number.result.0.now, c.file_number.result.1.now) c.requires.kept c.file_number.ensures
+    ap path_fault_of c.as_str.ensures.value ∙ (kept_number g.L.Lint.meaning g.L.Lint.is_unit c.args.files.now.entries c.loop-index.index
+    (c.file_number.result.0.now, c.file_number.result.1.now) c.requires.kept c.file_number.ensures).valid
 
 pub loop-index-preserved : goal.loop-index-preserved
 loop-index-preserved g c =
