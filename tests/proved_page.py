@@ -2,8 +2,9 @@
 
 Each clause that the table of promises names stands on the function that it names, and README.md's table has just the promises that have
 a number. Each crate of crates.txt that the program stands on, and `toy`, has rows in the table of crates; what a row is of is a public item
-of its crate, and the clauses in brackets behind it are its own; a definition's file that a row names is there. Where the kit's `rt` is on
-the PATH, the logic that is trusted is the one by which that kit proves. Prints what isn't so.
+of its crate, and the clauses in brackets behind it are its own; a definition's file that a row names is there. If a clause is a record, its
+fields count as clauses. Where the kit's `rt` is on the PATH, the logic that is trusted is the one by which that kit proves. Prints what
+isn't so.
 """
 
 import pathlib
@@ -21,21 +22,26 @@ ITEM = re.compile(r"^\s*(?:pub )?(?:fn|struct|enum|trait|type) (\w+)", re.MULTIL
 FUNCTION = re.compile(r"^( *)pub fn (\w+)(.*?)^\1(?:\{|$)", re.DOTALL | re.MULTILINE)
 LAWS = re.compile(r"^impl Lint for Actions \{(.*?)^\}", re.DOTALL | re.MULTILINE)
 CLAUSE = re.compile(r"\b(?:ensures|ghost) (\w+) (?:\{|=)")
+RECORD = re.compile(r"^pub record (\w+).*? where\n((?:  [^\n]*\n)+)", re.DOTALL | re.MULTILINE)
+FIELD = re.compile(r"^  pub (\w+) :", re.MULTILINE)
+CITED = re.compile(r"\bensures \w+ \{ (\w+)\b")
 NAME = re.compile(r"`(?:\w+::)?([\w ]+)`")
 CLAUSES = re.compile(r" \((`\w+`(?:, `\w+`)*)\)")
 LOGIC = re.compile(r"\blogic ([0-9a-f]{16})\b")
 
 
-def sources(crate):
-    """The sources of a crate, as one text."""
-    return "\n".join(it.read_text(encoding="utf-8") for it in sorted(crate.glob("src/**/*.rt")))
+def sources(crate, files="src/**/*.rt"):
+    """The sources of a crate, as one text; or its other files."""
+    return "\n".join(it.read_text(encoding="utf-8") for it in sorted(crate.glob(files)))
 
 
-def contracts(source):
-    """The names of the clauses of each function, of equal names each."""
+def contracts(source, definitions):
+    """The names of the clauses of each function, of equal names each, with the fields of the records that they are."""
+    fields = {name: set(FIELD.findall(text)) for name, text in RECORD.findall(definitions)}
     found = {}
     for match in FUNCTION.finditer(source):
-        found.setdefault(match[2], []).append(set(CLAUSE.findall(match[3])))
+        cited = (fields.get(it, set()) for it in CITED.findall(match[3]))
+        found.setdefault(match[2], []).append(set(CLAUSE.findall(match[3])).union(*cited))
     for match in LAWS.finditer(source):
         found.setdefault("impl Lint for Actions", []).append(set(CLAUSE.findall(match[1])))
     return found
@@ -71,7 +77,7 @@ def rows_of(page):
 def wrong_in(crate, rows):
     """What a crate's rows say that isn't so."""
     source = sources(crate)
-    there, clauses_of = items_of(source), contracts(source)
+    there, clauses_of = items_of(source), contracts(source, sources(crate, "specs/**/*.antt"))
     for items, text in rows:
         clauses = {it for names in CLAUSES.findall(items) for it in re.findall(r"\w+", names)}
         names = [it.split("::")[-1] for it in re.findall(r"`([\w:]+)`", CLAUSES.sub("", items))]
@@ -85,16 +91,17 @@ def differences(top):
     """What the pages say that isn't so."""
     page = (top / "docs/PROVED.md").read_text(encoding="utf-8")
     rows = ROW.findall(page[: page.index("## Crate by crate")])
-    known = contracts("\n".join(sources(it) for it in sorted((top / "crates").glob("al_*"))))
+    crates = sorted((top / "crates").glob("al_*"))
+    known = contracts(*("\n".join(sources(it, files) for it in crates) for files in ("src/**/*.rt", "specs/**/*.antt")))
     found = [it for _, _, named in rows for it in missing(named, known)]
     numbered = [(number, promise) for number, promise, _ in rows if number]
     readme = (top / "README.md").read_text(encoding="utf-8").partition("## What it promises")[2].partition("\n## ")[0]
     if not numbered or EXTRACT.findall(readme) != numbered:
         found.append("README.md has other promises than those with a number")
-    crates, listed = crates_in((top / "crates.txt").read_text(encoding="utf-8")), rows_of(page)
-    wanted = {it for it in all_below(crates, PROGRAM) if it != PROGRAM} | {"toy"}
+    built, listed = crates_in((top / "crates.txt").read_text(encoding="utf-8")), rows_of(page)
+    wanted = {it for it in all_below(built, PROGRAM) if it != PROGRAM} | {"toy"}
     found += [f"no row of {it}" for it in sorted(wanted - set(listed))]
-    found += [f"no crate {it}" for it in sorted(set(listed) - set(crates))]
+    found += [f"no crate {it}" for it in sorted(set(listed) - set(built))]
     found += [f"{name}: {it}" for name, of_crate in listed.items() for it in wrong_in(top / "crates" / name, of_crate)]
     if shutil.which("rt"):
         version = subprocess.run(["rt", "version"], capture_output=True, text=True, check=True).stdout.strip()

@@ -167,8 +167,8 @@ wrong_never bytes more w b = elim w [
   ]
 ]
 
-pub wrong_some : (bytes more : List ℕ) → IsWrong bytes → bytes ++ more ≢ []
-wrong_some bytes more w e = elim w [
+pub wrong_nonempty : (bytes more : List ℕ) → IsWrong bytes → bytes ++ more ≢ []
+wrong_nonempty bytes more w e = elim w [
   | inl v ↦ let f : length bytes ≡ length (v.0 ++ 10 ∷ v.1) = ap length v.2 in let z : length (bytes ++ more) ≡ 0 = ap length e in
       absurd (omega (arith, f, z, length-append v.0 (10 ∷ v.1), length-append bytes more))
   | inr v ↦ elim v [

@@ -1,6 +1,6 @@
 -- How a turn's clauses follow, and how the turns of a run join.
 use Rattle.std.proofs.Common.{◌≡◌, ◌≢◌, ℕ, max, List, [], ◌∷◌, ◌++◌, length, sym, subst, ap, ◌∙◌, refl, arith, Option, None, Some}
-use Rattle.std.proofs.Common.{Result, Ok, Err, OnOk, rules, append_assoc, append-nil, length-append, All, inl, inr, codes, ◌⊎◌}
+use Rattle.std.proofs.Common.{Result, Err, OnOk, rules, append_assoc, append-nil, length-append, All, inl, inr, codes, ◌⊎◌}
 use Rattle.std.proofs.lemmas.Grind.{common_steps, flat_map-append}
 use Rattle.std.proofs.lemmas.List.Elements.{All-tail}
 use Rattle.std.proofs.Math.Nat.{le-max_right, max-eq_left}
@@ -17,26 +17,13 @@ use Rattle.al_base.specs.declared.stops.Stop.{Stop}
 use Rattle.al_base.specs.declared.stops.Stop.TheVariants.{ReadFault, WriteFault, Memory, TooManyTurns}
 use Rattle.al_cli_scripts.specs.Private.Answered.{IsStuck}
 use Rattle.al_cli_scripts.proofs.Serving.{Served-none, Served-more}
-use Rattle.al_cli_scripts.proofs.Laws.{command_unique, wrong_never, wrong_some}
+use Rattle.al_cli_scripts.proofs.Laws.{command_unique, wrong_never, wrong_nonempty}
 
--- the error that a `?` hands on
-pub same_error : {S T : Type 0} (r : Result S Stop) (r' : Result T Stop) (x v e : Stop) → r' ≡ Err x → x ≡ v → r ≡ Err v → r' ≡ Err e → r ≡ Err e
-same_error r r' x v e p q s h = cc
-
--- what is known of a count of failures behind a call that answered, of an answer, and of a stop
-pub counted_on : {T : Type 0} (r : Result T Stop) (x : T) (stop : Stop) (a b : ℕ) → CountsFailures r stop a b → r ≡ Ok x → b ≡ a
-counted_on {T} r x stop a b counts is = let P : Result T Stop → Type 0 = λ q. OnOk q (b ≡ a) in subst P is counts.answered
-
-pub counted_answer : {T : Type 0} (x : T) (stop : Stop) (a b : ℕ) → b ≡ a → CountsFailures (Ok x) stop a b
-counted_answer {T} x stop a b same = record { answered = same; stopped = λ h. absurd (no_stop h) }
-  where
-    no_stop : Ok x ≡ Err stop → ⊥
-    no_stop h = cc
-
-pub counted_stop : {T : Type 0} (r : Result T Stop) (x stop : Stop) (a b : ℕ) → r ≡ Err x → (r ≡ Err stop → HasRisen a b) → CountsFailures r stop a b
-counted_stop {T} r x stop a b is risen =
-    let P : Result T Stop → Type 0 = λ q. OnOk q (b ≡ a) in
-    record { answered = subst P (sym is) tt; stopped = risen }
+-- what is known of a count of failures where a run stops as its last turn did
+pub counted_stop : {S T : Type 0} (q : Result S Stop) (r : Result T Stop) (e stop : Stop) (a b c : ℕ) → q ≡ Err e → r ≡ Err e → b ≡ a → CountsFailures q stop b c → CountsFailures r stop a c
+counted_stop {S} {T} q r e stop a b c was is same counts =
+    let P : Result T Stop → Type 0 = λ x. OnOk x (c ≡ a) in
+    record { answered = subst P (sym is) tt; stopped = λ h. subst (λ k. HasRisen k c) same (counts.stopped cc) }
 
 -- the most that was asked for, after a read of 65,536 bytes
 pub asked_again : (a b n : ℕ) → max b 65536 ≡ max a 65536 → n ≡ max b 65536 → max n 65536 ≡ max a 65536
@@ -49,9 +36,6 @@ command_nonempty c x e = let l : List ℕ = line_bytes (line_of c) in let b : Li
 
 pub unpended : BeginsWithCommand [] → ⊥
 unpended b = command_nonempty b.0 b.1 (sym b.3)
-
-pub wrong_nonempty : (bytes more : List ℕ) → IsWrong bytes → bytes ++ more ≢ []
-wrong_nonempty bytes more w e = wrong_some bytes more w e
 
 pub pending_none : IsPending []
 pending_none = record { unfinished = unpended; hopeful = λ w. wrong_nonempty [] [] w refl }
@@ -221,6 +205,10 @@ module _ {F : Type 0} (steps : Steps F) where
     | inl w ↦ subst (TurnStops steps old new) (sym w) cut
     | inr m ↦ subst (TurnStops steps old new) (sym m) cut
   ]
+
+  -- no turn stops for too many reads
+  pub not_too_many : {T : Type 0} (r : Result T Stop) (old new : RunState F) (e : Stop) → r ≡ Err e → r ≡ Err TooManyTurns → TurnStops steps old new e → ⊥
+  not_too_many r old new e is many turn = let same : e ≡ TooManyTurns = cc in subst (TurnStops steps old new) same turn
 
   -- ---- the turns of a run
 

@@ -1,11 +1,13 @@
 -- The output of a script, for any session that answers one command at a time, and what a run leaves that stops early.
-use Rattle.std.specs.Prelude.{◌≡◌, ◌≢◌, ℕ, ◌<◌, ◌≤◌, ◌⊎◌, List, [], ◌∷◌, ◌++◌, length, All, codes}
-use Rattle.std.specs.Prelude.{Option, None, Some, IfSome, Result, Ok, Err, OnOk, IsErrOf}
+use Rattle.std.specs.Prelude.{◌≡◌, ◌≢◌, ℕ, ◌+◌, ◌<◌, ◌≤◌, max, ◌⊎◌, List, [], ◌∷◌, ◌++◌, length, All, codes}
+use Rattle.std.specs.Prelude.{Option, None, Some, IfSome, Result, Ok, Err, IfOk, OnOk, IfErr, IsErrOf}
 use Rattle.std.specs.List.{flat_map, fold}
 use Rattle.std.specs.Io.KnownBytes.{Appends, Consumes, Keeps}
+use Rattle.al_base.specs.declared.streams.Input.{Input}
+use Rattle.al_base.specs.declared.streams.Output.{Output}
 use Rattle.al_base.specs.declared.stops.Stop.{Stop}
 use Rattle.al_base.specs.declared.stops.Stop.TheVariants.{ReadFault, WriteFault, Memory, TooManyTurns}
-use Rattle.al_base.specs.Counted.{AppendsPrefix, HasRisen}
+use Rattle.al_base.specs.Counted.{count_after, AppendsPrefix, HasRisen}
 use Rattle.al_base.specs.Limits.{largest_read, most_reads}
 use Rattle.al_cli_scripts.specs.Script.{Command, command_bytes, IsCommand, BeginsWithCommand, IsPending, IsWrong}
 
@@ -107,6 +109,19 @@ pub record ReadsNoFurther {F : Type 0} (steps : Steps F) (start : F) (left then 
 pub record CountsFailures {T : Type 0} (result : Result T Stop) (stop : Stop) (before now : ℕ) : Type 0 where
   pub answered : OnOk result (now ≡ before)
   pub stopped : IsErrOf result stop → HasRisen before now
+
+-- What a run of a script from a folder leaves, with its result: of the reader, before and after, and of the writer.
+pub record Runs {F R W : Type 0} (steps : Steps F) (start : F) (remaining : R → Option (List ℕ)) (contents : W → Option (List ℕ))
+    (unread left : Input R) (wrote now : Output W) (result : Result ℕ Stop) : Type 0 where
+  pub end : IfOk result (RunsToEnd steps start [] (remaining unread.inner) (contents wrote.inner) (contents now.inner))
+  pub stop : IfErr result (Stops steps start (remaining unread.inner) (remaining left.inner) (contents wrote.inner) (contents now.inner))
+  pub last_read : OnOk result (ReadsNoFurther steps start (remaining unread.inner) (remaining left.inner))
+  pub read_failures : CountsFailures result ReadFault unread.failures left.failures
+  pub write_failures : CountsFailures result WriteFault wrote.failures now.failures
+  pub reads : left.turns ≤ unread.turns + most_reads
+  pub all_turns : IsErrOf result TooManyTurns → left.turns ≡ count_after unread.turns most_reads
+  pub asked : left.largest_ask ≤ max unread.largest_ask largest_read
+  pub asks : result ≢ Err Memory → left.largest_ask ≡ max unread.largest_ask largest_read
 
 -- ---- one turn
 

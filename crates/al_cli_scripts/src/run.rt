@@ -2,18 +2,19 @@
 
 ghost use Rattle.std.specs.Prelude.{Err, None, false, max, ◌≡◌, ◌≢◌, [], ◌<◌, ◌+◌, ◌≤◌, ◌++◌, ◌⊎◌, ℕ, List, length};
 ghost use Rattle.std.specs.Prelude.{drop, codes, IfOk, OnOk, OnErr, IfErr, IsErrOf, decimal, IsOkUnless};
-ghost use Rattle.std.specs.Io.KnownBytes.{Appends, Keeps};
-ghost use Rattle.al_base.specs.Counted.{count_after, HasRisen, AppendsPrefix};
+ghost use Rattle.std.specs.Io.KnownBytes.{Keeps};
+ghost use Rattle.al_base.specs.Counted.{count_after, HasRisen};
 ghost use Rattle.al_base.specs.Streams.{bytes_left, turns_of, read_failures, largest_ask, bytes_written, write_failures};
+ghost use Rattle.al_base.specs.Streams.{Writes, WritesPrefix};
 ghost use Rattle.al_cli_scripts.specs.Private.Next.{meaning};
 ghost use Rattle.al_cli_scripts.specs.Script.{IsPending, BeginsWithCommand};
-ghost use Rattle.al_cli_scripts.specs.Runs.{CountsFailures, RunsToEnd, LeavesFolder, Stops, Ends, ReadsNoFurther, Turns, run_state};
+ghost use Rattle.al_cli_scripts.specs.Runs.{CountsFailures, LeavesFolder, Ends, Runs, Turns, run_state};
 ghost use Rattle.al_cli_scripts.specs.Replies as replies;
 ghost use Rattle.al_cli_scripts.specs.Script as script;
 ghost use Rattle.al_session.specs.declared.lint.Refused.TheVariants as refused;
 ghost use Rattle.al_cli_scripts.specs.Private.Answered.{Progresses, IsStuck};
 ghost use Rattle.al_base.specs.declared.stops.Stop.TheVariants.{ReadFault, WriteFault, Memory, TooManyTurns};
-ghost use Rattle.al_base.specs.Limits.{largest_read, most_reads};
+ghost use Rattle.al_base.specs.Limits.{largest_read};
 
 use super::commands::{Command, NextCommand, next_command};
 use al_base::limits::{LARGEST_READ, MOST_READS};
@@ -33,39 +34,38 @@ pub(crate) enum Progress {
     Bad,
 }
 
-/// Runs the script that the reader gives. Its reports print faults as lines alone where `oneline` is asked for. Each read
-/// asks for 65,536 bytes, and behind the one with which the input ends or goes wrong there is none.
+/// Runs the script that the reader gives in a new session, whose folder is empty, as [`run_commands`] does.
+///
+/// # Errors
+///
+/// Those of [`run_commands`].
 pub fn run_session<R: Read, W: Write>(
     alloc: Global,
     reader: &mut Input<R>,
     writer: &mut Output<W>,
     oneline: bool,
 ) -> Result<u8, Stop>
-    ensures end { IfOk result
-        (RunsToEnd (replies.session oneline) [] [] (bytes_left R.remaining reader.old)
-        (bytes_written W.contents writer.old) (bytes_written W.contents writer.new)) }
-    ensures stop { IfErr result (Stops (replies.session oneline) []
-        (bytes_left R.remaining reader.old) (bytes_left R.remaining reader.new)
-        (bytes_written W.contents writer.old) (bytes_written W.contents writer.new)) }
-    ensures last_read { OnOk result (ReadsNoFurther (replies.session oneline) []
-        (bytes_left R.remaining reader.old) (bytes_left R.remaining reader.new)) }
-    ensures reads { turns_of reader.new ≤ turns_of reader.old + most_reads }
-    ensures read_failures { CountsFailures result Stop.ReadFault (read_failures reader.old)
-        (read_failures reader.new) }
-    ensures write_failures { CountsFailures result Stop.WriteFault (write_failures writer.old)
-        (write_failures writer.new) }
-    ensures all_turns { IsErrOf result Stop.TooManyTurns
-        → turns_of reader.new ≡ count_after (turns_of reader.old) most_reads }
-    ensures asked { largest_ask reader.new ≤ max (largest_ask reader.old) largest_read }
-    ensures asks { result ≢ Err Memory
-        → largest_ask reader.new ≡ max (largest_ask reader.old) largest_read }
+    ensures runs { Runs (replies.session oneline) [] R.remaining W.contents reader.old reader.new
+        writer.old writer.new result }
 {
     let mut session = Session::open(alloc, Actions::new());
     run_commands(alloc, &mut session, reader, writer, oneline)
 }
 
-/// Runs the script that the reader gives over a session, which then has the folder that the commands leave. Output, reads and
-/// errors are as for [`run_session`], which begins with the empty folder.
+/// Runs the script that the reader gives over a session, which then has the folder that its commands leave. Reports have
+/// only the lines of faults if `oneline` is set. Returns the session's status if the input ends with no command begun, and
+/// otherwise 2, for a bad command.
+///
+/// Each read is for 65,536 bytes. None follows the one at which the input ends or a command turns out to be bad.
+///
+/// # Errors
+///
+/// - [`Stop::ReadFault`] if a read failed, and [`Stop::TooManyTurns`] if the script didn't end within 1,048,576 reads. The
+///   writer has the replies to all whole commands read so far, and what was read after these isn't a bad command.
+/// - [`Stop::WriteFault`] if a write or a flush failed, and [`Stop::Memory`] if memory ran out. The writer has a prefix of
+///   the output of the whole script.
+///
+/// After an error the session has carried out the script up to some command; which one isn't promised.
 pub fn run_commands<R: Read, W: Write>(
     alloc: Global,
     session: &mut Session<Actions>,
@@ -73,26 +73,10 @@ pub fn run_commands<R: Read, W: Write>(
     writer: &mut Output<W>,
     oneline: bool,
 ) -> Result<u8, Stop>
-    ensures end { IfOk result
-        (RunsToEnd (replies.session oneline) session.old.folder [] (bytes_left R.remaining reader.old)
-        (bytes_written W.contents writer.old) (bytes_written W.contents writer.new)) }
-    ensures stop { IfErr result (Stops (replies.session oneline) session.old.folder
-        (bytes_left R.remaining reader.old) (bytes_left R.remaining reader.new)
-        (bytes_written W.contents writer.old) (bytes_written W.contents writer.new)) }
+    ensures runs { Runs (replies.session oneline) session.old.folder R.remaining W.contents
+        reader.old reader.new writer.old writer.new result }
     ensures folder { OnOk result (LeavesFolder (replies.session oneline) session.old.folder []
         (bytes_left R.remaining reader.old) session.new.folder) }
-    ensures last_read { OnOk result (ReadsNoFurther (replies.session oneline) session.old.folder
-        (bytes_left R.remaining reader.old) (bytes_left R.remaining reader.new)) }
-    ensures reads { turns_of reader.new ≤ turns_of reader.old + most_reads }
-    ensures read_failures { CountsFailures result Stop.ReadFault (read_failures reader.old)
-        (read_failures reader.new) }
-    ensures write_failures { CountsFailures result Stop.WriteFault (write_failures writer.old)
-        (write_failures writer.new) }
-    ensures all_turns { IsErrOf result Stop.TooManyTurns
-        → turns_of reader.new ≡ count_after (turns_of reader.old) most_reads }
-    ensures asked { largest_ask reader.new ≤ max (largest_ask reader.old) largest_read }
-    ensures asks { result ≢ Err Memory
-        → largest_ask reader.new ≡ max (largest_ask reader.old) largest_read }
 {
     let mut run = Run::new(alloc, oneline);
     let mut piece = empty_piece(alloc)?;
@@ -190,11 +174,10 @@ fn finish<W: Write>(
     ensures ok { IfOk result
         (λ answer. (last : List ℕ)
         × Ends (replies.session false) session.old.folder waiting.now last answer
-        × Appends (bytes_written W.contents writer.old)
-        (bytes_written W.contents writer.new) last) }
+        × Writes W.contents writer.old writer.new last) }
     ensures err { OnErr result
         (((waiting.now ≢ [])
-        × AppendsPrefix (bytes_written W.contents writer.old) (bytes_written W.contents writer.new)
+        × WritesPrefix W.contents writer.old writer.new
         (codes "bad command\n"))
         ⊎ Keeps (bytes_written W.contents writer.old) (bytes_written W.contents writer.new)) }
     ensures failures { OnOk result (write_failures writer.new ≡ write_failures writer.old) }
@@ -255,10 +238,10 @@ fn answer<W: Write>(
     ensures after { OnOk result
         (session.new.folder ≡ replies.after_command session.old.folder (meaning command.entry)) }
     ensures ok { OnOk result
-        (Appends (bytes_written W.contents writer.old) (bytes_written W.contents writer.new)
+        (Writes W.contents writer.old writer.new
         (replies.reply_to oneline session.old.folder (meaning command.entry))) }
     ensures err { OnErr result
-        (AppendsPrefix (bytes_written W.contents writer.old) (bytes_written W.contents writer.new)
+        (WritesPrefix W.contents writer.old writer.new
         (replies.reply_to oneline session.old.folder (meaning command.entry))) }
     ensures failures { OnOk result (write_failures writer.new ≡ write_failures writer.old) }
     ensures failed { IsErrOf result Stop.WriteFault
@@ -268,16 +251,16 @@ fn answer<W: Write>(
         → replies.refusal_of session.old.folder (meaning command.entry) ≡ None }
 {
     match command {
-        Command::Put(path, bytes) => write_reply(writer, session.put(path, bytes)),
-        Command::Delete(path) => write_reply(writer, session.delete(path)),
-        Command::Report => write_report(writer, session, oneline),
+        Command::Put(path, bytes) => reply_to_edit(writer, session.put(path, bytes)),
+        Command::Delete(path) => reply_to_edit(writer, session.delete(path)),
+        Command::Report => reply_to_report(writer, session, oneline),
     }
 }
 
-// Writes the reply to an edit. Want of memory has none, and ends the run; no other reply does.
-fn write_reply<W: Write>(writer: &mut Output<W>, reply: Result<Edit, Refused>) -> Result<(), Stop>
+// Writes the reply to an edit. Running out of memory has none, and ends the run; no other reply does.
+fn reply_to_edit<W: Write>(writer: &mut Output<W>, reply: Result<Edit, Refused>) -> Result<(), Stop>
     ensures ok { OnOk result ((reply ≢ Err refused.Memory)
-        × Appends (bytes_written W.contents writer.old) (bytes_written W.contents writer.new)
+        × Writes W.contents writer.old writer.new
         (replies.reply_bytes reply)) }
     ensures err { IfErr result
         (replies.ReplyStops reply (bytes_written W.contents writer.old)
@@ -308,16 +291,16 @@ pub fn number_of(refused: Refused) -> u64
 }
 
 // Writes each file's faults, and the status.
-fn write_report<W: Write>(
+fn reply_to_report<W: Write>(
     writer: &mut Output<W>,
     session: &mut Session<Actions>,
     oneline: bool,
 ) -> Result<(), Stop>
     ensures ok { OnOk result
-        (Appends (bytes_written W.contents writer.old) (bytes_written W.contents writer.new)
+        (Writes W.contents writer.old writer.new
         (replies.reply_to oneline session.old.folder script.Report)) }
     ensures err { OnErr result
-        (AppendsPrefix (bytes_written W.contents writer.old) (bytes_written W.contents writer.new)
+        (WritesPrefix W.contents writer.old writer.new
         (replies.reply_to oneline session.old.folder script.Report)) }
     ensures failures { OnOk result (write_failures writer.new ≡ write_failures writer.old) }
     ensures failed { IsErrOf result Stop.WriteFault
@@ -333,10 +316,10 @@ fn write_report<W: Write>(
 // Writes a line of a word and a number.
 fn write_number<W: Write>(writer: &mut Output<W>, word: &[u8], number: u64) -> Result<(), Stop>
     ensures ok { OnOk result
-        (Appends (bytes_written W.contents writer.old) (bytes_written W.contents writer.new)
+        (Writes W.contents writer.old writer.new
         (word.now ++ decimal number ++ codes "\n")) }
     ensures err { OnErr result
-        (AppendsPrefix (bytes_written W.contents writer.old) (bytes_written W.contents writer.new)
+        (WritesPrefix W.contents writer.old writer.new
         (word.now ++ decimal number ++ codes "\n")) }
     ensures failures { OnOk result (write_failures writer.new ≡ write_failures writer.old) }
     ensures failed { OnErr result

@@ -5,9 +5,9 @@ use Rattle.al_cli_scripts.proofs.run.answer.Goals as goal
 pub returns-in-Put-clause-memory : goal.returns-in-Put-clause-memory
 returns-in-Put-clause-memory g c = λ h.
     rw c.in-Put.is
-    (put_allowed linting c.args.session.now.folder c.in-Put.path.now c.write_reply.result c.put.result _ _ c.write_reply.ensures.err h c.in-Put.bytes.now c.put.ensures.refused)
+    (put_allowed linting c.args.session.now.folder c.in-Put.path.now c.reply_to_edit.result c.put.result _ _ c.reply_to_edit.ensures.err h c.in-Put.bytes.now c.put.ensures.refused)
 
 pub returns-in-Delete-clause-memory : goal.returns-in-Delete-clause-memory
 returns-in-Delete-clause-memory g c = λ h.
     rw c.in-Delete.is
-    (delete_allowed linting c.args.session.now.folder c.in-Delete.path.now c.write_reply-in-Delete.result c.delete.result _ _ c.write_reply-in-Delete.ensures.err h c.delete.ensures.refused)
+    (delete_allowed linting c.args.session.now.folder c.in-Delete.path.now c.reply_to_edit-in-Delete.result c.delete.result _ _ c.reply_to_edit-in-Delete.ensures.err h c.delete.ensures.refused)

@@ -1,13 +1,12 @@
-use Rattle.std.proofs.Common.{◌∙◌, ◌++◌, [], ℕ, refl, rules, arith, subst, length-append}
+use Rattle.std.proofs.Common.{◌∙◌, ◌++◌, [], refl, rules, arith, length-append}
 use Rattle.std.proofs.lemmas.Grind.{common_steps}
 use Rattle.std.proofs.KnownBytes.{Keeps-refl}
 use Rattle.std.proofs.lemmas.Result.{err_from_is_err_and}
-use Rattle.al_base.specs.Counted.{HasRisen}
+use Rattle.std.proofs.Math.Nat.{le-max_left}
 use Rattle.al_base.specs.declared.stops.Stop.TheVariants.{ReadFault, WriteFault}
 use Rattle.al_cli_scripts.specs.Replies.{session}
 use Rattle.al_cli_scripts.specs.Runs.{GoesOn}
-use Rattle.std.proofs.Math.Nat.{le-max_left}
-use Rattle.al_cli_scripts.proofs.Turns.{same_error, counted_answer, counted_on, counted_stop, asked_again, turn_unwritten, Paused-none, Paused-more, Runs-after, Leaves-after, Last-after, Stops-after}
+use Rattle.al_cli_scripts.proofs.Turns.{asked_again, counted_stop, not_too_many, turn_unwritten, Paused-none, Paused-more, Runs-after, Leaves-after, Last-after, Stops-after}
 use Rattle.al_cli_scripts.proofs.run.run_commands.Goals as goal
 
 pub loop-turn-init : goal.loop-turn-init
@@ -22,41 +21,6 @@ loop-turn-init g c = record {
   writes_well = refl;
 }
 
-pub returns-in_err-piece-clause-stop : goal.returns-in_err-piece-clause-stop
-returns-in_err-piece-clause-stop g c =
-    let p = err_from_is_err_and c.from_residual.result c.from_residual.ensures.1 in
-    rw (p.1, p.2) (turn_unwritten (session c.args.oneline) c.args.session.now.folder [] _ _ _ (Keeps-refl _))
-
-pub returns-in_err-answer-clause-stop : goal.returns-in_err-answer-clause-stop
-returns-in_err-answer-clause-stop g c =
-    let p = err_from_is_err_and c.from_residual-in_err-answer.result c.from_residual-in_err-answer.ensures.1 in
-    let s = c.loop-turn.invariant.paused in
-    rw (p.1, p.2) (Stops-after (session c.args.oneline) c.args.session.now.folder s.0 _ _ _ _ _ s.2 (rw c.loop-turn.invariant.kind at c.in_err-answer.ensures.turn))
-
-pub returns-in_err-answer-clause-read_failures : goal.returns-in_err-answer-clause-read_failures
-returns-in_err-answer-clause-read_failures g c =
-    let p = err_from_is_err_and c.from_residual-in_err-answer.result c.from_residual-in_err-answer.ensures.1 in
-    counted_stop _ _ ReadFault _ _ p.1 (λ h. subst (λ (n : ℕ). HasRisen n c.take_turn.new.reader.failures) c.loop-turn.invariant.reads_well
-    (c.take_turn.ensures.read_failures.stopped (same_error _ _ _ _ _ p.1 p.2 (c.in_err-answer.was {u = tt}) h)))
-
-pub returns-in_err-answer-clause-write_failures : goal.returns-in_err-answer-clause-write_failures
-returns-in_err-answer-clause-write_failures g c =
-    let p = err_from_is_err_and c.from_residual-in_err-answer.result c.from_residual-in_err-answer.ensures.1 in
-    counted_stop _ _ WriteFault _ _ p.1 (λ h. subst (λ (n : ℕ). HasRisen n c.take_turn.new.writer.failures) c.loop-turn.invariant.writes_well
-    (c.take_turn.ensures.write_failures.stopped (same_error _ _ _ _ _ p.1 p.2 (c.in_err-answer.was {u = tt}) h)))
-
-pub returns-in-Some-clause-end : goal.returns-in-Some-clause-end
-returns-in-Some-clause-end g c =
-    let s = c.loop-turn.invariant.paused in
-    let r = rw (c.in-Some.is, c.loop-turn.invariant.kind) at c.in_ok-answer.ensures.turn in
-    Runs-after (session c.args.oneline) c.args.session.now.folder _ _ s.0 _ _ _ _ _ _ s.2 r.0
-
-pub returns-in-Some-clause-folder : goal.returns-in-Some-clause-folder
-returns-in-Some-clause-folder g c =
-    let s = c.loop-turn.invariant.paused in
-    let r = rw (c.in-Some.is, c.loop-turn.invariant.kind) at c.in_ok-answer.ensures.turn in
-    Leaves-after (session c.args.oneline) c.args.session.now.folder _ _ _ s.0 _ _ _ _ s.2 r.2
-
 pub loop-turn-preserved : goal.loop-turn-preserved
 loop-turn-preserved g c =
     let s = c.loop-turn.invariant.paused in
@@ -68,46 +32,77 @@ loop-turn-preserved g c =
       asks = λ h. c.take_turn.ensures.asked ∙ c.loop-turn.invariant.asked;
       paused = (s.0 ++ t.read, omega (arith, length-append s.0 t.read, t.some), Paused-more (session c.args.oneline) c.args.session.now.folder s.0 _ _ _ _ s.2 t);
       turns = search (rules, common_steps);
-      reads_well = counted_on _ _ ReadFault _ _ c.take_turn.ensures.read_failures (c.in_ok-answer.was {u = tt}) ∙ c.loop-turn.invariant.reads_well;
-      writes_well = counted_on _ _ WriteFault _ _ c.take_turn.ensures.write_failures (c.in_ok-answer.was {u = tt}) ∙ c.loop-turn.invariant.writes_well;
+      reads_well = c.in_ok-answer.ensures.read_failures.answered ∙ c.loop-turn.invariant.reads_well;
+      writes_well = c.in_ok-answer.ensures.write_failures.answered ∙ c.loop-turn.invariant.writes_well;
     }
 
-pub returns-in-Some-clause-last_read : goal.returns-in-Some-clause-last_read
-returns-in-Some-clause-last_read g c =
+pub returns-in_err-piece-clause-runs : goal.returns-in_err-piece-clause-runs
+returns-in_err-piece-clause-runs g c =
+    let p = err_from_is_err_and c.from_residual.result c.from_residual.ensures.1 in
+    rw (p.1, p.2) (record {
+      end = tt;
+      stop = turn_unwritten (session c.args.oneline) c.args.session.now.folder [] _ _ _ (Keeps-refl _);
+      last_read = tt;
+      read_failures = record { answered = tt; stopped = λ h. absurd cc };
+      write_failures = record { answered = tt; stopped = λ h. absurd cc };
+      reads = omega arith;
+      all_turns = λ h. absurd cc;
+      asked = le-max_left c.args.reader.now.largest_ask 65536;
+      asks = λ h. absurd (h refl);
+    })
+
+pub returns-in_err-answer-clause-runs : goal.returns-in_err-answer-clause-runs
+returns-in_err-answer-clause-runs g c =
+    let p = err_from_is_err_and c.from_residual-in_err-answer.result c.from_residual-in_err-answer.ensures.1 in
+    let s = c.loop-turn.invariant.paused in
+    let asked = c.take_turn.ensures.asked ∙ c.loop-turn.invariant.asked in
+    rw (p.1, p.2) (record {
+      end = tt;
+      stop = Stops-after (session c.args.oneline) c.args.session.now.folder s.0 _ _ _ _ _ s.2 (rw c.loop-turn.invariant.kind at c.in_err-answer.ensures.turn);
+      last_read = tt;
+      read_failures = counted_stop _ _ _ ReadFault _ _ _ refl refl c.loop-turn.invariant.reads_well c.in_err-answer.ensures.read_failures;
+      write_failures = counted_stop _ _ _ WriteFault _ _ _ refl refl c.loop-turn.invariant.writes_well c.in_err-answer.ensures.write_failures;
+      reads = omega (arith, c.take_turn.ensures.turns, c.loop-turn.invariant.turns);
+      all_turns = λ h. absurd (not_too_many (session c.args.oneline) _ _ _ _ refl h (rw c.loop-turn.invariant.kind at c.in_err-answer.ensures.turn));
+      asked = omega (arith, asked);
+      asks = λ h. asked;
+    })
+
+pub returns-in-Some-clause-runs : goal.returns-in-Some-clause-runs
+returns-in-Some-clause-runs g c =
     let s = c.loop-turn.invariant.paused in
     let r = rw (c.in-Some.is, c.loop-turn.invariant.kind) at c.in_ok-answer.ensures.turn in
-    Last-after (session c.args.oneline) c.args.session.now.folder _ _ s.0 _ _ _ _ _ s.2 r.1
+    let asked = c.take_turn.ensures.asked ∙ c.loop-turn.invariant.asked in
+    record {
+      end = Runs-after (session c.args.oneline) c.args.session.now.folder _ _ s.0 _ _ _ _ _ _ s.2 r.0;
+      stop = tt;
+      last_read = Last-after (session c.args.oneline) c.args.session.now.folder _ _ s.0 _ _ _ _ _ s.2 r.1;
+      read_failures = record { answered = c.in_ok-answer.ensures.read_failures.answered ∙ c.loop-turn.invariant.reads_well; stopped = λ h. absurd cc };
+      write_failures = record { answered = c.in_ok-answer.ensures.write_failures.answered ∙ c.loop-turn.invariant.writes_well; stopped = λ h. absurd cc };
+      reads = omega (arith, c.take_turn.ensures.turns, c.loop-turn.invariant.turns);
+      all_turns = λ h. absurd cc;
+      asked = omega (arith, asked);
+      asks = λ h. asked;
+    }
 
-pub returns-in_err-answer-clause-asked : goal.returns-in_err-answer-clause-asked
-returns-in_err-answer-clause-asked g c = omega (arith, c.take_turn.ensures.asked ∙ c.loop-turn.invariant.asked)
+pub returns-in-Some-clause-folder : goal.returns-in-Some-clause-folder
+returns-in-Some-clause-folder g c =
+    let s = c.loop-turn.invariant.paused in
+    let r = rw (c.in-Some.is, c.loop-turn.invariant.kind) at c.in_ok-answer.ensures.turn in
+    Leaves-after (session c.args.oneline) c.args.session.now.folder _ _ _ s.0 _ _ _ _ s.2 r.2
 
-pub returns-in_err-answer-clause-asks : goal.returns-in_err-answer-clause-asks
-returns-in_err-answer-clause-asks g c = λ h. c.take_turn.ensures.asked ∙ c.loop-turn.invariant.asked
-
-pub returns-in-Some-clause-asked : goal.returns-in-Some-clause-asked
-returns-in-Some-clause-asked g c = omega (arith, c.take_turn.ensures.asked ∙ c.loop-turn.invariant.asked)
-
-pub returns-in-Some-clause-asks : goal.returns-in-Some-clause-asks
-returns-in-Some-clause-asks g c = λ h. c.take_turn.ensures.asked ∙ c.loop-turn.invariant.asked
-
-pub returns-in-Some-clause-read_failures : goal.returns-in-Some-clause-read_failures
-returns-in-Some-clause-read_failures g c =
-    counted_answer _ ReadFault _ _ (counted_on _ _ ReadFault _ _ c.take_turn.ensures.read_failures (c.in_ok-answer.was {u = tt}) ∙ c.loop-turn.invariant.reads_well)
-
-pub returns-in-Some-clause-write_failures : goal.returns-in-Some-clause-write_failures
-returns-in-Some-clause-write_failures g c =
-    counted_answer _ WriteFault _ _ (counted_on _ _ WriteFault _ _ c.take_turn.ensures.write_failures (c.in_ok-answer.was {u = tt}) ∙ c.loop-turn.invariant.writes_well)
-
-pub returns-in_err-piece-clause-asked : goal.returns-in_err-piece-clause-asked
-returns-in_err-piece-clause-asked g c = le-max_left c.args.reader.now.largest_ask 65536
-
-pub returns-in_err-piece-clause-asks : goal.returns-in_err-piece-clause-asks
-returns-in_err-piece-clause-asks g c = λ h.
-    let p = err_from_is_err_and c.from_residual.result c.from_residual.ensures.1 in
-    absurd (h (rw (p.1, p.2) refl))
-
-pub returns-clause-asked : goal.returns-clause-asked
-returns-clause-asked g c = omega (arith, c.loop-turn.invariant.asks (search (rules, common_steps)))
-
-pub returns-clause-asks : goal.returns-clause-asks
-returns-clause-asks g c = λ h. c.loop-turn.invariant.asks (search (rules, common_steps))
+pub returns-clause-runs : goal.returns-clause-runs
+returns-clause-runs g c =
+    let s = c.loop-turn.invariant.paused in
+    let asked = c.loop-turn.invariant.asks (search (rules, common_steps)) in
+    record {
+      end = tt;
+      stop = search (rules, common_steps);
+      last_read = tt;
+      read_failures = record { answered = tt; stopped = λ h. absurd cc };
+      write_failures = record { answered = tt; stopped = λ h. absurd cc };
+      reads = search (rules, common_steps);
+      all_turns = λ h. search (rules, common_steps);
+      asked = omega (arith, asked);
+      asks = λ h. asked;
+    }

@@ -6,7 +6,7 @@ use Rattle.al_base.proofs.Bytes.{AppendsPrefix-after, AppendsPrefix-all, Appends
 use Rattle.al_session.specs.Report.{report_of, status_of}
 use Rattle.al_session.specs.Session.{SessionState}
 use Rattle.al_check.specs.Linting.{linting}
-use Rattle.al_cli_scripts.proofs.run.write_report.Goals as goal
+use Rattle.al_cli_scripts.proofs.run.reply_to_report.Goals as goal
 
 -- the number may be named otherwise
 status_front : (old new : Option (List ℕ)) (m n : ℕ) → m ≡ n → AppendsPrefix old new (codes "status " ++ decimal m ++ codes "\n") → AppendsPrefix old new (codes "status " ++ decimal n ++ codes "\n")
