@@ -42,6 +42,13 @@ fn rest<'s, 'a>(answers: &'s [Option<&'a Interface>]) -> &'s [Option<&'a Interfa
     }
 }
 
+/// The call with a number, if there is one.
+fn call_with<'a>(calls: &[Call<'a>], number: usize) -> Option<Call<'a>>
+    ensures { option_map call_of result ≡ slice_get (map call_of calls.now) number }
+{
+    Some(*calls.get(number)?)
+}
+
 /// Adds the call with a number, with its answer.
 fn add_answered<'a>(
     calls: &[Call<'a>],
@@ -53,13 +60,10 @@ fn add_answered<'a>(
         ++ cons_option (option_map (λ c. answered_by c (option_copied answer.entry))
         (slice_get (map call_of calls.now) number)) []) }
 {
-    match calls.get(number) {
+    match call_with(calls, number) {
         None => Ok(()),
         Some(call) => {
-            found.push(Answered {
-                call: *call,
-                answer,
-            })?;
+            found.push(Answered { call, answer })?;
             Ok(())
         }
     }

@@ -16,8 +16,8 @@ ghost use Rattle.al_yaml_tree.specs.View.{view};
 
 use crate::types::scalar_type;
 use crate::wrong_types::Value;
-use al_check_interfaces::Call;
 use al_check_contexts::{Env, File};
+use al_check_interfaces::Call;
 use al_check_places::{Place, Position, Section, Seen, available};
 use al_expr_types::Ty;
 use al_scalar::Scalar;
