@@ -18,4 +18,5 @@ invariant_of-result c =
 pub returns-clause-key : goal.returns-clause-key
 returns-clause-key c =
     let x = c.args.self.now in
-    c.key_of-key.ensures ∙ ap (λ e. key_of (entry_view e)) (sym c.index-self-i.is) ∙ sym (text_there key_of entry_view x.entries.now x.entries.now c.args.i c.index-self-i.result refl c.requires.within c.index-self-i.is)
+    c.key_of-key.ensures ∙ ap (λ e. key_of (entry_view e)) (sym c.index-self-i.is)
+    ∙ sym (text_there key_of entry_view x.entries.now x.entries.now c.args.i c.index-self-i.result refl c.requires.within c.index-self-i.is)
