@@ -1,8 +1,7 @@
 -- What holds of each scalar of a tree holds of each place that is checked.
-use Rattle.std.proofs.Common.{◌≡◌, ◌≤◌, ◌+◌, ℕ, zero, suc, List, [], ◌∷◌, ◌++◌, length, map, arith, Bool, true, false, cond, ◌&&◌, not, Option, Some, None, sym, subst}
+use Rattle.std.proofs.Common.{◌≡◌, ◌≤◌, ℕ, zero, suc, List, [], ◌∷◌, length, map, arith, Bool, true, false, cond, sym, subst}
 use Rattle.std.specs.Prelude.{IsUtf8, All}
 use Rattle.std.specs.List.{AllByRecursion}
-use Rattle.std.specs.Option.{option_map_or}
 use Rattle.std.proofs.lemmas.List.Elements.{All-from_recursion}
 use Rattle.al_base.specs.Spans.{LiesIn}
 use Rattle.al_base.specs.declared.faults.Span.{Span}
@@ -10,85 +9,17 @@ use Rattle.al_scalar.specs.Line.{Cell}
 use Rattle.al_scalar.specs.Offsets.{AreRising, IsFrom, IsPlaced, is_block, reach}
 use Rattle.al_scalar.specs.Scalar.{Scalar, offset_or, text_of}
 use Rattle.al_scalar.specs.declared.styles.Style.{Style}
-use Rattle.al_yaml_tree.specs.Access.{entries}
 use Rattle.al_yaml_tree.specs.Node.{Node, Nodes, Entries, scalar, sequence, mapping, no_nodes, item, no_entries, entry}
 use Rattle.al_yaml_tree.specs.Spans.{AreFrom, AreLaid, EntriesFrom, EntriesLaid, IsLaid, ItemsFrom}
 use Rattle.al_yaml_tree.specs.Texts.{EntriesHaveTexts, HasTexts, HaveTexts}
-use Rattle.al_tree.specs.Faults.{Standing, repeated, unexpected, ignored, expected, standing, mapping_shape}
-use Rattle.al_tree.specs.Keys.{key_text, keys_in}
-use Rattle.al_base.specs.Names.{among}
-use Rattle.al_tree.specs.Table.{Keys, rule}
-use Rattle.al_tree.specs.declared.table.Shape.{Shape}
 use Rattle.al_tree.specs.Files.{shape_of}
 use Rattle.al_tree.specs.declared.files.FileKind.{FileKind}
-use Rattle.al_check_places.specs.Places.{Place, entry_places, fits, has_expression, place_at, place_of, places_of_node, places_of_entries, places_of_items, places_of, rule_or_any, takes_scalars_only}
+use Rattle.al_check_places.specs.Places.{Place, place_of, places_of}
 use Rattle.al_check_places.specs.declared.walk.Place as rust
-use Rattle.al_check_places.specs.Ways.{WayStep, is_checked, nth, under}
+use Rattle.al_check_places.proofs.Scalars.{Each, EachEntry, EachItem, node_places}
 use Rattle.al_check_expressions.specs.Contents.{HasRoom}
 use Rattle.al_check_expressions.specs.Inside.{IsReadable, IsThere}
 use Rattle.al_check_expressions.proofs.EndLemmas.{length_text}
-
--- ---- the walk, for any property of scalars
-
-module _ (P : Scalar → Span → Type 0) where
-  abbrev mutual
-    pub Each : Node → Type 0
-    Each (scalar s at) = P s at
-    Each (sequence ns at) = EachItem ns
-    Each (mapping es at) = EachEntry es
-
-    pub EachItem : Nodes → Type 0
-    EachItem no_nodes = Unit {0}
-    EachItem (item n ns) = Each n × EachItem ns
-
-    pub EachEntry : Entries → Type 0
-    EachEntry no_entries = Unit {0}
-    EachEntry (entry k v es) = Each v × EachEntry es
-
-  abbrev AllPlaces : List Place → Type 0
-  AllPlaces ps = AllByRecursion (λ (p : Place). P p.word p.at) ps
-
-  both : (xs ys : List Place) → AllPlaces xs → AllPlaces ys → AllPlaces (xs ++ ys)
-  both [] ys a b = b
-  both (x ∷ xs) ys a b = (a.0, both xs ys a.1 b)
-
-  one_place : (t : Bool) (p : Place) → P p.word p.at → AllPlaces (cond t (p ∷ []) [])
-  one_place true p h = (h, tt)
-  one_place false p h = tt
-
-  some_items : (o : Option Shape) (f : Shape → List Place) → ((s : Shape) → AllPlaces (f s)) → AllPlaces (option_map_or f o [])
-  some_items None f h = tt
-  some_items (Some s) f h = h s
-
-  some_entry : (st : Standing) (f : Shape → List Place) → ((s : Shape) → AllPlaces (f s)) → AllPlaces (entry_places st f)
-  some_entry repeated f h = tt
-  some_entry (unexpected other) f h = tt
-  some_entry ignored f h = tt
-  some_entry (expected s other) f h = h s
-
-  mutual
-    node_places : (n : Node) → Each n → (k : FileKind) (shape : Shape) (is_item : Bool) (way : List WayStep) → AllPlaces (places_of_node k shape is_item way n)
-    node_places (scalar s at) h k shape is_item way =
-        one_place (fits (rule_or_any (rule shape)) s && is_checked k way && has_expression way s) (place_at k way (takes_scalars_only (rule_or_any (rule shape)) && not is_item) s at) h
-    node_places (sequence ns at) h k shape is_item way =
-        some_items (rule_or_any (rule shape)).items (λ s. places_of_items k s way 0 ns) (λ s. item_places ns h k s way 0)
-    node_places (mapping es at) h k shape is_item way =
-        entry_places_hold es h k (rule_or_any (rule (mapping_shape shape (entries es)))).keys_of [] (among (keys_in (entries es))) way
-
-    item_places : (ns : Nodes) → EachItem ns → (k : FileKind) (s : Shape) (way : List WayStep) (i : ℕ) → AllPlaces (places_of_items k s way i ns)
-    item_places no_nodes h k s way i = tt
-    item_places (item n ns) h k s way i =
-        both (places_of_node k s true (way ++ nth i ∷ []) n) (places_of_items k s way (i + 1) ns) (node_places n h.0 k s true (way ++ nth i ∷ [])) (item_places ns h.1 k s way (i + 1))
-
-    entry_places_hold : (es : Entries) → EachEntry es → (k : FileKind) (ks : Keys) (seen : List (List ℕ)) (all : List ℕ → Bool) (way : List WayStep)
-        → AllPlaces (places_of_entries k ks seen all way es)
-    entry_places_hold no_entries h k ks seen all way = tt
-    entry_places_hold (entry key v es) h k ks seen all way =
-        both (entry_places (standing ks (among seen) all (key_text key)) (λ s. places_of_node k s false (way ++ under (key_text key) ∷ []) v))
-        (places_of_entries k ks (seen ++ key_text key ∷ []) all way es)
-        (some_entry (standing ks (among seen) all (key_text key)) (λ s. places_of_node k s false (way ++ under (key_text key) ∷ []) v)
-        (λ s. node_places v h.0 k s false (way ++ under (key_text key) ∷ [])))
-        (entry_places_hold es h.1 k ks (seen ++ key_text key ∷ []) all way)
 
 -- ---- offsets of a scalar that is placed
 

@@ -1,5 +1,6 @@
 -- A text without `${{` has no chunks, and so no fault where it is no condition.
-use Rattle.std.proofs.Common.{◌≡◌, ℕ, suc, List, [], ◌∷◌, length, refl, ap, ◌∙◌, arith, Bool, true, false, cond, ◌&&◌, ◌||◌, not, Some, None, map}
+use Rattle.std.proofs.Common.{◌≡◌, ℕ, suc, List, [], ◌∷◌, length, refl, ap, ◌∙◌, arith, true, false, cond, ◌&&◌, not, Some, None, map}
+use Rattle.std.proofs.lemmas.Bool.{or_parts}
 use Rattle.std.proofs.lemmas.Bool.Decides.{nat_tests}
 use Rattle.std.specs.List.{starts_with}
 use Rattle.std.specs.Prelude.{codes, nat_eq, option_map}
@@ -10,14 +11,6 @@ use Rattle.al_types.specs.Scopes.{Scope}
 use Rattle.al_check_places.specs.Places.{Place}
 use Rattle.al_check_expressions.specs.Contents.{chunked_faults, content_faults, fault_in_file, place_faults}
 
-closed_or : (a b : Bool) → (a || b) ≡ false → a ≡ false
-closed_or false b h = refl
-closed_or true b h = h
-
-later_or : (a b : Bool) → (a || b) ≡ false → b ≡ false
-later_or false b h = h
-later_or true b h = absurd cc
-
 opens_not : (bs : List ℕ) → starts_with nat_eq bs (codes "${{") ≡ false → opens bs ≡ false
 opens_not [] h = refl
 opens_not (a ∷ []) h = grind (arith, nat_tests)
@@ -26,8 +19,8 @@ opens_not (a ∷ b ∷ c ∷ bs) h = grind (arith, nat_tests)
 
 no_opening : (bs : List ℕ) → has_chunk bs ≡ false → before_opening bs ≡ None
 no_opening [] h = refl
-no_opening (b ∷ bs) h = ap (λ t. cond t (Some 0) (option_map suc (before_opening bs))) (opens_not (b ∷ bs) (closed_or _ _ h))
-    ∙ ap (option_map suc) (no_opening bs (later_or _ _ h))
+no_opening (b ∷ bs) h = ap (λ t. cond t (Some 0) (option_map suc (before_opening bs))) (opens_not (b ∷ bs) (or_parts _ _ h).0)
+    ∙ ap (option_map suc) (no_opening bs (or_parts _ _ h).1)
 
 without_chunks : (bs : List ℕ) → has_chunk bs ≡ false → chunks_of bs ≡ no_chunks None
 without_chunks [] h = refl

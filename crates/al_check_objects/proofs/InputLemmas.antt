@@ -1,6 +1,7 @@
 -- Inputs that are declared have names of their own, so that none is left out of a list of fields.
 use Rattle.std.proofs.Common.{◌≡◌, ◌||◌, List, [], ◌∷◌, ◌++◌, ℕ, Bool, true, false, Option, Some, None, refl, sym, ap, ◌∙◌, append-nil, append_assoc, map}
 use Rattle.std.proofs.Math.Bool.{or-false}
+use Rattle.std.proofs.lemmas.Bool.{or_left}
 use Rattle.std.proofs.lemmas.List.Folds.{list_any-append}
 use Rattle.std.specs.List.{list_any}
 use Rattle.std.specs.Option.{option_map_or}
@@ -44,17 +45,13 @@ either true b c h e = ap (λ x. x || c) (h refl)
 either false true c h e = refl
 either false false c h e = e
 
-left : (a c : Bool) → a ≡ true → (a || c) ≡ true
-left true c e = refl
-left false c e = absurd cc
-
 among_more : (ts : List TypedName) (ns : List (List ℕ)) (p : TypedName) → AreAmong ts ns → AreAmong (ts ++ p ∷ []) (ns ++ p.0 ∷ [])
 among_more ts ns p h n e =
     any_more (λ m. same_name m n) ns p.0
     ∙ either (has_name ts n) (named_among ns n) (same_name p.0 n) (h n) (sym (any_more (λ (q : TypedName). same_name q.0 n) ts p) ∙ e)
 
 among_wider : (ts : List TypedName) (ns : List (List ℕ)) (m : List ℕ) → AreAmong ts ns → AreAmong ts (ns ++ m ∷ [])
-among_wider ts ns m h n e = any_more (λ k. same_name k n) ns m ∙ left (named_among ns n) (same_name m n) (h n e)
+among_wider ts ns m h n e = any_more (λ k. same_name k n) ns m ∙ or_left (named_among ns n) (same_name m n) (h n e)
 
 none_among : (a b : Bool) → (a ≡ true → b ≡ true) → b ≡ false → a ≡ false
 none_among true b h e = absurd (cc (h refl))

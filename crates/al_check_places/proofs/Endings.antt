@@ -2,7 +2,7 @@
 use Rattle.std.proofs.Common.{◌+◌, ◌<◌, ◌≤◌, get_or, take}
 use Rattle.std.proofs.lemmas.List.{take_more}
 use Rattle.std.proofs.Common.{◌≡◌, ℕ, suc, List, [], ◌∷◌, ◌++◌, length, map, ap, arith, refl, sym, Bool, true, false, cond, not, ◌&&◌, ◌||◌, ◌==◌, ◌-◌, ◌∙◌, Option, Some, None}
-use Rattle.std.proofs.lemmas.Bool.{eqb-true}
+use Rattle.std.proofs.lemmas.Bool.{and_parts, eqb-true, false_from_ne_true, or_left, or_right}
 use Rattle.std.specs.Prelude.{codes}
 use Rattle.std.specs.Option.{option_map_or}
 use Rattle.std.specs.Str.{bytes_eq}
@@ -55,10 +55,6 @@ last_under : (way : List rust.WayStep) (s : rust.WayStep) (k : List ℕ) → way
 last_under [] s k e = ap (λ u. last_key (keys_of (u ∷ []))) e
 last_under (t ∷ way) s k e = front t (way ++ s ∷ []) k (last_under way s k e)
 
-both : (a b : Bool) → (a && b) ≡ true → (a ≡ true) × (b ≡ true)
-both true b h = (refl, h)
-both false b h = absurd cc
-
 abbrev is_path : List (List ℕ) → Path → Bool
 is_path ks p = is_path_prefix p ks && (length p == length ks)
 
@@ -66,31 +62,23 @@ is_path ks p = is_path_prefix p ks && (length p == length ks)
 ends_with : (p : Path) (w : List ℕ) (ks : List (List ℕ)) → is_path_prefix (p ++ Some w ∷ []) ks ≡ true → length (p ++ Some w ∷ []) ≡ length ks →
     (k : List ℕ) → last_key ks ≡ Some k → bytes_eq w k ≡ true
 ends_with [] w [] h e k is = absurd cc
-ends_with [] w (l ∷ []) h e k is = sym (ap (bytes_eq w) (same l k is)) ∙ (both (bytes_eq w l) true h).0
+ends_with [] w (l ∷ []) h e k is = sym (ap (bytes_eq w) (same l k is)) ∙ (and_parts (bytes_eq w l) true h).0
 ends_with [] w (l ∷ m ∷ ks) h e k is = absurd cc
 ends_with (q ∷ p) w [] h e k is = absurd cc
 ends_with (q ∷ []) w (l ∷ []) h e k is = absurd cc
 ends_with (q ∷ r ∷ p) w (l ∷ []) h e k is = absurd cc
 ends_with (q ∷ p) w (l ∷ m ∷ ks) h e k is =
-    ends_with p w (m ∷ ks) (both (option_map_or (λ name. bytes_eq name l) q true) (is_path_prefix (p ++ Some w ∷ []) (m ∷ ks)) h).1 (less (length (p ++ Some w ∷ [])) (length (m ∷ ks)) e) k is
+    ends_with p w (m ∷ ks) (and_parts (option_map_or (λ name. bytes_eq name l) q true) (is_path_prefix (p ++ Some w ∷ []) (m ∷ ks)) h).1 (less (length (p ++ Some w ∷ [])) (length (m ∷ ks)) e) k is
 
 along : (p : Path) (w : List ℕ) (ks : List (List ℕ)) → is_path ks (p ++ Some w ∷ []) ≡ true →
     (k : List ℕ) → last_key ks ≡ Some k → bytes_eq w k ≡ true
 along p w ks h k is =
-    let parts = both (is_path_prefix (p ++ Some w ∷ []) ks) (length (p ++ Some w ∷ []) == length ks) h in
+    let parts = and_parts (is_path_prefix (p ++ Some w ∷ []) ks) (length (p ++ Some w ∷ []) == length ks) h in
     ends_with p w ks parts.0 (eqb-true (length (p ++ Some w ∷ [])) (length ks) parts.1) k is
 
 either : (a b c : Bool) → (a || b) ≡ true → (a ≡ true → c ≡ true) → (b ≡ true → c ≡ true) → c ≡ true
 either true b c h f g = f refl
 either false b c h f g = g h
-
-first : (a b : Bool) → a ≡ true → (a || b) ≡ true
-first true b h = refl
-first false b h = absurd cc
-
-second : (a b : Bool) → b ≡ true → (a || b) ≡ true
-second true b h = refl
-second false b h = h
 
 false_is_true : false ≡ true → ⊥
 false_is_true h = absurd cc
@@ -100,9 +88,9 @@ last_of_condition ks k is h =
     let one = bytes_eq (codes "if") k in
     let two = bytes_eq (codes "pre-if") k in
     let three = bytes_eq (codes "post-if") k in
-    let plain = λ (e : one ≡ true). first (one || two) three (first one two e) in
-    let before = λ (e : two ≡ true). first (one || two) three (second one two e) in
-    let after = second (one || two) three in
+    let plain = λ (e : one ≡ true). or_left (one || two) three (or_left one two e) in
+    let before = λ (e : two ≡ true). or_left (one || two) three (or_right one two e) in
+    let after = or_right (one || two) three in
     let a = is_path ks (path "jobs.*.if") in
     let b = is_path ks (path "jobs.*.steps.if") in
     let c = is_path ks (path "runs.steps.if") in
@@ -129,10 +117,6 @@ only_a_condition false b e h = absurd cc
 apart : (b : Bool) → b ≡ false → b ≡ true → ⊥
 apart b untrue_b true_b = absurd cc
 
-untrue : (b : Bool) → (b ≡ true → ⊥) → b ≡ false
-untrue false f = refl
-untrue true f = absurd (f refl)
-
 third_untrue : (a b c : Bool) → c ≡ false → (a && b && c) ≡ false
 third_untrue true true c h = h
 third_untrue true false c h = refl
@@ -141,5 +125,5 @@ third_untrue false b c h = refl
 pub without_expression : (k : FileKind) (r : Rule) (is_item : Bool) (way : List WayStep) (s : Scalar) (at : Span) (may : Bool) → may ≡ false →
     (has_expression way s ≡ true → may ≡ true) → scalar_places k r is_item way s at ≡ []
 without_expression k r is_item way s at may off f =
-    let none : has_expression way s ≡ false = untrue (has_expression way s) (λ h. apart may off (f h)) in
+    let none : has_expression way s ≡ false = false_from_ne_true (has_expression way s) (λ h. apart may off (f h)) in
     ap (λ t. cond t (place_at k way (takes_scalars_only r && not is_item) s at ∷ []) []) (third_untrue (fits_rule r s) (is_checked k way) (has_expression way s) none)

@@ -12,7 +12,7 @@ ghost use Rattle.std.specs.Prelude.{◌≡◌, ◌++◌, codes, map, option_and_
 use crate::sections::check_steps;
 use al_base::{Code, FaultSink, RuleCode};
 use al_rules_settings::{Named, check_condition, check_env, named_key, report};
-use al_tree::{Member, Shape, items_under, key, members, runs_of, text_under, value};
+use al_tree::{Member, Shape, items_under, key, members_under, runs_of, text_under, value};
 use al_yaml_tree::Node;
 use std::alloc::AllocError;
 
@@ -66,13 +66,8 @@ fn check_outputs(root: &Node, faults: &mut FaultSink) -> Result<(), AllocError>
     ensures { OnOk result (faults.new ≡ faults.old
         ++ flat_map output_faults (entries_at (codes "outputs") (view root.now))) }
 {
-    match value(root, "outputs") {
-        None => Ok(()),
-        Some(outputs) => {
-            let outputs = members(faults.alloc(), outputs)?;
-            check_each_output(outputs.as_slice(), faults)
-        }
-    }
+    let outputs = members_under(faults.alloc(), root, "outputs")?;
+    check_each_output(outputs.as_slice(), faults)
 }
 
 /// Adds the faults of a composite action.

@@ -17,7 +17,7 @@ use al_base::{FaultSink, RuleCode};
 use al_rules_formats::{Filter, Item, is_pattern, is_too_often, schedule};
 use al_rules_settings::{Named, named_key, named_text, report, report_unless, report_unless_among};
 use al_tree::{
-    Member, ScalarNode, is_event, items, members, text_under, texts, texts_under, value,
+    Member, ScalarNode, is_event, items, members, members_under, text_under, texts, texts_under,
 };
 use al_yaml_tree::Node;
 use std::alloc::AllocError;
@@ -219,13 +219,8 @@ fn check_inputs(types: &[&str], event: &Node, faults: &mut FaultSink) -> Result<
     ensures { OnOk result (faults.new ≡ faults.old
         ++ inputs_faults (map (λ n. n.now) types.now) (view event.now)) }
 {
-    match value(event, "inputs") {
-        None => Ok(()),
-        Some(inputs) => {
-            let inputs = members(faults.alloc(), inputs)?;
-            check_members(types, inputs.as_slice(), faults)
-        }
-    }
+    let inputs = members_under(faults.alloc(), event, "inputs")?;
+    check_members(types, inputs.as_slice(), faults)
 }
 
 /// Adds the faults of a known event.

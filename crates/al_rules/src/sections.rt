@@ -16,7 +16,10 @@ use al_rules_settings::{
     Named, check_condition, check_credentials, check_env, check_ids, check_matrix,
     check_permissions, check_script, check_shell, named_text,
 };
-use al_tree::{Member, ScalarNode, items_under, members, text_under, value};
+use al_tree::{
+    Member, ScalarNode, items_under, members_under, text, text_under, value, value_below_three,
+    value_below_two,
+};
 use al_yaml_tree::Node;
 use std::alloc::{AllocError, Global};
 
@@ -76,7 +79,7 @@ fn default_shell(node: &Node) -> Option<ScalarNode<'_>>
     ensures { option_map scalar_node_of result
         ≡ text_below (codes "defaults" ∷ codes "run" ∷ codes "shell" ∷ []) (view node.now) }
 {
-    text_under(value(value(node, "defaults")?, "run")?, "shell")
+    text(value_below_three(node, "defaults", "run", "shell")?)
 }
 
 /// Adds the faults of the settings that workflows and jobs share.
@@ -104,13 +107,8 @@ fn check_services(job: &Node, faults: &mut FaultSink) -> Result<(), AllocError>
     ensures { OnOk result (faults.new ≡ faults.old
         ++ flat_map (λ m. container_faults m.1) (entries_at (codes "services") (view job.now))) }
 {
-    match value(job, "services") {
-        None => Ok(()),
-        Some(services) => {
-            let services = members(faults.alloc(), services)?;
-            check_each_service(services.as_slice(), faults)
-        }
-    }
+    let services = members_under(faults.alloc(), job, "services")?;
+    check_each_service(services.as_slice(), faults)
 }
 
 /// Adds the faults of the container of a job.
@@ -124,20 +122,12 @@ fn check_job_container(job: &Node, faults: &mut FaultSink) -> Result<(), AllocEr
     }
 }
 
-/// The matrix of a job.
-fn matrix_of(job: &Node) -> Option<&Node>
-    ensures { option_map (λ n. view n.now) result
-        ≡ value_below (codes "strategy" ∷ codes "matrix" ∷ []) (view job.now) }
-{
-    value(value(job, "strategy")?, "matrix")
-}
-
 /// Adds the faults of the matrix of a job.
 fn check_job_matrix(job: &Node, faults: &mut FaultSink) -> Result<(), AllocError>
     ensures { OnOk result (faults.new ≡ faults.old ++ option_map_or matrix_faults
         (value_below (codes "strategy" ∷ codes "matrix" ∷ []) (view job.now)) []) }
 {
-    match matrix_of(job) {
+    match value_below_two(job, "strategy", "matrix") {
         None => Ok(()),
         Some(matrix) => check_matrix(matrix, faults),
     }

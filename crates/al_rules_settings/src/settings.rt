@@ -22,7 +22,8 @@ use al_base::{Code, FaultSink, RuleCode, is_among};
 use al_rules_formats::{Around, has_part, is_lone_chunk, is_variable};
 use al_scalar::Scalar;
 use al_tree::{
-    Member, ScalarNode, contains_chunk, is_null_scalar, members, text, value, value_below_two,
+    Member, ScalarNode, contains_chunk, is_null_scalar, members, members_under, text, value,
+    value_below_two,
 };
 use al_yaml_tree::Node;
 use std::alloc::{AllocError, Global};
@@ -137,13 +138,8 @@ fn check_variables(variables: &[Member<'_>], faults: &mut FaultSink) -> Result<(
 pub fn check_env(section: &Node, faults: &mut FaultSink) -> Result<(), AllocError>
     ensures { OnOk result (faults.new ≡ faults.old ++ env_faults (view section.now)) }
 {
-    match value(section, "env") {
-        None => Ok(()),
-        Some(env) => {
-            let variables = members(faults.alloc(), env)?;
-            check_variables(variables.as_slice(), faults)
-        }
-    }
+    let variables = members_under(faults.alloc(), section, "env")?;
+    check_variables(variables.as_slice(), faults)
 }
 
 /// Whether a scalar is null or one expression.
