@@ -36,7 +36,7 @@ class Completion:
             "label": offer.label, "kind": KINDS[offer.kind], "detail": offer.detail, "filterText": offer.label,
             "sortText": f"{offer.rank}{number:04}", "textEdit": {"range": where, "newText": offer.text}}
         if offer.documentation:
-            item["documentation"] = {"kind": "markdown", "value": offer.documentation}
+            item["documentation"] = {"kind": self._editor.documentation_format(), "value": offer.documentation}
         if offer.arguments and self._editor.takes_snippets():
             item |= {"insertTextFormat": SNIPPET, "textEdit": {"range": where, "newText": snippet(offer.text)}}
         return item

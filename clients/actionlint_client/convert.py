@@ -17,7 +17,7 @@ from .ignoring import Ignored, WrongRule, rules_in
 from .lint_run import CANNOT_GO_ON, CannotStart, LintRun, ReportTooLong
 from .output import report_output
 from .problems import Problem, problem_of
-from .program import WHICH, default_program
+from .program import WHICH, find_program
 from .report import BadReport
 from .sarif import Sarif, left_out_line
 from .terminal import Text, has_color
@@ -116,7 +116,7 @@ def _options(words: list[str]) -> argparse.Namespace:
                                      usage="%(prog)s [OPTION]... [--] [FILE]...")
     parser.add_argument("--form", choices=tuple(FORMS), default="sarif", help="the form of the report (default: %(default)s)")
     parser.add_argument("--root", metavar="DIR", help="the repository's folder (default: the current one)")
-    parser.add_argument("--program", default=default_program(), help=f"the linter (default: {WHICH})")
+    parser.add_argument("--program", help=f"the linter (default: {WHICH})")
     parser.add_argument("--docs", metavar="ADDRESS", help="the address of the pages of faults, for links")
     parser.add_argument("--out", metavar="FILE", help="the file to write (default: standard output)")
     parser.add_argument("--color", choices=("auto", "always", "never"), default="auto", help="of the text (default: %(default)s)")
@@ -131,6 +131,7 @@ def _options(words: list[str]) -> argparse.Namespace:
     end = words.index("--") if "--" in words else len(words)
     options = parser.parse_intermixed_args(words[:end])
     options.files += words[end + 1:]
+    options.program = find_program(options.program)
     return options
 
 

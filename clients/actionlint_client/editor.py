@@ -25,12 +25,18 @@ class Editor:
         return bool(self.capability("workspace", "didChangeWatchedFiles").get("dynamicRegistration"))
 
     def hover_format(self) -> str:
-        formats = self.capability("textDocument", "hover").get("contentFormat") or ["markdown"]
-        return "markdown" if "markdown" in formats else "plaintext"
+        return _format(self.capability("textDocument", "hover").get("contentFormat"))
+
+    def documentation_format(self) -> str:
+        """The format of what a completion means."""
+        return _format(self._completion_item().get("documentationFormat"))
 
     def takes_snippets(self) -> bool:
         """Whether a completion can have places to be filled in."""
-        return bool((self.capability("textDocument", "completion").get("completionItem") or {}).get("snippetSupport"))
+        return bool(self._completion_item().get("snippetSupport"))
+
+    def _completion_item(self) -> dict:
+        return self.capability("textDocument", "completion").get("completionItem") or {}
 
     def makes_files(self) -> bool:
         """Whether an edit can make a file."""
@@ -53,3 +59,8 @@ class Editor:
     def say(self, text: str) -> None:
         """Tells the person."""
         self._notify("window/showMessage", {"type": WARNING, "message": f"actionlint: {text}"})
+
+
+def _format(taken: list[str] | None) -> str:
+    """Markdown, unless the editor takes only other formats."""
+    return "markdown" if not taken or "markdown" in taken else "plaintext"

@@ -1,65 +1,60 @@
-"""The editor's messages, read by a thread of their own."""
+"""Messages in the frames of the Language Server Protocol; those of the editor are read by a thread of their own."""
 from __future__ import annotations
 
+import json
 import logging
 import queue
 import threading
 from typing import BinaryIO
 
-from pylsp_jsonrpc.streams import JsonRpcStreamReader
-
-END = object()
-
-
-class Reader(JsonRpcStreamReader):
-    """Where a header doesn't begin with a length, no later message can be found, and the input ends."""
-
-    def _read_message(self):
-        try:
-            return super()._read_message()
-        except ValueError as error:
-            logging.error("the input is no message: %s", error)
-            return None
-
-    @staticmethod
-    def _content_length(line: bytes) -> int:
-        length = JsonRpcStreamReader._content_length(line)
-        if length is None or length < 0:
-            raise ValueError(f"a header begins with {line[:100]!r}")
-        return length
-
 
 class Messages:
-    """What the editor sent and nobody took yet, in order; behind the last one stands END."""
+    """The bodies of the editor's messages that nobody has taken yet, in order. None stands for the end of the input."""
 
     def __init__(self, stdin: BinaryIO):
-        self._queue: queue.SimpleQueue = queue.SimpleQueue()
-        self._reader = Reader(stdin)
+        self._queue: queue.SimpleQueue[bytes | None] = queue.SimpleQueue()
+        self._stdin = stdin
 
     def start(self) -> None:
         threading.Thread(target=self._listen, daemon=True).start()
 
-    def take(self, seconds: float | None) -> object:
-        """The next message, of whatever type its JSON is. `queue.Empty` is raised where none came within these seconds."""
+    def take(self, seconds: float | None) -> bytes | None:
+        """The next body, or None at the end of the input. Raises `queue.Empty` if none came within these seconds."""
         return self._queue.get(timeout=seconds)
 
     def is_empty(self) -> bool:
         return self._queue.empty()
 
     def _listen(self) -> None:
+        """Reads to the end. Without a length no later message can be found, so that ends the input too."""
         try:
-            while self._has_more():
-                pass
+            while (body := read_body(self._stdin)) is not None:
+                self._queue.put(body)
         except Exception:
             logging.exception("the input can't be read on")
         finally:
-            self._queue.put(END)
+            self._queue.put(None)
 
-    def _has_more(self) -> bool:
-        """Reads to the end, or to a message that is too deep for Python's own json, which the library doesn't expect."""
-        try:
-            self._reader.listen(self._queue.put)
-            return False
-        except RecursionError:
-            logging.error("a message is nested too deeply")
-            return True
+
+def read_body(stdin: BinaryIO) -> bytes | None:
+    """The body of the next message, or None at the end of the input. Raises ValueError if no header field tells its length."""
+    length = None
+    while (line := stdin.readline()).strip():
+        name, _, value = line.partition(b":")
+        if name.lower() == b"content-length":
+            length = int(value)
+    if not line:
+        return None
+    if length is None or length < 0:
+        raise ValueError("a message without a length")
+    return stdin.read(length)
+
+
+def write_message(stdout: BinaryIO, message: dict) -> None:
+    body = json.dumps({"jsonrpc": "2.0", **message}).encode()
+    try:
+        stdout.write(b"Content-Length: %d\r\n\r\n%b" % (len(body), body))
+        stdout.flush()
+    except OSError as error:
+        # The end of the input, which ends the server, is still to come.
+        logging.error("the editor takes no messages: %s", error.strerror)

@@ -1,10 +1,9 @@
 """Definition, references, highlights and renaming for editors."""
 from __future__ import annotations
 
-from pylsp_jsonrpc.exceptions import JsonRpcException
-
 from .actions import workspace_edit
 from .asked import asked
+from .endpoint import REQUEST_FAILED, RequestError
 from .folder import Program
 from .references import all_of, occurrence_at, occurrences
 from .renaming import Refusal, renamable_at, rename
@@ -13,15 +12,6 @@ from .workspace import Workspace
 
 START = Span(Point(0, 0), Point(0, 0))
 WRITE, READ = 3, 2
-
-
-class RenameRefused(JsonRpcException):
-    """The protocol's RequestFailed, with what is told to the person."""
-
-    CODE = -32803
-
-    def __init__(self, refusal: Refusal):
-        super().__init__(message=f"actionlint: {refusal}", code=self.CODE)
 
 
 class Navigation:
@@ -81,4 +71,4 @@ class Navigation:
         try:
             return workspace_edit(place.repository, rename(self._program, place.project, place.file, place.point, newName))
         except Refusal as refusal:
-            raise RenameRefused(refusal) from refusal
+            raise RequestError(REQUEST_FAILED, f"actionlint: {refusal}") from refusal

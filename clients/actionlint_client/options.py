@@ -3,14 +3,14 @@ from __future__ import annotations
 
 import argparse
 
-from .program import WHICH, default_program
+from .program import WHICH, find_program
 from .version import version
 
 
 def options(words: list[str] | None = None) -> argparse.Namespace:
     """The options that words give, by default those of the command line. Ends the program where they are wrong or ask for help."""
     parser = argparse.ArgumentParser(prog="actionlint-lsp", description="A language server that shows the faults of actionlint.")
-    parser.add_argument("--program", default=default_program(), help=f"the linter (default: {WHICH})")
+    parser.add_argument("--program", help=f"the linter (default: {WHICH})")
     parser.add_argument("--docs", metavar="ADDRESS",
                         help="the address of the pages of faults, for links (default: the folder docs beside clients)")
     parser.add_argument("--no-earlier-faults", action="store_true",
@@ -20,4 +20,6 @@ def options(words: list[str] | None = None) -> argparse.Namespace:
                         help="the seconds in which the linter has to answer (default: %(default)s)")
     parser.add_argument("--stdio", action="store_true", help="speak over standard input and output, as it does in any case")
     parser.add_argument("--version", action="version", version=f"%(prog)s {version() or 'without a version'}")
-    return parser.parse_args(words)
+    given = parser.parse_args(words)
+    given.program = find_program(given.program)
+    return given

@@ -10,10 +10,11 @@ WHICH = "what ACTIONLINT names, else the one beside the clients, else actionlint
 WHERE_NAMED = "--program or the variable ACTIONLINT names the linter"
 
 
-def default_program() -> str:
-    """The linter where no word names one: the path that `which-actionlint` finds, or else what is to be looked for on the PATH."""
-    found = subprocess.run(["/bin/sh", FINDER], stdin=subprocess.DEVNULL, stdout=subprocess.PIPE, stderr=subprocess.DEVNULL, check=False)
-    return os.fsdecode(found.stdout).removesuffix("\n") or os.environ.get("ACTIONLINT") or "actionlint"
+def find_program(named: str | None) -> str:
+    """The whole path of the linter, of the one that is named if one is. If `which-actionlint` finds none, what it looked for."""
+    words = ["/bin/sh", FINDER, named or ""]
+    found = subprocess.run(words, stdin=subprocess.DEVNULL, stdout=subprocess.PIPE, stderr=subprocess.DEVNULL, check=False)
+    return os.fsdecode(found.stdout).removesuffix("\n") or named or os.environ.get("ACTIONLINT") or "actionlint"
 
 
 def cannot_start(program: str, error: OSError) -> str:

@@ -8,26 +8,25 @@ import queue
 import resource
 import sys
 from pathlib import Path
-from typing import Callable
-
-from pylsp_jsonrpc.endpoint import Endpoint
-from pylsp_jsonrpc.exceptions import JsonRpcMethodNotFound
-from pylsp_jsonrpc.streams import JsonRpcStreamWriter
+from typing import BinaryIO, Callable
 
 from .actions import CodeActions
 from .completing import Completion
 from .diagnostics import Diagnostics
 from .editor import Editor
+from .endpoint import INVALID_REQUEST, METHOD_NOT_FOUND, SERVER_NOT_INITIALIZED, Endpoint, RequestError
 from .folder import Folder, Program
 from .hover import Hover
-from .messages import END, Messages
-from .navigation import Navigation, RenameRefused
+from .messages import Messages, write_message
+from .navigation import Navigation
 from .repository import Repository
 from .symbols import Symbols
 from .uris import path_of
+from .version import version
 from .workspace import Workspace
 
 FULL_TEXT = 1
+EXIT = {"method": "exit"}
 
 
 class Server:
@@ -37,10 +36,9 @@ class Server:
     its `capabilities` are told to the editor. The protocol's notifications are the server's own.
     """
 
-    def __init__(self, options: argparse.Namespace, docs: str | None, stdin, stdout):
+    def __init__(self, options: argparse.Namespace, docs: str | None, stdin: BinaryIO, stdout: BinaryIO):
         self._messages = Messages(stdin)
-        self._handlers: dict[str, Callable[[dict | None], object]] = {}
-        self._endpoint = Endpoint(self._handlers, JsonRpcStreamWriter(stdout).write)
+        self._endpoint = Endpoint(lambda message: write_message(stdout, message))
         self._editor = Editor(self._endpoint.notify, self._endpoint.request)
         program = Program([options.program], options.timeout)
         diagnostics = Diagnostics(docs)
@@ -56,52 +54,63 @@ class Server:
             Symbols(self._workspace),
         )
         self._named: list[bytes] = []
-        self._is_shut_down = False
-        for handlers in (self._notifications(), *(feature.handlers() for feature in self._features)):
-            self._handlers.update({method: _by_name(function) for method, function in handlers.items()})
-
-    def _notifications(self) -> dict[str, Callable]:
-        """What the server itself does, by method."""
-        return {
-            "initialize": self._initialize,
-            "initialized": self._initialized,
-            "shutdown": self._shut_down,
+        self._is_initialized = self._is_shut_down = False
+        self._notifications: dict[str, Callable] = {
+            "initialized": self._start,
             "textDocument/didOpen": self._open,
             "textDocument/didChange": self._change,
             "textDocument/didSave": self._save,
             "textDocument/didClose": self._close,
             "workspace/didChangeWatchedFiles": self._take_changed_files,
             "workspace/didChangeWorkspaceFolders": self._take_changed_folders,
-            "workspace/didChangeConfiguration": _pass_over,
         }
+        self._requests: dict[str, Callable] = {"initialize": self._initialize, "shutdown": self._shut_down}
+        for feature in self._features:
+            self._requests.update(feature.handlers())
 
     def run(self) -> int:
         """Serves until the editor says `exit` or ends the input. The status is 0 where it said `shutdown` before, else 1."""
         self._messages.start()
         while True:
             try:
-                message = self._messages.take(self._workspace.wait_seconds())
+                body = self._messages.take(self._workspace.wait_seconds())
             except queue.Empty:
                 if not self._workspace.is_stale:
                     self._workspace.rescan()
                 self._workspace.refresh()
                 continue
-            if message is END or isinstance(message, dict) and message.get("method") == "exit":
+            message = self._endpoint.read(body) if body is not None else EXIT
+            if message.get("method") == "exit":
                 break
-            if isinstance(message, dict):
-                self._take(message)
+            self._take(message)
+            if self._workspace.is_stale and self._messages.is_empty():
+                self._workspace.refresh()
         self._workspace.end()
         return 0 if self._is_shut_down else 1
 
     def _take(self, message: dict) -> None:
-        if self._workspace.is_stale and "id" in message and "method" in message:
-            self._workspace.refresh()
-        try:
-            self._endpoint.consume(message)
-        except Exception:
-            logging.exception("a message could not be taken")
-        if self._workspace.is_stale and self._messages.is_empty():
-            self._workspace.refresh()
+        """Answers a request, or takes a notification. An answer of the editor is passed over, and so is a notification that it doesn't
+        know or that comes when only requests may come."""
+        method, parameters = message.get("method"), message.get("params") or {}
+        if method is not None and "id" in message:
+            if self._workspace.is_stale:
+                self._workspace.refresh()
+            self._endpoint.answer(message["id"], lambda: self._handler_of(method)(**parameters))
+        elif method in self._notifications and self._is_initialized and not self._is_shut_down:
+            try:
+                self._notifications[method](**parameters)
+            except Exception:
+                logging.exception("a notification could not be taken")
+
+    def _handler_of(self, method: object) -> Callable:
+        """What answers a request. RequestError where it isn't known, or doesn't come between the first and the last."""
+        if self._is_shut_down or self._is_initialized and method == "initialize":
+            raise RequestError(INVALID_REQUEST, f"{method} comes too late")
+        if not self._is_initialized and method != "initialize":
+            raise RequestError(SERVER_NOT_INITIALIZED, f"{method} comes before initialize")
+        if method not in self._requests:
+            raise RequestError(METHOD_NOT_FOUND, f"{method} is not known")
+        return self._requests[method]
 
     def _initialize(self, rootUri=None, rootPath=None, workspaceFolders=None, capabilities=None, **_) -> dict:
         uris = [folder["uri"] for folder in workspaceFolders or []] or ([rootUri] if rootUri else [])
@@ -115,9 +124,10 @@ class Server:
         }
         for feature in self._features:
             told.update(feature.capabilities)
-        return {"capabilities": told, "serverInfo": {"name": "actionlint-lsp"}}
+        self._is_initialized = True
+        return {"capabilities": told, "serverInfo": {"name": "actionlint-lsp", "version": version() or "unknown"}}
 
-    def _initialized(self, **_) -> None:
+    def _start(self, **_) -> None:
         if self._editor.watches():
             self._editor.ask_to_watch()
         self._workspace.add_folders(self._named)
@@ -146,15 +156,6 @@ class Server:
         self._workspace.remove_folders(set(_paths_of([folder["uri"] for folder in event.get("removed") or []])))
 
 
-def _by_name(function: Callable) -> Callable[[dict | None], object]:
-    """A function of named parameters as one of a message's."""
-    return lambda parameters: function(**(parameters or {}))
-
-
-def _pass_over(**_) -> None:
-    pass
-
-
 def _paths_of(uris: list[str]) -> list[bytes]:
     return [path for path in map(path_of, uris) if path]
 
@@ -162,11 +163,6 @@ def _paths_of(uris: list[str]) -> list[bytes]:
 def _bytes_of(text: str) -> bytes:
     """A lone half of a surrogate pair has no UTF-8 form; as three bytes it is a fault of the file."""
     return text.encode("utf-8", "surrogatepass")
-
-
-def _is_news(record: logging.LogRecord) -> bool:
-    """A request that this server doesn't know is answered by an error, and is nothing to tell."""
-    return not (record.exc_info and isinstance(record.exc_info[1], (JsonRpcMethodNotFound, RenameRefused)))
 
 
 def _default_docs() -> str | None:
@@ -186,7 +182,6 @@ def _take_all_descriptors() -> None:
 def main(options: argparse.Namespace) -> int:
     _take_all_descriptors()
     logging.basicConfig(filename=options.log, level=logging.ERROR)
-    logging.getLogger("pylsp_jsonrpc.endpoint").addFilter(_is_news)
     docs = options.docs or _default_docs()
     # What other code prints must not come between messages.
     stdout = os.fdopen(os.dup(1), "wb")

@@ -59,8 +59,8 @@ class SourceFile:
 def notes(root: str, files: list[str], refused: set[str], say: Callable[[str], None]) -> Iterator[Problem]:
     """The notes over all scripts of the files and of what they call, or of all workflows, in order of the scripts. Files that the linter
     refused are passed over, and `say` is told of those that can't be read here."""
-    if not library.find("yaml"):
-        raise ShellcheckFailed("scripts need the library yaml (Debian: apt-get install python3-yaml)")
+    if not library.find_yaml():
+        raise ShellcheckFailed(library.NO_YAML)
     found = _scripts(Disk(os.fsencode(root), say), files, refused, say)
     while some := list(islice(found, SCRIPTS_OF_A_RUN)):
         for note in sorted(_said_of([script for _, script in some]), key=lambda one: (int(one["file"]), one["line"], one["column"])):

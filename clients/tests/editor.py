@@ -18,8 +18,9 @@ EXIT_SECONDS = 10
 
 class Editor:
     def __init__(self, program: str | None, root: bytes | None, watches: bool = True, words: tuple[str, ...] = (), capabilities: dict = {},
-                 server: Path = SERVER, environment: dict[str, str] | None = None, inherited: tuple[int, ...] = ()):
-        """`inherited` are open files that the server is started with."""
+                 server: Path = SERVER, environment: dict[str, str] | None = None, inherited: tuple[int, ...] = (),
+                 folder: str | None = None):
+        """`inherited` are open files that the server is started with, and `folder` is its current one."""
         self.root = root
         self.shown: dict[str, dict] = {}
         self.messages: list[str] = []
@@ -32,7 +33,7 @@ class Editor:
         self._answers: queue.SimpleQueue = queue.SimpleQueue()
         named = [] if program is None else ["--program", program]
         self.child = subprocess.Popen([sys.executable, str(server), *named, *words], stdin=subprocess.PIPE, stdout=subprocess.PIPE,
-                                      env=environment, pass_fds=inherited)
+                                      env=environment, pass_fds=inherited, cwd=folder)
         threading.Thread(target=self._listen, daemon=True).start()
         uri = "file://" + quote_from_bytes(root) if root else None
         watching = {"workspace": {"didChangeWatchedFiles": {"dynamicRegistration": watches}}}

@@ -153,8 +153,23 @@ def language_server(program: str) -> None:
 
 
 @CASES.case
+def a_relative_program(program: str) -> None:
+    """Both clients run the linter that a path from the current folder names."""
+    with tempfile.TemporaryDirectory(prefix="actionlint-test-") as folder:
+        write(folder, FILES)
+        shutil.copy(program, folder + "/linter")
+        done = subprocess.run([CLIENTS / "actionlint-report", "--program", "./linter", "--form", "jsonl"], cwd=folder, stdout=subprocess.PIPE,
+                              text=True, check=False)
+        assert done.returncode == 1 and '"X13"' in done.stdout, done
+        editor = Editor("./linter", os.fsencode(folder), folder=folder)
+        editor.settle()
+        assert editor.texts(FILE) == [UNDEFINED] and not editor.messages, editor.messages
+        editor.quit()
+
+
+@CASES.case
 def options_of_the_server(program: str) -> None:
-    """Help and version need none of the libraries; without these one line names the packages. An editor may say `--stdio`."""
+    """Help and version need no library; without PyYAML one line names its package. An editor may say `--stdio`."""
     tree = Tree()
     server = tree.top / "clients/actionlint-lsp"
 
@@ -165,7 +180,7 @@ def options_of_the_server(program: str) -> None:
     assert run("--help")[0] == 0 and "--no-earlier-faults" in run("--help")[1], run("--help")
     assert run("--version")[:2] == (0, "actionlint-lsp without a version\n"), run("--version")
     status, said, errors = run()
-    assert (status, said) == (3, "") and "apt-get install python3-pylsp-jsonrpc python3-yaml" in errors and errors.count("\n") == 1, errors
+    assert (status, said) == (3, "") and "apt-get install python3-yaml" in errors and errors.count("\n") == 1, errors
     editor = Editor(program, os.fsencode(tree.room), words=("--stdio",))
     assert editor.hello["result"]["serverInfo"]["name"] == "actionlint-lsp" and editor.quit() == 0
     tree.remove()
