@@ -28,6 +28,10 @@ FORMS: dict[str, type[Form]] = {
     "sarif": Sarif, "codequality": CodeQuality, "jsonl": JsonLines, "github": Annotations, "text": Text}
 
 
+class NoReport(Exception):
+    """The linter could not go on, and the report would look like one without faults, so it isn't written."""
+
+
 def main(words: list[str] | None = None) -> int:
     options = _options(sys.argv[1:] if words is None else words)
     try:
@@ -36,6 +40,10 @@ def main(words: list[str] | None = None) -> int:
         ignored = Ignored([*options.ignore, *(rule for file in options.ignore_file for rule in rules_in(file))])
         with report_output(options.out) as out:
             form, outcome = _report(options, ignored, out)
+            if not (outcome.is_known() or form.tells_failure):
+                raise NoReport
+    except NoReport:
+        pass
     except WrongRule as error:
         return _fail(str(error), WRONG_WORDS)
     except (CannotStart, shellcheck.ShellcheckFailed) as error:
@@ -43,7 +51,7 @@ def main(words: list[str] | None = None) -> int:
     except BadReport as error:
         return _fail(f"{options.program} is not the linter: {error}")
     except OSError as error:
-        return _fail(f"write failed: {error.strerror}")
+        return _fail(f"cannot write {options.out or 'standard output'}: {error.strerror}")
     _say(form, outcome)
     return outcome.status
 
@@ -79,10 +87,12 @@ def _write(options: argparse.Namespace, ignored: Ignored, out: BinaryIO, snippet
                 unread.add(problem.fault.path)
             _tell(problem, form, ignored, outcome)
     outcome.errors = run.errors
-    if options.shellcheck and run.status in (0, 1):
+    outcome.status = run.status
+    if options.shellcheck and outcome.is_known():
         for note in shellcheck.notes(options.root or ".", options.files, unread, outcome.say):
             _tell(note, form, ignored, outcome)
-    outcome.status = run.status if run.status not in (0, 1) else 1 if outcome.files else 0
+    if outcome.is_known():
+        outcome.status = 1 if outcome.files else 0
     form.end(outcome)
     return form, outcome
 
@@ -132,6 +142,7 @@ def _options(words: list[str]) -> argparse.Namespace:
     options = parser.parse_intermixed_args(words[:end])
     options.files += words[end + 1:]
     options.program = find_program(options.program)
+    options.docs = options.docs and options.docs.rstrip("/")
     return options
 
 

@@ -30,13 +30,17 @@ class Outcome:
         else:
             self.faults += 1
 
+    def is_known(self) -> bool:
+        """Whether the linter could go on to the end, so that the faults are known."""
+        return self.status in (0, 1)
+
     def say(self, line: str) -> None:
         """Adds a line to what was written on standard error."""
         self.errors += f"actionlint-report: {line}\n"
 
     def count_line(self) -> str:
-        """The count, in words; of a run that could not go on nothing is known."""
-        if self.status not in (0, 1):
+        """The count, in words."""
+        if not self.is_known():
             return "nothing is known of the faults: the linter could not go on"
         found = [_counted(self.faults, "fault"), *([f"{_counted(self.notes, 'note')} of shellcheck (not proved)"] if self.notes else [])]
         return (" and ".join(found) + (f" in {_counted(len(self.files), 'file')}" if self.files else "")
@@ -46,9 +50,10 @@ class Outcome:
 class Form:
     """Writes problems as they come. `docs` is the address of the pages of faults."""
 
-    # Whether the form itself tells what was on standard error, and the count.
+    # Whether the form itself tells what was on standard error, the count, and that the linter could not go on.
     tells_errors = False
     tells_count = False
+    tells_failure = False
 
     def __init__(self, out: BinaryIO, docs: str | None):
         self._out = out
@@ -108,7 +113,7 @@ class Annotations(Form):
     """Workflow commands of GitHub, each of which becomes an annotation. Whatever a file, a path or standard error holds stands in the text
     of one, so that it gives no command itself."""
 
-    tells_errors = tells_count = True
+    tells_errors = tells_count = tells_failure = True
     COMMANDS = {"error": "error", "warning": "warning", "note": "notice"}
 
     def add(self, problem: Problem) -> None:

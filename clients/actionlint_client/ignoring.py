@@ -16,14 +16,15 @@ class WrongRule(Exception):
 
 
 class Ignored:
-    """Rules CODE and CODE:PATH; a path is written as a report has it."""
+    """Rules CODE, in any case of letters, and CODE:PATH; a path is written as a report has it."""
 
     def __init__(self, rules: Iterable[str]):
         self._rules = set()
         for rule in rules:
-            code, colon, path = rule.partition(":")
+            named, colon, path = rule.partition(":")
+            code = named.upper()
             if not is_code(code):
-                raise WrongRule(f"{code!r} is no code of a fault")
+                raise WrongRule(f"{named!r} is no code of a fault")
             if colon and not path:
                 raise WrongRule(f"{rule!r} names no file")
             self._rules.add((code, path))
@@ -44,7 +45,7 @@ def rules_in(file: str) -> list[str]:
             data = opened.read(MAX_FILE_BYTES + 1)
         if len(data) > MAX_FILE_BYTES:
             raise WrongRule(f"{file} has more than {MAX_FILE_BYTES} bytes")
-        lines = data.decode("utf-8").splitlines()
+        lines = data.decode("utf-8-sig").splitlines()
     except (OSError, UnicodeDecodeError) as error:
         raise WrongRule(f"cannot read {file}: {getattr(error, 'strerror', None) or 'it is not UTF-8'}") from error
     return [line.strip() for line in lines if line.strip() and not line.lstrip().startswith("#")]

@@ -22,4 +22,5 @@ def options(words: list[str] | None = None) -> argparse.Namespace:
     parser.add_argument("--version", action="version", version=f"%(prog)s {version() or 'without a version'}")
     given = parser.parse_args(words)
     given.program = find_program(given.program)
+    given.docs = given.docs and given.docs.rstrip("/")
     return given

@@ -4,12 +4,12 @@ from __future__ import annotations
 from dataclasses import dataclass
 from typing import Callable, NamedTuple
 
-from .entries import Entry, entry_of, link_of, plain_text
+from .entries import Entry, argument_of, entry_of, link_of, plain_text
 from .names import near_name
 from .report import Fault
 from .wanted import wanted_under
 
-ERROR = "error"
+ERROR, WARNING = "error", "warning"
 
 
 @dataclass(frozen=True)
@@ -46,7 +46,7 @@ class Problem:
 
     def link_in(self, docs: str | None) -> str | None:
         """Where more is said of it; `docs` is the address of the pages."""
-        return link_of(self.entry, docs.rstrip("/")) if self.entry and docs else self.link
+        return link_of(self.entry, docs) if self.entry and docs else self.link
 
     def line(self) -> str:
         """The file's line, or nothing where it isn't known."""
@@ -64,7 +64,16 @@ class Slip(NamedTuple):
 def problem_of(fault: Fault, snippet: tuple[bytes, ...] = ()) -> Problem:
     """A fault of the linter with its entry; its kind stands for the code of a message that no page has."""
     entry = entry_of(fault.message)
-    return Problem(fault, entry.code if entry else fault.kind, entry, snippet)
+    code = entry.code if entry else fault.kind
+    return Problem(fault, code, entry, snippet, level_of(code, fault))
+
+
+def level_of(code: str, fault: Fault) -> str:
+    """WARNING for what GitHub only warns of, in each run: a command that still works, or an input that a step's action doesn't have. ERROR
+    for the rest: GitHub refuses the file, or a step or a job fails or goes on without what was meant, and nobody else says so."""
+    if code == "G17":
+        return WARNING if argument_of(fault.message) in ("set-output", "save-state") else ERROR
+    return WARNING if (code, fault.kind) == ("C2", "action") else ERROR
 
 
 def first_sentence(text: str) -> str:

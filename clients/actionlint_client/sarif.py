@@ -8,7 +8,7 @@ from urllib.parse import quote
 from .characters import json_text
 from .entries import explained, markdown_of, plain_text, title_of
 from .forms import Form, Outcome
-from .problems import Problem
+from .problems import ERROR, Problem
 from .version import version
 
 SCHEMA = "https://json.schemastore.org/sarif-2.1.0.json"
@@ -25,6 +25,8 @@ class Sarif(Form):
         self._rules: dict[str, dict] = {}
         self._results = 0
 
+    tells_failure = True
+
     def begin(self) -> None:
         self.write(f'{{"$schema": {json_text(SCHEMA)}, "version": "2.1.0", "runs": [{{\n"columnKind": "unicodeCodePoints",\n"results": [')
 
@@ -36,7 +38,7 @@ class Sarif(Form):
         self._results += 1
 
     def end(self, outcome: Outcome) -> None:
-        invocation: dict[str, object] = {"executionSuccessful": outcome.status in (0, 1), "exitCode": outcome.status}
+        invocation: dict[str, object] = {"executionSuccessful": outcome.is_known(), "exitCode": outcome.status}
         notifications = [{"level": "error", "message": _message(outcome.errors.strip())}] if outcome.errors else []
         if self.left_out:
             notifications.append({"level": "warning", "message": _message(left_out_line(self.left_out))})
@@ -68,7 +70,8 @@ def left_out_line(count: int) -> str:
 def _rule(problem: Problem, docs: str | None) -> dict:
     """What SARIF tells of all faults with a code."""
     entry = problem.entry
-    rule: dict[str, object] = {"id": problem.code, "name": problem.fault.kind, "defaultConfiguration": {"level": problem.level}}
+    level = problem.level if problem.is_note() else ERROR
+    rule: dict[str, object] = {"id": problem.code, "name": problem.fault.kind, "defaultConfiguration": {"level": level}}
     if entry:
         rule |= {"shortDescription": {"text": title_of(entry)}, "fullDescription": {"text": plain_text(entry.text)},
                  "help": {"text": explained(entry), "markdown": markdown_of(entry, docs)}}

@@ -186,7 +186,7 @@ def main(options: argparse.Namespace) -> int:
     # What other code prints must not come between messages.
     stdout = os.fdopen(os.dup(1), "wb")
     os.dup2(2, 1)
-    server = Server(options, docs.rstrip("/") if docs else None, sys.stdin.buffer, stdout)
+    server = Server(options, docs, sys.stdin.buffer, stdout)
     try:
         status = server.run()
     except Exception:

@@ -22,7 +22,7 @@ def has_color(when: str, is_terminal: bool) -> bool:
 class Text(Form):
     """A paragraph for each problem, and a last line with the count."""
 
-    tells_count = True
+    tells_count = tells_failure = True
 
     def __init__(self, out: BinaryIO, docs: str | None, color: bool = False):
         super().__init__(out, docs)

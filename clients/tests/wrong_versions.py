@@ -151,9 +151,9 @@ WRONG_VERSIONS = {
     "the_option_leaves_what_is_called": WrongVersion(
         "files.py", "known if self._keeps_calls else NO_CALLS", "known", ("earlier.py", "switched_off")),
     "all_faults_are_errors": WrongVersion(
-        "diagnostics.py", "return next((row.severity for", "return ERROR or next((row.severity for", ("earlier.py", "severities")),
+        "problems.py", "return WARNING if argument_of", "return ERROR if argument_of", ("earlier.py", "severities")),
     "what_is_refused_is_a_warning": WrongVersion(
-        "diagnostics.py", "(self.code, self.kind) == (code, fault.kind)", "self.code == code", ("earlier.py", "severities")),
+        "problems.py", '(code, fault.kind) == ("C2", "action")', 'code == "C2"', ("earlier.py", "severities")),
     "earlier_faults_may_not_come_back": WrongVersion(
         "fixes.py", "trial.earlier = _counted(earlier)", "pass", ("fixes.py", "faults_that_come_back")),
     "a_trial_keeps_a_text": WrongVersion("fixes.py", "self._put(path, self.texts[path])\n            else:", "pass\n            else:",
@@ -215,7 +215,9 @@ WRONG_VERSIONS = {
     "columns_of_sarif_are_units": WrongVersion(
         "sarif.py", '"columnKind": "unicodeCodePoints"', '"columnKind": "utf16CodeUnits"', ("reports.py",)),
     "a_run_that_failed_is_clean": WrongVersion(
-        "sarif.py", '"executionSuccessful": outcome.status in (0, 1)', '"executionSuccessful": True', ("reports.py",)),
+        "sarif.py", '"executionSuccessful": outcome.is_known()', '"executionSuccessful": True', ("reports.py",)),
+    "a_run_that_failed_has_an_empty_report": WrongVersion(
+        "convert.py", "if not (outcome.is_known() or form.tells_failure):", "if False:", ("report_edges.py", "the_old_report_stays_whole")),
 }
 
 
