@@ -1,4 +1,4 @@
-"""actionlint-report: runs the linter and writes its report in another form, for people or for programs.
+"""actionlint-report: runs the linter and writes its report in another format, for people or for programs.
 
 It runs the linter itself, so that a run that could not go on never passes for one without faults: the exit status is the linter's, but for
 faults that are ignored and notes of shellcheck.
@@ -124,17 +124,19 @@ def _say(form: Form, outcome: Outcome) -> None:
 def _options(words: list[str]) -> argparse.Namespace:
     parser = argparse.ArgumentParser(prog="actionlint-report", description=__doc__.split("\n")[0], allow_abbrev=False,
                                      usage="%(prog)s [OPTION]... [--] [FILE]...")
-    parser.add_argument("--form", choices=tuple(FORMS), default="sarif", help="the form of the report (default: %(default)s)")
-    parser.add_argument("--root", metavar="DIR", help="the repository's folder (default: the current one)")
+    parser.add_argument("--form", choices=tuple(FORMS), default="sarif", help="the format of the report (default: %(default)s)")
+    parser.add_argument("--root", metavar="DIR", help="the top folder of the repository (default: the current folder)")
     parser.add_argument("--program", help=f"the linter (default: {WHICH})")
     parser.add_argument("--docs", metavar="ADDRESS", help="the address of the pages of faults, for links")
     parser.add_argument("--out", metavar="FILE", help="the file to write (default: standard output)")
-    parser.add_argument("--color", choices=("auto", "always", "never"), default="auto", help="of the text (default: %(default)s)")
+    parser.add_argument("--color", choices=("auto", "always", "never"), default="auto",
+                        help="whether the form text has colors (default: %(default)s)")
     parser.add_argument("--ignore", metavar="CODE[:PATH]", action="append", default=[],
-                        help="a fault that doesn't count, in all files or one")
-    parser.add_argument("--ignore-file", metavar="FILE", action="append", default=[], help="a file with such words, one a line")
-    parser.add_argument("--shellcheck", action="store_true", help="show notes of shellcheck over scripts too, which nothing proves")
-    parser.add_argument("--explain", metavar="CODE", help="print what the pages say of a fault, and lint nothing")
+                        help="a fault that doesn't count, in all files or in one; may be repeated")
+    parser.add_argument("--ignore-file", metavar="FILE", action="append", default=[],
+                        help="a file with a CODE[:PATH] on each line; may be repeated")
+    parser.add_argument("--shellcheck", action="store_true", help="also show shellcheck's notes on scripts")
+    parser.add_argument("--explain", metavar="CODE", help="explain a fault, and lint nothing")
     parser.add_argument("--version", action="version", version=f"%(prog)s {version() or 'without a version'}")
     parser.add_argument("files", nargs="*", metavar="FILE",
                         help="workflows and actions below DIR (default: all workflows, and what they call)")

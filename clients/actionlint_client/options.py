@@ -14,11 +14,11 @@ def options(words: list[str] | None = None) -> argparse.Namespace:
     parser.add_argument("--docs", metavar="ADDRESS",
                         help="the address of the pages of faults, for links (default: the folder docs beside clients)")
     parser.add_argument("--no-earlier-faults", action="store_true",
-                        help="while a file is no YAML, don't show beside that the faults that it had when it was last")
-    parser.add_argument("--log", metavar="FILE", help="a file for what goes wrong (default: standard error)")
+                        help="while a file isn't valid YAML, don't keep showing its earlier faults")
+    parser.add_argument("--log", metavar="FILE", help="the file for error messages (default: standard error)")
     parser.add_argument("--timeout", metavar="SECONDS", type=float, default=20.0,
-                        help="the seconds in which the linter has to answer (default: %(default)s)")
-    parser.add_argument("--stdio", action="store_true", help="speak over standard input and output, as it does in any case")
+                        help="how long the linter may take to answer (default: %(default)s)")
+    parser.add_argument("--stdio", action="store_true", help="use standard input and output, which is the default")
     parser.add_argument("--version", action="version", version=f"%(prog)s {version() or 'without a version'}")
     given = parser.parse_args(words)
     given.program = find_program(given.program)

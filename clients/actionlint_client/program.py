@@ -6,7 +6,7 @@ import subprocess
 from pathlib import Path
 
 FINDER = Path(__file__).resolve().parents[1] / "which-actionlint"
-WHICH = "what ACTIONLINT names, else the one beside the clients, else actionlint on the PATH"
+WHICH = "the one that the variable ACTIONLINT names, else that of this release or clone, else actionlint on the PATH"
 WHERE_NAMED = "--program or the variable ACTIONLINT names the linter"
 
 
