@@ -181,7 +181,11 @@ def _take_all_descriptors() -> None:
 
 def main(options: argparse.Namespace) -> int:
     _take_all_descriptors()
-    logging.basicConfig(filename=options.log, level=logging.ERROR)
+    try:
+        logging.basicConfig(filename=options.log, level=logging.ERROR)
+    except OSError as error:
+        print(f"actionlint-lsp: cannot write {options.log}: {error.strerror}", file=sys.stderr)
+        return 2
     docs = options.docs or _default_docs()
     # What other code prints must not come between messages.
     stdout = os.fdopen(os.dup(1), "wb")

@@ -181,6 +181,8 @@ def options_of_the_server(program: str) -> None:
     assert run("--version")[:2] == (0, "actionlint-lsp without a version\n"), run("--version")
     status, said, errors = run()
     assert (status, said) == (3, "") and "apt-get install python3-yaml" in errors and errors.count("\n") == 1, errors
+    done = subprocess.run([server, "--log", tree.room / "nowhere/log"], stdin=subprocess.DEVNULL, stderr=subprocess.PIPE, text=True, check=False)
+    assert (done.returncode, done.stderr) == (2, f"actionlint-lsp: cannot write {tree.room}/nowhere/log: No such file or directory\n"), done
     editor = Editor(program, os.fsencode(tree.room), words=("--stdio",))
     assert editor.hello["result"]["serverInfo"]["name"] == "actionlint-lsp" and editor.quit() == 0
     tree.remove()
