@@ -2,9 +2,9 @@
 
     python3 tests/command_line_page.py PROGRAM
 
-The problem matcher and Vim's errorformat are applied to the lines of a report with known faults, the pattern of the pre-commit hook to
-paths of which some are linted; both hooks run in a repository of git, one of them by pre-commit where it is installed. The words of
-each row of "What to do at status 3" are run, and the example of a fault with its line. Prints one line for each case.
+The problem matcher is applied to the lines of a report with known faults, the pattern of the pre-commit hook to paths of which some are
+linted. Both hooks run in a git repository, one of them by pre-commit if it is installed. The commands of "What to do at status 3" are run,
+and the example of a fault with its line. Prints one line for each case.
 """
 
 import json
@@ -85,22 +85,6 @@ def matcher(lines):
         else:
             bad.append(f"the matcher does not match {line!r}")
     report("problem-matcher", bad + has_all("the matcher", found))
-
-
-def errorformat(lines):
-    """Vim's errorformat, each of its items as Vim's help says: %f a name, %l and %c numbers, %m a message."""
-    given = re.search(r"^set errorformat=(.*)$", block("vim"), re.M)[1].replace("\\ ", " ")
-    items = {"%f": "(.+?)", "%l": r"(\d+)", "%c": r"(\d+)", "%m": "(.+)"}
-    pattern = "".join(items.get(it) or re.escape(it) for it in re.findall(r"%.|.", given))
-    found, bad = [], []
-    for line in lines:
-        match = re.fullmatch(pattern, line)
-        if match:
-            message, _, code = match[4].rpartition(" ")
-            found.append((match[1], int(match[2]), int(match[3]), message, code.strip("[]")))
-        else:
-            bad.append(f"errorformat does not match {line!r}")
-    report("errorformat", bad + has_all("errorformat", found))
 
 
 def hook():
@@ -282,7 +266,6 @@ def main():
     lines = ran.stdout.decode().splitlines()
     report("example-has-faults", [] if ran.returncode == 1 and ran.stderr == b"" else [f"status {ran.returncode}, {ran.stderr!r}"])
     matcher(lines)
-    errorformat(lines)
     hook()
     git_hook()
     pre_commit_hooks()

@@ -128,13 +128,6 @@ def make(place: Place) -> None:
         assert found[0] == UNDEFINED.removesuffix(" [expression]") and len(found) == 2, found
 
 
-@in_each_place(CASES)
-def vim_options(place: Place) -> None:
-    (text,) = snippets()["vim-options"]
-    found = made(place, text.replace(ANYWHERE + "/actionlint", place.program))
-    assert found[0] == UNDEFINED and len(found) == 2, found
-
-
 @in_each_clone(CASES)
 def workflow(place: Place) -> None:
     """The one of clients/github. Like any other its steps are those of the action, and it has no fault."""
