@@ -127,6 +127,6 @@ def _json_of(command: list[str], folder: str) -> list[dict]:
         raise ShellcheckFailed(f"{PROGRAM} took more than {SECONDS_OF_A_RUN} seconds") from error
     try:
         return json.loads(done.stdout)["comments"]
-    except (ValueError, KeyError) as error:
-        raise ShellcheckFailed(f"{PROGRAM} ended with status {done.returncode}: {done.stderr.decode('utf-8', 'replace').strip()[:200]}"
-                               ) from error
+    except (ValueError, KeyError, TypeError) as error:
+        said = (done.stderr or done.stdout).decode("utf-8", "replace").strip()[:200]
+        raise ShellcheckFailed(f"{PROGRAM} ended with status {done.returncode}: {said}") from error

@@ -151,6 +151,20 @@ def off_unless_asked_for(program: str) -> None:
 
 
 @CASES.case
+def another_program(program: str) -> None:
+    """A shellcheck that prints something else than notes ends the run with status 3 and one line."""
+    with tempfile.TemporaryDirectory(prefix="actionlint-test-") as folder:
+        write(folder, {FILE: STEPS + PLACES["plain"][0]})
+        for said, status in (("", 3), ("nonsense", 0), ("[]", 0), ("{}", 0)):
+            write(folder, {"shellcheck": f"#!/bin/sh\necho '{said}'\nexit {status}\n"})
+            os.chmod(folder + "/shellcheck", 0o755)
+            done = subprocess.run([sys.executable, REPORT, "--program", program, "--shellcheck"], cwd=folder, stdout=subprocess.PIPE,
+                                  stderr=subprocess.PIPE, env={**os.environ, "PATH": folder + ":" + os.environ["PATH"]}, text=True, check=False)
+            assert (done.returncode, done.stdout) == (3, ""), done
+            assert done.stderr == f"actionlint-report: shellcheck ended with status {status}: {said}\n", done.stderr
+
+
+@CASES.case
 def files_that_the_library_refuses(program: str) -> None:
     for text in ("a: [", "\x00"):
         try:
