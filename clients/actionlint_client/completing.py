@@ -43,7 +43,7 @@ class Completion:
 
 
 def snippet(call: str) -> str:
-    """A call of a function as a snippet, whose arguments are its places."""
+    """A call of a function as a snippet whose tab stops are its arguments."""
     parts = EMPTY_ARGUMENT.split(call)
     quote = "''" if "''''" in call else "'"
     return parts[0] + "".join(f"{quote}${{{number}}}{quote}{part}" for number, part in enumerate(parts[1:], 1))

@@ -57,7 +57,7 @@ def main(words: list[str] | None = None) -> int:
 
 
 def explain(code: str) -> int:
-    """Prints the entry of a code, in any case of letters. OSError where it can't be written."""
+    """Prints the entry of a code, in any case. Raises OSError if it can't be written."""
     entry = next((entry for entry in entries() if entry.code == code.upper()), None)
     if entry is None:
         return _fail(f"{code!r} is no code of a fault", WRONG_WORDS)
@@ -67,7 +67,7 @@ def explain(code: str) -> int:
 
 
 def _report(options: argparse.Namespace, ignored: Ignored, out: BinaryIO) -> tuple[Form, Outcome]:
-    """Writes the report with the lines of files, which tell how long each fault is, unless these would be too many bytes."""
+    """Writes the report with source lines, which tell how long each fault is, unless these would be too many bytes."""
     try:
         return _write(options, ignored, out, True)
     except ReportTooLong:
@@ -112,7 +112,7 @@ def _form(options: argparse.Namespace, out: BinaryIO) -> Form:
 
 
 def _say(form: Form, outcome: Outcome) -> None:
-    """What of the outcome the report doesn't tell, on standard error."""
+    """Prints to standard error what the report doesn't say."""
     if not form.tells_errors:
         sys.stderr.write("".join(terminal_text(line) + "\n" for line in outcome.errors.splitlines()))
     if form.left_out:

@@ -1,4 +1,4 @@
-"""Faults as the protocol's diagnostics."""
+"""Faults as diagnostics of the protocol."""
 from __future__ import annotations
 
 from .faults import FileFaults
@@ -18,7 +18,7 @@ class Diagnostics:
         self._docs = docs
 
     def of_file(self, lines: Lines, found: FileFaults, earlier: FileFaults, refused: str | None) -> list[dict]:
-        """The faults that a file has, those that it had when it was last YAML, how many there are besides, and why it isn't linted."""
+        """The faults of a file, those of its last valid YAML, how many more there are, and why it isn't linted."""
         told = [self.of_fault(lines, fault) for fault in found.faults] + [self.of_earlier_fault(lines, fault) for fault in earlier.faults]
         if found.more:
             told.append(_at_start(f"{found.more} more faults in this file", INFORMATION))

@@ -31,7 +31,7 @@ class Endpoint:
         self._send({"id": next(self._ids), "method": method, "params": params})
 
     def read(self, body: bytes) -> dict:
-        """The message with this body. If there is none, the editor is told, and the answer is empty."""
+        """The message with this body. If it isn't one, tells the editor and returns an empty one."""
         try:
             message = json.loads(body)
         except (ValueError, RecursionError) as error:

@@ -1,4 +1,4 @@
-"""Faults that a run isn't to count: by their code, in all files or in one."""
+"""Ignored faults: by code, in all files or in one."""
 from __future__ import annotations
 
 import re
@@ -12,11 +12,11 @@ MAX_FILE_BYTES = 1_048_576
 
 
 class WrongRule(Exception):
-    """A text that names no code, or a file of such texts that can't be read."""
+    """A rule without a valid code or path, or a file of rules that can't be read."""
 
 
 class Ignored:
-    """Rules CODE, in any case of letters, and CODE:PATH; a path is written as a report has it."""
+    """Rules CODE and CODE:PATH. The code is in any case; the path is written as in a report."""
 
     def __init__(self, rules: Iterable[str]):
         self._rules = set()
@@ -34,12 +34,12 @@ class Ignored:
 
 
 def is_code(text: str) -> bool:
-    """Whether a text is the code of an entry, or of a note of shellcheck."""
+    """Whether a text is the code of an entry or of a note of shellcheck."""
     return NOTE.fullmatch(text) is not None or any(entry.code == text for entry in entries())
 
 
 def rules_in(file: str) -> list[str]:
-    """The rules of a file, one a line; blank lines and those that begin with `#` aside."""
+    """The rules of a file, one per line, without blank lines and those that begin with `#`."""
     try:
         with open(file, "rb") as opened:
             data = opened.read(MAX_FILE_BYTES + 1)

@@ -1,4 +1,4 @@
-"""Finds PyYAML, also for a `python3` that isn't Debian's own."""
+"""Finds PyYAML, even for a `python3` that isn't Debian's."""
 from __future__ import annotations
 
 import importlib.util
@@ -9,8 +9,8 @@ NO_YAML = f"{sys.executable} has no yaml (Debian: apt-get install python3-yaml)"
 
 
 def find_yaml() -> bool:
-    """Whether `yaml` can be imported. If need be, the folder of Debian's packages is added to the end of `sys.path`: a python3 that its
-    compiled part isn't for takes the part in Python."""
+    """Whether `yaml` can be imported. If need be, adds the folder of Debian's packages to the end of `sys.path`. A python3 of another
+    version then uses the parser in Python."""
     if importlib.util.find_spec("yaml") is None and DEBIAN_FOLDER not in sys.path:
         sys.path.append(DEBIAN_FOLDER)
     return importlib.util.find_spec("yaml") is not None

@@ -1,4 +1,4 @@
-"""The options of the language server; `--help` and `--version` need none of its libraries."""
+"""The options of the language server. This imports none of its libraries, so that `--help` and `--version` work without them."""
 from __future__ import annotations
 
 import argparse
@@ -8,7 +8,7 @@ from .version import version
 
 
 def options(words: list[str] | None = None) -> argparse.Namespace:
-    """The options that words give, by default those of the command line. Ends the program where they are wrong or ask for help."""
+    """The options, by default those of the command line. Ends the program if they are wrong or ask for help."""
     parser = argparse.ArgumentParser(prog="actionlint-lsp", description="A language server that shows the faults of actionlint.")
     parser.add_argument("--program", help=f"the linter (default: {WHICH})")
     parser.add_argument("--docs", metavar="ADDRESS",

@@ -1,4 +1,4 @@
-"""Which program the linter is."""
+"""The linter that the clients run."""
 from __future__ import annotations
 
 import os
@@ -11,12 +11,13 @@ WHERE_NAMED = "--program or the variable ACTIONLINT names the linter"
 
 
 def find_program(named: str | None) -> str:
-    """The whole path of the linter, of the one that is named if one is. If `which-actionlint` finds none, what it looked for."""
+    """The absolute path of the linter, of the named one if one is named. If `which-actionlint` finds none, the name that it searched for.
+    """
     words = ["/bin/sh", FINDER, named or ""]
     found = subprocess.run(words, stdin=subprocess.DEVNULL, stdout=subprocess.PIPE, stderr=subprocess.DEVNULL, check=False)
     return os.fsdecode(found.stdout).removesuffix("\n") or named or os.environ.get("ACTIONLINT") or "actionlint"
 
 
 def cannot_start(program: str, error: OSError) -> str:
-    """Why a program can't be started, and what names another one."""
+    """Why a program can't be started, and how to name another one."""
     return f"cannot start {program}: {error.strerror}; {WHERE_NAMED}"

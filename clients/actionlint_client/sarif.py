@@ -1,4 +1,4 @@
-"""SARIF 2.1.0 as GitHub's page "SARIF support for code scanning" asks for it, written as the problems come."""
+"""SARIF 2.1.0 as GitHub's page "SARIF support for code scanning" describes it, written as the problems come."""
 from __future__ import annotations
 
 import re
@@ -12,7 +12,7 @@ from .problems import ERROR, Problem
 from .version import version
 
 SCHEMA = "https://json.schemastore.org/sarif-2.1.0.json"
-# GitHub refuses a run with more results.
+# GitHub refuses a run that has more results.
 MAX_RESULTS = 25_000
 SPECIAL = re.compile(r"[\[\]\\]")
 
@@ -52,7 +52,7 @@ class Sarif(Form):
         self.write(f'],\n"tool": {json_text({"driver": driver}, indent=1)},\n"invocations": {json_text([invocation])}\n}}]}}\n')
 
     def _result(self, problem: Problem) -> dict:
-        """A result, whose rule is added where it is new."""
+        """A result. Adds its rule if it is new."""
         fault = problem.fault
         if problem.code not in self._rules:
             self._rules[problem.code] = _rule(problem, self.docs)
@@ -68,7 +68,7 @@ def left_out_line(count: int) -> str:
 
 
 def _rule(problem: Problem, docs: str | None) -> dict:
-    """What SARIF tells of all faults with a code."""
+    """The reporting descriptor of a code."""
     entry = problem.entry
     level = problem.level if problem.is_note() else ERROR
     rule: dict[str, object] = {"id": problem.code, "name": problem.fault.kind, "defaultConfiguration": {"level": level}}
@@ -84,5 +84,5 @@ def _rule(problem: Problem, docs: str | None) -> dict:
 
 
 def _message(text: str) -> dict:
-    """Text of a message, in which brackets would be links (3.11.6)."""
+    """A message's text, in which brackets are escaped, since they would be links (3.11.6)."""
     return {"text": SPECIAL.sub(r"\\\g<0>", text)}

@@ -1,4 +1,4 @@
-"""actionlint-lsp: a language server on standard input and output (Language Server Protocol 3.17), for every editor that speaks it."""
+"""actionlint-lsp: a language server on standard input and output (Language Server Protocol 3.17)."""
 from __future__ import annotations
 
 import argparse
@@ -30,10 +30,10 @@ EXIT = {"method": "exit"}
 
 
 class Server:
-    """Messages are taken one after another. Diagnostics go out when no further message waits, and before each answer to a request.
+    """Takes messages one after another. Diagnostics are sent when no further message waits, and before each answer to a request.
 
-    A feature answers requests: its `handlers` are functions by the protocol's method, given the message's parameters by their names, and
-    its `capabilities` are told to the editor. The protocol's notifications are the server's own.
+    A feature answers requests: its `handlers` are functions by method, called with the message's parameters by name, and its `capabilities`
+    are sent to the editor. Notifications are handled here.
     """
 
     def __init__(self, options: argparse.Namespace, docs: str | None, stdin: BinaryIO, stdout: BinaryIO):
@@ -69,7 +69,7 @@ class Server:
             self._requests.update(feature.handlers())
 
     def run(self) -> int:
-        """Serves until the editor says `exit` or ends the input. The status is 0 where it said `shutdown` before, else 1."""
+        """Serves until the editor says `exit` or its input ends. The status is 0 if it said `shutdown` before, else 1."""
         self._messages.start()
         while True:
             try:
@@ -89,8 +89,8 @@ class Server:
         return 0 if self._is_shut_down else 1
 
     def _take(self, message: dict) -> None:
-        """Answers a request, or takes a notification. An answer of the editor is passed over, and so is a notification that it doesn't
-        know or that comes when only requests may come."""
+        """Answers a request, or handles a notification. Answers and unknown notifications are ignored, and so are notifications before
+        `initialize` and after `shutdown`."""
         method, parameters = message.get("method"), message.get("params") or {}
         if method is not None and "id" in message:
             if self._workspace.is_stale:
@@ -103,7 +103,7 @@ class Server:
                 logging.exception("a notification could not be taken")
 
     def _handler_of(self, method: object) -> Callable:
-        """What answers a request. RequestError where it isn't known, or doesn't come between the first and the last."""
+        """The function that answers a request. Raises RequestError if the method is unknown, or may not be called now."""
         if self._is_shut_down or self._is_initialized and method == "initialize":
             raise RequestError(INVALID_REQUEST, f"{method} comes too late")
         if not self._is_initialized and method != "initialize":
@@ -161,7 +161,7 @@ def _paths_of(uris: list[str]) -> list[bytes]:
 
 
 def _bytes_of(text: str) -> bytes:
-    """A lone half of a surrogate pair has no UTF-8 form; as three bytes it is a fault of the file."""
+    """The text in UTF-8. Half of a surrogate pair becomes three bytes, which are a fault of the file."""
     return text.encode("utf-8", "surrogatepass")
 
 
@@ -171,7 +171,7 @@ def _default_docs() -> str | None:
 
 
 def _take_all_descriptors() -> None:
-    """The limit of open files that a program starts with is that of those who use `select`; each linter takes two."""
+    """Raises the limit of open files, since each linter takes two. The usual one is low for the sake of programs that use `select`."""
     _, most = resource.getrlimit(resource.RLIMIT_NOFILE)
     try:
         resource.setrlimit(resource.RLIMIT_NOFILE, (most, most))
@@ -187,7 +187,7 @@ def main(options: argparse.Namespace) -> int:
         print(f"actionlint-lsp: cannot write {options.log}: {error.strerror}", file=sys.stderr)
         return 2
     docs = options.docs or _default_docs()
-    # What other code prints must not come between messages.
+    # Nothing else may be printed between messages.
     stdout = os.fdopen(os.dup(1), "wb")
     os.dup2(2, 1)
     server = Server(options, docs, sys.stdin.buffer, stdout)
@@ -197,5 +197,5 @@ def main(options: argparse.Namespace) -> int:
         logging.exception("the server stopped")
         status = 1
     logging.shutdown()
-    # The thread that reads is still in a read, for which the interpreter's own end would wait.
+    # The usual exit would wait for the reading thread, which is blocked in a read.
     os._exit(status)

@@ -45,7 +45,7 @@ class Text(Form):
         self.write(outcome.count_line() + "\n")
 
     def _snippet(self, problem: Problem) -> None:
-        """The file's line and its marks, unless it is too long to be read."""
+        """The source line and its marks, unless it is too long to read."""
         if not problem.snippet or max(map(len, problem.snippet[1:])) > LONGEST_LINE:
             return
         _, line, marks = (terminal_text(part.decode("utf-8", "replace")) for part in problem.snippet)
