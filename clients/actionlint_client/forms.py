@@ -81,7 +81,7 @@ class JsonLines(Form):
         self.write(json_text({
             "path": fault.path, "line": fault.line, "column": fault.column,
             "end_column": fault.column + fault.width if fault.width else None, "code": problem.code if problem.has_code() else None,
-            "kind": fault.kind, "message": fault.message, "link": problem.link_in(self.docs)}) + "\n")
+            "kind": fault.kind, "level": problem.level, "message": fault.message, "link": problem.link_in(self.docs)}) + "\n")
 
 
 class CodeQuality(Form):

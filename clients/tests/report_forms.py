@@ -202,6 +202,7 @@ def levels(program: str) -> None:
             (rule,) = run_of_sarif["tool"]["driver"]["rules"]
             assert run_of_sarif["results"][0]["level"] == level and rule["defaultConfiguration"] == {"level": "error"}, run_of_sarif
             assert json.loads(run(program, folder, "--form", "codequality")[1])[0]["severity"] == severity
+            assert json.loads(run(program, folder, "--form", "jsonl")[1])["level"] == level
 
 
 @CASES.case
