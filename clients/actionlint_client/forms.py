@@ -99,8 +99,9 @@ class CodeQuality(Form):
     def add(self, problem: Problem) -> None:
         fault = problem.fault
         same = _digest(fault.path, problem.code, fault.message)
+        separator = "," if self._seen else ""
         self._seen[same] += 1
-        self.write(("," if self._seen.total() > 1 else "") + "\n" + json_text({
+        self.write(separator + "\n" + json_text({
             "description": fault.message, "check_name": problem.code, "fingerprint": _digest(same, str(self._seen[same])),
             "severity": self.SEVERITIES[problem.level], "location": {"path": fault.path, "lines": {"begin": fault.line}}}))
 
