@@ -169,7 +169,7 @@ def a_relative_program(program: str) -> None:
 
 @CASES.case
 def options_of_the_server(program: str) -> None:
-    """Help and version need no library; without PyYAML one line names its package. An editor may say `--stdio`."""
+    """Help and version need no library; without the libraries one line names their packages. An editor may say `--stdio`."""
     tree = Tree()
     server = tree.top / "clients/actionlint-lsp"
 
@@ -180,7 +180,7 @@ def options_of_the_server(program: str) -> None:
     assert run("--help")[0] == 0 and "--no-earlier-faults" in run("--help")[1], run("--help")
     assert run("--version")[:2] == (0, "actionlint-lsp without a version\n"), run("--version")
     status, said, errors = run()
-    assert (status, said) == (3, "") and "apt-get install python3-yaml" in errors and errors.count("\n") == 1, errors
+    assert (status, said) == (3, "") and "apt-get install python3-pylsp-jsonrpc python3-yaml" in errors and errors.count("\n") == 1, errors
     done = subprocess.run([server, "--log", tree.room / "nowhere/log"], stdin=subprocess.DEVNULL, stderr=subprocess.PIPE, text=True, check=False)
     assert (done.returncode, done.stderr) == (2, f"actionlint-lsp: cannot write {tree.room}/nowhere/log: No such file or directory\n"), done
     editor = Editor(program, os.fsencode(tree.room), words=("--stdio",))
