@@ -1,25 +1,49 @@
-"""Messages in the frames of the Language Server Protocol; those of the editor are read by a thread of their own."""
+"""The editor's messages, read by a thread of their own."""
 from __future__ import annotations
 
 import json
 import logging
 import queue
 import threading
-from typing import BinaryIO
+from typing import BinaryIO, Callable, Union
+
+from pylsp_jsonrpc.exceptions import JsonRpcException, JsonRpcInvalidRequest, JsonRpcParseError
+from pylsp_jsonrpc.streams import JsonRpcStreamReader
+
+# A message, the error that answers what is none, or None for the end of the input.
+Taken = Union[dict, JsonRpcException, None]
+
+
+class Reader(JsonRpcStreamReader):
+    """The library's reader takes the length from the first header field alone, and only logs what isn't JSON."""
+
+    def listen(self, message_consumer: Callable[[Taken], None]) -> None:
+        """Reads to the end. Raises ValueError if no header field tells a message's length."""
+        while (body := self._read_message()) is not None:
+            message_consumer(_parse(body))
+
+    def _content_length(self, line: bytes) -> int:
+        """The length in a header that begins with this line. Its fields come in any order, and their names in any case."""
+        while line.strip():
+            name, _, value = line.partition(b":")
+            if name.lower() == b"content-length" and int(value) >= 0:
+                return int(value)
+            line = self._rfile.readline()
+        raise ValueError("a message without a length")
 
 
 class Messages:
-    """The bodies of the editor's messages that nobody has taken yet, in order. None stands for the end of the input."""
+    """The editor's messages that nobody has taken yet, in order."""
 
     def __init__(self, stdin: BinaryIO):
-        self._queue: queue.SimpleQueue[bytes | None] = queue.SimpleQueue()
-        self._stdin = stdin
+        self._queue: queue.SimpleQueue[Taken] = queue.SimpleQueue()
+        self._reader = Reader(stdin)
 
     def start(self) -> None:
         threading.Thread(target=self._listen, daemon=True).start()
 
-    def take(self, seconds: float | None) -> bytes | None:
-        """The next body, or None at the end of the input. Raises `queue.Empty` if none came within these seconds."""
+    def take(self, seconds: float | None) -> Taken:
+        """The next message. Raises `queue.Empty` if none came within these seconds."""
         return self._queue.get(timeout=seconds)
 
     def is_empty(self) -> bool:
@@ -28,33 +52,19 @@ class Messages:
     def _listen(self) -> None:
         """Reads to the end. Without a length no later message can be found, so that ends the input too."""
         try:
-            while (body := read_body(self._stdin)) is not None:
-                self._queue.put(body)
+            self._reader.listen(self._queue.put)
         except Exception:
             logging.exception("the input can't be read on")
         finally:
             self._queue.put(None)
 
 
-def read_body(stdin: BinaryIO) -> bytes | None:
-    """The body of the next message, or None at the end of the input. Raises ValueError if no header field tells its length."""
-    length = None
-    while (line := stdin.readline()).strip():
-        name, _, value = line.partition(b":")
-        if name.lower() == b"content-length":
-            length = int(value)
-    if not line:
-        return None
-    if length is None or length < 0:
-        raise ValueError("a message without a length")
-    return stdin.read(length)
-
-
-def write_message(stdout: BinaryIO, message: dict) -> None:
-    body = json.dumps({"jsonrpc": "2.0", **message}).encode()
+def _parse(body: bytes) -> Taken:
+    """The message with this body, or the error that answers it."""
     try:
-        stdout.write(b"Content-Length: %d\r\n\r\n%b" % (len(body), body))
-        stdout.flush()
-    except OSError as error:
-        # The end of the input, which ends the server, is still to come.
-        logging.error("the editor takes no messages: %s", error.strerror)
+        message = json.loads(body)
+    except (ValueError, RecursionError) as error:
+        return JsonRpcParseError(f"no JSON: {error}")
+    if not isinstance(message, dict) or message.get("jsonrpc") != "2.0" or not isinstance(message.get("method", ""), str):
+        return JsonRpcInvalidRequest("no message of JSON-RPC 2.0")
+    return message

@@ -1,9 +1,10 @@
 """Definition, references, highlights and renaming for editors."""
 from __future__ import annotations
 
+from pylsp_jsonrpc.exceptions import JsonRpcException
+
 from .actions import workspace_edit
 from .asked import asked
-from .endpoint import REQUEST_FAILED, RequestError
 from .folder import Program
 from .references import all_of, occurrence_at, occurrences
 from .renaming import Refusal, renamable_at, rename
@@ -12,6 +13,7 @@ from .workspace import Workspace
 
 START = Span(Point(0, 0), Point(0, 0))
 WRITE, READ = 3, 2
+REQUEST_FAILED = -32803
 
 
 class Navigation:
@@ -71,4 +73,4 @@ class Navigation:
         try:
             return workspace_edit(place.repository, rename(self._program, place.project, place.file, place.point, newName))
         except Refusal as refusal:
-            raise RequestError(REQUEST_FAILED, f"actionlint: {refusal}") from refusal
+            raise JsonRpcException(f"actionlint: {refusal}", REQUEST_FAILED) from refusal

@@ -7,17 +7,21 @@ import os
 import queue
 import resource
 import sys
+from functools import partial
 from pathlib import Path
 from typing import BinaryIO, Callable
+
+from pylsp_jsonrpc.endpoint import Endpoint
+from pylsp_jsonrpc.exceptions import JsonRpcException, JsonRpcInvalidRequest, JsonRpcMethodNotFound, JsonRpcServerError
+from pylsp_jsonrpc.streams import JsonRpcStreamWriter
 
 from .actions import CodeActions
 from .completing import Completion
 from .diagnostics import Diagnostics
 from .editor import Editor
-from .endpoint import INVALID_REQUEST, METHOD_NOT_FOUND, SERVER_NOT_INITIALIZED, Endpoint, RequestError
 from .folder import Folder, Program
 from .hover import Hover
-from .messages import Messages, write_message
+from .messages import Messages
 from .navigation import Navigation
 from .repository import Repository
 from .symbols import Symbols
@@ -26,7 +30,7 @@ from .version import version
 from .workspace import Workspace
 
 FULL_TEXT = 1
-EXIT = {"method": "exit"}
+SERVER_NOT_INITIALIZED = -32002
 
 
 class Server:
@@ -38,7 +42,8 @@ class Server:
 
     def __init__(self, options: argparse.Namespace, docs: str | None, stdin: BinaryIO, stdout: BinaryIO):
         self._messages = Messages(stdin)
-        self._endpoint = Endpoint(lambda message: write_message(stdout, message))
+        self._send = JsonRpcStreamWriter(stdout).write
+        self._endpoint = Endpoint(self, self._send)
         self._editor = Editor(self._endpoint.notify, self._endpoint.request)
         program = Program([options.program], options.timeout)
         diagnostics = Diagnostics(docs)
@@ -55,8 +60,10 @@ class Server:
         )
         self._named: list[bytes] = []
         self._is_initialized = self._is_shut_down = False
-        self._notifications: dict[str, Callable] = {
+        self._handlers: dict[str, Callable] = {
+            "initialize": self._initialize,
             "initialized": self._start,
+            "shutdown": self._shut_down,
             "textDocument/didOpen": self._open,
             "textDocument/didChange": self._change,
             "textDocument/didSave": self._save,
@@ -64,23 +71,21 @@ class Server:
             "workspace/didChangeWatchedFiles": self._take_changed_files,
             "workspace/didChangeWorkspaceFolders": self._take_changed_folders,
         }
-        self._requests: dict[str, Callable] = {"initialize": self._initialize, "shutdown": self._shut_down}
         for feature in self._features:
-            self._requests.update(feature.handlers())
+            self._handlers.update(feature.handlers())
 
     def run(self) -> int:
         """Serves until the editor says `exit` or its input ends. The status is 0 if it said `shutdown` before, else 1."""
         self._messages.start()
         while True:
             try:
-                body = self._messages.take(self._workspace.wait_seconds())
+                message = self._messages.take(self._workspace.wait_seconds())
             except queue.Empty:
                 if not self._workspace.is_stale:
                     self._workspace.rescan()
                 self._workspace.refresh()
                 continue
-            message = self._endpoint.read(body) if body is not None else EXIT
-            if message.get("method") == "exit":
+            if message is None or isinstance(message, dict) and message.get("method") == "exit":
                 break
             self._take(message)
             if self._workspace.is_stale and self._messages.is_empty():
@@ -88,29 +93,31 @@ class Server:
         self._workspace.end()
         return 0 if self._is_shut_down else 1
 
-    def _take(self, message: dict) -> None:
-        """Answers a request, or handles a notification. Answers and unknown notifications are ignored, and so are notifications before
-        `initialize` and after `shutdown`."""
-        method, parameters = message.get("method"), message.get("params") or {}
-        if method is not None and "id" in message:
-            if self._workspace.is_stale:
-                self._workspace.refresh()
-            self._endpoint.answer(message["id"], lambda: self._handler_of(method)(**parameters))
-        elif method in self._notifications and self._is_initialized and not self._is_shut_down:
-            try:
-                self._notifications[method](**parameters)
-            except Exception:
-                logging.exception("a notification could not be taken")
+    def _take(self, message: dict | JsonRpcException) -> None:
+        """Lets the endpoint take a message, or answers what is none."""
+        if isinstance(message, JsonRpcException):
+            self._send({"jsonrpc": "2.0", "id": None, "error": message.to_dict()})
+            return
+        if self._workspace.is_stale and "id" in message and "method" in message:
+            self._workspace.refresh()
+        try:
+            self._endpoint.consume(message)
+        except Exception:
+            logging.exception("a message could not be taken")
 
-    def _handler_of(self, method: object) -> Callable:
-        """The function that answers a request. Raises RequestError if the method is unknown, or may not be called now."""
-        if self._is_shut_down or self._is_initialized and method == "initialize":
-            raise RequestError(INVALID_REQUEST, f"{method} comes too late")
+    def __getitem__(self, method: str) -> Callable[[dict | None], object]:
+        """What the endpoint calls with the parameters of a message."""
+        return partial(self._handle, method)
+
+    def _handle(self, method: str, parameters: dict | None) -> object:
+        """Answers a request, or handles a notification. Raises JsonRpcException if the method is unknown, or may not be called now."""
         if not self._is_initialized and method != "initialize":
-            raise RequestError(SERVER_NOT_INITIALIZED, f"{method} comes before initialize")
-        if method not in self._requests:
-            raise RequestError(METHOD_NOT_FOUND, f"{method} is not known")
-        return self._requests[method]
+            raise JsonRpcServerError(f"{method} comes before initialize", SERVER_NOT_INITIALIZED)
+        if self._is_shut_down or self._is_initialized and method == "initialize":
+            raise JsonRpcInvalidRequest(f"{method} comes too late")
+        if method not in self._handlers:
+            raise JsonRpcMethodNotFound.of(method)
+        return self._handlers[method](**(parameters or {}))
 
     def _initialize(self, rootUri=None, rootPath=None, workspaceFolders=None, capabilities=None, **_) -> dict:
         uris = [folder["uri"] for folder in workspaceFolders or []] or ([rootUri] if rootUri else [])
@@ -165,6 +172,11 @@ def _bytes_of(text: str) -> bytes:
     return text.encode("utf-8", "surrogatepass")
 
 
+def _is_news(record: logging.LogRecord) -> bool:
+    """Whether a failure is worth a line of the log. Refusals are not: the editor is told why."""
+    return not (record.exc_info and isinstance(record.exc_info[1], JsonRpcException))
+
+
 def _default_docs() -> str | None:
     docs = Path(__file__).resolve().parents[2] / "docs"
     return docs.as_uri() if (docs / "FAULTS.md").exists() else None
@@ -186,6 +198,7 @@ def main(options: argparse.Namespace) -> int:
     except OSError as error:
         print(f"actionlint-lsp: cannot write {options.log}: {error.strerror}", file=sys.stderr)
         return 2
+    logging.getLogger("pylsp_jsonrpc.endpoint").addFilter(_is_news)
     docs = options.docs or _default_docs()
     # Nothing else may be printed between messages.
     stdout = os.fdopen(os.dup(1), "wb")

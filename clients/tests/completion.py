@@ -15,7 +15,7 @@ from pathlib import Path
 sys.path.insert(0, str(Path(__file__).resolve().parent.parent))
 from actionlint_client import library
 
-library.find_yaml()
+library.missing()
 from actionlint_client.completion import Offer, offers
 from actionlint_client.project import Project
 from actionlint_client.report import Fault, parse_report

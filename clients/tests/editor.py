@@ -9,6 +9,7 @@ import sys
 import threading
 import time
 from pathlib import Path
+from typing import BinaryIO
 from urllib.parse import quote_from_bytes, unquote_to_bytes, urlsplit
 
 SERVER = Path(__file__).resolve().parent.parent / "actionlint-lsp"
@@ -123,7 +124,7 @@ class Editor:
             self._held = b""
 
     def _listen(self) -> None:
-        while (message := _read(self.child.stdout)) is not None:
+        while (message := read_message(self.child.stdout)) is not None:
             if "method" not in message:
                 self._answers.put(message)
             elif message["method"] == "textDocument/publishDiagnostics":
@@ -144,7 +145,7 @@ def _framed(message: dict) -> bytes:
     return b"Content-Length: %d\r\n\r\n" % len(body) + body
 
 
-def _read(out) -> dict | None:
+def read_message(out: BinaryIO) -> dict | None:
     """The next message, or None at the end."""
     length = None
     while (line := out.readline()) != b"\r\n":

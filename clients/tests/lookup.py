@@ -193,7 +193,7 @@ def what_python_lacks(program: str) -> None:
 
 @CASES.case
 def options_of_the_server(program: str) -> None:
-    """Help and version need no library; without PyYAML one line names its package. An editor may say `--stdio`."""
+    """Help and version need no library; without the libraries one line names their packages. An editor may say `--stdio`."""
     tree = Tree()
     server = tree.top / "clients/actionlint-lsp"
 
@@ -204,7 +204,7 @@ def options_of_the_server(program: str) -> None:
     assert run("--help")[0] == 0 and "--no-earlier-faults" in run("--help")[1], run("--help")
     assert run("--version")[:2] == (0, "actionlint-lsp without a version\n"), run("--version")
     status, said, errors = run()
-    assert (status, said) == (3, "") and "apt-get install python3-yaml" in errors and errors.count("\n") == 1, errors
+    assert (status, said) == (3, "") and "apt-get install python3-pylsp-jsonrpc python3-yaml" in errors and errors.count("\n") == 1, errors
     words = [server, "--log", tree.room / "nowhere/log"]
     done = subprocess.run(words, stdin=subprocess.DEVNULL, stderr=subprocess.PIPE, text=True, check=False)
     assert (done.returncode, done.stderr) == (2, f"actionlint-lsp: cannot write {tree.room}/nowhere/log: No such file or directory\n"), done

@@ -13,7 +13,7 @@ from pathlib import Path
 sys.path.insert(0, str(Path(__file__).resolve().parent.parent))
 from actionlint_client import library
 
-library.find_yaml()
+library.missing()
 from actionlint_client.completion import offers
 from actionlint_client.explanations import explanation
 from actionlint_client.folder import Program

@@ -17,7 +17,7 @@ from pathlib import Path
 sys.path.insert(0, str(Path(__file__).resolve().parent.parent))
 from actionlint_client import library
 
-assert library.find_yaml()
+assert not library.missing()
 from actionlint_client.faults import NO_FAULTS
 from actionlint_client.folder import Folder, Program
 from cases import Cases

@@ -5,6 +5,7 @@
 """
 from __future__ import annotations
 
+import io
 import json
 import os
 import shutil
@@ -13,7 +14,7 @@ import sys
 import time
 
 from cases import Cases
-from editor import SERVER, Editor, children
+from editor import SERVER, children, read_message
 from promises import end, start
 from repositories import CALLED, FILE, FILES, RIGHT, UNDEFINED, WRONG
 
@@ -35,13 +36,8 @@ def answers(program: str, *frames: bytes) -> tuple[int, list[dict]]:
     """The status of a server that is sent these frames, and all that it sends."""
     done = subprocess.run([sys.executable, str(SERVER), "--program", program], input=b"".join(frames), stdout=subprocess.PIPE,
                           stderr=subprocess.DEVNULL, timeout=60, check=False)
-    found, rest = [], done.stdout
-    while rest:
-        header, _, rest = rest.partition(b"\r\n\r\n")
-        length = int(header.removeprefix(b"Content-Length: "))
-        found.append(json.loads(rest[:length]))
-        rest = rest[length:]
-    return done.returncode, found
+    sent = io.BytesIO(done.stdout)
+    return done.returncode, list(iter(lambda: read_message(sent), None))
 
 
 def codes(found: list[dict]) -> list[tuple]:
@@ -65,11 +61,13 @@ def before_and_after(program: str) -> None:
     document = {"uri": "file:///nowhere/.github/workflows/a.yml", "languageId": "yaml", "version": 1, "text": WRONG}
     opened = message({"method": "textDocument/didOpen", "params": {"textDocument": document}})
     asked = {"method": "textDocument/hover", "params": {"textDocument": document, "position": {"line": 0, "character": 0}}}
-    sent = [opened, message({**asked, "id": 2}), message(INITIALIZE), message({**INITIALIZE, "id": 3}), message({**asked, "id": 4}),
-            message(SHUTDOWN), opened, message({**asked, "id": 5}), message(EXIT)]
+    unknown = {"method": "nothing"}
+    sent = [opened, message({**asked, "id": 2}), message({**unknown, "id": 3}), message(INITIALIZE), message({**INITIALIZE, "id": 4}),
+            message({**asked, "id": 5}), message(SHUTDOWN), opened, message({**asked, "id": 6}), message({**unknown, "id": 7}), message(EXIT)]
     status, found = answers(program, *map(frame, sent))
-    assert status == 0 and len(found) == 6, found
-    assert codes(found) == [(2, SERVER_NOT_INITIALIZED), (1, None), (3, INVALID_REQUEST), (4, None), (99, None), (5, INVALID_REQUEST)], found
+    assert status == 0 and len(found) == 8, found
+    assert codes(found) == [(2, SERVER_NOT_INITIALIZED), (3, SERVER_NOT_INITIALIZED), (1, None), (4, INVALID_REQUEST), (5, None), (99, None),
+                            (6, INVALID_REQUEST), (7, INVALID_REQUEST)], found
     assert answers(program, frame(message(INITIALIZE)), frame(message(EXIT)))[0] == 1, "exit without shutdown"
 
 
@@ -94,7 +92,7 @@ def wrong_messages(program: str) -> None:
             (b"null", [no_message]), (message({"id": 5, "method": ["x"]}), [no_message]), (message({}), []), (message({"id": 5}), []),
             (message({"method": "nothing"}), []), (message({"method": "$/setTrace", "params": {"value": "off"}}), []),
             (message({"method": "$/cancelRequest", "params": {"id": 7}}), []), (message({"method": "textDocument/didChange"}), []),
-            (message({"id": "a", "method": "nothing"}), [("a", METHOD_NOT_FOUND)]), (b'{"id":5,"method":"workspace/symbol"}', [(5, None)]))
+            (message({"id": "a", "method": "nothing"}), [("a", METHOD_NOT_FOUND)]), (b'{"id":5,"method":"workspace/symbol"}', [no_message]))
     for body, wanted in rows:
         status, found = answers(program, *map(frame, (message(INITIALIZE), body, message(SHUTDOWN), message(EXIT))))
         assert (status, codes(found)) == (0, [(1, None), *wanted, (99, None)]), (body[:100], found)
@@ -147,14 +145,17 @@ def the_editor_is_gone(program: str) -> None:
 @CASES.case
 def an_editor_that_reads_nothing(program: str) -> None:
     """A message that can't be sent doesn't end the server before its input does."""
-    editor = Editor(program, None)
-    editor.child.stdout.close()
+    reading, writing = os.pipe()
+    os.close(reading)
+    child = subprocess.Popen([sys.executable, str(SERVER), "--program", program], stdin=subprocess.PIPE, stdout=writing)
+    os.close(writing)
     for _ in range(3):
-        editor.notify("textDocument/didOpen", {"textDocument": {"uri": "file:///nowhere/action.yml", "version": 1, "text": "x: 1\n"}})
-        time.sleep(0.1)
-    assert editor.child.poll() is None
-    editor.child.stdin.close()
-    assert editor.child.wait(timeout=5) == 1
+        child.stdin.write(frame(message(INITIALIZE)))
+        child.stdin.flush()
+        time.sleep(0.3)
+    assert child.poll() is None
+    child.stdin.close()
+    assert child.wait(timeout=5) == 1
 
 
 if __name__ == "__main__":

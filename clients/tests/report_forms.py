@@ -263,10 +263,11 @@ def ignored_faults(program: str) -> None:
 
 
 @CASES.case
-def without_a_library(program: str) -> None:
+def without_libraries(program: str) -> None:
     """Reports need python3 alone."""
     with tempfile.TemporaryDirectory(prefix="actionlint-test-") as folder:
-        Path(folder, "yaml.py").write_text("raise ImportError\n", encoding="utf-8")
+        for module in ("yaml", "pylsp_jsonrpc"):
+            Path(folder, f"{module}.py").write_text("raise ImportError\n", encoding="utf-8")
         words = [sys.executable, REPORT, "--program", program, "--form", "text", "--root", str(TOP / "examples/broken")]
         done = subprocess.run(words, stdout=subprocess.PIPE, stderr=subprocess.PIPE, env={**os.environ, "PYTHONPATH": folder}, check=False)
     assert done.returncode == 1 and b"5 faults in 1 file" in done.stdout and done.stderr == b"", done

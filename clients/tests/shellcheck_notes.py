@@ -21,7 +21,7 @@ from actionlint_client import library
 from actionlint_client.scripts import NotRead, Script, scripts_and_calls, without_expressions
 
 CASES = Cases("shellcheck")
-library.find_yaml()
+library.missing()
 REPORT = str(CLIENTS / "actionlint-report")
 STEPS = "on: push\njobs:\n  a:\n    runs-on: ubuntu-latest\n    steps:\n"
 # Steps, and where a note stands that a variable lacks its quotes (SC2086), counted by hand: below STEPS the first line is 6.

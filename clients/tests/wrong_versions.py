@@ -63,8 +63,7 @@ WRONG_VERSIONS = {
         "server.py", "if self._workspace.is_stale and self._messages.is_empty():\n                self._workspace.refresh()", "pass",
         ("promises.py", "without_asking")),
     "requests_see_the_text_before": WrongVersion(
-        "server.py", "            if self._workspace.is_stale:\n                self._workspace.refresh()\n            self._endpoint",
-        "            self._endpoint",
+        "server.py", 'self._workspace.is_stale and "id" in message and "method" in message', "False",
         ("hover_and_fixes.py", "where_fixes_are_asked_for")),
     "a_linter_that_ended_is_not_replaced": WrongVersion(
         "folder.py", "note(not isinstance(error, LinterEnded) or isinstance(error, LinterSilent))", "note(True)",
@@ -88,16 +87,13 @@ WRONG_VERSIONS = {
     "lines_that_were_read_are_never_read_again": WrongVersion(
         "faults.py", "before = {path: self.files.pop(path) for path in gone}", "before = {}", ("promises.py", "a_renamed_file")),
     "a_wrong_message_has_no_answer": WrongVersion(
-        "endpoint.py", "self._refuse(None, RequestError(INVALID_REQUEST,", "(RequestError(INVALID_REQUEST,", ("protocol.py", "wrong_messages")),
+        "messages.py", 'return JsonRpcInvalidRequest("no message of JSON-RPC 2.0")', "return {}", ("protocol.py", "wrong_messages")),
     "a_length_is_the_first_field": WrongVersion(
-        "messages.py", "while (line := stdin.readline()).strip():", "while length is None and (line := stdin.readline()).strip():",
-        ("protocol.py", "headers")),
+        "messages.py", "line = self._rfile.readline()", "break", ("protocol.py", "headers")),
     "names_of_fields_have_one_case": WrongVersion(
         "messages.py", 'name.lower() == b"content-length"', 'name == b"Content-Length"', ("protocol.py", "headers")),
-    "requests_need_no_initialize": WrongVersion(
+    "before_initialize_all_is_handled": WrongVersion(
         "server.py", 'if not self._is_initialized and method != "initialize":', "if False:", ("protocol.py", "before_and_after")),
-    "notifications_need_no_initialize": WrongVersion(
-        "server.py", "and self._is_initialized and not", "and not", ("protocol.py", "before_and_after")),
     "after_shutdown_all_goes_on": WrongVersion(
         "server.py", "if self._is_shut_down or self._is_initialized and", "if self._is_initialized and", ("protocol.py", "before_and_after")),
     "a_folder_that_went_is_still_shown": WrongVersion(
