@@ -2,9 +2,9 @@
 
     python3 tests/command_line_page.py PROGRAM
 
-The problem matcher and Vim's errorformat are applied to the lines of a report with known faults, the pattern of the pre-commit hook to
-paths of which some are linted; both hooks run in a repository of git, one of them by pre-commit where it is installed. The words of
-each row of "What to do at status 3" are run, and the example of a fault with its line. Prints one line for each case.
+The problem matcher is applied to the lines of a report with known faults, the pattern of the pre-commit hook to paths of which some are
+linted. Both hooks run in a git repository, one of them by pre-commit if it is installed. The commands of "What to do at status 3" are run,
+and the example of a fault with its line. Prints one line for each case.
 """
 
 import json
@@ -16,6 +16,8 @@ import shutil
 import subprocess
 import sys
 import tempfile
+
+from running import differences_of, report, results
 
 TOP = pathlib.Path(__file__).resolve().parent.parent
 PAGE = (TOP / "docs" / "COMMAND-LINE.md").read_text(encoding="utf-8")
@@ -31,17 +33,6 @@ FAULTS = [
     (PATH, 164, 5, '"runs-on" cannot stand beside "uses"', "syntax-check"),
 ]
 
-wrong = 0
-
-
-def report(name, differences):
-    """Prints the line of a case, and what differs."""
-    global wrong
-    wrong += bool(differences)
-    print(f"case={name} output={'wrong' if differences else 'expected'} status=0")
-    for line in differences:
-        print(f"  {line}")
-
 
 def block(language, heading=""):
     """The text of the page's first block in a language, from a heading on, with the program's name where it has the path of a clone."""
@@ -52,12 +43,6 @@ def block(language, heading=""):
 def run(words, folder):
     """Runs the program in a folder."""
     return subprocess.run([sys.argv[1], *words], cwd=folder, stdout=subprocess.PIPE, stderr=subprocess.PIPE, check=False, timeout=60)
-
-
-def differences(ran, status, out, err):
-    """What of a run isn't so."""
-    got = (ran.returncode, ran.stdout, ran.stderr)
-    return [] if got == (status, out, err) else [f"the program answers {got}, and should {(status, out, err)}"]
 
 
 def write(folder, files):
@@ -84,23 +69,7 @@ def matcher(lines):
             found.append((path, int(number), int(column), message, code))
         else:
             bad.append(f"the matcher does not match {line!r}")
-    report("problem-matcher", bad + has_all("the matcher", found))
-
-
-def errorformat(lines):
-    """Vim's errorformat, each of its items as Vim's help says: %f a name, %l and %c numbers, %m a message."""
-    given = re.search(r"^set errorformat=(.*)$", block("vim"), re.M)[1].replace("\\ ", " ")
-    items = {"%f": "(.+?)", "%l": r"(\d+)", "%c": r"(\d+)", "%m": "(.+)"}
-    pattern = "".join(items.get(it) or re.escape(it) for it in re.findall(r"%.|.", given))
-    found, bad = [], []
-    for line in lines:
-        match = re.fullmatch(pattern, line)
-        if match:
-            message, _, code = match[4].rpartition(" ")
-            found.append((match[1], int(match[2]), int(match[3]), message, code.strip("[]")))
-        else:
-            bad.append(f"errorformat does not match {line!r}")
-    report("errorformat", bad + has_all("errorformat", found))
+    report("problem-matcher", 0, bad + has_all("the matcher", found))
 
 
 def hook():
@@ -116,12 +85,12 @@ def hook():
     with tempfile.TemporaryDirectory() as folder:
         write(folder, {path: "" for path in taken + passed if path != "action.yml/x"})
         empty = "".join(f"{path}:1:1: file is empty [syntax-check]\n" for path in sorted(taken)).encode()
-        bad += differences(run([*words[1:], *taken], folder), 1, empty, b"")
+        bad += differences_of(run([*words[1:], *taken], folder), 1, empty, b"")
         for path in passed:
             ran = run([*words[1:], path], folder)
             if (ran.returncode, ran.stdout) != (3, b"") or not ran.stderr.endswith(b": refused E2\n"):
                 bad.append(f"{path} is taken: {ran.returncode}, {ran.stdout!r} and {ran.stderr!r}")
-    report("pre-commit-hook", bad)
+    report("pre-commit-hook", 0, bad)
 
 
 CALLER = """on: push
@@ -213,7 +182,7 @@ def git_hook():
         path = os.path.join(repository.folder, ".git", "hooks", "pre-commit")
         write(repository.folder, {".git/hooks/pre-commit": block("sh")})
         os.chmod(path, 0o755)
-        report("git-hook-in-a-repository", hook_differences(repository, deletions=True))
+        report("git-hook-in-a-repository", 0, hook_differences(repository, deletions=True))
 
 
 def pre_commit_hook(name, text, deletions):
@@ -226,7 +195,7 @@ def pre_commit_hook(name, text, deletions):
         write(repository.folder, {".pre-commit-config.yaml": "repos:\n" + text})
         status, said = repository.run("pre-commit", "install")
         bad = [f"pre-commit is not installed: {said!r}"] if status else hook_differences(repository, deletions)
-        report(name, bad)
+        report(name, 0, bad)
 
 
 def pre_commit_hooks():
@@ -234,7 +203,7 @@ def pre_commit_hooks():
     text = block("yaml", "## Before each commit")
     pre_commit_hook("pre-commit-in-a-repository", text, deletions=False)
     always, count = re.subn(r"files: .*", "always_run: true", text)
-    report("pre-commit-hook-names-files-once", [] if count == 1 else [f"{count} lines with `files`"])
+    report("pre-commit-hook-names-files-once", 0, [] if count == 1 else [f"{count} lines with `files`"])
     pre_commit_hook("pre-commit-at-each-commit", always, deletions=True)
 
 
@@ -242,7 +211,7 @@ def ends_at_3():
     """Each row of the page's table of words that end a run with status 3."""
     rows = re.findall(r"^\| `(actionlint[^`]*)` \| `(actionlint: [^`]*)` \|", PAGE, re.M)
     wanted = {"actionlint", "actionlint ../x", "actionlint README.md", "actionlint -", "actionlint --root many"}
-    report("rows-of-status-3", [] if wanted < {words for words, _ in rows} else [f"the page has {rows}"])
+    report("rows-of-status-3", 0, [] if wanted < {words for words, _ in rows} else [f"the page has {rows}"])
     with tempfile.TemporaryDirectory() as folder:
         large = CALLED + "#" * (1_048_577 - len(CALLED))
         write(folder, {"README.md": "", "src/x": "", ".github/workflows/large.yml": large, ".github/workflows/a\\b.yml": CALLED})
@@ -250,7 +219,7 @@ def ends_at_3():
         for words, line in rows:
             below = "src" if words == "actionlint" else "."
             ran = run(shlex.split(words)[1:], os.path.join(folder, below))
-            report(f"status-3-of-{words!r}", differences(ran, 3, b"", line.encode() + b"\n"))
+            report(f"status-3-of-{words!r}", 0, differences_of(ran, 3, b"", line.encode() + b"\n"))
 
 
 def from_below():
@@ -261,16 +230,16 @@ def from_below():
         write(repository.folder, {".github/workflows/a.yml": "", "src/x": ""})
         status, said = repository.run("bash", "-c", hint + " --oneline", below="src")
         wanted = (1, ".github/workflows/a.yml:1:1: file is empty [syntax-check]\n")
-        report("from-a-folder-below", [] if (status, said) == wanted else [f"{hint} answers {status} and {said!r}"])
+        report("from-a-folder-below", 0, [] if (status, said) == wanted else [f"{hint} answers {status} and {said!r}"])
         helped = run(["--help"], repository.folder).stdout.decode()
-        report("from-a-folder-below-in-help", [] if hint in helped else [f"help does not say {hint}"])
+        report("from-a-folder-below-in-help", 0, [] if hint in helped else [f"help does not say {hint}"])
 
 
 def snippet():
     """The page's example of a fault is what the program prints."""
     shown = re.search(r"^    (\.github.*\n(?:    .*\n){3})", PAGE, re.M)[1].replace("\n    ", "\n").encode()
     ran = run([], SLIPS)
-    report("fault-with-its-line", [] if shown in ran.stdout else [f"the program does not print {shown!r}"])
+    report("fault-with-its-line", 0, [] if shown in ran.stdout else [f"the program does not print {shown!r}"])
 
 
 def main():
@@ -280,16 +249,15 @@ def main():
     sys.argv[1] = os.path.abspath(sys.argv[1])
     ran = run(["--oneline"], SLIPS)
     lines = ran.stdout.decode().splitlines()
-    report("example-has-faults", [] if ran.returncode == 1 and ran.stderr == b"" else [f"status {ran.returncode}, {ran.stderr!r}"])
+    report("example-has-faults", 0, [] if ran.returncode == 1 and ran.stderr == b"" else [f"status {ran.returncode}, {ran.stderr!r}"])
     matcher(lines)
-    errorformat(lines)
     hook()
     git_hook()
     pre_commit_hooks()
     ends_at_3()
     from_below()
     snippet()
-    return 1 if wrong else 0
+    return 1 if results["wrong"] else 0
 
 
 sys.exit(main())

@@ -177,6 +177,8 @@ def words(folder, program, room):
         failed(run([folder / "release", "--bogus", "x"]), 2)
         + failed(run([folder / "release", "--help"]))
         + failed(run([folder / "release", "--to"]), 2)
+        + failed(run([folder / "release", "--install", room / "none", "--deb"]), 2)
+        + failed(run([folder / "release", "--install", room / "none", "--to", room / "none"]), 2)
         + failed(run([folder / "release", "--program", room / "nowhere", "--to", room / "none"]), 1)
         + ([] if not (room / "none").exists() else ["something was made without a program"])
     )

@@ -1,6 +1,6 @@
-"""Proves and builds the program from the sources, and runs it: build.py [--build-anew] [WORD ..].
+"""Proves and builds the program, and runs it: build.py [--build-anew] [ARGUMENT ..].
 
-`./actionlint` calls this where no program fits the sources. With --build-anew and no further word it runs nothing.
+`./actionlint` calls this if no program fits the sources. With --build-anew and no further argument, nothing is run.
 """
 
 import os
@@ -21,7 +21,7 @@ CRATE = TOP / "crates/actionlint"
 BUILT = CRATE / "out/actionlint"
 PARTS = ("src", "specs", "proofs")
 BUILD_ANEW = "--build-anew"
-# What the kit's gate runs a program with, beside its sources.
+# What the kit's gate needs to run a program, besides its sources.
 OF_A_RUN = ("args", "data", "status", "stdin", "stdout")
 PROVED = re.compile(r"rt: (\w+) proved$")
 SIGNALS = (signal.SIGTERM, signal.SIGINT, signal.SIGHUP)
@@ -37,18 +37,18 @@ def give_up(text):
 
 
 def crates():
-    """The program and the project's crates that it stands on."""
+    """The program's crate and those of the project below it."""
     return with_below(crates_of(TOP), CRATE.name)
 
 
 def processors():
-    """How many crates are proved side by side: what RT_JOBS says, else one for each processor."""
+    """How many crates are proved at once: RT_JOBS, or else the number of processors."""
     jobs = os.environ.get("RT_JOBS", "")
     return int(jobs) if jobs.isdigit() and int(jobs) else len(os.sched_getaffinity(0))
 
 
 def run(command, folder, heard):
-    """Runs a command of the kit in a folder, and hands each line of its output on. A signal ends the command first."""
+    """Runs a command of the kit in a folder, and passes each line of its output to `heard`. A signal ends the command first."""
     guard = ["setpriv", "--pdeathsig", "TERM"] if shutil.which("setpriv") else []
     pipes = {"stdin": subprocess.DEVNULL, "stdout": subprocess.PIPE, "stderr": subprocess.STDOUT}
     child = None
@@ -70,7 +70,7 @@ def run(command, folder, heard):
 
 
 class Progress:
-    """How far a build has come, by the moments at which the crates' known shares of the work would be done with these processors."""
+    """How much of a build is done, estimated from the schedule of the crates on these processors."""
 
     def __init__(self):
         self.ends = schedule(TOP, crates(), processors())
@@ -79,7 +79,7 @@ class Progress:
         self.log = []
 
     def heard(self, line):
-        """Notes a line of `rt ci`, and says how far that has come where it tells of a crate."""
+        """Notes a line of `rt ci`. If a crate is proved, prints how much is done."""
         self.log.append(line)
         proved = PROVED.match(line)
         if not proved or proved[1] not in self.ends or proved[1] in self.done:
@@ -93,12 +93,12 @@ class Progress:
 
 
 def has_kept_work():
-    """Whether `rt check` has kept its work of each crate below the program, so that only what changed has to be proved."""
+    """Whether `rt check` has kept its work for each crate below the program, so that only what changed has to be proved."""
     return all((TOP / "crates" / it / "out/rlib/stamp").is_file() for it in crates() if it != CRATE.name)
 
 
 def build_from_nothing(progress):
-    """Proves and builds in a folder of its own with the program's crates alone, by the kit's gate, which proves crates side by side."""
+    """Proves and builds the program's crates in a temporary folder with the kit's gate, which proves crates in parallel."""
     with tempfile.TemporaryDirectory(prefix="actionlint-build-") as folder:
         room = pathlib.Path(folder)
         shutil.copy(TOP / "HANDLES", room)
@@ -122,7 +122,7 @@ def build_from_nothing(progress):
 
 
 def build():
-    """Proves and builds the program, which then has the time at which this began."""
+    """Proves and builds the program, and sets its time to the start of the build."""
     moment, progress, jobs = time.time_ns(), Progress(), processors()
     if has_kept_work():
         say("the program isn't built from these sources yet: what changed is proved, and then it is built")

@@ -1,4 +1,4 @@
-"""What crates.txt says: each crate of the repository with the libraries that it names."""
+"""The crates of crates.txt, each with the libraries that it names."""
 
 
 def crates_of(top):
@@ -8,7 +8,7 @@ def crates_of(top):
 
 
 def with_below(named, crate):
-    """A crate and the repository's crates that it stands on."""
+    """A crate and the repository's crates that it depends on."""
     found, left = [], [crate]
     while left:
         one = left.pop()
@@ -19,5 +19,5 @@ def with_below(named, crate):
 
 
 def write_list(file, named, crates):
-    """Writes a crates.txt of some of the crates."""
+    """Writes a crates.txt with some of the crates."""
     file.write_text("".join(f"{it}: {' '.join(named[it])}\n" for it in crates))

@@ -1,12 +1,11 @@
-# Functions that find the program which fits the sources, and have it built. `./actionlint` reads this, and sets `top`, the repository's
-# folder.
+# Functions that find the program that fits the sources, or build it. `./actionlint` sources this after setting `top`, the top folder.
 #
-# A program fits where it was built from these sources: crates/actionlint/out/actionlint where no source is newer, and prebuilt/actionlint
-# where prebuilt/sources.sha256 is the hash of the sources, the logic it was proved in is that of the kit that is there, if one is, and it
-# runs on this machine. To find that out takes awk, find, sort, xargs and sha256sum.
+# A program fits if it was built from these sources: crates/actionlint/out/actionlint if no source is newer, and prebuilt/actionlint if
+# prebuilt/sources.sha256 is the hash of the sources, it was proved in the logic of the installed kit, if there is one, and it runs on this
+# machine. Finding that out needs awk, find, sort, xargs and sha256sum.
 #
-# A stamp names the program that was last seen to fit, and its sources. It stands in the clone, or for whoever can't write there in the
-# folder of caches. Where there is one, a search for a source that is newer is all that a run takes besides.
+# A stamp names the program that was last found to fit, and its sources. It is in the clone, or in the user's cache folder if the clone is
+# read-only. With a stamp, a run only searches for newer sources.
 built=crates/actionlint/out/actionlint
 prebuilt=prebuilt/actionlint
 stamp=$top/crates/actionlint/out/fits
@@ -40,12 +39,12 @@ list_sources() {
   done
 }
 
-# Whether no source is newer than a file. Folders are looked at too, so that a file that came or went is seen.
+# Whether no source is newer than a file. Folders are compared too, which shows added and deleted files.
 is_newest() {
   newer=$(CDPATH='' cd -- "$top" && LC_ALL=C exec find $sources -newer "$1" -print -quit 2> /dev/null) && [ -z "$newer" ]
 }
 
-# Whether a stamp names a program that fits still.
+# Whether a stamp names a program that still fits.
 is_noted() {
   [ -r "$1" ] && { read -r program && read -r sources; } < "$1" && [ -x "$top/$program" ] && ! [ "$top/$program" -nt "$1" ] &&
     ! [ "$top/$built" -nt "$1" ] && is_newest "$1"
@@ -63,13 +62,13 @@ hash_of_sources() {
   printf '%s  %s\n' "${hash%% *}" "$1"
 }
 
-# The identity of the kit that built the carried program, where that was built from these sources.
+# The identity of the kit that built the carried program, if that was built from these sources.
 kit_of_prebuilt() {
   [ -x "$top/$prebuilt" ] && read -r hash kit < "$top/prebuilt/sources.sha256" && [ "$(hash_of_sources "$kit")" = "$hash  $kit" ] &&
     printf '%s\n' "$kit"
 }
 
-# Whether the carried program fits; else `why` may say more. The words behind the first one name the logic in a kit's identity.
+# Whether the carried program fits. If not, `why` may say more. In a kit's identity, the words after the first one name the logic.
 prebuilt_fits() {
   kit=$(kit_of_prebuilt 2> /dev/null) || return 1
   if has rt; then
@@ -85,7 +84,7 @@ prebuilt_fits() {
   fi
 }
 
-# Writes a stamp for a program, with the time of now and not in its place yet, where one can be written.
+# Writes a stamp for a program under a temporary name, if possible, before the sources are looked at.
 begin_stamp() {
   for place in "$stamp" "$cached_stamp"; do
     new_stamp=$place.$$
@@ -94,7 +93,7 @@ begin_stamp() {
   place=
 }
 
-# Whether a program fits: sets `program`, by its path below `top`. One that wasn't known to fit is noted; of a carried one `news` says so.
+# Whether a program fits. Sets `program` to its path relative to `top`, stamps one that wasn't known to fit, and sets `news` if carried.
 find_program() {
   if is_noted "$stamp" || is_noted "$cached_stamp"; then return; fi
   for needed in awk find sort xargs sha256sum; do

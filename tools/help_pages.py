@@ -1,10 +1,8 @@
-"""Makes the manual page of a command, and what shells complete of its words, from its help.
+"""Makes a command's manual page and shell completions from its help.
 
-    help_pages.py COMMAND VERSION DATE FOLDER < HELP
-
-Writes below FOLDER, as below a prefix's share: man/man1/COMMAND.1, bash-completion/completions/COMMAND, zsh/site-functions/_COMMAND and
-fish/vendor_completions.d/COMMAND.fish. HELP is as clap or argparse print it, in lines of any length: paragraphs, a usage, and sections
-whose lines are indented.
+help_pages.py COMMAND VERSION DATE FOLDER < HELP writes man/man1/COMMAND.1, bash-completion/completions/COMMAND, zsh/site-functions/_COMMAND
+and fish/vendor_completions.d/COMMAND.fish below FOLDER, which is laid out as share. HELP is as clap or argparse print it, with lines of any
+length: paragraphs, a usage, and sections with indented lines.
 """
 
 import pathlib
@@ -21,20 +19,20 @@ FOLDERS, PATHS = ("DIR",), ("FILE", "PROGRAM", "LOG", "OUT")
 
 @dataclass
 class Option:
-    """The names of an option, what stands for its value, and what it does."""
+    """The names of an option, the placeholder of its value, and its description."""
 
     names: list[str]
     value: str
     text: str
 
     def choices(self):
-        """The values that it takes, where the help lists them."""
+        """The values that it takes, if the help lists them."""
         return self.value[1:-1].split(",") if self.value.startswith("{") else []
 
 
 @dataclass
 class Help:
-    """A help in its parts: usage, paragraphs, options, and the lines of other sections by their titles."""
+    """The parts of a help: usage, paragraphs, options, and the lines of other sections by title."""
 
     usage: str = ""
     paragraphs: list[str] = field(default_factory=list)
@@ -43,7 +41,7 @@ class Help:
 
 
 def items(lines):
-    """The items of a section, each with its text: what goes on stands further to the right."""
+    """The items of a section, each with its description. Continuation lines are indented further."""
     found = []
     first = min((len(it) - len(it.lstrip()) for it in lines if it.strip()), default=0)
     for line in filter(str.strip, lines):
@@ -58,7 +56,7 @@ def items(lines):
 
 
 def option(name, text):
-    """An option as its help has it: `--root <DIR>`, `--form {a,b}` or `-h, --help`."""
+    """An option as the help has it: `--root <DIR>`, `--form {a,b}` or `-h, --help`."""
     parts = [NAME.fullmatch(it.strip()) for it in name.split(", ")]
     return Option([it[1] for it in parts], next((it[2].strip("<>") for it in parts if it[2]), ""), text)
 
@@ -85,7 +83,7 @@ def read_help(text):
 
 
 def roff(text):
-    """A line of text in the manual's language."""
+    """A line of text in roff."""
     escaped = text.replace("\\", r"\e").translate(DASH)
     return rf"\&{escaped}" if escaped.startswith((".", "'")) else escaped
 
@@ -112,7 +110,7 @@ def manual(command, version, date, said):
 
 
 def bash(command, said):
-    """What bash completes."""
+    """The completion for bash."""
     rows = []
     for it in filter(lambda it: it.value, said.options):
         made = "-d" if it.value in FOLDERS else "-f" if it.value in PATHS else f"-W '{' '.join(it.choices())}'"
@@ -127,12 +125,12 @@ def bash(command, said):
 
 
 def quoted(text):
-    """A text between single quotes, as a shell reads it."""
+    """A text in single quotes for a shell."""
     return "'" + text.replace("'", "'\\''") + "'"
 
 
 def zsh(command, said):
-    """What zsh completes."""
+    """The completion for zsh."""
     rows = []
     for it in said.options:
         text, value = (re.sub(r"([\[\]:\\])", r"\\\1", of) for of in (it.text, "value" if it.choices() else it.value))
@@ -144,7 +142,7 @@ def zsh(command, said):
 
 
 def fish(command, said):
-    """What fish completes."""
+    """The completion for fish."""
     rows = []
     for it in said.options:
         words = [f"-l {name[2:]}" if name.startswith("--") else f"-s {name[1:]}" for name in it.names]

@@ -1,9 +1,8 @@
-"""Renews or compares the program that the repository carries: prebuilt.py --renew | --compare.
+"""Renews or compares the carried program: prebuilt.py --renew | --compare.
 
---renew copies crates/actionlint/out/actionlint to prebuilt/, with the hash of the sources that it was built from: no source may be newer.
---compare says `fits` where prebuilt/ was built from these sources by this kit and is byte for byte the program that is built, and `older`
-where it was built from others, or by another kit. The status is 1 where it should be the same and isn't; `none` is said where there is no
-prebuilt/.
+--renew copies crates/actionlint/out/actionlint to prebuilt/, with the hash of its sources, none of which may be newer. --compare prints
+`fits` if prebuilt/ was built from these sources by this kit and is byte for byte the built program, `older` if it was built from others or
+by another kit, and `none` if there is no prebuilt/. The status is 1 if it should be the same and isn't.
 """
 
 import pathlib
@@ -15,18 +14,18 @@ TOP = pathlib.Path(__file__).resolve().parent.parent
 BUILT = TOP / "crates/actionlint/out/actionlint"
 PREBUILT = TOP / "prebuilt/actionlint"
 HASH = TOP / "prebuilt/sources.sha256"
-# Runs a function of tools/find_program.sh for the sources of the repository at $0.
+# Runs a function of tools/find_program.sh for the repository at $0.
 ASK = 'top=$0; . "$0/tools/find_program.sh"; sources=$(list_sources); "$@"'
 
 
 def ask(*words):
-    """What a function of tools/find_program.sh answers; nothing where it fails."""
+    """The output of a function of tools/find_program.sh, or None if it fails."""
     ran = subprocess.run(["sh", "-c", ASK, str(TOP), *words], stdout=subprocess.PIPE, text=True, check=False)
     return ran.stdout.strip() if ran.returncode == 0 else None
 
 
 def kit():
-    """The kit's identity, or nothing where there is no kit."""
+    """The kit's identity, or None if there is no kit."""
     if not shutil.which("rt"):
         return None
     return subprocess.run(["rt", "version"], stdout=subprocess.PIPE, text=True, check=False).stdout.strip()

@@ -1,4 +1,4 @@
-"""When each crate would be proved: the seconds that docs/PROVING.md has for each, side by side on so many processors."""
+"""When each crate is proved, by the seconds in docs/PROVING.md and the number of processors."""
 
 import re
 
@@ -9,15 +9,15 @@ UNKNOWN_SECONDS = 100
 
 
 def seconds_of(top):
-    """The seconds that the proof of each crate took by the table of docs/PROVING.md."""
+    """The seconds that the proof of each crate took, from the table in docs/PROVING.md."""
     page = top / "docs/PROVING.md"
     rows = ROW.findall(page.read_text(encoding="utf-8")) if page.is_file() else []
     return {crate: int(seconds) for crate, seconds in rows}
 
 
 def schedule(top, crates, processors):
-    """The second at which each of these crates is proved, once what it stands on is: of those that can begin, the one that most seconds
-    wait for goes first, as `rt ci` does it."""
+    """The second at which each of these crates is proved. A crate starts once those below it are proved; of those that can start, the one
+    with the longest chain above it goes first, as in `rt ci`."""
     named, known = crates_of(top), seconds_of(top)
     below = {it: [name for name in named[it] if name in crates] for it in crates}
     seconds = {it: known.get(it, UNKNOWN_SECONDS) for it in crates}

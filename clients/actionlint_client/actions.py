@@ -37,7 +37,7 @@ class CodeActions:
 
 
 def workspace_edit(repository: Repository, edits: dict[str, tuple[Edit, ...]], new_files: dict[str, str] = {}) -> dict:
-    """Edits of files, and new files, as the protocol has them."""
+    """Edits and new files as a WorkspaceEdit."""
     changes = {repository.uri(path): [{"range": range_of_span(repository.project.lines(path), edit.span), "newText": edit.text}
                                       for edit in some] for path, some in edits.items()}
     if not new_files:

@@ -1,4 +1,4 @@
-"""What a request of an editor is about: an open file, and a place in it."""
+"""The document and position of an editor's request."""
 from __future__ import annotations
 
 from dataclasses import dataclass
@@ -21,7 +21,7 @@ class Asked:
         return self.repository.project
 
     def range(self, span: Span, file: str | None = None) -> dict:
-        """The range of a span of a file, of the one that is asked about where none is named."""
+        """The range of a span of a file, by default of the document."""
         return range_of_span(self.project.lines(file or self.file), span)
 
     def location(self, span: Span, file: str) -> dict:
@@ -29,7 +29,7 @@ class Asked:
 
 
 def asked(workspace: Workspace, document: dict, position: dict | None = None) -> Asked | None:
-    """The open file of a request's parameters, and the place in it, its start where none is named."""
+    """The document of a request's parameters, if it is open, and the position in it, by default its start."""
     found = workspace.document(document["uri"])
     if found is None:
         return None

@@ -1,4 +1,4 @@
-"""Which actions a file calls. The session doesn't tell for which files its calls look, so the client reads the calls itself."""
+"""The actions that a file calls. A session doesn't tell which paths its files' calls look up, so the client finds the calls itself."""
 from __future__ import annotations
 
 from typing import Iterator, Union
@@ -9,7 +9,7 @@ from .paths import ACTION_NAMES, is_path, is_workflow
 
 Node = Union[str, list, dict]
 MAX_DEPTH = 64
-# libyaml reads some ten times as fast as Python alone.
+# libyaml is about ten times as fast as the parser in Python.
 LOADER = getattr(yaml, "CSafeLoader", yaml.SafeLoader)
 
 

@@ -1,5 +1,4 @@
-"""Characters that a terminal or a reader takes for something else than text: controls, line separators, and those that turn the direction
-of the text behind them."""
+"""Characters that a terminal or a reader doesn't take as text: controls, line separators, and those that change the direction of text."""
 from __future__ import annotations
 
 import json
@@ -11,10 +10,10 @@ ON_A_TERMINAL = re.compile(f"[\x00-\x08\x0a-\x1f{HIDDEN}]")
 
 
 def json_text(value: object, indent: int | None = None) -> str:
-    """JSON in which these stand as escapes; other characters beyond ASCII stand as they are."""
+    """JSON in which these characters are escaped. Other non-ASCII characters aren't."""
     return IN_JSON.sub(lambda found: f"\\u{ord(found[0]):04x}", json.dumps(value, indent=indent, ensure_ascii=False))
 
 
 def terminal_text(text: str) -> str:
-    """Text for a terminal, in which each of these but a tab is shown by its number."""
+    """Text for a terminal: each of these characters except tabs is replaced by its number."""
     return ON_A_TERMINAL.sub(lambda found: f"<U+{ord(found[0]):04X}>", text)

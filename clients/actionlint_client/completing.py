@@ -36,14 +36,14 @@ class Completion:
             "label": offer.label, "kind": KINDS[offer.kind], "detail": offer.detail, "filterText": offer.label,
             "sortText": f"{offer.rank}{number:04}", "textEdit": {"range": where, "newText": offer.text}}
         if offer.documentation:
-            item["documentation"] = {"kind": "markdown", "value": offer.documentation}
+            item["documentation"] = {"kind": self._editor.documentation_format(), "value": offer.documentation}
         if offer.arguments and self._editor.takes_snippets():
             item |= {"insertTextFormat": SNIPPET, "textEdit": {"range": where, "newText": snippet(offer.text)}}
         return item
 
 
 def snippet(call: str) -> str:
-    """A call of a function as a snippet, whose arguments are its places."""
+    """A call of a function as a snippet whose tab stops are its arguments."""
     parts = EMPTY_ARGUMENT.split(call)
     quote = "''" if "''''" in call else "'"
     return parts[0] + "".join(f"{quote}${{{number}}}{quote}{part}" for number, part in enumerate(parts[1:], 1))

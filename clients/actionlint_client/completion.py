@@ -18,14 +18,14 @@ from .tree import Node, Path, Point, Span
 IDENTIFIER = re.compile(r"[\w-]*")
 REST = re.compile(r"[^#,}\]\n]*")
 PLAIN = re.compile(r"[A-Za-z0-9_./][\w./@-]*")
-# What stands behind a key that must not be left empty.
+# What is inserted after a key that must have a value.
 FIRST_VALUES = {("workflow", "on"): "push", ("workflow", "jobs"): "\n  build:\n    runs-on: ubuntu-latest\n    steps:\n      - run: make"}
 
 
 @dataclass(frozen=True)
 class Offer:
-    """A name that can stand at the cursor, the text that is put there, what it is in a word and in sentences. The first ones come first;
-    with `arguments` it is a call of a function, whose arguments are to be filled in."""
+    """A name that can stand at the cursor, the text to insert, and what it is, in a word and in sentences. Offers of a lower rank come
+    first. With `arguments` it is a function call whose arguments are to be filled in."""
 
     label: str
     kind: str
@@ -38,7 +38,7 @@ class Offer:
 
 @dataclass(frozen=True)
 class Cursor:
-    """A place in a file, the tree around it, and the keys on the way to it. A strict one takes what GitHub takes, another one all that the
+    """A place in a file, the tree around it, and the keys on the way to it. A strict one accepts what GitHub accepts, another one what the
     linter does."""
 
     project: Project
@@ -58,7 +58,7 @@ class Cursor:
         return section_at(self.file, path, self.levels)
 
     def texts(self, depth: int) -> dict[str, str]:
-        """The keys with texts beside the one at a depth of the path."""
+        """The keys, with texts, beside the one at a depth of the path."""
         found = self.place.around[depth] if depth < len(self.place.around) else {}
         return {key: text.strip("'\"") for key, text in found.items()}
 
@@ -98,12 +98,12 @@ def offers(project: Project, file: str, point: Point, is_strict: bool = True) ->
 
 
 def is_behind_sign(line: str, place: Place) -> bool:
-    """Whether nothing is typed yet, and the space behind a colon or a dash neither."""
+    """Whether nothing is typed yet, not even the space after a colon or a dash."""
     return not place.typed and not place.before.strip() and line[:place.span.start.column][-1:] in (":", "-")
 
 
 def names_in_expression(cursor: Cursor, before: Before) -> list[Offer]:
-    """Contexts and functions, or properties of what stands before the dot."""
+    """Contexts and functions, or properties of what is before the dot."""
     place = cursor.place
     if available(cursor.file, place.path, cursor.levels) is None:
         return []
@@ -125,7 +125,7 @@ def _offer_of(one: Property) -> Offer:
 
 
 def keys(cursor: Cursor) -> Iterable[Offer]:
-    """The keys of the section that don't stand there yet and can stand beside those that do, required ones first."""
+    """The keys of the section that are missing and don't clash with those that are there, required ones first."""
     place = cursor.place
     yield from _named_keys(cursor)
     shape = shape_at(cursor.file, place.path, cursor.levels)
@@ -150,7 +150,7 @@ def keys(cursor: Cursor) -> Iterable[Offer]:
 
 
 def _first_keys(place: Place, shape: dict) -> Iterable[Offer]:
-    """The keys with which an entry of a list begins, each behind a dash."""
+    """The keys with which an entry of a list begins, each after a dash."""
     section = shape.get("section", "")
     for key, row in (shape["keys"] if section else {}).items():
         takes = value_words(table()["shapes"].get(row["shape"]))
@@ -159,7 +159,7 @@ def _first_keys(place: Place, shape: dict) -> Iterable[Offer]:
 
 
 def _named_keys(cursor: Cursor) -> Iterable[Offer]:
-    """Keys below one that takes free ones: scopes, inputs and secrets of what is called, rows."""
+    """Keys below one that takes any: scopes, inputs and secrets of the called file, rows."""
     place = cursor.place
     around, key = key_of(place.path)
     section = cursor.section(around)
@@ -183,7 +183,7 @@ def _named_keys(cursor: Cursor) -> Iterable[Offer]:
 
 
 def _declared_key(place: Place, one: files.Declaration) -> Offer:
-    """An input or a secret of what is called, with a value that fits its type."""
+    """An input or a secret of the called file, with a value that fits its type."""
     kind = one.value.text("type") or ""
     value = {"boolean": "true", "number": "0"}.get(kind, "")
     text = one.name if place.has_colon else f"{one.name}: {value}"
@@ -201,7 +201,7 @@ def _key_text(place: Place, section: str, key: str) -> str:
 
 
 def values(cursor: Cursor) -> list[Offer]:
-    """The values of a key, where they are known."""
+    """The values of a key, if they are known."""
     around, key = key_of(cursor.place.path)
     section = cursor.section(around) or ""
     found = [*_fixed_values(cursor, section, key, around), *_names_of_file(cursor, section, key), *_flags(cursor)]
@@ -209,7 +209,7 @@ def values(cursor: Cursor) -> list[Offer]:
 
 
 def _fixed_values(cursor: Cursor, section: str, key: str | None, around: Path) -> list[Offer]:
-    """Values out of the lists that the linter knows."""
+    """Values from the linter's lists."""
     if key == "types" and section == "event":
         types = table()["activity types"].get(str(around[-1]), [])
         return [Offer(name, "value", name, "activity type") for name in types]
@@ -237,12 +237,12 @@ def _fixed_values(cursor: Cursor, section: str, key: str | None, around: Path) -
 
 
 def _accesses(cursor: Cursor, scope: str) -> list[str]:
-    """The accesses that a scope of `permissions` can have."""
+    """The access levels that a scope of `permissions` can have."""
     return [one for one in table()["permission values"]["scope_values"] if takes_access(scope, one) or not cursor.is_strict]
 
 
 def _names_of_file(cursor: Cursor, section: str, key: str | None) -> list[Offer]:
-    """Values that name something of the file or of the folder."""
+    """Values that name something in the file or in the folder."""
     ways: dict[tuple[str, str | None], Callable[[Cursor], list[Offer]]] = {
         ("job", "needs"): _jobs, ("job", "uses"): _workflows, ("step", "uses"): _actions, ("event", "workflows"): _workflow_names,
         ("job", "secrets"): lambda _: [Offer("inherit", "value", "inherit", "all secrets of the caller")]}
@@ -250,7 +250,7 @@ def _names_of_file(cursor: Cursor, section: str, key: str | None) -> list[Offer]
 
 
 def _jobs(cursor: Cursor) -> list[Offer]:
-    """The jobs that a job can need: those that don't need it themselves."""
+    """The jobs that a job can need without a cycle."""
     tree, job = cursor.tree, str(cursor.place.path[1])
     if tree is None:
         return []
@@ -282,7 +282,7 @@ def _workflow_names(cursor: Cursor) -> list[Offer]:
 
 
 def _flags(cursor: Cursor) -> list[Offer]:
-    """True and false where a flag is wanted, also by the type of an input of what is called."""
+    """True and false where a flag is expected, also by the type of the called file's input."""
     path = cursor.place.path
     shape = shape_at(cursor.file, path, cursor.levels)
     is_flag = shape is not None and shape["scalars"] == "Bools" or path[-1:] == ("required",)
@@ -297,7 +297,7 @@ def _flags(cursor: Cursor) -> list[Offer]:
 
 
 def _quoted(place: Place, text: str) -> str:
-    """A text as a value: in quotes where it has signs that YAML reads otherwise, and none are there yet."""
+    """A text as a value: in quotes if YAML would read it differently without, unless quotes are already there."""
     if place.before[:1] in ("'", '"') or PLAIN.fullmatch(text):
         return text.replace("'", "''") if place.before[:1] == "'" else text
     return "'" + text.replace("'", "''") + "'"

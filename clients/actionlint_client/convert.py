@@ -1,4 +1,4 @@
-"""actionlint-report: runs the linter and writes its report in another form, for people or for programs.
+"""actionlint-report: runs the linter and writes its report in another format, for people or for programs.
 
 It runs the linter itself, so that a run that could not go on never passes for one without faults: the exit status is the linter's, but for
 faults that are ignored and notes of shellcheck.
@@ -17,7 +17,7 @@ from .ignoring import Ignored, WrongRule, rules_in
 from .lint_run import CANNOT_GO_ON, CannotStart, LintRun, ReportTooLong
 from .output import report_output
 from .problems import Problem, problem_of
-from .program import WHICH, default_program
+from .program import WHICH, find_program
 from .report import BadReport
 from .sarif import Sarif, left_out_line
 from .terminal import Text, has_color
@@ -28,6 +28,10 @@ FORMS: dict[str, type[Form]] = {
     "sarif": Sarif, "codequality": CodeQuality, "jsonl": JsonLines, "github": Annotations, "text": Text}
 
 
+class NoReport(Exception):
+    """The linter could not go on, and the report would look like one without faults, so it isn't written."""
+
+
 def main(words: list[str] | None = None) -> int:
     options = _options(sys.argv[1:] if words is None else words)
     try:
@@ -36,6 +40,10 @@ def main(words: list[str] | None = None) -> int:
         ignored = Ignored([*options.ignore, *(rule for file in options.ignore_file for rule in rules_in(file))])
         with report_output(options.out) as out:
             form, outcome = _report(options, ignored, out)
+            if not (outcome.is_known() or form.tells_failure):
+                raise NoReport
+    except NoReport:
+        pass
     except WrongRule as error:
         return _fail(str(error), WRONG_WORDS)
     except (CannotStart, shellcheck.ShellcheckFailed) as error:
@@ -43,13 +51,13 @@ def main(words: list[str] | None = None) -> int:
     except BadReport as error:
         return _fail(f"{options.program} is not the linter: {error}")
     except OSError as error:
-        return _fail(f"write failed: {error.strerror}")
+        return _fail(f"cannot write {options.out or 'standard output'}: {error.strerror}")
     _say(form, outcome)
     return outcome.status
 
 
 def explain(code: str) -> int:
-    """Prints the entry of a code, in any case of letters. OSError where it can't be written."""
+    """Prints the entry of a code, in any case. Raises OSError if it can't be written."""
     entry = next((entry for entry in entries() if entry.code == code.upper()), None)
     if entry is None:
         return _fail(f"{code!r} is no code of a fault", WRONG_WORDS)
@@ -59,7 +67,7 @@ def explain(code: str) -> int:
 
 
 def _report(options: argparse.Namespace, ignored: Ignored, out: BinaryIO) -> tuple[Form, Outcome]:
-    """Writes the report with the lines of files, which tell how long each fault is, unless these would be too many bytes."""
+    """Writes the report with source lines, which tell how long each fault is, unless these would be too many bytes."""
     try:
         return _write(options, ignored, out, True)
     except ReportTooLong:
@@ -79,10 +87,12 @@ def _write(options: argparse.Namespace, ignored: Ignored, out: BinaryIO, snippet
                 unread.add(problem.fault.path)
             _tell(problem, form, ignored, outcome)
     outcome.errors = run.errors
-    if options.shellcheck and run.status in (0, 1):
+    outcome.status = run.status
+    if options.shellcheck and outcome.is_known():
         for note in shellcheck.notes(options.root or ".", options.files, unread, outcome.say):
             _tell(note, form, ignored, outcome)
-    outcome.status = run.status if run.status not in (0, 1) else 1 if outcome.files else 0
+    if outcome.is_known():
+        outcome.status = 1 if outcome.files else 0
     form.end(outcome)
     return form, outcome
 
@@ -102,7 +112,7 @@ def _form(options: argparse.Namespace, out: BinaryIO) -> Form:
 
 
 def _say(form: Form, outcome: Outcome) -> None:
-    """What of the outcome the report doesn't tell, on standard error."""
+    """Prints to standard error what the report doesn't say."""
     if not form.tells_errors:
         sys.stderr.write("".join(terminal_text(line) + "\n" for line in outcome.errors.splitlines()))
     if form.left_out:
@@ -114,23 +124,27 @@ def _say(form: Form, outcome: Outcome) -> None:
 def _options(words: list[str]) -> argparse.Namespace:
     parser = argparse.ArgumentParser(prog="actionlint-report", description=__doc__.split("\n")[0], allow_abbrev=False,
                                      usage="%(prog)s [OPTION]... [--] [FILE]...")
-    parser.add_argument("--form", choices=tuple(FORMS), default="sarif", help="the form of the report (default: %(default)s)")
-    parser.add_argument("--root", metavar="DIR", help="the repository's folder (default: the current one)")
-    parser.add_argument("--program", default=default_program(), help=f"the linter (default: {WHICH})")
+    parser.add_argument("--form", choices=tuple(FORMS), default="sarif", help="the format of the report (default: %(default)s)")
+    parser.add_argument("--root", metavar="DIR", help="the top folder of the repository (default: the current folder)")
+    parser.add_argument("--program", help=f"the linter (default: {WHICH})")
     parser.add_argument("--docs", metavar="ADDRESS", help="the address of the pages of faults, for links")
     parser.add_argument("--out", metavar="FILE", help="the file to write (default: standard output)")
-    parser.add_argument("--color", choices=("auto", "always", "never"), default="auto", help="of the text (default: %(default)s)")
+    parser.add_argument("--color", choices=("auto", "always", "never"), default="auto",
+                        help="whether the form text has colors (default: %(default)s)")
     parser.add_argument("--ignore", metavar="CODE[:PATH]", action="append", default=[],
-                        help="a fault that doesn't count, in all files or one")
-    parser.add_argument("--ignore-file", metavar="FILE", action="append", default=[], help="a file with such words, one a line")
-    parser.add_argument("--shellcheck", action="store_true", help="show notes of shellcheck over scripts too, which nothing proves")
-    parser.add_argument("--explain", metavar="CODE", help="print what the pages say of a fault, and lint nothing")
+                        help="a fault that doesn't count, in all files or in one; may be repeated")
+    parser.add_argument("--ignore-file", metavar="FILE", action="append", default=[],
+                        help="a file with a CODE[:PATH] on each line; may be repeated")
+    parser.add_argument("--shellcheck", action="store_true", help="also show shellcheck's notes on scripts")
+    parser.add_argument("--explain", metavar="CODE", help="explain a fault, and lint nothing")
     parser.add_argument("--version", action="version", version=f"%(prog)s {version() or 'without a version'}")
     parser.add_argument("files", nargs="*", metavar="FILE",
                         help="workflows and actions below DIR (default: all workflows, and what they call)")
     end = words.index("--") if "--" in words else len(words)
     options = parser.parse_intermixed_args(words[:end])
     options.files += words[end + 1:]
+    options.program = find_program(options.program)
+    options.docs = options.docs and options.docs.rstrip("/")
     return options
 
 

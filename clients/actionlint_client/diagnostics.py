@@ -1,45 +1,15 @@
-"""Faults as the protocol's diagnostics."""
+"""Faults as diagnostics of the protocol."""
 from __future__ import annotations
 
-from typing import NamedTuple
-
-from . import entries
 from .faults import FileFaults
 from .positions import Lines
+from .problems import problem_of
 from .report import Fault
 
 SOURCE = "actionlint"
-ERROR, WARNING, INFORMATION = 1, 2, 3
+WARNING, INFORMATION = 2, 3
+SEVERITIES = {"error": 1, "warning": WARNING}
 OF_EARLIER = "(of the last text that was YAML)"
-
-
-class Severity(NamedTuple):
-    """How grave the faults of a code and a kind are, of whose first arguments these are some, or all where there are none; and why."""
-
-    code: str
-    kind: str
-    arguments: tuple[str, ...]
-    severity: int
-    reason: str
-
-    def is_of(self, code: str, fault: Fault) -> bool:
-        return (self.code, self.kind) == (code, fault.kind) and (
-            not self.arguments or entries.argument_of(fault.message) in self.arguments)
-
-
-# What isn't here is an error: GitHub refuses the file, or a step or job fails or goes on without what was meant, and nobody else tells.
-SEVERITIES = (
-    Severity("G17", "deprecated-commands", ("set-output", "save-state"), WARNING,
-             "the command still does what it did, and GitHub warns of it in each run"),
-    Severity("G17", "deprecated-commands", ("set-env", "add-path"), ERROR, "GitHub lets the step fail"),
-    Severity("C2", "action", (), WARNING, "the action runs without the value, and GitHub warns of it in each run"),
-    Severity("C2", "workflow-call", (), ERROR, "GitHub refuses the call"),
-)
-
-
-def severity_of(code: str, fault: Fault) -> int:
-    """Of a fault that breaks a run ERROR, of one of which GitHub only warns WARNING."""
-    return next((row.severity for row in SEVERITIES if row.is_of(code, fault)), ERROR)
 
 
 class Diagnostics:
@@ -48,7 +18,7 @@ class Diagnostics:
         self._docs = docs
 
     def of_file(self, lines: Lines, found: FileFaults, earlier: FileFaults, refused: str | None) -> list[dict]:
-        """The faults that a file has, those that it had when it was last YAML, how many there are besides, and why it isn't linted."""
+        """The faults of a file, those of its last valid YAML, how many more there are, and why it isn't linted."""
         told = [self.of_fault(lines, fault) for fault in found.faults] + [self.of_earlier_fault(lines, fault) for fault in earlier.faults]
         if found.more:
             told.append(_at_start(f"{found.more} more faults in this file", INFORMATION))
@@ -59,12 +29,11 @@ class Diagnostics:
         return told
 
     def of_fault(self, lines: Lines, fault: Fault) -> dict:
-        entry = entries.entry_of(fault.message)
-        code = entry.code if entry else fault.kind
-        diagnostic = {"range": lines.range_of(fault), "severity": severity_of(code, fault), "source": SOURCE, "code": code,
+        problem = problem_of(fault)
+        diagnostic = {"range": lines.range_of(fault), "severity": SEVERITIES[problem.level], "source": SOURCE, "code": problem.code,
                       "message": f"{fault.message} [{fault.kind}]", "data": {"kind": fault.kind}}
-        if entry and self._docs:
-            diagnostic["codeDescription"] = {"href": entries.link_of(entry, self._docs)}
+        if link := problem.link_in(self._docs):
+            diagnostic["codeDescription"] = {"href": link}
         return diagnostic
 
     def of_earlier_fault(self, lines: Lines, fault: Fault) -> dict:

@@ -1,4 +1,4 @@
-"""The workflows and actions of a repository as the disk has them."""
+"""The workflows and actions of a repository as they are on disk."""
 from __future__ import annotations
 
 import os
@@ -11,15 +11,15 @@ from .paths import WORKFLOWS, is_below, is_workflow
 MAX_FILE_BYTES = 1_048_576
 READ_BYTES = 65_536
 MAX_TOLD = 10
-# A pipe, a device or a log of the kernel answers at once, and none becomes this program's terminal.
+# Pipes, devices and kernel logs are opened without waiting, and no terminal becomes this program's.
 OPENED = os.O_RDONLY | os.O_NONBLOCK | os.O_NOCTTY | os.O_CLOEXEC
 NOT_REGULAR = "cannot read this file: it is not a regular one"
 
 
 @dataclass
 class SavedFile:
-    """A file as it was read last: its bytes, at most one more than the linter takes, or None where it isn't there, can't be read or lies
-    outside of the folder."""
+    """A file as it was last read: its bytes, at most one more than the linter takes, or None if it isn't there, can't be read or is outside
+    the folder."""
 
     stamp: tuple
     data: bytes | None
@@ -28,7 +28,7 @@ class SavedFile:
 
 
 class Disk:
-    """Files are read when they are asked for, and again where their times, sizes or numbers changed."""
+    """Files are read when they are asked for, and again when their times, sizes or inode numbers changed."""
 
     def __init__(self, root: bytes, say: Callable[[str], None]):
         self.workflows: set[str] = set()
@@ -39,7 +39,7 @@ class Disk:
         self._passed_over: set[str] = set()
 
     def rescan(self) -> bool:
-        """Looks at the disk again, and answers whether something is there, gone or another file than before."""
+        """Looks at the disk again, and returns whether a file appeared, disappeared or changed."""
         self._real_root = os.path.realpath(self._root)
         workflows, files = self.workflows, dict(self._files)
         self.workflows = {path for entry in self._entries() if (path := self._workflow_path(entry)) is not None}
@@ -48,16 +48,16 @@ class Disk:
         return self.workflows != workflows or any(self._files[path] is not file for path, file in files.items())
 
     def file(self, path: str) -> SavedFile:
-        """The file as it was at the last `rescan`, or now where it wasn't asked for before."""
+        """The file as it was at the last `rescan`, or now if it wasn't asked for before."""
         return self._files.get(path) or self._update(path)
 
     def forget(self, paths: Iterable[str]) -> None:
-        """These files are read again, even where they look the same."""
+        """Reads these files again, even if they look the same."""
         for path in paths:
             self._files.pop(path, None)
 
     def keep(self, paths: set[str]) -> None:
-        """Forgets the files that aren't among these."""
+        """Forgets all files but these."""
         self._files = {path: file for path, file in self._files.items() if path in paths}
 
     def _entries(self) -> list[os.DirEntry]:
@@ -68,7 +68,7 @@ class Disk:
             return []
 
     def _workflow_path(self, entry: os.DirEntry) -> str | None:
-        """The path of an entry that is linted: a regular file behind its links, as the program takes it."""
+        """The path of an entry that is linted: a regular file or a link to one, as for the program."""
         path = f"{WORKFLOWS}/{entry.name.decode('utf-8', 'surrogateescape')}"
         if not is_workflow(path) or not _is_file(entry):
             return None
@@ -80,7 +80,7 @@ class Disk:
         return path
 
     def _pass_over(self, path: str, why: str) -> None:
-        """Tells of the first ten files that are passed over, of each once."""
+        """Reports the first ten skipped files, each once."""
         if path in self._passed_over or len(self._passed_over) > MAX_TOLD:
             return
         self._passed_over.add(path)
@@ -117,7 +117,7 @@ def _read(whole: bytes, stamp: tuple, real_root: bytes) -> SavedFile:
     try:
         opened = os.open(whole, OPENED)
         try:
-            # What was opened may be another file than the one that was looked at.
+            # The opened file may not be the one that was looked at.
             if not stat.S_ISREG(os.fstat(opened).st_mode):
                 return SavedFile(stamp, None, NOT_REGULAR)
             if not is_below(_real_path(opened, whole), real_root):
@@ -132,7 +132,7 @@ def _read(whole: bytes, stamp: tuple, real_root: bytes) -> SavedFile:
 
 
 def _real_path(opened: int, whole: bytes) -> bytes:
-    """The path of what was opened, where the system tells it; else that of what now stands at its path."""
+    """The path of an open file, if the system tells it, else that of what is now at its path."""
     try:
         return os.readlink(b"/proc/self/fd/%d" % opened)
     except OSError:

@@ -1,5 +1,5 @@
-"""The faults that a buffer had when it was last YAML, for the time in which it is none: they stay where they were, in place of going and
-coming back with each key."""
+"""The faults that a buffer had when it was last valid YAML. They stay until it is valid again, so that they don't disappear and reappear
+with every key."""
 from __future__ import annotations
 
 from dataclasses import dataclass, replace
@@ -10,20 +10,21 @@ from .positions import lines_of
 
 
 def is_no_yaml(found: FileFaults) -> bool:
-    """Whether a file has the one fault that it is no YAML."""
+    """Whether a file's one fault is that it isn't valid YAML."""
     entry = entry_of(found.faults[0].message) if len(found.faults) == 1 else None
     return entry is not None and entry.code.startswith("Y")
 
 
 @dataclass(frozen=True)
 class Earlier:
-    """A text, and those faults of the last one that was YAML that stand on lines which it still has."""
+    """A text, and the faults of the last valid YAML whose lines the text still has."""
 
     data: bytes
     found: FileFaults
 
     def in_text(self, data: bytes) -> Earlier:
-        """The same of the text after an edit. The edit's own lines are those between what both texts begin and end with."""
+        """The same for the text after an edit. The edit's own lines are those between the common prefix and the common suffix of both
+        texts."""
         before, after = lines_of(self.data), lines_of(data)
         most = min(len(before), len(after))
         front = next((number for number in range(most) if before[number] != after[number]), most)
@@ -37,6 +38,6 @@ class Earlier:
         return Earlier(data, FileFaults(tuple(moved), self.found.more))
 
     def beside(self, found: FileFaults) -> FileFaults:
-        """Those on other lines than a fault that the text has."""
+        """Those that aren't on a line with one of the given faults."""
         lines = {fault.line for fault in found.faults}
         return FileFaults(tuple(fault for fault in self.found.faults if fault.line not in lines), self.found.more)

@@ -1,4 +1,4 @@
-"""The editor as the server sees it: what it can do, and what is sent to it."""
+"""What the editor can do, and what is sent to it."""
 from __future__ import annotations
 
 from typing import Callable
@@ -13,43 +13,54 @@ class Editor:
         self._capabilities: dict = {}
 
     def take_capabilities(self, capabilities: dict | None) -> None:
-        """What the editor can do, as `initialize` has it."""
+        """Takes the capabilities that `initialize` has."""
         self._capabilities = capabilities or {}
 
     def capability(self, section: str, feature: str) -> dict:
-        """What the editor can do of a feature, as `("textDocument", "hover")`; empty where it said nothing."""
+        """What the editor says about a feature, such as `("textDocument", "hover")`, or nothing."""
         return (self._capabilities.get(section) or {}).get(feature) or {}
 
     def watches(self) -> bool:
-        """Whether the editor tells changes of the disk."""
+        """Whether the editor reports changes on disk."""
         return bool(self.capability("workspace", "didChangeWatchedFiles").get("dynamicRegistration"))
 
     def hover_format(self) -> str:
-        formats = self.capability("textDocument", "hover").get("contentFormat") or ["markdown"]
-        return "markdown" if "markdown" in formats else "plaintext"
+        return _format(self.capability("textDocument", "hover").get("contentFormat"))
+
+    def documentation_format(self) -> str:
+        """The format of the documentation of completions."""
+        return _format(self._completion_item().get("documentationFormat"))
 
     def takes_snippets(self) -> bool:
-        """Whether a completion can have places to be filled in."""
-        return bool((self.capability("textDocument", "completion").get("completionItem") or {}).get("snippetSupport"))
+        """Whether a completion can contain tab stops."""
+        return bool(self._completion_item().get("snippetSupport"))
+
+    def _completion_item(self) -> dict:
+        return self.capability("textDocument", "completion").get("completionItem") or {}
 
     def makes_files(self) -> bool:
-        """Whether an edit can make a file."""
+        """Whether an edit can create files."""
         edit = self.capability("workspace", "workspaceEdit")
         return bool(edit.get("documentChanges")) and "create" in (edit.get("resourceOperations") or [])
 
     def ask_to_watch(self) -> None:
-        """Asks for changes of the disk, which come as `workspace/didChangeWatchedFiles`."""
+        """Asks for changes on disk, which come as `workspace/didChangeWatchedFiles`."""
         watchers = [{"globPattern": pattern} for pattern in WATCHED]
         self._request("client/registerCapability", {"registrations": [
             {"id": "disk", "method": "workspace/didChangeWatchedFiles", "registerOptions": {"watchers": watchers}}]})
 
     def publish(self, uri: str, version: int | None, diagnostics: list[dict]) -> None:
-        """All diagnostics of a file, in place of those that it had."""
+        """Replaces all diagnostics of a file."""
         params: dict[str, object] = {"uri": uri, "diagnostics": diagnostics}
         if version is not None:
             params["version"] = version
         self._notify("textDocument/publishDiagnostics", params)
 
     def say(self, text: str) -> None:
-        """Tells the person."""
+        """Shows a message to the user."""
         self._notify("window/showMessage", {"type": WARNING, "message": f"actionlint: {text}"})
+
+
+def _format(taken: list[str] | None) -> str:
+    """Markdown, unless the editor takes only other formats."""
+    return "markdown" if not taken or "markdown" in taken else "plaintext"

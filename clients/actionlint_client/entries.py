@@ -1,4 +1,4 @@
-"""The entries of the pages of faults (`docs/FAULTS*.md`), by the messages that are made from them: faults.json, by make_tables.py."""
+"""The entries of the pages of faults (`docs/FAULTS*.md`) by their messages. make_tables.py writes faults.json."""
 from __future__ import annotations
 
 import json
@@ -32,8 +32,8 @@ class Entry(NamedTuple):
     fixed: tuple[str, ...]
 
     def arguments(self, message: str) -> tuple[str, ...] | None:
-        """The arguments in a printed message, or None where it isn't made from this one. It takes time linear in the message: what is fixed
-        is compared at both ends, and looked for once between them."""
+        """The arguments in a printed message, or None if it isn't this one. Takes time linear in the message: its fixed parts are compared
+        at both ends, and searched for once between them."""
         first, *between, last = self.fixed if len(self.fixed) > 1 else (*self.fixed, "")
         if len(message) < len(first) + len(last) or not (message.startswith(first) and message.endswith(last)):
             return None
@@ -53,7 +53,7 @@ def entries() -> tuple[Entry, ...]:
 
 
 def entry_of(message: str) -> Entry | None:
-    """The entry of a printed message, or None for a message that no page has."""
+    """The entry of a printed message, or None if no page has it."""
     return _found_before(message) if len(message) <= KNOWN_CHARACTERS else _find(message)
 
 
@@ -69,12 +69,12 @@ def link_of(entry: Entry, docs: str) -> str:
 
 
 def plain_text(markdown: str) -> str:
-    """The first paragraph of Markdown without links: those in brackets are left out, of others the words stay."""
+    """The first paragraph of Markdown without links. Links in brackets are left out, and of others the text stays."""
     return LINK.sub(r"\1", LINK_IN_BRACKETS.sub("", markdown.split("\n\n", 1)[0]))
 
 
 def title_of(entry: Entry) -> str:
-    """The message with dots for its arguments."""
+    """The message, with dots in place of its arguments."""
     return ARGUMENT.sub("..", entry.message)
 
 
@@ -85,7 +85,7 @@ def explained(entry: Entry) -> str:
 
 
 def markdown_of(entry: Entry, docs: str | None, messages: Sequence[str] = ()) -> str:
-    """The entry for a person, below the messages of its faults where there are some; links lead to the pages where these are known."""
+    """The entry in Markdown, below the given messages. Links lead to the pages if their address is known."""
     shown = [_code(message[:SHOWN_CHARACTERS]) for message in messages[:SHOWN_MESSAGES]] or [_code(title_of(entry))]
     more = [f"{len(messages) - SHOWN_MESSAGES} more"] if len(messages) > SHOWN_MESSAGES else []
     parts = [entry.text]
@@ -96,7 +96,7 @@ def markdown_of(entry: Entry, docs: str | None, messages: Sequence[str] = ()) ->
 
 
 def markdown_of_faults(messages: Iterable[str], docs: str | None) -> str | None:
-    """The entries of printed messages, one below the other, each once; None where no page has one of them."""
+    """The entries of printed messages, each once, or None if no page has one of them."""
     found: dict[str, tuple[Entry, list[str]]] = {}
     for message in messages:
         if (entry := entry_of(message)) is not None:
@@ -105,7 +105,7 @@ def markdown_of_faults(messages: Iterable[str], docs: str | None) -> str | None:
 
 
 def _code(text: str) -> str:
-    """A text as code: between more backquotes than stand together in it."""
+    """A text as code, between more backquotes than it has in a row."""
     fence = "`" * (1 + max((len(run) for run in re.findall("`+", text)), default=0))
     return f"{fence}{text}{fence}" if len(fence) == 1 else f"{fence} {text} {fence}"
 

@@ -1,4 +1,4 @@
-"""What a name means where it stands."""
+"""What a name means at its place."""
 from __future__ import annotations
 
 from .completion import Offer, offers
@@ -7,7 +7,7 @@ from .tree import Point, Span
 
 
 def explanation(project: Project, file: str, point: Point) -> tuple[Span, str] | None:
-    """Markdown on the key, the value or the name in an expression at a point, and where that stands."""
+    """Markdown on the key, value or name at a point, and its span."""
     if point.line >= len(project.lines(file)):
         return None
     span, found = offers(project, file, point, is_strict=False)
@@ -17,7 +17,7 @@ def explanation(project: Project, file: str, point: Point) -> tuple[Span, str] |
 
 
 def markdown_of(offer: Offer) -> str:
-    """An offer for a person: its name with the signature of a function, what it is, and what it means."""
+    """Markdown on an offer: its name, with its signature if it is a function, what it is, and what it means."""
     if offer.kind == "function":
         head = f"`{offer.label}{offer.detail.rpartition(') ')[0]})` gives {offer.detail.rpartition(') ')[2]}"
     else:

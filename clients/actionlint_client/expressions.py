@@ -1,4 +1,4 @@
-"""Names in expressions: which chain of names stands before a cursor, and which properties it has in its file."""
+"""Names in expressions: the chain of names before a cursor, and its properties."""
 from __future__ import annotations
 
 import re
@@ -16,7 +16,7 @@ CHAIN = re.compile(rf"(?<![\w.'-]){NAME}(?:\s*\.\s*(?:{NAME}|\*)|\[\s*'[^']*'\s*
 LINK = re.compile(rf"({NAME}|\*)|\[\s*'([^']*)'\s*\]|\[[^\]']*\]")
 BEFORE_DOT = re.compile(rf"({CHAIN.pattern})\s*\.\s*({NAME})?$")
 BEFORE_WORD = re.compile(rf"(?<![\w.'-])({NAME})?$")
-# Where an operand has ended, an operator has to come before the next one.
+# After an operand comes an operator, not another operand.
 AFTER_OPERAND = re.compile(r"[\w')\].*-]\s*$")
 IN_BRACKET = re.compile(rf"({CHAIN.pattern})\[\s*'([^']*)$")
 MAX_LOOKED_AT = 2_000
@@ -24,14 +24,14 @@ STRING = re.compile(r"'(?:[^']|'')*'")
 
 
 class Before(NamedTuple):
-    """The chain of names before a cursor, and what is typed behind its last dot or bracket."""
+    """The chain of names before a cursor, and what is typed after its last dot or bracket."""
 
     chain: tuple[str, ...]
     typed: str
 
 
 class Property(NamedTuple):
-    """A name in an expression, a word on what it is, a sentence, and whether it has properties itself."""
+    """A name in an expression, what it is, a sentence on it, and whether it has properties."""
 
     name: str
     detail: str
@@ -40,7 +40,7 @@ class Property(NamedTuple):
 
 
 def expression_before(text: str, is_condition: bool) -> str | None:
-    """What stands of an expression at the end of a text, or None where none is open there."""
+    """The open expression at the end of a text, up to the end, or None if there is none."""
     start = text.rfind("${{")
     if start >= 0:
         expression = text[start + len("${{"):]
@@ -49,8 +49,8 @@ def expression_before(text: str, is_condition: bool) -> str | None:
 
 
 def chain_before(expression: str) -> Before | None:
-    """The chain at the end of an expression, which is looked for in its last 2,000 characters; None inside a text, and where an operator
-    is wanted."""
+    """The chain at the end of an expression, searched for in its last 2,000 characters. None inside a string, and where an operator is
+    expected."""
     bare = STRING.sub(lambda match: "'" + "_" * (len(match[0]) - 2) + "'", expression)
     expression = expression[-MAX_LOOKED_AT:]
     if bare.count("'") % 2:
@@ -66,20 +66,20 @@ def chain_before(expression: str) -> Before | None:
 
 
 def expressions_in(text: str) -> Iterator[tuple[int, str]]:
-    """The expressions in braces of a text, and where each begins behind its braces."""
+    """The expressions in braces of a text, and the offset of each."""
     end = 0
     while (start := text.find("${{", end)) >= 0 and (end := text.find("}}", start)) >= 0:
         yield start + len("${{"), text[start + len("${{"):end]
 
 
 def links(chain: str) -> tuple[str, ...]:
-    """The names of a chain; an index that is no text is `*`."""
+    """The names of a chain. An index that isn't a string is `*`."""
     return tuple(match[1] or match[2] or "*" for match in LINK.finditer(chain))
 
 
 @dataclass(frozen=True)
 class Scope:
-    """A place in a file at which an expression stands, and the file's tree."""
+    """The place of an expression in a file, and the file's tree."""
 
     project: Project
     file: str
@@ -92,7 +92,7 @@ class Scope:
         return str(self.path[1]) if is_workflow(self.file) and self.path[:1] == ("jobs",) and len(self.path) > 1 else None
 
     def contexts(self) -> list[Property]:
-        """The contexts that are available here, but those that have no properties."""
+        """The contexts that are available here and have properties."""
         found = available(self.file, self.path, self.levels)
         return [Property(name, "context", meaning("contexts", name), True) for name in (found[0] if found else [])
                 if name in ("env", "vars", "secrets") or self.properties((name,))]
@@ -102,7 +102,7 @@ class Scope:
         return found[1] if found else []
 
     def properties(self, chain: tuple[str, ...]) -> list[Property]:
-        """The properties of a context, or of one of its properties, as far as they are known."""
+        """The known properties of a context, or of one of its properties."""
         context = chain[0].lower()
         ways = {"needs": self._needs, "jobs": self._needs, "steps": self._steps, "matrix": self._matrix, "inputs": self._inputs,
                 "env": self._env, "secrets": self._secrets}
@@ -209,12 +209,12 @@ def property_of(declaration: Declaration, what: str) -> Property:
 
 
 def _same(names: list[str], wanted: str) -> str | None:
-    """The name that equals another one but for case."""
+    """The name that is equal to another one except for case."""
     return next((name for name in names if name.lower() == wanted.lower()), None)
 
 
 def _common_keys(row: Node) -> list[str]:
-    """The keys that all entries of a row have, where they are mappings."""
+    """The keys that all entries of a row have, if they are mappings."""
     if row.kind == "mapping":
         return row.names()
     if not row.items or any(item.kind != "mapping" for item in row.items):

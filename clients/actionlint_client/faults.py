@@ -1,4 +1,4 @@
-"""The faults of a folder by its files, read from one report after another."""
+"""The faults of each file of a folder, read from its reports."""
 from __future__ import annotations
 
 from bisect import bisect_left, bisect_right
@@ -14,7 +14,7 @@ MAX_REPORT_BYTES = 1_024 * 1_048_576
 
 
 class LongReport(Exception):
-    """A report has more bytes than are read, most of them of the file with this path."""
+    """A report has too many bytes, most of them for the file with this path."""
 
     def __init__(self, path: str):
         super().__init__(path)
@@ -23,7 +23,7 @@ class LongReport(Exception):
 
 @dataclass(frozen=True)
 class FileFaults:
-    """The first 1,000 faults of a file, in order, and how many there are besides."""
+    """The first 1,000 faults of a file, in order, and how many more there are."""
 
     faults: tuple[Fault, ...] = ()
     more: int = 0
@@ -34,8 +34,8 @@ NO_FAULTS = FileFaults()
 
 @dataclass(frozen=True)
 class Form:
-    """How a report is read: the paths of the folder's files, whether one of them holds a colon, so that a line can look like one of another
-    file, and whether the snippet of a file's line stands below each fault."""
+    """How to read a report: the paths of the folder's files, whether one of them contains a colon, so that its lines can look like another
+    file's, and whether a snippet follows each fault."""
 
     paths: Container[str]
     is_mistakable: bool
@@ -44,7 +44,7 @@ class Form:
 
 @dataclass
 class Part:
-    """What lines of one file say that stand together in a report, and how many bytes they have."""
+    """Consecutive lines of a report about one file, and their length in bytes."""
 
     path: str
     faults: list[Fault] = field(default_factory=list)
@@ -73,15 +73,15 @@ class Part:
 
 
 class FaultReader:
-    """Of a report only the lines of files that changed since the one before are parsed, unless it is too long to be held."""
+    """Parses only the lines of files that changed since the last report, unless a report is too long to keep."""
 
     def __init__(self) -> None:
         self.files: dict[str, FileFaults] = {}
         self._forget_report()
 
     def read(self, blocks: Iterable[bytes], form: Form) -> set[str]:
-        """Takes the report as it is now, and answers the files of which it says something else than the one before. Raises `LongReport`
-        where it has more than 32 MiB with snippets, or 1 GiB without, and then nothing is changed."""
+        """Takes the current report, and returns the files whose faults differ from the last one. Raises `LongReport` if it has more than 32
+        MiB with snippets or 1 GiB without; then nothing changes."""
         blocks = iter(blocks)
         held, size = [], 0
         for block in blocks:
@@ -93,7 +93,7 @@ class FaultReader:
 
     def _forget_report(self) -> None:
         self._report = b""
-        # Of each file in the report its path, and where its lines end.
+        # For each file in the report, its path and the end of its lines.
         self._paths: list[str] = []
         self._ends: list[int] = []
 
@@ -133,7 +133,7 @@ class FaultReader:
         return self._replace(gone, parts)
 
     def _replace(self, gone: list[str], parts: list[Part]) -> set[str]:
-        """Puts what parts say in the place of what was said of some files, and answers of which files something else is said now."""
+        """Replaces the faults of some files by those of the parts, and returns the files whose faults differ now."""
         before = {path: self.files.pop(path) for path in gone}
         joined: dict[str, Part] = {}
         for part in parts:
@@ -169,7 +169,7 @@ class FaultReader:
 
 
 def _add_lines(parts: list[Part], lines: list[bytes], form: Form) -> None:
-    """Adds what lines say behind what the lines before them said."""
+    """Appends what these lines say."""
     step = 1 + SNIPPET_LINES if form.snippets else 1
     if len(lines) % step:
         raise BadReport("it reported a line of a file that is cut")
@@ -190,7 +190,7 @@ def _add_lines(parts: list[Part], lines: list[bytes], form: Form) -> None:
 
 
 def _common_front(first: bytes, second: bytes) -> int:
-    """With how many equal bytes both begin."""
+    """The length of the longest common prefix."""
     low, high = 0, min(len(first), len(second))
     while low < high:
         middle = (low + high + 1) // 2
@@ -202,7 +202,7 @@ def _common_front(first: bytes, second: bytes) -> int:
 
 
 def _common_back(first: bytes, second: bytes) -> int:
-    """With how many equal bytes both end."""
+    """The length of the longest common suffix."""
     low, high = 0, min(len(first), len(second))
     while low < high:
         middle = (low + high + 1) // 2

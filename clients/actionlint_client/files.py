@@ -1,4 +1,4 @@
-"""The files that a repository's folder holds for the linter: what is on the disk, with unsaved buffers in place of saved files."""
+"""The files that the linter sees in a repository: those on disk, with unsaved buffers in place of saved files."""
 from __future__ import annotations
 
 from typing import Callable, Iterable
@@ -11,11 +11,11 @@ NO_CALLS: frozenset[str] = frozenset()
 
 
 class Files:
-    """The folder holds what `actionlint --root DIR` lints, the workflows and the actions that they call, and besides every file that is
-    open. `update` brings it there, and looks only at what was edited where that suffices."""
+    """The folder holds what `actionlint --root DIR` lints, the workflows and the actions that they call, and every open file. `update`
+    computes that, if possible from the edited files only."""
 
     def __init__(self, root: bytes, say: Callable[[str], None], keeps_calls: bool):
-        """With `keeps_calls` a file that is no YAML while it is edited still calls what it called before."""
+        """With `keeps_calls`, a file that isn't valid YAML while it is edited still calls what it called before."""
         self.wanted: dict[str, bytes] = {}
         self.unreadable: dict[str, str] = {}
         self._disk = Disk(root, say)
@@ -26,7 +26,7 @@ class Files:
         self._disk_may_differ = True
 
     def edit(self, path: str, data: bytes | None) -> None:
-        """The bytes of a file's buffer, or None where it is no longer open."""
+        """Sets the bytes of a file's buffer, or None if it is no longer open."""
         if data is None:
             self._buffers.pop(path, None)
             self._disk.forget([path])
@@ -35,21 +35,21 @@ class Files:
         self._edited.add(path)
 
     def rescan(self, changed: Iterable[str] = ()) -> None:
-        """Looks at the disk again, and reads the files of `changed` even where they look the same."""
+        """Looks at the disk again, and reads the files of `changed` even if they look the same."""
         linted = {path for path in changed if is_linted(path)}
         self._disk.forget(linted)
         self._edited |= linted
         self._disk_may_differ = True
 
     def read(self, path: str) -> bytes | None:
-        """The bytes of a file as it is now, of its buffer or of the disk, also where it isn't wanted; None where there is none."""
+        """The current bytes of a file, from its buffer or from disk, even if it isn't linted. None if there is no such file."""
         return self._data(path)
 
     def is_stale(self) -> bool:
         return self._disk_may_differ or bool(self._edited)
 
     def update(self) -> set[str]:
-        """Brings `wanted` and `unreadable` to what they are now, and answers at which paths they may have changed."""
+        """Updates `wanted` and `unreadable`, and returns the paths at which they may have changed."""
         edited, self._edited = self._edited, set()
         disk_differs = self._disk_may_differ and self._disk.rescan()
         self._disk_may_differ = False
@@ -62,7 +62,7 @@ class Files:
             path for path in {*unreadable, *self.unreadable} if unreadable.get(path) != self.unreadable.get(path)}
 
     def _stays_where_it_is(self, path: str) -> bool:
-        """Whether a file that was edited, here or on the disk, is still wanted, and calls what it called before."""
+        """Whether a file that was edited, here or on disk, is still wanted, and calls what it called before."""
         data = self._data(path)
         if path not in self.wanted or data is None or path not in self._buffers and path not in self._disk.workflows:
             return False
@@ -74,7 +74,7 @@ class Files:
         return self._disk.file(path).data if data is None else data
 
     def _find(self) -> None:
-        """The workflows, what is open, and the actions that these call, one after another."""
+        """The workflows, the open files, and the actions that these call, one after another."""
         self.wanted, self.unreadable = {}, {}
         seen: set[str] = set()
         waiting = [*self._disk.workflows, *self._buffers]

@@ -1,4 +1,4 @@
-"""Quick fixes: repairs of faults, each tried by the linter before it is offered."""
+"""Quick fixes: repairs of faults, each tried with the linter before it is offered."""
 from __future__ import annotations
 
 import re
@@ -30,14 +30,14 @@ REPAIRS: dict[str, tuple[Callable[[Case], Iterable[Repair]], ...]] = {
 
 
 class Fix(NamedTuple):
-    """A fault, and what mends it."""
+    """A fault and a repair for it."""
 
     fault: Fault
     repair: Repair
 
 
 def repairs(project: Project, fault: Fault) -> list[Repair]:
-    """What may mend a fault, the likeliest first."""
+    """Candidate repairs of a fault, the most likely first."""
     entry = entry_of(fault.message)
     if entry is None or entry.code not in REPAIRS:
         return []
@@ -49,9 +49,9 @@ def repairs(project: Project, fault: Fault) -> list[Repair]:
 
 
 def fixes(words: list[str], timeout: float, project: Project, faults: Iterable[Fault], earlier: Iterable[Fault] = ()) -> list[Fix]:
-    """Of the first 20 faults the repairs after which the linter reports the fault no more, and none that it didn't before: as many as could
-    be tried in a second. `words` start the linter. While a file is no YAML, `earlier` are the faults that it had when it was last; these
-    may come back."""
+    """For the first 20 faults, the repairs after which the linter no longer reports the fault, and none that it didn't report before, as
+    many as can be tried in a second. `words` start the linter. While a file isn't valid YAML, `earlier` are the faults that it had when it
+    last was; these may come back."""
     deadline = time.monotonic() + MAX_SECONDS
     mended: list[Fix] = []
     trial = None
@@ -74,15 +74,15 @@ def fixes(words: list[str], timeout: float, project: Project, faults: Iterable[F
 
 
 def _to_show(found: list[Repair]) -> list[Repair]:
-    """The first of each title; last resorts where there is nothing else."""
+    """The first repair with each title. Last resorts only if there are no others."""
     better = [repair for repair in found if not repair.is_last_resort]
     by_title = {repair.title: repair for repair in reversed(better or found)}
     return list(by_title.values())[::-1][:MAX_SHOWN]
 
 
 class Trial:
-    """A session of the linter with a file, what it calls and what calls it, so that the session of the folder never holds a text that isn't
-    the file's."""
+    """A session of its own, with a file, what it calls and what calls it, so that the folder's session never has a text that isn't the
+    file's."""
 
     def __init__(self, words: list[str], timeout: float, project: Project, file: str, max_files: int = MAX_FILES):
         self.session = Session(words, True, timeout)
@@ -94,14 +94,14 @@ class Trial:
         self._include([file, *callers])
 
     def mends(self, repair: Repair, fault: Fault) -> bool:
-        """Whether the report after a repair lacks the fault and has no other that is new."""
+        """Whether the report after a repair lacks the fault and has no new one."""
         changed = {path: replaced(self.project.text(path), edits) for path, edits in repair.edits.items()}
         after = self.faults_after(changed | repair.new_files)
         key = fault.path, fault.message
         return after[key] < self.before[key] and not after - self.before - self.earlier
 
     def faults_after(self, texts: dict[str, str]) -> Counter:
-        """The faults with other texts of some files; the session is then as before."""
+        """The faults if some files had other texts. The session is unchanged afterwards."""
         called = [path for text in texts.values() for path in self._called(text)]
         self._include([*(path for path in texts if self.project.has(path)), *called])
         for path, text in texts.items():
@@ -118,7 +118,7 @@ class Trial:
         return _counted(parse_report(self.session.report(MAX_REPORT_BYTES), False))
 
     def _include(self, paths: list[str]) -> None:
-        """Puts files, and what they call, one after another, as far as they aren't there; not more than a number of them."""
+        """Puts files and what they call, one after another, if they aren't there yet and up to a limit."""
         waiting = [path for path in paths if path not in self.texts]
         if not waiting:
             return
@@ -140,7 +140,7 @@ class Trial:
 
 
 def _counted(faults: Iterable[Fault]) -> Counter:
-    """How often each file has each message: places may move."""
+    """How often each file has each message. Places aren't compared, since they may move."""
     return Counter((fault.path, fault.message) for fault in faults)
 
 

@@ -1,7 +1,7 @@
 """The files of one repository as the linter sees them, and their faults.
 
-After each change `refresh` brings the session to what the folder should hold by puts and deletes, and reads one report. What was put is
-compared with what is wanted, so that an edit, a change of the disk, a refusal and a new linter all go one way.
+After each change `refresh` sends puts and deletes until the session has the files that it should have, and reads one report. The last puts
+are compared with the wanted files, so edits, changes on disk, refusals and new linters are handled alike.
 """
 from __future__ import annotations
 
@@ -32,7 +32,7 @@ REASONS = {
 
 @dataclass(frozen=True)
 class Program:
-    """The linter's words, and the seconds in which it has to answer."""
+    """The linter's command, and how many seconds it may take to answer."""
 
     words: list[str]
     timeout: float
@@ -40,8 +40,8 @@ class Program:
 
 @dataclass(frozen=True)
 class Result:
-    """The faults of each file that has some, of each file that isn't linted the reason, and of which files one of these or the bytes may be
-    others than in the result before."""
+    """The faults of each file that has some, the reason for each file that isn't linted, and the files for which one of these or the bytes
+    may differ from the last result."""
 
     faults: dict[str, FileFaults]
     refused: dict[str, str]
@@ -58,7 +58,7 @@ class PutFile:
 
 @dataclass
 class LeftOut:
-    """Bytes of a file that aren't put any more, once the linter ended at them so often, and what is said in place of a reply."""
+    """Bytes of a file that are no longer put, since the linter ended at them too often, and what stands for the reply."""
 
     data: bytes
     reply: str
@@ -66,7 +66,7 @@ class LeftOut:
 
 
 class Restarts:
-    """How often the linter ended lately. After four times within a minute it isn't started for ten seconds."""
+    """How often the linter ended lately. After four times in a minute it isn't started for ten seconds."""
 
     MAX_ENDS, WITHIN_SECONDS, PAUSE_SECONDS = 4, 60.0, 10.0
 
@@ -74,7 +74,7 @@ class Restarts:
         self._ends: list[float] = []
 
     def note(self, is_hopeless: bool) -> None:
-        """An end; a hopeless one counts for four, as where the linter is silent, which takes its time each time."""
+        """Notes an end. A hopeless one counts four times, such as that of a linter that is silent until it times out."""
         self._ends += [time.monotonic()] * (self.MAX_ENDS if is_hopeless else 1)
 
     def delay(self) -> float:
@@ -92,26 +92,26 @@ class Folder:
         self._session: Session | None = None
         self._oneline = False
         self._put_files: dict[str, PutFile] = {}
-        # Of the files that were put those that the session holds, those of them with a colon, and the reasons for those it doesn't hold.
+        # The put files that the session has, those of them with a colon, and the reasons for those that it refused.
         self._held: set[str] = set()
         self._with_colon: set[str] = set()
         self._refused: dict[str, str] = {}
         self._left_out: dict[str, LeftOut] = {}
         self._restarts = Restarts()
-        # What was said last of a linter that can't be started.
+        # The last message about a linter that can't be started.
         self._missing = ""
         self._reader = FaultReader()
-        # What may differ from what was put, whether the faults may, and what may differ from the last result.
+        # The files that may differ from the last put, whether a report is needed, and the files that may differ from the last result.
         self._unsent: set[str] = set()
         self._needs_report = False
         self._untold: set[str] = set()
 
     def edit(self, path: str, data: bytes | None) -> None:
-        """The bytes of a file's buffer, or None where it is no longer open."""
+        """Sets the bytes of a file's buffer, or None if it is no longer open."""
         self._files.edit(path, data)
 
     def read(self, path: str) -> bytes | None:
-        """The bytes of a file as it is now, of its buffer or of the disk; None where there is none."""
+        """The current bytes of a file, from its buffer or from disk, or None if there is no such file."""
         return self._files.read(path)
 
     def paths(self) -> list[str]:
@@ -119,11 +119,11 @@ class Folder:
         return list(self._files.wanted)
 
     def rescan(self, changed: Iterable[str] = ()) -> None:
-        """Looks at the disk again, and reads the files of `changed` even where they look the same."""
+        """Looks at the disk again, and reads the files of `changed` even if they look the same."""
         self._files.rescan(changed)
 
     def refresh(self) -> Result | None:
-        """The faults of the folder as it is now, or None where the linter can't be had: then `delay` seconds should pass first."""
+        """The current faults of the folder, or None if no linter can be run; then `delay` seconds should pass before the next try."""
         while self.delay() == 0:
             try:
                 return self._refresh()
@@ -179,7 +179,7 @@ class Folder:
         self._needs_report = False
 
     def _take_long_report(self, path: str) -> None:
-        """Without the snippets the report is shorter, and then without the file that has the most of it."""
+        """Makes the next report shorter: first without snippets, then without the file that has most of it."""
         if self._oneline:
             self._left_out[path] = LeftOut(self._put_files[path].data, REPORTS_TOO_MUCH)
         self._oneline = True
@@ -192,7 +192,7 @@ class Folder:
         self._needs_report = False
 
     def _send_changes(self) -> None:
-        """Brings the session to what is wanted."""
+        """Sends what differs from the wanted files."""
         wanted = self._files.wanted
         for path in [path for path in self._unsent if path not in wanted]:
             self._delete(path)
@@ -201,13 +201,13 @@ class Folder:
         if len(self._held) < MAX_FILES and REASONS[FULL] in self._refused.values():
             self._unsent |= self._put_files.keys() - self._held
         differing = [path for path in self._unsent if path in wanted and self._differs(path, wanted[path])]
-        # Actions come first, so that at the start no caller is checked once more for each action that comes behind it.
+        # Actions come first: a caller that is put before them is checked again for each.
         for path in sorted(differing, key=lambda path: (is_workflow(path), path)):
             self._put(path, wanted[path])
         self._unsent.clear()
 
     def _differs(self, path: str, data: bytes) -> bool:
-        """Whether the last put of a file was of other bytes, or found no room."""
+        """Whether the last put of a file had other bytes, or found the folder full."""
         put = self._put_files.get(path)
         return put is None or put.data is not data and put.data != data or put.reply == FULL
 
@@ -221,14 +221,14 @@ class Folder:
             self._left_out.pop(path, None)
             self._needs_report |= reply != "ok 0"
         else:
-            # After a refusal the session holds the text from before, which is no longer the file's.
+            # After a refusal the session still has the old text.
             self._delete(path)
             self._refused[path] = REASONS.get(reply, reply)
         self._put_files[path] = PutFile(data, reply)
 
     def _reply_to_put(self, path: str, data: bytes) -> str:
-        """The session's reply, or a refusal here: of a path that a command's line can't hold, which would end the session instead of being
-        refused, and of bytes that are left out."""
+        """The session's reply. A path that doesn't fit into a command's line would end the session, so it is refused here, and so are bytes
+        that are left out."""
         if "\n" in path or len(path.encode("utf-8")) > MAX_PATH_BYTES:
             return BAD_PATH
         left_out = self._left_out.get(path)

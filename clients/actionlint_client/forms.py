@@ -1,4 +1,4 @@
-"""The forms of a report that programs read line by line or as a list: lines of JSON, GitLab's Code Quality, GitHub's annotations."""
+"""Report formats for programs: lines of JSON, GitLab's Code Quality, GitHub's annotations."""
 from __future__ import annotations
 
 import hashlib
@@ -12,8 +12,8 @@ from .problems import Problem
 
 @dataclass
 class Outcome:
-    """What a run came to: the status, what its programs wrote on standard error, how many faults and notes of shellcheck were told,
-    in which files, and how many were ignored."""
+    """The result of a run: its status, what was printed on standard error, and how many faults and notes of shellcheck were reported, in
+    which files, and ignored."""
 
     status: int = 0
     errors: str = ""
@@ -23,20 +23,24 @@ class Outcome:
     files: set[str] = field(default_factory=set)
 
     def count(self, problem: Problem) -> None:
-        """Counts a problem that is told."""
+        """Counts a reported problem."""
         self.files.add(problem.fault.path)
         if problem.is_note():
             self.notes += 1
         else:
             self.faults += 1
 
+    def is_known(self) -> bool:
+        """Whether the linter ran to its end, so that all faults are known."""
+        return self.status in (0, 1)
+
     def say(self, line: str) -> None:
-        """Adds a line to what was written on standard error."""
+        """Adds a line to what was printed on standard error."""
         self.errors += f"actionlint-report: {line}\n"
 
     def count_line(self) -> str:
-        """The count, in words; of a run that could not go on nothing is known."""
-        if self.status not in (0, 1):
+        """The counts, in words."""
+        if not self.is_known():
             return "nothing is known of the faults: the linter could not go on"
         found = [_counted(self.faults, "fault"), *([f"{_counted(self.notes, 'note')} of shellcheck (not proved)"] if self.notes else [])]
         return (" and ".join(found) + (f" in {_counted(len(self.files), 'file')}" if self.files else "")
@@ -46,9 +50,10 @@ class Outcome:
 class Form:
     """Writes problems as they come. `docs` is the address of the pages of faults."""
 
-    # Whether the form itself tells what was on standard error, and the count.
+    # Whether the report has what was on standard error, the count, and the fact that the linter could not go on.
     tells_errors = False
     tells_count = False
+    tells_failure = False
 
     def __init__(self, out: BinaryIO, docs: str | None):
         self._out = out
@@ -69,19 +74,18 @@ class Form:
 
 
 class JsonLines(Form):
-    """A line of JSON for each problem: lines and columns count from 1, columns characters; `end_column` is the column behind the last
-    one."""
+    """A line of JSON for each problem. Lines and columns count from 1, in characters; `end_column` is one past the last."""
 
     def add(self, problem: Problem) -> None:
         fault = problem.fault
         self.write(json_text({
             "path": fault.path, "line": fault.line, "column": fault.column,
             "end_column": fault.column + fault.width if fault.width else None, "code": problem.code if problem.has_code() else None,
-            "kind": fault.kind, "message": fault.message, "link": problem.link_in(self.docs)}) + "\n")
+            "kind": fault.kind, "level": problem.level, "message": fault.message, "link": problem.link_in(self.docs)}) + "\n")
 
 
 class CodeQuality(Form):
-    """GitLab's list of problems. A fingerprint stays the same while a fault's line moves, and no two are the same."""
+    """GitLab's list of problems. Fingerprints are unique, and don't change when a fault's line moves."""
 
     SEVERITIES = {"error": "major", "warning": "minor", "note": "info"}
 
@@ -95,8 +99,9 @@ class CodeQuality(Form):
     def add(self, problem: Problem) -> None:
         fault = problem.fault
         same = _digest(fault.path, problem.code, fault.message)
+        separator = "," if self._seen else ""
         self._seen[same] += 1
-        self.write(("," if self._seen.total() > 1 else "") + "\n" + json_text({
+        self.write(separator + "\n" + json_text({
             "description": fault.message, "check_name": problem.code, "fingerprint": _digest(same, str(self._seen[same])),
             "severity": self.SEVERITIES[problem.level], "location": {"path": fault.path, "lines": {"begin": fault.line}}}))
 
@@ -105,10 +110,10 @@ class CodeQuality(Form):
 
 
 class Annotations(Form):
-    """Workflow commands of GitHub, each of which becomes an annotation. Whatever a file, a path or standard error holds stands in the text
-    of one, so that it gives no command itself."""
+    """GitHub's workflow commands, each of which becomes an annotation. Text from files, paths and standard error is escaped, so that it
+    can't give commands."""
 
-    tells_errors = tells_count = True
+    tells_errors = tells_count = tells_failure = True
     COMMANDS = {"error": "error", "warning": "warning", "note": "notice"}
 
     def add(self, problem: Problem) -> None:

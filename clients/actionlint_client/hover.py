@@ -1,4 +1,4 @@
-"""Hovering shows the entries of the faults at a place, and elsewhere what the name there means."""
+"""Hovering: the entries of the faults at a place, or else the meaning of the name there."""
 from __future__ import annotations
 
 from . import entries

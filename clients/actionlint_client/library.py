@@ -1,22 +1,26 @@
-"""Finds the libraries of the clients, also for a `python3` that isn't Debian's own."""
+"""Finds the libraries of the clients, even for a `python3` that isn't Debian's."""
 from __future__ import annotations
 
 import importlib.util
 import sys
+from typing import Iterable
 
 DEBIAN_FOLDER = "/usr/lib/python3/dist-packages"
-# What the language server needs, and the package of each.
+# The libraries of the language server, and the package of each.
 DEBIAN_PACKAGES = {"pylsp_jsonrpc": "python3-pylsp-jsonrpc", "yaml": "python3-yaml"}
 
 
-def find(name: str) -> bool:
-    """Whether a library can be imported. The folder of Debian's packages is added to the end of `sys.path` where that is needed: without
-    what is compiled for another python3 the libraries are Python alone."""
+def missing(names: Iterable[str] = DEBIAN_PACKAGES) -> str:
+    """Says which libraries can't be imported, and is empty if all can. If need be, adds the folder of Debian's packages to the end of
+    `sys.path`. A python3 of another version then uses their parts in Python alone."""
+    absent = [name for name in names if not _find(name)]
+    if not absent:
+        return ""
+    packages = " ".join(DEBIAN_PACKAGES[name] for name in absent)
+    return f"{sys.executable} has no {', '.join(absent)} (Debian: apt-get install {packages})"
+
+
+def _find(name: str) -> bool:
     if importlib.util.find_spec(name) is None and DEBIAN_FOLDER not in sys.path:
         sys.path.append(DEBIAN_FOLDER)
     return importlib.util.find_spec(name) is not None
-
-
-def missing() -> list[str]:
-    """The libraries of the language server that can't be imported."""
-    return [name for name in DEBIAN_PACKAGES if not find(name)]

@@ -1,4 +1,4 @@
-"""A run of the linter over a folder, whose faults are read as they are printed."""
+"""A run of the linter on a folder. The faults are read as they are printed."""
 from __future__ import annotations
 
 import subprocess
@@ -18,20 +18,20 @@ class CannotStart(Exception):
 
 
 class ReportTooLong(Exception):
-    """A report with the lines of files has more bytes than are read of one: a line is printed once for each fault on it."""
+    """A report with source lines has too many bytes: a line is printed once for each fault on it."""
 
 
 @dataclass(frozen=True)
 class Reported:
-    """A fault and the three lines below it, which are the file's line between a bar and the marks; none where they weren't asked for."""
+    """A fault and the three lines below it: the source line between a bar and the marks. None if they weren't asked for."""
 
     fault: Fault
     snippet: tuple[bytes, ...]
 
 
 class LintRun:
-    """The faults of a folder, or of files below it; `status` and `errors` stand once all of them were read. With snippets the faults have
-    widths."""
+    """The faults of a folder, or of some of its files. `status` and `errors` are valid once all faults are read. Only snippets tell the
+    widths of faults."""
 
     def __init__(self, program: str, root: str | None, files: list[str], snippets: bool):
         words = [program, *([] if snippets else ["--oneline"]), *([f"--root={root}"] if root is not None else []), "--", *files]
@@ -49,7 +49,7 @@ class LintRun:
         return self
 
     def __exit__(self, *_: object) -> None:
-        """Ends the linter where it still runs."""
+        """Stops the linter if it is still running."""
         assert self._child.stdout
         self._child.kill()
         self._child.stdout.close()
@@ -72,7 +72,7 @@ class LintRun:
         return 1 + SNIPPET_LINES if self._snippets else 1
 
     def _groups(self) -> Iterator[list[bytes]]:
-        """The lines of each fault; the last one's may be cut."""
+        """The lines of each fault. The last fault's may be incomplete."""
         assert self._child.stdout
         size, group = 0, []
         for line in self._child.stdout:

@@ -1,65 +1,70 @@
 """The editor's messages, read by a thread of their own."""
 from __future__ import annotations
 
+import json
 import logging
 import queue
 import threading
-from typing import BinaryIO
+from typing import BinaryIO, Callable, Union
 
+from pylsp_jsonrpc.exceptions import JsonRpcException, JsonRpcInvalidRequest, JsonRpcParseError
 from pylsp_jsonrpc.streams import JsonRpcStreamReader
 
-END = object()
+# A message, the error that answers what is none, or None for the end of the input.
+Taken = Union[dict, JsonRpcException, None]
 
 
 class Reader(JsonRpcStreamReader):
-    """Where a header doesn't begin with a length, no later message can be found, and the input ends."""
+    """The library's reader takes the length from the first header field alone, and only logs what isn't JSON."""
 
-    def _read_message(self):
-        try:
-            return super()._read_message()
-        except ValueError as error:
-            logging.error("the input is no message: %s", error)
-            return None
+    def listen(self, message_consumer: Callable[[Taken], None]) -> None:
+        """Reads to the end. Raises ValueError if no header field tells a message's length."""
+        while (body := self._read_message()) is not None:
+            message_consumer(_parse(body))
 
-    @staticmethod
-    def _content_length(line: bytes) -> int:
-        length = JsonRpcStreamReader._content_length(line)
-        if length is None or length < 0:
-            raise ValueError(f"a header begins with {line[:100]!r}")
-        return length
+    def _content_length(self, line: bytes) -> int:
+        """The length in a header that begins with this line. Its fields come in any order, and their names in any case."""
+        while line.strip():
+            name, _, value = line.partition(b":")
+            if name.lower() == b"content-length" and int(value) >= 0:
+                return int(value)
+            line = self._rfile.readline()
+        raise ValueError("a message without a length")
 
 
 class Messages:
-    """What the editor sent and nobody took yet, in order; behind the last one stands END."""
+    """The editor's messages that nobody has taken yet, in order."""
 
     def __init__(self, stdin: BinaryIO):
-        self._queue: queue.SimpleQueue = queue.SimpleQueue()
+        self._queue: queue.SimpleQueue[Taken] = queue.SimpleQueue()
         self._reader = Reader(stdin)
 
     def start(self) -> None:
         threading.Thread(target=self._listen, daemon=True).start()
 
-    def take(self, seconds: float | None) -> object:
-        """The next message, of whatever type its JSON is. `queue.Empty` is raised where none came within these seconds."""
+    def take(self, seconds: float | None) -> Taken:
+        """The next message. Raises `queue.Empty` if none came within these seconds."""
         return self._queue.get(timeout=seconds)
 
     def is_empty(self) -> bool:
         return self._queue.empty()
 
     def _listen(self) -> None:
+        """Reads to the end. Without a length no later message can be found, so that ends the input too."""
         try:
-            while self._has_more():
-                pass
+            self._reader.listen(self._queue.put)
         except Exception:
             logging.exception("the input can't be read on")
         finally:
-            self._queue.put(END)
+            self._queue.put(None)
 
-    def _has_more(self) -> bool:
-        """Reads to the end, or to a message that is too deep for Python's own json, which the library doesn't expect."""
-        try:
-            self._reader.listen(self._queue.put)
-            return False
-        except RecursionError:
-            logging.error("a message is nested too deeply")
-            return True
+
+def _parse(body: bytes) -> Taken:
+    """The message with this body, or the error that answers it."""
+    try:
+        message = json.loads(body)
+    except (ValueError, RecursionError) as error:
+        return JsonRpcParseError(f"no JSON: {error}")
+    if not isinstance(message, dict) or message.get("jsonrpc") != "2.0" or not isinstance(message.get("method", ""), str):
+        return JsonRpcInvalidRequest("no message of JSON-RPC 2.0")
+    return message

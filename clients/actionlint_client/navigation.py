@@ -13,15 +13,7 @@ from .workspace import Workspace
 
 START = Span(Point(0, 0), Point(0, 0))
 WRITE, READ = 3, 2
-
-
-class RenameRefused(JsonRpcException):
-    """The protocol's RequestFailed, with what is told to the person."""
-
-    CODE = -32803
-
-    def __init__(self, refusal: Refusal):
-        super().__init__(message=f"actionlint: {refusal}", code=self.CODE)
+REQUEST_FAILED = -32803
 
 
 class Navigation:
@@ -81,4 +73,4 @@ class Navigation:
         try:
             return workspace_edit(place.repository, rename(self._program, place.project, place.file, place.point, newName))
         except Refusal as refusal:
-            raise RenameRefused(refusal) from refusal
+            raise JsonRpcException(f"actionlint: {refusal}", REQUEST_FAILED) from refusal

@@ -1,23 +1,26 @@
-"""The options of the language server; `--help` and `--version` need none of its libraries."""
+"""The options of the language server. This imports none of its libraries, so that `--help` and `--version` work without them."""
 from __future__ import annotations
 
 import argparse
 
-from .program import WHICH, default_program
+from .program import WHICH, find_program
 from .version import version
 
 
 def options(words: list[str] | None = None) -> argparse.Namespace:
-    """The options that words give, by default those of the command line. Ends the program where they are wrong or ask for help."""
+    """The options, by default those of the command line. Ends the program if they are wrong or ask for help."""
     parser = argparse.ArgumentParser(prog="actionlint-lsp", description="A language server that shows the faults of actionlint.")
-    parser.add_argument("--program", default=default_program(), help=f"the linter (default: {WHICH})")
+    parser.add_argument("--program", help=f"the linter (default: {WHICH})")
     parser.add_argument("--docs", metavar="ADDRESS",
                         help="the address of the pages of faults, for links (default: the folder docs beside clients)")
     parser.add_argument("--no-earlier-faults", action="store_true",
-                        help="while a file is no YAML, don't show beside that the faults that it had when it was last")
-    parser.add_argument("--log", metavar="FILE", help="a file for what goes wrong (default: standard error)")
+                        help="while a file isn't valid YAML, don't keep showing its earlier faults")
+    parser.add_argument("--log", metavar="FILE", help="the file for error messages (default: standard error)")
     parser.add_argument("--timeout", metavar="SECONDS", type=float, default=20.0,
-                        help="the seconds in which the linter has to answer (default: %(default)s)")
-    parser.add_argument("--stdio", action="store_true", help="speak over standard input and output, as it does in any case")
+                        help="how long the linter may take to answer (default: %(default)s)")
+    parser.add_argument("--stdio", action="store_true", help="use standard input and output, which is the default")
     parser.add_argument("--version", action="version", version=f"%(prog)s {version() or 'without a version'}")
-    return parser.parse_args(words)
+    given = parser.parse_args(words)
+    given.program = find_program(given.program)
+    given.docs = given.docs and given.docs.rstrip("/")
+    return given

@@ -1,4 +1,4 @@
-"""Where a report goes: to standard output, or to a file, whose new text takes the old one's place when all of it is written."""
+"""The output of a report: standard output, or a file that is replaced once the report is complete."""
 from __future__ import annotations
 
 import errno
@@ -18,9 +18,8 @@ NEW_FILE = os.O_WRONLY | os.O_CREAT | os.O_EXCL | os.O_NOFOLLOW | os.O_CLOEXEC
 
 @contextmanager
 def report_output(file: str | None) -> Iterator[BinaryIO]:
-    """What is written goes to the file, or to standard output, when the block ends without an exception; else nothing is changed. OSError
-    where it can't: where something stands there that is no regular file itself (a link, a pipe, a device), or a link leads there from the
-    current folder on."""
+    """What is written reaches the file or standard output only when the block ends without an exception. Raises OSError if it can't,
+    because something else than a regular file has the name (a link, a pipe, a device), or a link below the current folder leads there."""
     if file is None:
         with tempfile.TemporaryFile() as spool:
             yield spool
@@ -37,7 +36,7 @@ def report_output(file: str | None) -> Iterator[BinaryIO]:
 
 @contextmanager
 def _replaced(folder: int, name: str) -> Iterator[BinaryIO]:
-    """A new file in a folder that gets the name in the end."""
+    """A new file in a folder that gets the name at the end."""
     _refuse_odd(folder, name)
     beside = f".actionlint-report.{secrets.token_hex(8)}"
     handle = os.open(beside, NEW_FILE, 0o666, dir_fd=folder)
@@ -60,7 +59,7 @@ def _refuse_odd(folder: int, name: str) -> None:
 
 
 def _open_folder(path: str) -> int:
-    """A folder; below the current one no link is followed."""
+    """A folder. No link below the current folder is followed."""
     if os.path.isabs(path):
         return os.open(path, FOLDER)
     folder = os.open(".", FOLDER)
@@ -75,7 +74,7 @@ def _open_folder(path: str) -> int:
 
 
 class _StandardOutput:
-    """Writes all bytes at once, also where the output is set not to block."""
+    """Writes all bytes, even to non-blocking output."""
 
     @staticmethod
     def write(data: bytes) -> None:

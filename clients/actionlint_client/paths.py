@@ -1,4 +1,4 @@
-"""Which files are linted, by their paths below the repository's folder."""
+"""Which files are linted, by their paths relative to the repository's folder."""
 from __future__ import annotations
 
 import re
@@ -21,15 +21,15 @@ def is_action(path: str) -> bool:
 
 
 def is_linted(path: str) -> bool:
-    """Whether a file is a workflow or an action. What else the linter asks of a path is told by its refusal."""
+    """Whether a file is a workflow or an action. The linter itself refuses paths that are wrong in other ways."""
     return is_workflow(path) or is_action(path)
 
 
 def is_path(path: str) -> bool:
-    """Whether a command of the session can name a file so."""
+    """Whether a path can be used in a command of the session."""
     return NO_PATH.search(path) is None and len(path.encode("utf-8", "surrogatepass")) <= MAX_PATH_BYTES
 
 
 def is_below(path: bytes, folder: bytes) -> bool:
-    """Whether a whole path is that of a folder or of something in it."""
+    """Whether an absolute path is a folder or in it."""
     return path == folder or path.startswith(folder.rstrip(b"/") + b"/")

@@ -1,4 +1,5 @@
-"""Where a cursor stands, by the indents of the lines around it: also in a text that is no YAML, as where a key is half typed."""
+"""The place of a cursor, by the indentation of the lines around it, so that it is known in text that isn't YAML too, such as a half-typed
+key."""
 from __future__ import annotations
 
 import re
@@ -11,7 +12,7 @@ from .tree import Path, Point, Span
 
 DASH = re.compile(r"-(?= |$)")
 KEY = re.compile(r"""(?:"((?:[^"\\]|\\.)*)" *|'((?:[^']|'')*)' *|([^\s\[\]{},"'|>%@`#&*!-][^#]*?|-[^\s#][^#]*?)):(?=\s|$)""")
-# What stands behind a key whose value is still to come, in the lines below.
+# What can follow a key whose value is in the lines below.
 NO_VALUE = re.compile(r"(?:[&!]\S+\s*)*(?:#.*)?")
 BLOCK_SCALAR = re.compile(r"(?:[&!]\S+ +)*[|>][-+0-9]*\s*(?:#.*)?$")
 FLOW_TOKEN = re.compile(r"""\s+|\#[^\n]*|"(?:[^"\\]|\\.)*"?|'(?:[^']|'')*'?|[\[\]{},]|:(?=[\s,\[\]{}]|$)"""
@@ -19,7 +20,7 @@ FLOW_TOKEN = re.compile(r"""\s+|\#[^\n]*|"(?:[^"\\]|\\.)*"?|'(?:[^']|'')*'?|[\[\
 WORD = re.compile(r"(?:[^\s,\[\]{}'\":]|:(?!\s|$))*")
 COLON = re.compile(r"['\"]? *:(?:\s|$)")
 MAX_FLOW_LINES = 100
-# No file that the linter reads is so deep.
+# No file that the linter accepts is as deep.
 MAX_DEPTH = 100
 UNKNOWN: tuple[Path, tuple[dict[str, str], ...]] = ("",), ({},)
 
@@ -32,10 +33,10 @@ class Role(Enum):
 
 @dataclass(frozen=True)
 class Place:
-    """What stands under the cursor: a key of the mapping at `path`, or its value. `typed` is what stands of it before the cursor, and
-    `before` all of the value's text up to there. `siblings` are the other keys of the mapping, or entries of the list, with the texts of
-    their values; `around` the same for each key of the path. Below a key that has its value on its own line nothing begins: the place is
-    `taken`, though a text may go on there."""
+    """What the cursor is on: a key of the mapping at `path`, or its value. `typed` is the part of it before the cursor, and `before` the
+    value's whole text up to there. `siblings` are the other keys of the mapping with the texts of their values, or the other entries of the
+    list, and `around` has the same for each key of the path. Below a key with a value on its own line nothing can begin: the place is
+    `taken`, though text may continue there."""
 
     path: Path
     role: Role
@@ -51,7 +52,7 @@ class Place:
 
 
 class Element(NamedTuple):
-    """A dash, whose name is None, or a key, with its first column, and the one behind the dash or the colon."""
+    """A dash (without a name) or a key: its first column, and the one after the dash or the colon."""
 
     column: int
     name: str | None
@@ -60,7 +61,7 @@ class Element(NamedTuple):
 
 @dataclass
 class Line:
-    """A line's indent, its dashes and key, and what stands behind them. Of a line in a block scalar `owner` is the line of its header."""
+    """A line's indentation, its dashes and key, and the rest. In a block scalar, `owner` is the line of its header."""
 
     indent: int
     elements: list[Element] = field(default_factory=list)
@@ -91,7 +92,7 @@ class Outline:
             block = (number, elements[-1].column) if is_block else None
 
     def place(self, point: Point) -> Place:
-        """The place of a point, which lies in the text."""
+        """The place of a point in the text."""
         line = self.lines[point.line]
         if line.owner is not None and (self.texts[point.line].strip() or point.column > self.lines[line.owner].elements[-1].column):
             return self._place_in_block_scalar(line.owner, point)
@@ -129,7 +130,7 @@ class Outline:
         return Place(path, role, span, word, typed, text[start:point.column], siblings, around, has_colon)
 
     def _value(self, point: Point, elements: list[Element]) -> Place:
-        """A value behind a key on its line."""
+        """A value after a key on the same line."""
         path, around = self._way(point.line, elements)
         start = elements[-1].end
         start += len(self.texts[point.line][start:point.column]) - len(self.texts[point.line][start:point.column].lstrip(" "))
@@ -137,7 +138,7 @@ class Outline:
         return Place(path, Role.VALUE, span, word, typed, self.texts[point.line][start:point.column], {}, around)
 
     def _word(self, point: Point, start: int) -> tuple[Span, str, str]:
-        """The scalar under the point, from a column on: in quotes all that stands between them, else up to the next space."""
+        """The scalar at the point, from a column on: all that is between quotes, or up to the next space."""
         text = self.texts[point.line]
         if text[start:start + 1] in ("'", '"') and start < point.column:
             start += 1
@@ -148,7 +149,7 @@ class Outline:
         return Span(Point(point.line, start), Point(point.line, end)), text[start:end], text[start:point.column]
 
     def _place_in_flow(self, point: Point) -> Place | None:
-        """The place in a list or a mapping in brackets, or None where the point is in none."""
+        """The place in a flow sequence or mapping, or None if the point isn't in one."""
         for number in range(point.line, max(point.line - MAX_FLOW_LINES, -1), -1):
             line = self.lines[number]
             if line.owner is not None or not line.is_structure:
@@ -184,7 +185,7 @@ class Outline:
                      siblings, (*around, *beside)[:len(full)], has_colon, True)
 
     def _way(self, number: int, elements: list[Element], depth: int = 0) -> tuple[Path, tuple[dict[str, str], ...]]:
-        """The path to the last of a line's elements, and what stands beside each of its keys. Below too many levels it is of no file."""
+        """The path to the last of a line's elements, and what is beside each of its keys. UNKNOWN if there are too many levels."""
         if depth > MAX_DEPTH:
             return UNKNOWN
         path: list[str | int] = []
@@ -199,7 +200,7 @@ class Outline:
         return (*above, *path), (*beside, *around)
 
     def _way_of_column(self, number: int, column: int, is_dash: bool = False, depth: int = 0) -> tuple[Path, tuple[dict[str, str], ...]]:
-        """The path to what a line that begins at a column belongs to. A list may begin at the column of its key."""
+        """The path to the parent of a line that begins at a column. A list may begin at the column of its key."""
         for above in range(number - 1, -1, -1):
             elements = self.lines[above].elements
             if not elements or elements[0].column > column:
@@ -211,8 +212,8 @@ class Outline:
         return (), ()
 
     def _value_above(self, number: int, column: int) -> str | None:
-        """The text of the value that begins on the line of the key to which a line that begins at a column belongs, up to that line; None
-        where none begins there."""
+        """The text, up to this line, of a value that begins on the line of the parent key of a line that begins at a column. None if no
+        value begins there."""
         for above in range(number - 1, -1, -1):
             line = self.lines[above]
             if line.elements and line.elements[0].column < column:
@@ -222,7 +223,7 @@ class Outline:
         return None
 
     def _position(self, number: int, column: int) -> int:
-        """How many dashes of the same list stand above."""
+        """How many dashes of the same list are above."""
         count = 0
         for above in range(number - 1, -1, -1):
             elements = self.lines[above].elements
@@ -237,8 +238,8 @@ class Outline:
         return count
 
     def _keys_beside(self, number: int, column: int, with_own: bool = True) -> dict[str, str]:
-        """The keys that begin at a column around a line, up to lines that begin before it, with the texts behind them. The line's own
-        key can be left out."""
+        """The keys that begin at a column around a line, with the texts after them, up to lines that begin before that column. The line's
+        own key can be left out."""
         found: dict[str, str] = {}
         own = self.lines[number]
         is_first = any(element.name is None and element.column < column for element in own.elements)
@@ -253,7 +254,7 @@ class Outline:
         return found
 
     def _add_key(self, number: int, column: int, found: dict[str, str]) -> bool:
-        """Whether the mapping may begin still further above."""
+        """Whether the mapping may begin further above."""
         line = self.lines[number]
         for element in line.elements:
             if element.name is not None and element.column == column:
@@ -263,7 +264,7 @@ class Outline:
 
 @dataclass
 class Frame:
-    """An open list with the number of its entry, or an open mapping with its key, and the keys with texts of values so far."""
+    """An open sequence with the index of its entry, or an open mapping with its key, and the keys so far with the texts of their values."""
 
     step: str | int
     keys: dict[str, str] | None
@@ -271,7 +272,7 @@ class Frame:
 
 
 class FlowReader:
-    """Reads a text that begins with a bracket up to the end of its last line, and keeps what is open at the cursor."""
+    """Reads a text that begins with a bracket to the end of its last line, and notes what is open at the cursor."""
 
     def __init__(self, cursor: int):
         self.cursor = cursor
@@ -298,7 +299,7 @@ class FlowReader:
         frame = self._open[-1]
         role = Role.VALUE if frame.keys is None or frame.has_value else Role.KEY
         self.value_before = typed
-        # Steps are those at the cursor; keys that stand behind it are added to the mappings.
+        # Steps are those at the cursor. Keys after it are still added to the mappings.
         self.found = ([Frame(open_.step, open_.keys) for open_ in self._open], role, typed[1:] if typed[:1] in ("'", '"') else typed)
 
     def _take(self, token: str) -> None:
@@ -331,7 +332,7 @@ def outline_of(text: str) -> Outline:
 
 
 def _elements(text: str, indent: int) -> tuple[list[Element], str]:
-    """The dashes and the key at the start of a line, and what stands behind them."""
+    """The dashes and the key at the start of a line, and the rest."""
     found: list[Element] = []
     at = indent
     while len(found) < MAX_DEPTH and (dash := DASH.match(text, at)) is not None:

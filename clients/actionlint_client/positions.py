@@ -20,14 +20,14 @@ def lines_of(data: bytes) -> list[bytes]:
 
 @dataclass
 class Line:
-    """The characters of a line, and which of them are two units."""
+    """The characters of a line, and which of them take two units."""
 
     index: int
     text: str
     two_units: list[int]
 
     def units_before(self, character: int) -> int:
-        """A character's column in an editor; it may stand behind the line's end."""
+        """A character's column in an editor. It may be past the end of the line."""
         character = min(character, len(self.text))
         return character + bisect_left(self.two_units, character)
 
@@ -37,13 +37,13 @@ class Lines:
 
     def __init__(self, data: bytes, is_buffer: bool):
         self._lines = lines_of(data)
-        # An editor takes a byte order mark off a file that it opens; the linter counts it as a character of the first line.
+        # An editor removes the byte order mark of a file that it opens; the linter counts it as a character of the first line.
         self._has_mark = not is_buffer and data.startswith(BYTE_ORDER_MARK)
-        # Many faults may stand on one long line.
+        # Many faults may be on one long line.
         self._last: Line | None = None
 
     def range_of(self, fault: Fault) -> dict:
-        """A fault that goes on behind its first line ends with that line. Of a fault of unknown width the end is that of a word."""
+        """A fault's range, which ends with its first line. If its width is unknown, it ends with the word."""
         line, first, end = self._columns(fault)
         return {"start": {"line": line.index, "character": line.units_before(first)},
                 "end": {"line": line.index, "character": line.units_before(end)}}
@@ -66,7 +66,7 @@ class Lines:
 
 
 def point_of(lines: list[str], position: dict) -> Point:
-    """An editor's position as a line and a character of a text; behind the end of a line or of the text it is that end."""
+    """An editor's position as a line and a character of a text. One past the end of a line or of the text is that end."""
     number = min(position["line"], len(lines) - 1)
     line, units = lines[number], position["character"]
     if line.isascii():

@@ -1,21 +1,21 @@
-"""What a report tells of a fault: its code, its entry, and what to write instead."""
+"""What a report says about a fault: its code, level and entry, and what to write instead."""
 from __future__ import annotations
 
 from dataclasses import dataclass
 from typing import Callable, NamedTuple
 
-from .entries import Entry, entry_of, link_of, plain_text
+from .entries import Entry, argument_of, entry_of, link_of, plain_text
 from .names import near_name
 from .report import Fault
 from .wanted import wanted_under
 
-ERROR = "error"
+ERROR, WARNING = "error", "warning"
 
 
 @dataclass(frozen=True)
 class Problem:
-    """A fault of the linter, or a note of a program that it was handed on to, which has no entry and a `link` of its own. The snippet is
-    the file's line with the fault's characters marked below it, or nothing. The level is that of SARIF: error, warning or note."""
+    """A fault of the linter, or a note of another program, which has no entry and a `link` of its own. The snippet is the source line with
+    the fault's characters marked below it, or nothing. The level is one of SARIF's: error, warning or note."""
 
     fault: Fault
     code: str
@@ -25,7 +25,7 @@ class Problem:
     link: str | None = None
 
     def is_note(self) -> bool:
-        """Whether another program than the linter says it."""
+        """Whether it comes from another program than the linter."""
         return self.link is not None
 
     def has_code(self) -> bool:
@@ -33,11 +33,11 @@ class Problem:
         return self.entry is not None or self.is_note()
 
     def near(self) -> str | None:
-        """The known name that is most like the one in the message."""
+        """The known name that is most similar to the one in the message."""
         return near_name(self.fault.message) if self.entry else None
 
     def advice(self) -> str:
-        """What to write instead, in a sentence of the entry; empty where there is no entry."""
+        """What to write instead: a sentence of the entry, or nothing without an entry."""
         if self.entry is None:
             return ""
         arguments = self.entry.arguments(self.fault.message) or ()
@@ -45,11 +45,11 @@ class Problem:
                     first_sentence(plain_text(self.entry.repair)))
 
     def link_in(self, docs: str | None) -> str | None:
-        """Where more is said of it; `docs` is the address of the pages."""
-        return link_of(self.entry, docs.rstrip("/")) if self.entry and docs else self.link
+        """The address of more on it. `docs` is that of the pages."""
+        return link_of(self.entry, docs) if self.entry and docs else self.link
 
     def line(self) -> str:
-        """The file's line, or nothing where it isn't known."""
+        """The source line, or nothing if it isn't known."""
         return self.snippet[1].decode("utf-8", "replace").partition(" | ")[2] if self.snippet else ""
 
 
@@ -62,19 +62,28 @@ class Slip(NamedTuple):
 
 
 def problem_of(fault: Fault, snippet: tuple[bytes, ...] = ()) -> Problem:
-    """A fault of the linter with its entry; its kind stands for the code of a message that no page has."""
+    """A fault of the linter with its entry. A message that no page has gets its kind as code."""
     entry = entry_of(fault.message)
-    return Problem(fault, entry.code if entry else fault.kind, entry, snippet)
+    code = entry.code if entry else fault.kind
+    return Problem(fault, code, entry, snippet, level_of(code, fault))
+
+
+def level_of(code: str, fault: Fault) -> str:
+    """WARNING for what GitHub only warns of, in each run: a command that still works, or an input that a step's action doesn't have. ERROR
+    for the rest: GitHub refuses the file, or a step or a job fails or goes on without what was meant, and nobody else says so."""
+    if code == "G17":
+        return WARNING if argument_of(fault.message) in ("set-output", "save-state") else ERROR
+    return WARNING if (code, fault.kind) == ("C2", "action") else ERROR
 
 
 def first_sentence(text: str) -> str:
-    """The first sentence of a text: up to a full stop before a blank or the end."""
+    """The first sentence of a text: up to a full stop before a space or the end."""
     end = text.find(". ")
     return text if end < 0 else text[:end + 1]
 
 
 def _is_behind(problem: Problem, context: str) -> bool:
-    """Whether the fault stands behind a context's name and a dot or a bracket."""
+    """Whether the fault comes after a context's name and a dot or a bracket."""
     before = problem.line()[:problem.fault.column - 1].rstrip(" '[.").rstrip()
     return before.lower().endswith(context)
 
@@ -84,8 +93,8 @@ def _lacks_ref(problem: Problem, uses: str) -> bool:
 
 
 def _wants(wanted: str) -> Callable[..., bool]:
-    """Whether the key takes this alone. The value stands behind the key, or in the lines below it; an entry of it would stand behind a
-    dash, a bracket or a comma."""
+    """Whether the key takes only this, and the value follows the key or is in the lines below it. An entry of a list would follow a dash, a
+    bracket or a comma."""
     def fits(problem: Problem, key: str) -> bool:
         before = problem.line()[:problem.fault.column - 1].rstrip()
         return bool(problem.line()) and wanted_under(key) == wanted and (not before or before.endswith(":"))

@@ -1,4 +1,4 @@
-"""Which program the linter is."""
+"""The linter that the clients run."""
 from __future__ import annotations
 
 import os
@@ -6,16 +6,18 @@ import subprocess
 from pathlib import Path
 
 FINDER = Path(__file__).resolve().parents[1] / "which-actionlint"
-WHICH = "what ACTIONLINT names, else the one beside the clients, else actionlint on the PATH"
+WHICH = "the one that the variable ACTIONLINT names, else that of this release or clone, else actionlint on the PATH"
 WHERE_NAMED = "--program or the variable ACTIONLINT names the linter"
 
 
-def default_program() -> str:
-    """The linter where no word names one: the path that `which-actionlint` finds, or else what is to be looked for on the PATH."""
-    found = subprocess.run(["/bin/sh", FINDER], stdin=subprocess.DEVNULL, stdout=subprocess.PIPE, stderr=subprocess.DEVNULL, check=False)
-    return os.fsdecode(found.stdout).removesuffix("\n") or os.environ.get("ACTIONLINT") or "actionlint"
+def find_program(named: str | None) -> str:
+    """The absolute path of the linter, of the named one if one is named. If `which-actionlint` finds none, the name that it searched for.
+    """
+    words = ["/bin/sh", FINDER, named or ""]
+    found = subprocess.run(words, stdin=subprocess.DEVNULL, stdout=subprocess.PIPE, stderr=subprocess.DEVNULL, check=False)
+    return os.fsdecode(found.stdout).removesuffix("\n") or named or os.environ.get("ACTIONLINT") or "actionlint"
 
 
 def cannot_start(program: str, error: OSError) -> str:
-    """Why a program can't be started, and what names another one."""
+    """Why a program can't be started, and how to name another one."""
     return f"cannot start {program}: {error.strerror}; {WHERE_NAMED}"

@@ -1,4 +1,4 @@
-"""The files of a repository for those who look for names: their trees, what they declare, and which file a call leads to."""
+"""The files of a repository for features that look up names: trees, declarations, and the targets of calls."""
 from __future__ import annotations
 
 import re
@@ -13,7 +13,7 @@ OUTPUT_NAME = re.compile(r"""(?:^|[\s"'{(;&|])([A-Za-z_][\w-]*)(?:=|<<)""")
 
 
 class Declaration(NamedTuple):
-    """An input, a secret or an output: its name as it is written, the node of that, and what stands below it."""
+    """An input, a secret or an output: its name as written, the node of the name, and its value."""
 
     name: str
     key: Node
@@ -26,7 +26,7 @@ class Declaration(NamedTuple):
 
 @dataclass
 class _Known:
-    """A file's bytes with their text, its lines and its tree where these were asked for, and the last tree that it had."""
+    """A file's bytes and text, its lines and tree if they were asked for, and its last valid tree."""
 
     data: bytes
     text: str
@@ -37,18 +37,18 @@ class _Known:
 
 
 class Project:
-    """`read` answers the bytes of a file as it is now, `paths` the workflows and the actions that are linted, and `actions` all actions."""
+    """`read` returns the current bytes of a file, `paths` the linted workflows and actions, and `actions` all actions."""
 
     def __init__(self, read: Callable[[str], bytes | None], paths: Callable[[], Iterable[str]],
                  actions: Callable[[], Iterable[str]] | None = None):
         self.read, self.paths = read, paths
         self.actions = actions or (lambda: (path for path in paths() if is_action(path)))
-        # What others keep of a file, by a name of their own.
+        # What other modules remember about a file, each by a name of its own.
         self.memory: dict[tuple[str, str], object] = {}
         self._known: dict[str, _Known] = {}
 
     def text(self, file: str) -> str:
-        """The text with line feeds alone, and without a mark of byte order; empty where there is no such file."""
+        """The text with line feeds only and without a byte order mark. Empty if there is no such file."""
         return self._look(file).text
 
     def lines(self, file: str) -> list[str]:
@@ -58,15 +58,15 @@ class Project:
         return known.lines
 
     def tree(self, file: str) -> Node | None:
-        """The tree of a file, or None while it is no YAML."""
+        """The tree of a file, or None while it isn't valid YAML."""
         return self._read(file).tree
 
     def good_tree(self, file: str) -> Node | None:
-        """The tree of a file, or the last one that it had."""
+        """The tree of a file, or its last valid one."""
         return self._read(file).good
 
     def tree_around(self, file: str, line: int) -> Node | None:
-        """The tree of a file; while it is no YAML that of the file without a line, or else the last one that it had."""
+        """The tree of a file. While it isn't valid YAML, that of the file without the line, or else its last valid one."""
         known = self._read(file)
         if known.tree:
             return known.tree
@@ -105,7 +105,7 @@ class Project:
 
 
 def declarations(file: str, tree: Node | None, what: str, of_call: bool = False) -> list[Declaration]:
-    """The inputs, secrets or outputs that a file declares. Inputs are those of a call and of a start by hand, or of a call alone."""
+    """The inputs, secrets or outputs that a file declares. Inputs are those of calls and of manual starts, or of calls only."""
     if tree is None:
         return []
     ways = [("on", "workflow_call", what)] if is_workflow(file) else [(what,)]
@@ -132,13 +132,13 @@ def steps_of(tree: Node | None, job: str | None) -> list[Node]:
 
 
 def needed(tree: Node, job: str) -> list[str]:
-    """The jobs under a job's `needs`, in the spelling of their keys."""
+    """The jobs under a job's `needs`, spelled as their keys."""
     by_lower_case = {name.lower(): name for name in tree.names("jobs")}
     return [by_lower_case[name.lower()] for name in tree.texts("jobs", job, "needs") if name.lower() in by_lower_case]
 
 
 def dependents(tree: Node, job: str) -> set[str]:
-    """The jobs that need a job, perhaps over further jobs, and that one."""
+    """A job and those that need it, directly or not."""
     jobs = tree.names("jobs")
     needed_by: dict[str, list[str]] = {}
     for name in jobs:
@@ -154,7 +154,7 @@ def dependents(tree: Node, job: str) -> set[str]:
 
 
 def matrix_rows(tree: Node | None, job: str) -> dict[str, Node]:
-    """The rows of a job's matrix and what its `include` adds, each with its first node."""
+    """The rows of a job's matrix and those that its `include` adds, each with its first node."""
     matrix = tree.at(("jobs", job, "strategy", "matrix")) if tree else None
     found: dict[str, Node] = {}
     for key, value in matrix.entries if matrix else ():

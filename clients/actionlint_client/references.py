@@ -1,4 +1,4 @@
-"""Which names of a file stand for the same thing: jobs, steps, inputs, outputs, secrets, rows of a matrix, anchors, called files."""
+"""Which names of a file refer to the same thing: jobs, steps, inputs, outputs, secrets, rows of a matrix, anchors, called files."""
 from __future__ import annotations
 
 import re
@@ -12,7 +12,7 @@ from .project import Project
 from .syntax import CONDITIONS
 from .tree import Node, Path, Point, Span, walk
 
-# Texts of expressions; those in square brackets are names.
+# Strings in expressions. Those in square brackets are names.
 TEXT = re.compile(r"(?<!\[)'(?:[^']|'')*'")
 ANCHOR = re.compile(r"[&*]([^\s,\[\]{}]+)")
 PROPERTY = re.compile(r"&\S+\s+|")
@@ -20,7 +20,7 @@ CONDITION_KEYS = {key for keys in CONDITIONS.values() for key in keys}
 
 
 class Symbol(NamedTuple):
-    """What a name stands for: a kind, the file that declares it, the job or the step around it, and its name in small letters."""
+    """What a name refers to: its kind, the file that declares it, the job or the step around it, and the name in lower case."""
 
     kind: str
     file: str
@@ -38,7 +38,7 @@ class Occurrence(NamedTuple):
 
 
 class _Known(NamedTuple):
-    """The names of a tree, and the calls with the files that these led to."""
+    """The names of a tree, and the calls with the files that they led to."""
 
     tree: Node
     calls: dict[tuple[str | None, bool], str | None]
@@ -66,7 +66,7 @@ class _Text:
 
 
 def occurrences(project: Project, file: str) -> list[Occurrence]:
-    """All places of names in a file; none while it is no YAML."""
+    """All places of names in a file, none while it isn't valid YAML."""
     tree = project.tree(file)
     if tree is None:
         return []
@@ -83,7 +83,7 @@ def occurrence_at(project: Project, file: str, point: Point) -> Occurrence | Non
 
 
 def all_of(project: Project, symbol: Symbol) -> list[Occurrence]:
-    """The places of a symbol in the file that declares it, and in those that call that file, the definitions first."""
+    """The places of a symbol in its file and in the callers of that file, definitions first."""
     names = [symbol.file, *(callers(project, symbol.file) if not symbol.scope else [])]
     found = [one for file in dict.fromkeys(names) for one in occurrences(project, file) if one.symbol == symbol]
     return sorted(found, key=lambda one: not one.is_definition)
@@ -146,11 +146,11 @@ class _Finder:
 
     @staticmethod
     def _is_row(path: Path) -> bool:
-        """Whether the way from a matrix leads to a row, or to one in an entry of `include` or `exclude`."""
+        """Whether the path from a matrix leads to a row, or to one in an entry of `include` or `exclude`."""
         return len(path) == 1 and path[0] not in ("include", "exclude") or len(path) == 3 and path[0] in ("include", "exclude")
 
     def _given_by_key(self, path: Path) -> Symbol | None:
-        """The input or the secret of what is called that a key gives."""
+        """The input or the secret of the called file that a key sets."""
         if len(path) < 3 or path[-2] not in ("with", "secrets"):
             return None
         node = self.tree.at(path[:-2])
@@ -206,7 +206,7 @@ class _Finder:
                 yield Occurrence(symbol, self.file, self.text.span(begin, begin + len(links[number][0])), False)
 
     def _symbols_of(self, names: list[str], job: str | None) -> Iterator[tuple[int, Symbol]]:
-        """Of a chain's names the numbers of those that stand for something, and for what."""
+        """The indices of the names of a chain that refer to something, each with its symbol."""
         context = names[0]
         scope = (job or "").lower()
         if len(names) < 2:

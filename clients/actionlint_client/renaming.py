@@ -1,4 +1,4 @@
-"""Renaming what a name stands for, in all files that have it; a new name after which the linter finds a fault more is refused."""
+"""Renaming a name in all files that use it. A new name that adds a fault is refused."""
 from __future__ import annotations
 
 import re
@@ -18,7 +18,7 @@ ANCHOR_NAME = re.compile(r"[\w-]+", re.A)
 
 
 class Refusal(Exception):
-    """Why a name can't be changed so."""
+    """Why a name can't be changed."""
 
 
 def renamable_at(project: Project, file: str, point: Point) -> Occurrence | None:
@@ -30,7 +30,7 @@ def renamable_at(project: Project, file: str, point: Point) -> Occurrence | None
 
 
 def rename(program: Program, project: Project, file: str, point: Point, name: str) -> dict[str, tuple[Edit, ...]]:
-    """The edits by file. `Refusal` where there is no name, the new one isn't a name, or it makes a fault."""
+    """The edits by file. Raises `Refusal` if there is no name, the new one isn't a name, or it causes a fault."""
     found = renamable_at(project, file, point)
     if found is None:
         raise Refusal("there is no name here that can be changed")
@@ -45,8 +45,7 @@ def rename(program: Program, project: Project, file: str, point: Point, name: st
 
 
 def _refuse_faults(program: Program, project: Project, symbol: Symbol, edits: dict[str, tuple[Edit, ...]], name: str) -> None:
-    """`Refusal` where the report has a fault more after the edits. Messages that only have the new name in place of the old one are the
-    same."""
+    """Raises `Refusal` if the edits add a fault. Messages that differ only in the renamed name are the same."""
     texts = {path: replaced(project.text(path), some) for path, some in edits.items()}
     try:
         trial = Trial(program.words, program.timeout, project, symbol.file, len(texts) + MAX_OTHER_FILES)

@@ -1,4 +1,4 @@
-"""A fault to be repaired: where it stands in the text and the tree, and the edits of which repairs are made."""
+"""A fault to be repaired, with its place in the text and the tree, and the edits that repairs consist of."""
 from __future__ import annotations
 
 import re
@@ -29,7 +29,7 @@ class Edit(NamedTuple):
 
 @dataclass(frozen=True)
 class Repair:
-    """What can be done about a fault: edits by file, and new files. A last resort is offered only where nothing else mends the fault."""
+    """What can be done about a fault: edits by file, and new files. A last resort is offered only if nothing else repairs the fault."""
 
     title: str
     edits: dict[str, tuple[Edit, ...]]
@@ -38,7 +38,7 @@ class Repair:
 
 
 class Found(NamedTuple):
-    """A node of the tree with its path, and the node of its key and the mapping or list around it."""
+    """A node of the tree with its path, the node of its key, and the mapping or list around it."""
 
     path: Path
     key: Node | None
@@ -69,7 +69,7 @@ class Nodes:
         self._starts = [found.value.span.start for found in self._scalars]
 
     def scalar_at(self, point: Point) -> Found | None:
-        """The first scalar that holds a point, its end too."""
+        """The first scalar that contains a point or ends there."""
         number = bisect_right(self._starts, point) - 1 if self._scalars else -1
         found = [self._scalars[one] for one in (number - 1, number) if one >= 0]
         return next((one for one in found if one.value.span.holds(point)), None)
@@ -83,7 +83,7 @@ class Case:
         self.arguments = entry.arguments(fault.message) or ()
         self.text = project.text(fault.path)
         self.lines = project.lines(fault.path)
-        # The linter counts a mark of byte order as a character of the first line.
+        # The linter counts a byte order mark as a character of the first line.
         mark = fault.line == 1 and (project.read(fault.path) or b"").startswith(BYTE_ORDER_MARK)
         start = Point(fault.line - 1, max(fault.column - 1 - mark, 0))
         word = WORD.match(self.line_at(start.line), start.column)
@@ -92,7 +92,7 @@ class Case:
 
     @property
     def written(self) -> str:
-        """What stands at the fault's place."""
+        """The text at the fault's place."""
         return self.slice(self.span)
 
     @cached_property
@@ -108,7 +108,7 @@ class Case:
         return self.line_at(self.span.start.line)
 
     def line_at(self, number: int) -> str:
-        """A line of the text; an empty one behind its end."""
+        """A line of the text, or an empty one past its end."""
         return self.lines[number] if number < len(self.lines) else ""
 
     @property
@@ -123,7 +123,7 @@ class Case:
 
     @property
     def scalar(self) -> Found | None:
-        """The value that is a scalar and holds the fault."""
+        """The scalar value that contains the fault."""
         return self._nodes.scalar_at(self.span.start)
 
     @cached_property
@@ -143,7 +143,7 @@ class Case:
         return str(path[1]) if is_workflow(self.file) and path[:1] == ("jobs",) and len(path) > 1 else None
 
     def shell_of(self, script: Found) -> str:
-        """The shell of a step's script: its own, the one by default, or that of the runner."""
+        """The shell of a step's script: its own, the default one, or the runner's."""
         own = script.parent.text("shell")
         job = self.at("jobs", self.job) if self.job else None
         defaults = [node.text("defaults", "run", "shell") for node in (job, self.tree) if node]
@@ -164,11 +164,11 @@ class Case:
         return Repair(title, {self.file: edits})
 
     def replace(self, title: str, text: str, span: Span | None = None) -> Repair:
-        """Other text at the fault's place, or at another one."""
+        """Replaces the text at the fault's place, or at another one."""
         return self.of(title, Edit(span or self.span, text))
 
     def rest_span(self, line: int) -> Span | None:
-        """What stands behind the dashes and the key of a line, without a comment."""
+        """What follows the dashes and the key of a line, without a comment."""
         found = self.outline.lines[line] if line < len(self.outline.lines) else None
         if found is None or found.owner is not None:
             return None
@@ -185,13 +185,13 @@ def quoted(text: str) -> str:
 
 
 def as_scalar(text: str, style: str, in_flow: bool) -> str:
-    """A text as a value: in quotes where it had some, or where it has signs that YAML reads otherwise."""
+    """A text as a value: in quotes if the old one had some, or if YAML would read it differently without."""
     needs_quotes = style in ("'", '"') or NEEDS_QUOTES.search(text) or in_flow and FLOW_SIGNS.search(text)
     return quoted(text) if needs_quotes else text
 
 
 def is_within_flow(case: Case, path: Path) -> bool:
-    """Whether the node at a path stands in brackets."""
+    """Whether the node at a path is in a flow sequence or mapping."""
     nodes = (case.at(*path[:depth]) for depth in range(len(path)))
     return any(node is not None and node.is_flow for node in nodes)
 
@@ -208,7 +208,7 @@ def first_entry(case: Case, mapping: Node, entry: str) -> Edit:
 
 
 def next_entry(case: Case, mapping: Node, key: str, entry: str) -> Edit:
-    """An entry behind another one of a mapping."""
+    """A new entry after another one of a mapping."""
     name, value = next((name, value) for name, value in mapping.entries if name.value == key)
     if mapping.is_flow:
         return Edit(Span(value.span.end, value.span.end), ", " + entry)
@@ -218,7 +218,7 @@ def next_entry(case: Case, mapping: Node, key: str, entry: str) -> Edit:
 
 
 def without_entry(case: Case, mapping: Node, key: Node) -> Edit:
-    """A mapping without one of its entries, which is not the only one."""
+    """A mapping without one of its entries, which isn't the only one."""
     number = next(number for number, (name, _) in enumerate(mapping.entries) if name is key)
     value = mapping.entries[number][1]
     has_next = number + 1 < len(mapping.entries)

@@ -30,7 +30,7 @@ def _call(case: Case) -> tuple[Node | None, str | None, bool]:
 
 
 def near_file(case: Case) -> Iterable[Repair]:
-    """A file of the folder that jobs can call; or a new one of this name."""
+    """A file of the folder that jobs can call, or a new one with this name."""
     here = case.value
     wrong = case.arguments[0]
     callable_files = ["./" + file for file in case.project.paths() if is_workflow(file) and file != case.file
@@ -38,11 +38,11 @@ def near_file(case: Case) -> Iterable[Repair]:
     for name in near(wrong, callable_files):
         yield case.replace(f'change to "{name}"', name, here.value.span if here else None)
     if re.fullmatch(rf"\./{re.escape(WORKFLOWS)}/[\w.-]+\.ya?ml", wrong):
-        yield Repair(f'make the file "{wrong[2:]}"', {}, {wrong[2:]: CALLED})
+        yield Repair(f'create the file "{wrong[2:]}"', {}, {wrong[2:]: CALLED})
 
 
 def near_declared(what: str) -> Callable[[Case], Iterable[Repair]]:
-    """An input or a secret of what is called in place of one that it doesn't have; or none."""
+    """An input or a secret of the called file in place of one that it doesn't have, or none."""
     def repairs(case: Case) -> Iterable[Repair]:
         node, callee, _ = _call(case)
         here = case.key
@@ -56,7 +56,7 @@ def near_declared(what: str) -> Callable[[Case], Iterable[Repair]]:
 
 
 def _without(case: Case) -> Iterable[Repair]:
-    """The call without the input, and without `with` where it was the only one."""
+    """The call without the input, and without `with` if it was the only one."""
     here = case.key
     if here is None or here.key is None:
         return
@@ -70,7 +70,7 @@ def _without(case: Case) -> Iterable[Repair]:
 
 
 def required(what: str) -> Callable[[Case], Iterable[Repair]]:
-    """The input or the secret that is missing, and all that are."""
+    """The missing input or secret, and all that are missing."""
     def repairs(case: Case) -> Iterable[Repair]:
         node, callee, of_job = _call(case)
         if node is None or callee is None:
@@ -90,7 +90,7 @@ def required(what: str) -> Callable[[Case], Iterable[Repair]]:
 
 
 def _all_secrets(case: Case, job: Node) -> Iterable[Repair]:
-    """All secrets of the caller where none are passed one by one."""
+    """All secrets of the caller, unless some are passed one by one."""
     secrets = job.get("secrets")
     if secrets is None:
         yield case.of("pass all secrets", next_entry(case, job, "uses", "secrets: inherit"))
@@ -139,13 +139,13 @@ def other_type(case: Case) -> Iterable[Repair]:
         inner = expression[1].strip()
         changed = "${{ fromJSON(" + inner + ") }}" if kind in ("boolean", "number") else "${{ format('{0}', " + inner + ") }}"
         shown = as_scalar(changed, here.value.style, is_within_flow(case, here.path))
-        yield case.replace("read it by fromJSON" if kind != "string" else "write it as a text", shown, here.value.span)
+        yield case.replace("read it with fromJSON" if kind != "string" else "write it as a text", shown, here.value.span)
     if kind == "string":
         yield case.replace("put it in quotes", "'" + text.replace("'", "''") + "'", here.value.span)
 
 
 def right_uses(case: Case) -> Iterable[Repair]:
-    """A call with a place for its version, without an expression in it, and with `./` before a folder of this repository."""
+    """A call with a version, without an expression, and with `./` before a folder of this repository."""
     here = case.value
     if here is None:
         return
@@ -153,7 +153,7 @@ def right_uses(case: Case) -> Iterable[Repair]:
     if len(here.path) == 3 and here.path[0] == "jobs" and here.key and is_workflow(case.file) and ".github/workflows/" not in text:
         indent = "\n" + " " * here.key.span.start.column
         steps = f"runs-on: ubuntu-latest{indent}steps:{indent}  - uses: {case.slice(here.value.span)}"
-        yield case.replace("call it by a step", steps, Span(here.key.span.start, here.value.span.end))
+        yield case.replace("call it from a step", steps, Span(here.key.span.start, here.value.span.end))
     bare = re.sub(r"@?\$\{\{.*?\}\}.*$", "", text)
     own = re.sub(r"^(?:\.?/)+", "", text)
     tries = []
@@ -180,7 +180,7 @@ def right_uses(case: Case) -> Iterable[Repair]:
 
 
 def made_callable(case: Case) -> Iterable[Repair]:
-    """`workflow_call` among the events of the workflow that is called; or the call on a job, or a step, of its own."""
+    """`workflow_call` as an event of the called workflow, or the call on a job or a step of its own."""
     node, callee, of_job = _call(case)
     tree = case.project.tree(callee) if callee else None
     on = tree.get("on") if tree else None

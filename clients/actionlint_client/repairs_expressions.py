@@ -118,7 +118,7 @@ def _github_variables(text: str) -> str:
 
 
 def _called(text: str) -> str:
-    """`a.contains(b)` as `contains(a, b)`, `a in [b]` and `[b]` as a list from JSON."""
+    """`a.contains(b)` as `contains(a, b)`, `a in [b]` likewise, and `[b]` as a list from JSON."""
     changed = METHOD.sub(lambda match: f"{match[2]}({match[1]}, ", text)
     changed = AMONG.sub(lambda match: f"contains({_json_list(match[2])}, {match[1]})", changed)
     return LIST_ARGUMENT.sub(lambda match: f"({_json_list(match[1])},", changed)
@@ -169,7 +169,7 @@ def _open_brackets(text: str) -> list[str]:
 
 
 def _without_rest(text: str) -> str | None:
-    """An expression without an operator at its end, or a bracket too many."""
+    """An expression without the operator at its end, or without a bracket too many."""
     stripped = text.rstrip()
     changed = re.sub(r"\s*(?:&&|\|\||==|!=|[<>]=?|,|\.|\))$", "", stripped)
     return changed + text[len(stripped):] if changed != stripped else None
@@ -190,7 +190,7 @@ def closed_text(case: Case) -> Iterable[Repair]:
 
 
 def closed_braces(case: Case) -> Iterable[Repair]:
-    """Two braces behind the expression."""
+    """Two braces after the expression."""
     rest = case.line[case.span.start.column:]
     match = re.match(rf"\$\{{\{{\s*{CHAIN.pattern}[^}}\n]*?(?=\}}|\s*['\"]?$)|\$\{{\{{[^}}]*", rest)
     ends = [match.end()] if match else []
@@ -214,7 +214,7 @@ def whole_chain(case: Case) -> tuple[tuple[str, ...], Span]:
 
 
 def word_as_text(case: Case) -> Iterable[Repair]:
-    """What stands around the fault up to the next spaces, in quotes."""
+    """The text around the fault, up to the next spaces, in quotes."""
     expression = expression_of(case)
     line, column = case.line, case.span.start.column
     start = column - len(re.search(r"[^\s'\"()=!,]*$", line[:column])[0])
@@ -229,20 +229,20 @@ def without_index(case: Case) -> Iterable[Repair]:
     chain, span = whole_chain(case)
     dot = max(case.line.rfind(sign, span.start.column, case.span.start.column + 1) for sign in (".", "["))
     if chain and dot > span.start.column:
-        yield case.replace("take away the index", "", Span(Point(case.span.start.line, dot), span.end))
+        yield case.replace("delete the index", "", Span(Point(case.span.start.line, dot), span.end))
 
 
 def as_json(case: Case) -> Iterable[Repair]:
     """The value as a text."""
     chain, span = whole_chain(case)
     if chain:
-        yield case.replace("write it as JSON", f"toJSON({case.slice(span)})", span)
+        yield case.replace("convert it to JSON", f"toJSON({case.slice(span)})", span)
         if span.end.column > span.start.column:
             expression = expression_of(case)
             literal = in_yaml("', '", expression) if expression else "', '"
             yield case.replace("join its entries", f"join({case.slice(span)}, {literal})", span)
     elif (expression := expression_of(case)) and expression.text.strip():
-        yield case.replace("write it as JSON", f" toJSON({expression.text.strip()}) ", expression.span)
+        yield case.replace("convert it to JSON", f" toJSON({expression.text.strip()}) ", expression.span)
 
 
 def one_pair(case: Case) -> Iterable[Repair]:
@@ -258,11 +258,11 @@ def one_pair(case: Case) -> Iterable[Repair]:
     for match in BRACES.finditer(text):
         if text.replace(match[0], "").strip() in (".", ";", ",", "'", '"', '""', "''"):
             alone = as_scalar(match[0], here.value.style, in_flow)
-            yield case.replace("take away what stands beside the braces", alone, here.value.span)
+            yield case.replace("delete the text beside the braces", alone, here.value.span)
 
 
 def fewer_arguments(case: Case) -> Iterable[Repair]:
-    """A call with one argument less or more, as far as the function takes so many."""
+    """A call with one argument fewer or more, if the function takes as many."""
     line, column = case.line, case.span.start.column
     match = re.match(rf"{NAME}\s*\(", line[column:])
     if not match:
@@ -319,14 +319,14 @@ def _numbered(text: str) -> str:
 REPAIRS: dict[str, tuple[Callable[[Case], Iterable[Repair]], ...]] = {
     "X1": (rewritten("write single quotes", _single_quotes), rewritten('write "==", "&&", "||"', _doubled),
            rewritten('write "&&" and "||"', _chosen), rewritten('write "&&", "||", "!"', _operators),
-           rewritten("write a call of format", _formatted), rewritten("write them as expressions have them", _all_operators),
+           rewritten("write a call of format", _formatted), rewritten("write the operators of expressions", _all_operators),
            rewritten('write "${{" and "}}"', _double_braces), rewritten("take it from the context",
                                                                         _github_variables), word_as_text, without_character),
     "X2": (closed_text,),
     "X3": (rewritten('write "&&", "||", "!"', _operators), rewritten('write "==", "&&", "||"', _doubled),
            rewritten('write "&&" and "||"', _chosen), rewritten("call a function", _called), rewritten("close the brackets", _balanced),
-           rewritten("take away what is too much at the end", _without_rest), without_character),
-    "X4": (rewritten("close the brackets", _balanced), rewritten("take away what is too much at the end", _without_rest)),
+           rewritten("delete what is too much at the end", _without_rest), without_character),
+    "X4": (rewritten("close the brackets", _balanced), rewritten("delete what is too much at the end", _without_rest)),
     "X11": (fewer_arguments,),
     "X14": (without_index,),
     "X16": (right_format,),

@@ -14,7 +14,7 @@ from .syntax import table
 from .tree import Node, Point, Span, last_line, walk
 
 JOB = "build:\n  runs-on: ubuntu-latest\n  steps:\n    - run: make"
-# What is put behind a key that is missing.
+# The values of missing keys.
 MISSING = {"on": "push", "jobs": "\n  " + JOB.replace("\n", "\n  "), "runs-on": "ubuntu-latest", "run": "echo", "type": "string",
            "group": "${{ github.workflow }}-${{ github.ref }}", "cron": "'0 0 * * *'", "value": "''", "name": "Name",
            "description": "Description", "using": "composite", "main": "index.js", "image": "Dockerfile", "steps": "[]",
@@ -34,7 +34,7 @@ OTHER_NAMES = {"timeout": "timeout-minutes", "command": "run", "script": "run", 
 
 
 def near_key(case: Case) -> Iterable[Repair]:
-    """A key of the section that is nearly this one."""
+    """A similar key of the section."""
     wrong = case.arguments[0]
     known = [*near(wrong, names()["keys"]), *([OTHER_NAMES[wrong.lower()]] if wrong.lower() in OTHER_NAMES else [])]
     known += [name for name in names()["keys"] if name.lower() == wrong.lower().replace("_", "-") != wrong]
@@ -42,7 +42,7 @@ def near_key(case: Case) -> Iterable[Repair]:
 
 
 def in_its_quotes(case: Case, name: str) -> Repair:
-    """A name in place of what is written, in its quotes where it has some."""
+    """A name in place of the written one, in the same quotes."""
     quote = case.written[:1] if case.written[:1] in ("'", '"') else ""
     return case.replace(f'change to "{name}"', quote + name + quote)
 
@@ -187,12 +187,12 @@ def _scalars_as_other(case: Case, here: Found) -> Iterable[Repair]:
     line = case.outline.lines[here.value.span.start.line]
     if case.arguments[0] == "run" and line.elements:
         indent = "\n" + " " * (line.elements[-1].column + 2)
-        yield case.replace("write the script in lines", "|" + "".join(indent + text for text in texts), span)
+        yield case.replace("write the script as a block", "|" + "".join(indent + text for text in texts), span)
     pairs = [re.fullmatch(r"([\w-]+)=(.*)", text) for text in texts]
     if all(pairs):
         yield case.replace("make it a mapping", "{" + ", ".join(f"{pair[1]}: {quoted(pair[2])}" for pair in pairs if pair) + "}", span)
     if len(items) == 1:
-        yield case.replace("take it out of the list", case.slice(items[0].span), span)
+        yield case.replace("remove it from the list", case.slice(items[0].span), span)
 
 
 def _of_its_section(case: Case, here: Found) -> Iterable[Repair]:
@@ -202,9 +202,9 @@ def _of_its_section(case: Case, here: Found) -> Iterable[Repair]:
     column = here.key.span.start.column if here.key else 0
     if name == "schedule" and is_text:
         cron = "{cron: %s}" % quoted(value.value)
-        yield case.replace("make it a list of cron", cron if isinstance(here.path[-1], int) else f"[{cron}]", value.span)
+        yield case.replace('make it a list of "cron" entries', cron if isinstance(here.path[-1], int) else f"[{cron}]", value.span)
     elif name == "schedule" and value.is_flow:
-        yield case.replace("make it a list of cron", f"[{text}]", value.span)
+        yield case.replace('make it a list of "cron" entries', f"[{text}]", value.span)
     elif here.path[:-1] == ("on",) and not value.entries:
         yield from _settings_of_event(case, here)
     elif name == "steps" and is_text:
@@ -294,7 +294,7 @@ def as_mapping(case: Case, sequence: Node) -> Iterable[Repair]:
         line, column = item.span.start
         dash = case.lines[line].index("-")
         edits.append(Edit(Span(Point(line, dash), Point(line, column)), " " * (column - dash)))
-    yield case.of("take away the dashes", *edits)
+    yield case.of("delete the dashes", *edits)
 
 
 def _spaced_dashes(case: Case) -> Iterable[Repair]:
@@ -304,7 +304,7 @@ def _spaced_dashes(case: Case) -> Iterable[Repair]:
         if match and match.end() - 1 == case.span.start.column:
             edits.append(Edit(Span(Point(number, match.end()), Point(number, match.end())), " "))
     if edits:
-        yield case.of("put a space behind the dash", *edits)
+        yield case.of("add a space after the dash", *edits)
 
 
 def _first_job(case: Case) -> Iterable[Repair]:
@@ -333,7 +333,7 @@ def _without_merge(case: Case) -> Iterable[Repair]:
             between = ", " if parent.is_flow else "\n" + " " * key.span.start.column
             edits.append(Edit(Span(key.span.start, value.span.end), between.join(entries)))
     if edits:
-        yield case.of('write no "<<"', *edits)
+        yield case.of('replace "<<"', *edits)
 
 
 def _alias_alone(case: Case, mapping: Node, alias: Node) -> Edit:
@@ -365,10 +365,10 @@ def other_type(case: Case) -> Iterable[Repair]:
 
 
 def skeleton(case: Case) -> Iterable[Repair]:
-    """A file to begin with, behind its comments."""
+    """A file to start from, after its comments."""
     end = Point(len(case.lines) - 1, len(case.lines[-1]))
     before = "\n" if case.lines[-1] else ""
-    yield case.replace("begin the file", before + (WORKFLOW if is_workflow(case.file) else ACTION), Span(end, end))
+    yield case.replace("insert a skeleton", before + (WORKFLOW if is_workflow(case.file) else ACTION), Span(end, end))
 
 
 REPAIRS: dict[str, tuple[Callable[[Case], Iterable[Repair]], ...]] = {

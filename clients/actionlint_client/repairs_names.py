@@ -30,7 +30,7 @@ SHELL_COMMANDS = {"replace": "sed 's|{0}|{1}|g'", "tolower": "tr '[:upper:]' '[:
 
 
 def near_name(case: Case) -> Iterable[Repair]:
-    """A name that is nearly this one: of a property those that the object has here."""
+    """A similar name. For a property, one that the object has here."""
     wrong = case.arguments[0]
     written = case.written
     quote = written[:1] if written[:1] == "'" else ""
@@ -66,7 +66,7 @@ def _scope_names(case: Case) -> list[str]:
 
 
 def _properties_before(case: Case) -> list[str]:
-    """The properties of what stands before the fault."""
+    """The properties of what is before the fault."""
     scope = scope_of(case)
     chain = _chain_before(case)
     return [one.name for one in scope.properties(chain)] if scope and chain else []
@@ -130,9 +130,9 @@ def declared_row(case: Case) -> Iterable[Repair]:
 
 
 def as_text(case: Case) -> Iterable[Repair]:
-    """A word that is no context in quotes; or a function without its brackets with them."""
+    """A word that isn't a context in quotes, or a function with the brackets that it lacks."""
     if case.arguments[0].lower() in [name.lower() for name in names()["functions"]]:
-        yield case.replace('put "()" behind it', case.written + "()")
+        yield case.replace('add "()"', case.written + "()")
     chain, span = whole_chain(case)
     expression = expression_of(case)
     if chain and expression:
@@ -260,9 +260,9 @@ def _value_of_variable(case: Case, name: str, span: Span) -> Iterable[Repair]:
     literal = "'" + value.replace("'", "''") + "'"
     if case.line[:expression.span.start.column].endswith("${{") and expression.text.strip() == case.slice(span):
         whole = Span(Point(span.start.line, expression.span.start.column - 3), Point(span.end.line, expression.span.end.column + 2))
-        yield case.replace(f"write its value {literal}", value, whole)
+        yield case.replace(f"replace it by its value {literal}", value, whole)
     else:
-        yield case.replace(f"write its value {literal}", in_yaml(literal, expression), span)
+        yield case.replace(f"replace it by its value {literal}", in_yaml(literal, expression), span)
 
 
 def _by_env(case: Case, chain: tuple[str, ...], span: Span) -> Iterable[Repair]:
@@ -274,9 +274,9 @@ def _by_env(case: Case, chain: tuple[str, ...], span: Span) -> Iterable[Repair]:
     edit = Edit(span, f"env.{name}")
     env = job.get("env")
     if env and env.entries:
-        yield case.of(f'pass it by the variable "{name}"', first_entry(case, env, entry), edit)
+        yield case.of(f'pass it in the variable "{name}"', first_entry(case, env, entry), edit)
     elif env is None:
-        yield case.of(f'pass it by the variable "{name}"', first_entry(case, job, f"env:\n  {entry}"), edit)
+        yield case.of(f'pass it in the variable "{name}"', first_entry(case, job, f"env:\n  {entry}"), edit)
 
 
 def _secret_variable(chain: tuple[str, ...]) -> tuple[str, str]:
@@ -338,10 +338,10 @@ def by_variable(case: Case) -> Iterable[Repair]:
     is_in_flow = here.parent.is_flow
     if env and env.entries:
         entry = f"{name}: {quoted(match[0])}" if env.is_flow else entry
-        yield case.of(f'pass it by the variable "{name}"', first_entry(case, env, entry), edit)
+        yield case.of(f'pass it in the variable "{name}"', first_entry(case, env, entry), edit)
     elif env is None:
         text = f"env: {{{name}: {quoted(match[0])}}}" if is_in_flow else f"env:\n  {entry}"
-        yield case.of(f'pass it by the variable "{name}"', next_entry(case, here.parent, "run", text), edit)
+        yield case.of(f'pass it in the variable "{name}"', next_entry(case, here.parent, "run", text), edit)
 
 
 def _shell_variable(case: Case, match: re.Match, name: str, shell: str) -> str | None:

@@ -89,8 +89,8 @@ def schedule(case: Case) -> Iterable[Repair]:
     text = here.value.value.strip()
     fields = PRESETS.get(text, text).replace("?", "*").split()
     if len(fields) == 6:
-        yield case.replace("take away the seconds", quoted(" ".join(fields[1:])), here.value.span)
-        yield case.replace("take away the year", quoted(" ".join(fields[:5])), here.value.span)
+        yield case.replace("delete the seconds", quoted(" ".join(fields[1:])), here.value.span)
+        yield case.replace("delete the year", quoted(" ".join(fields[:5])), here.value.span)
     fields += ["*"] * (5 - len(fields))
     fields = [WORD_OF_CRON.sub(lambda match: match[0][:3].upper(), field) for field in fields]
     changed = " ".join(_bounded(field, most) for field, most in zip(fields, GREATEST))

@@ -1,4 +1,4 @@
-"""Repairs of texts that are no YAML: quotes, brackets, spaces."""
+"""Repairs of texts that aren't valid YAML: quotes, brackets, spaces."""
 from __future__ import annotations
 
 import re
@@ -55,17 +55,17 @@ def as_block(case: Case) -> Iterable[Repair]:
     line = case.outline.lines[case.span.start.line]
     if span and line.elements and line.elements[-1].name == "run":
         indent = " " * (line.elements[-1].column + 2)
-        yield case.replace("write the script below its key", f"|\n{indent}{case.slice(span)}", span)
+        yield case.replace("move the script below its key", f"|\n{indent}{case.slice(span)}", span)
 
 
 def pair_below(case: Case) -> Iterable[Repair]:
-    """A key with its value, which stand behind another key, on a line of their own."""
+    """A key with its value that follow another key, on a line of their own."""
     span = case.rest_span(case.span.start.line)
     elements = case.outline.lines[case.span.start.line].elements
     if span and elements and elements[-1].name is not None and re.match(r"[\w-]+: ", case.slice(span)):
         start = Point(case.span.start.line, elements[-1].end)
         indent = "\n" + " " * (elements[-1].column + 2)
-        yield case.replace("put it on a line of its own", indent + case.slice(span), Span(start, span.end))
+        yield case.replace("move it to a line of its own", indent + case.slice(span), Span(start, span.end))
 
 
 def as_condition(case: Case) -> Iterable[Repair]:
@@ -77,7 +77,7 @@ def as_condition(case: Case) -> Iterable[Repair]:
 
 
 def closed_quote(case: Case) -> Iterable[Repair]:
-    """A quote at the end of its line; or before what follows on it."""
+    """A quote at the end of its line, or before what follows on it."""
     line = case.line
     quote = line[case.span.start.column:case.span.start.column + 1]
     ends = dict.fromkeys([len(line.rstrip()),
@@ -90,7 +90,7 @@ def closed_quote(case: Case) -> Iterable[Repair]:
 
 
 def closed_bracket(case: Case) -> Iterable[Repair]:
-    """A bracket at the end of its line, or below it of its last line."""
+    """A bracket at the end of its line, or below its last line."""
     opener = case.line[case.span.start.column:case.span.start.column + 1]
     if opener not in CLOSERS:
         return
@@ -122,7 +122,7 @@ def _open_signs(text: str) -> list[str]:
 
 
 def spaces_for_tabs(case: Case) -> Iterable[Repair]:
-    """Spaces for each tab at the start of lines; of how many columns the text has, isn't told."""
+    """Spaces in place of each tab at the start of lines. The text doesn't tell how many columns a tab has."""
     for width in (2, 4, 8, 1):
         edits = []
         for number, line in enumerate(case.lines):
@@ -130,11 +130,11 @@ def spaces_for_tabs(case: Case) -> Iterable[Repair]:
             if "\t" in head:
                 edits.append(Edit(Span(Point(number, 0), Point(number, len(head))), head.replace("\t", " " * width)))
         if edits:
-            yield case.of("write spaces for tabs", *edits)
+            yield case.of("replace tabs by spaces", *edits)
     indent = next((len(line) - len(line.lstrip(" ")) for line in reversed(case.lines[:case.span.start.line]) if line.strip()), 0)
     head = Span(Point(case.span.start.line, 0), Point(case.span.start.line, len(case.line) - len(case.line.lstrip(" \t"))))
     for spaces in (indent, indent + 2):
-        yield case.replace("write spaces for tabs", " " * spaces, head)
+        yield case.replace("replace tabs by spaces", " " * spaces, head)
 
 
 def script_in_lines(case: Case) -> Iterable[Repair]:
@@ -151,7 +151,7 @@ def script_in_lines(case: Case) -> Iterable[Repair]:
         last += 1
     texts = [line.rest, *(text.strip() for text in case.lines[number + 1:last + 1])]
     start = Point(number, line.elements[-1].end)
-    yield case.replace("write the script in lines", " |" + "".join("\n" + indent + text for text in texts),
+    yield case.replace("write the script as a block", " |" + "".join("\n" + indent + text for text in texts),
                        Span(start, Point(last, len(case.lines[last]))))
 
 
@@ -167,7 +167,7 @@ def as_expression(case: Case) -> Iterable[Repair]:
 
 
 def moved_line(case: Case) -> Iterable[Repair]:
-    """The line at one of the indents above it."""
+    """The line with the indentation of one of the lines above it."""
     number = case.span.start.line
     text = case.line
     indents = [above.elements[-1].column for above in case.outline.lines[max(number - 30, 0):number] if above.elements]
@@ -189,33 +189,33 @@ def moved_line(case: Case) -> Iterable[Repair]:
 
 
 def with_space(case: Case) -> Iterable[Repair]:
-    """A space behind a colon or a dash that has none."""
+    """A space after a colon or a dash that has none."""
     number = case.span.start.line
     for line in (number, number - 1):
         text = case.lines[line] if line >= 0 else ""
         match = re.match(r"^( *(?:- +)?[A-Za-z_][\w-]*):(?=[^\s/:])", text)
         if match:
             here = Point(line, match.end())
-            yield case.replace("put a space behind the colon", " ", Span(here, here))
+            yield case.replace("add a space after the colon", " ", Span(here, here))
         match = DASH_WITHOUT_SPACE.match(text)
         if match:
             here = Point(line, match.end())
-            yield case.replace("put a space behind the dash", " ", Span(here, here))
+            yield case.replace("add a space after the dash", " ", Span(here, here))
 
 
 def with_colon(case: Case) -> Iterable[Repair]:
-    """A colon behind a word that is alone on its line, or before the value on it."""
+    """A colon after a word that is alone on its line, or before the value on it."""
     number = case.span.start.line
     for line in (number, number - 1):
         text = case.lines[line] if line >= 0 else ""
         match = re.match(r"^ *(?:- +)?([A-Za-z_][\w-]*)(?= |$)", text)
         if match:
             here = Point(line, match.end())
-            yield case.replace(f'put a colon behind "{match[1]}"', ":", Span(here, here))
+            yield case.replace(f'add a colon after "{match[1]}"', ":", Span(here, here))
 
 
 def single_quotes(case: Case) -> Iterable[Repair]:
-    """A text with backslashes in single quotes, or with each of them twice."""
+    """A text with backslashes in single quotes, or with each backslash doubled."""
     line, column = case.line, case.span.start.column
     start = line.rfind('"', 0, column)
     end = next((match.start() for match in re.finditer(r'(?<!\\)"', line) if match.start() > column), -1)
@@ -223,7 +223,7 @@ def single_quotes(case: Case) -> Iterable[Repair]:
         span = Span(Point(case.span.start.line, start), Point(case.span.start.line, end + 1))
         yield case.replace("put it in single quotes", quoted(line[start + 1:end]), span)
     here = Point(case.span.start.line, column)
-    yield case.replace("write the backslash twice", "\\", Span(here, here))
+    yield case.replace("double the backslash", "\\", Span(here, here))
 
 
 def without_character(case: Case) -> Iterable[Repair]:

@@ -1,4 +1,4 @@
-"""Reads the lines of a report: PATH:LINE:COLUMN: MESSAGE [KIND], alone or with the snippet of three lines below it."""
+"""Parses the lines of a report: PATH:LINE:COLUMN: MESSAGE [KIND], alone or followed by the three lines of a snippet."""
 from __future__ import annotations
 
 import re
@@ -31,8 +31,8 @@ class Fault:
 
 
 def parse_fault(line: bytes, paths: Container[str] | None, width: int | None = None) -> Fault:
-    """The fault of a line. A path can itself look like the beginning of a fault, so more than one may fit: the longest of `paths` is taken,
-    and the shortest that fits where `paths` is None."""
+    """The fault of a line. A path can itself look like the beginning of a fault, so several may match: of `paths` the longest is taken, and
+    if `paths` is None the shortest that matches."""
     kind = KIND.fullmatch(line, max(line.rfind(b" ["), 0))
     end = kind.start() if kind else 0
     best = None
@@ -48,7 +48,7 @@ def parse_fault(line: bytes, paths: Container[str] | None, width: int | None = N
 
 
 def marked_width(marks: bytes) -> int:
-    """How many characters of the file's line are marked."""
+    """How many characters of the source line are marked."""
     first = marks.rfind(b"^")
     if first < 0:
         raise BadReport("it reported a line of a file without a mark")
@@ -56,7 +56,7 @@ def marked_width(marks: bytes) -> int:
 
 
 def parse_report(lines: list[bytes], snippets: bool) -> list[Fault]:
-    """The faults of a whole report, of which the paths aren't known."""
+    """The faults of a whole report whose paths aren't known."""
     return [parse_fault(head, None, marked_width(marks) if snippets else None) for head, marks in _heads_and_marks(lines, snippets)]
 
 

@@ -1,4 +1,4 @@
-"""A folder with its open files, its faults, and what the editor was told of them."""
+"""A folder with its open files, its faults, and what the editor was told about them."""
 from __future__ import annotations
 
 from dataclasses import dataclass, field
@@ -20,7 +20,7 @@ NOTHING = Result({}, {}, set())
 
 @dataclass
 class Document:
-    """An open file, with its path below its repository's folder, and its version by each URI that it was opened by."""
+    """An open file, with its path relative to the repository's folder, and its version by each URI under which it was opened."""
 
     path: str
     repository: Repository
@@ -29,11 +29,11 @@ class Document:
     _earlier: Earlier | None = None
 
     def opened_as(self, uri: str) -> str:
-        """The URI by which it was opened: this one, or the last of those that are the same path."""
+        """The URI under which it was opened: this one, or the last of those with the same path."""
         return uri if uri in self.versions else next(reversed(self.versions))
 
     def data(self) -> bytes:
-        """The bytes that the faults are about: those of the buffer, unless the linter can't be had."""
+        """The bytes that the faults are about: those of the buffer, unless no linter can be run."""
         return self.repository.folder.data_of(self.path)
 
     def lines(self) -> Lines:
@@ -50,11 +50,11 @@ class Document:
         return self.found().faults
 
     def earlier(self) -> FileFaults:
-        """While the file is no YAML, the faults on other lines that it had when it was last."""
+        """While the file isn't valid YAML, the faults on other lines that it had when it last was."""
         return self._earlier.beside(self.found()) if self._earlier and is_no_yaml(self.found()) else NO_FAULTS
 
     def note(self) -> None:
-        """Notes what a later text may show that is no YAML."""
+        """Remembers what to show if a later text isn't valid YAML."""
         data, found = self.data(), self.found()
         if not is_no_yaml(found):
             self._earlier = Earlier(data, found)
@@ -62,7 +62,7 @@ class Document:
             self._earlier = self._earlier.in_text(data)
 
     def faults_in(self, wanted: dict, with_earlier: bool = False) -> list[tuple[Fault, dict]]:
-        """The faults that touch a range, each with its own."""
+        """The faults that touch a range, each with its own range."""
         lines = self.lines()
         faults = self.faults() + (self.earlier().faults if with_earlier else ())
         with_ranges = [(fault, lines.range_of(fault)) for fault in faults
@@ -84,16 +84,16 @@ class Repository:
 
     @cached_property
     def project(self) -> Project:
-        """The files for those who look for names."""
+        """The files for features that look up names."""
         return Project(self.folder.read, self.folder.paths, lambda: actions_below(self.root))
 
     def uri(self, path: str) -> str:
-        """The URI by which the editor has a file open, or else one of its path."""
+        """The URI under which the editor has a file open, or else one of its path."""
         document = self.documents.get(path)
         return next(iter(document.versions)) if document and document.versions else uri_of(self.root, path)
 
     def open(self, path: str) -> Document:
-        """The open file, which `edit` gives its text."""
+        """The open file. `edit` sets its text."""
         document = self.documents.get(path)
         if document is None:
             document = self.documents[path] = Document(path, self, {})
@@ -101,7 +101,7 @@ class Repository:
         return document
 
     def edit(self, path: str, data: bytes | None) -> None:
-        """The bytes of a file's buffer, or None where it is no longer open."""
+        """Sets the bytes of a file's buffer, or None if it is no longer open."""
         self._touched.add(path)
         self.folder.edit(path, data)
 
@@ -110,7 +110,7 @@ class Repository:
         return document.lines() if document else Lines(self.folder.data_of(path), False)
 
     def refresh(self, editor: Editor, diagnostics: Diagnostics) -> None:
-        """Shows the faults as they are now; nothing where the linter can't be had, since all that was shown may be wrong by now."""
+        """Shows the current faults, or nothing if no linter can be run, since what was shown may be wrong by now."""
         result = self.folder.refresh()
         paths = self._touched | (self._shown.keys() if result is None else result.changed)
         self.result, self._touched = result or NOTHING, set()
@@ -118,7 +118,7 @@ class Repository:
             self._show(path, editor, diagnostics)
 
     def close(self, editor: Editor) -> None:
-        """Ends the linter, and takes back what is shown."""
+        """Stops the linter, and removes what is shown."""
         self.folder.close()
         for path in self._shown:
             for uri in self._versions(path):
@@ -130,7 +130,7 @@ class Repository:
         return dict(document.versions) if document else {uri_of(self.root, path): None}
 
     def _show(self, path: str, editor: Editor, diagnostics: Diagnostics) -> None:
-        """Publishes the diagnostics of a file, unless the editor has them already."""
+        """Publishes the diagnostics of a file, unless the editor already has them."""
         versions, document = self._versions(path), self.documents.get(path)
         found, refused, earlier = self.result.faults.get(path, NO_FAULTS), self.result.refused.get(path), NO_FAULTS
         if document and self.shows_earlier and self.result is not NOTHING:

@@ -1,4 +1,4 @@
-"""SARIF 2.1.0 as GitHub's page "SARIF support for code scanning" asks for it, written as the problems come."""
+"""SARIF 2.1.0 as GitHub's page "SARIF support for code scanning" describes it, written as the problems come."""
 from __future__ import annotations
 
 import re
@@ -8,11 +8,11 @@ from urllib.parse import quote
 from .characters import json_text
 from .entries import explained, markdown_of, plain_text, title_of
 from .forms import Form, Outcome
-from .problems import Problem
+from .problems import ERROR, Problem
 from .version import version
 
 SCHEMA = "https://json.schemastore.org/sarif-2.1.0.json"
-# GitHub refuses a run with more results.
+# GitHub refuses a run that has more results.
 MAX_RESULTS = 25_000
 SPECIAL = re.compile(r"[\[\]\\]")
 
@@ -25,6 +25,8 @@ class Sarif(Form):
         self._rules: dict[str, dict] = {}
         self._results = 0
 
+    tells_failure = True
+
     def begin(self) -> None:
         self.write(f'{{"$schema": {json_text(SCHEMA)}, "version": "2.1.0", "runs": [{{\n"columnKind": "unicodeCodePoints",\n"results": [')
 
@@ -36,7 +38,7 @@ class Sarif(Form):
         self._results += 1
 
     def end(self, outcome: Outcome) -> None:
-        invocation: dict[str, object] = {"executionSuccessful": outcome.status in (0, 1), "exitCode": outcome.status}
+        invocation: dict[str, object] = {"executionSuccessful": outcome.is_known(), "exitCode": outcome.status}
         notifications = [{"level": "error", "message": _message(outcome.errors.strip())}] if outcome.errors else []
         if self.left_out:
             notifications.append({"level": "warning", "message": _message(left_out_line(self.left_out))})
@@ -50,7 +52,7 @@ class Sarif(Form):
         self.write(f'],\n"tool": {json_text({"driver": driver}, indent=1)},\n"invocations": {json_text([invocation])}\n}}]}}\n')
 
     def _result(self, problem: Problem) -> dict:
-        """A result, whose rule is added where it is new."""
+        """A result. Adds its rule if it is new."""
         fault = problem.fault
         if problem.code not in self._rules:
             self._rules[problem.code] = _rule(problem, self.docs)
@@ -66,9 +68,10 @@ def left_out_line(count: int) -> str:
 
 
 def _rule(problem: Problem, docs: str | None) -> dict:
-    """What SARIF tells of all faults with a code."""
+    """The reporting descriptor of a code."""
     entry = problem.entry
-    rule: dict[str, object] = {"id": problem.code, "name": problem.fault.kind, "defaultConfiguration": {"level": problem.level}}
+    level = problem.level if problem.is_note() else ERROR
+    rule: dict[str, object] = {"id": problem.code, "name": problem.fault.kind, "defaultConfiguration": {"level": level}}
     if entry:
         rule |= {"shortDescription": {"text": title_of(entry)}, "fullDescription": {"text": plain_text(entry.text)},
                  "help": {"text": explained(entry), "markdown": markdown_of(entry, docs)}}
@@ -81,5 +84,5 @@ def _rule(problem: Problem, docs: str | None) -> dict:
 
 
 def _message(text: str) -> dict:
-    """Text of a message, in which brackets would be links (3.11.6)."""
+    """A message's text, in which brackets are escaped, since they would be links (3.11.6)."""
     return {"text": SPECIAL.sub(r"\\\g<0>", text)}

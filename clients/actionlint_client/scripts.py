@@ -1,7 +1,7 @@
-"""The scripts of a workflow or an action, and where each of their characters stands in the file.
+"""The scripts of a workflow or an action, and the place of each of their characters in the file.
 
-A script is the text of a scalar, which the library yaml (Debian: python3-yaml) reads. Between a scalar as written and its text only blanks,
-breaks and escapes differ, so the places are found by walking both at once.
+A script is the text of a scalar, as PyYAML reads it. A scalar as written and its text differ only in spaces, line breaks and escapes, so
+the places are found by walking through both at once.
 """
 from __future__ import annotations
 
@@ -18,13 +18,13 @@ SHELLS = ("bash", "sh")
 
 
 class NotRead(Exception):
-    """A file that the library doesn't read, or in which a script isn't found again."""
+    """A file that PyYAML doesn't read, or in which a script isn't found again."""
 
 
 @dataclass(frozen=True)
 class Script:
-    """A script of `bash` or `sh` without its expressions: words of the same length stand for them. `offsets` has of each character, and of
-    its end, where it stands in the file's text; `lines` has where its lines begin."""
+    """A script for `bash` or `sh`, with a word of the same length in place of each expression. `offsets` has the place in the file's text
+    of each character and of the end; `lines` has the starts of its lines."""
 
     shell: str
     text: str
@@ -32,20 +32,20 @@ class Script:
     lines: list[int]
 
     def offset_of(self, line: int, column: int) -> int:
-        """Where the character at a line and a column, both from 1, stands in the file's text."""
+        """The place in the file's text of a line and a column, both from 1."""
         return self.offsets[min(self.lines[line - 1] + column - 1, len(self.text))]
 
 
 @dataclass(frozen=True)
 class Atom:
-    """A character of a scalar's text where it is written; blanks and breaks alone where an escape gives them."""
+    """A character of a scalar's text, at its place as written. Spaces and breaks only if an escape gives them."""
 
     character: str
     offset: int
 
 
 def scripts_and_calls(text: str) -> tuple[list[Script], list[str]]:
-    """The scripts of a file, each once, and the local folders that its steps and jobs call. The library has to be there."""
+    """The scripts of a file, each once, and the local folders that its steps and jobs call. PyYAML must be there."""
     import yaml
 
     mark = len(BYTE_ORDER_MARK) if text.startswith(BYTE_ORDER_MARK) else 0
@@ -76,7 +76,7 @@ def without_expressions(text: str) -> str:
 
 
 def _end_of_expression(text: str, start: int) -> int | None:
-    """Behind its braces, which don't count in single quotes; None where it has no end."""
+    """The offset after its closing braces, which don't count in single quotes, or None if it has none."""
     in_quotes, at = False, start + 3
     while at < len(text):
         if text[at] == "'":
@@ -88,7 +88,7 @@ def _end_of_expression(text: str, start: int) -> int | None:
 
 
 def _atoms(text: str, start: int, end: int, style: str | None) -> Iterator[Atom]:
-    """What of a scalar as written makes its text, blanks and breaks aside. It may begin with an anchor."""
+    """The characters of a scalar as written that make its text, except spaces and breaks. It may begin with an anchor."""
     at = start
     if text[at] == "&":
         while at < end and text[at] not in BLANKS:
@@ -113,7 +113,7 @@ def _atoms(text: str, start: int, end: int, style: str | None) -> Iterator[Atom]
 
 
 def _escape(text: str, at: int) -> tuple[int, str | None]:
-    """The length of an escape and its character; none where it only joins two lines."""
+    """The length of an escape and its character, or None if it only joins two lines."""
     kind = text[at + 1]
     if kind in DIGITS:
         digits = text[at + 2:at + 2 + DIGITS[kind]]
@@ -122,7 +122,7 @@ def _escape(text: str, at: int) -> tuple[int, str | None]:
 
 
 def _offsets(value: str, atoms: list[Atom], start: int) -> list[int]:
-    """Where each character of a scalar's text stands, and its end."""
+    """The place of each character of a scalar's text, and of its end."""
     known: list[int | None] = []
     number = 0
     for character in value:
@@ -137,7 +137,7 @@ def _offsets(value: str, atoms: list[Atom], start: int) -> list[int]:
 
 
 def _filled(value: str, known: list[int | None], start: int) -> list[int]:
-    """The places of blanks: those behind a character stand behind it, those that begin a line before its first character."""
+    """The places of spaces: after the character before them, or before the first character of the line that they begin."""
     offsets: list[int | None] = [*known, None]
     begins_line = [True]
     for character in value:
@@ -154,7 +154,7 @@ def _filled(value: str, known: list[int | None], start: int) -> list[int]:
 
 
 def _workflow_steps(root) -> Iterator[tuple[str | None, object]]:
-    """The steps of jobs, each with its shell; None where that is another one than bash or sh."""
+    """The steps of jobs, each with its shell, or None if that isn't bash or sh."""
     above = _default_shell(root)
     for job in _jobs(root):
         usual = "sh" if _value(job, "container") is not None else None if _has_windows(job) else "bash"
@@ -180,7 +180,7 @@ def _default_shell(node) -> str | None:
 
 
 def _has_windows(job) -> bool:
-    """Whether a job may run on Windows, where the usual shell is another one: by its labels, and where these are computed by its matrix."""
+    """Whether a job may run on Windows, where the default shell is another one: by its labels, or by its matrix if they are computed."""
     labels = _texts(_value(job, "runs-on"))
     if any("${{" in label for label in labels):
         labels += _texts(_value(job, "strategy"))
@@ -209,7 +209,7 @@ def _scalar(node, key: str):
 
 
 def _texts(node) -> list[str]:
-    """The scalars of a node, keys aside. Each node is looked at once, since aliases can share it."""
+    """The scalars of a node, except keys. Each node is visited once, since aliases can share it."""
     found, seen, waiting = [], set(), [node]
     while waiting:
         one = waiting.pop()

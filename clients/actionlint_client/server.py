@@ -1,4 +1,4 @@
-"""actionlint-lsp: a language server on standard input and output (Language Server Protocol 3.17), for every editor that speaks it."""
+"""actionlint-lsp: a language server on standard input and output (Language Server Protocol 3.17)."""
 from __future__ import annotations
 
 import argparse
@@ -7,11 +7,12 @@ import os
 import queue
 import resource
 import sys
+from functools import partial
 from pathlib import Path
-from typing import Callable
+from typing import BinaryIO, Callable
 
 from pylsp_jsonrpc.endpoint import Endpoint
-from pylsp_jsonrpc.exceptions import JsonRpcMethodNotFound
+from pylsp_jsonrpc.exceptions import JsonRpcException, JsonRpcInvalidRequest, JsonRpcMethodNotFound, JsonRpcServerError
 from pylsp_jsonrpc.streams import JsonRpcStreamWriter
 
 from .actions import CodeActions
@@ -20,27 +21,29 @@ from .diagnostics import Diagnostics
 from .editor import Editor
 from .folder import Folder, Program
 from .hover import Hover
-from .messages import END, Messages
-from .navigation import Navigation, RenameRefused
+from .messages import Messages
+from .navigation import Navigation
 from .repository import Repository
 from .symbols import Symbols
 from .uris import path_of
+from .version import version
 from .workspace import Workspace
 
 FULL_TEXT = 1
+SERVER_NOT_INITIALIZED = -32002
 
 
 class Server:
-    """Messages are taken one after another. Diagnostics go out when no further message waits, and before each answer to a request.
+    """Takes messages one after another. Diagnostics are sent when no further message waits, and before each answer to a request.
 
-    A feature answers requests: its `handlers` are functions by the protocol's method, given the message's parameters by their names, and
-    its `capabilities` are told to the editor. The protocol's notifications are the server's own.
+    A feature answers requests: its `handlers` are functions by method, called with the message's parameters by name, and its `capabilities`
+    are sent to the editor. Notifications are handled here.
     """
 
-    def __init__(self, options: argparse.Namespace, docs: str | None, stdin, stdout):
+    def __init__(self, options: argparse.Namespace, docs: str | None, stdin: BinaryIO, stdout: BinaryIO):
         self._messages = Messages(stdin)
-        self._handlers: dict[str, Callable[[dict | None], object]] = {}
-        self._endpoint = Endpoint(self._handlers, JsonRpcStreamWriter(stdout).write)
+        self._send = JsonRpcStreamWriter(stdout).write
+        self._endpoint = Endpoint(self, self._send)
         self._editor = Editor(self._endpoint.notify, self._endpoint.request)
         program = Program([options.program], options.timeout)
         diagnostics = Diagnostics(docs)
@@ -56,15 +59,10 @@ class Server:
             Symbols(self._workspace),
         )
         self._named: list[bytes] = []
-        self._is_shut_down = False
-        for handlers in (self._notifications(), *(feature.handlers() for feature in self._features)):
-            self._handlers.update({method: _by_name(function) for method, function in handlers.items()})
-
-    def _notifications(self) -> dict[str, Callable]:
-        """What the server itself does, by method."""
-        return {
+        self._is_initialized = self._is_shut_down = False
+        self._handlers: dict[str, Callable] = {
             "initialize": self._initialize,
-            "initialized": self._initialized,
+            "initialized": self._start,
             "shutdown": self._shut_down,
             "textDocument/didOpen": self._open,
             "textDocument/didChange": self._change,
@@ -72,11 +70,12 @@ class Server:
             "textDocument/didClose": self._close,
             "workspace/didChangeWatchedFiles": self._take_changed_files,
             "workspace/didChangeWorkspaceFolders": self._take_changed_folders,
-            "workspace/didChangeConfiguration": _pass_over,
         }
+        for feature in self._features:
+            self._handlers.update(feature.handlers())
 
     def run(self) -> int:
-        """Serves until the editor says `exit` or ends the input. The status is 0 where it said `shutdown` before, else 1."""
+        """Serves until the editor says `exit` or its input ends. The status is 0 if it said `shutdown` before, else 1."""
         self._messages.start()
         while True:
             try:
@@ -86,22 +85,39 @@ class Server:
                     self._workspace.rescan()
                 self._workspace.refresh()
                 continue
-            if message is END or isinstance(message, dict) and message.get("method") == "exit":
+            if message is None or isinstance(message, dict) and message.get("method") == "exit":
                 break
-            if isinstance(message, dict):
-                self._take(message)
+            self._take(message)
+            if self._workspace.is_stale and self._messages.is_empty():
+                self._workspace.refresh()
         self._workspace.end()
         return 0 if self._is_shut_down else 1
 
-    def _take(self, message: dict) -> None:
+    def _take(self, message: dict | JsonRpcException) -> None:
+        """Lets the endpoint take a message, or answers what is none."""
+        if isinstance(message, JsonRpcException):
+            self._send({"jsonrpc": "2.0", "id": None, "error": message.to_dict()})
+            return
         if self._workspace.is_stale and "id" in message and "method" in message:
             self._workspace.refresh()
         try:
             self._endpoint.consume(message)
         except Exception:
             logging.exception("a message could not be taken")
-        if self._workspace.is_stale and self._messages.is_empty():
-            self._workspace.refresh()
+
+    def __getitem__(self, method: str) -> Callable[[dict | None], object]:
+        """What the endpoint calls with the parameters of a message."""
+        return partial(self._handle, method)
+
+    def _handle(self, method: str, parameters: dict | None) -> object:
+        """Answers a request, or handles a notification. Raises JsonRpcException if the method is unknown, or may not be called now."""
+        if not self._is_initialized and method != "initialize":
+            raise JsonRpcServerError(f"{method} comes before initialize", SERVER_NOT_INITIALIZED)
+        if self._is_shut_down or self._is_initialized and method == "initialize":
+            raise JsonRpcInvalidRequest(f"{method} comes too late")
+        if method not in self._handlers:
+            raise JsonRpcMethodNotFound.of(method)
+        return self._handlers[method](**(parameters or {}))
 
     def _initialize(self, rootUri=None, rootPath=None, workspaceFolders=None, capabilities=None, **_) -> dict:
         uris = [folder["uri"] for folder in workspaceFolders or []] or ([rootUri] if rootUri else [])
@@ -115,9 +131,10 @@ class Server:
         }
         for feature in self._features:
             told.update(feature.capabilities)
-        return {"capabilities": told, "serverInfo": {"name": "actionlint-lsp"}}
+        self._is_initialized = True
+        return {"capabilities": told, "serverInfo": {"name": "actionlint-lsp", "version": version() or "unknown"}}
 
-    def _initialized(self, **_) -> None:
+    def _start(self, **_) -> None:
         if self._editor.watches():
             self._editor.ask_to_watch()
         self._workspace.add_folders(self._named)
@@ -146,27 +163,18 @@ class Server:
         self._workspace.remove_folders(set(_paths_of([folder["uri"] for folder in event.get("removed") or []])))
 
 
-def _by_name(function: Callable) -> Callable[[dict | None], object]:
-    """A function of named parameters as one of a message's."""
-    return lambda parameters: function(**(parameters or {}))
-
-
-def _pass_over(**_) -> None:
-    pass
-
-
 def _paths_of(uris: list[str]) -> list[bytes]:
     return [path for path in map(path_of, uris) if path]
 
 
 def _bytes_of(text: str) -> bytes:
-    """A lone half of a surrogate pair has no UTF-8 form; as three bytes it is a fault of the file."""
+    """The text in UTF-8. Half of a surrogate pair becomes three bytes, which are a fault of the file."""
     return text.encode("utf-8", "surrogatepass")
 
 
 def _is_news(record: logging.LogRecord) -> bool:
-    """A request that this server doesn't know is answered by an error, and is nothing to tell."""
-    return not (record.exc_info and isinstance(record.exc_info[1], (JsonRpcMethodNotFound, RenameRefused)))
+    """Whether a failure is worth a line of the log. Refusals are not: the editor is told why."""
+    return not (record.exc_info and isinstance(record.exc_info[1], JsonRpcException))
 
 
 def _default_docs() -> str | None:
@@ -175,7 +183,7 @@ def _default_docs() -> str | None:
 
 
 def _take_all_descriptors() -> None:
-    """The limit of open files that a program starts with is that of those who use `select`; each linter takes two."""
+    """Raises the limit of open files, since each linter takes two. The usual one is low for the sake of programs that use `select`."""
     _, most = resource.getrlimit(resource.RLIMIT_NOFILE)
     try:
         resource.setrlimit(resource.RLIMIT_NOFILE, (most, most))
@@ -185,18 +193,22 @@ def _take_all_descriptors() -> None:
 
 def main(options: argparse.Namespace) -> int:
     _take_all_descriptors()
-    logging.basicConfig(filename=options.log, level=logging.ERROR)
+    try:
+        logging.basicConfig(filename=options.log, level=logging.ERROR)
+    except OSError as error:
+        print(f"actionlint-lsp: cannot write {options.log}: {error.strerror}", file=sys.stderr)
+        return 2
     logging.getLogger("pylsp_jsonrpc.endpoint").addFilter(_is_news)
     docs = options.docs or _default_docs()
-    # What other code prints must not come between messages.
+    # Nothing else may be printed between messages.
     stdout = os.fdopen(os.dup(1), "wb")
     os.dup2(2, 1)
-    server = Server(options, docs.rstrip("/") if docs else None, sys.stdin.buffer, stdout)
+    server = Server(options, docs, sys.stdin.buffer, stdout)
     try:
         status = server.run()
     except Exception:
         logging.exception("the server stopped")
         status = 1
     logging.shutdown()
-    # The thread that reads is still in a read, for which the interpreter's own end would wait.
+    # The usual exit would wait for the reading thread, which is blocked in a read.
     os._exit(status)

@@ -1,4 +1,4 @@
-"""A run of `actionlint --session`: commands go to its standard input, and each is answered before the next one is sent."""
+"""A run of `actionlint --session`. Each command is sent once the one before is answered."""
 from __future__ import annotations
 
 import os
@@ -18,7 +18,7 @@ LONGEST_END = len(b"\nstatus 0\n")
 
 
 class LinterEnded(Exception):
-    """The linter can't be started or has ended, or what it wrote is no reply."""
+    """The linter can't be started or has ended, or what it wrote isn't a reply."""
 
 
 class LinterMissing(LinterEnded):
@@ -30,11 +30,11 @@ class LinterSilent(LinterEnded):
 
 
 class ReportTooLong(Exception):
-    """A report has more bytes than are allowed. The linter was stopped, since the rest of the report stands before any reply."""
+    """A report has more bytes than allowed. The linter was stopped, since the rest of the report comes before any reply."""
 
 
 class Session:
-    """For one thread. After one of the exceptions above the linter is gone; a new session begins with an empty folder."""
+    """Not thread-safe. After one of the exceptions above the linter is gone; a new session begins with an empty folder."""
 
     def __init__(self, program: list[str], oneline: bool, timeout: float):
         self.oneline = oneline
@@ -73,7 +73,7 @@ class Session:
         return b"".join(read).split(b"\n")[:-1]
 
     def report_blocks(self) -> Iterator[bytes]:
-        """The report before its status, in blocks. Who doesn't read them all has to stop the session, since the rest stands before any
+        """The report before its status, in blocks. If they aren't all read, the session has to be stopped, since the rest comes before any
         reply."""
         self._send(b"report\n")
         self._is_reporting = True
@@ -88,8 +88,8 @@ class Session:
             yield held[:-len(LAST_LINES[0])]
 
     def stop(self) -> int:
-        """Ends the linter, for which the end of its input suffices, and answers its status. In the middle of a report it would say that it
-        couldn't write the rest."""
+        """Stops the linter and returns its status. The end of its input is enough, except during a report, where it would complain that it
+        can't write the rest."""
         if self._child.returncode is not None:
             return self._child.returncode
         if self._is_reporting and self._child.poll() is None:
@@ -139,13 +139,13 @@ class Session:
 
 
 def _ends_report(report: bytes) -> bool:
-    """Whether a report ends here, by its last bytes. No other line is `status N`: a fault's begins with a path and ends with a kind, and
-    those of its snippet begin with a number or a space."""
+    """Whether a report ends here, by its last bytes. No other line is `status N`: a fault's begins with a path and ends with a kind, and a
+    snippet's begins with a number or a space."""
     return report in LAST_LINES or report.endswith(tuple(b"\n" + line for line in LAST_LINES))
 
 
 def _is_ready(descriptor: int, event: int, seconds: float) -> bool:
-    """Waits until a pipe can be read or written, or has no other end. Unlike `select` it takes descriptors of any number."""
+    """Waits until a pipe can be read or written, or its other end is closed. Unlike `select`, it works for descriptors of any number."""
     waiting = select.poll()
     waiting.register(descriptor, event)
     return bool(waiting.poll(max(seconds, 0) * 1_000))

@@ -1,4 +1,4 @@
-"""Notes of shellcheck over the scripts of files, at their places there. Nothing of it is proved."""
+"""Notes of shellcheck on the scripts of files, at their places in the files."""
 from __future__ import annotations
 
 import json
@@ -18,7 +18,7 @@ from .report import Fault
 from .scripts import NotRead, Script, scripts_and_calls
 
 PROGRAM = "shellcheck"
-# A script may read what other steps wrote, what `env` sets and what an expression gives, for which a word stands here.
+# A script may read files of other steps and variables of `env`, and a word stands for each expression.
 EXCLUDED = "SC1091,SC2043,SC2050,SC2154,SC2157,SC2194"
 SCRIPTS_OF_A_RUN = 50
 SECONDS_OF_A_RUN = 120
@@ -28,7 +28,7 @@ LINE_BREAK = re.compile(r"\r\n|\n|\r")
 
 
 class ShellcheckFailed(Exception):
-    """It can't be started, doesn't end in time, or says something else than notes."""
+    """It can't be started, doesn't end in time, or prints something else than notes."""
 
 
 class SourceFile:
@@ -39,7 +39,7 @@ class SourceFile:
         self._starts = [0, *(found.end() for found in LINE_BREAK.finditer(text))]
 
     def fault(self, start: int, end: int, message: str) -> Fault:
-        """One from a character to before another one, at most to the end of its line."""
+        """A fault from one character up to another, at most to the end of its line."""
         line = bisect_right(self._starts, start)
         length = len(self.line(line)) - (start - self._starts[line - 1])
         return Fault(self.path, line, start - self._starts[line - 1] + 1, message, PROGRAM, max(min(end - start, length), 1))
@@ -57,10 +57,10 @@ class SourceFile:
 
 
 def notes(root: str, files: list[str], refused: set[str], say: Callable[[str], None]) -> Iterator[Problem]:
-    """The notes over all scripts of the files and of what they call, or of all workflows, in order of the scripts. Files that the linter
-    refused are passed over, and `say` is told of those that can't be read here."""
-    if not library.find("yaml"):
-        raise ShellcheckFailed("scripts need the library yaml (Debian: apt-get install python3-yaml)")
+    """The notes on all scripts of the files and of what they call, or of all workflows, in the order of the scripts. Files that aren't
+    valid YAML for the linter are skipped, and `say` is told about those that can't be read here."""
+    if said := library.missing(["yaml"]):
+        raise ShellcheckFailed(said)
     found = _scripts(Disk(os.fsencode(root), say), files, refused, say)
     while some := list(islice(found, SCRIPTS_OF_A_RUN)):
         for note in sorted(_said_of([script for _, script in some]), key=lambda one: (int(one["file"]), one["line"], one["column"])):
@@ -89,7 +89,7 @@ def _scripts(disk: Disk, files: list[str], refused: set[str], say: Callable[[str
 
 
 def _called(call: str) -> list[str]:
-    """The files that may answer a local call; none where it leaves the folder."""
+    """The files that a local call may lead to, none if it leaves the folder."""
     name = call[2:].removesuffix("/")
     parts = name.split("/") if name else []
     if any(part in ("", ".", "..") for part in parts):
@@ -98,7 +98,7 @@ def _called(call: str) -> list[str]:
 
 
 def _said_of(scripts: list[Script]) -> list[dict]:
-    """What shellcheck says of some scripts; `file` is the number of the script."""
+    """What shellcheck says about some scripts; `file` is the index of the script."""
     said: list[dict] = []
     with tempfile.TemporaryDirectory(prefix="actionlint-") as folder:
         for number, script in enumerate(scripts):
@@ -127,6 +127,6 @@ def _json_of(command: list[str], folder: str) -> list[dict]:
         raise ShellcheckFailed(f"{PROGRAM} took more than {SECONDS_OF_A_RUN} seconds") from error
     try:
         return json.loads(done.stdout)["comments"]
-    except (ValueError, KeyError) as error:
-        raise ShellcheckFailed(f"{PROGRAM} ended with status {done.returncode}: {done.stderr.decode('utf-8', 'replace').strip()[:200]}"
-                               ) from error
+    except (ValueError, KeyError, TypeError) as error:
+        said = (done.stderr or done.stdout).decode("utf-8", "replace").strip()[:200]
+        raise ShellcheckFailed(f"{PROGRAM} ended with status {done.returncode}: {said}") from error

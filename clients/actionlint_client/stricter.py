@@ -1,4 +1,5 @@
-"""Where GitHub takes less than the linter does: the keys below an event, and the accesses of a scope. Completion offers what both take."""
+"""Where GitHub accepts less than the linter: the keys below an event, and the access levels of a permission scope. Completion offers what
+both accept."""
 from __future__ import annotations
 
 FILTERS = {
@@ -13,10 +14,10 @@ ALL_ACCESSES = {"read", "write", "none"}
 
 
 def takes_filter(event: str, key: str) -> bool:
-    """Whether GitHub knows a key below an event that has none of its own, as `schedule` has."""
+    """Whether GitHub knows a key below an event, unless the event has keys of its own, as `schedule` has."""
     return key.removesuffix("-ignore") in FILTERS.get(event, set() if event in WITHOUT_TYPES else {"types"})
 
 
 def takes_access(scope: str, access: str) -> bool:
-    """Whether a scope of `permissions` can have an access."""
+    """Whether a scope of `permissions` can have an access level."""
     return access in ACCESSES.get(scope, ALL_ACCESSES)

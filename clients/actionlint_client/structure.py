@@ -1,4 +1,4 @@
-"""What a file is made of: its jobs and steps, the addresses in it, and the lines that belong together."""
+"""The structure of a file: its jobs and steps, its links, and the lines that belong together."""
 from __future__ import annotations
 
 from typing import Iterator, NamedTuple
@@ -11,7 +11,7 @@ MAX_NAME_CHARACTERS = 80
 
 
 class Part(NamedTuple):
-    """A workflow, an action, a job or a step: its name, what it is, all of it, and the part that names it."""
+    """A workflow, an action, a job or a step: its name, its kind, its span, and the span of its name."""
 
     name: str
     kind: str
@@ -29,7 +29,7 @@ class Link(NamedTuple):
 
 
 def part_of(project: Project, file: str) -> Part | None:
-    """The workflow or the action; None where the file never was YAML."""
+    """The workflow or the action, or None if the file never was valid YAML."""
     tree, lines = project.tree(file), project.lines(file)
     if tree is None or tree.kind != "mapping":
         return None

@@ -33,7 +33,7 @@ class Symbols:
         return [_symbol(place, part)] if place and part else []
 
     def of_workspace(self, query="", **_) -> list[dict]:
-        """The first 1,000 workflows, jobs and steps whose names have the text, in any case of letters."""
+        """The first 1,000 workflows, jobs and steps whose names contain the text, in any case."""
         found: list[dict] = []
         for repository in self._workspace.repositories():
             for path in sorted(repository.folder.paths()):

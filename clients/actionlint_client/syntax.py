@@ -1,4 +1,4 @@
-"""What may stand where in workflows and actions, and what each name means (syntax.json, by make_tables.py)."""
+"""What is allowed where in workflows and actions, and what each name means. make_tables.py writes syntax.json."""
 from __future__ import annotations
 
 import json

@@ -22,7 +22,7 @@ def has_color(when: str, is_terminal: bool) -> bool:
 class Text(Form):
     """A paragraph for each problem, and a last line with the count."""
 
-    tells_count = True
+    tells_count = tells_failure = True
 
     def __init__(self, out: BinaryIO, docs: str | None, color: bool = False):
         super().__init__(out, docs)
@@ -45,7 +45,7 @@ class Text(Form):
         self.write(outcome.count_line() + "\n")
 
     def _snippet(self, problem: Problem) -> None:
-        """The file's line and its marks, unless it is too long to be read."""
+        """The source line and its marks, unless it is too long to read."""
         if not problem.snippet or max(map(len, problem.snippet[1:])) > LONGEST_LINE:
             return
         _, line, marks = (terminal_text(part.decode("utf-8", "replace")) for part in problem.snippet)

@@ -1,4 +1,4 @@
-"""The tree of a text of YAML with the places of its nodes, read by PyYAML. Lines and columns count from 0, columns are characters."""
+"""The tree of a YAML text with the places of its nodes, read by PyYAML. Lines and columns count from 0; columns are characters."""
 from __future__ import annotations
 
 from dataclasses import dataclass, field
@@ -7,15 +7,15 @@ from typing import Iterator, NamedTuple, Union
 
 import yaml
 
-# By libyaml where PyYAML has it, which is ten times as fast.
+# libyaml, if PyYAML has it, is ten times as fast.
 LOADER = getattr(yaml, "CLoader", yaml.Loader)
 MAX_DEPTH = 200
-# PyYAML breaks lines at these too, YAML 1.2 and the linter don't.
+# PyYAML takes these for line breaks; YAML 1.2 and the linter don't.
 NO_BREAKS = str.maketrans("\x85\u2028\u2029", "???")
 
 STARTS = {yaml.MappingStartEvent: "mapping", yaml.SequenceStartEvent: "sequence"}
 ENDS = (yaml.MappingEndEvent, yaml.SequenceEndEvent)
-# What scalars have in place of entries and items.
+# The entries and the items of scalars.
 NOTHING: list = []
 
 Path = tuple[Union[str, int], ...]
@@ -31,13 +31,13 @@ class Span(NamedTuple):
     end: Point
 
     def holds(self, point: Point) -> bool:
-        """Whether the point stands in the span or at one of its ends."""
+        """Whether the point is in the span or at one of its ends."""
         return self.start <= point <= self.end
 
 
 @dataclass
 class Node:
-    """A node. An alias has the contents of its anchor at its own place. A list or a mapping in brackets is a flow one."""
+    """A node. An alias has the contents of its anchor, at its own place."""
 
     kind: str
     span: Span
@@ -51,7 +51,7 @@ class Node:
 
     @cached_property
     def _by_key(self) -> dict[str, tuple[Node, Node]]:
-        """The entries by their keys, of equal ones the first."""
+        """The entries by their keys, the first of those with equal keys."""
         return {name.value: (name, value) for name, value in reversed(self.entries)}
 
     def get(self, key: str) -> Node | None:
@@ -94,7 +94,7 @@ class Node:
 
 
 def read_tree(text: str) -> Node | None:
-    """The tree of the first document, or None where the text is no YAML, is empty or is nested too deeply."""
+    """The tree of the first document, or None if the text isn't valid YAML, is empty or is nested too deeply."""
     try:
         return _built(yaml.parse(text.translate(NO_BREAKS), Loader=LOADER))
     except (yaml.YAMLError, ValueError):
@@ -102,7 +102,7 @@ def read_tree(text: str) -> Node | None:
 
 
 def walk(node: Node, path: Path = ()) -> Iterator[tuple[Path, Node | None, Node]]:
-    """Each node below one with its path and the node of its key, in the order of the text. Contents of aliases are passed over."""
+    """Each node below one with its path and the node of its key, in the order of the text, except the contents of aliases."""
     if node.alias is not None:
         return
     for key, value in node.entries:
@@ -124,7 +124,7 @@ def last_line(node: Node, lines: list[str]) -> int:
         line -= node.span.end.column == 0 and line > node.span.start.line
         while line > node.span.start.line and not lines[line].strip():
             line -= 1
-    # Where a key ends a text without a line feed its value stands behind the text.
+    # If a key ends a text without a line feed, its value is past the end.
     return min(line, len(lines) - 1)
 
 

@@ -1,4 +1,4 @@
-"""The editor's URIs, and the repository of a file. Paths are bytes, since a folder's name need not be UTF-8."""
+"""The editor's URIs, and the repository of a file. Paths are bytes, since folders' names need not be UTF-8."""
 from __future__ import annotations
 
 import os
@@ -8,7 +8,7 @@ from .paths import WORKFLOWS, is_below
 
 
 def path_of(uri: str) -> bytes | None:
-    """The one path of a `file` URI of this machine, however the URI spells it, or None where there can be no such file."""
+    """The path of a `file` URI of this machine, the same for all spellings of the URI. None if there can be no such file."""
     try:
         parts = urlsplit(uri)
         path = unquote_to_bytes(parts.path)
@@ -24,7 +24,8 @@ def uri_of(root: bytes, path: str) -> str:
 
 
 def root_of_folder(folder: bytes, workspace: list[bytes]) -> bytes:
-    """The nearest folder around, the given one too, with a `.git` or workflows; else the workspace's around it; else itself."""
+    """The nearest folder, from this one upwards, with a `.git` or workflows; else the innermost folder of the workspace around it; else
+    itself."""
     above = folder
     while True:
         if os.path.exists(os.path.join(above, b".git")) or os.path.isdir(os.path.join(above, WORKFLOWS.encode())):

@@ -1,4 +1,4 @@
-"""The version of what the clients belong to."""
+"""The version of the clients."""
 from __future__ import annotations
 
 from pathlib import Path
@@ -7,7 +7,7 @@ FILE = Path(__file__).resolve().parents[2] / "VERSION"
 
 
 def version() -> str | None:
-    """What the file VERSION of the repository or the release says, or None where there is none."""
+    """The contents of the file VERSION of the repository or the release, or None if there is none."""
     try:
         return FILE.read_text(encoding="utf-8").strip()
     except OSError:

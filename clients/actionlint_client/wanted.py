@@ -1,4 +1,4 @@
-"""What keys take where all checked sections that have them take the same (syntax.json, by make_tables.py)."""
+"""The kind of value that a key takes, if it is the same in all checked sections that have the key (by syntax.json)."""
 from __future__ import annotations
 
 from functools import lru_cache
@@ -9,13 +9,13 @@ KINDS_OF_SCALARS = {"Numbers": "number", "Bools": "flag"}
 
 
 def wanted_under(key: str) -> str | None:
-    """`list`, `mapping`, `number` or `flag`; None where a key takes several of them or is in no section."""
+    """`list`, `mapping`, `number` or `flag`. None if a key takes several of them or is in no section."""
     return _kinds().get(key)
 
 
 @lru_cache(maxsize=None)
 def _kinds() -> dict[str, str | None]:
-    """The kind of value of each key, None where sections differ."""
+    """The kind of value of each key, None if sections differ."""
     shapes, found = table()["shapes"], {}
     for section in shapes.values():
         if section.get("others") not in (None, "unchecked"):
@@ -26,7 +26,7 @@ def _kinds() -> dict[str, str | None]:
 
 
 def _kind(shape: dict) -> str | None:
-    """What a shape takes alone. An expression in place of a whole mapping makes no difference."""
+    """The only kind that a shape takes. An expression in place of a whole mapping makes no difference."""
     has_keys = shape["free"] is not None or "keys" in shape
     if shape["items"] or has_keys:
         is_one = shape["scalars"] == "NoScalar" or has_keys and shape["scalars"] == "Chunks"

@@ -1,4 +1,4 @@
-"""The repositories that are linted: those of the workspace's folders, and those in which a workflow or an action is open."""
+"""The linted repositories: those of the workspace's folders, and those in which a workflow or an action is open."""
 from __future__ import annotations
 
 import os
@@ -15,7 +15,7 @@ LEAST_WAIT_SECONDS = 0.1
 
 
 class Workspace:
-    """What an edit changes is shown by the next `refresh`."""
+    """The next `refresh` shows what an edit changed."""
 
     def __init__(self, new_repository: Callable[[bytes], Repository], editor: Editor, diagnostics: Diagnostics):
         self.is_stale = False
@@ -26,7 +26,7 @@ class Workspace:
         self._folders: dict[bytes, bytes] = {}
 
     def document(self, uri: str) -> Document | None:
-        """The open workflow or action of a URI."""
+        """The open workflow or action with a URI."""
         return self._documents.get(path_of(uri) or b"")
 
     def repositories(self) -> list[Repository]:
@@ -42,7 +42,7 @@ class Workspace:
         self._let_go()
 
     def open(self, uri: str, version: int | None, data: bytes) -> None:
-        """Another file than a workflow or an action is passed over."""
+        """Files other than workflows and actions are ignored."""
         file = path_of(uri)
         if file is None:
             return
@@ -66,7 +66,7 @@ class Workspace:
             self.is_stale = True
 
     def close(self, uri: str) -> None:
-        """A file that was opened by several URIs stays open until it is closed as often."""
+        """A file that was opened under several URIs stays open until it is closed as often."""
         document = self.document(uri)
         if document is None:
             return
@@ -85,7 +85,7 @@ class Workspace:
         self.is_stale = True
 
     def take_changed_files(self, uris: list[str]) -> None:
-        """Reads these files again, and looks at the disk for others."""
+        """Reads these files again, and looks for others on disk."""
         paths = [path for path in map(path_of, uris) if path]
         for repository in self._repositories.values():
             below = {os.path.relpath(path, repository.root) for path in paths if is_below(path, repository.root)}
@@ -99,8 +99,8 @@ class Workspace:
             repository.refresh(self._editor, self._diagnostics)
 
     def wait_seconds(self) -> float | None:
-        """How long a message is waited for before the disk is looked at, where the editor doesn't watch it, or before a linter that ended
-        too often is started again."""
+        """How long to wait for a message before looking at the disk, if the editor doesn't watch it, or before starting a linter again that
+        ended too often."""
         delays = [repository.folder.delay() for repository in self._repositories.values()]
         if any(delays):
             return max(*delays, LEAST_WAIT_SECONDS)
@@ -121,7 +121,7 @@ class Workspace:
         return repository
 
     def _let_go(self) -> None:
-        """Ends the linters of the folders that are no longer linted."""
+        """Stops the linters of folders that are no longer linted."""
         kept = set(self._folders.values())
         for root, repository in list(self._repositories.items()):
             if root not in kept and not repository.documents:

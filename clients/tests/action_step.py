@@ -14,7 +14,7 @@ import sys
 import tempfile
 
 from cases import Cases
-from repositories import CLIENTS, FILE, FILES, TOP, WORKFLOWS, reported, write
+from repositories import CLIENTS, FILE, FILES, TOP, UNDEFINED, WORKFLOWS, reported, write
 
 CASES = Cases("step")
 FAULT = '.github/workflows/wrong.yml:1:5: unknown event "pussh" [events]'
@@ -28,10 +28,10 @@ class Runner:
         self.root = tempfile.mkdtemp(prefix="actionlint-test-")
         write(self.root, files)
 
-    def step(self, files: str = "", sarif: str = "") -> tuple[int, list[str]]:
+    def step(self, files: str = "", sarif: str = "", path: str = "/usr/bin:/bin") -> tuple[int, list[str]]:
         """The step's status and the lines of its log."""
         output = self.root + "/output"
-        environment = {"PATH": "/usr/bin:/bin", "HERE": self.here, "PROGRAM": self.program, "FILES": files, "SARIF": sarif,
+        environment = {"PATH": path, "HERE": self.here, "PROGRAM": self.program, "FILES": files, "SARIF": sarif,
                        "GITHUB_OUTPUT": output}
         done = subprocess.run([self.here + "/clients/github/run"], cwd=self.root, env=environment, stdout=subprocess.PIPE,
                               stderr=subprocess.PIPE, check=False)
@@ -90,6 +90,19 @@ def no_linter(_: str) -> None:
 
 
 @CASES.case
+def nothing_to_write_sarif_with(program: str) -> None:
+    """Without python3 the faults are printed, and the status is 3."""
+    runner = Runner(program, FILES)
+    os.mkdir(runner.root + "/bin")
+    for command in ("bash", "sh", "env", "head", "od", "tr"):
+        os.symlink(shutil.which(command), f"{runner.root}/bin/{command}")
+    status, lines = runner.step(sarif="faults.sarif", path=runner.root + "/bin")
+    assert status == 3 and "python3" in lines[2] and any(UNDEFINED in line for line in lines[3:-2]), lines
+    assert runner.step(path=runner.root + "/bin")[0] == 1
+    shutil.rmtree(runner.root)
+
+
+@CASES.case
 def lines_that_look_like_commands(program: str) -> None:
     """Paths and standard error stay between the lines that stop and resume commands, from before the first run on."""
     path, refused = "::error::x/action.yml", "##[add-mask]x"
@@ -120,7 +133,7 @@ def a_link_in_the_place_of_the_report(program: str) -> None:
     runner = Runner(program, {FILE: FILES[FILE].replace("reff", "ref"), "other": "x"})
     os.symlink("other", runner.root + "/faults.sarif")
     status, lines = runner.step(sarif="faults.sarif")
-    assert status == 3 and lines[2:-2] == ["actionlint-report: write failed: it is no regular file"], lines
+    assert status == 3 and lines[2:-2] == ["actionlint-report: cannot write faults.sarif: it is no regular file"], lines
     with open(runner.root + "/other", encoding="utf-8") as opened:
         assert opened.read() == "x"
     shutil.rmtree(runner.root)

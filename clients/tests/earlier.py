@@ -11,13 +11,13 @@ from cases import Cases
 from promises import end, start
 from repositories import ACTION, CALLED, FILE, FILES
 
-from actionlint_client import entries
-from actionlint_client.diagnostics import ERROR, SEVERITIES, WARNING, severity_of
 from actionlint_client.earlier import Earlier
 from actionlint_client.faults import FileFaults
+from actionlint_client.problems import ERROR as ERROR_LEVEL, level_of
 from actionlint_client.report import Fault
 
 CASES = Cases("earlier")
+ERROR, WARNING = 1, 2
 MARK = " (of the last text that was YAML)"
 STEP = "      - run: echo ${{{{ github.{} }}}}\n"
 PROPERTIES = [f"p{number}" for number in range(11)]
@@ -152,7 +152,7 @@ def where_lines_go(_: str) -> None:
 
 @CASES.case
 def severities(program: str) -> None:
-    """What breaks a run is an error; what GitHub only warns of, a warning. Each row has a known code and a reason."""
+    """What breaks a run is an error; what GitHub only warns of, a warning."""
     commands = {"set-output": WARNING, "save-state": WARNING, "set-env": ERROR, "add-path": ERROR}
     script = "".join(f"      - run: echo '::{command}{' name=x' * (command != 'add-path')}::y'\n" for command in commands)
     calls = "      - uses: ./a\n        with: {x: 1}\n  b:\n    uses: ./.github/workflows/b.yml\n    with: {y: 1}\n"
@@ -165,9 +165,7 @@ def severities(program: str) -> None:
     assert all(found[undefined(number)] == ERROR for number in range(11)), found
     assert found['input "x" is not defined in "A" [action]'] == WARNING, found
     assert found['input "y" is not defined in "./.github/workflows/b.yml" [workflow-call]'] == ERROR, found
-    codes = {entry.code for entry in entries.entries()}
-    assert all(row.code in codes and row.reason for row in SEVERITIES)
-    assert severity_of("X13", Fault("a", 1, 1, 'property "set-output" is not defined', "expression", 1)) == ERROR
+    assert level_of("X13", Fault("a", 1, 1, 'property "set-output" is not defined', "expression", 1)) == ERROR_LEVEL
     end(editor)
 
 

@@ -9,6 +9,7 @@ import sys
 import threading
 import time
 from pathlib import Path
+from typing import BinaryIO
 from urllib.parse import quote_from_bytes, unquote_to_bytes, urlsplit
 
 SERVER = Path(__file__).resolve().parent.parent / "actionlint-lsp"
@@ -18,8 +19,9 @@ EXIT_SECONDS = 10
 
 class Editor:
     def __init__(self, program: str | None, root: bytes | None, watches: bool = True, words: tuple[str, ...] = (), capabilities: dict = {},
-                 server: Path = SERVER, environment: dict[str, str] | None = None, inherited: tuple[int, ...] = ()):
-        """`inherited` are open files that the server is started with."""
+                 server: Path = SERVER, environment: dict[str, str] | None = None, inherited: tuple[int, ...] = (),
+                 folder: str | None = None):
+        """`inherited` are open files that the server is started with, and `folder` is its current one."""
         self.root = root
         self.shown: dict[str, dict] = {}
         self.messages: list[str] = []
@@ -32,7 +34,7 @@ class Editor:
         self._answers: queue.SimpleQueue = queue.SimpleQueue()
         named = [] if program is None else ["--program", program]
         self.child = subprocess.Popen([sys.executable, str(server), *named, *words], stdin=subprocess.PIPE, stdout=subprocess.PIPE,
-                                      env=environment, pass_fds=inherited)
+                                      env=environment, pass_fds=inherited, cwd=folder)
         threading.Thread(target=self._listen, daemon=True).start()
         uri = "file://" + quote_from_bytes(root) if root else None
         watching = {"workspace": {"didChangeWatchedFiles": {"dynamicRegistration": watches}}}
@@ -122,7 +124,7 @@ class Editor:
             self._held = b""
 
     def _listen(self) -> None:
-        while (message := _read(self.child.stdout)) is not None:
+        while (message := read_message(self.child.stdout)) is not None:
             if "method" not in message:
                 self._answers.put(message)
             elif message["method"] == "textDocument/publishDiagnostics":
@@ -143,7 +145,7 @@ def _framed(message: dict) -> bytes:
     return b"Content-Length: %d\r\n\r\n" % len(body) + body
 
 
-def _read(out) -> dict | None:
+def read_message(out: BinaryIO) -> dict | None:
     """The next message, or None at the end."""
     length = None
     while (line := out.readline()) != b"\r\n":

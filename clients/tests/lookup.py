@@ -30,6 +30,14 @@ importlib.util.find_spec = lambda name: None
 runpy.run_path(sys.argv[0], run_name="__main__")
 """
 
+# Runs a program by a Python that says that it is old.
+OLD_PYTHON = """
+import runpy, sys
+sys.argv = sys.argv[1:]
+sys.version_info = (3, 8, 18, "final", 0)
+runpy.run_path(sys.argv[0], run_name="__main__")
+"""
+
 
 class Tree:
     """Copies of the clients below share/actionlint of a folder, with what may lie around them."""
@@ -153,8 +161,39 @@ def language_server(program: str) -> None:
 
 
 @CASES.case
+def a_relative_program(program: str) -> None:
+    """Both clients run the linter that a path from the current folder names."""
+    with tempfile.TemporaryDirectory(prefix="actionlint-test-") as folder:
+        write(folder, FILES)
+        shutil.copy(program, folder + "/linter")
+        words = [CLIENTS / "actionlint-report", "--program", "./linter", "--form", "jsonl"]
+        done = subprocess.run(words, cwd=folder, stdout=subprocess.PIPE, text=True, check=False)
+        assert done.returncode == 1 and '"X13"' in done.stdout, done
+        editor = Editor("./linter", os.fsencode(folder), folder=folder)
+        editor.settle()
+        assert editor.texts(FILE) == [UNDEFINED] and not editor.messages, editor.messages
+        editor.quit()
+
+
+@CASES.case
+def what_python_lacks(program: str) -> None:
+    """An old Python is named in one line. The status of a report that it can't make isn't that of faults."""
+    for client in ("actionlint-lsp", "actionlint-report"):
+        done = subprocess.run([sys.executable, "-c", OLD_PYTHON, CLIENTS / client, "--program", program], stdin=subprocess.DEVNULL,
+                              stdout=subprocess.PIPE, stderr=subprocess.PIPE, text=True, check=False)
+        said = f"actionlint: the clients need Python 3.9 or later, and {sys.executable} is older\n"
+        assert (done.returncode, done.stdout, done.stderr) == (3, "", said), done
+    tree = Tree()
+    (tree.top / "clients/actionlint_client/faults.json").write_text("{", encoding="utf-8")
+    done = subprocess.run([tree.top / "clients/actionlint-report", "--explain", "K1"], stdout=subprocess.PIPE, stderr=subprocess.PIPE,
+                          text=True, check=False)
+    assert done.returncode == 3 and not done.stdout and "JSONDecodeError" in done.stderr, done
+    tree.remove()
+
+
+@CASES.case
 def options_of_the_server(program: str) -> None:
-    """Help and version need none of the libraries; without these one line names the packages. An editor may say `--stdio`."""
+    """Help and version need no library; without the libraries one line names their packages. An editor may say `--stdio`."""
     tree = Tree()
     server = tree.top / "clients/actionlint-lsp"
 
@@ -166,6 +205,9 @@ def options_of_the_server(program: str) -> None:
     assert run("--version")[:2] == (0, "actionlint-lsp without a version\n"), run("--version")
     status, said, errors = run()
     assert (status, said) == (3, "") and "apt-get install python3-pylsp-jsonrpc python3-yaml" in errors and errors.count("\n") == 1, errors
+    words = [server, "--log", tree.room / "nowhere/log"]
+    done = subprocess.run(words, stdin=subprocess.DEVNULL, stderr=subprocess.PIPE, text=True, check=False)
+    assert (done.returncode, done.stderr) == (2, f"actionlint-lsp: cannot write {tree.room}/nowhere/log: No such file or directory\n"), done
     editor = Editor(program, os.fsencode(tree.room), words=("--stdio",))
     assert editor.hello["result"]["serverInfo"]["name"] == "actionlint-lsp" and editor.quit() == 0
     tree.remove()

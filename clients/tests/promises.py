@@ -372,53 +372,6 @@ def a_renamed_file(program: str) -> None:
 
 
 @CASES.case
-def the_editor_is_gone(program: str) -> None:
-    editor = start(program, FILES)
-    (child,) = children(editor.child.pid)
-    editor.child.stdin.close()
-    assert editor.child.wait(timeout=5) == 1
-    deadline = time.monotonic() + 5
-    while os.path.exists(f"/proc/{child}"):
-        assert time.monotonic() < deadline, "the linter still runs"
-        time.sleep(0.1)
-    shutil.rmtree(editor.root)
-
-
-@CASES.case
-def wrong_messages(program: str) -> None:
-    """What is no message of the protocol is passed over, and what comes behind it is taken."""
-    editor = start(program, FILES)
-    for body in (b"{", b"[]", b"3", b'"x"', b"null", b'{"jsonrpc":"2.0"}', b"[" * 2_000, b"\xff",
-                 b'{"jsonrpc":"2.0","method":"textDocument/didChange","params":{}}',
-                 b'{"jsonrpc":"2.0","method":"textDocument/didOpen","params":{"textDocument":{"uri":"http://x/y","text":""}}}',
-                 b'{"jsonrpc":"2.0","method":"textDocument/didOpen","params":{"textDocument":{"uri":"file:///x/y","text":3}}}',
-                 b'{"jsonrpc":"2.0","method":"textDocument/didClose","params":{"textDocument":{"uri":"file:///nowhere"}}}',
-                 b'{"jsonrpc":"2.0","method":"$/setTrace","params":{"value":"off"}}', b'{"jsonrpc":"2.0","method":"nothing"}'):
-        editor.send_bytes(b"Content-Length: %d\r\n\r\n" % len(body) + body)
-    editor.settle()
-    assert "error" in editor.request("textDocument/hover", {}), "a request without its parameters"
-    editor.open(FILE, RIGHT)
-    editor.settle()
-    assert editor.texts(FILE) == [] and editor.texts(CALLED)
-    end(editor)
-
-
-@CASES.case
-def cut_messages(program: str) -> None:
-    """Input that ends in a message, or whose header tells no length, ends the server with status 1, and its linter with it."""
-    for sent in (b"Content-Length: 100\r\n\r\n{", b"Content-Length: 5", b"Content-Length: x\r\n\r\n{}", b"Content-Length: -1\r\n\r\n{}",
-                 b"Hello\r\n\r\n{}", b"\r\n\r\n"):
-        editor = start(program, FILES)
-        (child,) = children(editor.child.pid)
-        editor.send_bytes(sent)
-        if sent.startswith(b"Content-Length: 100") or sent.endswith(b"5"):
-            editor.child.stdin.close()
-        assert editor.child.wait(timeout=5) == 1, sent
-        assert not os.path.exists(f"/proc/{child}"), sent
-        shutil.rmtree(editor.root)
-
-
-@CASES.case
 def without_asking(program: str) -> None:
     """Diagnostics come by themselves, also those of files that aren't open."""
     editor = start(program, FILES)

@@ -163,7 +163,7 @@ def odd_files_to_write(program: str) -> None:
         before = sorted(os.listdir(folder))
         for out in ("link", "loose", "pipe", "elsewhere", "linked/kept", "nowhere/kept"):
             status, text, errors = run(program, folder, "--out", out)
-            assert (status, text) == (3, "") and errors.startswith("actionlint-report: write failed: "), (out, status, errors)
+            assert (status, text) == (3, "") and errors.startswith(f"actionlint-report: cannot write {out}: "), (out, status, errors)
         assert sorted(os.listdir(folder)) == before and os.listdir(folder + "/elsewhere") == ["kept"]
         for kept in ("kept", "elsewhere/kept"):
             with open(f"{folder}/{kept}", encoding="utf-8") as opened:
@@ -177,6 +177,10 @@ def the_old_report_stays_whole(program: str) -> None:
         out = folder + "/x/faults"
         write(folder, {"x/faults": "old"})
         assert run("/bin/echo", folder, "--out", "x/faults")[0] == 3
+        for form in ("codequality", "jsonl"):
+            assert run(program, folder, "--form", form, "--out", "x/faults", "no.yml") == (
+                3, "", "actionlint: no.yml: refused E2\n"), "an empty list would say that there is no fault"
+            assert run(program, folder, "--form", form, "no.yml")[:2] == (3, "")
         assert os.listdir(folder + "/x") == ["faults"]
         with open(out, encoding="utf-8") as before:
             assert run(program, folder, "--form", "text", "--out", "x/faults")[0] == 1
@@ -228,7 +232,7 @@ def a_reader_that_goes(program: str) -> None:
             done = subprocess.run([sys.executable, REPORT, "--program", program, *words], cwd=folder, stdout=writing, stderr=subprocess.PIPE,
                                   check=False)
             os.close(writing)
-            assert (done.returncode, done.stderr) == (3, b"actionlint-report: write failed: Broken pipe\n"), (words, done)
+            assert (done.returncode, done.stderr) == (3, b"actionlint-report: cannot write standard output: Broken pipe\n"), (words, done)
 
 
 if __name__ == "__main__":

@@ -188,17 +188,36 @@ def github(program: str) -> None:
 
 
 @CASES.case
+def levels(program: str) -> None:
+    """What GitHub itself only warns of is a warning in each form that has levels, and counts as a fault."""
+    step = "on: push\njobs:\n  a:\n    runs-on: ubuntu-latest\n    steps:\n      - "
+    warned = step + "run: echo '::set-output name=x::y'\n"
+    failing = step + "run: echo '::set-env name=x::y'\n"
+    with tempfile.TemporaryDirectory(prefix="actionlint-test-") as folder:
+        for text, github_command, level, severity in ((warned, "warning", "warning", "minor"), (failing, "error", "error", "major")):
+            write(folder, {FILE: text})
+            status, said, _ = run(program, folder, "--form", "github")
+            assert status == 1 and said.startswith(f"::{github_command} file="), said
+            (run_of_sarif,) = json.loads(run(program, folder)[1])["runs"]
+            (rule,) = run_of_sarif["tool"]["driver"]["rules"]
+            assert run_of_sarif["results"][0]["level"] == level and rule["defaultConfiguration"] == {"level": "error"}, run_of_sarif
+            assert json.loads(run(program, folder, "--form", "codequality")[1])[0]["severity"] == severity
+            assert json.loads(run(program, folder, "--form", "jsonl")[1])["level"] == level
+
+
+@CASES.case
 def sarif(program: str) -> None:
     """What GitHub's page asks for: texts, help with the entry, its address, and the version."""
     status, said, _ = run(program, str(TOP / "examples/broken"), "--docs", DOCS + "/")
     driver = json.loads(said)["runs"][0]["tool"]["driver"]
-    assert driver["version"] == (TOP / "VERSION").read_text(encoding="utf-8").strip() and driver["informationUri"] == DOCS + "/", driver
+    assert driver["version"] == (TOP / "VERSION").read_text(encoding="utf-8").strip() and driver["informationUri"] == DOCS, driver
     rule = driver["rules"][0]
     entry = next(entry for entry in entries() if entry.code == "K1")
     assert rule["id"] == "K1" and rule["shortDescription"]["text"] == 'unexpected key ".."', rule
     assert rule["fullDescription"]["text"] == plain_text(entry.text) and entry.repair.split("```")[1] in rule["help"]["markdown"], rule
     assert rule["helpUri"] == f"{DOCS}/FAULTS.md#k1-unexpected-key-0" and "Repair: Look for the key" in rule["help"]["text"], rule
     assert "{0}" not in said and MAX_RESULTS == 25_000
+    assert f"]({DOCS}/LISTS.md#" in rule["help"]["markdown"] and DOCS + "//" not in said, rule
     assert "informationUri" not in run(program, str(TOP / "examples/broken"))[1]
 
 
@@ -224,10 +243,10 @@ def explain(program: str) -> None:
 def ignored_faults(program: str) -> None:
     """They don't count, in the status neither, and are counted; a wrong rule or a file of rules that isn't there ends the run."""
     with tempfile.TemporaryDirectory(prefix="actionlint-test-") as folder:
-        write(folder, {**FILES, WORKFLOWS + "b.yml": FILES[FILE], "kept": f"# known\n\nC3\n  X13:{FILE}\n"})
+        write(folder, {**FILES, WORKFLOWS + "b.yml": FILES[FILE], "kept": f"\ufeff# known\r\n\nC3\r\n  X13:{FILE}\n"})
         for words, status, count in (
                 ([], 1, "3 faults in 3 files"), (["--ignore", "X13"], 1, "1 fault in 1 file, 2 ignored"),
-                (["--ignore", f"X13:{FILE}", "--ignore", "C3"], 1, "1 fault in 1 file, 2 ignored"),
+                (["--ignore", f"x13:{FILE}", "--ignore", "c3"], 1, "1 fault in 1 file, 2 ignored"),
                 (["--ignore-file", "kept"], 1, "1 fault in 1 file, 2 ignored"),
                 (["--ignore-file", "kept", "--ignore", "X13"], 0, "0 faults, 3 ignored"),
                 (["--ignore", "X13:b.yml"], 1, "3 faults in 3 files")):

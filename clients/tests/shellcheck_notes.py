@@ -21,7 +21,7 @@ from actionlint_client import library
 from actionlint_client.scripts import NotRead, Script, scripts_and_calls, without_expressions
 
 CASES = Cases("shellcheck")
-library.find("yaml")
+library.missing()
 REPORT = str(CLIENTS / "actionlint-report")
 STEPS = "on: push\njobs:\n  a:\n    runs-on: ubuntu-latest\n    steps:\n"
 # Steps, and where a note stands that a variable lacks its quotes (SC2086), counted by hand: below STEPS the first line is 6.
@@ -148,6 +148,20 @@ def off_unless_asked_for(program: str) -> None:
         done = subprocess.run([sys.executable, REPORT, "--program", program, "--form", "text", "--shellcheck"], cwd=folder,
                               stdout=subprocess.PIPE, check=False)
         assert done.stdout.decode().splitlines()[-1] == "0 faults and 1 note of shellcheck (not proved) in 1 file", done
+
+
+@CASES.case
+def another_program(program: str) -> None:
+    """A shellcheck that prints something else than notes ends the run with status 3 and one line."""
+    with tempfile.TemporaryDirectory(prefix="actionlint-test-") as folder:
+        write(folder, {FILE: STEPS + PLACES["plain"][0]})
+        for said, status in (("", 3), ("nonsense", 0), ("[]", 0), ("{}", 0)):
+            write(folder, {"shellcheck": f"#!/bin/sh\necho '{said}'\nexit {status}\n"})
+            os.chmod(folder + "/shellcheck", 0o755)
+            done = subprocess.run([sys.executable, REPORT, "--program", program, "--shellcheck"], cwd=folder, stdout=subprocess.PIPE,
+                                  stderr=subprocess.PIPE, env={**os.environ, "PATH": folder + ":" + os.environ["PATH"]}, text=True, check=False)
+            assert (done.returncode, done.stdout) == (3, ""), done
+            assert done.stderr == f"actionlint-report: shellcheck ended with status {status}: {said}\n", done.stderr
 
 
 @CASES.case

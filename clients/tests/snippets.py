@@ -1,5 +1,5 @@
 #!/usr/bin/env python3
-"""The snippets of the pages: each is run here, under the name in the comment before it, or its section says that no test runs it.
+"""The snippets of the pages: each is run here, under the name in the comment before it, unless the comment says `not run`.
 
     snippets.py PROGRAM [NAME...]
 
@@ -24,7 +24,7 @@ from repositories import CLIENTS, FILE, FILES, TOP, UNDEFINED, WORKFLOWS, git, r
 
 CASES = Cases("snippets")
 PAGES = ("README.md", "docs/EDITORS.md", "docs/CI.md", "docs/COMMAND-LINE.md")
-FENCED = re.compile(r"(?:<!-- run: ([\w-]+) -->\n)?^```\w+(?: file=\S+)?\n(.*?)^```$", re.M | re.S)
+FENCED = re.compile(r"(?:<!-- (?:run: ([\w-]+)|(not run)) -->\n)?^```\w+(?: file=\S+)?\n(.*?)^```$", re.M | re.S)
 SECONDS = 60
 EXPRESSION = re.compile(r"\$\{\{ ([\w.]+) \}\}")
 # What each editor does behind its snippet: opens the file, waits for the fault, and writes its messages.
@@ -67,15 +67,14 @@ qall!
 
 
 def snippets() -> dict[str, list[str]]:
-    """The snippets by their names. One without a name has to say that no test runs it."""
+    """The snippets by their names."""
     found: dict[str, list[str]] = {}
     for page in PAGES:
         text = (TOP / page).read_text(encoding="utf-8")
-        for match in FENCED.finditer(text):
-            section = text[text.rindex("\n## ", 0, match.start()):match.start()]
-            assert match[1] or "No test runs th" in section, f"{page}: a snippet is neither run nor said not to be: {match[2][:60]}"
-            if match[1]:
-                found.setdefault(match[1], []).append(match[2])
+        for name, mark, snippet in FENCED.findall(text):
+            assert name or mark, f"{page}: a snippet without a comment: {snippet[:60]}"
+            if name:
+                found.setdefault(name, []).append(snippet)
     return found
 
 
@@ -127,13 +126,6 @@ def make(place: Place) -> None:
     for text in of_page("make", place):
         found = made(place, text.removesuffix("make\n"))
         assert found[0] == UNDEFINED.removesuffix(" [expression]") and len(found) == 2, found
-
-
-@in_each_place(CASES)
-def vim_options(place: Place) -> None:
-    (text,) = snippets()["vim-options"]
-    found = made(place, text.replace(ANYWHERE + "/actionlint", place.program))
-    assert found[0] == UNDEFINED and len(found) == 2, found
 
 
 @in_each_clone(CASES)

@@ -60,7 +60,7 @@ WRONG_VERSIONS = {
     "a_closed_buffer_stays": WrongVersion(
         "workspace.py", "document.repository.edit(document.path, None)", "pass", ("promises.py", "large_files")),
     "a_change_waits_for_the_next_message": WrongVersion(
-        "server.py", "if self._workspace.is_stale and self._messages.is_empty():\n            self._workspace.refresh()", "pass",
+        "server.py", "if self._workspace.is_stale and self._messages.is_empty():\n                self._workspace.refresh()", "pass",
         ("promises.py", "without_asking")),
     "requests_see_the_text_before": WrongVersion(
         "server.py", 'self._workspace.is_stale and "id" in message and "method" in message', "False",
@@ -86,7 +86,16 @@ WRONG_VERSIONS = {
         "faults.py", "MAX_HELD_BYTES = 32", "MAX_HELD_BYTES = 1_024", ("promises.py", "many_faults_on_a_line")),
     "lines_that_were_read_are_never_read_again": WrongVersion(
         "faults.py", "before = {path: self.files.pop(path) for path in gone}", "before = {}", ("promises.py", "a_renamed_file")),
-    "null_ends_the_server": WrongVersion("messages.py", "END = object()", "END = None", ("promises.py", "wrong_messages")),
+    "a_wrong_message_has_no_answer": WrongVersion(
+        "messages.py", 'return JsonRpcInvalidRequest("no message of JSON-RPC 2.0")', "return {}", ("protocol.py", "wrong_messages")),
+    "a_length_is_the_first_field": WrongVersion(
+        "messages.py", "line = self._rfile.readline()", "break", ("protocol.py", "headers")),
+    "names_of_fields_have_one_case": WrongVersion(
+        "messages.py", 'name.lower() == b"content-length"', 'name == b"Content-Length"', ("protocol.py", "headers")),
+    "before_initialize_all_is_handled": WrongVersion(
+        "server.py", 'if not self._is_initialized and method != "initialize":', "if False:", ("protocol.py", "before_and_after")),
+    "after_shutdown_all_goes_on": WrongVersion(
+        "server.py", "if self._is_shut_down or self._is_initialized and", "if self._is_initialized and", ("protocol.py", "before_and_after")),
     "a_folder_that_went_is_still_shown": WrongVersion(
         "repository.py", "editor.publish(uri, None, [])", "pass", ("promises.py", "several_folders")),
     "fixes_are_not_tried": WrongVersion(
@@ -138,9 +147,9 @@ WRONG_VERSIONS = {
     "the_option_leaves_what_is_called": WrongVersion(
         "files.py", "known if self._keeps_calls else NO_CALLS", "known", ("earlier.py", "switched_off")),
     "all_faults_are_errors": WrongVersion(
-        "diagnostics.py", "return next((row.severity for", "return ERROR or next((row.severity for", ("earlier.py", "severities")),
+        "problems.py", "return WARNING if argument_of", "return ERROR if argument_of", ("earlier.py", "severities")),
     "what_is_refused_is_a_warning": WrongVersion(
-        "diagnostics.py", "(self.code, self.kind) == (code, fault.kind)", "self.code == code", ("earlier.py", "severities")),
+        "problems.py", '(code, fault.kind) == ("C2", "action")', 'code == "C2"', ("earlier.py", "severities")),
     "earlier_faults_may_not_come_back": WrongVersion(
         "fixes.py", "trial.earlier = _counted(earlier)", "pass", ("fixes.py", "faults_that_come_back")),
     "a_trial_keeps_a_text": WrongVersion("fixes.py", "self._put(path, self.texts[path])\n            else:", "pass\n            else:",
@@ -202,7 +211,9 @@ WRONG_VERSIONS = {
     "columns_of_sarif_are_units": WrongVersion(
         "sarif.py", '"columnKind": "unicodeCodePoints"', '"columnKind": "utf16CodeUnits"', ("reports.py",)),
     "a_run_that_failed_is_clean": WrongVersion(
-        "sarif.py", '"executionSuccessful": outcome.status in (0, 1)', '"executionSuccessful": True', ("reports.py",)),
+        "sarif.py", '"executionSuccessful": outcome.is_known()', '"executionSuccessful": True', ("reports.py",)),
+    "a_run_that_failed_has_an_empty_report": WrongVersion(
+        "convert.py", "if not (outcome.is_known() or form.tells_failure):", "if False:", ("report_edges.py", "the_old_report_stays_whole")),
 }
 
 
