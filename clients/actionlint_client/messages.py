@@ -30,8 +30,8 @@ class Messages:
         try:
             while (body := read_body(self._stdin)) is not None:
                 self._queue.put(body)
-        except Exception:
-            logging.exception("the input can't be read on")
+        except Exception as error:
+            logging.error("the input can't be read on: %r", error)
         finally:
             self._queue.put(None)
 
