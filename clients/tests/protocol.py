@@ -147,14 +147,16 @@ def the_editor_is_gone(program: str) -> None:
 @CASES.case
 def an_editor_that_reads_nothing(program: str) -> None:
     """A message that can't be sent doesn't end the server before its input does."""
-    editor = Editor(program, None)
-    editor.child.stdout.close()
-    for _ in range(3):
-        editor.notify("textDocument/didOpen", {"textDocument": {"uri": "file:///nowhere/action.yml", "version": 1, "text": "x: 1\n"}})
-        time.sleep(0.1)
-    assert editor.child.poll() is None
-    editor.child.stdin.close()
-    assert editor.child.wait(timeout=5) == 1
+    reading, writing = os.pipe()
+    os.close(reading)
+    with subprocess.Popen([sys.executable, str(SERVER), "--program", program], stdin=subprocess.PIPE, stdout=writing,
+                          stderr=subprocess.PIPE) as child:
+        os.close(writing)
+        for sent in (message(INITIALIZE), message(SHUTDOWN)):
+            child.stdin.write(frame(sent))
+            child.stdin.flush()
+            assert child.stderr.readline() == b"ERROR:root:the editor takes no messages: Broken pipe\n"
+    assert child.returncode == 0, child.returncode
 
 
 if __name__ == "__main__":
