@@ -53,8 +53,8 @@ class Messages:
         """Reads to the end. Without a length no later message can be found, so that ends the input too."""
         try:
             self._reader.listen(self._queue.put)
-        except Exception:
-            logging.exception("the input can't be read on")
+        except Exception as error:
+            logging.error("the input can't be read on: %r", error)
         finally:
             self._queue.put(None)
 
