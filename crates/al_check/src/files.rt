@@ -81,7 +81,11 @@ fn with_rules(alloc: Global, tree: &Tree, keys: Vec<Fault>) -> Result<Vec<Fault>
 }
 
 /// The calls of files in the folder that a document makes. Adds the fault of every invalid `uses`.
-fn document_calls(alloc: Global, tree: &Tree, own: &mut Vec<Fault>) -> Result<Vec<FolderCall>, AllocError>
+fn document_calls(
+    alloc: Global,
+    tree: &Tree,
+    own: &mut Vec<Fault>,
+) -> Result<Vec<FolderCall>, AllocError>
     ensures calls { IfOk result
         (λ calls. AreCallsOf (kind_in tree.now) (root_of tree.now) calls.items) }
     ensures own { OnOk result (own.new.items ≡ own.old.items
