@@ -1,11 +1,13 @@
-"""What the scripts of bench/ share: the programs that are timed, the least of runs that take turns, and scripts that put files."""
+"""What the scripts of bench/ share: the programs that are timed, folders and scripts of files, and the least time of runs that take turns.
 
-import functools
+All times are processor times. Files are pairs of a path and a text.
+"""
+
 import pathlib
+import resource
 import subprocess
 import sys
 import tempfile
-import time
 
 TOP = pathlib.Path(__file__).resolve().parent.parent
 SESSION = ["--session", "--oneline"]
@@ -16,8 +18,9 @@ PEERS = {"yaml": "yaml_events.c", "fyaml": "fyaml_events.c"}
 
 
 def program(crate):
-    """The program of a crate, where ./test or a build of the crate leaves it."""
-    return TOP / "crates" / crate / "out" / crate
+    """The program of a crate, where ./test or a build of the crate leaves it, or else the carried one."""
+    built = TOP / "crates" / crate / "out" / crate
+    return built if built.is_file() else TOP / "prebuilt" / crate
 
 
 def peers(folder):
@@ -29,11 +32,17 @@ def peers(folder):
     return made
 
 
-def run_seconds(command, data=b"", folder=None):
-    """How long one run takes, with its status and output."""
-    start = time.perf_counter()
-    run = subprocess.run(command, input=data, cwd=folder, stdout=subprocess.PIPE, check=False)
-    return time.perf_counter() - start, run.returncode, run.stdout
+def children_seconds():
+    """The processor time of all runs so far."""
+    used = resource.getrusage(resource.RUSAGE_CHILDREN)
+    return used.ru_utime + used.ru_stime
+
+
+def run_seconds(command, data=b"", folder=None, output=subprocess.PIPE):
+    """The processor time of one run, with its status and its output."""
+    before = children_seconds()
+    run = subprocess.run(command, input=data, cwd=folder, stdout=output, stderr=subprocess.DEVNULL, check=False)
+    return children_seconds() - before, run.returncode, run.stdout
 
 
 def least_in_turns(runs, measures):
@@ -54,42 +63,22 @@ def measured(command, data=b"", folder=None):
     return float(user) + float(system), int(memory) * 1024
 
 
-def put_bytes(files):
-    """The commands of a script that put files, each a path with its bytes."""
-    return b"".join(b"put %s %d\n%s\n" % (path.encode(), len(data), data) for path, data in files.items())
-
-
 def put_commands(files):
-    """The commands of a script that put files, each a path with its text."""
-    return b"".join(put_bytes({path: text.encode()}) for path, text in files)
+    """The commands of a script that put files."""
+    return b"".join(b"put %s %d\n%s\n" % (path.encode(), len(data), data) for path, data in ((path, text.encode()) for path, text in files))
+
+
+def write_files(folder, files):
+    """Writes files into a folder."""
+    for path, text in files:
+        whole = pathlib.Path(folder, path)
+        whole.parent.mkdir(parents=True, exist_ok=True)
+        whole.write_bytes(text.encode())
 
 
 def put_seconds(files):
-    """How long a script takes that puts these files, all of which are taken."""
+    """What a script takes that puts these files, all of which are taken."""
     took, _, out = run_seconds([program("actionlint"), *SESSION], put_commands(files))
     if out.count(b"ok ") != len(files):
         sys.exit(f"the files were not taken: {out[:80]}")
     return took
-
-
-def folder_times(runs, least, folders):
-    """What each folder takes more than the least one, by the least of some runs that put its files."""
-    nothing, *times = least_in_turns(runs, [functools.partial(put_seconds, files) for files in [least, *folders]])
-    return [took - nothing for took in times]
-
-
-def workflow_times(runs, texts):
-    """What each workflow takes more than one without jobs, by the least of some runs that put it."""
-    return folder_times(runs, [(WORKFLOW, EMPTY)], [[(WORKFLOW, text)] for text in texts])
-
-
-def print_head(width, first, *columns):
-    """Prints the head of a table of growths, with a title for each pair of times."""
-    print(" " * width + "".join(f" {column:>30}" for column in columns))
-    print(f"{first:{width}}" + f" {'half':>9} {'whole':>9} {'whole/half':>10}" * len(columns))
-
-
-def print_growths(width, name, times):
-    """Prints a line of a table of growths: two times for each column, of half a size and of the whole."""
-    pairs = zip(times[::2], times[1::2])
-    print(f"{name:{width}}" + "".join(f" {half:8.3f}s {whole:8.3f}s {whole / half:10.2f}" for half, whole in pairs), flush=True)

@@ -152,13 +152,11 @@ def cell(steps, crate, step):
 
 def print_table(top, steps, elapsed):
     named = crates_of(top)
-    print("\n| Crate | Lines | From nothing, s | MB | Tests, s | MB | Edits | Edits, s | MB | Edits in 1,000 lines |")
-    print("|---|--:|--:|--:|--:|--:|--:|--:|--:|--:|")
+    print("\n| Crate | Lines | From nothing, s | MB | Tests, s | MB | Edits |")
+    print("|---|--:|--:|--:|--:|--:|--:|")
     for crate in named:
         lines, edits = size_of(top, crate)
-        cells = [cell(steps, crate, it) for it in STEPS]
-        share = f"{1000 * edits / lines:.1f}" if edits and lines else ""
-        print(f"| `{crate}` | {lines:,} | {cells[0]} | {cells[1]} | {edits or ''} | {cells[2]} | {share} |")
+        print(f"| `{crate}` | {lines:,} | {cell(steps, crate, 'proof')} | {cell(steps, crate, 'tests')} | {edits or ''} |")
     total = [sum(it.total() for (_, step), it in steps.items() if step == kind) / 60 for kind in STEPS]
     used = resource.getrusage(resource.RUSAGE_CHILDREN)
     whole = (used.ru_utime + used.ru_stime) / 60

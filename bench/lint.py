@@ -2,21 +2,20 @@
 or a build of crates/actionlint. BEFORE is a program of another version, which takes its turns in the same run.
 
 It needs a C compiler, both libraries with their headers (Debian's libyaml-dev and libfyaml-dev) and valgrind. Each file is put into a
-session that reports; a peer reads it and keeps nothing. Ratios are to libyaml. Times are the least processor time of several runs that take turns, start of the process included; instructions
-are counted by callgrind, since times on a shared machine move by half. Folders are linted without a word, beside the peers on the same
-files, each opened by its name; and beside yamllint, where Debian's package of it is installed.
+session that reports; a peer reads it and keeps nothing. Ratios are to libyaml. Times are the least of several runs that take turns, start
+of the process included; instructions are counted by callgrind, since times on a shared machine move by half. Folders are linted without a
+word, beside the peers on the same files, each opened by its name; and beside yamllint, where Debian's package of it is installed.
 """
 
 import functools
 import pathlib
 import re
-import resource
 import shutil
 import subprocess
 import sys
 import tempfile
 
-from common import SESSION, WORKFLOW, least_in_turns, peers, program, put_commands
+from common import SESSION, WORKFLOW, least_in_turns, peers, program, put_commands, run_seconds, write_files
 
 RUNS = 9
 YAMLLINT_RUNS = 3
@@ -103,23 +102,18 @@ def shapes():
 
 def fill(folder, count, jobs_of_each):
     """Puts so many workflows of so many jobs into a folder, and answers their paths and how many bytes they have."""
-    workflows = pathlib.Path(folder, ".github", "workflows")
-    workflows.mkdir(parents=True)
-    text = workflow(jobs_of_each).encode()
-    paths = [workflows / f"{number:04}.yml" for number in range(count)]
-    for path in paths:
-        path.write_bytes(text)
-    return paths, count * len(text)
+    text = workflow(jobs_of_each)
+    files = [(f".github/workflows/{number:04}.yml", text) for number in range(count)]
+    write_files(folder, files)
+    return [pathlib.Path(folder, path) for path, _ in files], count * len(text)
 
 
 def seconds(command, data, folder):
-    """The processor time of one run, which ends without a fault."""
-    before = resource.getrusage(resource.RUSAGE_CHILDREN)
-    run = subprocess.run(command, input=data, cwd=folder, capture_output=True, check=False)
-    after = resource.getrusage(resource.RUSAGE_CHILDREN)
-    if run.returncode:
-        sys.exit(f"{command[0]} ended with {run.returncode}: {run.stdout[:200]}{run.stderr[:200]}")
-    return after.ru_utime + after.ru_stime - before.ru_utime - before.ru_stime
+    """What one run takes, which ends without a fault."""
+    took, status, out = run_seconds(command, data, folder)
+    if status:
+        sys.exit(f"{command[0]} ended with {status}: {out[:200]}")
+    return took
 
 
 def instructions(command, data, folder):

@@ -1,29 +1,20 @@
-"""What folders take in which one count times another could be taken: bench/products.py, after ./test or a build of crates/actionlint.
-Needs GNU time (Debian's time).
+"""What folders take in which one count times another could be taken: bench/products.py, after ./test or a build of
+crates/actionlint, or else with the carried program. Needs GNU time (Debian's time).
 
 The folders are those of tests/products.py, which tests/hostile.py lints under a limit of memory. Each is linted several times, and the
 least processor time is told, with the greatest memory of a run and the bytes of the report.
 """
 
-import pathlib
 import subprocess
 import sys
 import tempfile
 
-from common import TOP, measured, program
+from common import TOP, measured, program, write_files
 
 sys.path.insert(0, str(TOP / "tests"))
 from products import FOLDERS
 
 RUNS = 3
-
-
-def fill(folder, files):
-    """Writes files, each a path with its bytes."""
-    for path, data in files.items():
-        whole = pathlib.Path(folder, path)
-        whole.parent.mkdir(parents=True, exist_ok=True)
-        whole.write_bytes(data)
 
 
 def reported(folder):
@@ -37,7 +28,7 @@ def main():
     for name, make in FOLDERS.items():
         files, told = make()
         with tempfile.TemporaryDirectory() as folder:
-            fill(folder, files)
+            write_files(folder, [(path, data.decode()) for path, data in files.items()])
             if reported(folder) != told:
                 sys.exit(f"{name}: the report isn't the one that is told")
             seconds, memory = zip(*(measured([program("actionlint"), "--oneline"], folder=folder) for _ in range(RUNS)))

@@ -1,4 +1,5 @@
-"""What a report costs where all faults stand on one line: bench/report.py, after ./test or a build of crates/actionlint.
+"""What a report costs where all faults stand on one line: bench/report.py, after ./test or a build of crates/actionlint, or else with the
+carried program.
 
 One workflow has its faults on one line, behind many spaces, so that each column is some hundred thousand; the other one has
 as many faults, each on a line of its own. A report's time is that of a script with some reports less that of the same one
@@ -22,7 +23,7 @@ OWN_LINES = JOB + "\n" + "    - []\n" * FAULTS
 
 
 def seconds(text, reports):
-    """How long a script takes that puts a workflow and reports so many times."""
+    """What a script takes that puts a workflow and reports so many times."""
     script = put_commands([(WORKFLOW, text)]) + b"report\n" * reports
     took, _, out = run_seconds([program("actionlint"), *SESSION], script)
     faults = out.count(b"\n") - 1 - reports

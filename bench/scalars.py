@@ -27,7 +27,7 @@ SHAPES = {
 
 
 def seconds(file):
-    """How long one run takes to read a scalar."""
+    """What one run takes to read a scalar."""
     took, status, _ = run_seconds([program("al_dump"), "scalar"], file)
     if status != 0:
         sys.exit(f"the scalar was not read: {file[:80]}")

@@ -1,10 +1,10 @@
 """What an edit of a session costs beside other files, and what a report does where files call one another: bench/session.py, after
-./test or a build of crates/actionlint.
+./test or a build of crates/actionlint, or else with the carried program.
 
-All times are processor times of the program: of a script with more edits or reports less that of one with fewer, the least of several
-runs, which take turns, so that all of them see the same load of the machine. Files are of a line or two, so that the session's own work
-shows. A put of a file that is there finds it by hash, and looks at its callers alone: its time does not grow with the other files. A new
-path and a delete move what stands behind them in the order of paths: that is named here with its cost.
+A time is that of a script with more edits or reports less that of one with fewer, the least of several runs that take turns. Files are of
+a line or two, so that the session's own work shows, but for callers of 10 KB with 200 expressions. A put of a file that is there finds it
+by hash, and looks at its callers alone: its time does not grow with the other files. A new path and a delete move what stands behind them
+in the order of paths: that is named here with its cost.
 
 Reports are over 4,096 workflows that call one another. Each stands beside the report of as many workflows without calls, with as many
 faults, each as far into its line, whose printed lines are as long. Every workflow has a fault of its own, so that the status behind a
@@ -14,7 +14,6 @@ with a call more or less; what the puts take is taken off.
 """
 
 import functools
-import resource
 import subprocess
 import sys
 
@@ -31,6 +30,8 @@ EDITED = ".github/workflows/e.yml"
 FIRST = ".github/workflows/0.yml"
 CALLER = "on: push\njobs:\n  c:\n    uses: ./.github/workflows/e.yml\n"
 CALLED = "on: workflow_call\njobs: {}\n"
+# a caller of 10 KB that has 200 expressions too
+LARGE_CALLER = CALLER + "  d:\n    runs-on: u\n    steps:\n" + "      - run: make ${{ github.ref }} # a step of its job\n" * 200
 OTHER_INTERFACE = "on:\n  workflow_call:\n    inputs: {a: {type: string}}\njobs: {}\n"
 
 # what is timed: the text of the files beside the one that is edited, the texts that are put in turn, how many of them, and the numbers of
@@ -89,17 +90,9 @@ def edits_between(way, calls, is_round, faults):
     return [put_commands([(path, it)]) for it in (others[way], text)] if way in others else [b"", b""]
 
 
-def children_seconds():
-    """The processor time of all runs so far."""
-    used = resource.getrusage(resource.RUSAGE_CHILDREN)
-    return used.ru_utime + used.ru_stime
-
-
 def script_seconds(script):
-    """The processor time of a script, whose output nobody reads."""
-    before = children_seconds()
-    subprocess.run([program("actionlint"), *SESSION], input=script, stdout=subprocess.DEVNULL, check=False)
-    return children_seconds() - before
+    """What a script takes, whose output nobody reads."""
+    return run_seconds([program("actionlint"), *SESSION], script, output=subprocess.DEVNULL)[0]
 
 
 def times_of_more(pairs, counts):
@@ -118,6 +111,15 @@ def edit_times(text, texts, edits, counts):
     """What a put of these texts in turn takes beside each count of files of the other text."""
     starts = [beside(count, text) + put_commands([(EDITED, texts[1])]) for count in counts]
     return times_of_more([(it, it + put_commands([(EDITED, one) for one in texts]) * (edits // 2)) for it in starts], [edits] * len(counts))
+
+
+def large_caller_times(count):
+    """What an edit of an interface takes for each of so many callers with 200 expressions, and what a put of one such caller takes."""
+    interface = beside(count, LARGE_CALLER) + put_commands([(EDITED, CALLED)])
+    edits = put_commands([(EDITED, OTHER_INTERFACE), (EDITED, CALLED)])
+    bytes_of_one = put_commands([(FIRST, LARGE_CALLER), (FIRST, f"{LARGE_CALLER}#\n")])
+    edit, put = times_of_more([(interface, interface + edits * (FEW // 20)), (b"", bytes_of_one * (SOME // 2))], [FEW // 10, SOME])
+    return edit / count, put
 
 
 def new_times(is_backward, counts):
@@ -168,6 +170,10 @@ def main():
     """Prints the times of edits and of reports."""
     for name, (text, texts, edits, counts) in TABLE.items():
         print_edits(name, counts, edit_times(text, texts, edits, counts))
+    for count in CALLERS[1:]:
+        edit, put = large_caller_times(count)
+        print(f"an edit of an interface, for each of {count} callers of {len(LARGE_CALLER)} bytes with 200 expressions: {edit * 1e3:.3f} ms, "
+              f"{edit / put:.2f} times a put of one, {put * 1e3:.3f} ms", flush=True)
     print_edits("put of a new path in front, and its delete", BESIDE, front_times(BESIDE))
     for name, is_backward in ORDERS.items():
         print_edits(name, NEW, new_times(is_backward, NEW))

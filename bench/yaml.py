@@ -2,20 +2,17 @@
 after ./test or a build of crates/al_dump. BEFORE is a `al_dump` program of another version, whose times are taken in the same run.
 
 It needs a C compiler and both libraries with their headers (Debian's libyaml-dev and libfyaml-dev). Each file ends with a line at
-which all readers stop with a fault, so that none prints a tree, and all before it is read by each. Each time is the least processor time of
-several runs in one run of this program, less that for this line alone. Each shape is read at half and at its whole size:
+which all readers stop with a fault, so that none prints a tree, and all before it is read by each. Each time is the least of
+several runs that take turns, less that for this line alone. Each shape is read at half and at its whole size:
 where reading is linear, the time grows as the bytes do.
 """
 
 import functools
 import json
-import pathlib
-import resource
-import subprocess
 import sys
 import tempfile
 
-from common import PEERS, least_in_turns, peers, program
+from common import PEERS, least_in_turns, peers, program, run_seconds
 
 RUNS = 25
 SIZE = 1_000_000
@@ -86,18 +83,10 @@ def shared_shapes(size):
     yield "items in 61 lists with anchors, and an alias", b"on: push\njobs: [" + nested + items + b"]" * 61 + b", *a0]\n"
 
 
-def processor_time():
-    """The processor time of all runs so far, in seconds."""
-    used = resource.getrusage(resource.RUSAGE_CHILDREN)
-    return used.ru_utime + used.ru_stime
-
-
 def seconds(command, is_ours, file):
-    """The processor time of one run. Ours reads a file up to its last line."""
-    start = processor_time()
-    done = subprocess.run(command, input=file, capture_output=True, check=False)
-    took = processor_time() - start
-    if is_ours and (at := json.loads(done.stdout)["fault"]["start"]) != len(file) - len(LAST):
+    """What one run takes. Ours reads a file up to its last line."""
+    took, _, out = run_seconds(command, file)
+    if is_ours and (at := json.loads(out)["fault"]["start"]) != len(file) - len(LAST):
         sys.exit(f"a fault at {at} of {len(file)} bytes")
     return took
 

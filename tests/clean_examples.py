@@ -14,6 +14,7 @@ sys.path.append(str(pathlib.Path(__file__).resolve().parent.parent / "clients"))
 from actionlint_client.stricter import takes_access, takes_filter
 from fault_entries import files_of, report_of
 from run_cases import cases_in
+from running import exit_status, report, skip
 
 DEBIAN_PACKAGES = "/usr/lib/python3/dist-packages"
 BLOCK = re.compile(r"^```yaml file=(\S+)\n(.*?)^```$", re.DOTALL | re.MULTILINE)
@@ -168,8 +169,8 @@ def main(folder):
     if importlib.util.find_spec("yaml") is None:
         sys.path.append(DEBIAN_PACKAGES)
     if importlib.util.find_spec("yaml") is None:
-        print("case=clean_examples output=skipped status=- since python3-yaml isn't there")
-        return 1
+        skip("clean_examples", "python3-yaml isn't there")
+        return 0
     import yaml  # pylint: disable=import-outside-toplevel
 
     reader, count, wrong = Yaml(yaml), 0, []
@@ -181,10 +182,8 @@ def main(folder):
             wrong.append(f"{where}: {path}: {error}")
     if count < FEWEST:
         wrong.append(f"only {count} files were found")
-    print(f"case=clean_examples output={'wrong' if wrong else 'expected'} status=0 files={count}")
-    for line in wrong:
-        print(f"  {line}")
-    return 1 if wrong else 0
+    report("clean_examples", f"- files={count}", wrong)
+    return exit_status()
 
 
 if __name__ == "__main__":

@@ -1,4 +1,4 @@
-"""Tests that what docs/COMMAND-LINE.md shows is what the program prints and takes.
+"""Tests that what docs/COMMAND-LINE.md and docs/CI.md show is what the program prints and takes.
 
     python3 tests/command_line_page.py PROGRAM
 
@@ -17,10 +17,11 @@ import subprocess
 import sys
 import tempfile
 
-from running import differences_of, report, results
+from running import differences_of, exit_status, report, skip, write_files
 
 TOP = pathlib.Path(__file__).resolve().parent.parent
 PAGE = (TOP / "docs" / "COMMAND-LINE.md").read_text(encoding="utf-8")
+CI = (TOP / "docs" / "CI.md").read_text(encoding="utf-8")
 SLIPS = TOP / "examples" / "slips"
 PATH = ".github/workflows/release.yml"
 
@@ -34,23 +35,15 @@ FAULTS = [
 ]
 
 
-def block(language, heading=""):
-    """The text of the page's first block in a language, from a heading on, with the program's name where it has the path of a clone."""
-    text = re.search(rf"^```{language}\n(.*?)^```$", PAGE[PAGE.index(heading):], re.M | re.S)[1]
+def block(name):
+    """The text of a block of docs/CI.md, with the program's name where it has the path of a clone."""
+    text = re.search(rf"^<!-- run: {name} -->\n```\w+\n(.*?)^```$", CI, re.M | re.S)[1]
     return text.replace("/opt/juzbrost/actionlint", "actionlint")
 
 
 def run(words, folder):
     """Runs the program in a folder."""
     return subprocess.run([sys.argv[1], *words], cwd=folder, stdout=subprocess.PIPE, stderr=subprocess.PIPE, check=False, timeout=60)
-
-
-def write(folder, files):
-    """Writes files below a folder, each a path with its text."""
-    for path, text in files.items():
-        whole = pathlib.Path(folder, path)
-        whole.parent.mkdir(parents=True, exist_ok=True)
-        whole.write_text(text, encoding="utf-8")
 
 
 def has_all(name, found):
@@ -60,7 +53,7 @@ def has_all(name, found):
 
 def matcher(lines):
     """The problem matcher, on every line."""
-    pattern = json.loads(block("json"))["problemMatcher"][0]["pattern"][0]
+    pattern = json.loads(block("matcher"))["problemMatcher"][0]["pattern"][0]
     found, bad = [], []
     for line in lines:
         match = re.search(pattern["regexp"], line)
@@ -74,7 +67,7 @@ def matcher(lines):
 
 def hook():
     """The hook's pattern takes the files that are linted, and its words lint them."""
-    text = block("yaml", "## Before each commit")
+    text = block("local-hook")
     pattern = re.search(r"files: (.*)$", text, re.M)[1]
     words = re.search(r"entry: (.*)$", text, re.M)[1].split()
     taken = [".github/workflows/a.yml", ".github/workflows/a.b.yaml", "action.yml", "a/b/action.yaml", ".github/workflows/action.yml"]
@@ -83,7 +76,7 @@ def hook():
     bad += [f"the hook passes {path} over" for path in taken if not re.search(pattern, path)]
     bad += [f"the hook takes {path}" for path in passed if re.search(pattern, path)]
     with tempfile.TemporaryDirectory() as folder:
-        write(folder, {path: "" for path in taken + passed if path != "action.yml/x"})
+        write_files(folder, {path: b"" for path in taken + passed if path != "action.yml/x"})
         empty = "".join(f"{path}:1:1: file is empty [syntax-check]\n" for path in sorted(taken)).encode()
         bad += differences_of(run([*words[1:], *taken], folder), 1, empty, b"")
         for path in passed:
@@ -93,7 +86,7 @@ def hook():
     report("pre-commit-hook", 0, bad)
 
 
-CALLER = """on: push
+CALLER = b"""on: push
 jobs:
   a:
     runs-on: ubuntu-latest
@@ -104,8 +97,8 @@ jobs:
   b:
     uses: ./.github/workflows/called.yml
 """
-CALLED = "on: workflow_call\njobs:\n  a:\n    runs-on: ubuntu-latest\n    steps:\n      - run: echo\n"
-ACTION = """name: Greet
+CALLED = b"on: workflow_call\njobs:\n  a:\n    runs-on: ubuntu-latest\n    steps:\n      - run: echo\n"
+ACTION = b"""name: Greet
 description: Says hello.
 inputs:
   who:
@@ -145,7 +138,7 @@ class Repository:
 
     def commit(self, files=None, deleted=()):
         """Writes and deletes files and commits all changes; answers the status and what was printed, and takes a refused commit back."""
-        write(self.folder, files or {})
+        write_files(self.folder, files or {})
         for path in deleted:
             os.remove(os.path.join(self.folder, path))
         self.run("git", "add", "--all")
@@ -159,10 +152,10 @@ def hook_differences(repository, deletions):
     """What the hooks of a repository let through: a fault of a caller that doesn't change, at a rename and at a deletion."""
     bad = []
     start = {".github/workflows/caller.yml": CALLER, ".github/workflows/called.yml": CALLED, "greet/action.yml": ACTION}
-    status, said = repository.commit({**start, "README.md": "one\n"})
+    status, said = repository.commit({**start, "README.md": b"one\n"})
     if status:
         return [f"a folder without faults is not committed: {said!r}"]
-    status, said = repository.commit({"greet/action.yml": ACTION.replace("who:", "whom:")})
+    status, said = repository.commit({"greet/action.yml": ACTION.replace(b"who:", b"whom:")})
     if not status or RENAMED not in said:
         bad.append(f"an action with a renamed input is committed: {status} and {said!r}")
     # the changed file alone has no fault, so that a hook which is given changed files lets this through
@@ -180,7 +173,7 @@ def git_hook():
     with tempfile.TemporaryDirectory() as room:
         repository = Repository(room)
         path = os.path.join(repository.folder, ".git", "hooks", "pre-commit")
-        write(repository.folder, {".git/hooks/pre-commit": block("sh")})
+        write_files(repository.folder, {".git/hooks/pre-commit": block("git-hook").encode()})
         os.chmod(path, 0o755)
         report("git-hook-in-a-repository", 0, hook_differences(repository, deletions=True))
 
@@ -188,11 +181,11 @@ def git_hook():
 def pre_commit_hook(name, text, deletions):
     """A hook of pre-commit, in a repository of git."""
     if not shutil.which("pre-commit"):
-        print(f"skipped={name} (pre-commit isn't installed)")
+        skip(name, "pre-commit isn't there")
         return
     with tempfile.TemporaryDirectory() as room:
         repository = Repository(room)
-        write(repository.folder, {".pre-commit-config.yaml": "repos:\n" + text})
+        write_files(repository.folder, {".pre-commit-config.yaml": f"repos:\n{text}".encode()})
         status, said = repository.run("pre-commit", "install")
         bad = [f"pre-commit is not installed: {said!r}"] if status else hook_differences(repository, deletions)
         report(name, 0, bad)
@@ -200,7 +193,7 @@ def pre_commit_hook(name, text, deletions):
 
 def pre_commit_hooks():
     """The page's hook, which doesn't see what a commit only deletes, and the same with `always_run`, which does."""
-    text = block("yaml", "## Before each commit")
+    text = block("local-hook")
     pre_commit_hook("pre-commit-in-a-repository", text, deletions=False)
     always, count = re.subn(r"files: .*", "always_run: true", text)
     report("pre-commit-hook-names-files-once", 0, [] if count == 1 else [f"{count} lines with `files`"])
@@ -213,9 +206,9 @@ def ends_at_3():
     wanted = {"actionlint", "actionlint ../x", "actionlint README.md", "actionlint -", "actionlint --root many"}
     report("rows-of-status-3", 0, [] if wanted < {words for words, _ in rows} else [f"the page has {rows}"])
     with tempfile.TemporaryDirectory() as folder:
-        large = CALLED + "#" * (1_048_577 - len(CALLED))
-        write(folder, {"README.md": "", "src/x": "", ".github/workflows/large.yml": large, ".github/workflows/a\\b.yml": CALLED})
-        write(folder, {f"many/.github/workflows/w{number:04}.yml": CALLED for number in range(4_097)})
+        large = CALLED + b"#" * (1_048_577 - len(CALLED))
+        write_files(folder, {"README.md": b"", "src/x": b"", ".github/workflows/large.yml": large, ".github/workflows/a\\b.yml": CALLED})
+        write_files(folder, {f"many/.github/workflows/w{number:04}.yml": CALLED for number in range(4_097)})
         for words, line in rows:
             below = "src" if words == "actionlint" else "."
             ran = run(shlex.split(words)[1:], os.path.join(folder, below))
@@ -227,7 +220,7 @@ def from_below():
     hint = re.search(r"`(actionlint --root \"[^`]*)`", PAGE)[1]
     with tempfile.TemporaryDirectory() as room:
         repository = Repository(room)
-        write(repository.folder, {".github/workflows/a.yml": "", "src/x": ""})
+        write_files(repository.folder, {".github/workflows/a.yml": b"", "src/x": b""})
         status, said = repository.run("bash", "-c", hint + " --oneline", below="src")
         wanted = (1, ".github/workflows/a.yml:1:1: file is empty [syntax-check]\n")
         report("from-a-folder-below", 0, [] if (status, said) == wanted else [f"{hint} answers {status} and {said!r}"])
@@ -257,7 +250,8 @@ def main():
     ends_at_3()
     from_below()
     snippet()
-    return 1 if results["wrong"] else 0
+    return exit_status()
 
 
-sys.exit(main())
+if __name__ == "__main__":
+    sys.exit(main())

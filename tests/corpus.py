@@ -1,4 +1,6 @@
-"""Runs of the program that reach its code: the folders of examples/, the scripts of tests/cases and tests/faults, command lines that are right and wrong, and files that are refused. All run in the repository's folder."""
+"""Runs of the program that reach its code: the folders of examples/, the scripts of tests/cases and tests/faults, command lines that are
+right and wrong, and files that are refused. All run in the repository's folder.
+"""
 
 import pathlib
 

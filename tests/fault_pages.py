@@ -2,8 +2,8 @@
 
 Each fault code of al_base names its identifier (`/// K2: ..`), has its row of that number in specs/Codes.antt, and has one entry on a page
 docs/FAULTS*.md (tests/fault_entries.py) with the row's message, why it matters, its repair, and a repair whose lines are those of its cases.
-docs/FAULTS.md has indexes by code and by message, which `--write` writes anew, and a table of the definitions that decide each fault, which
-must exist.
+docs/FAULTS.md has indexes by code and by message, which `--write` writes anew, and docs/READING.md a table of the definitions that decide
+each fault, which must exist.
 """
 
 import pathlib
@@ -107,14 +107,14 @@ def wrong_of(top, entry):
 def wrong_definitions(top, found):
     """The definitions that decide faults and aren't there, and the faults that none decides."""
     decided = set()
-    for file, row in DECIDED.findall((top / "docs/FAULTS.md").read_text()):
+    for file, row in DECIDED.findall((top / "docs/READING.md").read_text()):
         path = top / "crates" / file
         text = path.read_text() if path.is_file() else ""
         decided |= set(re.findall(r"\b[YKGXC][0-9]+\b", re.sub(r"`\w+`", "", row)))
         for name in re.findall(r"`(\w+)`", row):
             if not re.search(rf"^\s*(abbrev |unfoldable )?(pub )?{name}\b.* :|^(pub )?(data|record) {name}\b", text, re.MULTILINE):
-                yield f"docs/FAULTS.md names {name}, which {file} doesn't define"
-    yield from (f"docs/FAULTS.md names no definition that decides {code}" for code in sorted(found - decided))
+                yield f"docs/READING.md names {name}, which {file} doesn't define"
+    yield from (f"docs/READING.md names no definition that decides {code}" for code in sorted(found - decided))
 
 
 def link(entry, text):

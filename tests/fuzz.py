@@ -1,4 +1,5 @@
-"""Feeds the program mutated files and checks what must hold of any input: fuzz.py SECONDS SEED, after ./test or ./actionlint.
+"""Feeds the program mutated files and checks what must hold of any input: fuzz.py SECONDS SEED. The program is the one that was built here,
+or else the carried one.
 
 It needs no second linter. Files that call one another (tests/calling_files.py), those of examples/ and of the scripts of tests/cases
 are mutated (bytes and lines dropped, doubled, exchanged, values shared by anchors and aliases, and words of the syntax put in), put into
@@ -24,10 +25,10 @@ import time
 
 from calling_files import PATHS, File
 from run_cases import cases_in
-from running import REPORT, SCRIPT, delete, put, wrong_line
+from running import REPORT, SCRIPT, built_program, delete, put, wrong_line
 
 TOP = pathlib.Path(__file__).resolve().parent.parent
-PROGRAM = TOP / "crates" / "actionlint" / "out" / "actionlint"
+PROGRAM = built_program()
 SNIPPETS = [
     b"${{ github.ref }}", b"${{ steps.s.outputs.x }}", b"${{ matrix.v }}", b"${{", b"}}", b"'", b'"', b"\\x41", b"[", b"]", b"{", b"}",
     b"\n", b"\r\n", b"\r", b"\t", b"  ", b": ", b"- ", b"# ", b"|", b">-", b"&a ", b"*a", b"&b", b"*b ", b"<<: *a\n", b"!", b"uses: ./a\n",

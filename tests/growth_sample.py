@@ -18,7 +18,7 @@ import tempfile
 
 from corpus import TOP, all_runs
 from growths import BESIDE, CHOSEN, EDITS, MOST, TEN_EDITS, TESTS, Growths, growths_of_an_edit, in_turn, passes, stops
-from running import report
+from running import exit_status, report, skip
 
 FEW = 8
 CASES = ("ten-edits-in-a-session", "ten-edits-as-a-script", "growths-of-an-edit", "growths-of-other-runs")
@@ -66,7 +66,7 @@ def main(words):
     tests = pathlib.Path(words[1]).resolve() if len(words) > 1 else TESTS
     if shutil.which("cc") is None:
         for name in CASES:
-            print(f"case={name} output=skipped status=- since cc isn't there")
+            skip(name, "cc isn't there")
         return 0
     with tempfile.TemporaryDirectory() as folder:
         runs = all_runs(folder)
@@ -79,7 +79,7 @@ def main(words):
         )
     for name, differences in zip(CASES, found):
         report(name, "-", differences)
-    return 1 if any(found) else 0
+    return exit_status()
 
 
 if __name__ == "__main__":

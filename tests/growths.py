@@ -1,5 +1,5 @@
-"""Growths of the linter, each refused in turn: growths.py [--choose], after ./test, or after `rt test` in crates/al_tests and a build of
-crates/actionlint. Needs a C compiler and objdump.
+"""Growths of the linter, each refused in turn: growths.py [--choose], after ./test, or after `rt test` in crates/al_tests. The program is the
+one that was built here, or else the carried one. Needs a C compiler and objdump.
 
 A library of tests/growths.c that is loaded before a program counts its growths, refuses those that it is told, and notes the places of
 the program (tests/places.py) that they stand under.
@@ -9,9 +9,9 @@ the program (tests/places.py) that they stand under.
 - The runs that tests/growth-runs names, the same edits as a script with a report behind each and the folders of examples/ among them,
   with each growth refused, and with each and all behind it: a run says that memory ran out, and its output is a prefix of the whole. The
   kit's `collect` asks for room ahead, and goes on without it: such a run is the whole one.
-- Each place of the project's crates that any run of tests/corpus.py reaches is one under which a growth of these runs was refused. With --choose the runs are
-  chosen anew, and nothing else is done. How many places each crate has is printed, and those of the project's crates under which no growth
-  was refused.
+- Each place of the project's crates that any run of tests/corpus.py reaches is one under which a growth of these runs was refused. With
+  --choose the runs are chosen anew, and nothing else is done. How many places each crate has is printed, and those of the project's crates
+  under which no growth was refused.
 - The growths of one edit are counted, of other bytes for an action that a workflow calls, beside 1,000 workflows that call absent
   actions and alone: beside the others it makes at most 64 more.
 """
@@ -28,9 +28,9 @@ import typing
 
 from corpus import TOP, all_runs
 from places import Places
-from running import CALLED, CALLER, CLEAN, SCRIPT, WORKFLOWS, put
+from running import CALLED, CALLER, CLEAN, SCRIPT, WORKFLOWS, built_program, put
 
-PROGRAM = TOP / "crates" / "actionlint" / "out" / "actionlint"
+PROGRAM = built_program()
 TESTS = TOP / "crates" / "al_tests" / "out" / "al_tests_tests"
 EDITS = "edits::edits_refused_for_memory_change_nothing"
 TEN_EDITS = "tests/cases/edits/ten-with-a-loop"

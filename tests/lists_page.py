@@ -16,6 +16,7 @@ SETTINGS = "al_rules_settings/specs/Names.antt"
 USINGS = "al_tree/specs/Faults.antt"
 FIXED = "al_check_objects/specs/Fixed.antt"
 AVAILABILITY = "al_check_places/specs/Availability.antt"
+SCOPES = "al_types/specs/Scopes.antt"
 FUNCTION_NAMES = "al_types/specs/Names.antt"
 SIGNATURES = "al_types/specs/Signatures.antt"
 UNTRUSTED = "al_expr_typing/specs/Untrusted.antt"
@@ -261,7 +262,7 @@ def names_in(text, lists):
 def availability_rows(crates):
     """The paths of the table of places, together where they have the same contexts and special functions, and these."""
     text, lists = (crates / AVAILABILITY).read_text(), {}
-    for name, right in LIST.findall(text):
+    for name, right in LIST.findall((crates / SCOPES).read_text() + text):
         lists[name] = names_in(right, lists)
     start = text.index("\ntable =\n") + len("\ntable =\n")
     # The rows of some paths may stand on several lines.

@@ -10,7 +10,7 @@ import subprocess
 import sys
 import tempfile
 
-from running import WORKFLOWS, differences_of, report, results
+from running import WORKFLOWS, differences_of, exit_status, report
 
 TOP = pathlib.Path(__file__).resolve().parent.parent
 
@@ -47,7 +47,7 @@ def main():
     clean("workflows", program, ["--root", TOP])
     clean("action", program, ["--root", TOP, "action.yml"])
     misspelled(program)
-    return 1 if results["wrong"] else 0
+    return exit_status()
 
 
 if __name__ == "__main__":

@@ -16,7 +16,7 @@ import sys
 import tempfile
 
 from release import clone, failed, run
-from running import CALLED, CALLER, MISSING_INPUT, WORKFLOWS, report, results
+from running import CALLED, CALLER, MISSING_INPUT, WORKFLOWS, exit_status, report, skip, write_files
 
 WORDS = ["--oneline", "--root", "--session", "--help"]
 # Of what is on the pages, by command.
@@ -58,9 +58,7 @@ def scratch_root(room, glibc):
 def repository(room):
     """A folder with a workflow that lacks an input of an action."""
     folder = pathlib.Path(tempfile.mkdtemp(dir=room))
-    for path, data in {f"{WORKFLOWS}/c.yml": CALLER, "a/action.yml": CALLED}.items():
-        (folder / path).parent.mkdir(parents=True)
-        (folder / path).write_bytes(data)
+    write_files(folder, {f"{WORKFLOWS}/c.yml": CALLER, "a/action.yml": CALLED})
     return folder
 
 
@@ -110,8 +108,8 @@ def manual_page(prefix, command, needed, version):
     shown = run(["mandoc", "-T", "ascii", "-O", "width=300", page]).stdout.decode()
     text = re.sub(".\x08", "", shown)
     help_text = run([prefix / "bin" / command, "--help"]).stdout.decode()
-    assert all(it in help_text for it in needed), help_text
-    return failed(lint) + [f"{it} is missing" for it in (*needed, f"{command} {version}") if it not in text]
+    wrong = failed(lint) + [f"{it} is missing" for it in (*needed, f"{command} {version}") if it not in text]
+    return wrong + [f"{it} is missing in the help" for it in needed if it not in help_text]
 
 
 def bash_completes(file, typed, folder):
@@ -198,10 +196,10 @@ def main():
     with tempfile.TemporaryDirectory(prefix="actionlint-packages-") as room:
         for name, wrong in cases(pathlib.Path(sys.argv[1]).resolve(), pathlib.Path(room)):
             if wrong is None:
-                print(f"case={name} output=skipped status=- since a command isn't there")
+                skip(name, "a command isn't there")
             else:
                 report(name, "-", wrong)
-    return 1 if results["wrong"] or not results["right"] else 0
+    return exit_status()
 
 
 if __name__ == "__main__":

@@ -19,7 +19,7 @@ import sys
 import tempfile
 
 from copying import TOP, carry, copy_files
-from running import report, results, show
+from running import exit_status, report, show, write_files
 
 BLOCK = re.compile(r"^```(\w+) (run|run empty|file=(\S+))\n(.*?)^```$", re.DOTALL | re.MULTILINE)
 MARK = "\x1e"
@@ -92,9 +92,7 @@ class Machine:
     def lint(self, path, text):
         """What the program says of a file of a page, where it takes such files."""
         folder = pathlib.Path(tempfile.mkdtemp(dir=self.room))
-        whole = folder / path
-        whole.parent.mkdir(parents=True, exist_ok=True)
-        whole.write_text(text, encoding="utf-8")
+        write_files(folder, {path: text.encode()})
         ran = subprocess.run([self.program, "--oneline", path], cwd=folder, capture_output=True, check=False, timeout=SECONDS)
         return [] if ran.returncode == 0 else [f"status {ran.returncode}: {show(ran.stdout + ran.stderr)}"]
 
@@ -118,7 +116,7 @@ def main():
                 line = text.count("\n", 0, match.start()) + 1
                 wrong = machine.lint(match[3], match[4]) if match[3] else machine.run(match[4], match[2] == "run empty")
                 report(f"{page.relative_to(TOP)}:{line}", "-", wrong)
-    return 1 if results["wrong"] or not results["right"] else 0
+    return exit_status()
 
 
 if __name__ == "__main__":

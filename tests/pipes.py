@@ -11,7 +11,7 @@ import select
 import subprocess
 import sys
 
-from running import EMPTY_REPORT, SCRIPT, report
+from running import EMPTY_REPORT, SCRIPT, exit_status, report
 
 SECONDS = 20
 
@@ -47,7 +47,7 @@ def is_silent(program):
     return not select.select([program.stdout], [], [], 0.05)[0]
 
 
-def talk(name, ending, last, status):
+def talk(name, ending, last, wanted):
     """Sends all commands, each after the reply to the one before, then a last piece of input, and compares."""
     program = subprocess.Popen([sys.argv[1], *SCRIPT], stdin=subprocess.PIPE, stdout=subprocess.PIPE, stderr=subprocess.PIPE, bufsize=0)
     wrong = []
@@ -67,24 +67,22 @@ def talk(name, ending, last, status):
         rest = program.stdout.read()
         complaint = program.stderr.read()
         ended = program.wait(SECONDS)
-        if (rest, complaint, ended) != (last, b"", status):
+        if (rest, complaint, ended) != (last, b"", wanted):
             wrong.append(f"at the end came {rest!r}, {complaint!r} and status {ended}")
     finally:
         program.kill()
         program.wait()
     report(name, program.returncode, wrong)
-    return not wrong
 
 
 def main():
     if len(sys.argv) != 2:
         print("pipes.py PROGRAM", file=sys.stderr)
         return 2
-    well = [
-        talk("replies-before-the-end", b"", b"", 0),
-        talk("replies-before-a-bad-command", b"repo\n", b"bad command\n", 2),
-    ]
-    return 0 if all(well) else 1
+    talk("replies-before-the-end", b"", b"", 0)
+    talk("replies-before-a-bad-command", b"repo\n", b"bad command\n", 2)
+    return exit_status()
 
 
-sys.exit(main())
+if __name__ == "__main__":
+    sys.exit(main())

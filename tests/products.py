@@ -29,29 +29,34 @@ def with_outputs(count, jobs):
     return {WORKFLOW: b"on: push\njobs:\n  a: {runs-on: u, outputs: {%s}, steps: [{run: x}]}\n" % outputs + jobs}
 
 
+def reading_outputs(steps):
+    """A job with 10,000 outputs, and steps of one that needs it."""
+    return with_outputs(10_000, b"  b:\n    needs: a\n    runs-on: u\n    steps:\n" + steps), b""
+
+
 def last_of_many_outputs():
     """Expressions that read the last of many outputs."""
     steps = b"      - run: ${{ needs.a.outputs.o9999 }}\n" * 12_000
-    return with_outputs(10_000, b"  b:\n    needs: a\n    runs-on: u\n    steps:\n" + steps), b""
+    return reading_outputs(steps)
 
 
 def branches_with_many_outputs():
     """Expressions that read the last of the outputs that two branches have in common."""
     steps = b"      - run: ${{ (needs.a.outputs || needs.a.outputs).o9999 }}\n" * 12_000
-    return with_outputs(10_000, b"  b:\n    needs: a\n    runs-on: u\n    steps:\n" + steps), b""
+    return reading_outputs(steps)
 
 
 def operands_with_many_outputs():
     """Expressions of so many operands that are all of many outputs, each of which reads the last of them."""
     operands = b" || ".join([b"needs.a.outputs"] * 1_000)
     steps = b"      - run: ${{ (%s).o9999 }}\n" % operands * 40
-    return with_outputs(10_000, b"  b:\n    needs: a\n    runs-on: u\n    steps:\n" + steps), b""
+    return reading_outputs(steps)
 
 
 def fields_of_many_outputs(of):
     """Expressions on what all outputs have in common, of a job or of two branches."""
     steps = b"      - run: ${{ contains(%s.*, 'x') }}\n" % of * 12_000
-    return with_outputs(10_000, b"  b:\n    needs: a\n    runs-on: u\n    steps:\n" + steps), b""
+    return reading_outputs(steps)
 
 
 def matrix_of(values, read=b"      - run: ${{ matrix.r.k00000 }} ${{ matrix.r.a.k09999 }}\n"):
@@ -97,20 +102,11 @@ def mappings_of_includes():
     return matrix_of(b"r: [{k: 1}], include: [%s]" % combinations)
 
 
-def all_steps_with_many_outputs():
-    """What all steps have in common, each of which calls an action with many outputs."""
-    called = b"name: A\ndescription: d\noutputs: {%s}\nruns: {using: composite, steps: []}\n" % values(10_000)
-    steps = b"".join(b"      - {id: s%04d, uses: ./a}\n" % number for number in range(4_000))
-    read = b"      - run: ${{ contains(steps.*.outputs.o9999, 'x') }}\n"
-    return {WORKFLOW: STEPS + steps + read, ACTION: called}, b""
-
-
 def outputs_of_all_steps(count, reads):
     """Expressions on the last output that so many steps have, each of which calls an action with many outputs."""
-    called = b"name: A\ndescription: d\noutputs: {%s}\nruns: {using: composite, steps: []}\n" % values(10_000)
     steps = b"".join(b"      - {id: s%04d, uses: ./a}\n" % number for number in range(count))
     read = b"      - run: ${{ contains(steps.*.outputs.o9999, 'x') }}\n" * reads
-    return {WORKFLOW: STEPS + steps + read, ACTION: called}, b""
+    return {WORKFLOW: STEPS + steps + read, ACTION: action_with_outputs()}, b""
 
 
 def outputs_of_called_jobs():
@@ -188,22 +184,18 @@ def steps_between_branches():
     return {WORKFLOW: many_steps(1) + steps}, b""
 
 
-def needed_jobs(count, job, expression):
-    """As many expressions as there are jobs of this kind, in a job that needs all of them."""
-    names = [b"j%04d" % number for number in range(count)]
-    jobs = b"".join(b"  %s: {%s}\n" % (name, job) for name in names)
-    steps = b"      - run: ${{ %s }}\n" % expression * count
-    last = b"  z:\n    needs: [%s]\n    runs-on: u\n    steps:\n" % b", ".join(names) + steps
-    return {WORKFLOW: b"on: push\njobs:\n" + jobs + last}, b""
-
-
-def output_of_needed_jobs(count, expression, reads, job=b"runs-on: u, outputs: {a: x}, steps: [{run: x}]"):
-    """So many expressions, in a job that needs this many, each of which has an output of one name unless another job is given."""
+def needed_jobs(count, job, expression, reads=None):
+    """So many jobs of this kind, and another that needs all of them, with so many expressions, or else as many as there are jobs."""
     names = [b"j%05d" % number for number in range(count)]
     jobs = b"".join(b"  %s: {%s}\n" % (name, job) for name in names)
-    steps = b"      - run: ${{ %s }}\n" % expression * reads
+    steps = b"      - run: ${{ %s }}\n" % expression * (reads or count)
     last = b"  z:\n    needs: [%s]\n    runs-on: u\n    steps:\n" % b", ".join(names) + steps
     return {WORKFLOW: b"on: push\njobs:\n" + jobs + last}, b""
+
+
+def output_of_needed_jobs(expression, reads):
+    """So many expressions, in a job that needs 6,000 jobs, each of which has an output of one name."""
+    return needed_jobs(6_000, b"runs-on: u, outputs: {a: x}, steps: [{run: x}]", expression, reads)
 
 
 def outputs_of_needed_jobs(expression, first=b""):
@@ -324,7 +316,7 @@ def steps_that_give_one_mapping():
 def all_of_many_outputs():
     """Expressions that are all of many outputs."""
     steps = b"      - run: ${{ toJSON(needs.a.outputs) }}\n" * 12_000
-    return with_outputs(10_000, b"  b:\n    needs: a\n    runs-on: u\n    steps:\n" + steps), b""
+    return reading_outputs(steps)
 
 
 def values(count):
@@ -337,6 +329,11 @@ def workflow_with_outputs():
     return b"on: {workflow_call: {outputs: {%s}}}\njobs: {a: {runs-on: u, steps: [{run: x}]}}\n" % values(10_000)
 
 
+def action_with_outputs():
+    """A composite action with many outputs."""
+    return b"name: A\ndescription: d\noutputs: {%s}\nruns: {using: composite, steps: []}\n" % values(10_000)
+
+
 def jobs_that_call_one_with_many_outputs():
     """Jobs that call a workflow with many outputs, each with an expression."""
     jobs = b"".join(b"  b%04d: {uses: ./%s/b.yml, if: github.ref}\n" % (number, WORKFLOWS.encode()) for number in range(4_000))
@@ -345,9 +342,8 @@ def jobs_that_call_one_with_many_outputs():
 
 def steps_that_call_one_with_many_outputs():
     """Steps that call a composite action with many outputs, each with an expression."""
-    called = b"name: A\ndescription: d\noutputs: {%s}\nruns: {using: composite, steps: []}\n" % values(10_000)
     steps = b"".join(b"      - {id: s%04d, uses: ./a, if: github.ref}\n" % number for number in range(4_000))
-    return {WORKFLOW: STEPS + steps, ACTION: called}, b""
+    return {WORKFLOW: STEPS + steps, ACTION: action_with_outputs()}, b""
 
 
 # by name what makes a folder's files, each a path with its bytes, and the lines of its report
@@ -361,7 +357,7 @@ FOLDERS = {
     "10000-mappings-of-a-matrix-row": mappings_of_a_row,
     "last-of-10000-mappings-of-a-matrix-row-12000-times": last_of_mappings_of_a_row,
     "10000-includes-of-a-mapping": mappings_of_includes,
-    "all-of-4000-steps-with-10000-outputs": all_steps_with_many_outputs,
+    "all-of-4000-steps-with-10000-outputs": lambda: outputs_of_all_steps(4_000, 1),
     "outputs-of-500-steps-with-10000-outputs-2000-times": lambda: outputs_of_all_steps(500, 2_000),
     "outputs-of-4000-steps-with-10000-outputs-4000-times": lambda: outputs_of_all_steps(4_000, 4_000),
     "outputs-of-4000-needs-with-10000-outputs-4000-times": outputs_of_called_jobs,
@@ -377,15 +373,15 @@ FOLDERS = {
     "in-common-by-8000-paths-that-meet-others": lambda: paths_that_differ(b"{x: 1}", b".*.x", 8_000, 6_000, b"c: {x: 1}"),
     "14-names-behind-brackets": lambda: names_behind_brackets(14, 2_900, b""),
     "9-names-behind-brackets": lambda: names_behind_brackets(8, 4_400, b".x"),
-    "output-of-6000-needs-in-brackets": lambda: output_of_needed_jobs(6_000, b"contains((needs.*).outputs.a, 'x')", 3_000),
-    "output-of-6000-needs-in-brackets-by-index": lambda: output_of_needed_jobs(6_000, b"contains((needs[*]).outputs.a, 'x')", 3_000),
+    "output-of-6000-needs-in-brackets": lambda: output_of_needed_jobs(b"contains((needs.*).outputs.a, 'x')", 3_000),
+    "output-of-6000-needs-in-brackets-by-index": lambda: output_of_needed_jobs(b"contains((needs[*]).outputs.a, 'x')", 3_000),
     "output-of-6000-needs-in-branches-in-brackets": lambda: output_of_needed_jobs(
-        6_000, b"contains(((needs || needs).*).outputs.a, 'x')", 3_000),
+        b"contains(((needs || needs).*).outputs.a, 'x')", 3_000),
     "output-of-6000-needs-and-a-small-object-in-turn": lambda: output_of_needed_jobs(
-        6_000, b"contains(needs.*.outputs.a || needs.*.outputs.a || needs.j00001.*, 'x')", 2_000),
-    "1300-operands-over-13000-needs": lambda: output_of_needed_jobs(
-        13_000, b"(%s).outputs.a" % b"||".join([b"needs.*[0]"] * 1_300), 10, CALLED_ELSEWHERE),
-    "last-of-9000-needs-9000-times": lambda: needed_jobs(9_000, CALLED_ELSEWHERE, b"needs.j8999.result"),
+        b"contains(needs.*.outputs.a || needs.*.outputs.a || needs.j00001.*, 'x')", 2_000),
+    "1300-operands-over-13000-needs": lambda: needed_jobs(
+        13_000, CALLED_ELSEWHERE, b"(%s).outputs.a" % b"||".join([b"needs.*[0]"] * 1_300), 10),
+    "last-of-9000-needs-9000-times": lambda: needed_jobs(9_000, CALLED_ELSEWHERE, b"needs.j08999.result"),
     "all-of-2000-needs-2000-times": lambda: needed_jobs(2_000, b"runs-on: u, steps: [{run: x}]", b"contains(needs.*.result, 'failure')"),
     "all-of-2000-needs-in-2000-branches": lambda: needed_jobs(
         2_000, b"runs-on: u, steps: [{run: x}]", b"contains((needs || needs).*.result, 'failure')"),
@@ -400,7 +396,7 @@ FOLDERS = {
     "all-of-16000-mappings-of-all-rows-10000-times": lambda: all_of_a_mapping(b"matrix.*[0].*.x"),
     "all-of-16000-mappings-of-two-rows-10000-times": all_of_two_mappings,
     "last-of-10000-mappings-below-a-row-12000-times": last_of_mappings_below_a_row,
-    "last-of-6000-needs-in-6000-branches": lambda: needed_jobs(6_000, CALLED_ELSEWHERE, b"(needs || needs).j5999.result"),
+    "last-of-6000-needs-in-6000-branches": lambda: needed_jobs(6_000, CALLED_ELSEWHERE, b"(needs || needs).j05999.result"),
     "last-of-6000-steps-in-10000-branches": branches_of_many_steps,
     "8000-steps-with-branches-of-those-before": steps_between_branches,
     "last-of-20000-keys-12000-times": last_key_of_a_mapping,

@@ -484,13 +484,15 @@ def memory_and_stack(place):
     content = b"run: echo ${{ " + b"1||1&&1==1<contains(" * 50 + b"github.reff" + b",1)" * 50 + b" }}"
     place.fresh({f"{WORKFLOWS}/a.yml": CLEAN.replace(b"run: echo", content)})
     whole = place.run(["--oneline"])
-    wrong = differences_of(whole, 1, lambda out: out.count(b"\n") == 1, b"")
+    wrong, answers = differences_of(whole, 1, lambda out: out.count(b"\n") == 1, b""), set()
     for size in range(2 << 20, 8 << 20, 64 << 10):
         ran = place.run(["--oneline"], limits=limit(resource.RLIMIT_AS, size))
-        answer = (ran.returncode, ran.stdout, ran.stderr)
+        answers.add(answer := (ran.returncode, ran.stdout, ran.stderr))
         ended = ran.returncode in (127, -signal.SIGSEGV, -signal.SIGKILL) and ran.stdout == b""
         if not ended and answer != (3, b"", line(b"out of memory")) and answer != (whole.returncode, whole.stdout, whole.stderr):
             wrong.append(f"at {size} bytes: status {ran.returncode}, stdout {show(ran.stdout)}, stderr {show(ran.stderr)}")
+    if (whole.returncode, whole.stdout, whole.stderr) not in answers or len(answers) == 1:
+        wrong.append("memory sufficed at no limit, or at each")
     report("little-memory-for-the-stack", whole.returncode, wrong)
 
 

@@ -28,7 +28,7 @@ THEOREMS = (
         ("al_expr_grammar", "lexer.rt", ("pub fn lex",)),
         ("al_expr_grammar", "expression.rt", ("pub fn parse_expr",)),
     )),
-    ("T", "the type of an expression, and its faults", (("al_expr_trees", "typing.rt", ("pub fn type_of",)),)),
+    ("T", "the type of an expression, and its faults", (("al_expr", "typing.rt", ("pub fn type_of",)),)),
     ("U", "the faults by the rules of a tree", (("al_rules", "files.rt", ("pub fn rules",)),)),
     ("L", "what the linter finds in any file, and its laws", (("al_check", "lint.rt", ("impl Lint for Actions",)),)),
     ("E", "any edits, and then all as from scratch", (
@@ -190,7 +190,8 @@ def main(folder, option=None):
     made_of = Page(top)
     if shared := sorted(made_of.shared_names()):
         sys.exit(f"these names stand for two definitions: {' '.join(shared)}")
-    explained = set(re.split(r"[\s◌,]+", " ".join(re.findall(r"`([^`]+)`", head.replace("\\|", "|")))))
+    notation = head.partition("## The notation")[2].replace("\\|", "|")
+    explained = set(re.split(r"[\s◌,]+", " ".join(re.findall(r"`([^`]+)`", notation))))
     if missing := sorted(set(made_of.library_words()) - explained):
         sys.exit(f"{PAGE} doesn't say what these words of libraries mean: {' '.join(missing)}")
     made = head + mark + "\n" + "\n".join(made_of.tables()) + "\n"

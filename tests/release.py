@@ -19,7 +19,7 @@ import textwrap
 
 from copying import TOP, carry, commit, copy_files
 from links import broken_links
-from running import CLEAN, NOBODY, WORKFLOWS, report, results, show
+from running import CLEAN, NOBODY, WORKFLOWS, exit_status, report, show
 
 
 def run(words, **how):
@@ -177,6 +177,7 @@ def words(folder, program, room):
         failed(run([folder / "release", "--bogus", "x"]), 2)
         + failed(run([folder / "release", "--help"]))
         + failed(run([folder / "release", "--to"]), 2)
+        + failed(run([folder / "release", "--program", program, "--install", ""]), 2)
         + failed(run([folder / "release", "--install", room / "none", "--deb"]), 2)
         + failed(run([folder / "release", "--install", room / "none", "--to", room / "none"]), 2)
         + failed(run([folder / "release", "--program", room / "nowhere", "--to", room / "none"]), 1)
@@ -215,7 +216,7 @@ def main():
     with tempfile.TemporaryDirectory(prefix="actionlint-release-") as room:
         for name, wrong in cases(pathlib.Path(sys.argv[1]).resolve(), pathlib.Path(room)):
             report(name, "-", wrong)
-    return 1 if results["wrong"] or not results["right"] else 0
+    return exit_status()
 
 
 if __name__ == "__main__":

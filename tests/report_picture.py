@@ -9,7 +9,7 @@ import pathlib
 import subprocess
 import sys
 
-from running import differences_of, report, results
+from running import differences_of, exit_status, report
 
 TOP = pathlib.Path(__file__).resolve().parent.parent
 FOLDER = TOP / "examples" / "broken"
@@ -56,7 +56,7 @@ def main():
     report("example-that-costs-a-run", ran.returncode, differences_of(ran, 1, REPORT.read_bytes(), b""))
     same = PICTURE.read_text(encoding="utf-8") == drawn()
     report("picture-of-its-report", "-", [] if same else ["docs/report.svg is another picture: report_picture.py --write"])
-    return 1 if results["wrong"] else 0
+    return exit_status()
 
 
 if __name__ == "__main__":

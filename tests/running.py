@@ -5,6 +5,7 @@ the user nobody, since root reads every file.
 """
 
 import os
+import pathlib
 import re
 import resource
 import shutil
@@ -29,6 +30,13 @@ FAULT = re.compile(rb"^(.*?):([0-9]+):([0-9]+): (.*) \[([a-z-]+)\]$", re.DOTALL)
 results = {"right": 0, "wrong": 0}
 
 
+def built_program():
+    """The linter that was built here, or else the carried one."""
+    top = pathlib.Path(__file__).resolve().parent.parent
+    built = top / "crates/actionlint/out/actionlint"
+    return built if built.is_file() else top / "prebuilt/actionlint"
+
+
 def report(name, status, differences):
     """Prints the line of a case, and what differs."""
     if differences:
@@ -39,6 +47,25 @@ def report(name, status, differences):
     else:
         results["right"] += 1
         print(f"case={name} output=expected status={status}")
+
+
+def skip(name, why):
+    """Prints the line of a case that can't be run here."""
+    print(f"case={name} output=skipped status=- since {why}")
+
+
+def exit_status():
+    """The status of a test: 1 where a case was wrong, or none was run."""
+    return 1 if results["wrong"] or not results["right"] else 0
+
+
+def write_files(folder, files):
+    """Writes files below a folder, each a path with its bytes."""
+    for path, data in files.items():
+        whole = os.path.join(folder, path)
+        os.makedirs(os.path.dirname(whole), exist_ok=True)
+        with open(whole, "wb") as file:
+            file.write(data)
 
 
 def show(data):
@@ -80,16 +107,12 @@ class Place:
         os.makedirs(self.folder)
         for folder in folders:
             os.makedirs(os.path.join(self.folder, folder), exist_ok=True)
-        for path, data in (files or {}).items():
-            self.write(path, data)
+        write_files(self.folder, files or {})
         return self.folder
 
     def write(self, path, data):
         """Writes a file of the folder."""
-        whole = os.path.join(self.folder, path)
-        os.makedirs(os.path.dirname(whole), exist_ok=True)
-        with open(whole, "wb") as file:
-            file.write(data)
+        write_files(self.folder, {path: data})
 
     def run(self, words=(), stdin=b"", limits=None, **streams):
         """Runs the program and collects its streams."""
@@ -217,4 +240,4 @@ def run_parts(*parts):
             part(place)
     finally:
         place.remove()
-    return 1 if results["wrong"] or not results["right"] else 0
+    return exit_status()

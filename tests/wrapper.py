@@ -15,7 +15,7 @@ import sys
 import tempfile
 import time
 
-from running import NOBODY, report
+from running import NOBODY, exit_status, report
 
 RT = """#!/usr/bin/env bash
 echo "$*" >> "$RT_CALLS"
@@ -336,7 +336,8 @@ def main(top):
             test(copy)
         finally:
             shutil.rmtree(copy.room)
+    return exit_status()
 
 
 if __name__ == "__main__":
-    main(sys.argv[1])
+    sys.exit(main(sys.argv[1]))

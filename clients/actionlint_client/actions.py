@@ -8,7 +8,7 @@ from .folder import Program
 from .positions import range_of_span
 from .repair import Edit
 from .repository import Document, Repository
-from .tree import Point, Span
+from .text import Point, Span
 from .workspace import Workspace
 
 
@@ -42,7 +42,7 @@ def workspace_edit(repository: Repository, edits: dict[str, tuple[Edit, ...]], n
                                       for edit in some] for path, some in edits.items()}
     if not new_files:
         return {"changes": changes}
-    start = range_of_span([""], Span(Point(0, 0), Point(0, 0)))
+    start = range_of_span([""], Span.at(Point(0, 0)))
     made: list[dict] = []
     for path, text in new_files.items():
         uri = repository.uri(path)

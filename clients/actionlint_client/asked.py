@@ -6,7 +6,7 @@ from dataclasses import dataclass
 from .positions import point_of, range_of_span
 from .project import Project
 from .repository import Repository
-from .tree import Point, Span
+from .text import Point, Span
 from .workspace import Workspace
 
 

@@ -9,8 +9,6 @@ from .paths import ACTION_NAMES, is_path, is_workflow
 
 Node = Union[str, list, dict]
 MAX_DEPTH = 64
-# libyaml is about ten times as fast as the parser in Python.
-LOADER = getattr(yaml, "CSafeLoader", yaml.SafeLoader)
 
 
 class NotRead(Exception):
@@ -22,7 +20,7 @@ def callees(path: str, data: bytes) -> frozenset[str] | None:
     if b"uses" not in data and b"\\" not in data:
         return frozenset()
     try:
-        events = yaml.parse(data.decode("utf-8"), Loader=LOADER)
+        events = yaml.parse(data.decode("utf-8"), Loader=yaml.CSafeLoader)
         root = _root(event for event in events if isinstance(event, (yaml.NodeEvent, yaml.CollectionEndEvent)))
     except (yaml.YAMLError, UnicodeDecodeError, NotRead):
         return None

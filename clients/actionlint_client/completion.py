@@ -13,7 +13,8 @@ from .place import Place, Role, outline_of
 from .project import Project
 from .stricter import takes_access, takes_filter
 from .syntax import available, is_condition, key_of, meaning, section_at, shape_at, table, value_words
-from .tree import Node, Path, Point, Span
+from .text import Point, Span
+from .tree import Node, Path
 
 IDENTIFIER = re.compile(r"[\w-]*")
 REST = re.compile(r"[^#,}\]\n]*")
@@ -81,7 +82,7 @@ def offers(project: Project, file: str, point: Point, is_strict: bool = True) ->
         line = project.lines(file)[point.line]
         end = IDENTIFIER.match(line, point.column).end()
         typed = len(before.typed) if before else 0
-        span = Span(Point(point.line, point.column - typed), Point(point.line, end))
+        span = Span.on_line(point.line, point.column - typed, end)
         return span, names_in_expression(cursor, before) if before else []
     if place.taken:
         return place.span, []

@@ -6,16 +6,18 @@ faults that are ignored and notes of shellcheck.
 from __future__ import annotations
 
 import argparse
+import os
 import sys
 from typing import BinaryIO
 
-from . import shellcheck
+from . import library, shellcheck
 from .characters import terminal_text
 from .entries import entries, explained
 from .forms import Annotations, CodeQuality, Form, JsonLines, Outcome
 from .ignoring import Ignored, WrongRule, rules_in
 from .lint_run import CANNOT_GO_ON, CannotStart, LintRun, ReportTooLong
-from .output import report_output
+from .output import STANDARD_OUTPUT, report_output
+from .paths import path_of_word
 from .problems import Problem, problem_of
 from .program import WHICH, find_program
 from .report import BadReport
@@ -37,7 +39,9 @@ def main(words: list[str] | None = None) -> int:
     try:
         if options.explain is not None:
             return explain(options.explain)
-        ignored = Ignored([*options.ignore, *(rule for file in options.ignore_file for rule in rules_in(file))])
+        if options.shellcheck and (said := library.missing(["yaml.cyaml"])):
+            return _fail(said)
+        ignored = Ignored([*map(path_of_word, options.ignore), *(rule for file in options.ignore_file for rule in rules_in(file))])
         with report_output(options.out) as out:
             form, outcome = _report(options, ignored, out)
             if not (outcome.is_known() or form.tells_failure):
@@ -89,7 +93,7 @@ def _write(options: argparse.Namespace, ignored: Ignored, out: BinaryIO, snippet
     outcome.errors = run.errors
     outcome.status = run.status
     if options.shellcheck and outcome.is_known():
-        for note in shellcheck.notes(options.root or ".", options.files, unread, outcome.say):
+        for note in shellcheck.notes(options.root or ".", list(map(path_of_word, options.files)), unread, outcome.say):
             _tell(note, form, ignored, outcome)
     if outcome.is_known():
         outcome.status = 1 if outcome.files else 0
@@ -108,7 +112,7 @@ def _tell(problem: Problem, form: Form, ignored: Ignored, outcome: Outcome) -> N
 def _form(options: argparse.Namespace, out: BinaryIO) -> Form:
     if options.form != "text":
         return FORMS[options.form](out, options.docs)
-    return Text(out, options.docs, has_color(options.color, options.out is None and sys.stdout.isatty()))
+    return Text(out, options.docs, has_color(options.color, options.out is None and os.isatty(STANDARD_OUTPUT)))
 
 
 def _say(form: Form, outcome: Outcome) -> None:

@@ -16,16 +16,16 @@ class Editor:
         """Takes the capabilities that `initialize` has."""
         self._capabilities = capabilities or {}
 
-    def capability(self, section: str, feature: str) -> dict:
+    def _capability(self, section: str, feature: str) -> dict:
         """What the editor says about a feature, such as `("textDocument", "hover")`, or nothing."""
         return (self._capabilities.get(section) or {}).get(feature) or {}
 
     def watches(self) -> bool:
         """Whether the editor reports changes on disk."""
-        return bool(self.capability("workspace", "didChangeWatchedFiles").get("dynamicRegistration"))
+        return bool(self._capability("workspace", "didChangeWatchedFiles").get("dynamicRegistration"))
 
     def hover_format(self) -> str:
-        return _format(self.capability("textDocument", "hover").get("contentFormat"))
+        return _format(self._capability("textDocument", "hover").get("contentFormat"))
 
     def documentation_format(self) -> str:
         """The format of the documentation of completions."""
@@ -36,11 +36,11 @@ class Editor:
         return bool(self._completion_item().get("snippetSupport"))
 
     def _completion_item(self) -> dict:
-        return self.capability("textDocument", "completion").get("completionItem") or {}
+        return self._capability("textDocument", "completion").get("completionItem") or {}
 
     def makes_files(self) -> bool:
         """Whether an edit can create files."""
-        edit = self.capability("workspace", "workspaceEdit")
+        edit = self._capability("workspace", "workspaceEdit")
         return bool(edit.get("documentChanges")) and "create" in (edit.get("resourceOperations") or [])
 
     def ask_to_watch(self) -> None:

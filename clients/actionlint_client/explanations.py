@@ -3,7 +3,7 @@ from __future__ import annotations
 
 from .completion import Offer, offers
 from .project import Project
-from .tree import Point, Span
+from .text import Point, Span
 
 
 def explanation(project: Project, file: str, point: Point) -> tuple[Span, str] | None:

@@ -31,12 +31,11 @@ class Before(NamedTuple):
 
 
 class Property(NamedTuple):
-    """A name in an expression, what it is, a sentence on it, and whether it has properties."""
+    """A name in an expression, what it is, and a sentence on it."""
 
     name: str
     detail: str
     text: str | None
-    is_object: bool = False
 
 
 def expression_before(text: str, is_condition: bool) -> str | None:
@@ -94,7 +93,7 @@ class Scope:
     def contexts(self) -> list[Property]:
         """The contexts that are available here and have properties."""
         found = available(self.file, self.path, self.levels)
-        return [Property(name, "context", meaning("contexts", name), True) for name in (found[0] if found else [])
+        return [Property(name, "context", meaning("contexts", name)) for name in (found[0] if found else [])
                 if name in ("env", "vars", "secrets") or self.properties((name,))]
 
     def functions(self) -> list[str]:
@@ -118,14 +117,14 @@ class Scope:
             return []
         jobs = self.tree.names("jobs") if self.job is None else files.needed(self.tree, self.job)
         if not names:
-            return [Property(job, "job", self.tree.text("jobs", job, "name"), True) for job in dict.fromkeys(jobs)]
+            return [Property(job, "job", self.tree.text("jobs", job, "name")) for job in dict.fromkeys(jobs)]
         job = _same(jobs, names[0])
         if job is None or len(names) > 2:
             return []
         if len(names) == 1:
             heading = "properties of a job that is needed"
             outputs = self._outputs_of_job(job)
-            return [Property(name, "outputs" if name == "outputs" else "string", meaning(heading, name), name == "outputs")
+            return [Property(name, "outputs" if name == "outputs" else "string", meaning(heading, name))
                     for name in ("result", "outputs") if name == "result" or outputs]
         return self._outputs_of_job(job) if names[1].lower() == "outputs" else []
 
@@ -143,13 +142,13 @@ class Scope:
     def _steps(self, names: tuple[str, ...]) -> list[Property]:
         steps = {step.text("id"): step for step in self.visible_steps() if step.text("id")}
         if not names:
-            return [Property(name, "step", step.text("name"), True) for name, step in steps.items()]
+            return [Property(name, "step", step.text("name")) for name, step in steps.items()]
         name = _same(list(steps), names[0])
         if name is None or len(names) > 2:
             return []
         outputs = self._outputs_of_step(steps[name])
         if len(names) == 1:
-            return [Property(one, "outputs" if one == "outputs" else "string", meaning("properties of a step", one), one == "outputs")
+            return [Property(one, "outputs" if one == "outputs" else "string", meaning("properties of a step", one))
                     for one in ("outputs", "outcome", "conclusion") if one != "outputs" or outputs]
         return outputs if names[1].lower() == "outputs" else []
 
@@ -177,8 +176,8 @@ class Scope:
     def _matrix(self, names: tuple[str, ...]) -> list[Property]:
         rows = files.matrix_rows(self.tree, self.job) if self.job else {}
         if not names:
-            return [Property(name, "row of the matrix", ", ".join(item.value for item in row.items[:8] if item.value) or None,
-                             bool(_common_keys(row))) for name, row in rows.items()]
+            return [Property(name, "row of the matrix", ", ".join(item.value for item in row.items[:8] if item.value) or None)
+                    for name, row in rows.items()]
         name = _same(list(rows), names[0])
         return [Property(key, "value of the matrix", None) for key in _common_keys(rows[name])] if name and len(names) == 1 else []
 

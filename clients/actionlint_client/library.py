@@ -1,26 +1,42 @@
-"""Finds the libraries of the clients, even for a `python3` that isn't Debian's."""
+"""The libraries of the clients. If this Python lacks one, the system's Python, for which Debian packages them, runs the program instead."""
 from __future__ import annotations
 
-import importlib.util
+import importlib
+import os
+import subprocess
 import sys
 from typing import Iterable
 
-DEBIAN_FOLDER = "/usr/lib/python3/dist-packages"
-# The libraries of the language server, and the package of each.
-DEBIAN_PACKAGES = {"pylsp_jsonrpc": "python3-pylsp-jsonrpc", "yaml": "python3-yaml"}
+SYSTEM_PYTHON = "/usr/bin/python3"
+# The modules that the language server needs, and the package of each. `yaml.cyaml` is there if PyYAML has libyaml: without it, PyYAML refuses
+# some files that the linter reads, and is ten times slower.
+DEBIAN_PACKAGES = {"pylsp_jsonrpc": "python3-pylsp-jsonrpc", "yaml.cyaml": "python3-yaml"}
 
 
 def missing(names: Iterable[str] = DEBIAN_PACKAGES) -> str:
-    """Says which libraries can't be imported, and is empty if all can. If need be, adds the folder of Debian's packages to the end of
-    `sys.path`. A python3 of another version then uses their parts in Python alone."""
-    absent = [name for name in names if not _find(name)]
+    """Says which modules can't be imported, and is empty if all can. If only the system's Python has them all, this doesn't return: that
+    Python runs the program, with the same arguments, from its start."""
+    absent = [name for name in names if not _is_here(name)]
     if not absent:
         return ""
+    if _system_python_has(names):
+        os.execv(SYSTEM_PYTHON, [SYSTEM_PYTHON, *sys.argv])
     packages = " ".join(DEBIAN_PACKAGES[name] for name in absent)
     return f"{sys.executable} has no {', '.join(absent)} (Debian: apt-get install {packages})"
 
 
-def _find(name: str) -> bool:
-    if importlib.util.find_spec(name) is None and DEBIAN_FOLDER not in sys.path:
-        sys.path.append(DEBIAN_FOLDER)
-    return importlib.util.find_spec(name) is not None
+def _is_here(name: str) -> bool:
+    try:
+        importlib.import_module(name)
+    except ImportError:
+        return False
+    return True
+
+
+def _system_python_has(names: Iterable[str]) -> bool:
+    # Modules of the current folder, which may be a stranger's, aren't imported.
+    words = [SYSTEM_PYTHON, "-c", f"import {', '.join(names)}"]
+    try:
+        return subprocess.run(words, cwd="/", stdin=subprocess.DEVNULL, stderr=subprocess.DEVNULL, check=False).returncode == 0
+    except OSError:
+        return False

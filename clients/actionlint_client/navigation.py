@@ -4,14 +4,14 @@ from __future__ import annotations
 from pylsp_jsonrpc.exceptions import JsonRpcException
 
 from .actions import workspace_edit
-from .asked import asked
+from .asked import Asked, asked
 from .folder import Program
-from .references import all_of, occurrence_at, occurrences
+from .references import Occurrence, all_of, occurrence_at, occurrences
 from .renaming import Refusal, renamable_at, rename
-from .tree import Point, Span
+from .text import Point, Span
 from .workspace import Workspace
 
-START = Span(Point(0, 0), Point(0, 0))
+START = Span.at(Point(0, 0))
 WRITE, READ = 3, 2
 REQUEST_FAILED = -32803
 
@@ -32,9 +32,13 @@ class Navigation:
             "textDocument/rename": self.rename,
         }
 
+    def _name(self, document: dict, position: dict) -> tuple[Asked | None, Occurrence | None]:
+        """The place of a request, and the name there."""
+        place = asked(self._workspace, document, position)
+        return place, occurrence_at(place.project, place.file, place.point) if place else None
+
     def definition(self, textDocument, position, **_) -> list[dict]:
-        place = asked(self._workspace, textDocument, position)
-        found = occurrence_at(place.project, place.file, place.point) if place else None
+        place, found = self._name(textDocument, position)
         if place is None or found is None:
             return []
         if found.symbol.kind == "file":
@@ -42,8 +46,7 @@ class Navigation:
         return [place.location(one.span, one.file) for one in all_of(place.project, found.symbol) if one.is_definition]
 
     def references(self, textDocument, position, context=None, **_) -> list[dict]:
-        place = asked(self._workspace, textDocument, position)
-        found = occurrence_at(place.project, place.file, place.point) if place else None
+        place, found = self._name(textDocument, position)
         if place is None or found is None:
             return []
         with_definitions = (context or {}).get("includeDeclaration", True)
@@ -51,8 +54,7 @@ class Navigation:
                 if with_definitions or not one.is_definition]
 
     def highlights(self, textDocument, position, **_) -> list[dict]:
-        place = asked(self._workspace, textDocument, position)
-        found = occurrence_at(place.project, place.file, place.point) if place else None
+        place, found = self._name(textDocument, position)
         if place is None or found is None:
             return []
         return [{"range": place.range(one.span), "kind": WRITE if one.is_definition else READ}

@@ -6,6 +6,8 @@ import argparse
 from .program import WHICH, find_program
 from .version import version
 
+MAX_SECONDS = 3_600
+
 
 def options(words: list[str] | None = None) -> argparse.Namespace:
     """The options, by default those of the command line. Ends the program if they are wrong or ask for help."""
@@ -16,7 +18,7 @@ def options(words: list[str] | None = None) -> argparse.Namespace:
     parser.add_argument("--no-earlier-faults", action="store_true",
                         help="while a file isn't valid YAML, don't keep showing its earlier faults")
     parser.add_argument("--log", metavar="FILE", help="the file for error messages (default: standard error)")
-    parser.add_argument("--timeout", metavar="SECONDS", type=float, default=20.0,
+    parser.add_argument("--timeout", metavar="SECONDS", type=_seconds, default=20.0,
                         help="how long the linter may take to answer (default: %(default)s)")
     parser.add_argument("--stdio", action="store_true", help="use standard input and output, which is the default")
     parser.add_argument("--version", action="version", version=f"%(prog)s {version() or 'without a version'}")
@@ -24,3 +26,10 @@ def options(words: list[str] | None = None) -> argparse.Namespace:
     given.program = find_program(given.program)
     given.docs = given.docs and given.docs.rstrip("/")
     return given
+
+
+def _seconds(word: str) -> float:
+    seconds = float(word)
+    if not 0 < seconds <= MAX_SECONDS:
+        raise argparse.ArgumentTypeError(f"{word} is not between 0 and {MAX_SECONDS}")
+    return seconds

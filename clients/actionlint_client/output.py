@@ -21,6 +21,8 @@ def report_output(file: str | None) -> Iterator[BinaryIO]:
     """What is written reaches the file or standard output only when the block ends without an exception. Raises OSError if it can't,
     because something else than a regular file has the name (a link, a pipe, a device), or a link below the current folder leads there."""
     if file is None:
+        # If it is closed, a file that is opened next would take its place.
+        os.fstat(STANDARD_OUTPUT)
         with tempfile.TemporaryFile() as spool:
             yield spool
             spool.seek(0)

@@ -1,6 +1,7 @@
 """Which files are linted, by their paths relative to the repository's folder."""
 from __future__ import annotations
 
+import os
 import re
 
 WORKFLOWS = ".github/workflows"
@@ -28,6 +29,11 @@ def is_linted(path: str) -> bool:
 def is_path(path: str) -> bool:
     """Whether a path can be used in a command of the session."""
     return NO_PATH.search(path) is None and len(path.encode("utf-8", "surrogatepass")) <= MAX_PATH_BYTES
+
+
+def path_of_word(word: str) -> str:
+    """A word of the command line as the linter reads it, which is UTF-8 in each locale."""
+    return os.fsencode(word).decode("utf-8", "replace")
 
 
 def is_below(path: bytes, folder: bytes) -> bool:

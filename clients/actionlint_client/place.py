@@ -8,7 +8,8 @@ from enum import Enum
 from functools import lru_cache
 from typing import NamedTuple, Sequence
 
-from .tree import Path, Point, Span
+from .text import Point, Span
+from .tree import Path
 
 DASH = re.compile(r"-(?= |$)")
 KEY = re.compile(r"""(?:"((?:[^"\\]|\\.)*)" *|'((?:[^']|'')*)' *|([^\s\[\]{},"'|>%@`#&*!-][^#]*?|-[^\s#][^#]*?)):(?=\s|$)""")
@@ -122,7 +123,7 @@ class Outline:
         siblings = self._keys_beside(point.line, column, False)
         if under and under.name is not None:
             end = under.end - 1
-            span = Span(Point(point.line, under.column), Point(point.line, end))
+            span = Span.on_line(point.line, under.column, end)
             return Place(path, Role.KEY, span, under.name, text[under.column:point.column], "", siblings, around, True)
         span, word, typed = self._word(point, start)
         has_colon = COLON.match(text, span.end.column) is not None
@@ -146,7 +147,7 @@ class Outline:
             end = closing if closing >= 0 else len(text)
         else:
             end = WORD.match(text, point.column).end()
-        return Span(Point(point.line, start), Point(point.line, end)), text[start:end], text[start:point.column]
+        return Span.on_line(point.line, start, end), text[start:end], text[start:point.column]
 
     def _place_in_flow(self, point: Point) -> Place | None:
         """The place in a flow sequence or mapping, or None if the point isn't in one."""
@@ -181,7 +182,7 @@ class Outline:
         word = self.texts[point.line][column:end]
         has_colon = role is Role.KEY and COLON.match(self.texts[point.line], end) is not None
         siblings = {name: value for name, value in (last.keys or {}).items() if role is Role.KEY and name != word}
-        return Place(full, role, Span(Point(point.line, column), Point(point.line, end)), word, typed, flow.value_before,
+        return Place(full, role, Span.on_line(point.line, column, end), word, typed, flow.value_before,
                      siblings, (*around, *beside)[:len(full)], has_colon, True)
 
     def _way(self, number: int, elements: list[Element], depth: int = 0) -> tuple[Path, tuple[dict[str, str], ...]]:

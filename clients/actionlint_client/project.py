@@ -6,9 +6,9 @@ from dataclasses import dataclass
 from typing import Callable, Iterable, NamedTuple
 
 from .paths import ACTION_NAMES, is_action, is_path, is_workflow
+from .text import LINE_BREAK
 from .tree import Node, read_tree
 
-LINE_BREAK = re.compile("\r\n|\n|\r")
 OUTPUT_NAME = re.compile(r"""(?:^|[\s"'{(;&|])([A-Za-z_][\w-]*)(?:=|<<)""")
 
 

@@ -2,7 +2,6 @@
 from __future__ import annotations
 
 import re
-from bisect import bisect_right
 from typing import Iterator, NamedTuple
 
 from . import project as files
@@ -10,7 +9,8 @@ from .expressions import CHAIN, LINK, expressions_in
 from .paths import is_workflow
 from .project import Project
 from .syntax import CONDITIONS
-from .tree import Node, Path, Point, Span, walk
+from .text import Places, Point, Span
+from .tree import Node, Path, walk
 
 # Strings in expressions. Those in square brackets are names.
 TEXT = re.compile(r"(?<!\[)'(?:[^']|'')*'")
@@ -43,26 +43,6 @@ class _Known(NamedTuple):
     tree: Node
     calls: dict[tuple[str | None, bool], str | None]
     found: list[Occurrence]
-
-
-class _Text:
-    """A file's text by offsets."""
-
-    def __init__(self, lines: list[str]):
-        self.text = "\n".join(lines)
-        self._starts = [0]
-        for line in lines:
-            self._starts.append(self._starts[-1] + len(line) + 1)
-
-    def offset(self, point: Point) -> int:
-        return min(self._starts[min(point.line, len(self._starts) - 1)] + point.column, len(self.text))
-
-    def point(self, offset: int) -> Point:
-        line = bisect_right(self._starts, offset) - 1
-        return Point(line, offset - self._starts[line])
-
-    def span(self, start: int, end: int) -> Span:
-        return Span(self.point(start), self.point(end))
 
 
 def occurrences(project: Project, file: str) -> list[Occurrence]:
@@ -99,7 +79,8 @@ def callers(project: Project, file: str) -> list[str]:
 class _Finder:
     def __init__(self, project: Project, file: str, tree: Node):
         self.project, self.file, self.tree = project, file, tree
-        self.text = _Text(project.lines(file))
+        self.text = project.text(file)
+        self._places = Places(self.text)
         self.calls: dict[tuple[str | None, bool], str | None] = {}
         self._anchors: dict[str, int] = {}
         self._jobs = {name.lower(): name for name in tree.names("jobs")}
@@ -161,15 +142,15 @@ class _Finder:
 
     def _of_anchor(self, node: Node) -> Iterator[Occurrence]:
         """An anchor, or an alias of the last anchor of its name."""
-        start = self.text.offset(node.span.start)
-        match = ANCHOR.match(self.text.text, start)
+        start = self._places.offset(node.span.start)
+        match = ANCHOR.match(self.text, start)
         if match is None:
             return
         if node.anchor:
             self._anchors[node.anchor] = self._anchors.get(node.anchor, 0) + 1
         name = node.anchor or node.alias or ""
         symbol = Symbol("anchor", self.file, str(self._anchors.get(name, 0)), name)
-        yield Occurrence(symbol, self.file, self.text.span(*match.span(1)), node.anchor is not None)
+        yield Occurrence(symbol, self.file, self._places.span(*match.span(1)), node.anchor is not None)
 
     def _of_scalar(self, path: Path, value: Node) -> Iterator[Occurrence]:
         key = next((step for step in reversed(path) if isinstance(step, str)), "")
@@ -187,8 +168,8 @@ class _Finder:
             yield from self._of_expressions(value, job, key in CONDITION_KEYS)
 
     def _of_expressions(self, value: Node, job: str | None, is_condition: bool) -> Iterator[Occurrence]:
-        start, end = self.text.offset(value.span.start), self.text.offset(value.span.end)
-        written = self.text.text[start:end]
+        start, end = self._places.offset(value.span.start), self._places.offset(value.span.end)
+        written = self.text[start:end]
         parts = list(expressions_in(written))
         if not parts and is_condition and "${{" not in written:
             parts = [(0, written)]
@@ -203,7 +184,7 @@ class _Finder:
         for number, symbol in self._symbols_of(names, job):
             if number < len(links):
                 begin = start + links[number][1]
-                yield Occurrence(symbol, self.file, self.text.span(begin, begin + len(links[number][0])), False)
+                yield Occurrence(symbol, self.file, self._places.span(begin, begin + len(links[number][0])), False)
 
     def _symbols_of(self, names: list[str], job: str | None) -> Iterator[tuple[int, Symbol]]:
         """The indices of the names of a chain that refer to something, each with its symbol."""
@@ -241,6 +222,6 @@ class _Finder:
 
     def _inner(self, node: Node) -> Span:
         """The place of a scalar without its anchor and its quotes."""
-        start, end = self.text.offset(node.span.start), self.text.offset(node.span.end)
-        start = PROPERTY.match(self.text.text, start, end).end() if node.anchor else start
-        return self.text.span(start + 1, end - 1) if node.style in ("'", '"') else self.text.span(start, end)
+        start, end = self._places.offset(node.span.start), self._places.offset(node.span.end)
+        start = PROPERTY.match(self.text, start, end).end() if node.anchor else start
+        return self._places.span(start + 1, end - 1) if node.style in ("'", '"') else self._places.span(start, end)

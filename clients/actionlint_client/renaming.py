@@ -10,7 +10,7 @@ from .project import Project
 from .references import Occurrence, Symbol, all_of, occurrence_at
 from .repair import Edit, replaced
 from .session import LinterEnded, ReportTooLong
-from .tree import Point
+from .text import Point
 
 IDENTIFIER = re.compile(r"[A-Za-z_][\w-]*", re.A)
 MAX_OTHER_FILES = 256

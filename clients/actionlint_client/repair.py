@@ -13,7 +13,9 @@ from .place import Outline
 from .positions import BYTE_ORDER_MARK, WORD
 from .project import Project
 from .report import Fault
-from .tree import Node, Path, Point, Span, last_line, walk
+from .shells import default_shell, shell_of
+from .text import Places, Point, Span
+from .tree import Node, Path, last_line, walk
 
 NEEDS_QUOTES = re.compile(r"^[!&*\[\]{}|>@`%'\"#,?-]|: | #|:$")
 FLOW_SIGNS = re.compile(r"[\[\]{},]")
@@ -143,12 +145,9 @@ class Case:
         return str(path[1]) if is_workflow(self.file) and path[:1] == ("jobs",) and len(path) > 1 else None
 
     def shell_of(self, script: Found) -> str:
-        """The shell of a step's script: its own, the default one, or the runner's."""
-        own = script.parent.text("shell")
-        job = self.at("jobs", self.job) if self.job else None
-        defaults = [node.text("defaults", "run", "shell") for node in (job, self.tree) if node]
-        runner = "pwsh" if job and any("windows" in label for label in job.texts("runs-on")) else "bash"
-        return next((shell for shell in (own, *defaults) if shell), runner)
+        """The name of the shell of a step's script, bash if it isn't known."""
+        assert self.tree
+        return shell_of(script.parent, default_shell(self.tree, self.at("jobs", self.job) if self.job else None)) or "bash"
 
     def slice(self, span: Span) -> str:
         """The text of a span."""
@@ -176,7 +175,7 @@ class Case:
         start = found.elements[-1].end if found.elements else found.indent
         start += len(text[start:]) - len(text[start:].lstrip())
         end = start + len(COMMENT.sub("", text[start:]))
-        return Span(Point(line, start), Point(line, end)) if end > start else None
+        return Span.on_line(line, start, end) if end > start else None
 
 
 def quoted(text: str) -> str:
@@ -201,20 +200,20 @@ def first_entry(case: Case, mapping: Node, entry: str) -> Edit:
     start = mapping.span.start
     if mapping.is_flow:
         start = Point(start.line, start.column + 1)
-        return Edit(Span(start, start), entry + (", " if mapping.entries else ""))
+        return Edit(Span.at(start), entry + (", " if mapping.entries else ""))
     start = mapping.entries[0][0].span.start if mapping.entries else start
     indent = "\n" + " " * start.column
-    return Edit(Span(start, start), entry.replace("\n", indent) + indent)
+    return Edit(Span.at(start), entry.replace("\n", indent) + indent)
 
 
 def next_entry(case: Case, mapping: Node, key: str, entry: str) -> Edit:
     """A new entry after another one of a mapping."""
     name, value = next((name, value) for name, value in mapping.entries if name.value == key)
     if mapping.is_flow:
-        return Edit(Span(value.span.end, value.span.end), ", " + entry)
+        return Edit(Span.at(value.span.end), ", " + entry)
     line = last_line(value, case.lines)
     end = Point(line, len(case.lines[line]))
-    return Edit(Span(end, end), ("\n" + entry).replace("\n", "\n" + " " * name.span.start.column))
+    return Edit(Span.at(end), ("\n" + entry).replace("\n", "\n" + " " * name.span.start.column))
 
 
 def without_entry(case: Case, mapping: Node, key: Node) -> Edit:
@@ -238,11 +237,7 @@ def without_entry(case: Case, mapping: Node, key: Node) -> Edit:
 
 def replaced(text: str, edits: Iterable[Edit]) -> str:
     """A text after edits whose spans don't overlap."""
-    lines = text.split("\n")
-    starts = [0]
-    for line in lines:
-        starts.append(starts[-1] + len(line) + 1)
-    at = lambda point: min(starts[min(point.line, len(lines))] + point.column, len(text))
+    places = Places(text)
     for edit in sorted(edits, key=lambda edit: edit.span.start, reverse=True):
-        text = text[:at(edit.span.start)] + edit.text + text[at(edit.span.end):]
+        text = text[:places.offset(edit.span.start)] + edit.text + text[places.offset(edit.span.end):]
     return text

@@ -9,7 +9,8 @@ from .names import near
 from .paths import ACTION_NAMES, WORKFLOWS, is_workflow
 from .repair import Case, Edit, Repair, as_scalar, is_within_flow, next_entry, without_entry
 from .repairs_keys import deleted
-from .tree import Node, Point, Span
+from .text import Point, Span
+from .tree import Node
 
 CALLED = "on:\n  workflow_call:\njobs:\n  build:\n    runs-on: ubuntu-latest\n    steps:\n      - run: make\n"
 VALUES = {"boolean": "true", "number": "0", "string": "''"}
@@ -103,11 +104,9 @@ def _given(case: Case, node: Node, below: str, declared: list[files.Declaration]
     title = "add " + ", ".join(f'"{one.name}"' for one in declared)
     around = node.get(below)
     if around and around.entries:
-        is_in_flow = around.is_flow
-        yield case.of(title, next_entry(case, around, around.entries[-1][0].value, (", " if is_in_flow else "\n").join(entries)))
+        yield case.of(title, next_entry(case, around, around.entries[-1][0].value, (", " if around.is_flow else "\n").join(entries)))
     elif around is None:
-        is_in_flow = node.is_flow
-        text = f"{below}: {{{', '.join(entries)}}}" if is_in_flow else f"{below}:\n  " + "\n  ".join(entries)
+        text = f"{below}: {{{', '.join(entries)}}}" if node.is_flow else f"{below}:\n  " + "\n  ".join(entries)
         yield case.of(title, next_entry(case, node, "uses", text))
     else:
         key = node.key(below)
@@ -194,12 +193,12 @@ def made_callable(case: Case) -> Iterable[Repair]:
     elif flow in ("[", "{"):
         after = Point(on.span.start.line, on.span.start.column + 1)
         entry = "workflow_call, " if flow == "[" else "workflow_call: {}, "
-        yield Repair(title, {callee: (Edit(Span(after, after), entry),)})
+        yield Repair(title, {callee: (Edit(Span.at(after), entry),)})
     else:
         start = on.entries[0][0].span.start if on.entries else on.span.start
         entry = "workflow_call:" if on.entries else "- workflow_call"
         indent = "\n" + " " * start.column
-        yield Repair(title, {callee: (Edit(Span(start, start), entry + indent),)})
+        yield Repair(title, {callee: (Edit(Span.at(start), entry + indent),)})
 
 
 def without_step(case: Case) -> Iterable[Repair]:

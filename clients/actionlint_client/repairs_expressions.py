@@ -7,7 +7,7 @@ from typing import Callable, Iterable, NamedTuple
 
 from .expressions import CHAIN, NAME, STRING, links
 from .repair import NEEDS_QUOTES, Case, Repair, as_scalar, is_within_flow
-from .tree import Point, Span
+from .text import Point, Span
 
 BRACES = re.compile(r"\$\{\{(.*?)\}\}", re.S)
 DOUBLE_QUOTED = re.compile(r'\\?"([^"\\]*)\\?"')
@@ -15,14 +15,14 @@ SINGLE_EQUALS = re.compile(r"(?<![=!<>])=(?!=)")
 WORD_OPERATORS = {"and": "&&", "or": "||", "not": "!", "eq": "==", "ne": "!="}
 WORDS = re.compile(r"\b(" + "|".join(WORD_OPERATORS) + r")\b", re.I)
 VARIABLE = re.compile(r"\$\{?(GITHUB_)?([A-Z_][A-Z0-9_]*)\}?")
-METHOD = re.compile(rf"({NAME}(?:\.{NAME})*?)\.(contains|startsWith|endsWith)\(")
-AMONG = re.compile(rf"({NAME}(?:\.{NAME})*)\s+in\s+[\[(]([^\])]*)[\])]")
+METHOD = re.compile(rf"(?<![\w.-])({NAME}(?:\.{NAME})*?)\.(contains|startsWith|endsWith)\(")
+AMONG = re.compile(rf"(?<![\w.-])({NAME}(?:\.{NAME})*)\s+in\s+[\[(]([^\])]*)[\])]")
 LIST_ARGUMENT = re.compile(r"\(\s*\[([^\]]*)\]\s*,")
-CONDITIONAL = re.compile(r"^(.*?)\?(.*?):(.*)$", re.S)
-CALL_OF_THREE = re.compile(r"\w+\(([^()]*(?:\([^()]*\))?[^(),]*),([^()]*(?:\([^()]*\))?[^(),]*),([^()]*(?:\([^()]*\))?[^(),]*)\)")
+CALL_OF_CHOICE = re.compile(r"\b(?:case|iif|if|ternary|choose)\s*\(")
 ARGUMENTS = re.compile(r"(?:'(?:[^']|'')*'|[^()']|\((?:[^()']|'[^']*')*\))*")
 ARGUMENT = re.compile(r"(?:'(?:[^']|'')*'|\((?:[^()']|'[^']*')*\)|[^,()'])+")
 MAX_CONDITION_CHARACTERS = 5_000
+PLACEHOLDER = re.compile(r"\{(\d{1,3})\}")
 TWO_QUOTES = "''"
 SUM = re.compile(rf"({CHAIN.pattern}|'[^']*')((?:\s*\+\s*(?:{CHAIN.pattern}|'[^']*'))+)")
 
@@ -46,12 +46,12 @@ def expression_of(case: Case) -> Expression | None:
     if start >= 0 and (start >= span.start.column or line > span.start.line):
         end = case.line.find("}}", case.span.start.column)
         last = end if end >= 0 else len(case.line.rstrip()) - (1 if style in ("'", '"') else 0)
-        inner = Span(Point(line, start + 3), Point(line, max(last, start + 3)))
+        inner = Span.on_line(line, start + 3, max(last, start + 3))
         return Expression(case.slice(inner), inner, style)
     if "${{" in case.slice(span):
         return None
     if style in ("|", ">"):
-        inner = Span(Point(line, len(case.line) - len(case.line.lstrip())), Point(line, len(case.line.rstrip())))
+        inner = Span.on_line(line, len(case.line) - len(case.line.lstrip()), len(case.line.rstrip()))
     elif style:
         inner = Span(Point(span.start.line, span.start.column + 1), Point(span.end.line, span.end.column - 1))
     else:
@@ -129,14 +129,28 @@ def _json_list(entries: str) -> str:
     return f"fromJSON('[{texts}]')"
 
 
-def _chosen(text: str) -> str | None:
-    match = CONDITIONAL.match(text)
-    return f"{match[1].rstrip()} && {match[2].strip()} || {match[3].strip()} " if match else None
+def chosen(text: str) -> str | None:
+    """`a ? b : c` as `a && b || c`, which expressions have."""
+    condition, question, rest = text.partition("?")
+    yes, colon, no = rest.partition(" : " if " : " in rest else ":")
+    return f"{condition.rstrip()} && {yes.strip()} || {no.strip()} " if question and colon else None
 
 
 def _chosen_by_call(text: str) -> str | None:
-    changed = CALL_OF_THREE.sub(lambda match: "(" + match[1].strip() + " && " + match[2].strip() + " || " + match[3].strip() + ")", text, 1)
-    return changed if re.search(r"\b(case|iif|if|ternary|choose)\s*\(", text) else None
+    """`case(a, b, c)` as `(a && b || c)`."""
+    call = CALL_OF_CHOICE.search(text)
+    if call is None:
+        return None
+    parts, end = _arguments(text, call.end())
+    if len(parts) != 3 or text[end:end + 1] != ")":
+        return None
+    return f"{text[:call.start()]}({parts[0]} && {parts[1]} || {parts[2]}){text[end + 1:]}"
+
+
+def _arguments(text: str, start: int) -> tuple[list[str], int]:
+    """The arguments of a call that begin at an offset, and the offset after them."""
+    match = ARGUMENTS.match(text, start)
+    return [part.strip() for part in ARGUMENT.findall(match[0])], match.end()
 
 
 chosen_by_call = rewritten('write "&&" and "||"', _chosen_by_call)
@@ -198,8 +212,7 @@ def closed_braces(case: Case) -> Iterable[Repair]:
     ends += [chain.end()] if chain else []
     for end in dict.fromkeys(ends):
         tail = rest[end:end + 1]
-        span = Span(Point(case.span.start.line, case.span.start.column + end),
-                    Point(case.span.start.line, case.span.start.column + end + (1 if tail == "}" else 0)))
+        span = Span.on_line(case.span.start.line, case.span.start.column + end, case.span.start.column + end + (1 if tail == "}" else 0))
         before = "" if rest[:end].endswith(" ") else " "
         yield case.replace("close the braces", before + "}}", span)
 
@@ -209,7 +222,7 @@ def whole_chain(case: Case) -> tuple[tuple[str, ...], Span]:
     line, column = case.line, case.span.start.column
     for match in CHAIN.finditer(line):
         if match.start() <= column < match.end():
-            return links(match[0]), Span(Point(case.span.start.line, match.start()), Point(case.span.start.line, match.end()))
+            return links(match[0]), Span.on_line(case.span.start.line, match.start(), match.end())
     return (), case.span
 
 
@@ -220,7 +233,7 @@ def word_as_text(case: Case) -> Iterable[Repair]:
     start = column - len(re.search(r"[^\s'\"()=!,]*$", line[:column])[0])
     end = column + len(re.match(r"[^\s'\"()=!,}]*", line[column:])[0])
     if expression and start < end:
-        span = Span(Point(case.span.start.line, start), Point(case.span.start.line, end))
+        span = Span.on_line(case.span.start.line, start, end)
         yield case.replace("put it in quotes", in_yaml(f"'{line[start:end]}'", expression), span)
 
 
@@ -273,7 +286,7 @@ def fewer_arguments(case: Case) -> Iterable[Repair]:
     parts = re.split(r",\s*(?=(?:[^']*'[^']*')*[^']*$)", inner) if inner.strip() else []
     expression = expression_of(case)
     empty = in_yaml("''", expression) if expression and expression.style != "'" else "''''"
-    span = Span(Point(case.span.start.line, start), Point(case.span.start.line, end))
+    span = Span.on_line(case.span.start.line, start, end)
     if end < 0:
         return
     for changed in (parts[:-1], parts[:-2], [], [*parts, empty], [*parts, empty, empty]):
@@ -286,9 +299,8 @@ def _format_call(case: Case) -> tuple[list[str], Span] | None:
     if start < 0:
         return None
     begin = start + len("format(")
-    match = ARGUMENTS.match(case.line, begin)
-    parts = [part.strip() for part in ARGUMENT.findall(match[0])]
-    return parts, Span(Point(case.span.start.line, begin), Point(case.span.start.line, match.end()))
+    parts, end = _arguments(case.line, begin)
+    return parts, Span.on_line(case.span.start.line, begin, end)
 
 
 def right_format(case: Case) -> Iterable[Repair]:
@@ -297,7 +309,7 @@ def right_format(case: Case) -> Iterable[Repair]:
     if call is None or not call[0]:
         return
     (text, *arguments), span = call
-    numbers = [int(number) for number in re.findall(r"\{(\d+)\}", text)]
+    numbers = [int(number) for number in PLACEHOLDER.findall(text)]
     empty, quote = (TWO_QUOTES * 2, TWO_QUOTES) if text.startswith(TWO_QUOTES) else (TWO_QUOTES, "'")
     most = max(numbers, default=-1)
     unused = "".join(f" {{{number}}}" for number in range(len(arguments)) if number not in numbers)
@@ -318,13 +330,13 @@ def _numbered(text: str) -> str:
 
 REPAIRS: dict[str, tuple[Callable[[Case], Iterable[Repair]], ...]] = {
     "X1": (rewritten("write single quotes", _single_quotes), rewritten('write "==", "&&", "||"', _doubled),
-           rewritten('write "&&" and "||"', _chosen), rewritten('write "&&", "||", "!"', _operators),
+           rewritten('write "&&" and "||"', chosen), rewritten('write "&&", "||", "!"', _operators),
            rewritten("write a call of format", _formatted), rewritten("write the operators of expressions", _all_operators),
            rewritten('write "${{" and "}}"', _double_braces), rewritten("take it from the context",
                                                                         _github_variables), word_as_text, without_character),
     "X2": (closed_text,),
     "X3": (rewritten('write "&&", "||", "!"', _operators), rewritten('write "==", "&&", "||"', _doubled),
-           rewritten('write "&&" and "||"', _chosen), rewritten("call a function", _called), rewritten("close the brackets", _balanced),
+           rewritten('write "&&" and "||"', chosen), rewritten("call a function", _called), rewritten("close the brackets", _balanced),
            rewritten("delete what is too much at the end", _without_rest), without_character),
     "X4": (rewritten("close the brackets", _balanced), rewritten("delete what is too much at the end", _without_rest)),
     "X11": (fewer_arguments,),

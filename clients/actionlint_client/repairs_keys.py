@@ -11,7 +11,8 @@ from .repair import Case, Edit, Found, Repair, first_entry, is_within_flow, next
 from .repairs_yaml import DASH_WITHOUT_SPACE
 from .stricter import takes_filter
 from .syntax import table
-from .tree import Node, Point, Span, last_line, walk
+from .text import Point, Span
+from .tree import Node, last_line, walk
 
 JOB = "build:\n  runs-on: ubuntu-latest\n  steps:\n    - run: make"
 # The values of missing keys.
@@ -223,7 +224,7 @@ def _of_its_section(case: Case, here: Found) -> Iterable[Repair]:
     elif name == "steps" and value.kind == "scalar" and isinstance(here.path[-1], int):
         line = case.line_at(value.span.start.line)
         yield case.replace("add a script", (" " if line.rstrip().endswith("-") else "") + "run: echo",
-                           Span(Point(value.span.start.line, len(line.rstrip())), Point(value.span.start.line, len(line))))
+                           Span.on_line(value.span.start.line, len(line.rstrip()), len(line)))
 
 
 def _settings_of_event(case: Case, here: Found) -> Iterable[Repair]:
@@ -266,7 +267,7 @@ def _indented(case: Case, entries: Iterable[tuple[Node, Node]], by: str) -> list
     for key, value in entries:
         column = key.span.start.column if by.strip() else 0
         lines = range(key.span.start.line, last_line(value, case.lines) + 1)
-        edits += [Edit(Span(Point(line, column), Point(line, column)), by if line == lines[0] else " " * len(by)) for line in lines]
+        edits += [Edit(Span.at(Point(line, column)), by if line == lines[0] else " " * len(by)) for line in lines]
     return edits
 
 
@@ -280,8 +281,8 @@ def as_list(case: Case, mapping: Node) -> Iterable[Repair]:
     """A mapping in lines as the one entry of a list, or each of its entries as one."""
     first, last = mapping.span.start.line, last_line(mapping, case.lines)
     start = mapping.span.start
-    edits = [Edit(Span(start, start), "- ")]
-    edits += [Edit(Span(Point(line, 0), Point(line, 0)), "  ") for line in range(first + 1, last + 1) if case.lines[line].strip()]
+    edits = [Edit(Span.at(start), "- ")]
+    edits += [Edit(Span.at(Point(line, 0)), "  ") for line in range(first + 1, last + 1) if case.lines[line].strip()]
     yield case.of("make it a list", *edits)
 
 
@@ -293,7 +294,7 @@ def as_mapping(case: Case, sequence: Node) -> Iterable[Repair]:
     for item in sequence.items:
         line, column = item.span.start
         dash = case.lines[line].index("-")
-        edits.append(Edit(Span(Point(line, dash), Point(line, column)), " " * (column - dash)))
+        edits.append(Edit(Span.on_line(line, dash, column), " " * (column - dash)))
     yield case.of("delete the dashes", *edits)
 
 
@@ -302,7 +303,7 @@ def _spaced_dashes(case: Case) -> Iterable[Repair]:
     for number in range(case.span.start.line, len(case.lines)):
         match = DASH_WITHOUT_SPACE.match(case.lines[number])
         if match and match.end() - 1 == case.span.start.column:
-            edits.append(Edit(Span(Point(number, match.end()), Point(number, match.end())), " "))
+            edits.append(Edit(Span.at(Point(number, match.end())), " "))
     if edits:
         yield case.of("add a space after the dash", *edits)
 
@@ -312,7 +313,7 @@ def _first_job(case: Case) -> Iterable[Repair]:
     value = case.at("jobs")
     if jobs and value and not value.entries and not value.items:
         line = jobs.span.start.line
-        span = Span(Point(line, jobs.span.end.column), Point(line, len(case.lines[line])))
+        span = Span.on_line(line, jobs.span.end.column, len(case.lines[line]))
         yield case.replace("add a job", ":\n  " + JOB.replace("\n", "\n  "), span)
 
 
@@ -368,7 +369,7 @@ def skeleton(case: Case) -> Iterable[Repair]:
     """A file to start from, after its comments."""
     end = Point(len(case.lines) - 1, len(case.lines[-1]))
     before = "\n" if case.lines[-1] else ""
-    yield case.replace("insert a skeleton", before + (WORKFLOW if is_workflow(case.file) else ACTION), Span(end, end))
+    yield case.replace("insert a skeleton", before + (WORKFLOW if is_workflow(case.file) else ACTION), Span.at(end))
 
 
 REPAIRS: dict[str, tuple[Callable[[Case], Iterable[Repair]], ...]] = {

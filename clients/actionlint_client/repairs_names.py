@@ -14,7 +14,8 @@ from .repair import Case, Edit, Repair, first_entry, next_entry, quoted, without
 from .repairs_expressions import BRACES, chosen_by_call, expression_of, in_yaml, whole_chain
 from .repairs_rules import POWERSHELLS
 from .syntax import table
-from .tree import Node, Path, Point, Span
+from .text import Point, Span
+from .tree import Node, Path
 
 # Of so many properties each may be meant.
 FEW_NAMES = 3
@@ -95,13 +96,18 @@ def other_property(case: Case) -> Iterable[Repair]:
         yield case.replace(f'change to "{meant}"', meant)
 
 
+def _braces(case: Case) -> tuple[re.Match, Span] | None:
+    """The braces around the fault with what is in them, and where they stand."""
+    match = next((match for match in BRACES.finditer(case.line) if match.start() <= case.span.start.column < match.end()), None)
+    return (match, Span.on_line(case.span.start.line, match.start(), match.end())) if match else None
+
+
 def computed_by_shell(case: Case) -> Iterable[Repair]:
     """What expressions can't compute, by the shell of the script: a sum, or another text."""
-    here = case.scalar
-    match = next((match for match in BRACES.finditer(case.line) if match.start() <= case.span.start.column < match.end()), None)
-    if here is None or match is None or here.path[-1:] != ("run",) or case.shell_of(here) not in ("bash", "sh"):
+    here, braces = case.scalar, _braces(case)
+    if here is None or braces is None or here.path[-1:] != ("run",) or case.shell_of(here) not in ("bash", "sh"):
         return
-    span = Span(Point(case.span.start.line, match.start()), Point(case.span.start.line, match.end()))
+    match, span = braces
     sum_of = SUM_OF_NUMBERS.fullmatch(match[1].strip())
     if sum_of:
         yield case.replace("let the shell compute it", f"$(( ${{{{ {sum_of[1]} }}}} {sum_of[2]} {sum_of[3]} ))", span)
@@ -166,9 +172,9 @@ def _need(case: Case, job: str, name: str) -> Edit:
     if last is None:
         return Edit(needs.span, f"[{name}]")
     if needs.is_flow:
-        return Edit(Span(last.span.end, last.span.end), f", {name}")
+        return Edit(Span.at(last.span.end), f", {name}")
     end = Point(last.span.end.line, len(case.lines[last.span.end.line]))
-    return Edit(Span(end, end), "\n" + " " * (last.span.start.column - 2) + "- " + name)
+    return Edit(Span.at(end), "\n" + " " * (last.span.start.column - 2) + "- " + name)
 
 
 def output_of_job(case: Case) -> Iterable[Repair]:
@@ -215,12 +221,10 @@ def _declaring(case: Case, way: Path, name: str, title: str, *edits: Edit) -> It
     around = case.at(*way)
     inputs = case.at(*way, "inputs")
     if inputs and inputs.entries:
-        is_in_flow = inputs.is_flow
-        yield case.of(title, first_entry(case, inputs, flow if is_in_flow else entry), *edits)
+        yield case.of(title, first_entry(case, inputs, flow if inputs.is_flow else entry), *edits)
     elif inputs is None and around and around.entries:
         key = "description" if around.get("description") else around.entries[-1][0].value
-        is_in_flow = around.is_flow
-        text = f"inputs: {{{flow}}}" if is_in_flow else "inputs:\n  " + entry.replace("\n", "\n  ")
+        text = f"inputs: {{{flow}}}" if around.is_flow else "inputs:\n  " + entry.replace("\n", "\n  ")
         yield case.of(title, next_entry(case, around, key, text), *edits)
 
 
@@ -310,12 +314,11 @@ def moved_variable(case: Case) -> Iterable[Repair]:
     edits = []
     for step in steps.items if steps else []:
         env = step.get("env")
-        is_in_flow = step.is_flow
         flow_entry = f"{here.key.value}: {case.slice(here.value.span) if here.value.style else quoted(here.value.value)}"
         if env and env.entries:
             edits.append(first_entry(case, env, flow_entry if env.is_flow else entry))
         elif env is None:
-            edits.append(first_entry(case, step, f"env: {{{flow_entry}}}" if is_in_flow else f"env:\n  {entry}"))
+            edits.append(first_entry(case, step, f"env: {{{flow_entry}}}" if step.is_flow else f"env:\n  {entry}"))
     if not edits:
         return
     removed = without_entry(case, here.parent, here.key) if len(here.parent.entries) > 1 else without_entry(case, job, job.key("env"))
@@ -324,23 +327,22 @@ def moved_variable(case: Case) -> Iterable[Repair]:
 
 def by_variable(case: Case) -> Iterable[Repair]:
     """A text that anybody can write as a variable of the step, which the shell doesn't read as commands."""
-    here = case.scalar
-    match = next((match for match in BRACES.finditer(case.line) if match.start() <= case.span.start.column < match.end()), None)
-    if here is None or match is None or here.path[-1:] != ("run",):
+    here, braces = case.scalar, _braces(case)
+    if here is None or braces is None or here.path[-1:] != ("run",):
         return
+    match, span = braces
     name = re.sub(r"\W", "_", links(case.arguments[0])[-1]).upper() if links(case.arguments[0]) else "TEXT"
     used = _shell_variable(case, match, name, case.shell_of(here))
     if used is None:
         return
     entry = f"{name}: {match[0]}"
     env = here.parent.get("env")
-    edit = Edit(Span(Point(case.span.start.line, match.start()), Point(case.span.start.line, match.end())), used)
-    is_in_flow = here.parent.is_flow
+    edit = Edit(span, used)
     if env and env.entries:
         entry = f"{name}: {quoted(match[0])}" if env.is_flow else entry
         yield case.of(f'pass it in the variable "{name}"', first_entry(case, env, entry), edit)
     elif env is None:
-        text = f"env: {{{name}: {quoted(match[0])}}}" if is_in_flow else f"env:\n  {entry}"
+        text = f"env: {{{name}: {quoted(match[0])}}}" if here.parent.is_flow else f"env:\n  {entry}"
         yield case.of(f'pass it in the variable "{name}"', next_entry(case, here.parent, "run", text), edit)
 
 
@@ -375,8 +377,7 @@ def declared_output(case: Case) -> Iterable[Repair]:
     if outputs and outputs.entries:
         yield case.of(title, first_entry(case, outputs, entry))
     elif outputs is None and job.get("runs-on"):
-        is_in_flow = job.is_flow
-        yield case.of(title, next_entry(case, job, "runs-on", f"outputs: {{{entry}}}" if is_in_flow else f"outputs:\n  {entry}"))
+        yield case.of(title, next_entry(case, job, "runs-on", f"outputs: {{{entry}}}" if job.is_flow else f"outputs:\n  {entry}"))
 
 
 def _declared_by(case: Case, callee: str, name: str) -> Iterable[Repair]:

@@ -7,7 +7,8 @@ from typing import Callable, Iterable
 from .names import LISTS, names, near
 from .repair import Case, Edit, Repair, as_scalar, is_within_flow, next_entry, quoted, without_entry
 from .repairs_keys import as_list, as_mapping, deleted, in_its_quotes
-from .tree import Node, Point, Span
+from .text import Point, Span
+from .tree import Node
 
 # Events that are often written for another one.
 OTHER_EVENTS = {"tag": "push", "tags": "push", "commit": "push", "merge": "push", "pr": "pull_request", "pull": "pull_request",
@@ -17,6 +18,7 @@ PRESETS = {"@hourly": "0 * * * *", "@daily": "0 0 * * *", "@midnight": "0 0 * * 
            "@yearly": "0 0 1 1 *", "@annually": "0 0 1 1 *"}
 WORD_OF_CRON = re.compile(r"[A-Za-z]{3,}")
 GREATEST = (59, 23, 31, 12, 6)
+MAX_SCHEDULE_CHARACTERS = 200
 # Values that are often written for another one, which is too far from them for a near name.
 OTHER_VALUES = {"text": "string", "str": "string", "int": "number", "integer": "number", "float": "number", "bool": "boolean",
                 "list": "choice", "array": "string", "readonly": "read", "read-only": "read", "rw": "write", "admin": "write",
@@ -84,7 +86,7 @@ def pattern(case: Case) -> Iterable[Repair]:
 def schedule(case: Case) -> Iterable[Repair]:
     """A schedule with five fields, each value within its bounds."""
     here = case.value
-    if here is None:
+    if here is None or len(here.value.value) > MAX_SCHEDULE_CHARACTERS:
         return
     text = here.value.value.strip()
     fields = PRESETS.get(text, text).replace("?", "*").split()
@@ -238,7 +240,7 @@ def written_to_file(case: Case) -> Iterable[Repair]:
         command = match["command"] if "command" in match.groupdict() else "add-path"
         if match.start() <= offset <= match.end():
             text = _appended(match, command, shell)
-            span = Span(Point(case.span.start.line, match.start()), Point(case.span.start.line, match.end()))
+            span = Span.on_line(case.span.start.line, match.start(), match.end())
             if text:
                 yield case.replace(f"append to {FILES[command]}", text, span)
 

@@ -4,11 +4,12 @@ from __future__ import annotations
 import re
 from typing import Callable, Iterable
 
+from .expressions import expressions_in
 from .repair import Case, Edit, Repair, quoted
-from .tree import Point, Span
+from .repairs_expressions import chosen
+from .text import Point, Span
 
 FLOW_ITEM = re.compile(r"[^,\[\]{}]*")
-TERNARY = re.compile(r"\$\{\{(.*?)\?(.*?) : (.*?)\}\}")
 DASH_WITHOUT_SPACE = re.compile(r"^( *)-(?=[A-Za-z_][\w-]*:(?: |$))")
 KEY_IN_BRACKETS = re.compile(r"\s*[\w-]+: +")
 IN_QUOTES = re.compile(r"'[^']*'|\"[^\"]*\"")
@@ -45,7 +46,7 @@ def _quoted_item(case: Case) -> Iterable[Repair]:
     for end in dict.fromkeys(end for end in ends if end > column):
         text = line[start:end].rstrip()
         if text and start <= column:
-            span = Span(Point(case.span.start.line, start), Point(case.span.start.line, start + len(text)))
+            span = Span.on_line(case.span.start.line, start, start + len(text))
             yield case.replace("put it in quotes", quoted(text), span)
 
 
@@ -70,10 +71,11 @@ def pair_below(case: Case) -> Iterable[Repair]:
 
 def as_condition(case: Case) -> Iterable[Repair]:
     """`a ? b : c` as `a && b || c`, which expressions have."""
-    for match in TERNARY.finditer(case.line):
-        parts = [part.strip() for part in match.groups()]
-        span = Span(Point(case.span.start.line, match.start()), Point(case.span.start.line, match.end()))
-        yield case.replace('write "&&" and "||"', "${{ %s && %s || %s }}" % tuple(parts), span)
+    for at, text in expressions_in(case.line):
+        changed = chosen(text)
+        if changed:
+            span = Span.on_line(case.span.start.line, at, at + len(text))
+            yield case.replace('write "&&" and "||"', f" {changed.strip()} ", span)
 
 
 def closed_quote(case: Case) -> Iterable[Repair]:
@@ -85,7 +87,7 @@ def closed_quote(case: Case) -> Iterable[Repair]:
                                                if at > case.span.start.column)])
     for end in ends:
         here = Point(case.span.start.line, end)
-        yield case.replace("close the quotes", quote, Span(here, here))
+        yield case.replace("close the quotes", quote, Span.at(here))
     yield from with_quotes(case)
 
 
@@ -98,7 +100,7 @@ def closed_bracket(case: Case) -> Iterable[Repair]:
     for line in range(number, min(number + 20, len(case.lines))):
         if case.lines[line].strip():
             here = Point(line, len(case.lines[line].rstrip()))
-            yield case.replace("close the bracket", CLOSERS[opener], Span(here, here))
+            yield case.replace("close the bracket", CLOSERS[opener], Span.at(here))
 
 
 def closed_above(case: Case) -> Iterable[Repair]:
@@ -107,7 +109,7 @@ def closed_above(case: Case) -> Iterable[Repair]:
         span = case.rest_span(line)
         open_signs = _open_signs(case.slice(span)) if span else []
         if span and open_signs:
-            yield case.replace("close the bracket", "".join(CLOSERS[sign] for sign in reversed(open_signs)), Span(span.end, span.end))
+            yield case.replace("close the bracket", "".join(CLOSERS[sign] for sign in reversed(open_signs)), Span.at(span.end))
 
 
 def _open_signs(text: str) -> list[str]:
@@ -128,11 +130,11 @@ def spaces_for_tabs(case: Case) -> Iterable[Repair]:
         for number, line in enumerate(case.lines):
             head = line[:len(line) - len(line.lstrip(" \t-"))]
             if "\t" in head:
-                edits.append(Edit(Span(Point(number, 0), Point(number, len(head))), head.replace("\t", " " * width)))
+                edits.append(Edit(Span.on_line(number, 0, len(head)), head.replace("\t", " " * width)))
         if edits:
             yield case.of("replace tabs by spaces", *edits)
     indent = next((len(line) - len(line.lstrip(" ")) for line in reversed(case.lines[:case.span.start.line]) if line.strip()), 0)
-    head = Span(Point(case.span.start.line, 0), Point(case.span.start.line, len(case.line) - len(case.line.lstrip(" \t"))))
+    head = Span.on_line(case.span.start.line, 0, len(case.line) - len(case.line.lstrip(" \t")))
     for spaces in (indent, indent + 2):
         yield case.replace("replace tabs by spaces", " " * spaces, head)
 
@@ -181,9 +183,9 @@ def moved_line(case: Case) -> Iterable[Repair]:
         edits = []
         for line in range(number, last + 1):
             if indent > own:
-                edits.append(Edit(Span(Point(line, 0), Point(line, 0)), " " * (indent - own)))
+                edits.append(Edit(Span.at(Point(line, 0)), " " * (indent - own)))
             elif indent < own and case.lines[line].strip():
-                edits.append(Edit(Span(Point(line, 0), Point(line, own - indent)), ""))
+                edits.append(Edit(Span.on_line(line, 0, own - indent), ""))
         if edits:
             yield case.of(f"indent it by {indent}", *edits)
 
@@ -196,11 +198,11 @@ def with_space(case: Case) -> Iterable[Repair]:
         match = re.match(r"^( *(?:- +)?[A-Za-z_][\w-]*):(?=[^\s/:])", text)
         if match:
             here = Point(line, match.end())
-            yield case.replace("add a space after the colon", " ", Span(here, here))
+            yield case.replace("add a space after the colon", " ", Span.at(here))
         match = DASH_WITHOUT_SPACE.match(text)
         if match:
             here = Point(line, match.end())
-            yield case.replace("add a space after the dash", " ", Span(here, here))
+            yield case.replace("add a space after the dash", " ", Span.at(here))
 
 
 def with_colon(case: Case) -> Iterable[Repair]:
@@ -211,7 +213,7 @@ def with_colon(case: Case) -> Iterable[Repair]:
         match = re.match(r"^ *(?:- +)?([A-Za-z_][\w-]*)(?= |$)", text)
         if match:
             here = Point(line, match.end())
-            yield case.replace(f'add a colon after "{match[1]}"', ":", Span(here, here))
+            yield case.replace(f'add a colon after "{match[1]}"', ":", Span.at(here))
 
 
 def single_quotes(case: Case) -> Iterable[Repair]:
@@ -220,10 +222,10 @@ def single_quotes(case: Case) -> Iterable[Repair]:
     start = line.rfind('"', 0, column)
     end = next((match.start() for match in re.finditer(r'(?<!\\)"', line) if match.start() > column), -1)
     if start >= 0 and end > 0:
-        span = Span(Point(case.span.start.line, start), Point(case.span.start.line, end + 1))
+        span = Span.on_line(case.span.start.line, start, end + 1)
         yield case.replace("put it in single quotes", quoted(line[start + 1:end]), span)
     here = Point(case.span.start.line, column)
-    yield case.replace("double the backslash", "\\", Span(here, here))
+    yield case.replace("double the backslash", "\\", Span.at(here))
 
 
 def without_character(case: Case) -> Iterable[Repair]:
@@ -253,7 +255,7 @@ def quoted_key(case: Case) -> Iterable[Repair]:
     """A key that begins with a sign in quotes."""
     match = re.match(r"^( *(?:- +)?)([^\s'\"][^:]*)(?=:(?: |$))", case.line)
     if match:
-        span = Span(Point(case.span.start.line, match.start(2)), Point(case.span.start.line, match.end(2)))
+        span = Span.on_line(case.span.start.line, match.start(2), match.end(2))
         yield case.replace("put the key in quotes", quoted(match[2]), span)
 
 

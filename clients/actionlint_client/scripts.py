@@ -1,6 +1,6 @@
 """The scripts of a workflow or an action, and the place of each of their characters in the file.
 
-A script is the text of a scalar, as PyYAML reads it. A scalar as written and its text differ only in spaces, line breaks and escapes, so
+A script is the text of a scalar, as the tree has it. A scalar as written and its text differ only in spaces, line breaks and escapes, so
 the places are found by walking through both at once.
 """
 from __future__ import annotations
@@ -8,8 +8,12 @@ from __future__ import annotations
 from dataclasses import dataclass
 from typing import Iterator
 
-BLANKS = frozenset(" \t\n\r\x85\u2028\u2029")
-BREAKS = frozenset("\n\r\x85\u2028\u2029")
+from .shells import default_shell, shell_of
+from .text import Places
+from .tree import NO_BREAKS, Node, NotYaml, parse_tree
+
+BLANKS = frozenset(" \t\n\r")
+BREAKS = frozenset("\n\r")
 ESCAPED = {"0": "\0", "a": "\a", "b": "\b", "t": "\t", "\t": "\t", "n": "\n", "v": "\v", "f": "\f", "r": "\r", "e": "\x1b", " ": " ",
            '"': '"', "/": "/", "\\": "\\", "N": "\x85", "_": "\xa0", "L": "\u2028", "P": "\u2029"}
 DIGITS = {"x": 2, "u": 4, "U": 8}
@@ -18,7 +22,7 @@ SHELLS = ("bash", "sh")
 
 
 class NotRead(Exception):
-    """A file that PyYAML doesn't read, or in which a script isn't found again."""
+    """A file that isn't read here, or in which a script isn't found again."""
 
 
 @dataclass(frozen=True)
@@ -45,22 +49,38 @@ class Atom:
 
 
 def scripts_and_calls(text: str) -> tuple[list[Script], list[str]]:
-    """The scripts of a file, each once, and the local folders that its steps and jobs call. PyYAML must be there."""
-    import yaml
-
+    """The scripts of a file, each once, and the local folders that its steps and jobs call."""
     mark = len(BYTE_ORDER_MARK) if text.startswith(BYTE_ORDER_MARK) else 0
+    text = text.translate(NO_BREAKS)
     try:
-        root = yaml.compose(text[mark:], Loader=getattr(yaml, "CSafeLoader", yaml.SafeLoader))
-    except (yaml.YAMLError, RecursionError, ValueError) as error:
+        root = parse_tree(text[mark:])
+    except NotYaml as error:
         raise NotRead("it isn't read by python3-yaml") from error
-    steps = [*_workflow_steps(root), *_action_steps(root)]
-    scripts = {id(node): (shell, node) for shell, step in steps if shell and (node := _scalar(step, "run")) is not None}
-    calls = [node.value for step in [step for _, step in steps] + _jobs(root) if (node := _scalar(step, "uses")) is not None]
-    return [_script(shell, node, text, mark) for shell, node in scripts.values()], [one for one in calls if one.startswith("./")]
+    if root is None:
+        return [], []
+    jobs = [job for _, job in at.entries] if (at := root.get("jobs")) else []
+    steps = [(shell_of(step, ""), step) for step in _items(root.at(("runs", "steps")))]
+    for job in jobs:
+        default = default_shell(root, job)
+        steps += [(shell_of(step, default), step) for step in _items(job.get("steps"))]
+    scripts: dict[int, tuple[str, Node]] = {}
+    for shell, step in steps:
+        run = step.get("run")
+        if shell in SHELLS and run is not None and run.kind == "scalar":
+            # Aliases share it.
+            run = run.anchored or run
+            scripts[id(run)] = shell, run
+    calls = [one.text("uses") or "" for one in [*(step for _, step in steps), *jobs]]
+    places = Places(text, mark)
+    return [_script(shell, node, text, places) for shell, node in scripts.values()], [one for one in calls if one.startswith("./")]
 
 
-def _script(shell: str, node, text: str, mark: int) -> Script:
-    start, end = node.start_mark.index + mark, node.end_mark.index + mark
+def _items(node: Node | None) -> list[Node]:
+    return node.items if node else []
+
+
+def _script(shell: str, node: Node, text: str, places: Places) -> Script:
+    start, end = places.offset(node.span.start), places.offset(node.span.end)
     script = without_expressions(node.value)
     lines = [0, *(index + 1 for index, character in enumerate(script) if character == "\n")]
     return Script(shell, script, _offsets(node.value, list(_atoms(text, start, end, node.style)), start), lines)
@@ -87,7 +107,7 @@ def _end_of_expression(text: str, start: int) -> int | None:
     return None
 
 
-def _atoms(text: str, start: int, end: int, style: str | None) -> Iterator[Atom]:
+def _atoms(text: str, start: int, end: int, style: str) -> Iterator[Atom]:
     """The characters of a scalar as written that make its text, except spaces and breaks. It may begin with an anchor."""
     at = start
     if text[at] == "&":
@@ -151,72 +171,3 @@ def _filled(value: str, known: list[int | None], start: int) -> list[int]:
         last = last + 1 if offset is None else offset
         places.append(last)
     return places
-
-
-def _workflow_steps(root) -> Iterator[tuple[str | None, object]]:
-    """The steps of jobs, each with its shell, or None if that isn't bash or sh."""
-    above = _default_shell(root)
-    for job in _jobs(root):
-        usual = "sh" if _value(job, "container") is not None else None if _has_windows(job) else "bash"
-        default = _default_shell(job) or above or usual
-        for step in _items(_value(job, "steps")):
-            yield _shell(step, default), step
-
-
-def _action_steps(root) -> Iterator[tuple[str | None, object]]:
-    for step in _items(_value(_value(root, "runs"), "steps")):
-        yield _shell(step, None), step
-
-
-def _shell(step, default: str | None) -> str | None:
-    own = _scalar(step, "shell")
-    name = ((own.value if own is not None else default) or "").split(" ")[0].rpartition("/")[2]
-    return name if name in SHELLS else None
-
-
-def _default_shell(node) -> str | None:
-    shell = _scalar(_value(_value(node, "defaults"), "run"), "shell")
-    return shell.value if shell is not None else None
-
-
-def _has_windows(job) -> bool:
-    """Whether a job may run on Windows, where the default shell is another one: by its labels, or by its matrix if they are computed."""
-    labels = _texts(_value(job, "runs-on"))
-    if any("${{" in label for label in labels):
-        labels += _texts(_value(job, "strategy"))
-    return any("windows" in label.lower() for label in labels)
-
-
-def _jobs(root) -> list:
-    return [job for _, job in _pairs(_value(root, "jobs"))]
-
-
-def _pairs(node) -> list[tuple]:
-    return node.value if getattr(node, "id", None) == "mapping" else []
-
-
-def _items(node) -> list:
-    return node.value if getattr(node, "id", None) == "sequence" else []
-
-
-def _value(node, key: str):
-    return next((value for name, value in _pairs(node) if name.value == key), None)
-
-
-def _scalar(node, key: str):
-    found = _value(node, key)
-    return found if getattr(found, "id", None) == "scalar" else None
-
-
-def _texts(node) -> list[str]:
-    """The scalars of a node, except keys. Each node is visited once, since aliases can share it."""
-    found, seen, waiting = [], set(), [node]
-    while waiting:
-        one = waiting.pop()
-        if one is None or id(one) in seen:
-            continue
-        seen.add(id(one))
-        if getattr(one, "id", None) == "scalar":
-            found.append(one.value)
-        waiting += [value for _, value in _pairs(one)] + _items(one)
-    return found

@@ -123,7 +123,7 @@ class Server:
         uris = [folder["uri"] for folder in workspaceFolders or []] or ([rootUri] if rootUri else [])
         self._named = _paths_of(uris)
         if not uris and rootPath:
-            self._named = [os.fsencode(rootPath)]
+            self._named = [os.path.abspath(os.fsencode(rootPath))]
         self._editor.take_capabilities(capabilities)
         told = {
             "textDocumentSync": {"openClose": True, "change": FULL_TEXT, "save": {"includeText": False}},

@@ -6,16 +6,17 @@ import os
 import re
 import subprocess
 import tempfile
-from bisect import bisect_right
 from itertools import islice
-from typing import Callable, Iterator
+from typing import TYPE_CHECKING, Callable, Iterator
 
-from . import library
 from .disk import MAX_FILE_BYTES, Disk
 from .paths import ACTION_NAMES
 from .problems import Problem
 from .report import Fault
-from .scripts import NotRead, Script, scripts_and_calls
+from .text import LINE_BREAK, Places
+
+if TYPE_CHECKING:
+    from .scripts import Script
 
 PROGRAM = "shellcheck"
 # A script may read files of other steps and variables of `env`, and a word stands for each expression.
@@ -24,7 +25,6 @@ SCRIPTS_OF_A_RUN = 50
 SECONDS_OF_A_RUN = 120
 LEVELS = {"error": "error", "warning": "warning", "info": "note", "style": "note"}
 WIKI = "https://www.shellcheck.net/wiki/"
-LINE_BREAK = re.compile(r"\r\n|\n|\r")
 
 
 class ShellcheckFailed(Exception):
@@ -32,25 +32,21 @@ class ShellcheckFailed(Exception):
 
 
 class SourceFile:
-    """A file's text, and the lines and columns of its characters."""
+    """A file's text, and the places of its characters."""
 
     def __init__(self, path: str, text: str):
         self.path, self.text = path, text
-        self._starts = [0, *(found.end() for found in LINE_BREAK.finditer(text))]
+        self._lines, self._places = LINE_BREAK.split(text), Places(text)
 
     def fault(self, start: int, end: int, message: str) -> Fault:
         """A fault from one character up to another, at most to the end of its line."""
-        line = bisect_right(self._starts, start)
-        length = len(self.line(line)) - (start - self._starts[line - 1])
-        return Fault(self.path, line, start - self._starts[line - 1] + 1, message, PROGRAM, max(min(end - start, length), 1))
-
-    def line(self, number: int) -> str:
-        end = self._starts[number] if number < len(self._starts) else len(self.text)
-        return self.text[self._starts[number - 1]:end].rstrip("\r\n")
+        line, column = self._places.point(start)
+        width = min(end - start, len(self._lines[line]) - column)
+        return Fault(self.path, line + 1, column + 1, message, PROGRAM, max(width, 1))
 
     def snippet(self, fault: Fault) -> tuple[bytes, ...]:
         """The lines that the linter would print below it."""
-        line, margin = self.line(fault.line), " " * len(str(fault.line))
+        line, margin = self._lines[fault.line - 1], " " * len(str(fault.line))
         before = re.sub(r"[^\t]", " ", line[:fault.column - 1])
         marks = f"{margin} | {before}^{'~' * ((fault.width or 1) - 1)}"
         return (f"{margin} |".encode(), f"{fault.line} | {line}".encode(), marks.encode())
@@ -59,8 +55,6 @@ class SourceFile:
 def notes(root: str, files: list[str], refused: set[str], say: Callable[[str], None]) -> Iterator[Problem]:
     """The notes on all scripts of the files and of what they call, or of all workflows, in the order of the scripts. Files that aren't
     valid YAML for the linter are skipped, and `say` is told about those that can't be read here."""
-    if said := library.missing(["yaml"]):
-        raise ShellcheckFailed(said)
     found = _scripts(Disk(os.fsencode(root), say), files, refused, say)
     while some := list(islice(found, SCRIPTS_OF_A_RUN)):
         for note in sorted(_said_of([script for _, script in some]), key=lambda one: (int(one["file"]), one["line"], one["column"])):
@@ -68,6 +62,9 @@ def notes(root: str, files: list[str], refused: set[str], say: Callable[[str], N
 
 
 def _scripts(disk: Disk, files: list[str], refused: set[str], say: Callable[[str], None]) -> Iterator[tuple[SourceFile, Script]]:
+    # Other reports need no PyYAML.
+    from .scripts import NotRead, scripts_and_calls
+
     disk.rescan()
     waiting = [path.removeprefix("./") for path in files] or sorted(disk.workflows)
     seen = set(waiting)

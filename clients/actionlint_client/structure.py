@@ -5,7 +5,8 @@ from typing import Iterator, NamedTuple
 
 from .paths import is_workflow
 from .project import Project
-from .tree import Node, Point, Span, last_line, walk
+from .text import Point, Span
+from .tree import Node, last_line, walk
 
 MAX_NAME_CHARACTERS = 80
 
@@ -42,7 +43,7 @@ def part_of(project: Project, file: str) -> Part | None:
     start = Point(0, 0)
     end = Point(len(lines) - 1, len(lines[-1]))
     name = tree.get("name")
-    return Part(tree.text("name") or file.rpartition("/")[2], kind, Span(start, end), name.span if name else Span(start, start), parts)
+    return Part(tree.text("name") or file.rpartition("/")[2], kind, Span(start, end), name.span if name else Span.at(start), parts)
 
 
 def _job(key: Node, value: Node, lines: list[str]) -> Part:

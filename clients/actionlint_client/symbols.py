@@ -3,7 +3,7 @@ from __future__ import annotations
 
 from .asked import Asked, asked
 from .structure import Part, folds, links, part_of
-from .tree import Point
+from .text import Point
 from .workspace import Workspace
 
 # SymbolKind of the protocol.

@@ -1,14 +1,14 @@
-"""The tree of a YAML text with the places of its nodes, read by PyYAML. Lines and columns count from 0; columns are characters."""
+"""The tree of a YAML text with the places of its nodes, read by PyYAML."""
 from __future__ import annotations
 
 from dataclasses import dataclass, field
 from functools import cached_property
-from typing import Iterator, NamedTuple, Union
+from typing import Iterator, Union
 
 import yaml
 
-# libyaml, if PyYAML has it, is ten times as fast.
-LOADER = getattr(yaml, "CLoader", yaml.Loader)
+from .text import Point, Span
+
 MAX_DEPTH = 200
 # PyYAML takes these for line breaks; YAML 1.2 and the linter don't.
 NO_BREAKS = str.maketrans("\x85\u2028\u2029", "???")
@@ -21,23 +21,13 @@ NOTHING: list = []
 Path = tuple[Union[str, int], ...]
 
 
-class Point(NamedTuple):
-    line: int
-    column: int
-
-
-class Span(NamedTuple):
-    start: Point
-    end: Point
-
-    def holds(self, point: Point) -> bool:
-        """Whether the point is in the span or at one of its ends."""
-        return self.start <= point <= self.end
+class NotYaml(Exception):
+    """A text that isn't valid YAML or is nested too deeply."""
 
 
 @dataclass
 class Node:
-    """A node. An alias has the contents of its anchor, at its own place."""
+    """A node. An alias has the contents of its anchor, at its own place, and that node as `anchored`."""
 
     kind: str
     span: Span
@@ -47,6 +37,7 @@ class Node:
     items: list[Node] = field(default_factory=list)
     anchor: str | None = None
     alias: str | None = None
+    anchored: Node | None = None
     is_flow: bool = False
 
     @cached_property
@@ -96,9 +87,17 @@ class Node:
 def read_tree(text: str) -> Node | None:
     """The tree of the first document, or None if the text isn't valid YAML, is empty or is nested too deeply."""
     try:
-        return _built(yaml.parse(text.translate(NO_BREAKS), Loader=LOADER))
-    except (yaml.YAMLError, ValueError):
+        return parse_tree(text)
+    except NotYaml:
         return None
+
+
+def parse_tree(text: str) -> Node | None:
+    """The tree of the first document, or None if the text is empty. Raises `NotYaml`."""
+    try:
+        return _built(yaml.parse(text.translate(NO_BREAKS), Loader=yaml.CSafeLoader))
+    except (yaml.YAMLError, ValueError) as error:
+        raise NotYaml from error
 
 
 def walk(node: Node, path: Path = ()) -> Iterator[tuple[Path, Node | None, Node]]:
@@ -144,7 +143,7 @@ def _built(events: Iterator[yaml.Event]) -> Node | None:
             continue
         elif kind is yaml.AliasEvent:
             known = anchors.get(event.anchor) or Node("scalar", _span(event))
-            node = Node(known.kind, _span(event), known.value, known.style, known.entries, known.items, alias=event.anchor)
+            node = Node(known.kind, _span(event), known.value, known.style, known.entries, known.items, alias=event.anchor, anchored=known)
         elif kind in STARTS:
             node = Node(STARTS[kind], _span(event), anchor=event.anchor, is_flow=bool(event.flow_style))
         elif kind is yaml.DocumentEndEvent:
@@ -159,7 +158,7 @@ def _built(events: Iterator[yaml.Event]) -> Node | None:
             root = node
         if kind in STARTS:
             if len(open_nodes) == MAX_DEPTH:
-                return None
+                raise NotYaml
             open_nodes.append(node)
             keys.append(None)
     return root

@@ -42,21 +42,12 @@ class Workspace:
         self._let_go()
 
     def open(self, uri: str, version: int | None, data: bytes) -> None:
-        """Files other than workflows and actions are ignored."""
+        """Files other than workflows and actions are ignored. One that is open already stays in its repository."""
         file = path_of(uri)
-        if file is None:
-            return
-        root = root_of_file(file, list(self._folders))
-        try:
-            path = os.path.relpath(file, root).decode("utf-8")
-        except UnicodeDecodeError:
-            self._editor.say(f"not linted, since its name is not UTF-8: {os.fsdecode(file)!r}")
-            return
-        if not is_linted(path):
-            return
-        document = self._documents[file] = self._repository(root).open(path)
-        document.versions[uri] = version
-        self.change(uri, version, data)
+        document = self.document(uri) or file and self._new_document(file)
+        if document:
+            document.versions[uri] = version
+            self.change(uri, version, data)
 
     def change(self, uri: str, version: int | None, data: bytes) -> None:
         document = self.document(uri)
@@ -112,6 +103,18 @@ class Workspace:
         """Ends all linters."""
         for repository in self._repositories.values():
             repository.folder.close()
+
+    def _new_document(self, file: bytes) -> Document | None:
+        root = root_of_file(file, list(self._folders))
+        try:
+            path = os.path.relpath(file, root).decode("utf-8")
+        except UnicodeDecodeError:
+            self._editor.say(f"not linted, since its name is not UTF-8: {os.fsdecode(file)!r}")
+            return None
+        if not is_linted(path):
+            return None
+        self._documents[file] = self._repository(root).open(path)
+        return self._documents[file]
 
     def _repository(self, root: bytes) -> Repository:
         repository = self._repositories.get(root)

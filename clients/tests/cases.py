@@ -1,11 +1,18 @@
-"""Runs the cases of a test, and prints a line for each: `case=NAME output=expected status=0`, or what is wrong."""
+"""Runs the cases of a test, and prints a line for each: `case=NAME output=expected status=0`, or what is wrong. Before that it makes the
+modules of the clients and their libraries available to the test."""
 from __future__ import annotations
 
 import sys
 import time
 import traceback
+from pathlib import Path
 from typing import Callable
 
+sys.path.insert(0, str(Path(__file__).resolve().parent.parent))
+from actionlint_client import library
+
+# (a test that needs none of them runs without)
+library.missing()
 Case = Callable[[str], None]
 
 

@@ -10,19 +10,15 @@ import os
 import random
 import re
 import sys
-from pathlib import Path
 
-sys.path.insert(0, str(Path(__file__).resolve().parent.parent))
-from actionlint_client import library
+from cases import Cases
+from repositories import FILE, WORKFLOWS
 
-library.missing()
 from actionlint_client.completion import Offer, offers
 from actionlint_client.project import Project
 from actionlint_client.report import Fault, parse_report
 from actionlint_client.session import Session
-from actionlint_client.tree import Point, Span
-from cases import Cases
-from repositories import FILE, WORKFLOWS
+from actionlint_client.text import Point, Span
 
 CASES = Cases("completion")
 CALLED, ACTION = WORKFLOWS + "called.yml", "greet/action.yml"

@@ -20,8 +20,9 @@ EXIT_SECONDS = 10
 class Editor:
     def __init__(self, program: str | None, root: bytes | None, watches: bool = True, words: tuple[str, ...] = (), capabilities: dict = {},
                  server: Path = SERVER, environment: dict[str, str] | None = None, inherited: tuple[int, ...] = (),
-                 folder: str | None = None):
-        """`inherited` are open files that the server is started with, and `folder` is its current one."""
+                 folder: str | None = None, root_path: str | None = None):
+        """`inherited` are open files that the server is started with, and `folder` is its current one. With `root_path`, the server is told
+        the root as such a path, where `{}` stands for it, and not as a URI."""
         self.root = root
         self.shown: dict[str, dict] = {}
         self.messages: list[str] = []
@@ -36,10 +37,11 @@ class Editor:
         self.child = subprocess.Popen([sys.executable, str(server), *named, *words], stdin=subprocess.PIPE, stdout=subprocess.PIPE,
                                       env=environment, pass_fds=inherited, cwd=folder)
         threading.Thread(target=self._listen, daemon=True).start()
-        uri = "file://" + quote_from_bytes(root) if root else None
+        uri = "file://" + quote_from_bytes(root) if root and not root_path else None
+        path = root_path.format(os.fsdecode(root)) if root and root_path else None
         watching = {"workspace": {"didChangeWatchedFiles": {"dynamicRegistration": watches}}}
         self.hello = self.request("initialize", {
-            "processId": os.getpid(), "rootUri": uri, "capabilities": {**watching, **capabilities},
+            "processId": os.getpid(), "rootUri": uri, "rootPath": path, "capabilities": {**watching, **capabilities},
             "workspaceFolders": [{"uri": uri, "name": "w"}] if uri else None})
         self.notify("initialized", {})
 
@@ -114,8 +116,11 @@ class Editor:
         return self.child.wait(timeout=EXIT_SECONDS)
 
     def send_bytes(self, data: bytes) -> None:
-        self.child.stdin.write(data)
-        self.child.stdin.flush()
+        try:
+            self.child.stdin.write(data)
+            self.child.stdin.flush()
+        except BrokenPipeError as error:
+            raise AssertionError("the server ended") from error
 
     def _send(self, message: dict, held: bool = False) -> None:
         self._held += _framed(message)
@@ -124,20 +129,26 @@ class Editor:
             self._held = b""
 
     def _listen(self) -> None:
-        while (message := read_message(self.child.stdout)) is not None:
-            if "method" not in message:
-                self._answers.put(message)
-            elif message["method"] == "textDocument/publishDiagnostics":
-                self.publications += 1
-                self.shown[message["params"]["uri"]] = message["params"]
-                self.arrivals.put((message["params"]["uri"], message["params"].get("version"), time.monotonic()))
-            elif message["method"] == "window/showMessage":
-                self.messages.append(message["params"]["message"])
-            elif "id" in message:
-                self.requests.append(message)
-                # by the listener's thread, which leaves alone what is held
-                self.send_bytes(_framed({"jsonrpc": "2.0", "id": message["id"], "result": None}))
-        self._answers.put(None)
+        try:
+            while (message := read_message(self.child.stdout)) is not None:
+                self._take(message)
+        finally:
+            # Whatever ended this thread, `request` must not wait for an answer that can't come.
+            self._answers.put(None)
+
+    def _take(self, message: dict) -> None:
+        if "method" not in message:
+            self._answers.put(message)
+        elif message["method"] == "textDocument/publishDiagnostics":
+            self.publications += 1
+            self.shown[message["params"]["uri"]] = message["params"]
+            self.arrivals.put((message["params"]["uri"], message["params"].get("version"), time.monotonic()))
+        elif message["method"] == "window/showMessage":
+            self.messages.append(message["params"]["message"])
+        elif "id" in message:
+            self.requests.append(message)
+            # by the listener's thread, which leaves alone what is held
+            self.send_bytes(_framed({"jsonrpc": "2.0", "id": message["id"], "result": None}))
 
 
 def _framed(message: dict) -> bytes:

@@ -7,22 +7,22 @@ from __future__ import annotations
 
 import os
 import random
+import signal
 import sys
 import tempfile
 from collections import Counter
-from pathlib import Path
+from contextlib import contextmanager
+from typing import Iterator
 
-sys.path.insert(0, str(Path(__file__).resolve().parent.parent))
-from actionlint_client import library
+from cases import Cases
+from repositories import FILE, WORKFLOWS
 
-library.missing()
-from actionlint_client.fixes import REPAIRS, Trial, fixes
+from actionlint_client.entries import ARGUMENT, entries
+from actionlint_client.fixes import REPAIRS, Trial, fixes, repairs
 from actionlint_client.project import Project
 from actionlint_client.repair import replaced
 from actionlint_client.report import Fault, parse_report
 from actionlint_client.session import ReportTooLong, Session
-from cases import Cases
-from repositories import FILE, WORKFLOWS
 
 CASES = Cases("fixes")
 SECONDS = 20.0
@@ -56,6 +56,18 @@ jobs:
 NOT_CALLABLE = {WORKFLOWS + "b.yml": "on: push\njobs:\n  x: {runs-on: u, steps: [{run: make}]}\n"}
 COMPOSITE = "name: a\ndescription: b\nruns:\n  using: composite\n  steps:\n    - run: "
 TWO_JOBS = STEP + "run: make\n  test:\n    runs-on: ubuntu-latest\n"
+# By code of a fault, values of a step's `run`.
+LONG_VALUES = (
+    ("X9", "echo ${{ case(" + "a," * 2_400 + "((1))) }}"),
+    ("X9", "echo ${{ f(" + "a," * 2_400),
+    ("Y13", "echo ${{ " + "? : " * 1_200),
+    ("Y13", "echo ${{ " * 500 + "? : "),
+    ("X3", "echo ${{ " + "a" * 4_900 + ") }}"),
+    ("X3", "echo ${{ " + "a." * 2_400 + ") }}"),
+    ("X16", "echo ${{ format('{99999999}', 'a') }}"),
+    ("X16", "echo ${{ format('{" + "9" * 4_500 + "}', 'a') }}"),
+    ("G4", "1" * 4_900),
+)
 # By slip: the text, and a line that one of its fixes makes; also other files of its folder, and the file of the slip and of the line.
 SLIPS: dict[str, tuple] = {
     "a backtick": (STEP + "name: `x`" + TAIL, "      - name: '`x`'"),
@@ -322,10 +334,36 @@ def faults_that_come_back(program: str) -> None:
     assert [fix.repair.title for fix in found] == ["put it in quotes"], found
 
 
+@contextmanager
+def within(seconds: float) -> Iterator[None]:
+    """Fails if a block takes this process more seconds of a processor."""
+    def stop(*_: object) -> None:
+        raise AssertionError(f"more than {seconds} seconds")
+    before = signal.signal(signal.SIGPROF, stop)
+    signal.setitimer(signal.ITIMER_PROF, seconds)
+    try:
+        yield
+    finally:
+        signal.setitimer(signal.ITIMER_PROF, 0)
+        signal.signal(signal.SIGPROF, before)
+
+
+@CASES.case
+def lines_of_a_stranger(program: str) -> None:
+    """Whatever a line of up to 5,000 characters holds, its repairs are found at once, and none is longer than a file can be."""
+    for code, value in LONG_VALUES:
+        (entry,) = (entry for entry in entries() if entry.code == code)
+        text = STEP + "run: " + value + "\n"
+        column = text.split("\n")[5].index(value) + 1 + ("${{" in value) * len("echo ${{ ")
+        project = Project({FILE: text.encode()}.get, lambda: [FILE])
+        with within(2):
+            found = repairs(project, Fault(FILE, 6, column, ARGUMENT.sub("f", entry.message), "k", 1))
+        assert all(len(edit.text) < 10_000 for one in found for edit in one.edits[FILE]), (code, value[:50])
+
+
 @CASES.case
 def every_code(program: str) -> None:
     """Each code of a repair is one of the pages; most codes have repairs."""
-    from actionlint_client.entries import entries
     codes = {entry.code for entry in entries()}
     assert set(REPAIRS) <= codes and len(REPAIRS) >= 60, (set(REPAIRS) - codes, len(REPAIRS))
 

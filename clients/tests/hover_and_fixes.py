@@ -7,9 +7,7 @@ from __future__ import annotations
 
 import json
 import sys
-from pathlib import Path
 
-sys.path.insert(0, str(Path(__file__).resolve().parent.parent))
 from cases import Cases
 from promises import end, start
 from repositories import CLIENTS, FILE, FILES, RIGHT, WRONG

@@ -167,6 +167,37 @@ def two_uris_of_one_path(program: str) -> None:
 
 
 @CASES.case
+def opened_twice(program: str) -> None:
+    """A file that is opened again, after a folder around its own came into the workspace, is still one file."""
+    top = tempfile.mkdtemp(prefix="actionlint-test-")
+    os.makedirs(top + "/a")
+    editor = Editor(program, None)
+    editor.root = os.fsencode(top)
+    editor.open(ACTION, BROKEN_ACTION)
+    editor.notify("workspace/didChangeWorkspaceFolders", {"event": {"added": [{"uri": "file://" + top, "name": "x"}], "removed": []}})
+    editor.open(ACTION, BROKEN_ACTION)
+    editor.settle()
+    assert len(editor.texts(ACTION)) == 2, editor.diagnostics()
+    editor.change(ACTION, FILES[ACTION])
+    editor.settle()
+    assert editor.texts(ACTION) == []
+    editor.close(ACTION)
+    editor.settle()
+    assert len(children(editor.child.pid)) <= 1, "the first folder's linter still runs"
+    end(editor)
+
+
+@CASES.case
+def a_root_path(program: str) -> None:
+    """An old editor names its folder by a path; however that is spelled, its files are in it."""
+    editor = start(program, FILES, root_path="{}/.github/../")
+    editor.open(FILE, RIGHT)
+    editor.settle()
+    assert editor.texts(FILE) == [] and editor.texts(CALLED) and len(children(editor.child.pid)) == 1, editor.diagnostics()
+    end(editor)
+
+
+@CASES.case
 def links_that_leave_the_folder(program: str) -> None:
     """What lies outside behind its links is passed over, and told once; links within the folder are followed."""
     outside = tempfile.mkdtemp(prefix="actionlint-test-")

@@ -16,19 +16,25 @@ from pathlib import Path
 from cases import Cases
 from clones_and_releases import PATH
 from editor import Editor
-from repositories import CLIENTS, FILE, FILES, UNDEFINED, write
+from repositories import ACTION, CLIENTS, FILE, FILES, UNDEFINED, write
 
 CASES = Cases("lookup")
 WHERE = "--program or the variable ACTIONLINT names the linter"
 NONE = f"cannot start actionlint: there is none that runs here, beside the clients or on the PATH; {WHERE}"
 
-# Runs a program of Python that finds no library.
-WITHOUT_LIBRARIES = """
-import importlib.util, runpy, sys
-sys.argv = sys.argv[1:]
-importlib.util.find_spec = lambda name: None
+# Runs a client by a Python that lacks some modules, where the system has another Python or none.
+WITHOUT_MODULES = """
+import os, runpy, sys
+sys.path.insert(0, os.path.dirname({client!r}))
+from actionlint_client import library
+sys.modules.update(dict.fromkeys({modules!r}))
+library.SYSTEM_PYTHON = {system_python!r}
+sys.argv[0] = {client!r}
 runpy.run_path(sys.argv[0], run_name="__main__")
 """
+ALL_MODULES = ("pylsp_jsonrpc", "yaml.cyaml")
+# An action that PyYAML doesn't read without libyaml, and the one that it calls.
+TAB_BEFORE_A_COLON = "name: A\ndescription: d\nruns:\n  using: composite\n  steps:\n    - run: make\n      shell\t: bash\n    - uses: ./b\n"
 
 # Runs a program by a Python that says that it is old.
 OLD_PYTHON = """
@@ -55,6 +61,12 @@ class Tree:
         whole.write_text(f"#!/bin/sh\n{text}\n", encoding="utf-8")
         whole.chmod(0o755)
         return str(whole)
+
+    def without(self, client: Path, modules: tuple[str, ...], system_python: str) -> Path:
+        """A program that runs a client without these modules."""
+        file = self.room / "without.py"
+        file.write_text(WITHOUT_MODULES.format(client=str(client), modules=modules, system_python=system_python), encoding="utf-8")
+        return file
 
     def found(self, *words: str, folder: str | None = None, **environment: str) -> tuple[int, str, str]:
         """The status and both streams of which-actionlint."""
@@ -192,19 +204,47 @@ def what_python_lacks(program: str) -> None:
 
 
 @CASES.case
+def a_python_without_libyaml(program: str) -> None:
+    """The system's Python runs the clients in its place, so that what a file calls is the same everywhere; without one, a line says what is
+    missing, and a report that can't be made leaves nothing behind."""
+    tree = Tree()
+    root = tree.room / "repository"
+    write(str(root), {**FILES, ACTION: TAB_BEFORE_A_COLON, "b/action.yml": "name: B\n"})
+    server, report = CLIENTS / "actionlint-lsp", CLIENTS / "actionlint-report"
+    editor = Editor(program, os.fsencode(root), server=tree.without(server, ("yaml.cyaml",), sys.executable))
+    editor.settle()
+    assert len(editor.texts("b/action.yml")) == 2 and not editor.messages, editor.diagnostics()
+    assert editor.quit() == 0
+    words = ["--program", program, "--shellcheck", "--out", "report", "--form", "jsonl"]
+    for client, arguments in ((server, []), (report, words)):
+        done = subprocess.run([sys.executable, tree.without(client, ("yaml.cyaml",), "/bin/false"), *arguments], cwd=root,
+                              stdin=subprocess.DEVNULL, stdout=subprocess.PIPE, stderr=subprocess.PIPE, text=True, check=False)
+        said = f"{client.name}: {sys.executable} has no yaml.cyaml (Debian: apt-get install python3-yaml)\n"
+        assert (done.returncode, done.stdout, done.stderr) == (3, "", said), done
+    assert sorted(os.listdir(root)) == [".github", "a", "b"]
+    done = subprocess.run([sys.executable, tree.without(report, ("yaml",), "/bin/false"), "--program", program, "--form", "jsonl"], cwd=root,
+                          stdout=subprocess.PIPE, text=True, check=False)
+    assert done.returncode == 1 and '"X13"' in done.stdout, "a report without notes needs no library"
+    tree.remove()
+
+
+@CASES.case
 def options_of_the_server(program: str) -> None:
     """Help and version need no library; without the libraries one line names their packages. An editor may say `--stdio`."""
     tree = Tree()
     server = tree.top / "clients/actionlint-lsp"
 
     def run(*words: str) -> tuple[int, str, str]:
-        done = subprocess.run([sys.executable, "-c", WITHOUT_LIBRARIES, server, *words], env=tree.environment, stdout=subprocess.PIPE,
-                              stderr=subprocess.PIPE, text=True, check=False)
+        done = subprocess.run([sys.executable, tree.without(server, ALL_MODULES, "/nowhere"), *words], env=tree.environment,
+                              stdout=subprocess.PIPE, stderr=subprocess.PIPE, text=True, check=False)
         return done.returncode, done.stdout, done.stderr
     assert run("--help")[0] == 0 and "--no-earlier-faults" in run("--help")[1], run("--help")
     assert run("--version")[:2] == (0, "actionlint-lsp without a version\n"), run("--version")
     status, said, errors = run()
     assert (status, said) == (3, "") and "apt-get install python3-pylsp-jsonrpc python3-yaml" in errors and errors.count("\n") == 1, errors
+    for seconds in ("0", "-1", "nan", "inf", "x"):
+        status, said, errors = run(f"--timeout={seconds}")
+        assert (status, said) == (2, "") and "argument --timeout" in errors, (seconds, errors)
     words = [server, "--log", tree.room / "nowhere/log"]
     done = subprocess.run(words, stdin=subprocess.DEVNULL, stderr=subprocess.PIPE, text=True, check=False)
     assert (done.returncode, done.stderr) == (2, f"actionlint-lsp: cannot write {tree.room}/nowhere/log: No such file or directory\n"), done

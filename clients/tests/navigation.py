@@ -8,12 +8,12 @@ from __future__ import annotations
 import os
 import random
 import sys
-from pathlib import Path
 
-sys.path.insert(0, str(Path(__file__).resolve().parent.parent))
-from actionlint_client import library
+from cases import Cases
+from completion import ACTION, CALLED, FOLDER, Linter, project_of
+from promises import end, start
+from repositories import FILE
 
-library.missing()
 from actionlint_client.completion import offers
 from actionlint_client.explanations import explanation
 from actionlint_client.folder import Program
@@ -21,11 +21,7 @@ from actionlint_client.references import all_of, occurrence_at, occurrences
 from actionlint_client.renaming import Refusal, rename
 from actionlint_client.repair import replaced
 from actionlint_client.structure import address_of, folds, links, part_of
-from actionlint_client.tree import Point
-from cases import Cases
-from completion import ACTION, CALLED, FOLDER, Linter, project_of
-from promises import end, start
-from repositories import FILE
+from actionlint_client.text import Point
 
 CASES = Cases("navigation")
 SECONDS = 20.0

@@ -14,15 +14,12 @@ import tempfile
 import time
 from pathlib import Path
 
-sys.path.insert(0, str(Path(__file__).resolve().parent.parent))
-from actionlint_client import library
-
-assert not library.missing()
-from actionlint_client.faults import NO_FAULTS
-from actionlint_client.folder import Folder, Program
 from cases import Cases
 from editor import Editor, children, memory
 from repositories import ACTION, CALLED, FILE, FILES, RIGHT, UNDEFINED, WORKFLOWS, WRONG, in_characters, reported, write
+
+from actionlint_client.faults import NO_FAULTS
+from actionlint_client.folder import Folder, Program
 
 CASES = Cases("promises")
 TOO_LARGE = "not linted, since it has more than 1,048,576 bytes"

@@ -171,6 +171,26 @@ def odd_files_to_write(program: str) -> None:
 
 
 @CASES.case
+def closed_output(program: str) -> None:
+    """A report that nobody can read isn't lost silently."""
+    with new_folder(FILES) as folder:
+        for words in (["--form", "text"], ["--form", "jsonl"], ["--explain", "K1"]):
+            done = subprocess.run(["sh", "-c", 'exec "$@" >&-', "sh", sys.executable, REPORT, "--program", program, *words], cwd=folder,
+                                  stderr=subprocess.PIPE, text=True, check=False)
+            assert (done.returncode, done.stderr) == (3, "actionlint-report: cannot write standard output: Bad file descriptor\n"), done
+
+
+@CASES.case
+def another_locale(program: str) -> None:
+    """Paths on the command line are UTF-8, as in the report."""
+    path = WORKFLOWS + "ü.yml"
+    with new_folder({path: FILES[FILE]}) as folder:
+        done = subprocess.run([sys.executable, REPORT, "--program", program, "--form", "text", "--ignore", "X13:" + path], cwd=folder,
+                              env={**os.environ, "LC_ALL": "C", "PYTHONUTF8": "0"}, stdout=subprocess.PIPE, check=False)
+        assert (done.returncode, done.stdout) == (0, b"0 faults, 1 ignored\n"), done
+
+
+@CASES.case
 def the_old_report_stays_whole(program: str) -> None:
     """A report takes the old one's place at once, and only where it is whole."""
     with new_folder(FILES) as folder:
@@ -204,20 +224,25 @@ def output_that_does_not_block(program: str) -> None:
 
 
 @CASES.case
-def an_interrupt(program: str) -> None:
-    """It ends the program by the signal, without a word, and leaves no file."""
+def signals(program: str) -> None:
+    """They end the program by the signal, without a word, and leave no file."""
+    for number in (signal.SIGINT, signal.SIGTERM, signal.SIGHUP):
+        end_by(number)
+
+
+def end_by(number: signal.Signals) -> None:
     with tempfile.TemporaryDirectory(prefix="actionlint-test-") as folder:
         write(folder, {**FILES, "slow": "#!/bin/sh\n: > started\nexec sleep 60\n"})
         slow = os.path.join(folder, "slow")
         os.chmod(slow, 0o755)
-        # (what runs in the background of a shell would pass on that it ignores interrupts)
+        # (what runs in the background of a shell, or of nohup, would pass on that it ignores the signal)
         with subprocess.Popen([sys.executable, REPORT, "--program", slow, "--out", "x.sarif"], cwd=folder, stdout=subprocess.PIPE,
                               stderr=subprocess.PIPE, start_new_session=True,
-                              preexec_fn=lambda: signal.signal(signal.SIGINT, signal.SIG_DFL)) as child:
+                              preexec_fn=lambda: signal.signal(number, signal.SIG_DFL)) as child:
             while not os.path.exists(os.path.join(folder, "started")):
                 time.sleep(0.02)
-            os.killpg(child.pid, signal.SIGINT)
-            assert child.communicate(timeout=SECONDS) == (b"", b"") and child.returncode == -signal.SIGINT, child.returncode
+            os.killpg(child.pid, number)
+            assert child.communicate(timeout=SECONDS) == (b"", b"") and child.returncode == -number, child.returncode
         assert sorted(os.listdir(folder)) == sorted({*(path.partition("/")[0] for path in FILES), "slow", "started"}), os.listdir(folder)
 
 

@@ -16,7 +16,6 @@ from pathlib import Path
 from cases import Cases
 from repositories import CLIENTS, FILE, FILES, RIGHT, TOP, WORKFLOWS, write
 
-sys.path.insert(0, str(CLIENTS))
 from actionlint_client.entries import entries, plain_text
 from actionlint_client.problems import SLIPS, first_sentence
 from actionlint_client.sarif import MAX_RESULTS

@@ -16,12 +16,9 @@ from pathlib import Path
 from cases import Cases
 from repositories import CLIENTS, FILE, TOP, WORKFLOWS, write
 
-sys.path.insert(0, str(CLIENTS))
-from actionlint_client import library
 from actionlint_client.scripts import NotRead, Script, scripts_and_calls, without_expressions
 
 CASES = Cases("shellcheck")
-library.missing()
 REPORT = str(CLIENTS / "actionlint-report")
 STEPS = "on: push\njobs:\n  a:\n    runs-on: ubuntu-latest\n    steps:\n"
 # Steps, and where a note stands that a variable lacks its quotes (SC2086), counted by hand: below STEPS the first line is 6.
@@ -39,6 +36,8 @@ PLACES = {
     "in a flow mapping": ("      - {name: a, run: echo $x}\n", (6, 29)),
     "an expression over lines": ("      - run: |\n          echo ${{ github.sha ||\n            '}}' }} $x\n", (8, 21)),
     "an alias": ("      - run: &r echo $x\n      - run: *r\n", (6, 22)),
+    "an alias of another text": ("      - name: &r echo $x\n        run: *r\n", (6, 23)),
+    "an anchor of a name that was used": ("      - run: &r echo a\n      - run: &r echo $x\n", (7, 22)),
     "an alias of a block": ("      - run: &r |\n          echo $x\n      - run: *r\n", (7, 16)),
 }
 # Jobs and steps, and the shell of their script; None where shellcheck isn't asked.
@@ -132,6 +131,16 @@ def files_that_are_called(program: str) -> None:
         assert [one["code"] for one in found if one["kind"] == "shellcheck"] == [] and not errors, (found, errors)
         _, found, _ = run(program, folder, "--", "b/action.yml")
         assert [(one["path"], one["line"], one["column"]) for one in found] == [("b/action.yml", 6, 17)], found
+
+
+@CASES.case
+def a_file_that_only_a_job_names(program: str) -> None:
+    """The linter doesn't read it, so it may hold anything."""
+    with tempfile.TemporaryDirectory(prefix="actionlint-test-") as folder:
+        for text in ("[" * 100_000, "- " * 100_000, "{a: " * 100_000):
+            write(folder, {FILE: "on: push\njobs:\n  a:\n    uses: ./b/c.yml\n", "b/c.yml": text})
+            status, found, errors = run(program, folder)
+            assert status == 1 and [one["kind"] for one in found] == ["workflow-call"] and "b/c.yml: no shellcheck" in errors, (status, errors)
 
 
 @CASES.case

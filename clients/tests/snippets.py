@@ -16,11 +16,12 @@ import sys
 import tempfile
 from pathlib import Path
 
-import yaml
 from cases import Cases
 from clones_and_releases import ANYWHERE, Place, Room, in_each_clone, in_each_place
 from editors import in_terminal
 from repositories import CLIENTS, FILE, FILES, TOP, UNDEFINED, WORKFLOWS, git, reported, write
+
+import yaml
 
 CASES = Cases("snippets")
 PAGES = ("README.md", "docs/EDITORS.md", "docs/CI.md", "docs/COMMAND-LINE.md")

@@ -8,13 +8,12 @@ from __future__ import annotations
 import re
 import subprocess
 import sys
-from pathlib import Path
 
-sys.path.insert(0, str(Path(__file__).resolve().parent.parent))
-from actionlint_client import entries, names, syntax
-from actionlint_client.report import parse_fault
 from cases import Cases
 from repositories import CLIENTS, TOP
+
+from actionlint_client import entries, names, syntax
+from actionlint_client.report import parse_fault
 
 CASES = Cases("tables")
 FAULT_LINE = re.compile(rb"^[^ :\n][^:\n]*:[0-9]+:[0-9]+: .*\[[a-z-]+\]$", re.M)

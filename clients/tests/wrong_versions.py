@@ -110,6 +110,9 @@ WRONG_VERSIONS = {
     "a_uri_with_a_zero_byte_is_taken": WrongVersion("uris.py", ' or b"\\0" in path', "", ("life.py", "uris_that_are_refused")),
     "each_uri_is_a_path_of_its_own": WrongVersion(
         "uris.py", 'return os.path.normpath(b"/" + path.lstrip(b"/"))', "return path", ("life.py", "two_uris_of_one_path")),
+    "a_file_is_in_two_repositories": WrongVersion(
+        "workspace.py", "self.document(uri) or file and self._new_document(file)", "file and self._new_document(file)",
+        ("life.py", "opened_twice")),
     "links_lead_out_of_the_folder": WrongVersion(
         "disk.py", "if not is_below(_real_path(opened, whole), real_root):", "if False:", ("life.py", "links_that_leave_the_folder")),
     "opening_waits_for_a_pipe": WrongVersion(
@@ -198,6 +201,10 @@ WRONG_VERSIONS = {
         "positions.py", "    if line.isascii():\n        return", "    if True:\n        return", ("navigation.py", "by_the_protocol")),
     "names_are_read_as_options": WrongVersion(
         "lint_run.py", '"--", *files]', "*files]", ("report_edges.py", "names_that_look_like_options")),
+    "a_report_that_nobody_can_read_is_lost": WrongVersion(
+        "output.py", "os.fstat(STANDARD_OUTPUT)", "pass", ("report_edges.py", "closed_output")),
+    "words_are_read_by_the_locale": WrongVersion(
+        "paths.py", 'return os.fsencode(word).decode("utf-8", "replace")', "return word", ("report_edges.py", "another_locale")),
     "a_pipe_is_replaced_by_the_report": WrongVersion(
         "output.py", "if not stat.S_ISREG(mode):", "if False:", ("report_edges.py", "odd_files_to_write")),
     "brackets_are_links": WrongVersion(
