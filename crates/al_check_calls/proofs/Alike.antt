@@ -9,7 +9,7 @@ use Rattle.std.proofs.lemmas.Bool.{and_parts, eqb-true}
 use Rattle.std.proofs.lemmas.List.Elements.{All-contains, All-from_recursion}
 use Rattle.std.proofs.lemmas.List.Sorted.{Contains-permutation, IsPermutation-sym}
 use Rattle.std.proofs.lemmas.Slice.Eq.{bytes_eq-Decides}
-use Rattle.al_base.proofs.Elements.{each_both}
+use Rattle.al_base.proofs.Elements.{each_both, each_cons}
 use Rattle.al_base.specs.contracts.codes.CallerPartialEq.TheImpl as caller_eq
 use Rattle.al_base.specs.contracts.faults.SpanPartialEq.TheImpl as span_eq
 use Rattle.al_base.specs.declared.codes.Caller.{Caller}
@@ -74,15 +74,11 @@ module _ (answer : Caller → List ℕ → Option Interface) where
   one_told k a is =
       told_if k a.call (is_compared k (site_caller a.call.site) a.call.site.node) (callable_signature (site_caller a.call.site) a.answer) (ap (callable_signature (site_caller a.call.site)) (sym is))
 
-  put : (o : Option Comparison) (qs : List Comparison) → IfSome o IsTold → AllByRecursion IsTold qs → AllByRecursion IsTold (cons_option o qs)
-  put None qs h hs = hs
-  put (Some q) qs h hs = (h, hs)
-
   all_told : (as' : List Answered) → AllByRecursion IsToldBy as' → AllByRecursion IsTold (flat_map comparisons as')
   all_told [] h = tt
   all_told (a ∷ as') h =
       each_both IsTold (comparisons a) (flat_map comparisons as')
-      (put (comparison_of Input a) (cons_option (comparison_of Secret a) []) (one_told Input a h.0) (put (comparison_of Secret a) [] (one_told Secret a h.0) tt))
+      (each_cons IsTold (comparison_of Input a) (cons_option (comparison_of Secret a) []) (one_told Input a h.0) (each_cons IsTold (comparison_of Secret a) [] (one_told Secret a h.0) tt))
       (all_told as' h.1)
 
   pair_told : (q r : Comparison) → IsTold q → IsTold r → HaveOneSignature q r

@@ -1,9 +1,10 @@
 -- The calls that reading kept, with their answers, are those of the file.
 use Rattle.std.proofs.Common.{◌≡◌, ◌<◌, ◌+◌, ◌++◌, ◌∙◌, ℕ, List, [], ◌∷◌, Option, Some, None, ap, append-nil, append_assoc, drop, get_or, length, map, option_map, refl, sym}
 use Rattle.std.proofs.lemmas.List.{drop_more}
-use Rattle.std.specs.Prelude.{slice_get, slice_index_or}
-use Rattle.std.specs.List.{cons_option, filter_map}
+use Rattle.std.specs.Prelude.{IfSome, slice_get, slice_index_or}
+use Rattle.std.specs.List.{AllByRecursion, cons_option, filter_map}
 use Rattle.std.specs.Option.{option_map_or}
+use Rattle.al_base.proofs.Elements.{each_cons}
 use Rattle.al_base.specs.declared.codes.CallCode.TheVariants.{LeadsBack}
 use Rattle.al_session_folder.specs.declared.lint.Target.{Target}
 use Rattle.al_yaml_tree.specs.Node.{Node}
@@ -12,8 +13,21 @@ use Rattle.al_check_interfaces.specs.declared.interfaces.Interface.{Interface}
 use Rattle.al_check_interfaces.specs.FolderCalls.{AreCallsOf, FolderCall, as_folder_call, folder_call}
 use Rattle.al_check_interfaces.specs.Uses.{Call, calls_in, target_in, that_uses}
 use Rattle.al_check_interfaces.specs.declared.calls.FolderCall as code
-use Rattle.al_check_calls.specs.Answers.{Answered, calls_with_answers}
-use Rattle.al_check_calls.specs.Private.AnswerViews.{answered_at, answered_by}
+use Rattle.al_check_calls.specs.Answers.{Answered, answered_by, calls_with_answers}
+use Rattle.al_check_calls.specs.Private.AnswerViews.{answered_at}
+
+-- ---- what holds of all calls holds of those with answers
+
+one_answered : (P : Call → Type 0) (c : Call) (o : Option Target) (answer : Option Interface) → P c → IfSome (option_map (λ t. answered_by c answer) o) (λ a. P a.call)
+one_answered P c None answer p = tt
+one_answered P c (Some t) answer p = p
+
+pub each_answered : (P : Call → Type 0) (cs : List Call) (answers : List (Option Interface)) → AllByRecursion P cs → AllByRecursion (λ (a : Answered). P a.call) (calls_with_answers cs answers)
+each_answered P [] answers p = tt
+each_answered P (c ∷ cs) answers p =
+    let others = option_map_or (λ t. drop 1 answers) (target_in c.form) answers in
+    each_cons (λ (a : Answered). P a.call) (option_map (λ t. answered_by c (slice_index_or answers 0 None)) (target_in c.form)) (calls_with_answers cs others)
+    (one_answered P c (target_in c.form) (slice_index_or answers 0 None) p.0) (each_answered P cs others p.1)
 
 -- ---- those that are kept
 

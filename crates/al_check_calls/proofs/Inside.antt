@@ -1,7 +1,7 @@
 -- Each fault of a file's calls lies in the file that its tree lies in.
-use Rattle.std.specs.Prelude.{ℕ, Bool, List, [], ◌∷◌, ◌++◌, codes, drop, IfSome, Option, Some, None, find, option_map, slice_index_or}
+use Rattle.std.specs.Prelude.{ℕ, Bool, List, [], ◌∷◌, codes, Option, Some, None, find}
 use Rattle.std.proofs.Common.{cond}
-use Rattle.std.specs.List.{AllByRecursion, cons_option, flat_map}
+use Rattle.std.specs.List.{AllByRecursion, flat_map}
 use Rattle.std.specs.Option.{option_map_or}
 use Rattle.al_base.specs.Spans.{LiesIn}
 use Rattle.al_base.specs.declared.codes.CallCode.{CallCode}
@@ -12,32 +12,29 @@ use Rattle.al_base.specs.declared.faults.Fault.{Fault}
 use Rattle.al_base.specs.declared.faults.Span.{Span}
 use Rattle.al_types.specs.Types.{Type', assignable_type}
 use Rattle.al_check_objects.specs.Inputs.{input_type}
-use Rattle.al_tree.specs.Declarations.{named_among}
 use Rattle.al_scalar.specs.Scalar.{Scalar}
 use Rattle.al_yaml_tree.specs.Node.{Node, scalar, sequence, mapping, span_of}
 use Rattle.al_yaml_tree.specs.Spans.{IsInside}
-use Rattle.al_tree.specs.Keys.{key_of, keys_in}
+use Rattle.al_tree.specs.Keys.{key_of}
 use Rattle.al_tree.specs.Values.{entries_at}
-use Rattle.al_check_interfaces.specs.Parameters.{is_parameter, mandatory_of}
-use Rattle.al_check_interfaces.specs.Kinds.{parameters_of}
+use Rattle.al_check_interfaces.specs.Parameters.{is_parameter}
 use Rattle.al_check_interfaces.specs.declared.interfaces.Interface.{Interface}
 use Rattle.al_check_interfaces.specs.declared.interfaces.Interface.TheVariants.{Readable, Unreadable}
 use Rattle.al_check_interfaces.specs.declared.interfaces.Parameter.{Parameter}
 use Rattle.al_check_interfaces.specs.declared.interfaces.ParameterKind.{ParameterKind}
 use Rattle.al_check_interfaces.specs.declared.interfaces.ParameterKind.TheVariants.{Input, Secret}
 use Rattle.al_check_interfaces.specs.declared.interfaces.Signature.{Signature}
-use Rattle.al_check_interfaces.specs.Uses.{Call, calls_in, target_in, that_uses, site_caller}
-use Rattle.al_session_folder.specs.declared.lint.Target.{Target}
+use Rattle.al_check_interfaces.specs.Uses.{Call, calls_in, that_uses, site_caller}
 use Rattle.al_check_interfaces.proofs.Inside.{AtLies, calls_lie, inside_kept}
 use Rattle.al_base.proofs.Elements.{each_both, each_either, each_of}
 use Rattle.al_check_interfaces.proofs.Parts.{entries_kept}
 use Rattle.al_check_calls.specs.Answers.{Answered, Typing, calls_with_answers, answered_faults, values_in}
-use Rattle.al_check_calls.specs.CallFaults.{Given, absent_faults, call_fault, call_faults, callable_signature, called_name}
-use Rattle.al_check_calls.specs.CallFaults.{given_by, is_callable, is_taken, missing_code, missing_name}
-use Rattle.al_check_calls.specs.CallFaults.{name_faults, names_against, names_of_kind, signature_for, type_faults, undefined_code}
-use Rattle.al_check_calls.specs.CallFaults.{undefined_name, uses_faults, value_faults, values_against, values_of, wrong_input}
+use Rattle.al_check_calls.specs.CallFaults.{Given, absent_faults, call_fault, call_faults}
+use Rattle.al_check_calls.specs.CallFaults.{given_by, is_callable, missing_name}
+use Rattle.al_check_calls.specs.CallFaults.{names_against, type_faults}
+use Rattle.al_check_calls.specs.CallFaults.{undefined_name, uses_faults, values_against, values_of, wrong_input}
 use Rattle.al_check_calls.specs.Laws.{CallFaultsLie}
-use Rattle.al_check_calls.specs.Private.AnswerViews.{answered_by}
+use Rattle.al_check_calls.proofs.Answering.{each_answered}
 
 module _ (size : ℕ) where
   abbrev Lies : Fault → Type 0
@@ -71,14 +68,10 @@ module _ (size : ℕ) where
   same_for_all f h (x ∷ xs) = each_both Lies (f x) (flat_map f xs) (h x) (same_for_all f h xs)
 
   undefined_lies : (k : ParameterKind) (c : Call) (s : Signature) (e : Node × Node) → Pair e → AllLie (undefined_name k c s e)
-  undefined_lies k c s e p =
-      unless (is_taken k c s (key_of e)) (call_fault (undefined_code k) c (span_of e.0) (key_of e ∷ called_name c s ∷ []) ∷ [])
-      (one_lies (undefined_code k) c (span_of e.0) (key_of e ∷ called_name c s ∷ []) (node_lies e.0 p.0))
+  undefined_lies k c s e p = search (unless, one_lies, node_lies)
 
   missing_lies : (k : ParameterKind) (c : Call) (s : Signature) → LiesIn size c.at → (i : Parameter) → AllLie (missing_name k c s i)
-  missing_lies k c s at i =
-      unless (named_among (keys_in (given_by k c.site.node)) i.name) (call_fault (missing_code k) c c.at (i.name ∷ called_name c s ∷ []) ∷ [])
-      (one_lies (missing_code k) c c.at (i.name ∷ called_name c s ∷ []) at)
+  missing_lies k c s at i = search (unless, one_lies)
 
   entries_lie : (k : List ℕ) (n : Node) → IsInside size n → AllByRecursion Pair (entries_at k n)
   entries_lie k n i = entries_kept (IsInside size) (AtLies size) (inside_kept size) (λ s at p. p) k n i
@@ -89,9 +82,8 @@ module _ (size : ℕ) where
 
   names_lie : (k : ParameterKind) (c : Call) (s : Signature) → CallLies c → AllLie (names_against k c s)
   names_lie k c s p =
-      each_both Lies (flat_map (undefined_name k c s) (given_by k c.site.node)) (flat_map (missing_name k c s) (mandatory_of (parameters_of k s)))
-      (each_of Pair Lies (undefined_name k c s) (undefined_lies k c s) (given_by k c.site.node) (given_lie k c.site.node p.1))
-      (same_for_all (missing_name k c s) (missing_lies k c s p.0) (mandatory_of (parameters_of k s)))
+      let undefined = each_of Pair Lies (undefined_name k c s) (undefined_lies k c s) (given_by k c.site.node) (given_lie k c.site.node p.1) in
+      search (each_both Lies, undefined, same_for_all (missing_name k c s) (missing_lies k c s p.0))
 
   kind_lies : (k : ParameterKind) (c : Call) (o : Option Signature) → CallLies c → AllLie (option_map_or (names_against k c) o [])
   kind_lies k c None p = tt
@@ -122,12 +114,7 @@ module _ (size : ℕ) where
   uses_lie c (Some (Readable s)) i = unless (is_callable (site_caller c.site) s.role) (that_uses code.NotCallable c ∷ []) (i, tt)
 
   call_lies : (c : Call) (values : List Given) (answer : Option Interface) → CallLies c → AllByRecursion GivenLies values → AllLie (call_faults c values answer)
-  call_lies c values answer p v =
-      each_both Lies (uses_faults c answer ++ value_faults c values answer) (name_faults c answer)
-      (each_both Lies (uses_faults c answer) (value_faults c values answer) (uses_lie c answer p.0)
-      (values_against_lie (site_caller c.site) c values (callable_signature (site_caller c.site) answer) v))
-      (each_both Lies (names_of_kind Input c answer) (names_of_kind Secret c answer)
-      (kind_lies Input c (signature_for Input c answer) p) (kind_lies Secret c (signature_for Secret c answer) p))
+  call_lies c values answer p v = search (each_both Lies, uses_lie, values_against_lie, kind_lies) depth 7
 
   values_lie : (typing : Node → Scalar → Type') (es : List (Node × Node)) → AllByRecursion Pair es → AllByRecursion GivenLies (values_of typing es)
   values_lie typing [] p = tt
@@ -137,21 +124,7 @@ module _ (size : ℕ) where
   answered_lies typing a p =
       call_lies a.call (values_in typing a.call) a.answer p (values_lie (typing a.call.site) (given_by Input a.call.site.node) (given_lie Input a.call.site.node p.1))
 
-  put : (o : Option Answered) (rest : List Answered) → IfSome o (λ a. CallLies a.call) → AllByRecursion (λ a. CallLies a.call) rest → AllByRecursion (λ a. CallLies a.call) (cons_option o rest)
-  put None rest p ps = ps
-  put (Some a) rest p ps = (p, ps)
-
-  one_answered : (c : Call) (o : Option Target) (answer : Option Interface) → CallLies c → IfSome (option_map (λ t. answered_by c answer) o) (λ a. CallLies a.call)
-  one_answered c None answer p = tt
-  one_answered c (Some t) answer p = p
-
-  all_answered : (cs : List Call) (answers : List (Option Interface)) → AllByRecursion CallLies cs → AllByRecursion (λ a. CallLies a.call) (calls_with_answers cs answers)
-  all_answered [] answers p = tt
-  all_answered (c ∷ cs) answers p =
-      put (option_map (λ t. answered_by c (slice_index_or answers 0 None)) (target_in c.form)) (calls_with_answers cs (option_map_or (λ t. drop 1 answers) (target_in c.form) answers))
-      (one_answered c (target_in c.form) (slice_index_or answers 0 None) p.0) (all_answered cs (option_map_or (λ t. drop 1 answers) (target_in c.form) answers) p.1)
-
 pub call_faults_lie : CallFaultsLie
 call_faults_lie size kind typing root answers i =
     each_of (λ a. CallLies size a.call) (Lies size) (answered_faults typing) (answered_lies size typing) (calls_with_answers (calls_in kind root) answers)
-    (all_answered size (calls_in kind root) answers (calls_lie size kind root i))
+    (each_answered (CallLies size) (calls_in kind root) answers (calls_lie size kind root i))

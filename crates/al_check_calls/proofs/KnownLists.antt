@@ -27,7 +27,7 @@ use Rattle.al_check_calls.specs.Private.Comparing.{AreToldByUses}
 use Rattle.al_check_calls.specs.declared.known.Lists.{Lists}
 use Rattle.al_check_calls.proofs.Told.{told_back}
 use Rattle.std.specs.Bool.{then_some}
-use Rattle.al_check_calls.specs.Private.KnownLists.{behind}
+use Rattle.al_check_calls.specs.FileCalls.{known_of_call}
 
 abbrev Names : Type 0
 Names = List (List ℕ)
@@ -147,7 +147,7 @@ IsNamed naming a = naming (is_some a.call.site.step) a.call.text ≡ outputs_beh
 abbrev pub AreKnown : List code.Answered → ℕ → Lists → List Answer → Type 0
 AreKnown answered i ls known =
     (naming : Naming) → AllByRecursion (IsNamed naming) (map answered_of answered)
-    → ArePlaced naming ls × ((more : List Names) → map (behind_of (lists_of ls ++ more)) known ≡ map behind (map answered_of (take i answered)))
+    → ArePlaced naming ls × ((more : List Names) → map (behind_of (lists_of ls ++ more)) known ≡ map known_of_call (map answered_of (take i answered)))
 
 named_at : (naming : Naming) (answered : List code.Answered) (i : ℕ) (a : code.Answered) → AllByRecursion (IsNamed naming) (map answered_of answered) →
     i < length answered → a ≡ get_or answered i a → IsNamed naming (answered_of a)
@@ -165,15 +165,15 @@ one_known answered i a old new known now position within is takes pushed before 
     let stands = takes.stands naming told placed in
     let answer : Answer = record { job = a.call.site.job; step = a.call.site.step; names = position } in
     let calls : take (i + 1) answered ≡ take i answered ++ a ∷ [] = take_more answered i a within ∙ ap (λ x. take i answered ++ x ∷ []) (sym is) in
-    let behinds : map behind (map answered_of (take (i + 1) answered)) ≡ map behind (map answered_of (take i answered)) ++ behind (answered_of a) ∷ [] =
-    ap (λ l. map behind (map answered_of l)) calls ∙ ap (map behind) (map-append answered_of (take i answered) (a ∷ []))
-    ∙ map-append behind (map answered_of (take i answered)) (answered_of a ∷ []) in (
+    let behinds : map known_of_call (map answered_of (take (i + 1) answered)) ≡ map known_of_call (map answered_of (take i answered)) ++ known_of_call (answered_of a) ∷ [] =
+    ap (λ l. map known_of_call (map answered_of l)) calls ∙ ap (map known_of_call) (map-append answered_of (take i answered) (a ∷ []))
+    ∙ map-append known_of_call (map answered_of (take i answered)) (answered_of a ∷ []) in (
       takes.placed naming told placed,
       λ more.
           let seen : Answer → Behind = behind_of (lists_of new ++ more) in
-          let here : seen answer ≡ behind (answered_of a) =
+          let here : seen answer ≡ known_of_call (answered_of a) =
           ap (λ (names : Option Names). record { job = (answered_of a).call.site.job; step = a.call.site.step; names = names }) (stands more) in
-          let so_far : map seen known ≡ map behind (map answered_of (take i answered)) =
+          let so_far : map seen known ≡ map known_of_call (map answered_of (take i answered)) =
           ap (λ ls. map (behind_of ls) known) (ap (λ ls. ls ++ more) takes.grown ∙ append_assoc (lists_of old) takes.added more)
           ∙ (before naming named).1 (takes.added ++ more) in
           ap (map seen) pushed ∙ map-append seen known (answer ∷ [])
@@ -194,11 +194,11 @@ all_named naming (a ∷ told) P each h = (each a h.0, all_named naming told P ea
 
 -- of all calls
 pub all_known : (answered : List code.Answered) (i : ℕ) (ls : Lists) (known : List Answer) → length answered ≤ i → AreToldByUses (map answered_of answered) →
-    AreKnown answered i ls known → map (behind_of (lists_of ls)) known ≡ map behind (map answered_of answered)
+    AreKnown answered i ls known → map (behind_of (lists_of ls)) known ≡ map known_of_call (map answered_of answered)
 all_known answered i ls known end told so_far =
     let found = map answered_of answered in
     let naming = naming_of found told in
     let named = all_named naming found (λ (a : Answered). a.answer ≡ told.answer (site_caller a.call.site) a.call.text)
     (λ a h. ap (λ o. option_and_then outputs_in (callable_signature (site_caller a.call.site) o)) (sym h)) told.told in
     ap (λ l. map (behind_of l) known) (sym (append-nil (lists_of ls))) ∙ (so_far naming named).1 []
-    ∙ ap (λ l. map behind (map answered_of l)) (take_all i answered end)
+    ∙ ap (λ l. map known_of_call (map answered_of l)) (take_all i answered end)

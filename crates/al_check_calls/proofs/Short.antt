@@ -1,9 +1,7 @@
 -- The texts of a file that was read are short, and so are those of the nodes that call.
-use Rattle.std.proofs.Common.{◌≡◌, ℕ, List, [], ◌∷◌, map, Option, Some, None, option_map, sym, subst}
-use Rattle.std.specs.Prelude.{All, slice_index_or}
-use Rattle.std.specs.List.{AllByRecursion, cons_option}
-use Rattle.std.specs.Option.{option_map_or}
-use Rattle.std.proofs.Common.{drop}
+use Rattle.std.proofs.Common.{◌≡◌, ℕ, List, [], ◌∷◌, map, Option, Some, sym, subst}
+use Rattle.std.specs.Prelude.{All}
+use Rattle.std.specs.List.{AllByRecursion}
 use Rattle.std.proofs.lemmas.List.Elements.{All-from_recursion}
 use Rattle.al_base.specs.declared.faults.Span.{Span}
 use Rattle.al_scalar.specs.Scalar.{Scalar}
@@ -17,12 +15,12 @@ use Rattle.al_tree.specs.declared.values.Member.{Member}
 use Rattle.al_tree.specs.declared.files.FileKind.{FileKind}
 use Rattle.al_check_expressions.proofs.Places.{readable}
 use Rattle.al_check_interfaces.specs.declared.interfaces.Interface.{Interface}
-use Rattle.al_check_interfaces.specs.Uses.{Call, calls_in, target_in}
+use Rattle.al_check_interfaces.specs.Uses.{Call, calls_in}
 use Rattle.al_check_interfaces.proofs.Parts.{IsKept, calls_kept, entries_kept}
-use Rattle.al_check_calls.specs.Private.AnswerViews.{answered_of, answered_by}
-use Rattle.al_session_folder.specs.declared.lint.Target.{Target}
+use Rattle.al_check_calls.specs.Private.AnswerViews.{answered_of}
 use Rattle.al_check_calls.specs.Answers.{Answered, calls_with_answers}
 use Rattle.al_check_calls.specs.declared.answers.Answered as code
+use Rattle.al_check_calls.proofs.Answering.{each_answered}
 use Rattle.al_check_calls.specs.FileCalls.{AreShort, EntriesShort, IsShort, ItemsShort}
 
 mutual
@@ -62,29 +60,18 @@ calls_short : (k : FileKind) (root : Node) → AreShort root → AllByRecursion 
 calls_short k root h = calls_kept AreShort AnyScalar short_kept (λ s at p. tt) (λ at. Unit {0}) (λ t p. tt) k root h
 
 abbrev AnsweredIsShort : Answered → Type 0
-AnsweredIsShort a = AreShort a.call.site.node
-
-put_short : (c : Call) (o : Option Target) (answer : Option Interface) (rest : List Answered) → AreShort c.site.node → AllByRecursion AnsweredIsShort rest →
-    AllByRecursion AnsweredIsShort (cons_option (option_map (λ t. answered_by c answer) o) rest)
-put_short c None answer rest h hs = hs
-put_short c (Some t) answer rest h hs = (h, hs)
-
-answered_short : (cs : List Call) (answers : List (Option Interface)) → AllByRecursion CallIsShort cs → AllByRecursion AnsweredIsShort (calls_with_answers cs answers)
-answered_short [] answers h = tt
-answered_short (c ∷ cs) answers h =
-    let others = option_map_or (λ t. drop 1 answers) (target_in c.form) answers in
-    put_short c (target_in c.form) (slice_index_or answers 0 None) (calls_with_answers cs others) (h.0).1 (answered_short cs others h.1)
+AnsweredIsShort a = CallIsShort a.call
 
 calls_back : (as' : List code.Answered) → AllByRecursion AnsweredIsShort (map answered_of as') →
     AllByRecursion (λ (a : code.Answered). AreShort (view a.call.site.node.now)) as'
 calls_back [] h = tt
-calls_back (a ∷ as') h = (h.0, calls_back as' h.1)
+calls_back (a ∷ as') h = ((h.0).1, calls_back as' h.1)
 
 -- of the calls that the code has found, with their answers
 pub all_short : (as' : List code.Answered) (k : FileKind) (root : Node) (answers : List (Option Interface)) →
     map answered_of as' ≡ calls_with_answers (calls_in k root) answers → IsLaid 1048576 root → HasTexts root → All (λ (a : code.Answered). AreShort (view a.call.site.node.now)) as'
 all_short as' k root answers e w t =
-    let there = answered_short (calls_in k root) answers (calls_short k root (short_all root w t)) in
+    let there = each_answered CallIsShort (calls_in k root) answers (calls_short k root (short_all root w t)) in
     All-from_recursion (λ (a : code.Answered). AreShort (view a.call.site.node.now)) as'
     (calls_back as' (subst (AllByRecursion AnsweredIsShort) (sym e) there))
 

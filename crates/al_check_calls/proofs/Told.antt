@@ -13,12 +13,11 @@ use Rattle.al_tree.specs.Values.{text_at_key}
 use Rattle.al_tree.specs.declared.files.FileKind.{FileKind}
 use Rattle.al_check_interfaces.specs.declared.interfaces.Interface.{Interface}
 use Rattle.al_check_interfaces.specs.Forms.{form_by}
-use Rattle.al_check_interfaces.specs.Uses.{Call, Site, call_at, calls_in, sites_in, target_in, targets_of, site_caller}
-use Rattle.al_check_calls.specs.Answers.{Answered, calls_with_answers}
-use Rattle.al_check_calls.specs.Private.AnswerViews.{answered_of, answered_by}
+use Rattle.al_check_interfaces.specs.Uses.{Call, Site, call_at, call_by, calls_in, sites_in, target_in, targets_of, site_caller}
+use Rattle.al_check_calls.specs.Answers.{Answered, answered_by, calls_with_answers}
+use Rattle.al_check_calls.specs.Private.AnswerViews.{answered_of}
 use Rattle.al_check_calls.specs.declared.answers.Answered as code
 use Rattle.al_check_calls.specs.Private.Comparing.{AreToldByUses}
-use Rattle.al_check_interfaces.specs.CallViews.{call_by}
 
 -- ---- what is called
 

@@ -16,10 +16,9 @@ use Rattle.al_expr_types.proofs.Below.{all_more, all_weaker, same_mapped}
 use Rattle.al_expr_types.proofs.Stays.{known_stays, type_stays}
 use Rattle.al_check_interfaces.specs.Uses.{Call}
 use Rattle.al_check_interfaces.specs.declared.interfaces.Signature.{Signature}
-use Rattle.al_check_calls.specs.CallFaults.{Given, values_against, values_of}
+use Rattle.al_check_calls.specs.CallFaults.{Given, given_type, values_against, values_of}
 use Rattle.al_check_calls.specs.Private.AnswerViews.{are_values_known, given_at}
 use Rattle.al_check_calls.specs.declared.wrong_types.Value.{Value}
-use Rattle.al_check_calls.specs.Private.AnswerViews.{given_type}
 
 values_stay : (new old : Types) (vs : List Value) → BeginsWith (objects_of new) (objects_of old) → are_values_known old vs ≡ true →
     map (given_at new) vs ≡ map (given_at old) vs

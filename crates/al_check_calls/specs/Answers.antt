@@ -17,10 +17,13 @@ pub record Answered : Type 0 where
   pub call : Call
   pub answer : Option Interface
 
+abbrev pub answered_by : Call → Option Interface → Answered
+answered_by c answer = record { call = c; answer = answer }
+
 abbrev pub calls_with_answers : List Call → List (Option Interface) → List Answered
 calls_with_answers [] answers = []
 calls_with_answers (c ∷ cs) answers =
-    cons_option (option_map (λ t. record { call = c; answer = slice_index_or answers 0 None }) (target_in c.form))
+    cons_option (option_map (λ t. answered_by c (slice_index_or answers 0 None)) (target_in c.form))
     (calls_with_answers cs (option_map_or (λ t. drop 1 answers) (target_in c.form) answers))
 
 -- the type of what is given at a call, by its key and its scalar

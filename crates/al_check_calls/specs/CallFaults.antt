@@ -133,8 +133,11 @@ type_faults c e t i =
 abbrev pub Given : Type 0
 Given = (Node × Node) × Type'
 
+abbrev pub given_type : (Node → Scalar → Type') → Node × Node → Type'
+given_type type_of e = option_map_or (type_of e.0) (scalar_in e.1) Any
+
 abbrev pub values_of : (Node → Scalar → Type') → List (Node × Node) → List Given
-values_of type_of = map (λ e. (e, option_map_or (type_of e.0) (scalar_in e.1) Any))
+values_of type_of = map (λ e. (e, given_type type_of e))
 
 -- C4: a value of a wrong type
 abbrev pub wrong_input : Call → List Parameter → Given → List Fault

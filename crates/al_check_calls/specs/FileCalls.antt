@@ -11,7 +11,7 @@ use Rattle.al_tree.specs.declared.files.FileKind.{FileKind}
 use Rattle.al_tree.specs.declared.files.FileKind.TheVariants as kind
 use Rattle.al_check_places.specs.Places.{Place, place_at}
 use Rattle.al_check_places.specs.Ways.{under}
-use Rattle.al_check_contexts.specs.Answered.{known_in}
+use Rattle.al_check_contexts.specs.Answered.{Behind, known_in}
 use Rattle.al_check_contexts.specs.Contexts.{OutputNames}
 use Rattle.al_check_contexts.specs.Scopes.{scope_at}
 use Rattle.al_check_expressions.specs.FileExpressions.{expression_faults}
@@ -22,8 +22,11 @@ use Rattle.al_check_calls.specs.Outputs.{outputs_behind}
 use Rattle.al_check_calls.specs.Types.{type_of_given}
 
 -- what is known of the outputs behind calls
+abbrev pub known_of_call : Answered → Behind
+known_of_call a = record { job = a.call.site.job; step = a.call.site.step; names = outputs_behind a }
+
 abbrev pub known_from_calls : List Answered → OutputNames
-known_from_calls found = known_in (map (λ a. record { job = a.call.site.job; step = a.call.site.step; names = outputs_behind a }) found)
+known_from_calls found = known_in (map known_of_call found)
 
 -- the place of what a job gives under a key of `with`
 abbrev pub place_of_value : List ℕ → Node → Scalar → Place

@@ -2,4 +2,3 @@
 pub mod Comparing
 pub mod AnswerViews
 pub mod KnownLists
-pub mod Contents

@@ -1,5 +1,5 @@
 -- The type of a scalar that is given to an input.
-use Rattle.std.specs.Prelude.{ℕ, List, ◌-◌, length, slice_range, if◌then◌else◌}
+use Rattle.std.specs.Prelude.{ℕ, List, ◌-◌, length, Option, None, Some, slice_range, if◌then◌else◌}
 use Rattle.std.specs.Option.{option_map_or}
 use Rattle.al_scalar.specs.Scalar.{Scalar, text_of}
 use Rattle.al_expr_grammar.specs.Building.{tree_of_content}
@@ -20,6 +20,9 @@ content_type sc content =
 abbrev pub text_type : Scalar → Type'
 text_type s = if has_chunk (text_of s) then String else class_type s.class
 
+-- the content of a text that is one expression
+abbrev pub content_where_one : List ℕ → Option (List ℕ)
+content_where_one text = if is_one_chunk text then Some (slice_range text 3 (length text - 2)) else None
+
 abbrev pub type_of_given : Scope → Scalar → Type'
-type_of_given sc s =
-    if is_one_chunk (text_of s) then content_type sc (slice_range (text_of s) 3 (length (text_of s) - 2)) else text_type s
+type_of_given sc s = option_map_or (content_type sc) (content_where_one (text_of s)) (text_type s)

@@ -3,7 +3,8 @@ ghost use Rattle.std.specs.Prelude.{◌≡◌, ◌++◌, [], None, drop, map, op
 ghost use Rattle.std.specs.List.{cons_option};
 ghost use Rattle.std.specs.Option.{option_copied};
 ghost use Rattle.al_check_calls.specs.Answers as answering;
-ghost use Rattle.al_check_calls.specs.Private.AnswerViews.{answered_at, answered_by, answered_of};
+ghost use Rattle.al_check_calls.specs.Answers.{answered_by};
+ghost use Rattle.al_check_calls.specs.Private.AnswerViews.{answered_at, answered_of};
 ghost use Rattle.al_tree.specs.declared.files.FileKind.{FileKind};
 ghost use Rattle.al_check_interfaces.specs.FolderCalls.{AreCallsOf};
 ghost use Rattle.al_check_interfaces.specs.CallViews.{call_of};

@@ -3,7 +3,7 @@ ghost use Rattle.std.specs.Prelude.{◌≡◌, map, is_some, IfOk, Some};
 ghost use Rattle.al_check_calls.specs.Outputs.{outputs_behind};
 ghost use Rattle.al_check_calls.specs.Private.AnswerViews.{answered_of};
 ghost use Rattle.al_check_contexts.specs.Answered.{known_in, known_of};
-ghost use Rattle.al_check_calls.specs.Private.KnownLists.{behind};
+ghost use Rattle.al_check_calls.specs.FileCalls.{known_of_call};
 ghost use Rattle.al_check_calls.specs.Private.KnownLists.{ArePlaced, Naming, Takes, behind_all, position_of};
 ghost use Rattle.al_check_calls.specs.Private.Comparing.{AreToldByUses};
 ghost use Rattle.al_yaml_tree.specs.View.{view};
@@ -126,7 +126,7 @@ pub(crate) fn known_behind<'a>(
     answered: &[Answered<'a>],
 ) -> Result<KnownOutputs<'a>, AllocError>
     requires { AreToldByUses (map answered_of answered.now) }
-    ensures { IfOk result (λ known. behind_all known ≡ map behind (map answered_of answered.now)) }
+    ensures { IfOk result (λ known. behind_all known ≡ map known_of_call (map answered_of answered.now)) }
 {
     let mut lists = Lists::new(alloc);
     let mut answers = Vec::new(alloc);

@@ -4,7 +4,7 @@ ghost use Rattle.std.specs.Option.{option_copied};
 ghost use Rattle.al_base.specs.Growth.{BeginsWith};
 ghost use Rattle.al_base.specs.Limits.{longest_text};
 ghost use Rattle.al_check_calls.specs.Types as meant;
-ghost use Rattle.al_check_calls.specs.Private.Contents.{content_where_one};
+ghost use Rattle.al_check_calls.specs.Types.{content_where_one};
 ghost use Rattle.al_expr_grammar.specs.Chunks.{IsCutFrom, chunks_of, span_of_chunk};
 ghost use Rattle.al_expr_types.specs.Tables.{is_known, objects_of, type_at};
 ghost use Rattle.al_expr_types.specs.Types.{is_below, type_in};

@@ -2,13 +2,14 @@
 ghost use Rattle.std.specs.Prelude.{◌≡◌, [], map, true, unwrap_or, IfOk, OnOk};
 ghost use Rattle.std.specs.Option.{option_copied};
 ghost use Rattle.al_base.specs.Growth.{BeginsWith};
-ghost use Rattle.al_check_calls.specs.Private.AnswerViews.{given_at, typing_in, given_type};
+ghost use Rattle.al_check_calls.specs.Private.AnswerViews.{given_at, typing_in};
 ghost use Rattle.al_check_interfaces.specs.CallViews.{call_of};
 ghost use Rattle.al_check_contexts.specs.Answered.{known_of};
 ghost use Rattle.al_check_contexts.specs.Standing.{Stands};
 ghost use Rattle.al_check_calls.specs.FileCalls as file_calls;
 ghost use Rattle.al_check_calls.specs.FileCalls.{AreShort, value_type_in_job};
 ghost use Rattle.al_check_calls.specs.Answers.{values_in};
+ghost use Rattle.al_check_calls.specs.CallFaults.{given_type};
 ghost use Rattle.al_check_places.specs.Places.{place_of};
 ghost use Rattle.al_expr_types.specs.Tables.{is_known, objects_of, type_at};
 ghost use Rattle.al_tree.specs.Values.{member_of};

@@ -1,4 +1,3 @@
-pub mod Sets
 pub mod Found
 pub mod Kept
 pub mod TableLemmas

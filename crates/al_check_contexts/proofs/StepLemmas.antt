@@ -24,11 +24,12 @@ use Rattle.al_expr_types.specs.declared.prefixes.Prefixes.{Prefixes}
 use Rattle.al_expr_types.specs.declared.ty.Ty.{Ty}
 use Rattle.al_expr_types.specs.declared.types.Types.{Types}
 use Rattle.al_expr_types.proofs.PrefixLemmas.{prefix_longer, types_wider}
-use Rattle.al_check_objects.specs.Numbers.{Means, fields_in, is_map_below}
+use Rattle.al_check_objects.specs.Numbers.{Means}
+use Rattle.al_expr_types.specs.FieldMaps.{fields_in, is_map_below}
 use Rattle.al_check_contexts.specs.Steps.{ArePrefixes, AreSteps, AreStepsOf, IsCount, first_fields}
 use Rattle.al_check_contexts.specs.declared.steps.StepFields.{StepFields}
 use Rattle.al_check_objects.proofs.FieldLists.{put_all_more}
-use Rattle.al_check_objects.proofs.Numbers.{fields_stay}
+use Rattle.al_expr_types.proofs.FieldMaps.{fields_stay}
 
 -- ---- the first of fields, where more are put behind them
 

@@ -1,6 +1,7 @@
 -- The types of contexts at a position, as they change from one to the next.
-use Rattle.std.proofs.Common.{◌≡◌, List, Option, sym}
+use Rattle.std.proofs.Common.{◌≡◌, List, Option, refl, sym}
 use Rattle.al_base.specs.Growth.{BeginsWith}
+use Rattle.al_base.proofs.Growing.{begins_same}
 use Rattle.al_types.specs.Types.{Type'}
 use Rattle.al_types.specs.declared.names.Context.{Context}
 use Rattle.al_types.specs.declared.names.Context.TheVariants as context
@@ -53,21 +54,9 @@ steps_changed new old ts t k known root s seen now b m h = record { each = each 
 pub same_seen : (types : Types) (ts : ContextTypes) (k : FileKind) (known : OutputNames) (root : Node) (s : Section) (seen now : Seen) →
     context_type_at k known root (position s now) context.Steps ≡ context_type_at k known root (position s seen) context.Steps →
     Shows types ts (context_type_at k known root (position s seen)) → Shows types ts (context_type_at k known root (position s now))
-same_seen types ts k known root s seen now e h = record { each = each }
-  where
-    each : (c : Context) → Means types (context_number ts c) (context_type_at k known root (position s now) c)
-    each context.Github = h.each context.Github
-    each context.Env = h.each context.Env
-    each context.Vars = h.each context.Vars
-    each context.Secrets = h.each context.Secrets
-    each context.Runner = h.each context.Runner
-    each context.Job = h.each context.Job
-    each context.Strategy = h.each context.Strategy
-    each context.Needs = h.each context.Needs
-    each context.Jobs = h.each context.Jobs
-    each context.Steps = means_as types _ _ _ (sym e) (h.each context.Steps)
-    each context.Matrix = h.each context.Matrix
-    each context.Inputs = h.each context.Inputs
+same_seen types ts k known root s seen now e h =
+    steps_changed types types ts ts.steps k known root s seen now (begins_same (objects_of types) (objects_of types) refl)
+    (means_as types _ _ _ (sym e) (h.each context.Steps)) h
 
 -- the types of another section of a file with these jobs
 pub section_changed : (new old : Types) (ts : ContextTypes) (st : SectionTypes) (t : Ty) (k : FileKind) (known : OutputNames) (root : Node) (s now : Section) (seen : Seen) →

@@ -6,7 +6,7 @@ use Rattle.al_check_contexts.specs.Contexts.{OutputNames, Owner, step_field}
 use Rattle.al_expr_types.specs.Prefixes.{HasPrefix, map_in}
 use Rattle.al_expr_types.specs.Tables.{objects_of}
 use Rattle.al_expr_types.specs.declared.types.Types.{Types}
-use Rattle.al_check_objects.specs.Numbers.{fields_in, is_map_below}
+use Rattle.al_expr_types.specs.FieldMaps.{fields_in, is_map_below}
 use Rattle.al_check_contexts.specs.declared.steps.StepFields.{StepFields}
 
 -- the fields of the first so many steps

@@ -18,7 +18,7 @@ use crate::caches::TypeCache;
 use crate::job_lists::JobList;
 use crate::jobs::JobTypes;
 use crate::known::{Answers, Outputs};
-use crate::scopes::{available, available_at};
+use crate::scopes::available_at;
 use crate::sections::{owner_at, section_types};
 use crate::start::first_types;
 use crate::steps::StepFields;
@@ -27,6 +27,7 @@ use al_check_places::{Place, Position, Section, Seen};
 use al_expr_types::{Ty, Types};
 use al_expr_typing::Scope;
 use al_tree::FileKind;
+use al_types::Available;
 use al_yaml_tree::Node;
 use std::alloc::{AllocError, Global};
 
@@ -215,7 +216,10 @@ impl<'a> Env<'a> {
             types,
             scope: Scope {
                 types: contexts,
-                available: available(&[], &[]),
+                available: Available {
+                    contexts: &[],
+                    special: &[],
+                },
                 in_run: false,
             },
         })

@@ -204,7 +204,7 @@ impl JobTypes {
             let more = fields.and(basis.alloc, key_text(job.key), ty)?;
             fields = more;
         }
-        let ty = fields.into_type(basis.alloc, types, None)?;
+        let ty = fields.into_type(types, None)?;
         Ok(ty)
     }
 
@@ -273,7 +273,7 @@ impl JobTypes {
             let more = self.and_dependency(types, basis, name.scalar.text(), fields)?;
             fields = more;
         }
-        let ty = fields.into_type(basis.alloc, types, None)?;
+        let ty = fields.into_type(types, None)?;
         Ok(ty)
     }
 }

@@ -1,25 +1,17 @@
 -- A text without `${{` has no chunks, and so no fault where it is no condition.
-use Rattle.std.proofs.Common.{◌≡◌, ℕ, suc, List, [], ◌∷◌, length, refl, ap, ◌∙◌, arith, true, false, cond, ◌&&◌, not, Some, None, map}
+use Rattle.std.proofs.Common.{◌≡◌, ℕ, suc, List, [], ◌∷◌, length, refl, ap, ◌∙◌, true, false, cond, ◌&&◌, not, Some, None, map}
 use Rattle.std.proofs.lemmas.Bool.{or_parts}
-use Rattle.std.proofs.lemmas.Bool.Decides.{nat_tests}
-use Rattle.std.specs.List.{starts_with}
-use Rattle.std.specs.Prelude.{codes, nat_eq, option_map}
-use Rattle.al_expr_grammar.specs.Chunks.{opens, before_opening, with_opening, chunks_within, chunks_of, no_chunks}
+use Rattle.std.specs.Prelude.{option_map}
+use Rattle.al_expr_grammar.specs.Chunks.{before_opening, with_opening, chunks_within, chunks_of, no_chunks}
 use Rattle.al_scalar.specs.Scalar.{text_of}
 use Rattle.al_tree.specs.Faults.{has_chunk}
 use Rattle.al_types.specs.Scopes.{Scope}
 use Rattle.al_check_places.specs.Places.{Place}
 use Rattle.al_check_expressions.specs.Contents.{chunked_faults, content_faults, fault_in_file, place_faults}
 
-opens_not : (bs : List ℕ) → starts_with nat_eq bs (codes "${{") ≡ false → opens bs ≡ false
-opens_not [] h = refl
-opens_not (a ∷ []) h = grind (arith, nat_tests)
-opens_not (a ∷ b ∷ []) h = grind (arith, nat_tests)
-opens_not (a ∷ b ∷ c ∷ bs) h = grind (arith, nat_tests)
-
 no_opening : (bs : List ℕ) → has_chunk bs ≡ false → before_opening bs ≡ None
 no_opening [] h = refl
-no_opening (b ∷ bs) h = ap (λ t. cond t (Some 0) (option_map suc (before_opening bs))) (opens_not (b ∷ bs) (or_parts _ _ h).0)
+no_opening (b ∷ bs) h = ap (λ t. cond t (Some 0) (option_map suc (before_opening bs))) (or_parts _ _ h).0
     ∙ ap (option_map suc) (no_opening bs (or_parts _ _ h).1)
 
 without_chunks : (bs : List ℕ) → has_chunk bs ≡ false → chunks_of bs ≡ no_chunks None

@@ -2,12 +2,10 @@
 #![tactic(auto, using(al_base::proofs::Growing::growth, al_expr_typing::proofs::Shown::shown))]
 
 ghost use Rattle.std.specs.List.{flat_map};
-ghost use Rattle.std.specs.Prelude.{true, ◌≡◌, List, ◌++◌, ◌<◌, ◌^◌, map, All, OnOk};
+ghost use Rattle.std.specs.Prelude.{true, ◌≡◌, ◌++◌, ◌<◌, ◌^◌, map, All, OnOk};
 ghost use Rattle.al_scalar.specs.Scalar.{offset_of, text_of};
 ghost use Rattle.al_expr_grammar.specs.View.{expr_view};
-ghost use Rattle.al_types.specs.Types.{Parts, is_collection};
 ghost use Rattle.al_expr_types.specs.Tables.{objects_of};
-ghost use Rattle.al_expr_types.specs.Types.{type_in};
 ghost use Rattle.al_expr_typing.specs.Scopes.{IsShown, scope_view};
 ghost use Rattle.al_check_expressions.specs.Contents as contents;
 ghost use Rattle.al_check_expressions.specs.Contents.{chunk_faults, chunked_faults, content_faults, is_one_chunk};
@@ -20,11 +18,10 @@ ghost use Rattle.al_base.specs.Growth.{BeginsWith};
 use al_base::{Code, ExpressionCode, Fault, FaultSink, Span};
 use al_check_places::Place;
 use al_expr_grammar::{Chunk, Expr, chunks, extent, parse_expr};
-use al_expr_types::{Ty, Types};
+use al_expr_types::Types;
 use al_expr_typing::{Scope, type_of};
 use al_scalar::Scalar;
 use al_tree::contains_chunk;
-use al_types::Form;
 use std::alloc::AllocError;
 
 /// The offset in the file of a place in a scalar's text; behind the text the end of the scalar.
@@ -55,21 +52,6 @@ fn span_in_file(scalar: &Scalar, i: usize, j: usize) -> Span
     }
 }
 
-/// Whether a type is an array or an object.
-fn is_collection(ty: Ty) -> bool
-    ensures { (ms : List Parts) → result ≡ is_collection (type_in ms ty) }
-{
-    match ty.form() {
-        Form::Array => true,
-        Form::Object => true,
-        Form::Any => false,
-        Form::Null => false,
-        Form::Number => false,
-        Form::Bool => false,
-        Form::String => false,
-    }
-}
-
 /// The text of a scalar, as its contents are checked.
 #[derive(Clone, Copy)]
 struct Text<'s> {
@@ -95,7 +77,7 @@ fn check_tree(
     ensures kept { BeginsWith (objects_of types.new) (objects_of types.old) }
 {
     let ty = type_of(types, text.scope, expr, faults)?;
-    if is_collection(ty) && (!text.is_alone || text.is_scalar_only) {
+    if ty.is_collection() && (!text.is_alone || text.is_scalar_only) {
         faults.report_plain(extent(expr), Code::Expression(ExpressionCode::NotText))?;
     }
     Ok(())

@@ -1,11 +1,10 @@
 -- The calls of files of the folder, a call further.
-use Rattle.std.proofs.Common.{◌≡◌, ◌<◌, ◌+◌, ◌∙◌, ℕ, List, [], ◌∷◌, ◌++◌, Option, Some, None, ap, append_assoc, get_or, length, map, refl, slice_get, sym, take}
+use Rattle.std.proofs.Common.{◌≡◌, ◌<◌, ◌+◌, ◌∙◌, ℕ, List, [], ◌∷◌, ◌++◌, Option, Some, None, ap, get_or, length, map, refl, slice_get, sym, take}
 use Rattle.std.specs.Prelude.{option_map}
-use Rattle.std.specs.List.{cons_option, filter_map, flat_map}
+use Rattle.std.specs.List.{cons_option, filter_map}
 use Rattle.std.proofs.lemmas.List.{map-append, take_more}
 use Rattle.std.proofs.lemmas.List.Elements.{filter_map-append}
 use Rattle.std.proofs.lemmas.Option.{slice_get-get_or, slice_get-map}
-use Rattle.al_base.proofs.Sets.{taken_more}
 use Rattle.al_base.specs.declared.codes.CallCode.TheVariants as code
 use Rattle.al_base.specs.declared.faults.Fault.{Fault}
 use Rattle.al_session_folder.specs.declared.lint.Target.{Target}
@@ -22,11 +21,6 @@ module _ {A X : Type 0} (v : A → X) (xs : List A) (i : ℕ) (x : A) (room : i 
       new ≡ filter_map f (map v (take (i + 1) xs))
   kept_more f old new o n =
       n ∙ ap (λ l. l ++ cons_option (f (v x)) []) o ∙ sym (ap (filter_map f) taken ∙ filter_map-append f (map v (take i xs)) (v x ∷ []))
-
-  pub all_more : {Y : Type 0} (g : X → List Y) (before old new : List Y) → old ≡ before ++ flat_map g (map v (take i xs)) → new ≡ old ++ g (v x) →
-      new ≡ before ++ flat_map g (map v (take (i + 1) xs))
-  all_more g before old new o n =
-      n ∙ ap (λ l. l ++ g (v x)) o ∙ append_assoc before (flat_map g (map v (take i xs))) (g (v x)) ∙ ap (λ l. before ++ l) (sym (taken_more g v xs i x room is))
 
 pub at_number : {A X : Type 0} (v : A → X) (xs : List A) (i : ℕ) (x : A) → i < length xs → x ≡ get_or xs i x → slice_get (map v xs) i ≡ Some (v x)
 at_number v xs i x room is = slice_get-map v xs i ∙ ap (option_map v) (slice_get-get_or xs i x room ∙ ap Some (sym is))

@@ -1,7 +1,8 @@
 -- Interfaces that compare equal are the same.
-use Rattle.std.specs.Prelude.{◌≡◌, ℕ, List, [], ◌∷◌, Bool, true, false, ◌&&◌, Option, Some, None, bytes_eq}
+use Rattle.std.specs.Prelude.{◌≡◌, ℕ, List, [], ◌∷◌, Bool, true, ◌&&◌, Option, Some, None, bytes_eq}
 use Rattle.std.proofs.Common.{refl, ap}
 use mathlib.Core.Bool.{beq}
+use Rattle.std.specs.Cmp.{booleans_Decides}
 use Rattle.std.specs.Cmp.Lexicographic.{pointwise}
 use Rattle.std.specs.Option.{option_eq}
 use Rattle.std.proofs.lemmas.Bool.{and_parts}
@@ -20,20 +21,17 @@ use Rattle.al_check_interfaces.specs.contracts.interfaces.ParameterPartialEq.The
 use Rattle.al_check_interfaces.specs.contracts.interfaces.SignaturePartialEq.TheImpl as shown
 use Rattle.al_check_interfaces.specs.contracts.interfaces.InterfacePartialEq.TheImpl as iface
 
+both : {a b : Bool} {P Q : Type 0} → (a ≡ true → P) → (b ≡ true → Q) → (a && b) ≡ true → P × Q
+both {a} {b} f g h = let parts = and_parts a b h in (f parts.0, g parts.1)
+
 lists_exact : {A : Type 0} (eq : A → A → Bool) → ((x y : A) → eq x y ≡ true → x ≡ y) → (xs ys : List A) → pointwise eq xs ys ≡ true → xs ≡ ys
 lists_exact eq same [] [] h = refl
 lists_exact eq same [] (y ∷ ys) h = absurd cc
 lists_exact eq same (x ∷ xs) [] h = absurd cc
-lists_exact eq same (x ∷ xs) (y ∷ ys) h =
-    let p = and_parts (eq x y) (pointwise eq xs ys) h in
-    let e = same x y p.0 in
-    let es = lists_exact eq same xs ys p.1 in cc
+lists_exact eq same (x ∷ xs) (y ∷ ys) h = let e = both (same x y) (lists_exact eq same xs ys) h in λ i. e.0 i ∷ e.1 i
 
 bool_exact : (a b : Bool) → beq a b ≡ true → a ≡ b
-bool_exact true true h = refl
-bool_exact false false h = refl
-bool_exact true false h = absurd cc
-bool_exact false true h = absurd cc
+bool_exact a b = (booleans_Decides a b).0
 
 type_exact : (a b : InputType) → takes.ghosts.eq a b ≡ true → a ≡ b
 type_exact T.Boolean T.Boolean h = refl
@@ -49,7 +47,7 @@ role_exact R.Action R.Action h = refl
 role_exact _ _ h = absurd cc
 
 name_exact : (a b : List ℕ) → bytes_eq a b ≡ true → a ≡ b
-name_exact a b h = (bytes_eq-Decides a b).0 h
+name_exact a b = (bytes_eq-Decides a b).0
 
 option_exact : (a b : Option (List ℕ)) → option_eq bytes_eq a b ≡ true → a ≡ b
 option_exact None None h = refl
@@ -59,29 +57,15 @@ option_exact (Some a) (Some b) h = ap Some (name_exact a b h)
 
 one_exact : (a b : Parameter) → one.ghosts.eq a b ≡ true → a ≡ b
 one_exact a b h =
-    let p = and_parts (bytes_eq a.name b.name) (beq a.required b.required && (beq a.has_default b.has_default && takes.ghosts.eq a.takes b.takes)) h in
-    let q = and_parts (beq a.required b.required) (beq a.has_default b.has_default && takes.ghosts.eq a.takes b.takes) p.1 in
-    let r = and_parts (beq a.has_default b.has_default) (takes.ghosts.eq a.takes b.takes) q.1 in
-    let e0 = name_exact a.name b.name p.0 in
-    let e1 = bool_exact a.required b.required q.0 in
-    let e2 = bool_exact a.has_default b.has_default r.0 in
-    let e3 = type_exact a.takes b.takes r.1 in
-    λ i. record { name = e0 i; required = e1 i; has_default = e2 i; takes = e3 i }
+    let e = both (name_exact a.name b.name) (both (bool_exact a.required b.required) (both (bool_exact a.has_default b.has_default) (type_exact a.takes b.takes))) h in
+    λ i. record { name = e.0 i; required = e.1.0 i; has_default = e.1.1.0 i; takes = e.1.1.1 i }
 
 shown_exact : (a b : Signature) → shown.ghosts.eq a b ≡ true → a ≡ b
 shown_exact a b h =
-    let p = and_parts (option_eq bytes_eq a.name b.name)
-    (role.ghosts.eq a.role b.role && (pointwise one.ghosts.eq a.inputs b.inputs
-    && (pointwise one.ghosts.eq a.secrets b.secrets && pointwise bytes_eq a.outputs b.outputs))) h in
-    let q = and_parts (role.ghosts.eq a.role b.role) (pointwise one.ghosts.eq a.inputs b.inputs && (pointwise one.ghosts.eq a.secrets b.secrets && pointwise bytes_eq a.outputs b.outputs)) p.1 in
-    let r = and_parts (pointwise one.ghosts.eq a.inputs b.inputs) (pointwise one.ghosts.eq a.secrets b.secrets && pointwise bytes_eq a.outputs b.outputs) q.1 in
-    let t = and_parts (pointwise one.ghosts.eq a.secrets b.secrets) (pointwise bytes_eq a.outputs b.outputs) r.1 in
-    let e0 = option_exact a.name b.name p.0 in
-    let e1 = role_exact a.role b.role q.0 in
-    let e2 = lists_exact one.ghosts.eq one_exact a.inputs b.inputs r.0 in
-    let e3 = lists_exact one.ghosts.eq one_exact a.secrets b.secrets t.0 in
-    let e4 = lists_exact bytes_eq name_exact a.outputs b.outputs t.1 in
-    λ i. record { name = e0 i; role = e1 i; inputs = e2 i; secrets = e3 i; outputs = e4 i }
+    let parameters = lists_exact one.ghosts.eq one_exact in
+    let e = both (option_exact a.name b.name) (both (role_exact a.role b.role) (both (parameters a.inputs b.inputs)
+    (both (parameters a.secrets b.secrets) (lists_exact bytes_eq name_exact a.outputs b.outputs)))) h in
+    λ i. record { name = e.0 i; role = e.1.0 i; inputs = e.1.1.0 i; secrets = e.1.1.1.0 i; outputs = e.1.1.1.1 i }
 
 pub exact : (a b : Interface) → iface.ghosts.eq a b ≡ true → a ≡ b
 exact Unreadable Unreadable h = refl

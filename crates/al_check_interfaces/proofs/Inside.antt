@@ -14,7 +14,7 @@ use Rattle.al_check_interfaces.specs.Uses.{Call, wrong_uses}
 use Rattle.al_check_interfaces.specs.declared.forms.Form.{Form}
 use Rattle.al_check_interfaces.specs.declared.forms.Form.TheVariants.{Local, Other, Wrong}
 use Rattle.al_check_interfaces.proofs.Parts.{IsKept, calls_kept}
-use Rattle.al_check_interfaces.specs.Private.Texts.{wrong_by}
+use Rattle.al_check_interfaces.specs.Uses.{wrong_by}
 
 items_inside : (size : ℕ) (ns : Nodes) → AreInside size ns → AllByRecursion (IsInside size) (nodes ns)
 items_inside size no_nodes i = tt

@@ -4,6 +4,5 @@ pub mod Cuts
 pub mod Paths
 pub mod CallLists
 pub mod Exact
-pub mod Places
 pub mod Positions
 pub mod Placeless

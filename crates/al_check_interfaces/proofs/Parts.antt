@@ -16,8 +16,7 @@ use Rattle.al_tree.specs.Files.{jobs_of}
 use Rattle.al_tree.specs.declared.files.FileKind.{FileKind}
 use Rattle.al_tree.specs.declared.files.FileKind.TheVariants as kind
 use Rattle.al_tree.specs.Declarations.{action_steps, is_composite}
-use Rattle.al_check_interfaces.specs.Uses.{Call, Site, call_at, calls_in, job_sites, sites_in, step_sites}
-use Rattle.al_check_interfaces.specs.CallViews.{call_by}
+use Rattle.al_check_interfaces.specs.Uses.{Call, Site, call_at, call_by, calls_in, job_sites, sites_in, step_sites}
 
 numbered : {X : Type 0} (P : X → Type 0) (i : ℕ) (xs : List X) → AllByRecursion P xs → AllByRecursion (λ s. P s.1) (enumerate_from i xs)
 numbered P i [] p = tt

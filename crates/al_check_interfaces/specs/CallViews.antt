@@ -1,12 +1,9 @@
 -- What the program's sites and calls stand for.
 use Rattle.std.specs.Prelude.{ℕ, List, Option, option_map}
 use Rattle.std.specs.Borrow.{Bor}
-use Rattle.al_base.specs.declared.faults.Span.{Span}
-use Rattle.al_scalar.specs.Scalar.{Scalar, text_of}
 use Rattle.al_tree.specs.Values.{scalar_node_of}
 use Rattle.al_yaml_tree.specs.View.{view}
-use Rattle.al_check_interfaces.specs.Forms.{form_by}
-use Rattle.al_check_interfaces.specs.Uses.{Call, Site, site_caller}
+use Rattle.al_check_interfaces.specs.Uses.{Call, Site, call_by}
 use Rattle.al_check_interfaces.specs.declared.sites.Site as code_sites
 use Rattle.al_check_interfaces.specs.declared.sites.Call as code_calls
 
@@ -15,9 +12,6 @@ bytes_of o = option_map (λ b. b.now) o
 
 abbrev pub site_of : code_sites.Site → Site
 site_of s = record { job = bytes_of s.job; step = s.step; node = view s.node.now }
-
-abbrev pub call_by : Site → Scalar × Span → Call
-call_by s t = record { site = s; at = t.1; text = text_of t.0; form = form_by (site_caller s) (text_of t.0) }
 
 abbrev pub call_of : code_calls.Call → Call
 call_of c = call_by (site_of c.site) (scalar_node_of c.uses)

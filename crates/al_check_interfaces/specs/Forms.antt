@@ -1,7 +1,7 @@
 -- What the text of a `uses` names (GitHub, "Workflow syntax", `jobs.<job_id>.steps[*].uses` and `jobs.<job_id>.uses`).
 use Rattle.std.specs.Prelude.{ℕ, List, [], ◌∷◌, ◌++◌, ◌+◌, ◌-◌, ◌==◌, nat_lt, nat_eq, Bool, false, ◌&&◌, codes, drop, take, length}
-use Rattle.std.specs.Prelude.{slice_index, Option, Some, None, is_none, if◌then◌else◌}
-use Rattle.std.specs.List.{list_all, list_any, range_with_len, starts_with, ends_with}
+use Rattle.std.specs.Prelude.{Option, Some, None, is_none, if◌then◌else◌}
+use Rattle.std.specs.List.{enumerate_from, list_all, list_any, starts_with, ends_with}
 use Rattle.std.specs.Option.{option_map_or}
 use Rattle.std.specs.Str.{bytes_eq, is_utf8}
 use Rattle.al_base.specs.Ascii.{ascii}
@@ -17,13 +17,16 @@ use Rattle.al_check_interfaces.specs.declared.forms.Form.TheVariants.{Local, Oth
 abbrev pub is_some_text : List ℕ → Bool
 is_some_text bs = nat_lt 0 (length bs)
 
--- Whether the byte at this place cuts a REF off from the parts before it, which have to pass a test: an `@` with something behind it.
-abbrev pub is_cut_at : (List (List ℕ) → Bool) → List ℕ → ℕ → Bool
-is_cut_at test bs place = slice_index bs place == ascii "@" && is_some_text (drop (place + 1) bs) && test (parts (take place bs))
+-- a byte that cuts a REF off from the parts before it, which have to pass a test: an `@` with something behind it
+abbrev pub is_cut : (List (List ℕ) → Bool) → List (List ℕ) → ℕ → List ℕ → Bool
+is_cut test before b ref = b == ascii "@" && is_some_text ref && test before
 
--- some byte does
+-- some byte of a text does
+abbrev pub is_cut_at : (List (List ℕ) → Bool) → List ℕ → ℕ × ℕ → Bool
+is_cut_at test bs at = is_cut test (parts (take at.0 bs)) at.1 (drop (at.0 + 1) bs)
+
 abbrev pub is_some_cut : (List (List ℕ) → Bool) → List ℕ → Bool
-is_some_cut test bs = list_any (is_cut_at test bs) (range_with_len 0 (length bs))
+is_some_cut test bs = list_any (is_cut_at test bs) (enumerate_from 0 bs)
 
 abbrev pub is_workflow_parts : List (List ℕ) → Bool
 is_workflow_parts (a ∷ b ∷ f ∷ []) =
@@ -48,8 +51,11 @@ abbrev pub local_form : Option (List ℕ) → Option (List ℕ) → Form
 local_form (Some a) (Some b) = Local (FirstOf a b)
 local_form _ _ = Other
 
+abbrev pub in_folder : List ℕ → List ℕ → List ℕ
+in_folder dir file = if is_some_text dir then dir ++ codes "/" ++ file else file
+
 abbrev pub file_in : List ℕ → List ℕ → Option (List ℕ)
-file_in dir file = path_in (if is_some_text dir then dir ++ codes "/" ++ file else file)
+file_in dir file = path_in (in_folder dir file)
 
 abbrev pub local_step : List ℕ → Form
 local_step dir = local_form (file_in dir (codes "action.yml")) (file_in dir (codes "action.yaml"))
@@ -61,11 +67,14 @@ local_job rest =
 abbrev pub remote : Caller → List ℕ → Form
 remote c bs = if is_some_cut (is_remote c) bs then Other else Wrong
 
+abbrev pub is_image : List ℕ → Bool
+is_image bs = starts_with nat_eq bs (codes "docker://") && nat_lt 9 (length bs)
+
 abbrev pub form_by : Caller → List ℕ → Form
 form_by caller.Step bs =
     if has_chunk bs then Wrong
     else if starts_with nat_eq bs (codes "./") then local_step (without_slash (drop 2 bs))
-    else if starts_with nat_eq bs (codes "docker://") && nat_lt 9 (length bs) then Other
+    else if is_image bs then Other
     else remote caller.Step bs
 form_by caller.Job bs =
     if has_chunk bs then Wrong

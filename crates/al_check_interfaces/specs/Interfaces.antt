@@ -4,8 +4,9 @@ use Rattle.std.specs.Prelude.{ℕ, List, [], ◌∷◌, Bool, false, ◌||◌, c
 use Rattle.std.specs.List.{list_any}
 use Rattle.std.specs.Option.{option_map_or}
 use Rattle.std.specs.Str.{bytes_eq}
-use Rattle.al_scalar.specs.Scalar.{text_of}
+use Rattle.al_scalar.specs.Scalar.{Scalar, text_of}
 use Rattle.al_base.specs.Names.{same_name}
+use Rattle.al_base.specs.declared.faults.Span.{Span}
 use Rattle.al_yaml_tree.specs.Access.{scalar_in}
 use Rattle.al_yaml_tree.specs.Node.{Node, mapping}
 use Rattle.al_tree.specs.Keys.{key_of, keys_in}
@@ -50,9 +51,12 @@ parameters by ks n = map (parameter by) (declared_below ks n)
 abbrev pub name_of : Node → Option (List ℕ)
 name_of n = option_map (λ t. text_of t.0) (text_at_key (codes "name") n)
 
+abbrev pub says_call : Scalar × Span → Bool
+says_call t = bytes_eq (text_of t.0) (codes "workflow_call")
+
 -- `on` names `workflow_call` in any form
 abbrev pub names_call : Node → Bool
-names_call on = list_any (λ t. bytes_eq (text_of t.0) (codes "workflow_call")) (texts_in on) || has_value (codes "workflow_call") on
+names_call on = list_any says_call (texts_in on) || has_value (codes "workflow_call") on
 
 abbrev pub of_call : List ℕ → List (List ℕ)
 of_call k = codes "on" ∷ codes "workflow_call" ∷ k ∷ []

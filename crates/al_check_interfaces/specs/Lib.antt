@@ -4,7 +4,6 @@ pub mod FolderCalls
 pub mod Laws
 pub mod Placeless
 pub mod CallViews
-pub mod Private
 pub mod Interfaces
 pub mod Parameters
 pub mod Kinds

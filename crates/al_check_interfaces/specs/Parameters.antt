@@ -12,5 +12,9 @@ is_parameter name p = same_name p.name name
 abbrev pub has_parameter : List Parameter → List ℕ → Bool
 has_parameter ps = named_among (map (λ p. p.name) ps)
 
+-- each call has to give it
+abbrev pub is_mandatory : Parameter → Bool
+is_mandatory p = p.required && not p.has_default
+
 abbrev pub mandatory_of : List Parameter → List Parameter
-mandatory_of = filter (λ p. p.required && not p.has_default)
+mandatory_of = filter is_mandatory

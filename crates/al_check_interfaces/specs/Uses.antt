@@ -9,7 +9,7 @@ use Rattle.al_base.specs.declared.codes.Caller.TheVariants as caller
 use Rattle.al_base.specs.declared.codes.Code.TheVariants as kind_of_code
 use Rattle.al_base.specs.declared.faults.Fault.{Fault}
 use Rattle.al_base.specs.declared.faults.Span.{Span}
-use Rattle.al_scalar.specs.Scalar.{text_of}
+use Rattle.al_scalar.specs.Scalar.{Scalar, text_of}
 use Rattle.al_yaml_tree.specs.Node.{Node}
 use Rattle.al_session_folder.specs.declared.lint.Target.{Target}
 use Rattle.al_tree.specs.Keys.{key_of}
@@ -52,9 +52,11 @@ pub record Call : Type 0 where
   pub text : List ℕ
   pub form : Form
 
+abbrev pub call_by : Site → Scalar × Span → Call
+call_by s t = record { site = s; at = t.1; text = text_of t.0; form = form_by (site_caller s) (text_of t.0) }
+
 abbrev pub call_at : Site → Option Call
-call_at s = option_map (λ t. record { site = s; at = t.1; text = text_of t.0; form = form_by (site_caller s) (text_of t.0) })
-    (text_at_key (codes "uses") s.node)
+call_at s = option_map (call_by s) (text_at_key (codes "uses") s.node)
 
 abbrev pub calls_in : FileKind → Node → List Call
 calls_in kind root = filter_map call_at (sites_in kind root)
@@ -64,8 +66,12 @@ abbrev pub that_uses : CallCode → Call → Fault
 that_uses f c = record { span = c.at; code = kind_of_code.Call f (site_caller c.site); args = utf8_lossy c.text ∷ [] }
 
 -- C7
+abbrev pub wrong_by : Form → Call → List Fault
+wrong_by Wrong c = that_uses code.WrongUses c ∷ []
+wrong_by form c = []
+
 abbrev pub wrong_uses : Call → List Fault
-wrong_uses c = elim c.form [ Wrong ↦ that_uses code.WrongUses c ∷ [] | _ ↦ [] ]
+wrong_uses c = wrong_by c.form c
 
 abbrev pub target_in : Form → Option Target
 target_in (Local t) = Some t

@@ -16,7 +16,10 @@ fn copy_of_title(alloc: Global, name: &Option<Name>) -> Result<Option<Name>, All
     }
 }
 
-fn copy_of_parameter(alloc: Global, parameter: &Parameter) -> Result<Parameter, AllocError>
+pub(crate) fn copy_of_parameter(
+    alloc: Global,
+    parameter: &Parameter,
+) -> Result<Parameter, AllocError>
     ensures { IfOk result (λ copy. copy ≡ parameter.now) }
 {
     Ok(Parameter {

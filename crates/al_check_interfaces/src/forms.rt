@@ -4,7 +4,6 @@ ghost use Rattle.std.specs.List.{list_all};
 ghost use Rattle.al_base.specs.Paths.{parts};
 ghost use Rattle.al_base.specs.declared.codes.Caller.TheVariants as by;
 ghost use Rattle.al_check_interfaces.specs.Forms as forms;
-ghost use Rattle.al_check_interfaces.specs.Private.Texts.{in_folder, is_cut, is_image};
 
 use al_base::{Caller, Path, PathFault};
 use al_session_folder::Target;
@@ -97,7 +96,7 @@ fn is_remote(caller: Caller, before: Before<'_, '_>) -> bool
 /// Whether this byte cuts a REF off, and what stands before it may be named.
 fn is_cut(caller: Caller, before: Before<'_, '_>, byte: u8, rest: &[u8]) -> bool
     ensures { result
-        ≡ is_cut (forms.is_remote caller) (map (λ p. p.now) (before.entry).done.now
+        ≡ forms.is_cut (forms.is_remote caller) (map (λ p. p.now) (before.entry).done.now
         ++ (before.entry).last.now ∷ []) byte rest.now }
 {
     if byte != b'@' {
@@ -125,20 +124,18 @@ fn is_some_cut(alloc: Global, caller: Caller, text: &[u8]) -> Result<bool, Alloc
     let mut start = 0;
     for (i, byte) in text.iter().enumerate() {
         let last = &text[start..i];
+        let before = Before {
+            done: done.as_slice(),
+            whole,
+            last,
+        };
+        if is_cut(caller, before, *byte, &text[i + 1..]) {
+            return Ok(true);
+        }
         if *byte == b'/' {
             whole = are_texts(whole, last);
             done.push(last)?;
             start = i + 1;
-        } else {
-            let parts = done.as_slice();
-            let before = Before {
-                done: parts,
-                whole,
-                last,
-            };
-            if is_cut(caller, before, *byte, &text[i + 1..]) {
-                return Ok(true);
-            }
         }
     }
     Ok(false)
@@ -183,7 +180,7 @@ fn folder_of(rest: &[u8]) -> &[u8]
 
 /// The text of a file's path: below a folder, or in the root.
 fn in_folder(alloc: Global, folder: &[u8], file: &[u8]) -> Result<Vec<u8>, AllocError>
-    ensures { IfOk result (λ v. v.items ≡ in_folder folder.now file.now) }
+    ensures { IfOk result (λ v. v.items ≡ forms.in_folder folder.now file.now) }
 {
     let mut path = Vec::from_slice(alloc, folder)?;
     if !folder.is_empty() {
@@ -223,7 +220,7 @@ fn local_step(alloc: Global, folder: &[u8]) -> Result<Form, AllocError>
 }
 
 fn is_image(text: &[u8]) -> bool
-    ensures { result ≡ is_image text.now }
+    ensures { result ≡ forms.is_image text.now }
 {
     text.starts_with(b"docker://") && text.len() > 9
 }

@@ -1,22 +1,22 @@
-//! The parameters of an interface. Where their names stand, and which of them each call has to give, is made ready once for all calls.
-ghost use Rattle.std.specs.Prelude.{◌≡◌, ◌<◌, find, length, map, slice_index_or, IfOk};
+//! The parameters of an interface. Where their names stand, and which of them each call has to give, is found once for all calls.
+ghost use Rattle.std.specs.Prelude.{◌≡◌, find, map, IfOk};
 ghost use Rattle.std.specs.Option.{option_copied};
 ghost use Rattle.al_base.specs.NamePlaces.{name_place, name_position};
-ghost use Rattle.al_check_interfaces.specs.Parameters.{has_parameter, is_parameter, mandatory_of};
-ghost use Rattle.al_check_interfaces.specs.Private.Places.{StandAt, is_mandatory};
+ghost use Rattle.al_check_interfaces.specs.Parameters.{has_parameter, is_mandatory, is_parameter, mandatory_of};
 
+use crate::copies::copy_of_parameter;
 use crate::interfaces::Parameter;
 use al_base::NamePositions;
 use std::alloc::{AllocError, Global};
 use std::marker::Model;
 
-/// Parameters in order whose names differ, where each name stands among them, and where those stand that each call has to give. Contracts
-/// see their list. Finding one by its name takes time that grows with the logarithm of their number, and with the name's length.
+/// Parameters in order whose names differ, where each name stands among them, and those that each call has to give. Contracts see their
+/// list. Finding one by its name takes time that grows with the logarithm of their number, and with the name's length.
 #[derive(Drop)]
 pub struct Parameters {
     parameters: Vec<Parameter>,
     positions: NamePositions,
-    mandatory: Vec<usize>,
+    mandatory: Vec<Parameter>,
 }
 
 impl Model for Parameters {
@@ -24,14 +24,13 @@ impl Model for Parameters {
     ghost use Rattle.al_base.specs.NamePlaces.{name_place, name_position};
     ghost use Rattle.al_check_interfaces.specs.declared.interfaces.Parameter.{Parameter};
     ghost use Rattle.al_check_interfaces.specs.Parameters.{mandatory_of};
-    ghost use Rattle.al_check_interfaces.specs.Private.Places.{StandAt, is_mandatory};
 
     ghost Value = { List Parameter };
 
     ghost view = { λ a. a.parameters.items };
 
     ghost invariant = { λ a. (name_position a.positions ≡ name_place (map (λ p. p.name) a.parameters.items))
-        × StandAt a.mandatory.items (mandatory_of a.parameters.items) a.parameters.items };
+        × (a.mandatory.items ≡ mandatory_of a.parameters.items) };
 }
 
 fn names_of(alloc: Global, parameters: &[Parameter]) -> Result<Vec<&[u8]>, AllocError>
@@ -61,39 +60,15 @@ fn is_mandatory(parameter: &Parameter) -> bool
     parameter.required && !parameter.has_default
 }
 
-/// Where the parameters stand that each call has to give.
-fn mandatory_places(alloc: Global, parameters: &[Parameter]) -> Result<Vec<usize>, AllocError>
-    ensures { IfOk result
-        (λ places. StandAt places.items (mandatory_of parameters.now) parameters.now) }
-{
-    let mut places = Vec::new(alloc);
-    for (i, parameter) in parameters.iter().enumerate() {
-        if is_mandatory(parameter) {
-            places.push(i)?;
-        }
-    }
-    Ok(places)
-}
-
-fn parameter_at(parameters: &[Parameter], place: usize) -> &Parameter
-    requires { place < length parameters.now }
-    ensures { result.now ≡ slice_index_or parameters.now place result.now }
-{
-    &parameters[place]
-}
-
-/// The parameters that each call has to give, which stand at these places.
-fn all_at<'a>(
-    alloc: Global,
-    parameters: &'a [Parameter],
-    places: &[usize],
-) -> Result<Vec<&'a Parameter>, AllocError>
-    requires { StandAt places.now (mandatory_of parameters.now) parameters.now }
-    ensures { IfOk result (λ v. map (λ p. p.now) v.items ≡ mandatory_of parameters.now) }
+/// Copies of the parameters that each call has to give.
+fn mandatory_in(alloc: Global, parameters: &[Parameter]) -> Result<Vec<Parameter>, AllocError>
+    ensures { IfOk result (λ found. found.items ≡ mandatory_of parameters.now) }
 {
     let mut found = Vec::new(alloc);
-    for i in 0..places.len() {
-        found.push(parameter_at(parameters, places[i]))?;
+    for parameter in parameters {
+        if is_mandatory(parameter) {
+            found.push(copy_of_parameter(alloc, parameter)?)?;
+        }
     }
     Ok(found)
 }
@@ -104,7 +79,7 @@ impl Parameters {
         ensures { IfOk result (λ l. l ≡ parameters.items) }
     {
         let positions = positions_of(alloc, parameters.as_slice())?;
-        let mandatory = mandatory_places(alloc, parameters.as_slice())?;
+        let mandatory = mandatory_in(alloc, parameters.as_slice())?;
         Ok(Parameters {
             parameters,
             positions,
@@ -123,7 +98,11 @@ impl Parameters {
     pub fn mandatory(&self, alloc: Global) -> Result<Vec<&Parameter>, AllocError>
         ensures { IfOk result (λ v. map (λ p. p.now) v.items ≡ mandatory_of self.now) }
     {
-        all_at(alloc, self.parameters.as_slice(), self.mandatory.as_slice())
+        let mut found = Vec::with_capacity(alloc, self.mandatory.len())?;
+        for parameter in &self.mandatory {
+            found.push(parameter)?;
+        }
+        Ok(found)
     }
 
     /// The first parameter with a name, in any ASCII case. Fails with `AllocError` when out of memory.

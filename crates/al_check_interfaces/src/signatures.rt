@@ -9,7 +9,7 @@ ghost use Rattle.al_tree.specs.Values.{member_of, scalar_node_of};
 ghost use Rattle.al_tree.specs.declared.files.FileKind.TheVariants as kind;
 ghost use Rattle.al_yaml_tree.specs.View.{view};
 ghost use Rattle.al_check_interfaces.specs.Interfaces as interfaces;
-ghost use Rattle.al_check_interfaces.specs.Private.Texts.{says_call};
+ghost use Rattle.al_check_interfaces.specs.Interfaces.{says_call};
 
 use crate::interfaces::{Interface, Parameter, Role, Signature};
 use crate::lists::Parameters;

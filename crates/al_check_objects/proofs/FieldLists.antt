@@ -1,6 +1,6 @@
 -- Lists of fields, as more are put to them; and what all of them have in common.
 use Rattle.std.proofs.Common.{◌≡◌, ◌<◌, ◌+◌, ℕ, List, [], ◌∷◌, ◌++◌, length, map, take, get_or, refl, sym, ap, ◌∙◌, Bool, true, false, Option, Some, None}
-use Rattle.std.proofs.lemmas.List.{get_or_default, map-append, map_more}
+use Rattle.std.proofs.lemmas.List.{get_or_default, map-append}
 use Rattle.std.proofs.lemmas.List.Elements.{filter_map-append}
 use Rattle.std.specs.List.{cons_option, filter_map}
 use Rattle.std.specs.Option.{option_to_list}
@@ -11,7 +11,8 @@ use Rattle.al_types.specs.Puts.{TypedName, firsts, put_or_fuse, put_all, put_new
 use Rattle.al_types.specs.Strings.{named_strings, strings}
 use Rattle.al_types.specs.Types.{Absent, ObjectOf, Present, String, common_in, fuse_optional, fuse_type, optional}
 use Rattle.al_types.proofs.FuseLaws.{last_turned, nothing_last, optional_assoc}
-use Rattle.al_types.proofs.GatheredFields.{firsts_found, found_in_both}
+use Rattle.al_types.proofs.GatheredFields.{common_put, firsts_found, found_in_both}
+use Rattle.al_expr_types.proofs.Scans.{mapped_more}
 use Rattle.al_check_objects.specs.Objects.{strictly}
 
 -- ---- several that are put
@@ -21,14 +22,11 @@ put_all_more put_or_fuse ts [] qs = refl
 put_all_more put_or_fuse ts (p ∷ ps) qs = put_all_more put_or_fuse (put_or_fuse ts p) ps qs
 
 module _ {X Y : Type 0} (g : X → Y) where
-  pub mapped_more : (xs : List X) (i : ℕ) (x : X) → i < length xs → x ≡ get_or xs i x → map g (take (i + 1) xs) ≡ map g (take i xs) ++ g x ∷ []
-  mapped_more xs i x lt e = map_more g xs i x lt ∙ ap (λ y. map g (take i xs) ++ g y ∷ []) (sym e)
-
   -- one more of those that are put
   pub put_next : (f : Y → TypedName) (ts : List TypedName) (xs : List X) (i : ℕ) (x : X) → i < length xs → x ≡ get_or xs i x →
       put_all put_new ts (map f (map g (take (i + 1) xs))) ≡ put_new (put_all put_new ts (map f (map g (take i xs)))) (f (g x))
   put_next f ts xs i x lt e =
-      ap (λ ys. put_all put_new ts (map f ys)) (mapped_more xs i x lt e)
+      ap (λ ys. put_all put_new ts (map f ys)) (mapped_more g xs i x lt e)
       ∙ ap (put_all put_new ts) (map-append f (map g (take i xs)) (g x ∷ []))
       ∙ put_all_more put_new ts (map f (map g (take i xs))) (f (g x) ∷ [])
 
@@ -42,7 +40,7 @@ module _ {X Y : Type 0} (g : X → Y) where
       put_all put_new ts (filter_map f (map g (take (i + 1) xs)))
       ≡ put_all put_new (put_all put_new ts (filter_map f (map g (take i xs)))) (option_to_list (f (g x)))
   put_if_next f ts xs i x lt e =
-      ap (λ ys. put_all put_new ts (filter_map f ys)) (mapped_more xs i x lt e)
+      ap (λ ys. put_all put_new ts (filter_map f ys)) (mapped_more g xs i x lt e)
       ∙ ap (put_all put_new ts) (filter_map-append f (map g (take i xs)) (g x ∷ []))
       ∙ put_all_more put_new ts (filter_map f (map g (take i xs))) (filter_map f (g x ∷ []))
       ∙ ap (put_all put_new (put_all put_new ts (filter_map f (map g (take i xs))))) (alone (f (g x)))
@@ -92,16 +90,6 @@ strings_once ns =
     λ d. ObjectOf (λ n. optional (firsts_found (strings ns) n d)) Absent (fuse_optional (common_strings [] ns d) Absent)
 
 -- ---- objects of which the fields are put together
-
-put_step : (b : Bool) (q p : TypedName) (qs more : List TypedName) → common_in more ≡ fuse_optional (common_in qs) (Present p.1) →
-    common_in (if b then (q.0, fuse_type q.1 p.1) ∷ qs else q ∷ more) ≡ fuse_optional (common_in (q ∷ qs)) (Present p.1)
-put_step true q p qs more e = last_turned (Present q.1) (Present p.1) (common_in qs)
-put_step false q p qs more e =
-    ap (fuse_optional (Present q.1)) e ∙ sym (optional_assoc (Present q.1) (common_in qs) (Present p.1))
-
-common_put : (ts : List TypedName) (p : TypedName) → common_in (put_or_fuse ts p) ≡ fuse_optional (common_in ts) (Present p.1)
-common_put [] p = refl
-common_put (q ∷ qs) p = put_step (same_name q.0 p.0) q p qs (put_or_fuse qs p) (common_put qs p)
 
 common_put_all : (ts us : List TypedName) → common_in (put_all put_or_fuse ts us) ≡ fuse_optional (common_in ts) (common_in us)
 common_put_all ts [] = sym (nothing_last (common_in ts))

@@ -16,7 +16,8 @@ use Rattle.al_yaml_tree.specs.declared.node.Entry as code_entry
 use Rattle.al_yaml_tree.proofs.ViewLemmas.{entry_parts}
 use Rattle.al_check_objects.specs.Matrix.{combination, fields_of, include_all, items_type, node_type, row_field, row_type}
 use Rattle.al_check_objects.specs.Objects.{strictly}
-use Rattle.al_check_objects.proofs.FieldLists.{mapped_more, put_together}
+use Rattle.al_check_objects.proofs.FieldLists.{put_together}
+use Rattle.al_expr_types.proofs.Scans.{mapped_more}
 
 -- ---- combinations
 

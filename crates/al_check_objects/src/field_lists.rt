@@ -1,8 +1,7 @@
 //! Lists of fields, of which objects are made.
 
-use al_expr_types::{FieldMap, Fields, Ty, Types};
+use al_expr_types::{FieldMap, Ty, Types};
 use std::alloc::{AllocError, Global};
-use std::rc::Rc;
 
 /// Fields in order, of equal names the first.
 #[derive(Drop)]
@@ -16,7 +15,8 @@ impl<'a> FieldList<'a> {
     ghost use Rattle.al_types.specs.Puts.{TypedName, put_all, put_new};
     ghost use Rattle.al_types.specs.Strings.{strings};
     ghost use Rattle.al_types.specs.Types.{Type', object_with};
-    ghost use Rattle.al_check_objects.specs.Numbers.{Lists, Means, is_map_below};
+    ghost use Rattle.al_check_objects.specs.Numbers.{Lists, Means};
+    ghost use Rattle.al_expr_types.specs.FieldMaps.{is_map_below};
     ghost use Rattle.al_expr_types.specs.Tables.{objects_of};
     ghost use Rattle.al_expr_types.specs.Types.{is_rest_below, rest_in};
     ghost use Rattle.al_expr_types.specs.declared.types.Types as declared;
@@ -74,12 +74,7 @@ impl<'a> FieldList<'a> {
     }
 
     /// The type of an object of these fields, and of others of a type where there may be others.
-    pub fn into_type(
-        self,
-        alloc: Global,
-        types: &mut Types<'a>,
-        rest: Option<Ty>,
-    ) -> Result<Ty, AllocError>
+    pub fn into_type(self, types: &mut Types<'a>, rest: Option<Ty>) -> Result<Ty, AllocError>
         requires fields { is_map_below (length types.old.objects.items) self.map ≡ true }
         requires rest { is_rest_below (length types.old.objects.items) rest ≡ true }
         ensures ty { IfOk result (λ t. (ts : List TypedName) → Lists types.old self.entry ts
@@ -87,9 +82,7 @@ impl<'a> FieldList<'a> {
             (rest_in (objects_of types.old) rest))) }
         ensures kept { OnOk result (BeginsWith (objects_of types.new) (objects_of types.old)) }
     {
-        let count = self.map.len();
-        let map = Rc::new(alloc, self.map)?;
-        let ty = types.fields(Fields { map, count, rest })?;
+        let ty = types.fields(self.map, rest)?;
         Ok(ty)
     }
 }

@@ -13,7 +13,7 @@ ghost use Rattle.al_yaml_tree.specs.View.{view};
 
 use crate::field_lists::FieldList;
 use crate::objects::declared_strings;
-use crate::scalars::{scalar, type_of_input};
+use crate::scalars::type_of_input;
 use al_expr_types::{Ty, Types};
 use al_tree::{FileKind, Member, declared_at, input_of, key_text, value, value_below_three};
 use al_yaml_tree::Node;
@@ -27,7 +27,7 @@ fn input_fields<'a>(alloc: Global, entries: &[Member<'a>]) -> Result<FieldList<'
 {
     let mut fields = FieldList::new(alloc);
     for input in entries {
-        let ty = scalar(type_of_input(input_of(input.value)));
+        let ty = Ty::scalar(type_of_input(input_of(input.value)));
         let more = fields.and(alloc, key_text(input.key), ty)?;
         fields = more;
     }
@@ -48,7 +48,7 @@ fn event_inputs<'a>(
 {
     let declared = declared_at(alloc, value_below_three(root, "on", event, "inputs"))?;
     let fields = input_fields(alloc, declared.as_slice())?;
-    let ty = fields.into_type(alloc, types, None)?;
+    let ty = fields.into_type(types, None)?;
     Ok(ty)
 }
 

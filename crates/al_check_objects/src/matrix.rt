@@ -11,13 +11,13 @@ ghost use Rattle.al_expr_types.specs.Tables.{is_known, objects_of};
 ghost use Rattle.al_expr_types.specs.declared.types.Types as declared;
 ghost use Rattle.al_tree.specs.Values.{member_of};
 ghost use Rattle.al_types.specs.Puts.{TypedName, firsts, put_all, put_new};
-ghost use Rattle.al_types.specs.Types.{Absent, ArrayOf, Type', option_of, or_any};
+ghost use Rattle.al_types.specs.Types.{Absent, option_of, or_any};
 ghost use Rattle.al_yaml_tree.specs.Access.{scalar_in};
 ghost use Rattle.al_yaml_tree.specs.View.{entries_of, entry_view, nodes_of, view};
 
 use crate::field_lists::FieldList;
 use crate::objects::object_of;
-use crate::scalars::{class_type_of, scalar as scalar_ty};
+use crate::scalars::class_type_of;
 use al_expr_types::{Join, Ty, Types};
 use al_rules_formats::{Around, is_lone_chunk};
 use al_scalar::Scalar;
@@ -34,24 +34,12 @@ fn scalar_type(alloc: Global, scalar: &Scalar) -> Result<Ty, AllocError>
         (λ t. (types : declared.Types) → Means types t (matrix.matrix_scalar_type scalar.now)) }
 {
     if !contains_chunk(scalar.text()) {
-        return Ok(scalar_ty(class_type_of(scalar.class())));
+        return Ok(Ty::scalar(class_type_of(scalar.class())));
     }
     if is_lone_chunk(alloc, Around::Nothing, scalar.text())? {
         Ok(Ty::ANY)
     } else {
         Ok(Ty::STRING)
-    }
-}
-
-/// An array of a type.
-fn array_of(ty: Ty) -> Result<Ty, AllocError>
-    ensures { IfOk result
-        (λ t. (types : declared.Types) (m : Type') → Means types ty m → Means types t (ArrayOf m)) }
-{
-    match ty.arrays.checked_add(1) {
-        Some(arrays) => Ok(Ty { arrays, of: ty.of }),
-        // No file has so many brackets.
-        None => Err(AllocError),
     }
 }
 
@@ -68,7 +56,7 @@ fn node_type<'a>(alloc: Global, types: &mut Types<'a>, node: &'a Node) -> Result
         }
         Kind::Sequence(nodes) => {
             let ty = items_type(alloc, types, nodes.as_slice())?;
-            let array = array_of(ty)?;
+            let array = ty.in_arrays(1)?;
             Ok(array)
         }
         Kind::Mapping(entries) => {
@@ -115,7 +103,7 @@ fn entries_type<'a>(
         let more = fields.and(alloc, key_of(entry), ty)?;
         fields = more;
     }
-    let ty = fields.into_type(alloc, types, None)?;
+    let ty = fields.into_type(types, None)?;
     Ok(ty)
 }
 
@@ -150,7 +138,7 @@ fn rows_type<'a>(alloc: Global, types: &mut Types<'a>, node: &'a Node) -> Result
         let more = and_row(alloc, types, *entry, rows)?;
         rows = more;
     }
-    let ty = rows.into_type(alloc, types, None)?;
+    let ty = rows.into_type(types, None)?;
     Ok(ty)
 }
 

@@ -34,7 +34,7 @@ pub fn object_of<'a>(
     ensures kept { OnOk result (BeginsWith (objects_of types.new) (objects_of types.old)) }
 {
     let map = FieldMap::of(alloc, fields)?;
-    let ty = FieldList { map }.into_type(alloc, types, rest)?;
+    let ty = FieldList { map }.into_type(types, rest)?;
     Ok(ty)
 }
 
@@ -50,6 +50,6 @@ pub fn declared_strings<'a>(
 {
     let keys = key_texts(alloc, entries)?;
     let fields = FieldList::new(alloc).and_strings(alloc, keys.as_slice())?;
-    let ty = fields.into_type(alloc, types, None)?;
+    let ty = fields.into_type(types, None)?;
     Ok(ty)
 }

@@ -1,12 +1,10 @@
 //! Types without parts.
 ghost use Rattle.std.specs.Prelude.{◌≡◌};
 ghost use Rattle.al_check_objects.specs.Matrix.{class_type};
-ghost use Rattle.al_check_objects.specs.Numbers.{Means};
 ghost use Rattle.al_expr_types.specs.Types.{scalar_type};
-ghost use Rattle.al_expr_types.specs.declared.types.Types as declared;
 ghost use Rattle.al_check_objects.specs.Inputs.{input_type};
 
-use al_expr_types::{Base, Scalar, Ty};
+use al_expr_types::Scalar;
 use al_scalar::Class;
 use al_tree::InputType;
 
@@ -30,15 +28,5 @@ pub fn type_of_input(input: InputType) -> Scalar
         InputType::Boolean => Scalar::Bool,
         InputType::Number => Scalar::Number,
         InputType::String => Scalar::String,
-    }
-}
-
-/// The type that a scalar is.
-pub(crate) fn scalar(of: Scalar) -> Ty
-    ensures { (types : declared.Types) → Means types result (scalar_type of) }
-{
-    Ty {
-        arrays: 0,
-        of: Base::Scalar(of),
     }
 }

@@ -1,3 +1,3 @@
 pub mod Nodes
 pub mod Scalars
-pub mod Endings
+pub mod Prefixes

@@ -61,7 +61,7 @@ module _ (P : Scalar → Span → Type 0) where
   mutual
     pub node_places : (n : Node) → Each n → (k : FileKind) (shape : Shape) (is_item : Bool) (way : List WayStep) → AllPlaces (places_of_node k shape is_item way n)
     node_places (scalar s at) h k shape is_item way =
-        one_place (fits (rule_or_any (rule shape)) s && is_checked k way && has_expression way s) (place_at k way (takes_scalars_only (rule_or_any (rule shape)) && not is_item) s at) h
+        one_place (has_expression way s && fits (rule_or_any (rule shape)) s && is_checked k way) (place_at k way (takes_scalars_only (rule_or_any (rule shape)) && not is_item) s at) h
     node_places (sequence ns at) h k shape is_item way =
         some_items (rule_or_any (rule shape)).items (λ s. places_of_items k s way 0 ns) (λ s. item_places ns h k s way 0)
     node_places (mapping es at) h k shape is_item way =

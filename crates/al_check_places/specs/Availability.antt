@@ -7,7 +7,8 @@ use Rattle.al_types.specs.declared.names.Context.{Context}
 use Rattle.al_types.specs.declared.names.Context.TheVariants.{Github, Needs, Vars, Inputs, Strategy, Matrix, Job}
 use Rattle.al_types.specs.declared.names.Context.TheVariants.{Runner, Env, Secrets, Steps, Jobs}
 use Rattle.al_types.specs.declared.names.Function.{Function}
-use Rattle.al_types.specs.declared.names.Function.TheVariants.{HashFiles, Success, Always, Cancelled, Failure}
+use Rattle.al_types.specs.declared.names.Function.TheVariants.{HashFiles}
+use Rattle.al_types.specs.Scopes.{status}
 use Rattle.al_check_places.specs.Paths.{Path, path, is_path_prefix, key_view}
 use Rattle.al_check_places.specs.declared.table.Row as rust
 
@@ -28,9 +29,6 @@ of_job = of_strategy ++ Job ∷ Runner ∷ Env ∷ []
 
 abbrev pub of_step : List Context
 of_step = of_job ++ Secrets ∷ Steps ∷ []
-
-abbrev pub status : List Function
-status = Always ∷ Cancelled ∷ Success ∷ Failure ∷ []
 
 -- the rows of paths that have the same contexts and special functions
 abbrev pub rows : List String → List Context → List Function → List Row

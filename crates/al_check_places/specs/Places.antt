@@ -67,7 +67,7 @@ has_expression way s = is_one conditions (keys_of way) || has_chunk (text_of s)
 -- one on a way that is checked
 abbrev pub scalar_places : FileKind → Rule → Bool → List WayStep → Scalar → Span → List Place
 scalar_places k r is_item way s at =
-    if fits r s && is_checked k way && has_expression way s then place_at k way (takes_scalars_only r && not is_item) s at ∷ [] else []
+    if has_expression way s && fits r s && is_checked k way then place_at k way (takes_scalars_only r && not is_item) s at ∷ [] else []
 
 -- of an entry, given the places of its value as a node of a shape
 abbrev pub entry_places : Standing → (Shape → List Place) → List Place

@@ -1,3 +1,2 @@
 -- Words that only contracts of private functions need: no definition of what the product means stands on them.
-pub mod Endings
 pub mod Walks

@@ -23,7 +23,7 @@ abbrev pub begins_one : List Path → List (List ℕ) → Bool
 begins_one paths ks = list_any (λ p. is_path_prefix p ks) paths
 
 abbrev pub is_one : List Path → List (List ℕ) → Bool
-is_one paths ks = list_any (λ p. is_path_prefix p ks && (length p == length ks)) paths
+is_one paths ks = list_any (λ p. (length p == length ks) && is_path_prefix p ks) paths
 
 -- Of a workflow: all but `needs`, `id` and `uses`, and of `on` the defaults and values of a call.
 abbrev pub is_checked_in_workflow : List (List ℕ) → Bool

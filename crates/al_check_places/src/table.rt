@@ -1,5 +1,5 @@
 //! Availability of contexts and special functions: the table, and its longest path.
-ghost use Rattle.std.specs.Prelude.{◌≡◌, IsTrue, map, option_map, true};
+ghost use Rattle.std.specs.Prelude.{◌≡◌, map, option_map, true};
 ghost use Rattle.al_check_places.specs.Availability.{availability, longer, row_view, table};
 ghost use Rattle.al_check_places.specs.Paths.{is_path_prefix, key_view};
 ghost use Rattle.std.specs.Option.{option_map_or};
@@ -264,46 +264,18 @@ fn key_fits(key: &Key, name: &[u8]) -> bool
 pub(crate) fn begins_keys(path: &[Key], keys: &[&[u8]]) -> bool
     ensures { result ≡ is_path_prefix (map key_view path.now) (map (λ k. k.now) keys.now) }
 {
-    match path.split_first() {
-        None => true,
-        Some((key, rest)) => match keys.split_first() {
-            None => false,
-            Some((name, names)) => key_fits(key, name) && begins_keys(rest, names),
-        },
+    if path.len() > keys.len() {
+        return false;
     }
-}
-
-/// Whether the third key of a path, where both have one, fits the third of the keys. That tells most rows of jobs apart.
-fn third_fits(path: &[Key], keys: &[&[u8]]) -> bool
-    ensures { IsTrue (is_path_prefix (map key_view path.now) (map (λ k. k.now) keys.now)) → IsTrue result }
-{
-    match path {
-        [_, _, key, ..] => match keys {
-            [_, _, name, ..] => key_fits(key, name),
-            _ => true,
-        },
-        _ => true,
+    // From the last key on, since that is where most paths differ.
+    let mut count = path.len();
+    'keys: while count > 0 {
+        count -= 1;
+        if !key_fits(&path[count], &keys[count]) {
+            return false;
+        }
     }
-}
-
-/// The same of the fourth keys, which tell the rows of steps apart.
-fn fourth_fits(path: &[Key], keys: &[&[u8]]) -> bool
-    ensures { IsTrue (is_path_prefix (map key_view path.now) (map (λ k. k.now) keys.now)) → IsTrue result }
-{
-    match path {
-        [_, _, _, key, ..] => match keys {
-            [_, _, _, name, ..] => key_fits(key, name),
-            _ => true,
-        },
-        _ => true,
-    }
-}
-
-/// Whether the path of a row begins the keys.
-fn leads_to(row: &Row, keys: &[&[u8]]) -> bool
-    ensures { result ≡ is_path_prefix (row_view row.now).path (map (λ k. k.now) keys.now) }
-{
-    third_fits(row.path, keys) && fourth_fits(row.path, keys) && begins_keys(row.path, keys)
+    true
 }
 
 fn better(best: Option<&'static Row>, row: &'static Row) -> Option<&'static Row>
@@ -327,7 +299,7 @@ pub fn available(keys: &[&[u8]]) -> Option<&'static Row>
     let rows = rows();
     let mut best: Option<&'static Row> = None;
     for row in rows {
-        if leads_to(row, keys) {
+        if begins_keys(row.path, keys) {
             best = better(best, row);
         }
     }

@@ -1,5 +1,5 @@
 //! The walk that finds the scalars that have expressions.
-ghost use Rattle.std.specs.Prelude.{◌≡◌, ◌||◌, ◌++◌, ◌∷◌, [], false, map, option_map, IfOk, IsTrue, OnOk};
+ghost use Rattle.std.specs.Prelude.{◌≡◌, ◌++◌, ◌∷◌, [], false, map, option_map, IfOk, OnOk};
 ghost use Rattle.al_tree.specs.Faults.{standing_view};
 ghost use Rattle.al_tree.specs.Keys.{key_of as key_in, keys_in};
 ghost use Rattle.al_base.specs.Names.{among};
@@ -9,13 +9,13 @@ ghost use Rattle.al_check_places.specs.Places as places;
 ghost use Rattle.al_check_places.specs.Places.{row_of_way, entry_places, place_of, places_of_node, places_of_entries};
 ghost use Rattle.al_check_places.specs.Places.{places_of_items, places_of, rule_or_any, scalar_places};
 ghost use Rattle.al_check_places.specs.Private.Walks.{places_in, way_in};
-ghost use Rattle.al_check_places.specs.Ways.{conditions, is_one, keys_of, under, way_step_view};
+ghost use Rattle.al_check_places.specs.Ways.{under, way_step_view};
 ghost use Rattle.al_tree.specs.Files.{shape_of as file_shape};
 ghost use Rattle.al_yaml_tree.specs.View.{entries_of, entry_view, nodes_of, view};
 
 use crate::positions::{Position, position_at};
 use crate::table::{Row, available};
-use crate::ways::{WayStep, ends_as_condition, is_checked, is_condition, is_script, keys};
+use crate::ways::{Way, is_checked, is_condition, is_script};
 use al_base::Span;
 use al_scalar::Scalar;
 use al_tree::{
@@ -44,7 +44,7 @@ pub struct Place<'a> {
 struct Walk<'a> {
     alloc: Global,
     kind: FileKind,
-    way: Vec<WayStep<'a>>,
+    way: Way<'a>,
     found: Vec<Place<'a>>,
 }
 
@@ -80,39 +80,30 @@ fn takes_scalars_only(rule: Rule) -> bool
     }
 }
 
-/// What stands at the end of a way with these keys.
-fn available_in(kind: FileKind, way: &[WayStep<'_>], keys: &[&[u8]]) -> Option<&'static Row>
-    requires { map (λ k. k.now) keys.now ≡ keys_of (map way_step_view way.now) }
-    ensures { option_map (λ r. row_view r.now) result ≡ row_of_way kind (map way_step_view way.now) }
+/// What stands at the end of a way.
+fn available_in(kind: FileKind, way: &Way<'_>) -> Option<&'static Row>
+    ensures { option_map (λ r. row_view r.now) result
+        ≡ row_of_way kind (map way_step_view way.now.steps.items) }
 {
     match kind {
-        FileKind::Workflow => available(keys),
+        FileKind::Workflow => available(way.keys()),
         FileKind::Action => None,
     }
 }
 
-/// The place where a walk is, with the keys of its way, and whether it is a condition.
-fn place_at<'a>(
-    walk: &Walk<'a>,
-    keys: &[&[u8]],
-    is_condition: bool,
-    is_scalar_only: bool,
-    scalar: ScalarNode<'a>,
-) -> Place<'a>
-    requires keys { map (λ k. k.now) keys.now ≡ keys_of (way_in walk.now) }
-    requires condition { is_condition ≡ is_one conditions (keys_of (way_in walk.now)) }
+/// The place where a walk is.
+fn place_at<'a>(walk: &Walk<'a>, is_scalar_only: bool, scalar: ScalarNode<'a>) -> Place<'a>
     ensures { place_of result ≡ places.place_at walk.now.kind (way_in walk.now)
         is_scalar_only (scalar.entry).scalar.now (scalar.entry).span }
 {
-    let way = walk.way.as_slice();
     Place {
         scalar: scalar.scalar,
         span: scalar.span,
         is_scalar_only,
-        available: available_in(walk.kind, way, keys),
-        is_condition,
-        is_script: is_script(keys),
-        position: position_at(walk.kind, way),
+        available: available_in(walk.kind, &walk.way),
+        is_condition: is_condition(&walk.way),
+        is_script: is_script(&walk.way),
+        position: position_at(walk.kind, walk.way.steps.as_slice()),
     }
 }
 
@@ -123,12 +114,12 @@ fn fits(rule: Rule, scalar: &Scalar) -> bool
     !is_null_scalar(scalar) && scalar_fault(rule.scalars, scalar).is_none()
 }
 
-/// Whether a text at the end of a way, where it may have a `${{`, may have an expression. Most don't, and nothing more is asked of those.
-fn may_have_expression(way: &[WayStep<'_>], has_chunk: bool) -> bool
-    ensures { IsTrue (is_one conditions (keys_of (map way_step_view way.now)) || has_chunk)
-        → IsTrue result }
+/// Whether a scalar at the end of a way has an expression. Most have none, and nothing more is asked of those.
+fn has_expression(way: &Way<'_>, scalar: &Scalar) -> bool
+    ensures { result
+        ≡ places.has_expression (map way_step_view way.now.steps.items) scalar.now }
 {
-    has_chunk || ends_as_condition(way)
+    is_condition(way) || contains_chunk(scalar.text())
 }
 
 /// Adds the place of a scalar, where it is checked and has an expression.
@@ -140,29 +131,18 @@ fn find_scalar<'a>(
     ensures found { OnOk result (places_in walk.new ≡ places_in walk.old
         ++ scalar_places walk.old.kind (rule_or_any (table_rule asked.shape)) asked.is_item
         (way_in walk.old) (scalar.entry).scalar.now (scalar.entry).span) }
-    ensures way { OnOk result (walk.new.way.items ≡ walk.old.way.items) }
+    ensures way { OnOk result (walk.new.way.steps.items ≡ walk.old.way.steps.items) }
     ensures kind { OnOk result (walk.new.kind ≡ walk.old.kind) }
 {
-    let alloc = walk.alloc;
-    let kind = walk.kind;
-    let way = walk.way.as_slice();
-    let has_chunk = contains_chunk(scalar.scalar.text());
-    if !may_have_expression(way, has_chunk) {
+    if !has_expression(&walk.way, scalar.scalar) {
         return Ok(());
     }
     let rule = rule_at(asked.shape);
-    if !fits(rule, scalar.scalar) {
+    if !fits(rule, scalar.scalar) || !is_checked(walk.kind, &walk.way) {
         return Ok(());
     }
-    let keys = keys(alloc, way)?;
-    let keys = keys.as_slice();
-    let is_condition = is_condition(keys);
-    let has_expression = is_condition || has_chunk;
-    if !is_checked(kind, way, keys) || !has_expression {
-        return Ok(());
-    }
-    let only = takes_scalars_only(rule) && !asked.is_item;
-    let place = place_at(walk, keys, is_condition, only, scalar);
+    let is_scalar_only = takes_scalars_only(rule) && !asked.is_item;
+    let place = place_at(walk, is_scalar_only, scalar);
     walk.found.push(place)?;
     Ok(())
 }
@@ -173,7 +153,7 @@ fn find_scalar<'a>(
 fn find<'a>(asked: Asked, node: &'a Node, walk: &mut Walk<'a>) -> Result<(), AllocError>
     ensures found { OnOk result (places_in walk.new ≡ places_in walk.old
         ++ places_of_node walk.old.kind asked.shape asked.is_item (way_in walk.old) (view node.now)) }
-    ensures way { OnOk result (walk.new.way.items ≡ walk.old.way.items) }
+    ensures way { OnOk result (walk.new.way.steps.items ≡ walk.old.way.steps.items) }
     ensures kind { OnOk result (walk.new.kind ≡ walk.old.kind) }
 {
     match &node.kind {
@@ -202,7 +182,7 @@ fn find<'a>(asked: Asked, node: &'a Node, walk: &mut Walk<'a>) -> Result<(), All
 fn find_items<'a>(shape: Shape, nodes: &'a [Node], walk: &mut Walk<'a>) -> Result<(), AllocError>
     ensures found { OnOk result (places_in walk.new ≡ places_in walk.old
         ++ places_of_items walk.old.kind shape (way_in walk.old) 0 (nodes_of (map view nodes.now))) }
-    ensures way { OnOk result (walk.new.way.items ≡ walk.old.way.items) }
+    ensures way { OnOk result (walk.new.way.steps.items ≡ walk.old.way.steps.items) }
     ensures kind { OnOk result (walk.new.kind ≡ walk.old.kind) }
 {
     let mut i = 0;
@@ -211,9 +191,9 @@ fn find_items<'a>(shape: Shape, nodes: &'a [Node], walk: &mut Walk<'a>) -> Resul
             shape,
             is_item: true,
         };
-        walk.way.push(WayStep::Nth(i))?;
+        walk.way.enter_item(i)?;
         find(asked, node, walk)?;
-        walk.way.pop();
+        walk.way.leave();
         i += 1;
     }
     Ok(())
@@ -230,7 +210,7 @@ fn find_entries<'a>(
         ++ places_of_entries walk.old.kind (keys_view takes) []
         (among (keys_in (map entry_view entries.now))) (way_in walk.old)
         (entries_of (map entry_view entries.now))) }
-    ensures way { OnOk result (walk.new.way.items ≡ walk.old.way.items) }
+    ensures way { OnOk result (walk.new.way.steps.items ≡ walk.old.way.steps.items) }
     ensures kind { OnOk result (walk.new.kind ≡ walk.old.kind) }
 {
     let index = KeyIndex::of(walk.alloc, entries)?;
@@ -255,7 +235,7 @@ fn find_entry<'a>(
         (λ s. places_of_node walk.old.kind s false
         (way_in walk.old ++ under (key_in (entry_view entry.now)) ∷ [])
         (entry_view entry.now).1)) }
-    ensures way { OnOk result (walk.new.way.items ≡ walk.old.way.items) }
+    ensures way { OnOk result (walk.new.way.steps.items ≡ walk.old.way.steps.items) }
     ensures kind { OnOk result (walk.new.kind ≡ walk.old.kind) }
 {
     match standing {
@@ -267,9 +247,9 @@ fn find_entry<'a>(
                 shape,
                 is_item: false,
             };
-            walk.way.push(WayStep::Under(key_of(entry)))?;
+            walk.way.enter_value(key_of(entry))?;
             find(asked, &entry.value, walk)?;
-            walk.way.pop();
+            walk.way.leave();
             Ok(())
         }
     }
@@ -297,7 +277,7 @@ pub fn places(alloc: Global, kind: FileKind, root: &Node) -> Result<Vec<Place<'_
     let mut walk = Walk {
         alloc,
         kind,
-        way: Vec::new(alloc),
+        way: Way::new(alloc),
         found: Vec::new(alloc),
     };
     find(asked, root, &mut walk)?;

@@ -1,8 +1,7 @@
 //! Ways from the root of a file to a scalar, and which of them lead to an expression.
-ghost use Rattle.std.specs.Prelude.{◌≡◌, [], ◌∷◌, map, IfOk, IsTrue};
+ghost use Rattle.std.specs.Prelude.{◌≡◌, [], ◌∷◌, map};
 ghost use Rattle.al_check_places.specs.Paths.{key_view, path};
 ghost use Rattle.al_check_places.specs.Ways as ways;
-ghost use Rattle.al_check_places.specs.Private.Endings.{is_condition_key};
 ghost use Rattle.al_check_places.specs.Ways.{begins_one, is_one, keys_of, way_step_view};
 
 use crate::table::Key::{Id, Named};
@@ -17,17 +16,67 @@ pub enum WayStep<'a> {
     Nth(usize),
 }
 
-/// The keys of a way, positions dropped. Fails with `AllocError` when out of memory.
-pub fn keys<'a>(alloc: Global, way: &[WayStep<'a>]) -> Result<Vec<&'a [u8]>, AllocError>
-    ensures { IfOk result (λ v. map (λ k. k.now) v.items ≡ keys_of (map way_step_view way.now)) }
-{
-    let mut keys = Vec::with_capacity(alloc, way.len())?;
-    for step in way {
-        if let WayStep::Under(key) = step {
-            keys.push(*key)?;
+/// The way from the root of a file to a node.
+#[derive(Drop)]
+pub(crate) struct Way<'a> {
+    pub(crate) steps: Vec<WayStep<'a>>,
+    /// The keys of its steps; positions in lists have none.
+    keys: Vec<&'a [u8]>,
+    ghost keyed: { map (λ k. k.now) keys.items ≡ keys_of (map way_step_view steps.items) },
+}
+
+impl<'a> Way<'a> {
+    ghost use Rattle.std.specs.Prelude.{◌-◌, ◌++◌, OnOk, take, vec_len};
+    ghost use Rattle.al_check_places.specs.declared.ways.WayStep.TheVariants.{Nth, Under};
+
+    /// The way to the root.
+    pub(crate) fn new(alloc: Global) -> Way<'a>
+        ensures { result.steps.items ≡ [] }
+    {
+        Way {
+            steps: Vec::new(alloc),
+            keys: Vec::new(alloc),
         }
     }
-    Ok(keys)
+
+    /// Goes on to the value under a key. Fails with `AllocError` when out of memory, as below.
+    pub(crate) fn enter_value(&mut self, key: &'a [u8]) -> Result<(), AllocError>
+        ensures { OnOk result (self.new.steps.items ≡ self.old.steps.items ++ Under key.entry ∷ []) }
+    {
+        self.keys.reserve(1)?;
+        self.steps.push(WayStep::Under(key))?;
+        self.keys.push(key)?;
+        Ok(())
+    }
+
+    /// Goes on to an item of a list.
+    pub(crate) fn enter_item(&mut self, i: usize) -> Result<(), AllocError>
+        ensures { OnOk result (self.new.steps.items ≡ self.old.steps.items ++ Nth i ∷ []) }
+    {
+        self.steps.push(WayStep::Nth(i))?;
+        Ok(())
+    }
+
+    /// Goes back one step.
+    pub(crate) fn leave(&mut self)
+        ensures { self.new.steps.items ≡ take (vec_len self.old.steps - 1) self.old.steps.items }
+    {
+        match self.steps.pop() {
+            Some(WayStep::Under(_)) => {
+                self.keys.pop();
+            }
+            Some(WayStep::Nth(_)) => {}
+            None => {}
+        }
+    }
+
+    /// The keys of its steps.
+    pub(crate) fn keys(&self) -> &[&'a [u8]]
+        ensures { map (λ k. k.now) result.now
+            ≡ keys_of (map way_step_view self.now.steps.items) }
+    {
+        self.keys.as_slice()
+    }
 }
 
 const OF_CALL: &[&[Key]] = &[
@@ -136,7 +185,7 @@ fn is_any(paths: &[&[Key]], keys: &[&[u8]]) -> bool
     ensures { result ≡ is_one (map (λ p. map key_view p.now) paths.now) (map (λ k. k.now) keys.now) }
 {
     for path in paths {
-        if begins_keys(path, keys) && path.len() == keys.len() {
+        if path.len() == keys.len() && begins_keys(path, keys) {
             return true;
         }
     }
@@ -165,48 +214,26 @@ fn is_checked_in_action(steps: usize, keys: &[&[u8]]) -> bool
     }
 }
 
-/// Whether a place is checked, by the way to it and the keys on that.
-pub(crate) fn is_checked(kind: FileKind, way: &[WayStep<'_>], keys: &[&[u8]]) -> bool
-    requires { map (λ k. k.now) keys.now ≡ keys_of (map way_step_view way.now) }
-    ensures { result ≡ ways.is_checked kind (map way_step_view way.now) }
+/// Whether the node at the end of a way is checked.
+pub(crate) fn is_checked(kind: FileKind, way: &Way<'_>) -> bool
+    ensures { result ≡ ways.is_checked kind (map way_step_view way.now.steps.items) }
 {
     match kind {
-        FileKind::Workflow => is_checked_in_workflow(keys),
-        FileKind::Action => is_checked_in_action(way.len(), keys),
+        FileKind::Workflow => is_checked_in_workflow(way.keys()),
+        FileKind::Action => is_checked_in_action(way.steps.len(), way.keys()),
     }
 }
 
-/// Whether a place is a condition, by the keys on the way to it.
-pub(crate) fn is_condition(keys: &[&[u8]]) -> bool
-    ensures { result ≡ is_one ways.conditions (map (λ k. k.now) keys.now) }
+/// Whether the node at the end of a way is a condition.
+pub(crate) fn is_condition(way: &Way<'_>) -> bool
+    ensures { result ≡ is_one ways.conditions (keys_of (map way_step_view way.now.steps.items)) }
 {
-    is_any(conditions(), keys)
+    is_any(conditions(), way.keys())
 }
 
-/// Whether this is the last key of a path to a condition.
-fn is_condition_key(key: &[u8]) -> bool
-    ensures { result ≡ is_condition_key key.now }
+/// Whether the node at the end of a way is a step's script.
+pub(crate) fn is_script(way: &Way<'_>) -> bool
+    ensures { result ≡ is_one ways.scripts (keys_of (map way_step_view way.now.steps.items)) }
 {
-    "if".as_bytes() == key || "pre-if".as_bytes() == key || "post-if".as_bytes() == key
-}
-
-/// Whether the last key of a way is one of conditions, whatever positions stand behind it. So it is where the way leads to a condition.
-pub(crate) fn ends_as_condition(way: &[WayStep<'_>]) -> bool
-    ensures { IsTrue (is_one ways.conditions (keys_of (map way_step_view way.now))) → IsTrue result }
-{
-    let mut count = way.len();
-    'steps: while count > 0 {
-        count -= 1;
-        if let WayStep::Under(key) = way[count] {
-            return is_condition_key(key);
-        }
-    }
-    false
-}
-
-/// Whether a place is a step's script, by the keys on the way to it.
-pub(crate) fn is_script(keys: &[&[u8]]) -> bool
-    ensures { result ≡ is_one ways.scripts (map (λ k. k.now) keys.now) }
-{
-    is_any(scripts(), keys)
+    is_any(scripts(), way.keys())
 }

@@ -390,7 +390,7 @@ impl Gathering {
         }
         match disk.read(self.alloc, path) {
             Ok(Entry::File(bytes)) => {
-                self.put(path, &bytes)?;
+                self.put(path, bytes)?;
                 Ok(Found::File)
             }
             Ok(Entry::Absent) => Ok(Found::Absent),
@@ -400,10 +400,10 @@ impl Gathering {
     }
 
     // Puts a file that was read.
-    fn put(&mut self, path: &str, bytes: &[u8]) -> Result<(), Unread>
+    fn put(&mut self, path: &str, bytes: Vec<u8>) -> Result<(), Unread>
         requires { bytes_at (folder_with [] (self.old).files) path.now ≡ None }
         ensures put { OnOk result
-            ((self.new).files ≡ (self.old).files ++ (path.now, bytes.now) ∷ []) }
+            ((self.new).files ≡ (self.old).files ++ (path.now, bytes.items) ∷ []) }
         ensures waiting { (self.new).candidates.waiting.keys
             ≡ (self.old).candidates.waiting.keys }
     {

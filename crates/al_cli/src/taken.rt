@@ -80,9 +80,9 @@ impl TakenFiles {
     /// # Errors
     ///
     /// Those of [`SessionBuilder::put`](al_session::SessionBuilder::put). The files are then as before.
-    pub(crate) fn put(&mut self, alloc: Global, path: &str, bytes: &[u8]) -> Result<(), Refused>
+    pub(crate) fn put(&mut self, alloc: Global, path: &str, bytes: Vec<u8>) -> Result<(), Refused>
         requires { bytes_at (folder_with [] self.old) path.now ≡ None }
-        ensures put { OnOk result (self.new ≡ self.old ++ (path.now, bytes.now) ∷ []) }
+        ensures put { OnOk result (self.new ≡ self.old ++ (path.now, bytes.items) ∷ []) }
         ensures as_before { OnErr result (self.new ≡ self.old) }
     {
         let owned = owned_path(alloc, path)?;
@@ -129,14 +129,14 @@ fn put_behind(
     files: &mut Loaded,
     order: &mut Vec<Path>,
     path: Path,
-    bytes: &[u8],
+    bytes: Vec<u8>,
 ) -> Result<(), Refused>
     requires kept { AreKept files.old.folder files.old.checks order.old.items }
     requires new { bytes_at (folder_with [] (entries_in files.old.folder order.old.items)) path
         ≡ None }
     ensures kept { AreKept files.new.folder files.new.checks order.new.items }
     ensures put { OnOk result (entries_in files.new.folder order.new.items
-        ≡ entries_in files.old.folder order.old.items ++ (path, bytes.now) ∷ []) }
+        ≡ entries_in files.old.folder order.old.items ++ (path, bytes.items) ∷ []) }
     ensures as_before { OnErr result (entries_in files.new.folder order.new.items
         ≡ entries_in files.old.folder order.old.items) }
 {

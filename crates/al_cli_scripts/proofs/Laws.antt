@@ -1,13 +1,12 @@
 -- At most one command begins given bytes, and a wrong rest never becomes one.
-use Rattle.std.proofs.Common.{◌≡◌, ◌≢◌, ℕ, ◌+◌, ◌%◌, ◌^◌, ◌≤◌, ◌<◌, inl, inr, Bool, true, false, List, [], ◌∷◌, ◌++◌, length, get_or, take}
-use Rattle.std.proofs.Common.{drop, All, refl, sym, ap, subst, ◌∙◌, arith, append_assoc, codes, length-append, T, ltb, ◌&&◌}
+use Rattle.std.proofs.Common.{◌≡◌, ◌≢◌, ℕ, ◌+◌, ◌%◌, ◌^◌, ◌≤◌, ◌<◌, inl, inr, List, [], ◌∷◌, ◌++◌, length, get_or, take}
+use Rattle.std.proofs.Common.{drop, All, refl, sym, ap, subst, ◌∙◌, arith, append_assoc, codes, length-append, rules}
 use Rattle.std.proofs.lemmas.List.{length-take, get_or-take, get_or_append_left}
 use Rattle.std.proofs.Math.Seq.{get_or-append_seam}
-use borrow.Author.Tests.{ltb-true}
-use lib.Ieee.Fits.{and_l, and_r}
+use Rattle.std.specs.List.{AllByRecursion}
 use Rattle.std.specs.Fmt.{decimal}
 use Rattle.std.proofs.lemmas.Fmt.{decimal_injective, decimal_by_steps}
-use Rattle.std.proofs.lemmas.List.Elements.{All-tail, All-append, All-cons, All-nil}
+use Rattle.std.proofs.lemmas.List.Elements.{All-tail, All-append, All-cons, All-from_recursion, All-nil, All-weaker}
 use Rattle.al_cli_scripts.specs.Script.{Command, Put, Delete, Report, ScriptLine, PutLine, DeleteLine, ReportLine, IsLine, line_bytes, line_of}
 use Rattle.al_cli_scripts.specs.Script.{body_of, HasNoBreak, command_bytes, IsCommand, IsWrong, BeginsWithCommand}
 
@@ -43,31 +42,17 @@ digits_high n h = decimal_by_steps (λ _ ds. All (λ b. 48 ≤ b) ds)
 pub digits_without : (k n : ℕ) → k < 48 → n < 2 ^ 64 → All (λ b. b ≢ k) (decimal n)
 digits_without k n small h = λ i d l e. let high = digits_high n h i d l in absurd (omega (arith, high, e))
 
--- each byte is above 10
-abbrev high : List ℕ → Bool
-high [] = true
-high (b ∷ bs) = ltb 10 b && high bs
-
-T-true : (b : Bool) → T b → b ≡ true
-T-true true h = refl
-T-true false h = absurd h
-
-pub unbroken : (bs : List ℕ) → T (high bs) → HasNoBreak bs
-unbroken [] h = All-nil (λ b. b ≢ 10)
-unbroken (b ∷ bs) h =
-    let first : 10 < b = ltb-true 10 b (T-true (ltb 10 b) (and_l (ltb 10 b) (high bs) h)) in
-    All-cons (λ c. c ≢ 10) b bs (λ e. omega arith) (unbroken bs (and_r (ltb 10 b) (high bs) h))
+unbroken : (bs : List ℕ) → AllByRecursion (λ b. 10 < b) bs → HasNoBreak bs
+unbroken bs h = All-weaker (λ b. 10 < b) (λ b. b ≢ 10) (λ b l e. omega (arith, l, e)) bs (All-from_recursion (λ b. 10 < b) bs h)
 
 pub line_unbroken : (l : ScriptLine) → IsLine l → HasNoBreak (line_bytes l)
 line_unbroken (PutLine path len) l =
     let digits : HasNoBreak (decimal len) = digits_without 10 len (omega arith) (let h : len < 10 ^ 7 = l.words.1 in omega arith) in
     All-append (λ b. b ≢ 10) ((codes "put " ++ path) ++ codes " ") (decimal len)
-    (All-append (λ b. b ≢ 10) (codes "put " ++ path) (codes " ") (All-append (λ b. b ≢ 10) (codes "put ") path (unbroken (codes "put ") tt) l.words.0.one_line) (unbroken (codes " ") tt)) digits
-line_unbroken (DeleteLine path) l = All-append (λ b. b ≢ 10) (codes "delete ") path (unbroken (codes "delete ") tt) l.words.one_line
-line_unbroken ReportLine l = unbroken (codes "report") tt
-
-first_byte : (xs ys : List ℕ) → xs ≡ ys → get_or xs 0 0 ≡ get_or ys 0 0
-first_byte xs ys e = ap (λ l. get_or l 0 0) e
+    (All-append (λ b. b ≢ 10) (codes "put " ++ path) (codes " ")
+    (All-append (λ b. b ≢ 10) (codes "put ") path (unbroken (codes "put ") (search rules)) l.words.0.one_line) (unbroken (codes " ") (search rules))) digits
+line_unbroken (DeleteLine path) l = All-append (λ b. b ≢ 10) (codes "delete ") path (unbroken (codes "delete ") (search rules)) l.words.one_line
+line_unbroken ReportLine l = unbroken (codes "report") (search rules)
 
 pub line_unique : (l m : ScriptLine) → IsLine l → IsLine m → line_bytes l ≡ line_bytes m → l ≡ m
 line_unique (PutLine p n) (PutLine q m) a b e =
@@ -79,14 +64,9 @@ line_unique (PutLine p n) (PutLine q m) a b e =
     let x : p ≡ q = s.0 in
     let y : n ≡ m = decimal_injective n m hn hm s.1 in
     cc
-line_unique (PutLine p n) (DeleteLine q) a b e = absurd (let h : 112 ≡ 100 = first_byte _ _ e in omega arith)
-line_unique (PutLine p n) ReportLine a b e = absurd (let h : 112 ≡ 114 = first_byte _ _ e in omega arith)
-line_unique (DeleteLine p) (PutLine q m) a b e = absurd (let h : 100 ≡ 112 = first_byte _ _ e in omega arith)
 line_unique (DeleteLine p) (DeleteLine q) a b e = ap DeleteLine (ap (drop 7) e)
-line_unique (DeleteLine p) ReportLine a b e = absurd (let h : 100 ≡ 114 = first_byte _ _ e in omega arith)
-line_unique ReportLine (PutLine q m) a b e = absurd (let h : 114 ≡ 112 = first_byte _ _ e in omega arith)
-line_unique ReportLine (DeleteLine q) a b e = absurd (let h : 114 ≡ 100 = first_byte _ _ e in omega arith)
 line_unique ReportLine ReportLine a b e = refl
+line_unique l m a b e = absurd (let first : get_or (line_bytes l) 0 0 ≡ get_or (line_bytes m) 0 0 = ap (λ bs. get_or bs 0 0) e in omega (arith, first))
 
 same_prefix : (a b x y : List ℕ) → length a ≡ length b → a ++ x ≡ b ++ y → (a ≡ b) × (x ≡ y)
 same_prefix [] [] x y l e = (refl, e)
@@ -106,14 +86,9 @@ body_unique (Put p b) (Put q a) x y l e =
     let s = same_prefix (b ++ 10 ∷ []) (a ++ 10 ∷ []) x y m e in
     let t = same_prefix b a (10 ∷ []) (10 ∷ []) n s.0 in
     let f : b ≡ a = t.0 in (cc, s.1)
-body_unique (Put p b) (Delete q) x y l e = absurd cc
-body_unique (Put p b) Report x y l e = absurd cc
-body_unique (Delete p) (Put q a) x y l e = absurd cc
 body_unique (Delete p) (Delete q) x y l e = let f : p ≡ q = cc in (ap Delete f, e)
-body_unique (Delete p) Report x y l e = absurd cc
-body_unique Report (Put q a) x y l e = absurd cc
-body_unique Report (Delete q) x y l e = absurd cc
 body_unique Report Report x y l e = (refl, e)
+body_unique _ _ x y l e = absurd cc
 
 pub command_unique : (c d : Command) (x y : List ℕ) → IsCommand c → IsCommand d → command_bytes c ++ x ≡ command_bytes d ++ y → (c ≡ d) × (x ≡ y)
 command_unique c d x y p q e =
@@ -145,8 +120,7 @@ end_of (Put p b) path put end x y l e =
     let f : put ++ end ∷ x ≡ b ++ 10 ∷ y = e ∙ append_assoc b (10 ∷ []) y in
     let s = same_prefix put b (end ∷ x) (10 ∷ y) n f in
     let t : end ∷ x ≡ 10 ∷ y = s.1 in cc
-end_of (Delete p) path put end x y l e = absurd cc
-end_of Report path put end x y l e = absurd cc
+end_of _ path put end x y l e = absurd cc
 
 pub wrong_never : (bytes more : List ℕ) → IsWrong bytes → BeginsWithCommand (bytes ++ more) → ⊥
 wrong_never bytes more w b = elim w [

@@ -5,7 +5,7 @@ use Rattle.std.proofs.Common.{add-one, decimal}
 use Rattle.std.proofs.lemmas.Grind.{common_steps}
 use Rattle.std.proofs.lemmas.List.{take-append-drop, take_all}
 use Rattle.std.proofs.Math.Seq.{drop-cons, drop-drop}
-use Rattle.al_cli_scripts.specs.Script.{Command, Put, Delete, Report, ScriptLine, PutLine, IsLine, IsPathText, line_bytes, line_of, body_of, HasNoBreak, command_bytes, IsWrong, IsPending}
+use Rattle.al_cli_scripts.specs.Script.{Command, Put, ScriptLine, PutLine, IsLine, IsPathText, line_bytes, line_of, body_of, HasNoBreak, command_bytes, IsWrong, IsPending}
 use Rattle.al_cli_scripts.specs.Private.Next.{IsFirst}
 use Rattle.al_cli_scripts.proofs.Laws.{first_unique, last_unique, has_none, digits_without, line_unbroken, line_unique, no_early}
 use Rattle.std.proofs.Common.{Option, None, Some, Result, Ok, Err, MatchOption, min, get_or-take}
@@ -54,8 +54,7 @@ body_long : (c : Command) (path : List ℕ) (len : ℕ) (more : List ℕ) → Pu
 body_long (Put p b) path len more e =
     let n : len ≡ length b = cc in
     omega (arith, n, length-append (b ++ 10 ∷ []) more, length-append b (10 ∷ []))
-body_long (Delete p) path len more e = absurd cc
-body_long Report path len more e = absurd cc
+body_long _ path len more e = absurd cc
 
 put_length : (p q : List ℕ) (n m : ℕ) → PutLine p n ≡ PutLine q m → n ≡ m
 put_length p q n m e = cc

@@ -1,56 +1,33 @@
--- Lemmas on what was served.
-use Rattle.std.proofs.Common.{◌≡◌, ℕ, ◌+◌, ◌-◌, List, [], ◌∷◌, ◌++◌, length, take, drop, sym, subst, ap, ◌∙◌, refl, arith, Option, rules, append_assoc, append-nil, All, inl, inr, codes}
-use Rattle.std.proofs.lemmas.Grind.{common_steps, flat_map-append}
-use Rattle.std.specs.Io.KnownBytes.{Appends}
+-- What was served of a script: one command, more bytes behind it, one part and then the next.
+use Rattle.std.proofs.Common.{◌≡◌, ℕ, List, [], ◌∷◌, ◌++◌, sym, ap, ◌∙◌, refl, append_assoc, append-nil}
+use Rattle.std.proofs.lemmas.Grind.{flat_map-append}
+use Rattle.std.proofs.lemmas.List.Elements.{All-append, All-cons, All-nil}
+use Rattle.std.proofs.lemmas.List.Sums.{fold-append}
 use Rattle.std.specs.List.{fold, flat_map}
-use Rattle.std.proofs.lemmas.List.Sums.{fold_push}
-use Rattle.std.proofs.KnownBytes.{Appends-trans}
-use Rattle.al_base.specs.Counted.{AppendsPrefix}
-use Rattle.al_base.proofs.Bytes.{AppendsPrefix-after}
-use Rattle.al_cli_scripts.specs.Script.{Command, command_bytes, IsCommand, IsWrong}
+use Rattle.al_cli_scripts.specs.Script.{Command, command_bytes, IsCommand}
 use Rattle.al_cli_scripts.specs.Runs.{Steps, Served, replies_to}
-use Rattle.al_cli_scripts.specs.Private.Next.{IsFirst}
-use Rattle.al_cli_scripts.specs.Private.Answered.{IsStuck}
-use Rattle.std.proofs.Math.Seq.{drop-drop}
 
--- the first `done` bytes that wait are commands, and these replies were written
-pub record Answering {F : Type 0} (steps : Steps F) (start folder : F) (waiting : List ℕ) (done : ℕ) (wrote now : Option (List ℕ)) : Type 0 where
-  pub replies : List ℕ
-  pub served : Served steps start waiting folder replies (drop done waiting)
-  pub written : Appends wrote now replies
+replies_to-append : {F : Type 0} (steps : Steps F) (f : F) (cs ds : List Command) → replies_to steps f (cs ++ ds) ≡ replies_to steps f cs ++ replies_to steps (fold steps.after f cs) ds
+replies_to-append steps f [] ds = refl
+replies_to-append steps f (c ∷ cs) ds = ap (λ l. steps.reply f c ++ l) (replies_to-append steps (steps.after f c) cs ds) ∙ sym (append_assoc (steps.reply f c) _ _)
 
-module _ {F : Type 0} (steps : Steps F) where
-  pub replies_to-push : (f : F) (cs : List Command) (c : Command) → replies_to steps f (cs ++ c ∷ []) ≡ replies_to steps f cs ++ steps.reply (fold steps.after f cs) c
-  replies_to-push f [] c = append-nil (steps.reply f c)
-  replies_to-push f (d ∷ cs) c = ap (λ l. steps.reply f d ++ l) (replies_to-push (steps.after f d) cs c) ∙ sym (append_assoc (steps.reply f d) _ _)
+module _ {F : Type 0} {steps : Steps F} where
+  -- nothing served yet
+  pub Served-none : (f : F) (bytes : List ℕ) → Served steps f bytes f [] bytes
+  Served-none f bytes = record { commands = []; each = All-nil IsCommand; whole = refl; leaves = refl; answered = refl }
 
-  pub script-push : (cs : List Command) (c : Command) → flat_map command_bytes (cs ++ c ∷ []) ≡ flat_map command_bytes cs ++ command_bytes c
-  script-push cs c = flat_map-append command_bytes cs (c ∷ []) ∙ ap (λ l. flat_map command_bytes cs ++ l) (append-nil (command_bytes c))
-
-  pub each-push : (cs : List Command) (c : Command) → All IsCommand cs → IsCommand c → All IsCommand (cs ++ c ∷ [])
-  each-push cs c p q = search (rules, common_steps)
-
-  -- one command more
-  pub Served-push : (start : F) (bytes : List ℕ) (folder : F) (replies rest more : List ℕ) (c : Command)
-      → Served steps start bytes folder replies rest → IsCommand c → rest ≡ command_bytes c ++ more
-      → Served steps start bytes (steps.after folder c) (replies ++ steps.reply folder c) more
-  Served-push start bytes folder replies rest more c s ok e = record {
-    commands = s.commands ++ c ∷ [];
-    each = each-push s.commands c s.each ok;
-    whole = s.whole ∙ ap (λ l. flat_map command_bytes s.commands ++ l) e ∙ sym (append_assoc (flat_map command_bytes s.commands) (command_bytes c) more)
-        ∙ ap (λ l. l ++ more) (sym (script-push s.commands c));
-    leaves = ap (λ f. steps.after f c) s.leaves ∙ sym (fold_push steps.after start s.commands c);
-    answered = ap (λ l. l ++ steps.reply folder c) s.answered ∙ ap (λ f. replies_to steps start s.commands ++ steps.reply f c) s.leaves ∙ sym (replies_to-push start s.commands c);
+  pub Served-one : (f : F) (c : Command) (more : List ℕ) → IsCommand c → Served steps f (command_bytes c ++ more) (steps.after f c) (steps.reply f c) more
+  Served-one f c more ok = record {
+    commands = c ∷ [];
+    each = All-cons IsCommand c [] ok (All-nil IsCommand);
+    whole = ap (λ l. l ++ more) (sym (append-nil (command_bytes c)));
+    leaves = refl;
+    answered = sym (append-nil (steps.reply f c));
   }
 
-  -- nothing served yet
-  pub Served-none : (start : F) (bytes : List ℕ) → Served steps start bytes start [] bytes
-  Served-none start bytes = record { commands = []; each = λ k d h. absurd (omega arith); whole = refl; leaves = refl; answered = refl }
-
   -- more bytes come
-  pub Served-more : (start : F) (bytes : List ℕ) (folder : F) (replies rest more : List ℕ) → Served steps start bytes folder replies rest
-      → Served steps start (bytes ++ more) folder replies (rest ++ more)
-  Served-more start bytes folder replies rest more s = record {
+  pub Served-more : {f g : F} {bytes replies rest : List ℕ} (more : List ℕ) → Served steps f bytes g replies rest → Served steps f (bytes ++ more) g replies (rest ++ more)
+  Served-more {rest = rest} more s = record {
     commands = s.commands;
     each = s.each;
     whole = ap (λ l. l ++ more) s.whole ∙ append_assoc (flat_map command_bytes s.commands) rest more;
@@ -58,40 +35,15 @@ module _ {F : Type 0} (steps : Steps F) where
     answered = s.answered;
   }
 
-pub rest_is : (xs : List ℕ) (k : ℕ) → take (length xs - k) (drop k xs) ≡ drop k xs
-rest_is xs k = search (rules, common_steps)
-
--- what a slice of the bytes that wait begins with, they do
-pub IsFirst-at : (waiting : List ℕ) (done : ℕ) (c : Command) (n : ℕ) → IsFirst (take (length waiting - done) (drop done waiting)) c n
-    → drop done waiting ≡ command_bytes c ++ drop (done + n) waiting
-IsFirst-at waiting done c n h =
-    let e = rest_is waiting done in
-    let w : drop done waiting ≡ command_bytes c ++ drop n (drop done waiting) = subst (λ l. l ≡ command_bytes c ++ drop n l) e h.whole in
-    w ∙ ap (λ l. command_bytes c ++ l) (drop-drop n done waiting)
-
-module _ {F : Type 0} (steps : Steps F) where
-  pub Answering-push : (start folder : F) (waiting : List ℕ) (done n : ℕ) (c : Command) (wrote now then : Option (List ℕ))
-      → Answering steps start folder waiting done wrote now → IsFirst (take (length waiting - done) (drop done waiting)) c n → Appends now then (steps.reply folder c)
-      → Answering steps start (steps.after folder c) waiting (done + n) wrote then
-  Answering-push start folder waiting done n c wrote now then s first w = record {
-    replies = s.replies ++ steps.reply folder c;
-    served = Served-push steps start waiting folder s.replies _ _ c s.served first.command_ok (IsFirst-at waiting done c n first);
-    written = Appends-trans wrote now then s.replies (steps.reply folder c) s.written w;
+  -- and then commands of the rest
+  pub Served-then : {f g h : F} {bytes rest last replies more : List ℕ} → Served steps f bytes g replies rest → Served steps g rest h more last
+      → Served steps f bytes h (replies ++ more) last
+  Served-then {f} {last = last} {more = more} s t = record {
+    commands = s.commands ++ t.commands;
+    each = All-append IsCommand s.commands t.commands s.each t.each;
+    whole = s.whole ∙ ap (λ l. flat_map command_bytes s.commands ++ l) t.whole ∙ sym (append_assoc (flat_map command_bytes s.commands) (flat_map command_bytes t.commands) last)
+        ∙ ap (λ l. l ++ last) (sym (flat_map-append command_bytes s.commands t.commands));
+    leaves = t.leaves ∙ ap (λ x. fold steps.after x t.commands) s.leaves ∙ sym (fold-append steps.after f s.commands t.commands);
+    answered = ap (λ l. l ++ more) s.answered ∙ ap (λ l. replies_to steps f s.commands ++ l) (t.answered ∙ ap (λ x. replies_to steps x t.commands) s.leaves)
+        ∙ sym (replies_to-append steps f s.commands t.commands);
   }
-
-  pub IsStuck-in_reply : (start folder : F) (waiting : List ℕ) (done n : ℕ) (c : Command) (wrote now then : Option (List ℕ))
-      → Answering steps start folder waiting done wrote now → IsFirst (take (length waiting - done) (drop done waiting)) c n → AppendsPrefix now then (steps.reply folder c)
-      → IsStuck steps start waiting wrote then
-  IsStuck-in_reply start folder waiting done n c wrote now then s first w = (
-    steps.after folder c,
-    s.replies ++ steps.reply folder c,
-    drop (done + n) waiting,
-    Served-push steps start waiting folder s.replies _ _ c s.served first.command_ok (IsFirst-at waiting done c n first),
-    inl (AppendsPrefix-after wrote now then s.replies (steps.reply folder c) s.written w),
-  )
-
-  pub IsStuck-in_bad : (start folder : F) (waiting : List ℕ) (done : ℕ) (wrote now then : Option (List ℕ))
-      → Answering steps start folder waiting done wrote now → IsWrong (take (length waiting - done) (drop done waiting)) → AppendsPrefix now then (codes "bad command\n")
-      → IsStuck steps start waiting wrote then
-  IsStuck-in_bad start folder waiting done wrote now then s wrong w =
-      (folder, s.replies, drop done waiting, s.served, inr (subst IsWrong (rest_is waiting done) wrong, AppendsPrefix-after wrote now then s.replies (codes "bad command\n") s.written w))

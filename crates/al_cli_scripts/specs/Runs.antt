@@ -44,6 +44,10 @@ pub record Puts {F : Type 0} (steps : Steps F) (start : F) (script out : List �
   pub ends : Ends steps folder rest last answer
   pub whole : out ≡ replies ++ last
 
+-- a prefix of that output was written
+abbrev pub PutsPrefix : {F : Type 0} → Steps F → F → List ℕ → Option (List ℕ) → Option (List ℕ) → Type 0
+PutsPrefix steps start script wrote now = (out : List ℕ) (answer : ℕ) → Puts steps start script out answer → AppendsPrefix wrote now out
+
 -- ---- what a run leaves; left and then are what the reader has left, before and after, wrote and now what the writer holds
 
 -- the run put out the whole output of what waits and what the reader has left
@@ -58,8 +62,7 @@ LeavesFolder steps start waiting left folder = IfSome left (λ script. (replies 
 
 -- the run put out a prefix of that output
 abbrev pub IsCutShort : {F : Type 0} → Steps F → F → List ℕ → Option (List ℕ) → Option (List ℕ) → Option (List ℕ) → Type 0
-IsCutShort steps start waiting left wrote now =
-    IfSome left (λ script. (out : List ℕ) (answer : ℕ) → Puts steps start (waiting ++ script) out answer → AppendsPrefix wrote now out)
+IsCutShort steps start waiting left wrote now = IfSome left (λ script. PutsPrefix steps start (waiting ++ script) wrote now)
 
 -- the run read these bytes, and answered each whole command among them; what is left of them isn't wrong
 pub record PausesAfter {F : Type 0} (steps : Steps F) (start folder : F) (waiting : List ℕ) (left then wrote now : Option (List ℕ))

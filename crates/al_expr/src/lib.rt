@@ -1,18 +1,34 @@
 //! Expressions of workflows and actions, `${{ .. }}`: their tokens and chunks, their trees, their types, and their
 //! faults.
 //!
-//! A facade over the crates of the grammar, of the signatures of functions, and of types as trees.
+//! Types are trees here, for callers that keep no table of objects: each call puts its trees into a table, and takes
+//! the answer out. The rest is of the crates of the grammar and of the signatures of functions.
 #![tactic(auto)]
+
+mod adding;
+mod copying;
+mod fusing;
+mod listings;
+mod relations;
+mod scope;
+mod taking;
+mod trees;
+mod typing;
 
 pub use al_expr_grammar::{
     Chunk, Expr, Keyword, Operand, Operator, PathStep, Token, TokenKind, Word, chunks, extent,
     grammar, lex, parse_expr,
 };
-pub use al_expr_trees::{ContextTypes, Field, Scope, Ty, assignable, fuse, type_of};
 pub use al_types::{
-    Available, Context, ContextSet, Form, Function, FunctionSet, Parameters, Returned, Signature,
-    Wanted, signature_of,
+    Available, CONTEXTS, Context, Form, Function, Parameters, Returned, SPECIAL_FUNCTIONS,
+    Signature, Wanted, signature_of,
 };
+pub use fusing::fuse;
+pub use relations::assignable;
+pub use scope::{ContextTypes, Scope};
+pub use taking::tree_of;
+pub use trees::{Field, Ty};
+pub use typing::type_of;
 
 #[cfg(test)]
 mod tests;

@@ -1,7 +1,7 @@
 //! Tests of types and of type faults, by worked rows.
 
 use crate::{
-    Available, ContextSet, ContextTypes, Field, Form, FunctionSet, Scope, Ty, assignable, fuse,
+    Available, Context, ContextTypes, Field, Form, Function, Scope, Ty, assignable, fuse,
     parse_expr, signature_of, type_of,
 };
 use al_base::{Code, ExpressionCode, Fault};
@@ -18,27 +18,20 @@ fn field(alloc: Global, name: &str, ty: Ty) -> Result<Field, AllocError> {
 /// Every context except `secrets`, and of the special functions only `hashFiles`.
 fn available() -> Available {
     Available {
-        contexts: ContextSet {
-            github: true,
-            env: true,
-            vars: true,
-            secrets: false,
-            runner: true,
-            job: true,
-            strategy: true,
-            needs: true,
-            jobs: true,
-            steps: true,
-            matrix: true,
-            inputs: true,
-        },
-        functions: FunctionSet {
-            hash_files: true,
-            success: false,
-            always: false,
-            cancelled: false,
-            failure: false,
-        },
+        contexts: &[
+            Context::Github,
+            Context::Env,
+            Context::Vars,
+            Context::Runner,
+            Context::Job,
+            Context::Strategy,
+            Context::Needs,
+            Context::Jobs,
+            Context::Steps,
+            Context::Matrix,
+            Context::Inputs,
+        ],
+        special: &[Function::HashFiles],
     }
 }
 

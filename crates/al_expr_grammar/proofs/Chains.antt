@@ -12,8 +12,8 @@ use Rattle.al_expr_grammar.specs.Tree.{Sign, sign, Tree, Negated, Path, Chain, S
 use Rattle.al_expr_grammar.specs.Grammar.{Binary, Unary, Postfix, Primary, level_of, below, single, chain, positive, negated, bare, path}
 use Rattle.al_expr_grammar.specs.Grammar.{Operators, no_more, one_more, Walks, arrived, to_property, to_keyword, to_all, to_each, to_index}
 use Rattle.al_expr_grammar.specs.Table.{Verdict, TooDeep, E, O, Frame, outside, scan}
-use Rattle.al_expr_grammar.specs.Parsed.{StartsAt, Goes, EndsPath, EndsLevel, EndsRule, Parsed, Refused, PartOfChain, PartOfPath, StepRead, StepRefused, NoOperator}
-use Rattle.al_expr_grammar.proofs.Rules.{not_deeper, too_deep, settled, same_length, refused_map, path_refused_map}
+use Rattle.al_expr_grammar.specs.Parsed.{StartsAt, IsVerdict, EndsPath, EndsLevel, EndsRule, Parsed, Refused, PartOfChain, PartOfPath, StepRead, StepRefused, NoOperator}
+use Rattle.al_expr_grammar.proofs.Rules.{not_deeper, too_deep, likewise, settled, same_length}
 
 -- a negation
 pub not_read : (room inner : ℕ) (b : List ℕ) (s : Span) (ts rest : List Lexeme) (t : Tree) → inner + 1 ≡ room → Parsed Unary inner ts t rest
@@ -26,7 +26,7 @@ not_read room inner b s ts rest t e p = record {
 }
 
 pub not_refused : (room inner : ℕ) (b : List ℕ) (s : Span) (ts : List Lexeme) (e : ParseError) → inner + 1 ≡ room → Refused Unary inner ts e → Refused Unary room (lexeme Bang b s ∷ ts) e
-not_refused room inner b s ts e one r = refused_map Unary Unary inner room ts (lexeme Bang b s ∷ ts) e (λ v g k st a h. not_deeper (k + outside st) _ _ (omega arith) ∙ g (suc k) st tt (omega arith)) r
+not_refused room inner b s ts e one r = λ k st a h. likewise e _ _ (not_deeper (k + outside st) _ _ (omega arith)) (r (suc k) st tt (omega arith))
 
 pub not_deep : (b : List ℕ) (s : Span) (ts : List Lexeme) → Refused Unary 0 (lexeme Bang b s ∷ ts) (error.TooDeep (suc (length ts)))
 not_deep b s ts = λ k st a h. too_deep (k + outside st) _ _ (omega arith) ∙ ap (λ n. TooDeep (suc n)) (same_length ts)
@@ -34,9 +34,6 @@ not_deep b s ts = λ k st a h. too_deep (k + outside st) _ _ (omega arith) ∙ a
 -- An operand without a negation is a level of its own.
 pub positive_read : (room : ℕ) (ts rest : List Lexeme) (t : Tree) → Parsed Postfix room ts t rest → Parsed Unary room ts t rest
 positive_read room ts rest t p = record { derives = positive p.derives; goes = p.goes; stops = p.stops; shorter = p.shorter }
-
-pub positive_refused : (room : ℕ) (ts : List Lexeme) (e : ParseError) → Refused Postfix room ts e → Refused Unary room ts e
-positive_refused room ts e r = refused_map Postfix Unary room room ts ts e (λ v g k st a h. g k st tt h) r
 
 -- paths
 pub bare_read : (room : ℕ) (ts rest : List Lexeme) (t : Tree) → Parsed Primary room ts t rest → EndsPath (kinds rest) → Parsed Postfix room ts t rest
@@ -83,14 +80,10 @@ pub steps_read : (room : ℕ) (ts mid rest : List Lexeme) (t : Tree) (ss : List 
 steps_read room ts mid rest t [] p w ends = bare_read room ts rest t (subst (λ m. Parsed Primary room ts t m) (walks_none w.derives refl) p) ends
 steps_read room ts mid rest t (s ∷ ss) p w ends = path_read room ts mid rest t s ss p w ends
 
--- what a path begins with is refused
-pub base_refused : (room : ℕ) (ts : List Lexeme) (e : ParseError) → Refused Primary room ts e → Refused Postfix room ts e
-base_refused room ts e r = refused_map Primary Postfix room room ts ts e (λ v g k st a h. g k st tt h) r
-
 -- a step of a path is refused
 pub path_refused : (room : ℕ) (ts mid left : List Lexeme) (t : Tree) (ss : List StepTree) (e : ParseError) → Parsed Primary room ts t mid
     → PartOfPath room mid ss left → StepRefused room left e → Refused Postfix room ts e
-path_refused room ts mid left t ss e p w r = path_refused_map Postfix room room left ts e (λ v g k st a h. p.goes k st tt h ∙ w.goes k st h ∙ g k st h) r
+path_refused room ts mid left t ss e p w r = λ k st a h. likewise e _ _ (p.goes k st tt h ∙ w.goes k st h) (r k st h)
 
 -- chains of operators
 no_tighter : (ts : List TokenKind) → EndsPath ts → NoOperator 0 ts → EndsLevel 0 ts
@@ -112,13 +105,14 @@ starts_below zero = tt
 starts_below (suc l) = refl
 
 -- from the start of a chain, where no negation is open
-from_start : (l room : ℕ) (ts : List Lexeme) (v : ℕ → List Frame → Verdict) → ((st : List Frame) → outside st + room ≡ 50 → scan E 0 st (kinds ts) ≡ v 0 st) → Goes (Binary l) room ts v
-from_start l room ts v g k st a h = subst (λ j. j + outside st + room ≡ 50 → scan E j st (kinds ts) ≡ v j st) (sym a) (λ f. g st (omega arith)) h
+from_start : (l room : ℕ) (ts : List Lexeme) (P : ℕ → List Frame → Verdict → Type 0) → ((st : List Frame) → outside st + room ≡ 50 → P 0 st (scan E 0 st (kinds ts)))
+    → (k : ℕ) (st : List Frame) → StartsAt (Binary l) k → k + outside st + room ≡ 50 → P k st (scan E k st (kinds ts))
+from_start l room ts P g k st a h = subst (λ j. j + outside st + room ≡ 50 → P j st (scan E j st (kinds ts))) (sym a) (λ f. g st (omega arith)) h
 
 pub single_read : (l room : ℕ) (ts rest : List Lexeme) (t : Tree) → Parsed (below l) room ts t rest → NoOperator l (kinds rest) → Parsed (Binary l) room ts t rest
 single_read l room ts rest t p never = record {
   derives = single p.derives;
-  goes = from_start l room ts (λ k st. scan O k st (kinds rest)) (λ st f. p.goes 0 st (starts_below l) (omega arith));
+  goes = from_start l room ts (λ k st v. v ≡ scan O k st (kinds rest)) (λ st f. p.goes 0 st (starts_below l) (omega arith));
   stops = ends_below l (kinds rest) p.stops never;
   shorter = p.shorter;
 }
@@ -128,7 +122,7 @@ pub chain_read : (l room : ℕ) (ts mid rest : List Lexeme) (t : Tree) (o : Sign
     → Parsed (Binary l) room ts (Chain t (operands_of (o ∷ os))) rest
 chain_read l room ts mid rest t o os p c s never = record {
   derives = chain p.derives c.derives;
-  goes = from_start l room ts (λ k st. scan O k st (kinds rest)) (λ st f. p.goes 0 st (starts_below l) (omega arith) ∙ c.goes st f);
+  goes = from_start l room ts (λ k st v. v ≡ scan O k st (kinds rest)) (λ st f. p.goes 0 st (starts_below l) (omega arith) ∙ c.goes st f);
   stops = ends_below l (kinds rest) s never;
   shorter = let a = p.shorter in let b = c.shorter in omega arith;
 }
@@ -162,13 +156,13 @@ operands_read l room ts mid rest t (o ∷ os) p c s never = chain_read l room ts
 
 -- an operand of a chain is refused, the first or a later one
 pub first_refused : (l room : ℕ) (ts : List Lexeme) (e : ParseError) → Refused (below l) room ts e → Refused (Binary l) room ts e
-first_refused l room ts e r = refused_map (below l) (Binary l) room room ts ts e (λ v g. from_start l room ts (λ k st. v) (λ st f. g 0 st (starts_below l) (omega arith))) r
+first_refused l room ts e r = from_start l room ts (λ k st v. IsVerdict e v) (λ st f. r 0 st (starts_below l) (omega arith))
 
 pub later_refused : (l room : ℕ) (ts mid inner : List Lexeme) (t : Tree) (os : List (Sign × Tree)) (o : Operator) (b : List ℕ) (s : Span)
     (e : ParseError) → Parsed (below l) room ts t mid → PartOfChain l room mid os (lexeme (Infix o) b s ∷ inner)
     → Refused (below l) room inner e → Refused (Binary l) room ts e
-later_refused l room ts mid inner t os o b s e p c r = refused_map (below l) (Binary l) room room inner ts e
-    (λ v g. from_start l room ts (λ k st. v) (λ st f. p.goes 0 st (starts_below l) (omega arith) ∙ c.goes st f ∙ g 0 st (starts_below l) (omega arith))) r
+later_refused l room ts mid inner t os o b s e p c r = from_start l room ts (λ k st v. IsVerdict e v)
+    (λ st f. likewise e _ _ (p.goes 0 st (starts_below l) (omega arith) ∙ c.goes st f) (r 0 st (starts_below l) (omega arith)))
 
 pub either_way : {A F : Type 0} (P P' : A → Type 0) (Q Q' : F → Type 0) (r : Result A F) → ((a : A) → P a → P' a) → ((e : F) → Q e → Q' e) → MatchResult r P Q → MatchResult r P' Q'
 either_way P P' Q Q' (Ok a) f g h = f a h

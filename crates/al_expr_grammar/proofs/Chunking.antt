@@ -1,109 +1,177 @@
--- One step of reading chunks.
-use Rattle.std.proofs.Common.{◌≡◌, ◌≤◌, ◌<◌, ℕ, zero, suc, ◌+◌, List, [], ◌∷◌, ◌++◌, length, drop, get_or, refl, sym, ap, ◌∙◌, arith}
-use Rattle.std.proofs.Common.{add-zero, append_assoc, Bool, true, false, cond, ◌&&◌, ◌==◌, subst, length-drop}
+-- Where chunks open and close, and how they are read one after another.
+use Rattle.std.proofs.Common.{◌≡◌, ◌≤◌, ◌<◌, ◌-◌, ℕ, zero, suc, ◌+◌, List, [], ◌∷◌, ◌++◌, length, drop, take, get_or, refl, sym, ap, ◌∙◌, arith}
+use Rattle.std.proofs.Common.{append-nil, append_assoc, Bool, true, false, cond, ◌&&◌, not, subst, length-append, length-drop, drop-drop, Option, Some, None}
+use Rattle.std.proofs.lemmas.Bool.{and_parts}
 use Rattle.std.proofs.lemmas.Bool.Decides.{nat_tests}
-use Rattle.std.proofs.lemmas.List.{get_or-drop}
-use Rattle.std.proofs.lemmas.Str.{IsCharBoundary-after_ascii}
-use Rattle.std.proofs.lemmas.List.Elements.{All-append}
-use Rattle.std.specs.Prelude.{All}
+use Rattle.std.proofs.lemmas.List.{at_drop_more, get_or-drop, take_more}
+use Rattle.std.proofs.lemmas.Str.{IsCharBoundary-after_ascii, IsCharBoundary-before_ascii}
+use Rattle.std.specs.List.{range_with_len}
+use Rattle.std.specs.Prelude.{find, option_map}
 use Rattle.std.specs.Str.{IsUtf8, IsCharBoundary}
+use Rattle.al_base.specs.declared.faults.Fault.{Fault}
 use Rattle.al_base.specs.declared.faults.Span.{Span}
-use Rattle.al_expr_grammar.specs.declared.chunk.Chunk.{Chunk}
-use Rattle.al_expr_grammar.specs.declared.chunk.ChunkState.{ChunkState}
-use Rattle.al_expr_grammar.specs.declared.chunk.ChunkState.TheVariants.{Outside, Inside, Quoted}
-use Rattle.al_expr_grammar.specs.declared.chunk.Move.{Move}
-use Rattle.al_expr_grammar.specs.declared.chunk.Move.TheVariants.{On, End}
-use Rattle.al_base.specs.Ascii.{ascii}
-use Rattle.al_base.specs.FirstBytes.{first_is}
-use Rattle.al_expr_grammar.specs.Tokens.{is_quote}
 use Rattle.al_base.specs.Spans.{span}
-use Rattle.al_expr_grammar.specs.Chunks.{Chunked, opens, closes, then_chunk, IsCutFrom}
-use Rattle.al_expr_grammar.specs.Private.ChunkStates.{move, after_move, chunks_from, behind_chunks, Opens, StandsIn}
+use Rattle.al_expr_grammar.specs.Tokens.{add_to, is_quote}
+use Rattle.al_expr_grammar.specs.Chunks.{Chunked, before_opening, chunks_of, chunks_within, closes, closing_position, is_outside_quotes, no_chunks, open_fault, opens, then_chunk}
+use Rattle.al_expr_grammar.specs.Chunks.{with_content, with_opening}
 
-pub skipped : (n at : ℕ) (w : ChunkState) (bs : List ℕ) → n ≤ length bs → chunks_from n w at bs ≡ chunks_from 0 w (at + n) (drop n bs)
-skipped zero at w bs h = sym (ap (λ a. chunks_from 0 w a bs) (add-zero at))
-skipped (suc n) at w [] h = absurd (omega arith)
-skipped (suc n) at w (b ∷ bs) h = let e : (at + 1) + n ≡ at + suc n = omega arith in skipped n (at + 1) w bs (omega arith) ∙ ap (λ a. chunks_from 0 w a (drop n bs)) e
+-- ---- openings
 
-step_on : (state w : ChunkState) (at skip b : ℕ) (bs : List ℕ) → On skip w ≡ move state at (b ∷ bs) → skip ≤ length bs →
-    chunks_from 0 state at (b ∷ bs) ≡ chunks_from 0 w (at + suc skip) (drop skip bs)
-step_on state w at skip b bs m f =
-    let e : (at + 1) + skip ≡ at + suc skip = omega arith in
-    ap (λ x. after_move x at (λ n v. chunks_from n v (at + 1) bs)) (sym m) ∙ skipped skip (at + 1) w bs f ∙ ap (λ a. chunks_from 0 w a (drop skip bs)) e
+one_further : (i : ℕ) (o : Option ℕ) → add_to i (option_map suc o) ≡ add_to (i + 1) o
+one_further i None = refl
+one_further i (Some n) = ap Some (omega arith)
 
-pub goes_on : (state w : ChunkState) (at skip n : ℕ) (bs : List ℕ) → On skip w ≡ move state at bs → n ≡ suc skip → n ≤ length bs →
-    chunks_from 0 state at bs ≡ chunks_from 0 w (at + n) (drop n bs)
-goes_on state w at skip n [] m e f = absurd (omega arith)
-goes_on state w at skip n (b ∷ bs) m e f = rw e (step_on state w at skip b bs m (omega arith))
+pub opening_later : (bs : List ℕ) (i : ℕ) → i < length bs → opens (drop i bs) ≡ false
+    → add_to i (before_opening (drop i bs)) ≡ add_to (i + 1) (before_opening (drop (i + 1) bs))
+opening_later bs i h e =
+    let there = at_drop_more (λ l. l) bs i 0 h in
+    let here : opens (get_or bs i 0 ∷ drop (i + 1) bs) ≡ false = ap opens (sym there) ∙ e in
+    ap (λ l. add_to i (before_opening l)) there
+    ∙ ap (λ t. add_to i (cond t (Some 0) (option_map suc (before_opening (drop (i + 1) bs))))) here ∙ one_further i (before_opening (drop (i + 1) bs))
 
-step_end : (state : ChunkState) (at start b : ℕ) (bs : List ℕ) → End start ≡ move state at (b ∷ bs) → 1 ≤ length bs →
-    chunks_from 0 state at (b ∷ bs) ≡ then_chunk (span start at) (chunks_from 0 Outside (at + 2) (drop 1 bs))
-step_end state at start b bs m f =
-    let e : (at + 1) + 1 ≡ at + 2 = omega arith in
-    ap (λ x. after_move x at (λ n v. chunks_from n v (at + 1) bs)) (sym m) ∙ ap (then_chunk (span start at)) (skipped 1 (at + 1) Outside bs f ∙ ap (λ a. chunks_from 0 Outside a (drop 1 bs)) e)
+first_at : (P : ℕ → Type 0) (t : Bool) (o : Option ℕ) (n : ℕ) → cond t (Some 0) (option_map suc o) ≡ Some n → (t ≡ true → P 0)
+    → ((m : ℕ) → o ≡ Some m → P (suc m)) → P n
+first_at P true o n e f g = let z : 0 ≡ n = cc in subst P z (f refl)
+first_at P false (Some m) n e f g = let z : suc m ≡ n = cc in subst P z (g m refl)
+first_at P false None n e f g = absurd cc
 
-pub ends : (state : ChunkState) (at start : ℕ) (bs : List ℕ) → End start ≡ move state at bs → 2 ≤ length bs →
-    chunks_from 0 state at bs ≡ then_chunk (span start at) (chunks_from 0 Outside (at + 2) (drop 2 bs))
-ends state at start [] m f = absurd (omega arith)
-ends state at start (b ∷ bs) m f = step_end state at start b bs m (omega arith)
+pub opens_there : (bs : List ℕ) (n : ℕ) → before_opening bs ≡ Some n → opens (drop n bs) ≡ true
+opens_there [] n e = absurd cc
+opens_there (b ∷ bs) n e = first_at (λ m. opens (drop m (b ∷ bs)) ≡ true) (opens (b ∷ bs)) (before_opening bs) n e (λ h. h) (λ m f. opens_there bs m f)
+
+three : (bs : List ℕ) → opens bs ≡ true → (3 ≤ length bs) × (get_or bs 2 0 < 128)
+three [] h = absurd cc
+three (a ∷ []) h = absurd (grind (arith, nat_tests))
+three (a ∷ b ∷ []) h = absurd (grind (arith, nat_tests))
+three (a ∷ b ∷ c ∷ bs) h = (omega arith, grind (arith, nat_tests))
+
+pub opens_within : (bs : List ℕ) (n : ℕ) → opens (drop n bs) ≡ true → n + 3 ≤ length bs
+opens_within bs n h = let t = (three (drop n bs) h).0 in omega (arith, t, length-drop n bs)
+
+pub opening_fits : (bs : List ℕ) (n : ℕ) → before_opening bs ≡ Some n → n + 3 ≤ length bs
+opening_fits bs n e = opens_within bs n (opens_there bs n e)
+
+-- A content begins a character.
+pub opening_ends : (bs : List ℕ) (at n : ℕ) → IsUtf8 bs → before_opening (drop at bs) ≡ Some n → IsCharBoundary bs (at + n + 3)
+opening_ends bs at n u e =
+    let t = three (drop n (drop at bs)) (opens_there (drop at bs) n e) in
+    let low : get_or bs (at + (n + 2)) 0 < 128 = rw (get_or-drop, get_or-drop) at t.1 in
+    let there : at + (n + 2) + 1 ≡ at + n + 3 = omega arith in
+    let fits = opening_fits (drop at bs) n e in
+    subst (IsCharBoundary bs) there (IsCharBoundary-after_ascii bs (at + (n + 2)) u (omega (arith, fits, length-drop at bs)) low)
+
+-- ---- closings
+
+-- whether a content ends behind so many of these bytes
+abbrev pub closes_at : List ℕ → ℕ → Bool
+closes_at bs n = is_outside_quotes (take n bs) && closes (drop n bs)
+
+pub closing_later : (bs : List ℕ) (i : ℕ) → i < length bs → closes_at bs i ≡ false
+    → find (closes_at bs) (range_with_len i (length bs - i)) ≡ find (closes_at bs) (range_with_len (i + 1) (length bs - (i + 1)))
+closing_later bs i h e =
+    let more : length bs - i ≡ suc (length bs - (i + 1)) = omega (arith, h) in
+    ap (λ n. find (closes_at bs) (range_with_len i n)) more ∙ ap (λ t. cond t (Some i) (find (closes_at bs) (range_with_len (i + 1) (length bs - (i + 1))))) e
+
+turned : (s t x y : Bool) → x ≡ cond t (not y) y → cond s (not x) x ≡ cond t (not (cond s (not y) y)) (cond s (not y) y)
+turned true true x y e = ap not e
+turned false true x y e = e
+turned s false x y e = ap (λ z. cond s (not z) z) e
+
+quotes_more : (front : List ℕ) (b : ℕ) → is_outside_quotes (front ++ b ∷ []) ≡ cond (is_quote b) (not (is_outside_quotes front)) (is_outside_quotes front)
+quotes_more [] b = refl
+quotes_more (c ∷ front) b = turned (is_quote c) (is_quote b) (is_outside_quotes (front ++ b ∷ [])) (is_outside_quotes front) (quotes_more front b)
+
+pub quotes_next : (bs : List ℕ) (i : ℕ) → i < length bs
+    → is_outside_quotes (take (i + 1) bs) ≡ cond (is_quote (get_or bs i 0)) (not (is_outside_quotes (take i bs))) (is_outside_quotes (take i bs))
+quotes_next bs i h = ap is_outside_quotes (take_more bs i 0 h) ∙ quotes_more (take i bs) (get_or bs i 0)
+
+found_at : (p : ℕ → Bool) (xs : List ℕ) (x n : ℕ) (t : Bool) → p x ≡ t → cond t (Some x) (find p xs) ≡ Some n → (find p xs ≡ Some n → p n ≡ true) → p n ≡ true
+found_at p xs x n true h e f = let z : x ≡ n = cc in subst (λ m. p m ≡ true) z h
+found_at p xs x n false h e f = f e
+
+found : (p : ℕ → Bool) (xs : List ℕ) (n : ℕ) → find p xs ≡ Some n → p n ≡ true
+found p [] n e = absurd cc
+found p (x ∷ xs) n e = found_at p xs x n (p x) refl e (found p xs n)
+
+closes_there : (bs : List ℕ) (n : ℕ) → closing_position bs ≡ Some n → closes (drop n bs) ≡ true
+closes_there bs n e = (and_parts (is_outside_quotes (take n bs)) _ (found (closes_at bs) (range_with_len 0 (length bs)) n e)).1
+
+two : (bs : List ℕ) → closes bs ≡ true → (2 ≤ length bs) × (get_or bs 0 0 < 128)
+two [] h = absurd cc
+two (a ∷ []) h = absurd (grind (arith, nat_tests))
+two (a ∷ b ∷ bs) h = (omega arith, grind (arith, nat_tests))
+
+pub closes_within : (bs : List ℕ) (n : ℕ) → closes_at bs n ≡ true → n + 2 ≤ length bs
+closes_within bs n h = let t = (two (drop n bs) (and_parts (is_outside_quotes (take n bs)) _ h).1).0 in omega (arith, t, length-drop n bs)
+
+pub closing_fits : (bs : List ℕ) (n : ℕ) → closing_position bs ≡ Some n → n + 2 ≤ length bs
+closing_fits bs n e = closes_within bs n (found (closes_at bs) (range_with_len 0 (length bs)) n e)
+
+-- Its closing begins one.
+pub closing_begins : (bs : List ℕ) (at n : ℕ) → closing_position (drop at bs) ≡ Some n → IsCharBoundary bs (at + n)
+closing_begins bs at n e =
+    let t = two (drop n (drop at bs)) (closes_there (drop at bs) n e) in
+    let there : at + (n + 0) ≡ at + n = omega arith in
+    let low : get_or bs (at + n) 0 < 128 = rw (get_or-drop, get_or-drop, there) at t.1 in
+    let fits = closing_fits (drop at bs) n e in
+    IsCharBoundary-before_ascii bs (at + n) (omega (arith, fits, length-drop at bs)) low
+
+-- ---- chunk after chunk
+
+-- chunks read so far, before those of the rest
+abbrev pub behind_chunks : List Span → Chunked → Chunked
+behind_chunks front c = record { chunks = front ++ c.chunks; fault = c.fault }
 
 pub behind_one : (front : List Span) (s : Span) (c : Chunked) → behind_chunks front (then_chunk s c) ≡ behind_chunks (front ++ s ∷ []) c
 behind_one front s c = ap (λ l. record { chunks = l; fault = c.fault }) (sym (append_assoc front (s ∷ []) c.chunks))
 
--- where the reader stands behind a byte
-either : (R : Type 0) (t : Bool) (x y m : Move) → m ≡ cond t x y → (t ≡ true → m ≡ x → R) → (m ≡ y → R) → R
-either R true x y m e f g = f refl e
-either R false x y m e f g = g e
+-- the chunks of a text, where some were read already, up to a place in it
+abbrev pub AreRead : List ℕ → List Span → ℕ → Type 0
+AreRead text front at = chunks_of text ≡ behind_chunks front (chunks_within (length text - length front) at (drop at text))
 
-further : (text : List ℕ) (at next start : ℕ) → at ≤ next → Opens text at start → Opens text next start
-further text at next start h o = (o.0, omega (arith, o.1), o.2)
+-- these are all, with what is wrong at the text's end
+abbrev pub AreAll : List ℕ → List Span → Option Fault → Type 0
+AreAll text front f = (front ≡ (chunks_of text).chunks) × (f ≡ (chunks_of text).fault)
 
-second : (x y : Bool) → (x && y) ≡ true → y ≡ true
-second true y h = h
-second false y h = absurd cc
+module _ (text : List ℕ) (front : List Span) (at : ℕ) (so_far : AreRead text front at) where
+  all : (f : Option Fault) → chunks_within (length text - length front) at (drop at text) ≡ no_chunks f → AreAll text front f
+  all f e =
+      let d = so_far ∙ ap (behind_chunks front) e in
+      (sym (ap (λ c. c.chunks) d ∙ append-nil front), sym (ap (λ c. c.fault) d))
 
-pub third_is : (bs : List ℕ) → opens bs ≡ true → (3 ≤ length bs) × ((get_or bs 2 0 == ascii "{") ≡ true)
-third_is [] h = absurd cc
-third_is (a ∷ []) h = absurd (grind arith)
-third_is (a ∷ b ∷ []) h = absurd (grind arith)
-third_is (a ∷ b ∷ c ∷ bs) h = (omega arith, second (a == ascii "$" && b == ascii "{") (c == ascii "{") h)
+  none_opens : (n : ℕ) → None ≡ before_opening (drop at text) → chunks_within n at (drop at text) ≡ no_chunks None
+  none_opens zero e = refl
+  none_opens (suc n) e = ap (with_opening (chunks_within n) at (drop at text)) (sym e)
 
-brace : (b : ℕ) → (b == ascii "{") ≡ true → b < 128
-brace b h = grind (arith, nat_tests)
+  pub none_left : None ≡ before_opening (drop at text) → AreAll text front None
+  none_left e = all None (none_opens (length text - length front) e)
 
-opened : (text : List ℕ) (at : ℕ) → IsUtf8 text → at < length text → opens (drop at text) ≡ true → Opens text (at + 3) (at + 3)
-opened text at u h o =
-    let t = third_is (drop at text) o in
-    let some : 3 ≤ length (drop at text) = t.0 in
-    let low : get_or text (at + 2) 0 < 128 = brace (get_or text (at + 2) 0) (rw get_or-drop at t.1) in
-    let e : (at + 2) + 1 ≡ at + 3 = omega arith in
-    (omega arith, omega arith, subst (IsCharBoundary text) e (IsCharBoundary-after_ascii text (at + 2) u (omega (arith, length-drop at text)) low))
+  module _ (before : ℕ) (few : length front ≤ at) (opening : Some before ≡ before_opening (drop at text)) where
+    abbrev start : ℕ
+    start = at + before + 3
 
-same_move : (R : Type 0) (n k : ℕ) (v w : ChunkState) → On n v ≡ On k w → (n ≡ k → v ≡ w → R) → R
-same_move R n k v w e f = f (cc) (cc)
+    abbrev content : List ℕ
+    content = drop start text
 
-pub stands : (text : List ℕ) (state w : ChunkState) (at skip : ℕ) → IsUtf8 text → at < length text → On skip w
-    ≡ move state at (drop at text) → StandsIn text at state → StandsIn text (at + (1 + skip)) w
-stands text Outside w at skip u h m s =
-    either _ (opens (drop at text)) _ _ _ m
-    (λ o e. same_move _ _ _ _ _ e (λ n v. rw (v, n) (opened text at u h o)))
-    (λ e. same_move _ _ _ _ _ e (λ n v. rw v tt))
-stands text (Inside start) w at skip u h m s =
-    let later = further text at (at + 1) start (omega arith) s in
-    either _ (first_is is_quote (drop at text)) _ _ _ m
-    (λ q e. same_move _ _ _ _ _ e (λ n v. rw (v, n) (later, omega arith)))
-    (λ f. either _ (closes (drop at text)) _ _ _ f
-    (λ o e. absurd cc)
-    (λ e. same_move _ _ _ _ _ e (λ n v. rw (v, n) later)))
-stands text (Quoted start quote) w at skip u h m s =
-    let later = further text at (at + 1) start (omega arith) s.0 in
-    either _ (first_is is_quote (drop at text)) _ _ _ m
-    (λ q e. same_move _ _ _ _ _ e (λ n v. rw (v, n) later))
-    (λ e. same_move _ _ _ _ _ e (λ n v. rw (v, n) (later, omega (arith, s.1))))
+    opened : chunks_within (length text - length front) at (drop at text)
+        ≡ with_content (chunks_within (length text - (length front + 1))) start content (closing_position content)
+    opened =
+        let fits = opening_fits (drop at text) before (sym opening) in
+        let more : length text - length front ≡ suc (length text - (length front + 1)) = omega (arith, fits, few, length-drop at text) in
+        let there : at + (before + 3) ≡ at + before + 3 = omega arith in
+        let rest = chunks_within (length text - (length front + 1)) in
+        ap (λ k. chunks_within k at (drop at text)) more ∙ ap (with_opening rest at (drop at text)) (sym opening)
+        ∙ ap (λ bs. with_content rest start bs (closing_position bs)) (drop-drop (before + 3) at text ∙ ap (λ k. drop k text) there)
 
-only_one : {X : Type 0} (P : X → Type 0) (x : X) → P x → All P (x ∷ [])
-only_one P x h zero d l = h
-only_one P x h (suc k) d l = absurd (omega arith)
+    pub cut_off : None ≡ closing_position content → AreAll text front (open_fault start content)
+    cut_off e = all (open_fault start content) (opened ∙ ap (with_content (chunks_within (length text - (length front + 1))) start content) (sym e))
 
-pub cut_more : (text : List ℕ) (cs : List Chunk) (c : Chunk) → All (IsCutFrom text) cs → IsCutFrom text c → All (IsCutFrom text) (cs ++ c ∷ [])
-cut_more text cs c h g = All-append (IsCutFrom text) cs (c ∷ []) h (only_one (IsCutFrom text) c g)
+    pub one_more : (len : ℕ) → Some len ≡ closing_position content → AreRead text (front ++ span start (start + len) ∷ []) (start + len + 2)
+    one_more len e =
+        let there : start + (len + 2) ≡ start + len + 2 = omega arith in
+        let one = length-append front (span start (start + len) ∷ []) in
+        let rest = chunks_within (length text - (length front + 1)) in
+        rw one
+        (so_far ∙ ap (behind_chunks front) (opened ∙ ap (with_content rest start content) (sym e)
+        ∙ ap (λ bs. then_chunk (span start (start + len)) (rest (start + len + 2) bs)) (drop-drop (len + 2) start text ∙ ap (λ k. drop k text) there))
+        ∙ behind_one front (span start (start + len)) _)

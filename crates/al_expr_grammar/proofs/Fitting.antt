@@ -1,6 +1,7 @@
 -- A token that is read lies in the bytes, and its last byte is ASCII, so that a character ends with it.
 use Rattle.std.proofs.Common.{◌≡◌, ◌<◌, ◌≤◌, ◌+◌, ◌-◌, ℕ, zero, suc, List, [], ◌∷◌, length, length-drop, add-zero, inl, inr, ◌⊎◌, drop}
-use Rattle.std.proofs.Common.{refl, subst, arith, Bool, true, false, cond, ◌&&◌, nat_eq, max, Option, Some, None}
+use Rattle.std.proofs.Common.{refl, subst, arith, Bool, true, false, cond, nat_eq, max, Option, Some, None}
+use Rattle.std.proofs.lemmas.Bool.{and_parts}
 use Rattle.std.proofs.lemmas.Bool.Decides.{nat_tests}
 use Rattle.std.proofs.lemmas.List.{get_or-drop}
 use Rattle.std.proofs.lemmas.List.Sums.{prefix_len_passes, prefix_len-le-length}
@@ -76,15 +77,11 @@ begun : (c : ℕ) (bs : List ℕ) → begins_with c bs ≡ true → 1 ≤ length
 begun c [] h = absurd cc
 begun c (b ∷ bs) h = omega arith
 
-later : (a b : Bool) → (a && b) ≡ true → b ≡ true
-later true b h = h
-later false b h = absurd cc
-
 -- A text at the front lies in the bytes.
 pub text_within : (text bs : List ℕ) → starts_with nat_eq bs text ≡ true → length text ≤ length bs
 text_within [] bs h = omega arith
 text_within (c ∷ text) [] h = absurd cc
-text_within (c ∷ text) (b ∷ bs) h = let i = text_within text bs (later (nat_eq c b) _ h) in omega (arith, i)
+text_within (c ∷ text) (b ∷ bs) h = let i = text_within text bs (and_parts (nat_eq c b) _ h).1 in omega (arith, i)
 
 fraction_ends : (bs : List ℕ) → EndsRule bs (fraction_len bs)
 fraction_ends bs = either bs _ _ _ (λ h. with_ends bs 1 _ (begun _ bs h) (run_ends is_ascii_digit (drop 1 bs) digit_ascii)) (nothing bs)
@@ -144,7 +141,7 @@ one_more quote q b bs (Some (suc m)) f e =
     let last : slice_index bs (suc m - 1) ≡ 39 = e.1 (omega arith) in
     (omega (arith, e.0), (λ h. rw i (rw j at last)), (λ h. omega arith))
 
-quote_is : (b : ℕ) → nat_eq b 39 ≡ true → b ≡ 39
+pub quote_is : (b : ℕ) → nat_eq b 39 ≡ true → b ≡ 39
 quote_is b h = grind (arith, nat_tests)
 
 stays : (quote t : Bool) (b : ℕ) (bs : List ℕ) → (t ≡ true → b ≡ 39) → ((q : Bool) → TailEnds q bs (tail_from q bs)) → TailEnds quote (b ∷ bs) (after_byte quote t (λ q. tail_from q bs))

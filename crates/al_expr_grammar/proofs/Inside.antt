@@ -1,5 +1,5 @@
 -- Chunks, tokens, trees and faults lie in the text or content that they were found in.
-use Rattle.std.proofs.Common.{◌≡◌, ◌<◌, ◌≤◌, ◌+◌, ◌-◌, ℕ, zero, suc, List, [], ◌∷◌, length, drop, refl, sym, ◌∙◌, subst, arith, Bool, true, false, cond, nat_lt, Option, Some, None}
+use Rattle.std.proofs.Common.{◌≡◌, ◌<◌, ◌≤◌, ◌+◌, ◌-◌, ℕ, zero, suc, List, [], ◌∷◌, length, length-drop, drop, refl, ◌∙◌, subst, arith, Bool, true, false, cond, nat_lt, Option, Some, None}
 use Rattle.std.specs.Int.{is_in_range}
 use Rattle.std.specs.List.{AllByRecursion}
 use Rattle.std.specs.Option.{option_map, option_to_list}
@@ -7,38 +7,30 @@ use Rattle.std.proofs.lemmas.Bool.Decides.{nat_tests}
 use Rattle.std.proofs.lemmas.List.Sums.{prefix_len-le-length}
 use Rattle.std.specs.Option.{option_or}
 use Rattle.al_base.specs.Spans.{LiesIn, span}
+use Rattle.al_base.specs.declared.codes.ExpressionCode.TheVariants as code
 use Rattle.al_base.specs.declared.faults.Fault.{Fault}
 use Rattle.al_base.specs.declared.faults.Span.{Span}
-use Rattle.al_expr_grammar.specs.declared.chunk.Move.{Move}
-use Rattle.al_expr_grammar.specs.declared.chunk.Move.TheVariants.{On, End}
-use Rattle.al_expr_grammar.specs.declared.chunk.ChunkState.{ChunkState}
-use Rattle.al_expr_grammar.specs.declared.chunk.ChunkState.TheVariants.{Outside, Inside, Quoted}
 use Rattle.al_expr_grammar.specs.declared.lexer.Read.{Read}
 use Rattle.al_expr_grammar.specs.declared.lexer.Read.TheVariants.{Blank, Token, BadCharacter, OpenText}
 use Rattle.al_expr_grammar.specs.declared.token.TokenKind.{TokenKind}
-use Rattle.al_expr_grammar.specs.Chunks.{Chunked, chunks_of, closes, opens}
-use Rattle.al_expr_grammar.specs.Private.TokenStates.{continue_with, tokens_from}
-use Rattle.al_expr_grammar.specs.Private.ChunkStates.{chunks_from, end_fault, move, after_move}
-use Rattle.al_expr_grammar.proofs.ChunkLemmas.{states_give}
-use Rattle.al_expr_grammar.proofs.Chunking.{third_is}
+use Rattle.al_expr_grammar.specs.Chunks.{Chunked, before_opening, chunks_of, chunks_within, closing_position, is_outside_quotes, with_content, with_opening}
+use Rattle.al_expr_grammar.proofs.Chunking.{closing_fits, opening_fits}
 use Rattle.al_expr_grammar.specs.Extents.{across, extent, with_operands, with_steps}
 use Rattle.al_expr_grammar.specs.Grammar.{Nonterminal, Derives, single, chain, positive, negated, bare, path, constant, number, text, name}
 use Rattle.al_expr_grammar.specs.Grammar.{call_empty, call, group, Operators, no_more, one_more, Walks, arrived, to_property, to_keyword, to_all}
 use Rattle.al_expr_grammar.specs.Grammar.{to_each, to_index, Lists, listed, and_next}
 use Rattle.al_expr_grammar.specs.Inside.{AllLie}
 use Rattle.al_expr_grammar.specs.Lexeme.{Lexeme, lexeme, kinds}
-use Rattle.al_expr_grammar.specs.Refusal.{fault_at, fault_of_content, fault_of_lexed, fault_of_tokens, fault_of_verdict, open_text}
+use Rattle.al_expr_grammar.specs.Refusal.{expression_fault, fault_at, fault_of_content, fault_of_lexed, fault_of_tokens, fault_of_verdict, open_text}
 use Rattle.al_expr_grammar.specs.Table.{Verdict, Fine, Early, Unexpected, TooDeep, verdict_of}
-use Rattle.al_base.specs.FirstBytes.{first_is}
 use Rattle.al_expr_grammar.specs.Tokens.{Lexed, AllRead, Bad, Unclosed}
-use Rattle.al_expr_grammar.specs.Tokens.{is_quote, last_quote, read}
-use Rattle.al_expr_grammar.specs.Tokens.{then_token, tokens_of}
+use Rattle.al_expr_grammar.specs.Tokens.{add_to, is_quote, last_quote, read}
+use Rattle.al_expr_grammar.specs.Tokens.{then_token, tokens_of, tokens_within, with_first}
 use Rattle.al_expr_grammar.specs.Tree as tree
 use Rattle.al_expr_grammar.specs.Tree.{Sign, sign, Tree, Constant, Named, Call, Group, Negated, Path, Chain, PathSteps, NoStep, PropertyThen}
 use Rattle.al_expr_grammar.specs.Tree.{AllThen, IndexThen, StepTree, Operands, NoOperand, OperandThen, Arguments, NoArgument, ArgumentThen}
 use Rattle.al_expr_grammar.specs.Tree.{steps_of, operands_of, arguments_of}
 use Rattle.al_expr_grammar.proofs.Reading.{Short, read_short}
-use Rattle.al_expr_grammar.proofs.Splitting.{tokens_are}
 
 -- ---- where a tree begins
 
@@ -100,23 +92,21 @@ module _ (size : ℕ) where
   then_lies k b s (Bad t) i l = l
   then_lies k b s Unclosed i l = tt
 
-  continued : (r : Read) (at b : ℕ) (bs : List ℕ) (go : ℕ → Lexed) → at + length (b ∷ bs) ≤ size → Short (b ∷ bs) r →
-      ((skip : ℕ) → LexedLies (at + 1) (go skip)) → LexedLies at (continue_with r at (b ∷ bs) go)
-  continued Blank at b bs go room short ih = weaker_lexed at (at + 1) (go 0) (omega arith) (ih 0)
-  continued BadCharacter at b bs go room short ih =
+  first_lies : (n : ℕ) (r : Read) (at b : ℕ) (bs : List ℕ) → at + length (b ∷ bs) ≤ size → Short (b ∷ bs) r →
+      ((from : ℕ) (rest : List ℕ) → from + length rest ≤ size → LexedLies from (tokens_within n from rest)) → LexedLies at (with_first (tokens_within n) r at (b ∷ bs))
+  first_lies n Blank at b bs room short ih = weaker_lexed at (at + 1) (tokens_within n (at + 1) bs) (omega arith) (ih (at + 1) bs (omega (arith, room)))
+  first_lies n BadCharacter at b bs room short ih =
       let within = prefix_len-le-length (is_in_range 128 191) bs in
       record { ordered = omega arith; inside = omega (arith, within, room) }
-  continued OpenText at b bs go room short ih = tt
-  continued (Token k n) at b bs go room short ih =
-      then_lies k _ (span at (at + n)) (go (n - 1)) (record { ordered = omega arith; inside = omega (arith, room, short.1) })
-      (weaker_lexed at (at + 1) (go (n - 1)) (omega arith) (ih (n - 1)))
+  first_lies n OpenText at b bs room short ih = tt
+  first_lies n (Token k m) at b bs room short ih =
+      let rest = ih (at + m) (drop m (b ∷ bs)) (omega (arith, room, short.1, length-drop m (b ∷ bs))) in
+      then_lies k _ (span at (at + m)) _ (record { ordered = omega arith; inside = omega (arith, room, short.1) }) (weaker_lexed at (at + m) _ (omega arith) rest)
 
-  lexed_lies : (bs : List ℕ) (skip at : ℕ) → at + length bs ≤ size → LexedLies at (tokens_from skip at bs)
-  lexed_lies [] skip at room = tt
-  lexed_lies (b ∷ bs) (suc skip) at room =
-      weaker_lexed at (at + 1) (tokens_from skip (at + 1) bs) (omega arith) (lexed_lies bs skip (at + 1) (omega (arith, room)))
-  lexed_lies (b ∷ bs) zero at room =
-      continued (read (b ∷ bs)) at b bs (λ skip. tokens_from skip (at + 1) bs) room (read_short b bs) (λ skip. lexed_lies bs skip (at + 1) (omega (arith, room)))
+  lexed_lies : (n at : ℕ) (bs : List ℕ) → at + length bs ≤ size → LexedLies at (tokens_within n at bs)
+  lexed_lies zero at bs room = tt
+  lexed_lies (suc n) at [] room = tt
+  lexed_lies (suc n) at (b ∷ bs) room = first_lies n (read (b ∷ bs)) at b bs room (read_short b bs) (lexed_lies n)
 
   -- ---- trees lie in their content, each part behind where the tree begins
 
@@ -319,8 +309,7 @@ tokens_fault content (Bad s) l = (l, tt)
 tokens_fault content Unclosed l = unclosed_lies content
 
 content_lexed : (content : List ℕ) → LexedLies (length content) 0 (tokens_of content)
-content_lexed content =
-    subst (LexedLies (length content) 0) (sym (tokens_are (length content) 0 content (omega arith))) (lexed_lies (length content) content 0 0 (omega arith))
+content_lexed content = lexed_lies (length content) (length content) 0 content (omega arith)
 
 pub token_fault_lies : (content : List ℕ) → AllLie (length content) (option_to_list (fault_of_lexed content (tokens_of content)))
 token_fault_lies content = lexed_fault content (tokens_of content) (content_lexed content)
@@ -358,53 +347,33 @@ extent_lies size t l = whole_lies size 0 t l
 -- ---- chunks
 
 module _ (size : ℕ) where
-  abbrev Stands : ℕ → ChunkState → Type 0
-  Stands at Outside = Unit {0}
-  Stands at (Inside start) = (start ≤ at) × (start ≤ size)
-  Stands at (Quoted start quote) = (start ≤ at) × (start ≤ size) × (quote < size)
-
-  abbrev Leads : ℕ → Move → Type 0
-  Leads at (On skip w) = Stands (at + 1 + skip) w
-  Leads at (End start) = start ≤ at
-
   abbrev ChunkedLies : Chunked → Type 0
   ChunkedLies c = AllByRecursion (λ (s : Span). LiesIn size s) c.chunks × AllLie size (option_to_list c.fault)
 
-  end_lies : (w : ChunkState) (at : ℕ) → Stands at w → AllLie size (option_to_list (end_fault w))
-  end_lies Outside at s = tt
-  end_lies (Inside start) at s = (record { ordered = omega arith; inside = s.1 }, tt)
-  end_lies (Quoted start quote) at s = let q = s.2 in (record { ordered = omega arith; inside = omega (arith, q) }, tt)
+  open_lies : (outside : Bool) (start len : ℕ) (quote : Option ℕ) → start + len ≤ size → IsBelow len quote
+      → AllLie size (option_to_list (cond outside (Some (expression_fault code.UnclosedChunk (span (start - 3) start) [])) (open_text (add_to start quote))))
+  open_lies true start len quote room h = (record { ordered = omega arith; inside = omega (arith, room) }, tt)
+  open_lies false start len None room h = tt
+  open_lies false start len (Some q) room h = (record { ordered = omega arith; inside = omega (arith, room, h) }, tt)
 
-  if_leads : (at : ℕ) (t : Bool) (x y : Move) → (t ≡ true → Leads at x) → Leads at y → Leads at (cond t x y)
-  if_leads at true x y a b = a refl
-  if_leads at false x y a b = b
+  content_lies : (n start : ℕ) (bs : List ℕ) (o : Option ℕ) → start + length bs ≤ size → closing_position bs ≡ o
+      → ((at : ℕ) (rest : List ℕ) → at + length rest ≤ size → ChunkedLies (chunks_within n at rest)) → ChunkedLies (with_content (chunks_within n) start bs o)
+  content_lies n start bs None room e ih = (tt, open_lies (is_outside_quotes bs) start (length bs) (last_quote bs) room (last_below bs))
+  content_lies n start bs (Some len) room e ih =
+      let fits = closing_fits bs len e in
+      let rest = ih (start + len + 2) (drop (len + 2) bs) (omega (arith, room, fits, length-drop (len + 2) bs)) in
+      ((record { ordered = omega arith; inside = omega (arith, room, fits) }, rest.0), rest.1)
 
-  move_leads : (w : ChunkState) (at b : ℕ) (bs : List ℕ) → at + length (b ∷ bs) ≤ size → Stands at w → Leads at (move w at (b ∷ bs))
-  move_leads Outside at b bs room s =
-      if_leads at (opens (b ∷ bs)) (On 2 (Inside (at + 3))) (On 0 Outside) (λ e. let t = (third_is (b ∷ bs) e).0 in (omega arith, omega (arith, t, room))) tt
-  move_leads (Inside start) at b bs room s =
-      let h = s.0 in
-      if_leads at (first_is is_quote (b ∷ bs)) (On 0 (Quoted start at)) (cond (closes (b ∷ bs)) (End start) (On 0 (Inside start))) (λ e. (omega (arith, h), s.1, omega (arith, room)))
-      (if_leads at (closes (b ∷ bs)) (End start) (On 0 (Inside start)) (λ e. h) (omega (arith, h), s.1))
-  move_leads (Quoted start quote) at b bs room s =
-      let h = s.0 in
-      if_leads at (first_is is_quote (b ∷ bs)) (On 0 (Inside start)) (On 0 (Quoted start quote)) (λ e. (omega (arith, h), s.1)) (omega (arith, h), s.1, s.2)
+  opening_lies : (n at : ℕ) (bs : List ℕ) (o : Option ℕ) → at + length bs ≤ size → before_opening bs ≡ o
+      → ((at : ℕ) (rest : List ℕ) → at + length rest ≤ size → ChunkedLies (chunks_within n at rest)) → ChunkedLies (with_opening (chunks_within n) at bs o)
+  opening_lies n at bs None room e ih = (tt, tt)
+  opening_lies n at bs (Some before) room e ih =
+      let fits = opening_fits bs before e in
+      content_lies n (at + before + 3) (drop (before + 3) bs) (closing_position (drop (before + 3) bs)) (omega (arith, room, fits, length-drop (before + 3) bs)) refl ih
 
-  moved_lies : (m : Move) (at : ℕ) (go : ℕ → ChunkState → Chunked) → at ≤ size → Leads at m →
-      ((skip : ℕ) (w : ChunkState) → Stands (at + 1 + skip) w → ChunkedLies (go skip w)) → ChunkedLies (after_move m at go)
-  moved_lies (On skip w) at go room l ih = ih skip w l
-  moved_lies (End start) at go room l ih = let x = ih 1 Outside tt in ((record { ordered = l; inside = room }, x.0), x.1)
-
-  chunked_lies : (bs : List ℕ) (skip : ℕ) (w : ChunkState) (at : ℕ) → at + length bs ≤ size → Stands (at + skip) w → ChunkedLies (chunks_from skip w at bs)
-  chunked_lies [] skip w at room s = (tt, end_lies w (at + skip) s)
-  chunked_lies (b ∷ bs) (suc skip) w at room s =
-      let e : at + suc skip ≡ (at + 1) + skip = omega arith in
-      chunked_lies bs skip w (at + 1) (omega (arith, room)) (subst (λ n. Stands n w) e s)
-  chunked_lies (b ∷ bs) zero w at room s =
-      let e : at + 0 ≡ at = omega arith in
-      moved_lies (move w at (b ∷ bs)) at (λ skip v. chunks_from skip v (at + 1) bs) (omega (arith, room))
-      (move_leads w at b bs room (subst (λ n. Stands n w) e s))
-      (λ skip v t. chunked_lies bs skip v (at + 1) (omega (arith, room)) t)
+  chunked_lies : (n at : ℕ) (bs : List ℕ) → at + length bs ≤ size → ChunkedLies (chunks_within n at bs)
+  chunked_lies zero at bs room = (tt, tt)
+  chunked_lies (suc n) at bs room = opening_lies n at bs (before_opening bs) room refl (chunked_lies n)
 
 pub chunks_lie : (text : List ℕ) → AllByRecursion (λ (s : Span). LiesIn (length text) s) (chunks_of text).chunks × AllLie (length text) (option_to_list (chunks_of text).fault)
-chunks_lie bytes = subst (ChunkedLies (length bytes)) (states_give bytes) (chunked_lies (length bytes) bytes 0 Outside 0 (omega arith) tt)
+chunks_lie bytes = chunked_lies (length bytes) (length bytes) 0 bytes (omega arith)

@@ -1,12 +1,12 @@
 -- A fault of the table stands at one of the tokens.
-use Rattle.std.proofs.Common.{◌≡◌, ◌<◌, ◌≤◌, ℕ, zero, suc, List, [], ◌∷◌, length, drop, arith, Bool, true, false, subst, Some}
+use Rattle.std.proofs.Common.{◌≡◌, ◌<◌, ◌≤◌, ℕ, zero, suc, List, [], ◌∷◌, length, drop, arith, Bool, true, false, subst, ◌∙◌, Some}
 use Rattle.std.proofs.lemmas.List.{length-map}
 use Rattle.std.specs.Prelude.{map, slice_get}
 use Rattle.al_base.specs.declared.faults.Span.{Span}
 use Rattle.al_base.specs.declared.faults.Fault.{Fault}
 use Rattle.al_expr_grammar.specs.declared.token.TokenKind.{TokenKind}
 use Rattle.al_expr_grammar.specs.declared.token.Token.{Token}
-use Rattle.al_expr_grammar.specs.Lexeme.{Lexeme, lexeme, kinds, lexeme_text, lexeme_span, seen}
+use Rattle.al_expr_grammar.specs.Lexeme.{Lexeme, lexeme, kind_of, kinds, lexeme_text, lexeme_span, seen}
 use Rattle.al_expr_grammar.specs.Refusal.{fault_at}
 use Rattle.al_expr_grammar.specs.Table.{Verdict, Unexpected, TooDeep, Mode, E, O, N, Frame, Transition, Stuck, Go, Deeper, step, onward, finish, scan, verdict_of}
 
@@ -39,15 +39,10 @@ pub lies_in : (ts : List TokenKind) (m : Mode) (k : ℕ) (st : List Frame) → L
 lies_in [] m k st = at_end m st
 lies_in (t ∷ ts) m k st = lies_on (step m k st t) _ (length ts) _ (λ m' k' st'. lies_in ts m' k' st')
 
-pub unexpected_lies : (ts : List Token) (n : ℕ) → verdict_of (kinds (map seen ts)) ≡ Unexpected n → (0 < n) × (n ≤ length ts)
-unexpected_lies ts n e =
-    let h = subst (LiesIn (length (kinds (map seen ts)))) e (lies_in (kinds (map seen ts)) E 0 []) in
-    (h.0, omega (arith, h.1, length-map {A = Lexeme} {B = TokenKind}, length-map {A = Token} {B = Lexeme}))
-
-pub too_deep_lies : (ts : List Token) (n : ℕ) → verdict_of (kinds (map seen ts)) ≡ TooDeep n → (0 < n) × (n ≤ length ts)
-too_deep_lies ts n e =
-    let h = subst (LiesIn (length (kinds (map seen ts)))) e (lies_in (kinds (map seen ts)) E 0 []) in
-    (h.0, omega (arith, h.1, length-map {A = Lexeme} {B = TokenKind}, length-map {A = Token} {B = Lexeme}))
+pub verdict_lies : (ts : List Token) (v : Verdict) → verdict_of (kinds (map seen ts)) ≡ v → LiesIn (length ts) v
+verdict_lies ts v e =
+    let same : length (kinds (map seen ts)) ≡ length ts = length-map (map seen ts) kind_of ∙ length-map ts seen in
+    subst (λ n. LiesIn n v) same (subst (LiesIn (length (kinds (map seen ts)))) e (lies_in (kinds (map seen ts)) E 0 []))
 
 -- the fault at the token with this index
 pub fault_at_token : (make : Span → List ℕ → Fault) (ts : List Lexeme) (i : ℕ) (t : Lexeme) → slice_get ts i ≡ Some t → fault_at make (drop i ts) ≡ Some (make (lexeme_span t) (lexeme_text t))

@@ -1,42 +1,74 @@
 -- One step of reading tokens.
-use Rattle.std.proofs.Common.{◌≡◌, ◌≤◌, ◌<◌, ◌-◌, ℕ, zero, suc, ◌+◌, List, [], ◌∷◌, ◌++◌, length, drop, take, refl, sym, ap, ◌∙◌, arith, add-zero, append_assoc, subst}
+use Rattle.std.proofs.Common.{◌≡◌, ◌≤◌, ◌<◌, ◌-◌, ℕ, zero, suc, ◌+◌, List, [], ◌∷◌, ◌++◌, length, drop, take, refl, sym, ap, ◌∙◌, arith, append_assoc, subst}
+use Rattle.std.proofs.Common.{append-nil, length-drop}
 use Rattle.std.specs.Prelude.{slice_index}
 use Rattle.std.specs.Str.{IsUtf8, IsCharBoundary}
 use Rattle.std.proofs.lemmas.Str.{IsCharBoundary-after_ascii}
 use Rattle.al_expr_grammar.specs.declared.token.TokenKind.{TokenKind}
-use Rattle.al_expr_grammar.specs.declared.lexer.Read.TheVariants.{Token}
+use Rattle.al_expr_grammar.specs.declared.lexer.Read.TheVariants.{Blank, Token, BadCharacter, OpenText}
 use Rattle.al_expr_grammar.specs.Lexeme.{Lexeme, lexeme}
-use Rattle.al_expr_grammar.specs.Private.TokenStates.{behind, continue_with, tokens_from}
-use Rattle.al_expr_grammar.specs.Tokens.{Lexed, AllRead, Bad, Unclosed, read, then_token}
+use Rattle.al_expr_grammar.specs.Private.TokenStates.{behind}
+use Rattle.al_expr_grammar.specs.Tokens.{Lexed, AllRead, Bad, Unclosed, character_span, read, then_token, tokens_of, tokens_within, with_first}
 use Rattle.al_base.specs.Spans.{span}
 
-pub skipped : (n at : ℕ) (bs : List ℕ) → n ≤ length bs → tokens_from n at bs ≡ tokens_from 0 (at + n) (drop n bs)
-skipped zero at bs h = sym (ap (λ a. tokens_from 0 a bs) (add-zero at))
-skipped (suc n) at [] h = absurd (omega arith)
-skipped (suc n) at (b ∷ bs) h = let e : (at + 1) + n ≡ at + suc n = omega arith in skipped n (at + 1) bs (omega arith) ∙ ap (λ a. tokens_from 0 a (drop n bs)) e
+-- these tokens of a content were read, and these bytes from a place on are left
+pub record AreRead (content : List ℕ) (front : List Lexeme) (at : ℕ) (bs : List ℕ) : Type 0 where
+  pub fuel : ℕ
+  pub enough : length bs ≤ fuel
+  pub so_far : tokens_of content ≡ behind front (tokens_within fuel at bs)
 
-token_step : (at n b : ℕ) (k : TokenKind) (bs : List ℕ) → Token k (suc n) ≡ read (b ∷ bs) → n ≤ length bs →
-    tokens_from 0 at (b ∷ bs) ≡ then_token (lexeme k (b ∷ take n bs) (span at (at + suc n))) (tokens_from 0 (at + suc n) (drop n bs))
-token_step at n b k bs r f =
-    ap (λ x. continue_with x at (b ∷ bs) (λ skip. tokens_from skip (at + 1) bs)) (sym r)
-    ∙ ap (then_token _) (let e : suc n - 1 ≡ n = omega arith in let d : (at + 1) + n ≡ at + suc n = omega arith in
-    ap (λ m. tokens_from m (at + 1) bs) e ∙ skipped n (at + 1) bs f ∙ ap (λ a. tokens_from 0 a (drop n bs)) d)
-
-pub token_read : (at n : ℕ) (k : TokenKind) (bs : List ℕ) → Token k n ≡ read bs → 0 < n → n ≤ length bs →
-    tokens_from 0 at bs ≡ then_token (lexeme k (take n bs) (span at (at + n))) (tokens_from 0 (at + n) (drop n bs))
-token_read at zero k bs r p f = absurd (omega arith)
-token_read at (suc n) k [] r p f = absurd (omega arith)
-token_read at (suc n) k (b ∷ bs) r p f = token_step at n b k bs r (omega arith)
-
-pub behind_none : (r : Lexed) → r ≡ behind [] r
+behind_none : (r : Lexed) → r ≡ behind [] r
 behind_none (AllRead ts) = refl
 behind_none (Bad n) = refl
 behind_none Unclosed = refl
 
-pub behind_one : (front : List Lexeme) (t : Lexeme) (r : Lexed) → behind front (then_token t r) ≡ behind (front ++ t ∷ []) r
+behind_one : (front : List Lexeme) (t : Lexeme) (r : Lexed) → behind front (then_token t r) ≡ behind (front ++ t ∷ []) r
 behind_one front t (AllRead ts) = ap AllRead (sym (append_assoc front (t ∷ []) ts))
 behind_one front t (Bad n) = refl
 behind_one front t Unclosed = refl
+
+pub none_read : (content : List ℕ) → AreRead content [] 0 content
+none_read content = record { fuel = length content; enough = omega arith; so_far = behind_none (tokens_of content) }
+
+nothing_left : (n at : ℕ) → tokens_within n at [] ≡ AllRead []
+nothing_left zero at = refl
+nothing_left (suc n) at = refl
+
+pub all_read : (content : List ℕ) (front : List Lexeme) (at : ℕ) (bs : List ℕ) → AreRead content front at bs → length bs ≡ 0 → tokens_of content ≡ AllRead front
+all_read content front at [] r h = r.so_far ∙ ap (behind front) (nothing_left r.fuel at) ∙ ap AllRead (append-nil front)
+all_read content front at (b ∷ bs) r h = absurd (omega (arith, h))
+
+-- by what comes first
+by_first : (n at : ℕ) (bs : List ℕ) → 0 < length bs → length bs ≤ n → (m : ℕ) × (n ≡ suc m) × (tokens_within n at bs ≡ with_first (tokens_within m) (read bs) at bs)
+by_first n at [] some h = absurd (omega (arith, some))
+by_first zero at (b ∷ bs) some h = absurd (omega (arith, h))
+by_first (suc m) at (b ∷ bs) some h = (m, refl, refl)
+
+module _ (content : List ℕ) (front : List Lexeme) (at : ℕ) (bs : List ℕ) (r : AreRead content front at bs) (some : 0 < length bs) where
+  first : (m : ℕ) × (r.fuel ≡ suc m) × (tokens_of content ≡ behind front (with_first (tokens_within m) (read bs) at bs))
+  first = let f = by_first r.fuel at bs some r.enough in (f.0, f.1, r.so_far ∙ ap (behind front) f.2)
+
+  pub past_blank : Blank ≡ read bs → AreRead content front (at + 1) (drop 1 bs)
+  past_blank e =
+      let f = first in record {
+        fuel = f.0;
+        enough = omega (arith, r.enough, f.1, length-drop 1 bs);
+        so_far = f.2 ∙ ap (λ x. behind front (with_first (tokens_within f.0) x at bs)) (sym e);
+      }
+
+  pub past_token : (k : TokenKind) (n : ℕ) → Token k n ≡ read bs → 0 < n → AreRead content (front ++ lexeme k (take n bs) (span at (at + n)) ∷ []) (at + n) (drop n bs)
+  past_token k n e long =
+      let f = first in record {
+        fuel = f.0;
+        enough = omega (arith, r.enough, f.1, long, length-drop n bs);
+        so_far = f.2 ∙ ap (λ x. behind front (with_first (tokens_within f.0) x at bs)) (sym e) ∙ behind_one front _ (tokens_within f.0 (at + n) (drop n bs));
+      }
+
+  pub stops_at : BadCharacter ≡ read bs → tokens_of content ≡ Bad (character_span at bs)
+  stops_at e = let f = first in f.2 ∙ ap (λ x. behind front (with_first (tokens_within f.0) x at bs)) (sym e)
+
+  pub stays_open : OpenText ≡ read bs → tokens_of content ≡ Unclosed
+  stays_open e = let f = first in f.2 ∙ ap (λ x. behind front (with_first (tokens_within f.0) x at bs)) (sym e)
 
 -- A character ends behind an ASCII byte.
 pub ends_char : (bs : List ℕ) (n : ℕ) → IsUtf8 bs → 0 < n → n ≤ length bs → slice_index bs (n - 1) < 128 → IsCharBoundary bs n

@@ -15,8 +15,5 @@ pub mod Left
 pub mod Quotes
 pub mod Chunking
 pub mod Reading
-pub mod Splitting
 pub mod Inside
 pub mod LastQuote
-pub mod Closings
-pub mod ChunkLemmas

@@ -1,5 +1,5 @@
 -- A text that is never closed has a quote.
-use Rattle.std.proofs.Common.{◌≡◌, ◌≢◌, ◌-◌, ◌+◌, ℕ, zero, suc, List, [], ◌∷◌, length, arith, refl, sym, ◌∙◌, Bool, true, false, cond, Option, Some, None}
+use Rattle.std.proofs.Common.{◌≡◌, ◌≢◌, ◌+◌, ℕ, zero, suc, List, [], ◌∷◌, length, drop, refl, sym, ◌∙◌, Bool, true, false, cond, Option, Some, None}
 use Rattle.std.specs.Prelude.{find, nat_eq, option_map}
 use Rattle.std.specs.List.{starts_with}
 use Rattle.std.specs.Option.{option_map_or, option_or}
@@ -8,9 +8,7 @@ use Rattle.al_expr_grammar.specs.declared.lexer.Read.TheVariants.{Blank, Token, 
 use Rattle.al_expr_grammar.specs.declared.token.TokenKind.{TokenKind}
 use Rattle.al_expr_grammar.specs.Lexeme.{Lexeme}
 use Rattle.al_expr_grammar.specs.Tokens.{Lexed, AllRead, Bad, Unclosed, read, mark, marks, number_read, number_len, tokens_of}
-use Rattle.al_expr_grammar.specs.Tokens.{is_quote, last_quote, then_token}
-use Rattle.al_expr_grammar.specs.Private.TokenStates.{continue_with, tokens_from}
-use Rattle.al_expr_grammar.proofs.Splitting.{tokens_are}
+use Rattle.al_expr_grammar.specs.Tokens.{is_quote, last_quote, then_token, tokens_within, with_first}
 
 apart : (t : Bool) (x y : Read) → x ≢ OpenText → y ≢ OpenText → cond t x y ≢ OpenText
 apart true x y f g = f
@@ -54,13 +52,6 @@ more_tokens t (AllRead ts) e = absurd cc
 more_tokens t (Bad s) e = e
 more_tokens t Unclosed e = e
 
--- Where what comes first leads to an open text, it is one, or what follows leads there.
-leads : (P : Type 0) (r : Read) (at : ℕ) (bs : List ℕ) (go : ℕ → Lexed) → (r ≡ OpenText → P) → ((skip : ℕ) → go skip ≡ Unclosed → P) → continue_with r at bs go ≡ Unclosed → P
-leads P Blank at bs go here there e = there 0 e
-leads P (Token k n) at bs go here there e = there (n - 1) (more_tokens _ _ e)
-leads P BadCharacter at bs go here there e = absurd cc
-leads P OpenText at bs go here there e = here refl
-
 at_first : (b : ℕ) (bs : List ℕ) → is_quote b ≡ true → last_quote (b ∷ bs) ≢ None
 at_first b bs h = rw h (some_second (option_map suc (last_quote bs)) 0)
 
@@ -68,13 +59,23 @@ behind_first : (o p : Option ℕ) → o ≢ None → option_or (option_map suc o
 behind_first None p f = absurd (f refl)
 behind_first (Some n) p f = λ e. cc
 
-pub has_quote : (bs : List ℕ) (skip at : ℕ) → tokens_from skip at bs ≡ Unclosed → last_quote bs ≢ None
-has_quote [] skip at e = absurd cc
-has_quote (b ∷ bs) (suc skip) at e = behind_first (last_quote bs) _ (has_quote bs skip (at + 1) e)
-has_quote (b ∷ bs) zero at e =
-    leads (last_quote (b ∷ bs) ≢ None) (read (b ∷ bs)) at (b ∷ bs) (λ skip. tokens_from skip (at + 1) bs)
-    (λ r. at_first b bs (begins_with_quote b bs r))
-    (λ skip f. behind_first (last_quote bs) _ (has_quote bs skip (at + 1) f)) e
+further : (n : ℕ) (bs : List ℕ) → last_quote (drop n bs) ≢ None → last_quote bs ≢ None
+further zero bs h = h
+further (suc n) [] h = h
+further (suc n) (b ∷ bs) h = behind_first (last_quote bs) _ (further n bs h)
+
+-- Where what comes first leads to an open text, it is one, or what follows leads there.
+leads : (n : ℕ) (r : Read) (at b : ℕ) (bs : List ℕ) → ((from : ℕ) (rest : List ℕ) → tokens_within n from rest ≡ Unclosed → last_quote rest ≢ None)
+    → (r ≡ OpenText → is_quote b ≡ true) → with_first (tokens_within n) r at (b ∷ bs) ≡ Unclosed → last_quote (b ∷ bs) ≢ None
+leads n Blank at b bs there here e = further 1 (b ∷ bs) (there (at + 1) bs e)
+leads n (Token k m) at b bs there here e = further m (b ∷ bs) (there (at + m) (drop m (b ∷ bs)) (more_tokens _ _ e))
+leads n BadCharacter at b bs there here e = absurd cc
+leads n OpenText at b bs there here e = at_first b bs (here refl)
+
+has_quote : (n at : ℕ) (bs : List ℕ) → tokens_within n at bs ≡ Unclosed → last_quote bs ≢ None
+has_quote zero at bs e = absurd cc
+has_quote (suc n) at [] e = absurd cc
+has_quote (suc n) at (b ∷ bs) e = leads n (read (b ∷ bs)) at b bs (has_quote n) (begins_with_quote b bs) e
 
 none_of : (o : Option ℕ) → ((n : ℕ) → o ≡ Some n → ⊥) → o ≡ None
 none_of None f = refl
@@ -82,4 +83,4 @@ none_of (Some n) f = absurd (f n refl)
 
 -- An open text and no quote are absurd.
 pub quote_found : (content : List ℕ) (o : Option ℕ) → tokens_of content ≡ Unclosed → o ≡ last_quote content → ((n : ℕ) → o ≡ Some n → ⊥) → ⊥
-quote_found content o u e f = has_quote content 0 0 (sym (tokens_are (length content) 0 content (omega arith)) ∙ u) (sym e ∙ none_of o f)
+quote_found content o u e f = has_quote (length content) 0 content u (sym e ∙ none_of o f)

@@ -1,5 +1,5 @@
 -- Each rule of the grammar, and each fault, beside the table.
-use Rattle.std.proofs.Common.{◌≡◌, ℕ, suc, ◌+◌, ◌<◌, ◌≤◌, List, [], ◌∷◌, ◌++◌, length, refl, ap, ◌∙◌, arith, nat_lt, cond}
+use Rattle.std.proofs.Common.{◌≡◌, ℕ, suc, ◌+◌, ◌<◌, ◌≤◌, List, [], ◌∷◌, ◌++◌, length, refl, sym, ap, ◌∙◌, arith, nat_lt, cond, subst}
 use Rattle.al_base.specs.declared.faults.Span.{Span}
 use Rattle.al_expr_grammar.specs.declared.token.Operator.{Operator}
 use Rattle.al_expr_grammar.specs.declared.token.Operator.TheVariants as op
@@ -10,23 +10,17 @@ use Rattle.al_expr_grammar.specs.declared.parser.ParseError.TheVariants as error
 use Rattle.al_expr_grammar.specs.Lexeme.{Lexeme, lexeme, kinds}
 use Rattle.al_expr_grammar.specs.Tree as tree
 use Rattle.al_expr_grammar.specs.Tree.{Tree, Named, Property, All, arguments_of}
-use Rattle.al_expr_grammar.specs.Grammar.{Nonterminal, Binary, Primary, level_of}
+use Rattle.al_expr_grammar.specs.Grammar.{Binary, Primary, level_of}
 use Rattle.al_expr_grammar.specs.Grammar.{name, call_empty, call, group}
 use Rattle.al_expr_grammar.specs.Grammar.{to_property, to_keyword, to_all, to_each, to_index, Lists, listed, and_next}
-use Rattle.al_expr_grammar.specs.Table.{Verdict, Early, Unexpected, TooDeep, E, A, I, S, O, N, Frame, Group, Call, Index, outside, scan}
-use Rattle.al_expr_grammar.specs.Parsed.{Goes, EndsPath, EndsLevel, Parsed, Refused, PartOfCall, StepRead, GoesAfter, StepRefused, error_at, NoClose}
+use Rattle.al_expr_grammar.specs.Table.{Verdict, Unexpected, TooDeep, E, A, I, S, O, N, Frame, Group, Call, Index, outside, scan}
+use Rattle.al_expr_grammar.specs.Parsed.{EndsPath, EndsLevel, IsVerdict, Parsed, Refused, PartOfCall, StepRead, StepRefused, error_at, NoClose}
 use Rattle.al_expr_grammar.proofs.Shape.{NoCall}
 use Rattle.std.proofs.lemmas.Bool.Decides.{nat_tests}
 
 pub at_most_three : (o : Operator) → level_of o ≤ 3
 at_most_three op.Or = omega arith
-at_most_three op.And = omega arith
-at_most_three op.Equal = omega arith
-at_most_three op.NotEqual = omega arith
-at_most_three op.Less = omega arith
-at_most_three op.LessEqual = omega arith
-at_most_three op.Greater = omega arith
-at_most_three op.GreaterEqual = omega arith
+at_most_three _ = omega arith
 
 -- one deeper, where there is room
 abbrev pub deeper : ℕ → ℕ → Verdict → Verdict
@@ -47,19 +41,10 @@ pub settled : (k j : ℕ) (st : List Frame) (ts : List TokenKind) → EndsPath t
 settled k j st [] h = refl
 settled k j st (Dot ∷ ts) h = absurd h
 settled k j st (OpenIndex ∷ ts) h = absurd h
-settled k j [] (Close ∷ ts) h = refl
-settled k j (Group i ∷ st) (Close ∷ ts) h = refl
-settled k j (Call i ∷ st) (Close ∷ ts) h = refl
-settled k j (Index i ∷ st) (Close ∷ ts) h = refl
-settled k j [] (CloseIndex ∷ ts) h = refl
-settled k j (Group i ∷ st) (CloseIndex ∷ ts) h = refl
-settled k j (Call i ∷ st) (CloseIndex ∷ ts) h = refl
-settled k j (Index i ∷ st) (CloseIndex ∷ ts) h = refl
-settled k j [] (Comma ∷ ts) h = refl
-settled k j (Group i ∷ st) (Comma ∷ ts) h = refl
-settled k j (Call i ∷ st) (Comma ∷ ts) h = refl
-settled k j (Index i ∷ st) (Comma ∷ ts) h = refl
-settled k j st (t ∷ ts) h = refl
+settled k j [] (t ∷ ts) h = refl
+settled k j (Group i ∷ st) (t ∷ ts) h = refl
+settled k j (Call i ∷ st) (t ∷ ts) h = refl
+settled k j (Index i ∷ st) (t ∷ ts) h = refl
 
 pub uncalled : (k : ℕ) (st : List Frame) (ts : List TokenKind) → NoCall ts → scan N k st ts ≡ scan O k st ts
 uncalled k [] [] h = refl
@@ -82,39 +67,9 @@ in_index k st [] h = refl
 in_index k st (Star ∷ ts) h = absurd h
 in_index k st (t ∷ ts) h = refl
 
-pub refused_map : (p q : Nonterminal) (room other : ℕ) (ts us : List Lexeme) (e : ParseError)
-    → ((v : Verdict) → Goes p room ts (λ k st. v) → Goes q other us (λ k st. v)) → Refused p room ts e → Refused q other us e
-refused_map p q room other ts us error.Memory f r = tt
-refused_map p q room other ts us error.Early f r = f Early r
-refused_map p q room other ts us (error.Unexpected n) f r = f (Unexpected n) r
-refused_map p q room other ts us (error.TooDeep n) f r = f (TooDeep n) r
-
-pub step_refused_map : (p : Nonterminal) (room other : ℕ) (ts us : List Lexeme) (e : ParseError)
-    → ((v : Verdict) → Goes p room ts (λ k st. v) → GoesAfter other us v) → Refused p room ts e → StepRefused other us e
-step_refused_map p room other ts us error.Memory f r = tt
-step_refused_map p room other ts us error.Early f r = f Early r
-step_refused_map p room other ts us (error.Unexpected n) f r = f (Unexpected n) r
-step_refused_map p room other ts us (error.TooDeep n) f r = f (TooDeep n) r
-
-pub path_refused_map : (p : Nonterminal) (room other : ℕ) (ts us : List Lexeme) (e : ParseError)
-    → ((v : Verdict) → GoesAfter room ts v → Goes p other us (λ k st. v)) → StepRefused room ts e → Refused p other us e
-path_refused_map p room other ts us error.Memory f r = tt
-path_refused_map p room other ts us error.Early f r = f Early r
-path_refused_map p room other ts us (error.Unexpected n) f r = f (Unexpected n) r
-path_refused_map p room other ts us (error.TooDeep n) f r = f (TooDeep n) r
-
--- the verdict of a fault at the front
-abbrev pub stray : List Lexeme → Verdict
-stray [] = Early
-stray (t ∷ ts) = Unexpected (length (t ∷ ts))
-
-pub refused_stray : (p : Nonterminal) (room : ℕ) (ts us : List Lexeme) → Goes p room ts (λ k st. stray us) → Refused p room ts (error_at us)
-refused_stray p room ts [] g = g
-refused_stray p room ts (u ∷ us) g = g
-
-pub step_stray : (room : ℕ) (ts us : List Lexeme) → GoesAfter room ts (stray us) → StepRefused room ts (error_at us)
-step_stray room ts [] g = g
-step_stray room ts (u ∷ us) g = g
+-- what the table comes to from other tokens as well
+pub likewise : (e : ParseError) (v w : Verdict) → v ≡ w → IsVerdict e w → IsVerdict e v
+likewise e v w same h = subst (IsVerdict e) (sym same) h
 
 pub unexpected : (ts : List Lexeme) → Unexpected (suc (length (kinds ts))) ≡ Unexpected (suc (length ts))
 unexpected ts = ap (λ n. Unexpected (suc n)) (same_length ts)
@@ -132,7 +87,7 @@ EndsArguments _ = Unit {0}
 
 -- no token that may follow a whole operand inside these brackets
 module _ (k : ℕ) (st : List Frame) where
-  stray_in_group : (us : List Lexeme) → EndsLevel 3 (kinds us) → NoClose (kinds us) → scan O 0 (Group k ∷ st) (kinds us) ≡ stray us
+  stray_in_group : (us : List Lexeme) → EndsLevel 3 (kinds us) → NoClose (kinds us) → IsVerdict (error_at us) (scan O 0 (Group k ∷ st) (kinds us))
   stray_in_group [] h c = refl
   stray_in_group (lexeme Dot b s ∷ us) h c = absurd h
   stray_in_group (lexeme OpenIndex b s ∷ us) h c = absurd h
@@ -140,7 +95,7 @@ module _ (k : ℕ) (st : List Frame) where
   stray_in_group (lexeme (Infix o) b s ∷ us) h c = absurd (omega (arith, h, at_most_three o))
   stray_in_group (lexeme t b s ∷ us) h c = unexpected us
 
-  stray_in_index : (us : List Lexeme) → EndsLevel 3 (kinds us) → NoCloseIndex (kinds us) → scan O 0 (Index k ∷ st) (kinds us) ≡ stray us
+  stray_in_index : (us : List Lexeme) → EndsLevel 3 (kinds us) → NoCloseIndex (kinds us) → IsVerdict (error_at us) (scan O 0 (Index k ∷ st) (kinds us))
   stray_in_index [] h c = refl
   stray_in_index (lexeme Dot b s ∷ us) h c = absurd h
   stray_in_index (lexeme OpenIndex b s ∷ us) h c = absurd h
@@ -148,7 +103,7 @@ module _ (k : ℕ) (st : List Frame) where
   stray_in_index (lexeme (Infix o) b s ∷ us) h c = absurd (omega (arith, h, at_most_three o))
   stray_in_index (lexeme t b s ∷ us) h c = unexpected us
 
-  stray_in_call : (us : List Lexeme) → EndsLevel 3 (kinds us) → EndsArguments (kinds us) → scan O 0 (Call k ∷ st) (kinds us) ≡ stray us
+  stray_in_call : (us : List Lexeme) → EndsLevel 3 (kinds us) → EndsArguments (kinds us) → IsVerdict (error_at us) (scan O 0 (Call k ∷ st) (kinds us))
   stray_in_call [] h c = refl
   stray_in_call (lexeme Dot b s ∷ us) h c = absurd h
   stray_in_call (lexeme OpenIndex b s ∷ us) h c = absurd h
@@ -184,10 +139,10 @@ module _ (room inner : ℕ) (b : List ℕ) (s : Span) (ts : List Lexeme) (one : 
   }
 
   pub group_refused : (e : ParseError) → Refused (Binary 3) inner ts e → Refused Primary room (lexeme Open b s ∷ ts) e
-  group_refused e r = refused_map (Binary 3) Primary inner room ts (lexeme Open b s ∷ ts) e (λ v g k st a h. in_group k st h ∙ g 0 (Group k ∷ st) refl (omega arith)) r
+  group_refused e r = λ k st a h. likewise e _ _ (in_group k st h) (r 0 (Group k ∷ st) refl (omega arith))
 
   pub group_stray : (mid : List Lexeme) (t : Tree) → Parsed (Binary 3) inner ts t mid → NoClose (kinds mid) → Refused Primary room (lexeme Open b s ∷ ts) (error_at mid)
-  group_stray mid t p never = refused_stray Primary room (lexeme Open b s ∷ ts) mid (λ k st a h. in_group k st h ∙ p.goes 0 (Group k ∷ st) refl (omega arith) ∙ stray_in_group k st mid p.stops never)
+  group_stray mid t p never = λ k st a h. likewise (error_at mid) _ _ (in_group k st h ∙ p.goes 0 (Group k ∷ st) refl (omega arith)) (stray_in_group k st mid p.stops never)
 
   -- an index
   to_inside : (k : ℕ) (st : List Frame) → NoStar (kinds ts) → k + outside st + room ≡ 50 → scan O k st (OpenIndex ∷ kinds ts) ≡ scan E 0 (Index k ∷ st) (kinds ts)
@@ -202,10 +157,10 @@ module _ (room inner : ℕ) (b : List ℕ) (s : Span) (ts : List Lexeme) (one : 
   }
 
   pub index_refused : (e : ParseError) → NoStar (kinds ts) → Refused (Binary 3) inner ts e → StepRefused room (lexeme OpenIndex b s ∷ ts) e
-  index_refused e n r = step_refused_map (Binary 3) inner room ts (lexeme OpenIndex b s ∷ ts) e (λ v g k st h. to_inside k st n h ∙ g 0 (Index k ∷ st) refl (omega arith)) r
+  index_refused e n r = λ k st h. likewise e _ _ (to_inside k st n h) (r 0 (Index k ∷ st) refl (omega arith))
 
   pub index_stray : (mid : List Lexeme) (t : Tree) → NoStar (kinds ts) → Parsed (Binary 3) inner ts t mid → NoCloseIndex (kinds mid) → StepRefused room (lexeme OpenIndex b s ∷ ts) (error_at mid)
-  index_stray mid t n p never = step_stray room (lexeme OpenIndex b s ∷ ts) mid (λ k st h. to_inside k st n h ∙ p.goes 0 (Index k ∷ st) refl (omega arith) ∙ stray_in_index k st mid p.stops never)
+  index_stray mid t n p never = λ k st h. likewise (error_at mid) _ _ (to_inside k st n h ∙ p.goes 0 (Index k ∷ st) refl (omega arith)) (stray_in_index k st mid p.stops never)
 
 -- brackets without room
 pub group_deep : (b : List ℕ) (s : Span) (ts : List Lexeme) → Refused Primary 0 (lexeme Open b s ∷ ts) (error.TooDeep (suc (length ts)))
@@ -227,8 +182,7 @@ module _ (room inner : ℕ) (b c : List ℕ) (s u : Span) (ts : List Lexeme) (on
   into_call k st h = not_deeper (k + outside st) _ _ (omega arith)
 
   pub call_refused : (e : ParseError) → NoClose (kinds ts) → Refused (Binary 3) inner ts e → Refused Primary room (lexeme Name b s ∷ lexeme Open c u ∷ ts) e
-  call_refused e n r = refused_map (Binary 3) Primary inner room ts (lexeme Name b s ∷ lexeme Open c u ∷ ts) e
-      (λ v g k st a h. into_call k st h ∙ in_call 0 (Call k ∷ st) (kinds ts) n ∙ g 0 (Call k ∷ st) refl (omega arith)) r
+  call_refused e n r = λ k st a h. likewise e _ _ (into_call k st h ∙ in_call 0 (Call k ∷ st) (kinds ts) n) (r 0 (Call k ∷ st) refl (omega arith))
 
   module _ (mid : List Lexeme) (t : Tree) (n : NoClose (kinds ts)) (p : Parsed (Binary 3) inner ts t mid) where
     first_argument : (k : ℕ) (st : List Frame) → k + outside st + room ≡ 50 → scan E k st (Name ∷ Open ∷ kinds ts) ≡ scan O 0 (Call k ∷ st) (kinds mid)
@@ -245,13 +199,11 @@ module _ (room inner : ℕ) (b c : List ℕ) (s u : Span) (ts : List Lexeme) (on
 
     pub call_stray : (left : List Lexeme) (more : List Tree) → PartOfCall inner mid more left → EndsArguments (kinds left) →
         Refused Primary room (lexeme Name b s ∷ lexeme Open c u ∷ ts) (error_at left)
-    call_stray left more w never = refused_stray Primary room (lexeme Name b s ∷ lexeme Open c u ∷ ts) left
-        (λ k st a h. first_argument k st h ∙ w.goes k st (omega arith) ∙ stray_in_call k st left w.stops never)
+    call_stray left more w never = λ k st a h. likewise (error_at left) _ _ (first_argument k st h ∙ w.goes k st (omega arith)) (stray_in_call k st left w.stops never)
 
     pub argument_refused : (d : List ℕ) (x : Span) (us : List Lexeme) (more : List Tree) (e : ParseError) → PartOfCall inner mid more (lexeme Comma d x ∷ us) →
         Refused (Binary 3) inner us e → Refused Primary room (lexeme Name b s ∷ lexeme Open c u ∷ ts) e
-    argument_refused d x us more e w r = refused_map (Binary 3) Primary inner room us (lexeme Name b s ∷ lexeme Open c u ∷ ts) e
-        (λ v g k st a h. first_argument k st h ∙ w.goes k st (omega arith) ∙ g 0 (Call k ∷ st) refl (omega arith)) r
+    argument_refused d x us more e w r = λ k st a h. likewise e _ _ (first_argument k st h ∙ w.goes k st (omega arith)) (r 0 (Call k ∷ st) refl (omega arith))
 
 pub call_empty_read : (room inner : ℕ) (b c d : List ℕ) (s u e : Span) (rest : List Lexeme) → inner + 1 ≡ room →
     Parsed Primary room (lexeme Name b s ∷ lexeme Open c u ∷ lexeme Close d e ∷ rest) (tree.Call b s (arguments_of []) e) rest
@@ -302,11 +254,11 @@ dot_stray room c d (lexeme (Keyword w) b s ∷ us) n = absurd n
 dot_stray room c d (lexeme Star b s ∷ us) n = absurd n
 dot_stray room c d (lexeme t b s ∷ us) n = λ k st h. unexpected us
 
-after_star : (k : ℕ) (st : List Frame) (us : List Lexeme) → NoCloseIndex (kinds us) → scan S 0 (Index k ∷ st) (kinds us) ≡ stray us
+after_star : (k : ℕ) (st : List Frame) (us : List Lexeme) → NoCloseIndex (kinds us) → IsVerdict (error_at us) (scan S 0 (Index k ∷ st) (kinds us))
 after_star k st [] n = refl
 after_star k st (lexeme CloseIndex b s ∷ us) n = absurd n
 after_star k st (lexeme t b s ∷ us) n = unexpected us
 
 pub star_stray : (room inner : ℕ) (b c : List ℕ) (s d : Span) (us : List Lexeme) → inner + 1 ≡ room → NoCloseIndex (kinds us)
     → StepRefused room (lexeme OpenIndex c d ∷ lexeme Star b s ∷ us) (error_at us)
-star_stray room inner b c s d us one n = step_stray room (lexeme OpenIndex c d ∷ lexeme Star b s ∷ us) us (λ k st h. not_deeper (k + outside st) _ _ (omega arith) ∙ after_star k st us n)
+star_stray room inner b c s d us one n = λ k st h. likewise (error_at us) _ _ (not_deeper (k + outside st) _ _ (omega arith)) (after_star k st us n)

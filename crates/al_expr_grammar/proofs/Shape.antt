@@ -46,40 +46,26 @@ module _ (room : Bool) (left : ℕ) (go : Mode → ℕ → List Frame → Verdic
   operand_same k st Bang = deeper_same E (suc k) 1 st
   operand_same k st _ = refl
 
-  close_same : (k : ℕ) (st : List Frame) → Same (after_operand k st Close) (after_operand 0 (forget st) Close)
-  close_same k [] = refl
-  close_same k (Group j ∷ st) = ih O j st
-  close_same k (Call j ∷ st) = ih O j st
-  close_same k (Index j ∷ st) = refl
-
-  close_index_same : (k : ℕ) (st : List Frame) → Same (after_operand k st CloseIndex) (after_operand 0 (forget st) CloseIndex)
-  close_index_same k [] = refl
-  close_index_same k (Group j ∷ st) = refl
-  close_index_same k (Call j ∷ st) = refl
-  close_index_same k (Index j ∷ st) = ih O j st
-
-  comma_same : (k : ℕ) (st : List Frame) → Same (after_operand k st Comma) (after_operand 0 (forget st) Comma)
-  comma_same k [] = refl
-  comma_same k (Group j ∷ st) = refl
-  comma_same k (Call j ∷ st) = ih E 0 (Call j ∷ st)
-  comma_same k (Index j ∷ st) = refl
-
   after_same : (k : ℕ) (st : List Frame) (t : TokenKind) → Same (after_operand k st t) (after_operand 0 (forget st) t)
   after_same k st (Infix o) = ih E 0 st
   after_same k st Dot = ih D k st
   after_same k st OpenIndex = deeper_same I 0 0 (Index k ∷ st)
-  after_same k st Close = close_same k st
-  after_same k st CloseIndex = close_index_same k st
-  after_same k st Comma = comma_same k st
-  after_same k st _ = refl
+  after_same k (Group j ∷ st) Close = ih O j st
+  after_same k (Call j ∷ st) Close = ih O j st
+  after_same k (Index j ∷ st) CloseIndex = ih O j st
+  after_same k (Call j ∷ st) Comma = ih E 0 (Call j ∷ st)
+  after_same k [] _ = refl
+  after_same k (Group j ∷ st) _ = refl
+  after_same k (Call j ∷ st) _ = refl
+  after_same k (Index j ∷ st) _ = refl
 
   step_same : (m : Mode) (k : ℕ) (st : List Frame) (t : TokenKind) → Same (step m k st t) (step m 0 (forget st) t)
   step_same E k st t = operand_same k st t
-  step_same A k st Close = close_same k st
+  step_same A k st Close = after_same k st Close
   step_same A k st t = operand_same k st t
   step_same I k st Star = ih S k st
   step_same I k st t = operand_same k st t
-  step_same S k st CloseIndex = close_index_same k st
+  step_same S k st CloseIndex = after_same k st CloseIndex
   step_same S k st _ = refl
   step_same D k st Name = ih O k st
   step_same D k st (Keyword w) = ih O k st

@@ -12,16 +12,12 @@ use Rattle.al_expr_grammar.proofs.Rules.{constant_read, number_read, text_read, 
 use Rattle.al_expr_grammar.proofs.Rules.{call_empty_read, call_read, call_refused, call_stray, call_deep, argument_refused, arguments_begin}
 use Rattle.al_expr_grammar.proofs.Rules.{arguments_go_on, index_read, index_refused, index_stray, index_deep, each_read, star_stray}
 use Rattle.al_expr_grammar.proofs.Rules.{property_read, keyword_read, all_read, dot_stray, unexpected, NoStar}
-use Rattle.al_expr_grammar.proofs.Chains.{not_read, not_refused, not_deep, positive_read, positive_refused, steps_read, path_refused}
+use Rattle.al_expr_grammar.proofs.Chains.{not_read, not_refused, not_deep, positive_read, steps_read, path_refused}
 use Rattle.al_expr_grammar.proofs.Chains.{path_begins, path_goes_on, chain_begins, chain_goes_on, operands_read, first_refused, later_refused}
 
 abbrev pub IsFault : ParseError → Type 0
 IsFault error.Memory = ⊥
 IsFault _ = Unit {0}
-
-abbrev pub is_fault : (ts : List Lexeme) → IsFault (error_at ts)
-is_fault [] = tt
-is_fault (t ∷ ts) = tt
 
 pub data Outcome (p : Nonterminal) (room : ℕ) (ts : List Lexeme) : Type 0 where
   read : (t : Tree) (rest : List Lexeme) → Parsed p room ts t rest → Outcome p room ts
@@ -131,20 +127,14 @@ walk (suc fuel) n room ts mid left t ss inner h p w f = elim (goes_or_ends left)
   ]
 ]
 
-abbrev pub primary_refused : (room : ℕ) (ts : List Lexeme) (e : ParseError) → Refused Primary room ts e → Refused Postfix room ts e
-primary_refused room ts error.Memory r = tt
-primary_refused room ts error.Early r = r
-primary_refused room ts (error.Unexpected n) r = r
-primary_refused room ts (error.TooDeep n) r = r
-
 abbrev pub postfix : (n room : ℕ) (ts : List Lexeme) → Inner n → length ts ≤ n → NoBang (kinds ts) → Outcome Postfix room ts
 postfix n room ts inner h b = elim (primary n room ts inner h b) [
-  | refused e i r ↦ refused e i (primary_refused room ts e r)
+  | refused e i r ↦ refused e i r
   | read t mid p ↦ walk (length mid) n room ts mid mid t [] inner h p (path_begins room mid) (omega arith)
 ]
 
 abbrev pub positive : (room : ℕ) (ts : List Lexeme) → Outcome Postfix room ts → Outcome Unary room ts
-positive room ts (refused e i r) = refused e i (positive_refused room ts e r)
+positive room ts (refused e i r) = refused e i r
 positive room ts (read t rest p) = read t rest (positive_read room ts rest t p)
 
 abbrev pub negated : (room : ℕ) (b : List ℕ) (s : Span) (ts : List Lexeme) → Outcome Unary room ts → Outcome Unary (suc room) (lexeme Bang b s ∷ ts)

@@ -4,10 +4,8 @@
 -- closing is the first `}}` outside quotes: an even number of single quotes stands in the content before it. So at most one splitting is
 -- right, and the chunks are the only ones.
 use Rattle.std.specs.Prelude.{◌≡◌, ℕ, zero, suc, ◌+◌, ◌-◌, List, [], ◌∷◌, Bool, true, ◌&&◌, not, if◌then◌else◌, length}
-use Rattle.std.specs.Prelude.{drop, find, slice_range, take, Option, Some, None, option_map}
-use Rattle.std.specs.List.{range_with_len}
-use Rattle.al_base.specs.Ascii.{ascii}
-use Rattle.al_base.specs.FirstBytes.{begins_with}
+use Rattle.std.specs.Prelude.{codes, drop, find, nat_eq, slice_range, take, Option, Some, None, option_map}
+use Rattle.std.specs.List.{range_with_len, starts_with}
 use Rattle.al_base.specs.declared.codes.ExpressionCode.TheVariants as code
 use Rattle.al_base.specs.declared.faults.Fault.{Fault}
 use Rattle.al_base.specs.declared.faults.Span.{Span}
@@ -23,11 +21,11 @@ pub record Chunked : Type 0 where
 
 -- `${{`
 abbrev pub opens : List ℕ → Bool
-opens bs = begins_with (ascii "$") bs && begins_with (ascii "{") (drop 1 bs) && begins_with (ascii "{") (drop 2 bs)
+opens bs = starts_with nat_eq bs (codes "${{")
 
 -- `}}`
 abbrev pub closes : List ℕ → Bool
-closes bs = begins_with (ascii "}") bs && begins_with (ascii "}") (drop 1 bs)
+closes bs = starts_with nat_eq bs (codes "}}")
 
 -- Behind these bytes of a content no quote is open: their number of quotes is even.
 abbrev pub is_outside_quotes : List ℕ → Bool

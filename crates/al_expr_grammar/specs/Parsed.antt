@@ -21,10 +21,6 @@ abbrev pub StartsAt : Nonterminal → ℕ → Type 0
 StartsAt (Binary l) k = k ≡ 0
 StartsAt _ k = Unit {0}
 
--- From where an operand is expected the table comes to this verdict.
-abbrev pub Goes : Nonterminal → ℕ → List Lexeme → (ℕ → List Frame → Verdict) → Type 0
-Goes p room ts v = (k : ℕ) (st : List Frame) → StartsAt p k → k + outside st + room ≡ deepest_expression → scan E k st (kinds ts) ≡ v k st
-
 -- No path goes on.
 abbrev pub EndsPath : List TokenKind → Type 0
 EndsPath (Dot ∷ ts) = ⊥
@@ -46,16 +42,22 @@ EndsRule Primary ts = Unit {0}
 
 pub record Parsed (p : Nonterminal) (room : ℕ) (ts : List Lexeme) (t : Tree) (rest : List Lexeme) : Type 0 where
   pub derives : Derives p ts t rest
-  pub goes : Goes p room ts (λ k st. scan O k st (kinds rest))
+  pub goes : (k : ℕ) (st : List Frame) → StartsAt p k → k + outside st + room ≡ deepest_expression
+      → scan E k st (kinds ts) ≡ scan O k st (kinds rest)
   pub stops : EndsRule p (kinds rest)
   pub shorter : length rest < length ts
 
--- Unless memory ran out, the fault is the table's.
+-- Unless memory ran out, the table comes to this fault.
+abbrev pub IsVerdict : ParseError → Verdict → Type 0
+IsVerdict error.Memory v = Unit {0}
+IsVerdict error.Early v = v ≡ Early
+IsVerdict (error.Unexpected left) v = v ≡ Unexpected left
+IsVerdict (error.TooDeep left) v = v ≡ TooDeep left
+
+-- From where an operand is expected it does.
 abbrev pub Refused : Nonterminal → ℕ → List Lexeme → ParseError → Type 0
-Refused p room ts error.Memory = Unit {0}
-Refused p room ts error.Early = Goes p room ts (λ k st. Early)
-Refused p room ts (error.Unexpected left) = Goes p room ts (λ k st. Unexpected left)
-Refused p room ts (error.TooDeep left) = Goes p room ts (λ k st. TooDeep left)
+Refused p room ts e = (k : ℕ) (st : List Frame) → StartsAt p k → k + outside st + room ≡ deepest_expression
+    → IsVerdict e (scan E k st (kinds ts))
 
 -- What a reader of expressions answers: a tree of this kind at the front of the tokens, with those left, or its fault.
 abbrev pub Parses : Nonterminal → ℕ → List Lexeme → Result (Expr × Bor (List Token)) ParseError → Type 0
@@ -94,14 +96,9 @@ pub record StepRead (room : ℕ) (ts : List Lexeme) (s : StepTree) (rest : List 
   pub goes : (k : ℕ) (st : List Frame) → k + outside st + room ≡ deepest_expression → scan O k st (kinds ts) ≡ scan O k st (kinds rest)
   pub shorter : length rest < length ts
 
-abbrev pub GoesAfter : ℕ → List Lexeme → Verdict → Type 0
-GoesAfter room ts v = (k : ℕ) (st : List Frame) → k + outside st + room ≡ deepest_expression → scan O k st (kinds ts) ≡ v
-
+-- From behind an operand the table comes to this fault.
 abbrev pub StepRefused : ℕ → List Lexeme → ParseError → Type 0
-StepRefused room ts error.Memory = Unit {0}
-StepRefused room ts error.Early = GoesAfter room ts Early
-StepRefused room ts (error.Unexpected left) = GoesAfter room ts (Unexpected left)
-StepRefused room ts (error.TooDeep left) = GoesAfter room ts (TooDeep left)
+StepRefused room ts e = (k : ℕ) (st : List Frame) → k + outside st + room ≡ deepest_expression → IsVerdict e (scan O k st (kinds ts))
 
 -- what a reader of steps answers
 abbrev pub ParsesStep : ℕ → List Lexeme → Result (PathStep × Bor (List Token)) ParseError → Type 0
@@ -156,10 +153,3 @@ NoClose _ = Unit {0}
 pub record IsStray (ts : List Lexeme) (k : TokenKind) (e : ParseError) : Type 0 where
   pub fault : e ≡ error_at ts
   pub other : (rest : List TokenKind) → kinds ts ≢ k ∷ rest
-
--- Unless memory ran out, the table comes to this fault.
-abbrev pub IsVerdict : ParseError → Verdict → Type 0
-IsVerdict error.Memory v = Unit {0}
-IsVerdict error.Early v = v ≡ Early
-IsVerdict (error.Unexpected left) v = v ≡ Unexpected left
-IsVerdict (error.TooDeep left) v = v ≡ TooDeep left

@@ -1,4 +1,3 @@
 -- Words that only contracts of private functions need: no definition of what the product means stands on them.
-pub mod ChunkStates
 pub mod TextTails
 pub mod TokenStates

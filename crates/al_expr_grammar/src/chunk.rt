@@ -1,13 +1,14 @@
 //! The expressions that a text holds, each between `${{` and `}}`.
 
-ghost use Rattle.std.specs.Prelude.{◌≡◌, ◌≤◌, ◌<◌, ◌+◌, ◌^◌, IfOk, All, map, length};
+ghost use Rattle.std.specs.Prelude.{◌≡◌, ◌≤◌, ◌<◌, ◌+◌, ◌^◌, ◌&&◌, IfOk, IfSome, All, map, length};
 ghost use Rattle.std.specs.Str.{IsCharBoundary};
 ghost use Rattle.al_base.specs.Limits.{longest_text};
 ghost use Rattle.al_base.specs.Spans.{span};
-ghost use Rattle.al_expr_grammar.specs.Chunks.{chunks_of, closes, opens, span_of_chunk, IsCutFrom};
-ghost use Rattle.al_expr_grammar.specs.Private.ChunkStates.{end_fault as fault_at_end, move, EndFits, MoveFits};
+ghost use Rattle.al_expr_grammar.specs.Chunks.{before_opening, chunks_of, closes, closing_position, is_outside_quotes};
+ghost use Rattle.al_expr_grammar.specs.Chunks.{open_fault, opens, span_of_chunk, IsCutFrom};
 
-use crate::faults::plain_fault;
+use crate::faults::{plain_fault, unclosed_text};
+use crate::lexer::last_quote;
 use al_base::{ExpressionCode, Fault, Span};
 use std::alloc::{AllocError, Global};
 
@@ -18,77 +19,80 @@ pub struct Chunk<'a> {
     pub span: Span,
 }
 
-/// Where the reader of a text is.
-#[derive(Clone, Copy)]
-enum ChunkState {
-    Outside,
-    /// In a chunk whose content starts here.
-    Inside(usize),
-    /// In quotes in a chunk whose content starts here, with the last quote.
-    Quoted(usize, usize),
-}
-
-/// What a byte leads to.
-#[derive(Clone, Copy)]
-enum Move {
-    /// Behind it and so many bytes more the reader is here.
-    On(usize, ChunkState),
-    /// The chunk whose content starts here ends at it.
-    End(usize),
-}
-
 /// Whether the braces of a chunk come first.
-fn opening(bytes: &[u8]) -> bool
+fn opens(bytes: &[u8]) -> bool
     ensures { result ≡ opens bytes.now }
 {
     matches!(bytes, [b'$', b'{', b'{', ..])
 }
 
-/// Whether the braces that end a chunk come first.
-fn closing(bytes: &[u8]) -> bool
-    ensures { result ≡ closes bytes.now }
+/// Whether the braces that end a chunk come first, outside quotes.
+fn closes(outside: bool, bytes: &[u8]) -> bool
+    ensures { result ≡ outside && closes bytes.now }
 {
-    matches!(bytes, [b'}', b'}', ..])
+    outside && matches!(bytes, [b'}', b'}', ..])
 }
 
-/// What the first of these bytes, with the reader in this state, leads to.
-fn next(state: ChunkState, at: usize, bytes: &[u8]) -> Move
-    requires some { 0 < length bytes.now }
-    requires room { at + length bytes.now < 2 ^ 32 }
-    ensures value { result ≡ move state at bytes.now }
-    ensures fits { MoveFits (length bytes.now) result }
+/// How many bytes stand before the first `${{`.
+fn before_opening(bytes: &[u8]) -> Option<usize>
+    ensures value { result ≡ before_opening bytes.now }
+    ensures fits { IfSome result (λ n. n + 3 ≤ length bytes.now) }
 {
-    let quote = bytes[0] == b'\'';
-    match state {
-        ChunkState::Outside if opening(bytes) => Move::On(2, ChunkState::Inside(at + 3)),
-        ChunkState::Inside(start) if quote => Move::On(0, ChunkState::Quoted(start, at)),
-        ChunkState::Inside(start) if closing(bytes) => Move::End(start),
-        ChunkState::Quoted(start, _) if quote => Move::On(0, ChunkState::Inside(start)),
-        ChunkState::Outside | ChunkState::Inside(_) | ChunkState::Quoted(..) => Move::On(0, state),
+    for (i, _) in bytes.iter().enumerate() {
+        if opens(&bytes[i..]) {
+            return Some(i);
+        }
     }
+    None
 }
 
-/// What is wrong where a text ends with the reader in this state.
-fn end_fault(state: ChunkState) -> Option<Fault>
-    requires { EndFits state }
-    ensures { result ≡ fault_at_end state }
+/// How many bytes of a content stand before the first `}}` outside quotes.
+fn closing_position(bytes: &[u8]) -> Option<usize>
+    ensures value { result ≡ closing_position bytes.now }
+    ensures fits { IfSome result (λ n. n + 2 ≤ length bytes.now) }
 {
-    match state {
-        ChunkState::Outside => None,
-        ChunkState::Inside(start) => {
-            let span = Span {
-                start: start as u32 - 3,
-                end: start as u32,
-            };
-            Some(plain_fault(ExpressionCode::UnclosedChunk, span))
+    let mut outside = true;
+    for (i, b) in bytes.iter().enumerate() {
+        if closes(outside, &bytes[i..]) {
+            return Some(i);
         }
-        ChunkState::Quoted(_, quote) => {
-            let span = Span {
-                start: quote as u32,
-                end: quote as u32 + 1,
-            };
-            Some(plain_fault(ExpressionCode::UnclosedText, span))
+        if *b == b'\'' {
+            outside = !outside;
         }
+    }
+    None
+}
+
+/// Whether no quote is open behind these bytes of a content.
+#[tactic(auto, using(crate::proofs::Chunking::quotes_next))]
+fn is_outside_quotes(bytes: &[u8]) -> bool
+    ensures { result ≡ is_outside_quotes bytes.now }
+{
+    let mut outside = true;
+    for b in bytes {
+        if *b == b'\'' {
+            outside = !outside;
+        }
+    }
+    outside
+}
+
+/// What is wrong with a content from this place on that the text's end cuts off.
+fn open_fault(start: usize, content: &[u8]) -> Option<Fault>
+    requires opening { 3 ≤ start }
+    requires room { start + length content.now < 2 ^ 32 }
+    ensures { result ≡ open_fault start content.now }
+{
+    if is_outside_quotes(content) {
+        let opening = Span {
+            start: start as u32 - 3,
+            end: start as u32,
+        };
+        return Some(plain_fault(ExpressionCode::UnclosedChunk, opening));
+    }
+    match last_quote(content) {
+        Some(quote) => Some(unclosed_text(start + quote)),
+        None => None,
     }
 }
 
@@ -124,20 +128,15 @@ pub fn chunks(alloc: Global, text: &str) -> Result<(Vec<Chunk>, Option<Fault>), 
 {
     let bytes = text.as_bytes();
     let mut found = Vec::new(alloc);
-    let mut state = ChunkState::Outside;
     let mut at = 0;
-    'text: while at < bytes.len() {
-        match next(state, at, &bytes[at..]) {
-            Move::On(skip, after) => {
-                state = after;
-                at += 1 + skip;
-            }
-            Move::End(start) => {
-                found.push(cut(text, start, at))?;
-                state = ChunkState::Outside;
-                at += 2;
-            }
-        }
+    'text: while let Some(before) = before_opening(&bytes[at..]) {
+        let start = at + before + 3;
+        let content = &bytes[start..];
+        let Some(len) = closing_position(content) else {
+            return Ok((found, open_fault(start, content)));
+        };
+        found.push(cut(text, start, start + len))?;
+        at = start + len + 2;
     }
-    Ok((found, end_fault(state)))
+    Ok((found, None))
 }

@@ -1,7 +1,7 @@
 //! Faults of expressions, with and without a name in their message.
 
-ghost use Rattle.std.specs.Prelude.{◌≡◌, IfOk, [], ◌∷◌};
-ghost use Rattle.al_expr_grammar.specs.Refusal.{expression_fault};
+ghost use Rattle.std.specs.Prelude.{◌≡◌, ◌<◌, ◌-◌, ◌^◌, IfOk, Some, [], ◌∷◌};
+ghost use Rattle.al_expr_grammar.specs.Refusal.{expression_fault, open_text};
 
 use al_base::{Args, Code, ExpressionCode, Fault, Span};
 use std::alloc::{AllocError, Global};
@@ -15,6 +15,18 @@ pub fn plain_fault(code: ExpressionCode, span: Span) -> Fault
         code: Code::Expression(code),
         args: Args::none(),
     }
+}
+
+/// The fault of a text that is open from this quote on.
+pub fn unclosed_text(quote: usize) -> Fault
+    requires { quote < 2 ^ 32 - 1 }
+    ensures { Some result ≡ open_text (Some quote) }
+{
+    let span = Span {
+        start: quote as u32,
+        end: quote as u32 + 1,
+    };
+    plain_fault(ExpressionCode::UnclosedText, span)
 }
 
 /// A fault whose message names one text.

@@ -14,7 +14,7 @@ ghost use Rattle.al_expr_grammar.specs.Private.TokenStates.{unread, Fits};
 ghost use Rattle.al_expr_grammar.specs.Private.TextTails.{tail_from};
 ghost use Rattle.al_expr_grammar.specs.Refusal.{fault_of_lexed};
 
-use crate::faults::plain_fault;
+use crate::faults::{plain_fault, unclosed_text};
 use crate::number::{digit, number};
 use crate::token::{Keyword, Operator, Token, TokenKind};
 use al_base::{ExpressionCode, Fault, Span};
@@ -203,6 +203,7 @@ fn read_at(bytes: &[u8]) -> Read
 }
 
 /// The tokens of a content, or why they are not all read.
+#[tactic(auto, using(crate::proofs::Lexing::past_blank))]
 fn tokens(alloc: Global, content: &str) -> Result<Result<Vec<Token>, LexError>, AllocError>
     requires { length content.now < 2 ^ 32 }
     ensures { IfOk result
@@ -243,7 +244,7 @@ fn tokens(alloc: Global, content: &str) -> Result<Result<Vec<Token>, LexError>, 
 }
 
 /// The last quote.
-fn last_quote(bytes: &[u8]) -> Option<usize>
+pub fn last_quote(bytes: &[u8]) -> Option<usize>
     ensures value { result ≡ last_quote bytes.now }
     ensures within { IfSome result (λ n. n < length bytes.now) }
 {
@@ -276,11 +277,7 @@ pub fn lex(alloc: Global, content: &str) -> Result<Result<Vec<Token>, Fault>, Al
             let Some(quote) = last_quote(content.as_bytes()) else {
                 unreachable!()
             };
-            let span = Span {
-                start: quote as u32,
-                end: quote as u32 + 1,
-            };
-            Ok(Err(plain_fault(ExpressionCode::UnclosedText, span)))
+            Ok(Err(unclosed_text(quote)))
         }
     }
 }

@@ -1,5 +1,5 @@
 -- What types have in common, by their arrays and by what these hold.
-use Rattle.std.proofs.Common.{◌≡◌, ◌≢◌, ◌<◌, ℕ, List, [], ◌∷◌, ◌++◌, map, length, zero, suc, min, false, refl, sym, ap, ◌∙◌, arith}
+use Rattle.std.proofs.Common.{◌≡◌, ◌≢◌, ◌<◌, ◌+◌, ℕ, List, [], ◌∷◌, ◌++◌, map, length, zero, suc, min, false, refl, sym, ap, ◌∙◌, arith}
 use Rattle.std.proofs.lemmas.List.{map-append}
 use Rattle.std.specs.Prelude.{Contains, get_or}
 use Rattle.al_types.specs.Types.{Type', Any, Null, Number, Bool', String, ArrayOf, ObjectOf, Parts, assignable_type, fuse_type, is_array, object_type}
@@ -34,6 +34,11 @@ no_array ms (base.Scalar scalar.String) = refl
 no_array ms (base.Object n) = refl
 
 -- ---- arrays
+
+pub arrays_more : (j k : ℕ) (t : Type') → arrays_of (j + k) t ≡ arrays_of j (arrays_of k t)
+arrays_more zero k t = ap (λ n. arrays_of n t) (omega arith)
+arrays_more (suc j) k t =
+    let e : suc j + k ≡ suc (j + k) = omega arith in ap (λ n. arrays_of n t) e ∙ ap (arrays_of 1) (arrays_more j k t)
 
 -- as many
 pub fuse_even : (k : ℕ) (x y : Type') → fuse_type (arrays_of k x) (arrays_of k y) ≡ arrays_of k (fuse_type x y)

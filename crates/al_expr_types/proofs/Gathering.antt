@@ -12,7 +12,8 @@ use Rattle.al_types.specs.Types.{Type', String, Optional, Absent, Present, Parts
 use Rattle.al_types.specs.Fused.{fuse_parts, fuse_all}
 use Rattle.al_types.proofs.FuseLaws.{fused_one_more, nothing_last, optional_assoc, optional_back}
 use Rattle.al_expr_types.specs.Parts.{part_in}
-use Rattle.al_expr_types.specs.Types.{common_of, no_parts, rest_in, type_in}
+use Rattle.al_expr_types.specs.Types.{common_of, no_parts, object_parts, rest_in, type_in}
+use Rattle.al_expr_types.specs.declared.objects.Object.{Object}
 use Rattle.al_expr_types.specs.declared.ty.Ty.{Ty}
 use Rattle.al_expr_types.specs.declared.parts.Part.{Part}
 use Rattle.al_expr_types.specs.declared.parts.Part.TheVariants as part
@@ -52,6 +53,11 @@ common_zipped g (n ∷ ns) [] h = refl
 common_zipped g (n ∷ ns) (x ∷ xs) h = ap (fuse_optional (Present (g x))) (common_zipped g ns xs (omega (arith, h)))
 
 -- ---- objects one after another
+
+-- what a part of an object adds is what that part of what it is made of does
+pub of_object : (ms : List Parts) (part : Part) (start new : Optional) (p : Parts) (o x : Object) → p ≡ object_parts ms o → o ≡ x →
+    new ≡ fuse_optional start (part_in part (object_parts ms x)) → new ≡ fuse_optional start (part_in part p)
+of_object ms part start new p o x is made e = e ∙ ap (λ q. fuse_optional start (part_in part q)) (sym (is ∙ ap (object_parts ms) made))
 
 pub part_nothing : (p : Part) → part_in p no_parts ≡ Absent
 part_nothing (part.Named n) = refl

@@ -1,9 +1,16 @@
 -- What is kept of objects stays right where objects are added, and where more is kept.
-use Rattle.std.proofs.Common.{◌≡◌, ◌≢◌, ◌<◌, ◌≤◌, ◌+◌, ℕ, List, [], ◌∷◌, ◌++◌, length, map, take, get_or, set, zero, suc, Bool, true, false, Option, refl, sym, ap, subst, ◌∙◌, arith, ⊎_elim}
-use Rattle.std.proofs.lemmas.List.{length-append, get_or-set_same, get_or-set_other, map-append, take_more}
+use Rattle.std.proofs.Common.{◌≡◌, ◌<◌, ◌≤◌, ◌+◌, ℕ, List, [], ◌∷◌, ◌++◌, length, map, take, get_or, cond, Bool, true, false, Option, Some, None, Result, Ok, Err, Bor}
+use Rattle.std.proofs.Common.{refl, sym, ap, subst, ◌∙◌, arith}
+use Rattle.std.proofs.lemmas.Cmp.{ranked}
+use Rattle.std.proofs.lemmas.List.{length-append, map-append, take_more}
+use Rattle.std.specs.BTreeMap.{BTreeMap, IsUnchanged, Updates, get, is_at}
 use Rattle.std.specs.List.{list_all}
-use Rattle.std.proofs.lemmas.Bool.{cases_eq}
-use Rattle.std.specs.Prelude.{if◌then◌else◌, option_map}
+use Rattle.std.specs.Map.{lookup}
+use Rattle.std.specs.Ordering.{MatchOrdering, is_eq, nat_cmp}
+use Rattle.std.specs.Option.{option_copied}
+use Rattle.std.specs.Prelude.{IfSome, OnErr, OnOk, if◌then◌else◌, option_map}
+use Rattle.std.specs.declared.cmp.Ordering.{Ordering}
+use Rattle.std.specs.declared.cmp.Ordering.TheVariants.{Less, Equal, Greater}
 use Rattle.al_base.proofs.Growing.{begins_same}
 use Rattle.al_base.specs.Growth.{BeginsWith}
 use Rattle.al_types.specs.Types.{Parts, Optional, Present, object_type, option_of}
@@ -12,16 +19,13 @@ use Rattle.al_types.specs.Fused.{fuse_all}
 use Rattle.al_expr_types.specs.Joining.{is_join_below, join_in}
 use Rattle.al_expr_types.specs.declared.joining.Join.{Join}
 use Rattle.al_expr_types.specs.declared.joining.Join.TheVariants as joined
-use Rattle.al_expr_types.specs.Marks.{AreIndexed, AreRight, IsCommon, IsFieldIndex}
-use Rattle.al_expr_types.specs.declared.marks.Index.{Index}
-use Rattle.al_expr_types.specs.declared.marks.Index.TheVariants as index
+use Rattle.al_expr_types.specs.Kept.{AreCommons, AreIndexes, IsCommon, IsFieldIndex}
 use Rattle.al_expr_types.specs.declared.objects.Fields.{Fields}
 use Rattle.al_expr_types.specs.declared.objects.Object.TheVariants as object
 use Rattle.al_expr_types.specs.Types.{arrays_of, fields_parts, is_below, is_object_below, is_rest_below, object_in, parts_of_all, rest_in, type_in}
-use Rattle.al_expr_types.specs.declared.marks.Mark.{Mark}
-use Rattle.al_expr_types.specs.declared.marks.Mark.TheVariants as mark
 use Rattle.al_expr_types.specs.declared.objects.Object.{Object}
 use Rattle.al_expr_types.specs.declared.ty.Ty.{Ty}
+use Rattle.al_expr_types.specs.declared.types.Types.{Types}
 use Rattle.al_expr_types.proofs.Below.{below_wider, is_less, numbers_wider, object_kept, object_wider, objects_kept, parts_kept, rest_kept, rest_wider, same_mapped, type_kept}
 use Rattle.al_expr_types.proofs.Gathering.{rest_is}
 use Rattle.al_expr_types.proofs.Tables.{length_after, more_begin}
@@ -50,31 +54,50 @@ common_longer new old n t b h =
       ap (λ ms. rest_in ms t) b.is ∙ rest_kept (parts_of_all old) b.more t below ∙ h.2 ∙ ap (λ p. p.2) (sym (same_there new old n b h.0)),
     )
 
-pub right_longer : (new old : List Object) (ks : List Mark) → BeginsWith (parts_of_all new) (parts_of_all old) → AreRight old ks → AreRight new ks
-right_longer new old ks b right n t e = common_longer new old n t b (right n t e)
+pub commons_longer : (new old : List Object) (kept : BTreeMap ℕ (Option Ty)) → BeginsWith (parts_of_all new) (parts_of_all old) → AreCommons old kept → AreCommons new kept
+commons_longer new old kept b h n t e = common_longer new old n t b (h n t e)
 
--- ---- marks
+-- ---- one more that is kept
 
-unasked_last : (ks : List Mark) (n : ℕ) → get_or (ks ++ mark.Unknown ∷ []) n mark.Unknown ≡ get_or ks n mark.Unknown
-unasked_last [] zero = refl
-unasked_last [] (suc n) = refl
-unasked_last (k ∷ ks) zero = refl
-unasked_last (k ∷ ks) (suc n) = unasked_last ks n
+same_number : (n m : ℕ) (r : Ordering) → MatchOrdering r (n < m) (n ≡ m) (m < n) → is_eq r ≡ true → n ≡ m
+same_number n m Less h e = absurd cc
+same_number n m Equal h e = h
+same_number n m Greater h e = absurd cc
 
-pub right_more : (os : List Object) (ks : List Mark) → AreRight os ks → AreRight os (ks ++ mark.Unknown ∷ [])
-right_more os ks right n t e = right n t (sym (unasked_last ks n) ∙ e)
+module _ {X : Type 0} (P : ℕ → X → Type 0) where
+  -- it holds of each value at its key
+  abbrev Each : BTreeMap ℕ X → Type 0
+  Each kept = (n : ℕ) (x : X) → get nat_cmp kept n ≡ Some x → P n x
 
-same_mark : (t u : Option Ty) → mark.Common t ≡ mark.Common u → t ≡ u
-same_mark t u e = cc
+  insert_step : (b : Bool) (o : Option X) (n m : ℕ) (x y : X) → (b ≡ true → n ≡ m) → P n x → (o ≡ Some y → P m y) → cond b (Some x) o ≡ Some y → P m y
+  insert_step true o n m x y here h each e = let same : x ≡ y = cc in subst (λ k. P k y) (here refl) (subst (P n) same h)
+  insert_step false o n m x y here h each e = each e
 
-pub right_set : (os : List Object) (ks : List Mark) (n : ℕ) (t : Option Ty) → n < length ks → IsCommon os n t → AreRight os ks → AreRight os (set ks n (mark.Common t))
-right_set os ks n t lt h right m u e =
-    ⊎_elim
-    (λ (is : m ≡ n).
-    let there = sym (ap (λ k. get_or (set ks n (mark.Common t)) k mark.Unknown) is ∙ get_or-set_same ks n (mark.Common t) mark.Unknown lt) ∙ e in
-    subst (λ k. IsCommon os k u) (sym is) (subst (IsCommon os n) (same_mark t u there) h))
-    (λ (ne : m ≢ n). right m u (sym (get_or-set_other ks n m (mark.Common t) mark.Unknown ne) ∙ e))
-    (cases_eq m n)
+  pub each_insert : {E : Type 0} (r : Result (Option X) E) (old new : BTreeMap ℕ X) (n : ℕ) (x : X) → OnOk r (Updates nat_cmp old new n (Some x)) →
+      OnErr r (IsUnchanged old new) → P n x → Each old → Each new
+  each_insert (Ok o) old new n x updates unchanged h each m y e =
+      insert_step (is_at (nat_cmp n) m) (get nat_cmp old m) n m x y (same_number n m (nat_cmp n m) (ranked n m (nat_cmp n m) refl)) h (each m y)
+      (sym (updates.0 m) ∙ e)
+  each_insert (Err o) old new n x updates unchanged h each m y e = each m y (ap (lookup (is_at (nat_cmp m))) (sym unchanged) ∙ e)
+
+-- ---- what is found
+
+pub common_at : (types : Types) (n : ℕ) (o : Option (Option Ty)) → o ≡ get nat_cmp types.commons n → IfSome o (IsCommon types.objects.items n)
+common_at types n None e = tt
+common_at types n (Some t) e = types.common n t (sym e)
+
+pub index_at : (types : Types) (n : ℕ) (o : Option (Bor Fields)) → option_copied o ≡ get nat_cmp types.indexes n → IfSome o (λ f. IsFieldIndex types.objects.items n f.now)
+index_at types n None e = tt
+index_at types n (Some f) e = types.indexed n f.now (sym e)
+
+pub common_is : (os : List Object) (n : ℕ) (o : Option (Option Ty)) → IfSome o (IsCommon os n) →
+    IfSome o (λ t. rest_in (parts_of_all os) t ≡ (object_in (parts_of_all os) n).2)
+common_is os n None h = tt
+common_is os n (Some t) h = h.2
+
+pub common_known : (os : List Object) (n : ℕ) (o : Option (Option Ty)) → IfSome o (IsCommon os n) → IfSome o (λ t. is_rest_below (length os) t ≡ true)
+common_known os n None h = tt
+common_known os n (Some t) h = h.1
 
 -- ---- what is answered
 
@@ -86,10 +109,6 @@ kept_answer os n t h = sym (optional_back (option_map (type_in (parts_of_all os)
 pub begins_if : (ok : Bool) (new old : List Object) (o : Object) → new ≡ (if ok then old ++ o ∷ [] else old) → BeginsWith (parts_of_all new) (parts_of_all old)
 begins_if true new old o e = subst (λ os. BeginsWith (parts_of_all os) (parts_of_all old)) (sym e) (more_begin old (o ∷ []))
 begins_if false new old o e = begins_same (parts_of_all old) (parts_of_all new) (ap parts_of_all e)
-
-pub right_if : (ok : Bool) (os : List Object) (new old : List Mark) → new ≡ (if ok then old ++ mark.Unknown ∷ [] else old) → AreRight os old → AreRight os new
-right_if true os new old e h = subst (AreRight os) (sym e) (right_more os old h)
-right_if false os new old e h = subst (AreRight os) (sym e) h
 
 -- ---- what was joined so far stands for the same in a longer table
 
@@ -141,42 +160,5 @@ index_longer new old n f b h =
       (ap (λ p. p.0) fields ∙ h.1.0 ∙ ap (λ p. p.0) same, ap (λ p. p.1) fields ∙ h.1.1 ∙ ap (λ p. p.1) same),
     )
 
-pub indexed_longer : (new old : List Object) (is : List Index) → BeginsWith (parts_of_all new) (parts_of_all old) → AreIndexed old is → AreIndexed new is
-indexed_longer new old is b indexed n f e = index_longer new old n f b (indexed n f e)
-
-asked_last : (is : List Index) (n : ℕ) → get_or (is ++ index.Looks 0 ∷ []) n (index.Looks 0) ≡ get_or is n (index.Looks 0)
-asked_last [] zero = refl
-asked_last [] (suc n) = refl
-asked_last (i ∷ is) zero = refl
-asked_last (i ∷ is) (suc n) = asked_last is n
-
-indexed_more : (os : List Object) (is : List Index) → AreIndexed os is → AreIndexed os (is ++ index.Looks 0 ∷ [])
-indexed_more os is indexed n f e = indexed n f (sym (asked_last is n) ∙ e)
-
-pub indexed_if : (ok : Bool) (os : List Object) (new old : List Index) → new ≡ (if ok then old ++ index.Looks 0 ∷ [] else old) → AreIndexed os old → AreIndexed os new
-indexed_if true os new old e h = subst (AreIndexed os) (sym e) (indexed_more os old h)
-indexed_if false os new old e h = subst (AreIndexed os) (sym e) h
-
-same_index : (f g : Fields) → index.Fields f ≡ index.Fields g → f ≡ g
-same_index f g e = cc
-
-pub indexed_set : (os : List Object) (is : List Index) (n : ℕ) (f : Fields) → n < length is → IsFieldIndex os n f → AreIndexed os is → AreIndexed os (set is n (index.Fields f))
-indexed_set os is n f lt h indexed m g e =
-    ⊎_elim
-    (λ (same : m ≡ n).
-    let there = sym (ap (λ k. get_or (set is n (index.Fields f)) k (index.Looks 0)) same ∙ get_or-set_same is n (index.Fields f) (index.Looks 0) lt) ∙ e in
-    subst (λ k. IsFieldIndex os k g) (sym same) (subst (IsFieldIndex os n) (same_index f g there) h))
-    (λ (ne : m ≢ n). indexed m g (sym (get_or-set_other is n m (index.Fields f) (index.Looks 0) ne) ∙ e))
-    (cases_eq m n)
-
-not_made : (k : ℕ) (f : Fields) → index.Looks k ≢ index.Fields f
-not_made k f e = cc
-
-pub indexed_asked : (os : List Object) (is : List Index) (n k : ℕ) → n < length is → AreIndexed os is → AreIndexed os (set is n (index.Looks k))
-indexed_asked os is n k lt indexed m g e =
-    ⊎_elim
-    (λ (same : m ≡ n).
-    let there = sym (ap (λ j. get_or (set is n (index.Looks k)) j (index.Looks 0)) same ∙ get_or-set_same is n (index.Looks k) (index.Looks 0) lt) ∙ e in
-    absurd (not_made k g there))
-    (λ (ne : m ≢ n). indexed m g (sym (get_or-set_other is n m (index.Looks k) (index.Looks 0) ne) ∙ e))
-    (cases_eq m n)
+pub indexes_longer : (new old : List Object) (kept : BTreeMap ℕ Fields) → BeginsWith (parts_of_all new) (parts_of_all old) → AreIndexes old kept → AreIndexes new kept
+indexes_longer new old kept b h n f e = index_longer new old n f b (h n f e)

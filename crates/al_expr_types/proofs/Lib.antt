@@ -1,5 +1,6 @@
 pub mod Below
 pub mod Tables
+pub mod FieldMaps
 pub mod Fusing
 pub mod Joins
 pub mod Gathering

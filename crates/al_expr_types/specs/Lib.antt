@@ -2,10 +2,11 @@ pub mod Names
 pub mod Once
 pub mod Places
 pub mod Types
+pub mod FieldMaps
 pub mod Joining
 pub mod Tables
 pub mod Parts
 pub mod Sets
-pub mod Marks
+pub mod Kept
 pub mod Merging
 pub mod Prefixes

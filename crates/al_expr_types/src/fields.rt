@@ -16,13 +16,13 @@ pub struct FieldMap<'a> {
 }
 
 impl<'a> FieldMap<'a> {
-    ghost use Rattle.std.specs.Prelude.{◌∷◌, ◌++◌, ◌<◌, [], List, IfOk, get_or, if◌then◌else◌, is_none};
-    ghost use Rattle.std.specs.Prelude.{map, option_map, slice_get, take, true, ℕ};
+    ghost use Rattle.std.specs.Prelude.{◌<◌, [], List, IfOk, None, get_or, map, option_map, slice_get, take, true, ℕ};
     ghost use Rattle.al_base.specs.NamePlaces.{name_place};
+    ghost use Rattle.al_types.specs.Puts.{put_new};
     ghost use Rattle.al_types.specs.Types.{Parts, field_at};
+    ghost use Rattle.al_expr_types.specs.FieldMaps.{fields_in, is_map_below};
     ghost use Rattle.al_expr_types.specs.Once.{are_once};
     ghost use Rattle.al_expr_types.specs.Types.{is_below, is_rest_below, named_types, type_in};
-    ghost use Rattle.std.specs.List.{list_all};
 
     /// No fields. Takes no memory.
     pub fn new(alloc: Global) -> FieldMap<'a>
@@ -55,19 +55,32 @@ impl<'a> FieldMap<'a> {
 
     /// The fields, and one more behind them unless one has its name.
     pub fn and(self, alloc: Global, name: &'a [u8], ty: Ty) -> Result<FieldMap<'a>, AllocError>
-        ensures names { IfOk result
-            (λ f. names_in f.names ≡ (if is_none (name_place (names_in self.entry.names) name.now)
-            then names_in self.entry.names ++ name.now ∷ [] else names_in self.entry.names)) }
-        ensures types { IfOk result
-            (λ f. f.types.items ≡ (if is_none (name_place (names_in self.entry.names) name.now)
-            then self.entry.types.items ++ ty ∷ [] else self.entry.types.items)) }
+        ensures fields { IfOk result (λ f. (ms : List Parts)
+            → fields_in ms f ≡ put_new (fields_in ms self.entry) (name.now, type_in ms ty)) }
+        ensures below { IfOk result (λ f. (k : ℕ) → is_map_below k self.entry ≡ true
+            → is_below k ty ≡ true → is_map_below k f ≡ true) }
+    {
+        let position = self.names.position(alloc, name)?;
+        match position {
+            Some(_) => Ok(self),
+            None => {
+                let more = self.push(alloc, name, ty)?;
+                Ok(more)
+            }
+        }
+    }
+
+    /// The fields, and one more behind them whose name isn't there.
+    fn push(self, alloc: Global, name: &'a [u8], ty: Ty) -> Result<FieldMap<'a>, AllocError>
+        requires { name_place (names_in self.names) name.now ≡ None }
+        ensures fields { IfOk result (λ f. (ms : List Parts)
+            → fields_in ms f ≡ put_new (fields_in ms self.entry) (name.now, type_in ms ty)) }
+        ensures below { IfOk result (λ f. (k : ℕ) → is_map_below k self.entry ≡ true
+            → is_below k ty ≡ true → is_map_below k f ≡ true) }
     {
         let mut types = self.types;
-        let (names, is_new) = self.names.and(alloc, name)?;
-        if is_new {
-            types.push(ty)?;
-            return Ok(FieldMap { names, types });
-        }
+        let names = self.names.push(alloc, name)?;
+        types.push(ty)?;
         Ok(FieldMap { names, types })
     }
 
@@ -90,8 +103,7 @@ impl<'a> FieldMap<'a> {
     /// The type at a position, where it is one of the first so many.
     fn type_at(&self, i: usize, count: usize) -> Option<Ty>
         ensures ty { result ≡ slice_get (take count self.now.types.items) i }
-        ensures below { (k : ℕ) → list_all (is_below k) self.now.types.items ≡ true
-            → is_rest_below k result ≡ true }
+        ensures below { (k : ℕ) → is_map_below k self.now ≡ true → is_rest_below k result ≡ true }
     {
         if i >= count {
             return None;
@@ -108,8 +120,7 @@ impl<'a> FieldMap<'a> {
             ≡ field_at name.now
             (named_types ms (names_in self.now.names) (take count self.now.types.items))) }
         ensures below { IfOk result
-            (λ found. (k : ℕ) → list_all (is_below k) self.now.types.items ≡ true
-            → is_rest_below k found ≡ true) }
+            (λ found. (k : ℕ) → is_map_below k self.now ≡ true → is_rest_below k found ≡ true) }
     {
         let position = self.names.position(alloc, name)?;
         match position {

@@ -5,11 +5,12 @@ ghost use Rattle.std.specs.List.{list_all};
 ghost use Rattle.al_base.specs.Growth.{BeginsWith};
 ghost use Rattle.al_types.specs.Types.{Present, fuse_optional};
 ghost use Rattle.al_expr_types.specs.Joining.{join_in};
-ghost use Rattle.al_expr_types.specs.Marks.{IsFieldIndex};
+ghost use Rattle.al_expr_types.specs.Kept.{IsFieldIndex};
 ghost use Rattle.al_expr_types.specs.Merging.{are_joins_below, found_in};
 ghost use Rattle.al_expr_types.specs.Tables.{objects_of, type_at};
 ghost use Rattle.al_expr_types.specs.Types.{is_below, object_in};
 
+use crate::fields::FieldMap;
 use crate::joining::Join;
 use crate::merging::FieldJoins;
 use crate::objects::{Fields, Object};
@@ -34,7 +35,7 @@ impl<'a> Types<'a> {
             let indexed = sofar.and_object(self.alloc, index)?;
             return Ok(indexed);
         }
-        match &self.objects[n as usize] {
+        match self.object(n) {
             Object::Fields(fields) => {
                 let merged = sofar.and_object(self.alloc, fields)?;
                 Ok(merged)
@@ -90,7 +91,8 @@ impl<'a> Types<'a> {
         let others = self.gather(n, Part::Rest, Join::Nothing)?;
         let types = self.types_of(&merging)?;
         let rest = self.join_type(others)?;
-        let fields = Fields::of(self.alloc, merging.into_names(), types, rest)?;
+        let names = merging.into_names();
+        let fields = Fields::of(self.alloc, FieldMap { names, types }, rest)?;
         Ok(fields)
     }
 
@@ -101,7 +103,7 @@ impl<'a> Types<'a> {
         if let Some(index) = self.index_of(n) {
             return index.count;
         }
-        match &self.objects[n as usize] {
+        match self.object(n) {
             Object::Fields(fields) => fields.count,
             Object::Extension(extension) => extension.fields.count,
             Object::Strings(names) => names.len(),
@@ -129,9 +131,9 @@ impl<'a> Types<'a> {
             looked = looked.saturating_add(objects);
             fields = fields.saturating_add(more);
         }
-        if self.is_due(n, looked, fields) {
+        if self.is_due(n, looked, fields)? {
             let index = self.index(n)?;
-            self.set_index(n, index);
+            self.keep_index(n, index)?;
             return Ok((1, fields));
         }
         Ok((looked, fields))

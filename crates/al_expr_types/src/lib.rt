@@ -5,7 +5,6 @@
 mod fields;
 mod indexing;
 mod joining;
-mod marks;
 mod merging;
 mod name_index;
 mod name_list;

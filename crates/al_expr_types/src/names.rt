@@ -1,6 +1,6 @@
 //! The names of fields, found by going over them, and by an index where there are many.
 
-ghost use Rattle.std.specs.Prelude.{◌≡◌, ◌++◌, ◌∷◌, [], IfOk, None, if◌then◌else◌, is_none, map, true};
+ghost use Rattle.std.specs.Prelude.{◌≡◌, ◌++◌, ◌∷◌, [], IfOk, None, map, true};
 ghost use Rattle.al_base.specs.NamePlaces.{name_place};
 ghost use Rattle.al_expr_types.specs.Once.{are_once};
 ghost use Rattle.al_expr_types.specs.Places.{IsNameIndex, place_by};
@@ -137,24 +137,6 @@ impl<'a> Names<'a> {
             None => {
                 names.push(name)?;
                 Ok(Names { names, index: None })
-            }
-        }
-    }
-
-    /// The names, and one more behind them unless an equal one stands there, and whether it is new.
-    pub fn and(self, alloc: Global, name: &'a [u8]) -> Result<(Names<'a>, bool), AllocError>
-        ensures is_new { IfOk result
-            (λ r. r.1 ≡ is_none (name_place (names_in self.entry) name.now)) }
-        ensures names { IfOk result
-            (λ r. names_in r.0
-            ≡ (if r.1 then names_in self.entry ++ name.now ∷ [] else names_in self.entry)) }
-    {
-        let position = self.position(alloc, name)?;
-        match position {
-            Some(_) => Ok((self, false)),
-            None => {
-                let more = self.push(alloc, name)?;
-                Ok((more, true))
             }
         }
     }

@@ -4,7 +4,6 @@ ghost use Rattle.std.specs.Prelude.{◌≤◌, length};
 
 use crate::fields::FieldMap;
 use crate::name_list::NameList;
-use crate::names::Names;
 use crate::ty::Ty;
 use std::alloc::{AllocError, Global};
 use std::rc::Rc;
@@ -20,30 +19,23 @@ pub struct Fields<'a> {
 
 impl<'a> Fields<'a> {
     ghost use Rattle.std.specs.Prelude.{◌≡◌, List, IfOk, true, ℕ};
-    ghost use Rattle.std.specs.List.{list_all};
-    ghost use Rattle.al_types.specs.Types.{Parts, field_at, optional};
-    ghost use Rattle.al_expr_types.specs.Names.{names_in};
-    ghost use Rattle.al_expr_types.specs.Types.{are_fields_below, fields_parts, is_below, is_rest_below, named_types, rest_in};
+    ghost use Rattle.al_types.specs.Types.{Parts, parts_with};
+    ghost use Rattle.al_expr_types.specs.FieldMaps.{fields_in, is_map_below};
+    ghost use Rattle.al_expr_types.specs.Types.{are_fields_below, fields_parts, is_rest_below, rest_in};
 
-    /// All fields of these names and types. Fails with `AllocError` where it is out of memory.
+    /// All fields of a map, and others of a type where there may be others. Fails with `AllocError` where it is out of memory.
     pub(crate) fn of(
         alloc: Global,
-        names: Names<'a>,
-        types: Vec<Ty>,
+        map: FieldMap<'a>,
         rest: Option<Ty>,
     ) -> Result<Fields<'a>, AllocError>
-        requires { length (names_in names) ≡ length types.items }
-        ensures named { IfOk result (λ f. (ms : List Parts) → (fields_parts ms f).0
-            ≡ λ n. optional
-            (field_at n (named_types ms (names_in names.entry) types.items))) }
-        ensures rest { IfOk result
-            (λ f. (ms : List Parts) → (fields_parts ms f).1 ≡ rest_in ms rest) }
-        ensures below { IfOk result
-            (λ f. (k : ℕ) → list_all (is_below k) types.items ≡ true → is_rest_below k rest ≡ true
-            → are_fields_below k f ≡ true) }
+        ensures parts { IfOk result (λ f. (ms : List Parts)
+            → fields_parts ms f ≡ parts_with (fields_in ms map.entry) (rest_in ms rest)) }
+        ensures below { IfOk result (λ f. (k : ℕ) → is_map_below k map.entry ≡ true
+            → is_rest_below k rest ≡ true → are_fields_below k f ≡ true) }
     {
-        let count = types.len();
-        let map = Rc::new(alloc, FieldMap { names, types })?;
+        let count = map.len();
+        let map = Rc::new(alloc, map)?;
         Ok(Fields { map, count, rest })
     }
 }

@@ -116,6 +116,7 @@ fn new_types(
 }
 
 impl<'a> Prefixes<'a> {
+    ghost use Rattle.al_expr_types.specs.FieldMaps.{is_map_below};
     ghost use Rattle.al_expr_types.specs.Prefixes.{HasPrefix, IsShorter, map_in, prefix_parts};
     ghost use Rattle.al_expr_types.specs.Tables.{is_known, objects_of, type_at};
     ghost use Rattle.al_expr_types.specs.Types.{object_in};
@@ -157,8 +158,7 @@ impl<'a> Prefixes<'a> {
         base: Option<Prefix>,
     ) -> Result<u32, AllocError>
         requires inside { count ≤ length (map_in self.now).types.items }
-        requires below { list_all (is_below (length types.old.objects.items))
-            (map_in self.now).types.items ≡ true }
+        requires below { is_map_below (length types.old.objects.items) (map_in self.now) ≡ true }
         requires base { HasPrefix types.old (map_in self.now) base }
         requires shorter { IsShorter base count }
         ensures object { IfOk result (λ n. object_in (objects_of types.new) n
@@ -199,8 +199,7 @@ impl<'a> Prefixes<'a> {
     /// The base of the first so many fields: a new one where these are a block or more behind the last.
     fn base_of(&mut self, types: &mut Types<'a>, count: usize) -> Result<Option<Prefix>, AllocError>
         requires inside { count ≤ length (map_in self.old).types.items }
-        requires below { list_all (is_below (length types.old.objects.items))
-            (map_in self.old).types.items ≡ true }
+        requires below { is_map_below (length types.old.objects.items) (map_in self.old) ≡ true }
         requires base { HasPrefix types.old (map_in self.old) self.old.base }
         ensures result { IfOk result (λ b. HasPrefix types.new (map_in self.old) b) }
         ensures shorter { IfOk result (λ b. IsShorter b count) }
@@ -229,8 +228,7 @@ impl<'a> Prefixes<'a> {
     /// The type of an object of the first so many fields, and no others.
     pub fn first(&mut self, types: &mut Types<'a>, count: usize) -> Result<Ty, AllocError>
         requires inside { count ≤ length (map_in self.old).types.items }
-        requires below { list_all (is_below (length types.old.objects.items))
-            (map_in self.old).types.items ≡ true }
+        requires below { is_map_below (length types.old.objects.items) (map_in self.old) ≡ true }
         requires base { HasPrefix types.old (map_in self.old) self.old.base }
         ensures ty { IfOk result
             (λ t. type_at types.new t

@@ -14,7 +14,6 @@ ghost use Rattle.al_expr_types.specs.declared.objects.Object.TheVariants as obje
 ghost use Rattle.std.specs.List.{list_all};
 
 use crate::joining::Join;
-use crate::marks::Mark;
 use crate::name_list::NameList;
 use crate::objects::{Extension, Fields, Object};
 use crate::parts::Part;
@@ -81,22 +80,6 @@ impl Fields<'_> {
     }
 }
 
-impl Extension<'_> {
-    /// What the types behind the base have in common with types so far.
-    fn gather_own(&self, alloc: Global, sofar: Join) -> Result<Join, AllocError>
-        ensures part { IfOk result (λ j. (ms : List Parts)
-            → join_in ms j
-            ≡ fuse_optional (join_in ms sofar) (common_of (map (type_in ms) self.now.own.items))) }
-        ensures below { IfOk result
-            (λ j. (n : ℕ) → list_all (is_below n) self.now.own.items ≡ true
-            → is_join_below n sofar ≡ true
-            → is_join_below n j ≡ true) }
-    {
-        let all = and_all(alloc, self.own.as_slice(), sofar)?;
-        Ok(all)
-    }
-}
-
 /// Whether a part of an object of strings is one.
 fn has_string(alloc: Global, names: &NameList, part: Part<'_>) -> Result<bool, AllocError>
     ensures { IfOk result
@@ -158,10 +141,7 @@ impl<'a> Types<'a> {
         match part {
             Part::Named(_) => None,
             Part::Rest => None,
-            Part::All => match self.mark(n) {
-                Mark::Common(common) => Some(common),
-                Mark::Unknown => None,
-            },
+            Part::All => self.kept_common(n),
         }
     }
 
@@ -184,7 +164,7 @@ impl<'a> Types<'a> {
         match part {
             Part::All => {
                 let of_base = self.gather(extension.base.object, part, sofar)?;
-                let all = extension.gather_own(self.alloc, of_base)?;
+                let all = and_all(self.alloc, extension.own.as_slice(), of_base)?;
                 Ok(all)
             }
             Part::Named(_) => {
@@ -216,7 +196,7 @@ impl<'a> Types<'a> {
             let known = and_one(self.alloc, common, sofar)?;
             return Ok(known);
         }
-        match &self.objects[n as usize] {
+        match self.object(n) {
             Object::Fields(fields) => {
                 let gathered = fields.gather(self.alloc, part, sofar)?;
                 Ok(gathered)
@@ -273,7 +253,7 @@ impl<'a> Types<'a> {
         requires { n < length self.now.objects.items }
         ensures { IfOk result (λ of. IfSome of (λ v. are_below n v.items ≡ true)) }
     {
-        match &self.objects[n as usize] {
+        match self.object(n) {
             Object::Common(of) => {
                 let numbers = Vec::from_slice(self.alloc, of.as_slice())?;
                 Ok(Some(numbers))
@@ -289,7 +269,7 @@ impl<'a> Types<'a> {
         requires { n < length self.now.objects.items }
         ensures { IfSome result (λ m. m < n) }
     {
-        match &self.objects[n as usize] {
+        match self.object(n) {
             Object::Extension(extension) => Some(extension.base.object),
             Object::Fields(_) => None,
             Object::Strings(_) => None,
@@ -326,13 +306,13 @@ impl<'a> Types<'a> {
         ensures known { IfOk result (λ t. is_rest_below (length self.new.objects.items) t ≡ true) }
         ensures kept { BeginsWith (objects_of self.new) (objects_of self.old) }
     {
-        match self.mark(n) {
-            Mark::Common(common) => Ok(common),
-            Mark::Unknown => {
+        match self.kept_common(n) {
+            Some(common) => Ok(common),
+            None => {
                 self.make_commons(n)?;
                 let all = self.gather(n, Part::All, Join::Nothing)?;
                 let common = self.join_type(all)?;
-                self.set_mark(n, common);
+                self.keep_common(n, common)?;
                 Ok(common)
             }
         }

@@ -1,12 +1,13 @@
 //! Types as they are passed on: numbers, which are copied.
 
-ghost use Rattle.std.specs.Prelude.{◌≡◌, List, MatchOption, false, nat_lt, ℕ};
-ghost use Rattle.al_types.specs.Types.{ArrayOf, Parts, assignable_type, fuse_type, is_array};
+ghost use Rattle.std.specs.Prelude.{◌≡◌, List, IfOk, MatchOption, false, nat_lt, true, ℕ};
+ghost use Rattle.al_types.specs.Types.{ArrayOf, Parts, assignable_type, fuse_type, is_array, is_collection, is_object, is_plain};
 ghost use Rattle.al_types.specs.TypeParts.{form_of};
-ghost use Rattle.al_expr_types.specs.Types.{base_type, is_any, is_below, scalar_type, type_in};
+ghost use Rattle.al_expr_types.specs.Types.{arrays_of, base_type, is_any, is_below, scalar_type, type_in};
 ghost use Rattle.al_expr_types.specs.declared.ty.Base.TheVariants as base;
 
 use al_types::Form;
+use std::alloc::AllocError;
 
 /// A type without parts.
 #[derive(Clone, Copy, PartialEq, Eq, Debug)]
@@ -131,6 +132,17 @@ impl Ty {
         of: Base::Scalar(Scalar::String),
     };
 
+    /// The type of a scalar.
+    pub fn scalar(of: Scalar) -> Ty
+        ensures ty { (ms : List Parts) → type_in ms result ≡ scalar_type of }
+        ensures below { (k : ℕ) → is_below k result ≡ true }
+    {
+        Ty {
+            arrays: 0,
+            of: Base::Scalar(of),
+        }
+    }
+
     /// The type of an object, by its number.
     pub fn object(number: u32) -> Ty
         ensures ty { (ms : List Parts) → type_in ms result ≡ base_type ms (base.Object number) }
@@ -152,6 +164,50 @@ impl Ty {
         match self.of {
             Base::Scalar(scalar) => scalar.form(),
             Base::Object(_) => Form::Object,
+        }
+    }
+
+    /// Whether it is an array.
+    pub fn is_array(self) -> bool
+        ensures { (ms : List Parts) → result ≡ is_array (type_in ms self) }
+    {
+        matches!(self.form(), Form::Array)
+    }
+
+    /// Whether it is an object.
+    pub fn is_object(self) -> bool
+        ensures { (ms : List Parts) → result ≡ is_object (type_in ms self) }
+    {
+        matches!(self.form(), Form::Object)
+    }
+
+    /// Whether it is an array or an object.
+    pub fn is_collection(self) -> bool
+        ensures { (ms : List Parts) → result ≡ is_collection (type_in ms self) }
+    {
+        matches!(self.form(), Form::Array | Form::Object)
+    }
+
+    /// Whether it is a number, a bool or a string.
+    pub fn is_plain(self) -> bool
+        ensures { (ms : List Parts) → result ≡ is_plain (type_in ms self) }
+    {
+        matches!(self.form(), Form::Number | Form::Bool | Form::String)
+    }
+
+    /// The type in so many more arrays. Fails with `AllocError` where all its arrays are too many to count.
+    pub fn in_arrays(self, arrays: u32) -> Result<Ty, AllocError>
+        ensures ty { IfOk result
+            (λ t. (ms : List Parts) → type_in ms t ≡ arrays_of arrays (type_in ms self)) }
+        ensures below { IfOk result (λ t. (k : ℕ) → is_below k self ≡ true → is_below k t ≡ true) }
+    {
+        match arrays.checked_add(self.arrays) {
+            Some(all) => Ok(Ty {
+                arrays: all,
+                of: self.of,
+            }),
+            // No memory holds a type in so many arrays.
+            None => Err(AllocError),
         }
     }
 

@@ -1,42 +1,46 @@
 //! The table of a file's objects, and the types that are made of them.
 
 ghost use Rattle.std.specs.Prelude.{◌≡◌, true};
-ghost use Rattle.al_expr_types.specs.Marks.{AreIndexed, AreIndexed-prop, AreRight, AreRight-prop};
+ghost use Rattle.al_expr_types.specs.Kept.{AreCommons, AreCommons-prop, AreIndexes, AreIndexes-prop};
 ghost use Rattle.al_expr_types.specs.Types.{are_in_order};
 
+use crate::fields::FieldMap;
 use crate::joining::Join;
-use crate::marks::{Index, Mark};
 use crate::name_list::NameList;
 use crate::objects::{Fields, Object};
 use crate::ty::{Base, Ty};
 use std::alloc::{AllocError, Global};
+use std::collections::BTreeMap;
 
 /// The objects of a file, each made once and named by its number. Later ones are made of earlier ones, so to add one changes no other.
 #[derive(Drop)]
 pub struct Types<'a> {
     pub(crate) alloc: Global,
     pub(crate) objects: Vec<Object<'a>>,
-    marks: Vec<Mark>,
-    indexes: Vec<Index<'a>>,
+    /// What all fields of an object have in common, of the objects of which that was asked.
+    commons: BTreeMap<u32, Option<Ty>>,
+    /// How many objects were looked through for the fields of an object.
+    looks: BTreeMap<u32, usize>,
+    /// The fields by their names, of the objects that were looked through often.
+    indexes: BTreeMap<u32, Fields<'a>>,
     ghost ordered: { are_in_order 0 objects.items ≡ true },
-    ghost right: { AreRight objects.items marks.items } by { AreRight-prop objects.items marks.items },
-    ghost indexed: { AreIndexed objects.items indexes.items } by { AreIndexed-prop objects.items indexes.items },
+    ghost common: { AreCommons objects.items commons } by { AreCommons-prop objects.items commons },
+    ghost indexed: { AreIndexes objects.items indexes } by { AreIndexes-prop objects.items indexes },
 }
 
 /// So often a field may be looked at before the index is made.
 const OFTEN: usize = 2;
 
 impl<'a> Types<'a> {
-    ghost use Rattle.std.specs.Prelude.{◌∷◌, ◌++◌, ◌<◌, [], IfOk, IfSome, OnOk, get_or, length, option_map};
-    ghost use Rattle.al_expr_types.specs.declared.objects.Object.TheVariants as object;
-    ghost use Rattle.al_expr_types.specs.Marks.{IsCommon, IsFieldIndex};
-    ghost use Rattle.al_expr_types.specs.declared.marks.Mark.TheVariants as mark;
+    ghost use Rattle.std.specs.Prelude.{◌∷◌, ◌++◌, ◌<◌, [], IfOk, IfSome, OnOk, length, option_map};
+    ghost use Rattle.al_expr_types.specs.Kept.{IsCommon, IsFieldIndex};
     ghost use Rattle.al_base.specs.Growth.{BeginsWith};
     ghost use Rattle.al_types.specs.Strings.{named_strings};
-    ghost use Rattle.al_types.specs.Types.{fuse_type, object_type, option_of, optional, or_any};
+    ghost use Rattle.al_types.specs.Types.{fuse_type, object_with, option_of, optional, or_any};
     ghost use Rattle.al_expr_types.specs.Joining.{is_join_below, join_in};
     ghost use Rattle.al_expr_types.specs.Tables.{is_known, objects_of, type_at};
-    ghost use Rattle.al_expr_types.specs.Types.{fields_parts, is_object_below, is_rest_below, object_in, object_parts};
+    ghost use Rattle.al_expr_types.specs.FieldMaps.{fields_in, is_map_below};
+    ghost use Rattle.al_expr_types.specs.Types.{is_object_below, is_rest_below, object_in, object_parts, rest_in};
 
     /// No objects. Takes no memory.
     pub fn new(alloc: Global) -> Types<'a>
@@ -45,8 +49,9 @@ impl<'a> Types<'a> {
         Types {
             alloc,
             objects: Vec::new(alloc),
-            marks: Vec::new(alloc),
-            indexes: Vec::new(alloc),
+            commons: BTreeMap::new(alloc),
+            looks: BTreeMap::new(alloc),
+            indexes: BTreeMap::new(alloc),
         }
     }
 
@@ -67,8 +72,6 @@ impl<'a> Types<'a> {
         }
         let number = self.objects.len() as u32;
         self.objects.push(object)?;
-        self.marks.push(Mark::Unknown)?;
-        self.indexes.push(Index::Looks(0))?;
         Ok(number)
     }
 
@@ -89,74 +92,59 @@ impl<'a> Types<'a> {
         &self.objects[n as usize]
     }
 
-    /// What is kept of an object.
-    pub(crate) fn mark(&self, n: u32) -> Mark
-        ensures { result ≡ get_or self.now.marks.items n mark.Unknown }
+    /// What all fields of an object have in common, where it is kept.
+    pub(crate) fn kept_common(&self, n: u32) -> Option<Option<Ty>>
+        ensures { IfSome result (λ t. IsCommon self.now.objects.items n t) }
     {
-        if n as usize >= self.marks.len() {
-            return Mark::Unknown;
-        }
-        self.marks[n as usize]
+        self.commons.get(&n).copied()
     }
 
-    /// Keeps the index of an object.
-    pub(crate) fn set_index(&mut self, n: u32, index: Fields<'a>)
-        requires { IsFieldIndex self.old.objects.items n index }
+    /// Keeps what all fields of an object have in common.
+    pub(crate) fn keep_common(&mut self, n: u32, common: Option<Ty>) -> Result<(), AllocError>
+        requires { IsCommon self.old.objects.items n common }
         ensures { (self.new).objects ≡ (self.old).objects }
     {
-        if (n as usize) < self.indexes.len() {
-            self.indexes[n as usize] = Index::Fields(index);
-        }
+        self.commons.insert(n, common)?;
+        Ok(())
     }
 
     /// Whether an object was looked through so often that an index, made from all its fields, pays.
-    pub(crate) fn is_due(&mut self, n: u32, looked: usize, all: usize) -> bool
+    pub(crate) fn is_due(&mut self, n: u32, looked: usize, all: usize) -> Result<bool, AllocError>
         ensures { (self.new).objects ≡ (self.old).objects }
     {
-        if n as usize >= self.indexes.len() {
-            return false;
-        }
-        let before = match &self.indexes[n as usize] {
-            Index::Fields(_) => return false,
-            Index::Looks(before) => *before,
-        };
+        let before = self.looks.get(&n).copied().unwrap_or(0);
         let more = before.saturating_add(looked);
-        self.indexes[n as usize] = Index::Looks(more);
-        more / OFTEN >= all
+        self.looks.insert(n, more)?;
+        Ok(more / OFTEN >= all)
     }
 
     /// The index of an object, where it was made.
     pub(crate) fn index_of(&self, n: u32) -> Option<&Fields<'a>>
         ensures { IfSome result (λ f. IsFieldIndex self.now.objects.items n f.now) }
     {
-        if n as usize >= self.indexes.len() {
-            return None;
-        }
-        match &self.indexes[n as usize] {
-            Index::Fields(fields) => Some(fields),
-            Index::Looks(_) => None,
-        }
+        self.indexes.get(&n)
     }
 
-    /// Keeps what all fields of an object have in common.
-    pub(crate) fn set_mark(&mut self, n: u32, common: Option<Ty>)
-        requires { IsCommon self.old.objects.items n common }
+    /// Keeps the index of an object.
+    pub(crate) fn keep_index(&mut self, n: u32, index: Fields<'a>) -> Result<(), AllocError>
+        requires { IsFieldIndex self.old.objects.items n index }
         ensures { (self.new).objects ≡ (self.old).objects }
     {
-        if (n as usize) < self.marks.len() {
-            self.marks[n as usize] = Mark::Common(common);
-        }
+        self.indexes.insert(n, index)?;
+        Ok(())
     }
 
-    /// The type of an object of fields.
-    pub fn fields(&mut self, fields: Fields<'a>) -> Result<Ty, AllocError>
-        requires { is_object_below (length self.old.objects.items) (object.Fields fields) ≡ true }
-        ensures ty { IfOk result
-            (λ t. type_at self.new t
-            ≡ object_type (fields_parts (objects_of self.old) fields.entry)) }
+    /// The type of an object of the fields of a map, and of others of a type where there may be others.
+    pub fn fields(&mut self, map: FieldMap<'a>, rest: Option<Ty>) -> Result<Ty, AllocError>
+        requires fields { is_map_below (length self.old.objects.items) map ≡ true }
+        requires rest { is_rest_below (length self.old.objects.items) rest ≡ true }
+        ensures ty { IfOk result (λ t. type_at self.new t
+            ≡ object_with (fields_in (objects_of self.old) map.entry)
+            (rest_in (objects_of self.old) rest)) }
         ensures known { IfOk result (λ t. is_known self.new t ≡ true) }
         ensures kept { BeginsWith (objects_of self.new) (objects_of self.old) }
     {
+        let fields = Fields::of(self.alloc, map, rest)?;
         let number = self.push(Object::Fields(fields))?;
         Ok(Ty::object(number))
     }

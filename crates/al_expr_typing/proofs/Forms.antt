@@ -1,5 +1,5 @@
 -- Steps from types in arrays, from scalars, and by forms.
-use Rattle.std.proofs.Common.{◌≡◌, ◌+◌, ℕ, zero, suc, List, [], append-nil, refl, ap, ◌∙◌, arith}
+use Rattle.std.proofs.Common.{◌≡◌, ℕ, zero, suc, List, [], append-nil, refl, ap, ◌∙◌}
 use Rattle.al_base.specs.declared.faults.Fault.{Fault}
 use Rattle.al_base.specs.declared.faults.Span.{Span}
 use Rattle.al_types.specs.Types.{Type', ArrayOf}
@@ -26,11 +26,6 @@ behind_arrays k old (typed t fs) = refl
 pub property_arrays : (k : ℕ) (n : List ℕ) (at whole : Span) (t : Type') → property_of n at whole (arrays_of k t) ≡ in_arrays k (property_of n at whole t)
 property_arrays zero n at whole t = in_none (property_of n at whole t)
 property_arrays (suc k) n at whole t = ap in_array (property_arrays k n at whole t) ∙ in_one_more k (property_of n at whole t)
-
-pub arrays_more : (j k : ℕ) (t : Type') → arrays_of (j + k) t ≡ arrays_of j (arrays_of k t)
-arrays_more zero k t = ap (λ n. arrays_of n t) (omega arith)
-arrays_more (suc j) k t =
-    let e : suc j + k ≡ suc (j + k) = omega arith in ap (λ n. arrays_of n t) e ∙ ap (arrays_of 1) (arrays_more j k t)
 
 pub scalar_property : (n : List ℕ) (at whole : Span) (s : Scalar) → property_of n at whole (scalar_type s) ≡ all_of whole (scalar_type s)
 scalar_property n at whole scalar.Any = refl

@@ -4,7 +4,6 @@ use Rattle.std.specs.Option.{option_map_or}
 use Rattle.al_base.specs.declared.faults.Fault.{Fault}
 use Rattle.al_base.specs.declared.faults.Span.{Span}
 use Rattle.al_base.specs.declared.codes.ExpressionCode.TheVariants as code
-use Rattle.al_types.specs.declared.names.Context.{Context}
 use Rattle.al_types.specs.declared.names.Function.{Function}
 use Rattle.al_expr_grammar.specs.Refusal.{expression_fault}
 use Rattle.al_types.specs.Types.{Type'}

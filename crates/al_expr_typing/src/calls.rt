@@ -6,26 +6,24 @@ ghost use Rattle.al_expr_typing.specs.Meaning.{argument_faults, wrong_arguments,
 ghost use Rattle.al_expr_typing.specs.Meaning.{placeholder_faults, unused_arguments};
 ghost use Rattle.al_expr_grammar.specs.Refusal.{expression_fault};
 ghost use Rattle.al_expr_typing.specs.Arguments.{argument_in};
-ghost use Rattle.al_types.specs.Scopes.{is_allowed};
+ghost use Rattle.al_types.specs.Scopes.{can_call};
 ghost use Rattle.al_expr_typing.specs.Scopes.{scope_in};
 ghost use Rattle.al_types.specs.Signatures.{accepts, returned_type, parameter_at};
 ghost use Rattle.al_expr_grammar.specs.Tree.{arguments_of};
-ghost use Rattle.al_types.specs.Types.{Parts, is_array, is_object};
+ghost use Rattle.al_types.specs.Types.{Parts};
 ghost use Rattle.al_expr_types.specs.Types.{is_below, type_in};
 ghost use Rattle.al_expr_grammar.specs.View.{expr_view};
 ghost use Rattle.std.specs.Fmt.{decimal};
 ghost use Rattle.al_base.specs.declared.codes.ExpressionCode.TheVariants as code;
 
-use crate::comparison::is_collection;
 use crate::literals::{Literal, literal_text};
 use crate::placeholders::used_arguments;
 use crate::reports::report_text;
 use crate::scope::Scope;
-use crate::typing::scalar;
 use al_base::{Args, Code, ExpressionCode, FaultSink, Span};
 use al_expr_grammar::{Expr, Word};
 use al_expr_types::{Scalar, Ty};
-use al_types::{Form, Function, Parameters, Returned, Wanted};
+use al_types::{Function, Parameters, Returned, Wanted};
 use std::alloc::AllocError;
 
 /// An argument's type and place.
@@ -116,10 +114,10 @@ fn check_available(
 ) -> Result<(), AllocError>
     ensures { OnOk result
         (faults.new ≡ faults.old
-        ++ give (not (is_allowed scope.now.available.functions function))
+        ++ give (not (can_call scope.now.available.special.now function))
         (expression_fault code.UnavailableFunction (name.entry).span ((name.entry).text.now ∷ []))) }
 {
-    if !scope.available.functions.allows(function) {
+    if !scope.available.allows(function) {
         report_text(
             name.span,
             ExpressionCode::UnavailableFunction,
@@ -282,38 +280,10 @@ fn accepts(parameter_at: Wanted, ty: Ty) -> bool
 {
     match parameter_at {
         Wanted::Any => true,
-        Wanted::NotObject => !is_object(ty),
-        Wanted::NotCollection => !is_collection(ty),
+        Wanted::NotObject => !ty.is_object(),
+        Wanted::NotCollection => !ty.is_collection(),
         Wanted::String => ty.is_assignable_to(Ty::STRING),
-        Wanted::ArrayOrString => is_array(ty) || ty.is_assignable_to(Ty::STRING),
-    }
-}
-
-fn is_object(ty: Ty) -> bool
-    ensures { (ms : List Parts) → result ≡ is_object (type_in ms ty) }
-{
-    match ty.form() {
-        Form::Object => true,
-        Form::Array => false,
-        Form::Any => false,
-        Form::Null => false,
-        Form::Number => false,
-        Form::Bool => false,
-        Form::String => false,
-    }
-}
-
-fn is_array(ty: Ty) -> bool
-    ensures { (ms : List Parts) → result ≡ is_array (type_in ms ty) }
-{
-    match ty.form() {
-        Form::Array => true,
-        Form::Object => false,
-        Form::Any => false,
-        Form::Null => false,
-        Form::Number => false,
-        Form::Bool => false,
-        Form::String => false,
+        Wanted::ArrayOrString => ty.is_array() || ty.is_assignable_to(Ty::STRING),
     }
 }
 
@@ -324,7 +294,7 @@ fn returned_type(returned: Returned) -> Ty
 {
     match returned {
         Returned::Any => Ty::ANY,
-        Returned::Bool => scalar(Scalar::Bool),
+        Returned::Bool => Ty::scalar(Scalar::Bool),
         Returned::String => Ty::STRING,
     }
 }

@@ -14,7 +14,6 @@ ghost use Rattle.al_types.specs.Types.{Parts};
 ghost use Rattle.al_expr_typing.specs.Chains.{has_operand, is_join_known, type_so_far};
 
 use crate::comparison::comparable;
-use crate::typing::scalar;
 use al_base::{Code, ExpressionCode, FaultSink, Span};
 use al_expr_grammar::{Operand, Operator};
 use al_expr_types::{Join, Scalar, Ty, Types};
@@ -53,7 +52,7 @@ pub(crate) fn operation(
     }
     let first = types.type_or_any(sofar)?;
     check_comparison(first, operand, faults)?;
-    Ok(Join::One(scalar(Scalar::Bool)))
+    Ok(Join::One(Ty::scalar(Scalar::Bool)))
 }
 
 fn check_comparison(

@@ -8,29 +8,13 @@ ghost use Rattle.al_expr_typing.specs.Meaning.{typed, faults_then, or_fault, pro
 ghost use Rattle.al_types.specs.Types.{ArrayOf, Parts, Type', object_type, or_any, property_in};
 ghost use Rattle.al_expr_typing.specs.Steps.{is_index};
 ghost use Rattle.al_expr_types.specs.Tables.{is_known, objects_of, type_at};
-ghost use Rattle.al_expr_types.specs.Types.{arrays_of, base_type, is_base_below, is_below, is_rest_below, object_in, scalar_type, type_in};
+ghost use Rattle.al_expr_types.specs.Types.{base_type, is_base_below, is_below, is_rest_below, object_in, scalar_type, type_in};
 
 use crate::reports::report_text;
 use al_base::{Code, ExpressionCode, FaultSink, Span};
 use al_expr_types::{Base, Scalar, Ty, Types};
 use al_types::Form;
 use std::alloc::AllocError;
-
-/// A type in so many arrays.
-fn in_arrays(ty: Ty, arrays: u32) -> Result<Ty, AllocError>
-    ensures ty { IfOk result
-        (λ t. (ms : List Parts) → type_in ms t ≡ arrays_of arrays (type_in ms ty)) }
-    ensures known { IfOk result (λ t. (k : ℕ) → is_below k ty ≡ true → is_below k t ≡ true) }
-{
-    match arrays.checked_add(ty.arrays) {
-        Some(all) => Ok(Ty {
-            arrays: all,
-            of: ty.of,
-        }),
-        // No type stands in so many arrays.
-        None => Err(AllocError),
-    }
-}
 
 /// A step to a property.
 #[derive(Clone, Copy)]
@@ -59,7 +43,7 @@ pub(crate) fn property(
     ensures kept { BeginsWith (objects_of types.new) (objects_of types.old) }
 {
     let of = base_property(types, ty.of, step, faults)?;
-    let all = in_arrays(of, ty.arrays)?;
+    let all = of.in_arrays(ty.arrays)?;
     Ok(all)
 }
 
@@ -266,7 +250,7 @@ fn array_of(element: Option<Ty>) -> Result<Ty, AllocError>
         (λ t. (k : ℕ) → is_rest_below k element ≡ true → is_below k t ≡ true) }
 {
     match element {
-        Some(ty) => in_arrays(ty, 1),
-        None => in_arrays(Ty::ANY, 1),
+        Some(ty) => ty.in_arrays(1),
+        None => Ty::ANY.in_arrays(1),
     }
 }

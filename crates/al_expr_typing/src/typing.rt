@@ -1,10 +1,9 @@
 //! The type of an expression, and the faults found on the way.
 
-ghost use Rattle.std.specs.Prelude.{◌≡◌, ◌++◌, ◌||◌, ◌&&◌, not, [], List, IfOk, OnOk, map, option_map, true, ℕ};
+ghost use Rattle.std.specs.Prelude.{◌≡◌, ◌++◌, ◌||◌, ◌&&◌, not, [], List, IfOk, OnOk, map, option_map, true};
 ghost use Rattle.al_expr_typing.specs.Arguments.{are_known, argument_at};
 ghost use Rattle.al_expr_typing.specs.Scopes.{IsShown, scope_in, scope_view};
 ghost use Rattle.al_types.specs.Types.{Parts};
-ghost use Rattle.al_expr_types.specs.Types.{is_below, scalar_type};
 ghost use Rattle.al_expr_types.specs.Types as numbers;
 ghost use Rattle.al_expr_types.specs.Tables.{is_known, objects_of, type_at};
 ghost use Rattle.al_base.specs.Growth.{BeginsWith};
@@ -26,7 +25,7 @@ use crate::steps::{PropertyStep, all, element, property};
 use crate::untrusted::untrusted_chain;
 use al_base::{ExpressionCode, FaultSink, Span};
 use al_expr_grammar::{Expr, Operand, PathStep, Word, across, extent, path_extent};
-use al_expr_types::{Base, Join, Scalar, Ty, Types};
+use al_expr_types::{Join, Scalar, Ty, Types};
 use al_types::{Context, Function};
 use std::alloc::AllocError;
 
@@ -85,8 +84,8 @@ fn expression(
     ensures kept { BeginsWith (objects_of types.new) (objects_of types.old) }
 {
     match expr {
-        Expr::Keyword(keyword, _) => Ok(scalar(type_of_keyword(*keyword))),
-        Expr::Number(_) => Ok(scalar(Scalar::Number)),
+        Expr::Keyword(keyword, _) => Ok(Ty::scalar(type_of_keyword(*keyword))),
+        Expr::Number(_) => Ok(Ty::scalar(Scalar::Number)),
         Expr::Text(_) => Ok(Ty::STRING),
         Expr::Name(word) => {
             let ty = name_type(around.scope, *word, faults)?;
@@ -99,7 +98,7 @@ fn expression(
                 ..around
             };
             let _ty = expression(types, tested, operand, faults)?;
-            Ok(scalar(Scalar::Bool))
+            Ok(Ty::scalar(Scalar::Bool))
         }
         Expr::Call(name, arguments, _) => call(types, around, *name, arguments, faults),
         Expr::Path(base, steps) => {
@@ -122,17 +121,6 @@ fn expression(
             let ty = operations(types, left, operands, faults)?;
             Ok(ty)
         }
-    }
-}
-
-// The type of a scalar.
-pub(crate) fn scalar(of: Scalar) -> Ty
-    ensures ty { (ms : List Parts) → numbers.type_in ms result ≡ scalar_type of }
-    ensures known { (k : ℕ) → is_below k result ≡ true }
-{
-    Ty {
-        arrays: 0,
-        of: Base::Scalar(of),
     }
 }
 
@@ -203,7 +191,7 @@ fn name_type(scope: &Scope, word: Word<'_>, faults: &mut FaultSink) -> Result<Ty
     let name = word.text;
     let code = match Context::from_name(name) {
         Some(context) => {
-            if scope.available.contexts.contains(context) {
+            if scope.available.contexts.contains(&context) {
                 return Ok(scope.types.get(context));
             }
             ExpressionCode::UnavailableContext

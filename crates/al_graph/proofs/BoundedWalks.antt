@@ -1,9 +1,11 @@
 -- A walk along a graph leads somewhere exactly where one of bounded length does.
 use Rattle.std.proofs.Common.{◌≡◌, ℕ, zero, suc, ◌+◌, ◌<◌, ◌≤◌, List, [], ◌∷◌, length, refl, sym, subst, arith, Bool, true}
-use Rattle.std.proofs.Common.{false, ◌||◌, nat_eq, inl, inr, ◌⊎◌}
+use Rattle.std.proofs.Common.{false, ◌||◌, cond, nat_eq, inl, inr, ◌⊎◌}
 use Rattle.std.specs.Prelude.{slice_index_or, ◌↔◌}
 use Rattle.std.specs.List.{list_any}
+use Rattle.std.proofs.lemmas.Bool.{cases_lt, or_right}
 use Rattle.std.proofs.lemmas.Bool.Decides.{nat_tests}
+use Rattle.std.proofs.lemmas.List.{get_or_past}
 use Rattle.std.proofs.lemmas.List.Folds.{Any-from_list_any, list_any-from_Any}
 use Rattle.al_graph.specs.Graphs.{Edge, Walk, here, onward}
 use Rattle.al_graph.specs.Within.{leads, leads_within}
@@ -11,14 +13,6 @@ use Rattle.al_graph.specs.Within.{leads, leads_within}
 either : (a b : Bool) → (a || b) ≡ true → (a ≡ true) ⊎ (b ≡ true)
 either true b e = inl refl
 either false b e = inr e
-
-in_first : (a b : Bool) → a ≡ true → (a || b) ≡ true
-in_first true b e = refl
-in_first false b e = absurd cc
-
-in_second : (a b : Bool) → b ≡ true → (a || b) ≡ true
-in_second true b e = refl
-in_second false b e = e
 
 same_numbers : (j k : ℕ) → nat_eq j k ≡ true → j ≡ k
 same_numbers j k e = grind (arith, nat_tests)
@@ -28,10 +22,7 @@ itself k = grind (arith, nat_tests)
 
 any_also : (p q : ℕ → Bool) (xs : List ℕ) → ((x : ℕ) → p x ≡ true → q x ≡ true) → list_any p xs ≡ true → list_any q xs ≡ true
 any_also p q [] f e = e
-any_also p q (x ∷ xs) f e = elim (either (p x) (list_any p xs) e) [
-  | inl h ↦ in_first (q x) (list_any q xs) (f x h)
-  | inr h ↦ in_second (q x) (list_any q xs) (any_also p q xs f h)
-]
+any_also p q (x ∷ xs) f e = let here = f x in let rest = any_also p q xs f in grind (arith, nat_tests, here, rest)
 
 module _ (g : List (List ℕ)) where
   first_step : (j i : ℕ) {k : ℕ} → Edge g j i → Walk g i k → Walk g j k
@@ -53,57 +44,41 @@ module _ (g : List (List ℕ)) where
   module _ (k : ℕ) where
     there : (n j : ℕ) → nat_eq j k ≡ true → leads_within n g j k ≡ true
     there zero j e = e
-    there (suc n) j e = in_first (nat_eq j k) _ e
+    there (suc n) j e = grind (arith, nat_tests)
 
     longer : (n j : ℕ) → leads_within n g j k ≡ true → leads_within (suc n) g j k ≡ true
-    longer zero j e = in_first (nat_eq j k) _ e
-    longer (suc n) j e = elim (either (nat_eq j k) (list_any (λ i. leads_within n g i k) (slice_index_or g j [])) e) [
-      | inl h ↦ in_first (nat_eq j k) _ h
-      | inr h ↦ in_second (nat_eq j k) _
-          (any_also (λ i. leads_within n g i k) (λ i. leads_within (suc n) g i k) (slice_index_or g j []) (λ i. longer n i) h)
-    ]
+    longer zero j e = grind (arith, nat_tests)
+    longer (suc n) j e =
+        let more = any_also (λ i. leads_within n g i k) (λ i. leads_within (suc n) g i k) (slice_index_or g j []) (λ i. longer n i) in
+        grind (arith, nat_tests, more)
 
     -- one more step reaches nothing more
     abbrev Stable : ℕ → Type 0
     Stable n = (j : ℕ) → leads_within (suc n) g j k ≡ true → leads_within n g j k ≡ true
 
     stays : (n : ℕ) → Stable n → Stable (suc n)
-    stays n s j e = elim (either (nat_eq j k) (list_any (λ i. leads_within (suc n) g i k) (slice_index_or g j [])) e) [
-      | inl h ↦ in_first (nat_eq j k) _ h
-      | inr h ↦ in_second (nat_eq j k) _
-          (any_also (λ i. leads_within (suc n) g i k) (λ i. leads_within n g i k) (slice_index_or g j []) s h)
-    ]
+    stays n s j e =
+        let less = any_also (λ i. leads_within (suc n) g i k) (λ i. leads_within n g i k) (slice_index_or g j []) s in
+        grind (arith, nat_tests, less)
 
 -- ---- how many numbers below a bound pass a test
 
-abbrev pub one : Bool → ℕ
-one true = 1
-one false = 0
-
-abbrev pub count : (ℕ → Bool) → ℕ → ℕ
+abbrev count : (ℕ → Bool) → ℕ → ℕ
 count p zero = 0
-count p (suc n) = one (p n) + count p n
-
-one_small : (b : Bool) → one b ≤ 1
-one_small true = omega arith
-one_small false = omega arith
+count p (suc n) = cond (p n) 1 0 + count p n
 
 count_small : (p : ℕ → Bool) (n : ℕ) → count p n ≤ n
 count_small p zero = omega arith
-count_small p (suc n) = omega (arith, one_small (p n), count_small p n)
-
-one_more : (a b : Bool) → (a ≡ true → b ≡ true) → (one a < one b) ⊎ ((one a ≡ one b) × (b ≡ true → a ≡ true))
-one_more true true f = inr (refl, (λ e. refl))
-one_more true false f = absurd (let h = f refl in cc)
-one_more false true f = inl (omega arith)
-one_more false false f = inr (refl, (λ e. e))
+count_small p (suc n) = let rest = count_small p n in grind (arith, nat_tests, rest)
 
 count_more : (p q : ℕ → Bool) (n : ℕ) → ((j : ℕ) → p j ≡ true → q j ≡ true) → count p n ≤ count q n
 count_more p q zero f = omega arith
-count_more p q (suc n) f = elim (one_more (p n) (q n) (f n)) [
-  | inl h ↦ omega (arith, h, count_more p q n f)
-  | inr h ↦ omega (arith, h.0, count_more p q n f)
-]
+count_more p q (suc n) f = let here = f n in let rest = count_more p q n f in grind (arith, nat_tests, here, rest)
+
+new_or_old : (a b : Bool) → ((a ≡ false) × (b ≡ true)) ⊎ (b ≡ true → a ≡ true)
+new_or_old true b = inr (λ e. refl)
+new_or_old false true = inl (refl, refl)
+new_or_old false false = inr (λ e. e)
 
 at_most : (j n : ℕ) → j < suc n → (j < n) ⊎ (j ≡ n)
 at_most j n h = grind arith
@@ -118,34 +93,22 @@ last_or_before q p n j last before h e = elim (at_most j n h) [
 more_or_same : (p q : ℕ → Bool) (n : ℕ) → ((j : ℕ) → p j ≡ true → q j ≡ true) → (count p n < count q n)
     ⊎ ((j : ℕ) → j < n → q j ≡ true → p j ≡ true)
 more_or_same p q zero f = inr (λ j h e. absurd (omega (arith, h)))
-more_or_same p q (suc n) f = elim (one_more (p n) (q n) (f n)) [
-  | inl h ↦ inl (omega (arith, h, count_more p q n f))
-  | inr h ↦ elim (more_or_same p q n f) [
-    | inl less ↦ inl (omega (arith, h.0, less))
-    | inr same ↦ inr (λ j. last_or_before q p n j h.1 same)
+more_or_same p q (suc n) f = elim (more_or_same p q n f) [
+  | inl less ↦ let here = f n in inl (grind (arith, nat_tests, less, here))
+  | inr same ↦ elim (new_or_old (p n) (q n)) [
+    | inl new ↦ let no = new.0 in let yes = new.1 in let rest = count_more p q n f in inl (grind (arith, nat_tests, no, yes, rest))
+    | inr old ↦ inr (λ j. last_or_before q p n j old same)
   ]
 ]
 
 -- ---- as many steps as there are nodes suffice
 
-no_edges : (g : List (List ℕ)) (j : ℕ) → length g ≤ j → slice_index_or g j [] ≡ []
-no_edges [] j h = refl
-no_edges (x ∷ g) zero h = absurd (omega (arith, h))
-no_edges (x ∷ g) (suc j) h = no_edges g j (omega (arith, h))
-
-below_or_not : (j n : ℕ) → (j < n) ⊎ (n ≤ j)
-below_or_not j n = grind arith
-
 module _ (g : List (List ℕ)) (k : ℕ) where
   outside : (n j : ℕ) → length g ≤ j → leads_within (suc n) g j k ≡ true → nat_eq j k ≡ true
-  outside n j h e = elim (either (nat_eq j k) (list_any (λ i. leads_within n g i k) (slice_index_or g j [])) e) [
-    | inl same ↦ same
-    | inr any ↦ absurd (let none : list_any (λ i. leads_within n g i k) [] ≡ true =
-        subst (λ xs. list_any (λ i. leads_within n g i k) xs ≡ true) (no_edges g j h) any in cc)
-  ]
+  outside n j h e = let here = rw (get_or_past g j [] h) at e in grind (arith, nat_tests)
 
   stable_from : (n : ℕ) → ((j : ℕ) → j < length g → leads_within (suc n) g j k ≡ true → leads_within n g j k ≡ true) → Stable g k n
-  stable_from n f j e = elim (below_or_not j (length g)) [
+  stable_from n f j e = elim (cases_lt j (length g)) [
     | inl below ↦ f j below e
     | inr far ↦ there g k n j (outside n j far e)
   ]
@@ -169,7 +132,7 @@ module _ (g : List (List ℕ)) (k : ℕ) where
   back_along : (j : ℕ) {m : ℕ} → Walk g j m → leads_within (suc (length g)) g m k ≡ true → leads_within (suc (length g)) g j k ≡ true
   back_along j here e = e
   back_along j (onward a b w f) e =
-      back_along j w (stable a (in_second (nat_eq a k) _
+      back_along j w (stable a (or_right (nat_eq a k) _
       (list_any-from_Any (λ i. leads_within (suc (length g)) g i k) (slice_index_or g a []) (f.0, b, f.1, f.2, e))))
 
   pub leads_of : (j : ℕ) → Walk g j k → leads_within (suc (length g)) g j k ≡ true

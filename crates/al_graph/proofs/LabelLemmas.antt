@@ -1,9 +1,9 @@
 -- Labels that are given one after another, and what they say in the end.
-use Rattle.std.proofs.Common.{◌≡◌, ℕ, zero, suc, ◌+◌, ◌<◌, ◌≤◌, List, [], ◌∷◌, ◌++◌, length, get_or, set, take, refl, sym, subst}
+use Rattle.std.proofs.Common.{◌≡◌, ℕ, ◌+◌, ◌<◌, ◌≤◌, List, [], ◌∷◌, ◌++◌, length, get_or, set, take, refl, sym, subst}
 use Rattle.std.proofs.Common.{ap, ◌∙◌, arith, ⊎_elim, inl, inr, length-append, Option, Some, None, true, false, is_none, is_some}
 use Rattle.std.specs.Prelude.{Contains, ◌↔◌}
 use Rattle.std.specs.Option.{unwrap_or}
-use Rattle.std.proofs.lemmas.List.{length-set, get_or-set_other, get_or-set_same, take_more, get_or_past}
+use Rattle.std.proofs.lemmas.List.{length-set, get_or_default, get_or-set_other, get_or-set_same, take_more, get_or_past}
 use Rattle.std.proofs.lemmas.List.Elements.{Contains-append_left, Contains-append_right, Contains-append_cases}
 use Rattle.std.proofs.lemmas.List.Sums.{sum_by-set}
 use Rattle.std.proofs.lemmas.Bool.{cases_eq, cases_lt}
@@ -107,7 +107,7 @@ module _ (graph : List (List ℕ)) (order : List ℕ) where
         high = only (λ k l. l < length order) s.high (λ k c n. lt);
         done = λ i low high. ⊎_elim
             (λ same. subst (λ n. (l : ℕ) × (label_at new (node_at order n) ≡ Some l)) (sym same) (subst (λ n. (l : ℕ) × (label_at new n ≡ Some l)) is (m.all r (is_one r))))
-            (λ ne. let old = s.done i (above at i low ne) high in (old.0, m.kept _ old.0 old.1)) (cases_eq i at);
+            (λ ne. let old = s.done i (omega (arith, low, ne)) high in (old.0, m.kept _ old.0 old.1)) (cases_eq i at);
         closed = λ j k l edge here_is. ⊎_elim
             (λ o. ⊎_elim (λ c. inl (c.0, m.kept k c.0 c.1, c.2)) (λ c. absurd (none_in j c)) (s.closed j k l edge o))
             (λ n. ⊎_elim (λ o. absurd (not_both l (label_at labels j) n.2 o)) (λ c. inr c) (m.listed j l here_is))
@@ -123,23 +123,15 @@ module _ (graph : List (List ℕ)) (order : List ℕ) where
                   subst (λ x. Walk graph (node_at order x) (node_at order at)) (sym same) here,
             ));
       }
-    where
-      above : (a i : ℕ) → a ≤ i → (i ≡ a → ⊥) → a + 1 ≤ i
-      above a i le ne = ⊎_elim (λ h. omega (arith, h)) (λ h. absurd (ne (let same : i ≡ a = omega (arith, le, h) in same))) (cases_lt a i)
 
   -- one that has no label stands before the place
   earlier : (labels : List (Option ℕ)) (at : ℕ) (waiting : List ℕ) (k : ℕ) → IsBackward graph order → IsLabelling graph order labels at waiting →
       k < length graph → label_at labels k ≡ None → (b : ℕ) × (b < at) × (node_at order b ≡ k)
   earlier labels at waiting k back s lt none =
       let there = back.all k lt in
-      let is : node_at order there.0 ≡ k = get_or_any order there.0 k there.1 ∙ there.2 in
+      let is : node_at order there.0 ≡ k = get_or_default order there.0 0 k there.1 ∙ there.2 in
       (there.0, ⊎_elim (λ h. h) (λ past. absurd (late there.0 past there.1 is)) (cases_lt there.0 at), is)
     where
-      get_or_any : (xs : List ℕ) (i x : ℕ) → i < length xs → get_or xs i 0 ≡ get_or xs i x
-      get_or_any [] i x h = absurd (omega arith)
-      get_or_any (y ∷ ys) zero x h = refl
-      get_or_any (y ∷ ys) (suc i) x h = get_or_any ys i x (omega arith)
-
       late : (b : ℕ) → at ≤ b → b < length order → node_at order b ≡ k → ⊥
       late b past inside is = let d = s.done b past inside in not_both d.0 (label_at labels k) none (subst (λ n. label_at labels n ≡ Some d.0) is d.1)
 
@@ -234,15 +226,12 @@ labelling_skip graph order labels at l e s = record {
   low = λ k m o. let up : at + 1 ≤ m = s.low k m o in omega (arith, up);
   high = s.high;
   done = λ i low high. ⊎_elim (λ same. (l, subst (λ n. label_at labels (node_at order n) ≡ Some l) (sym same) e))
-      (λ ne. s.done i (above at i low ne) high) (cases_eq i at);
+      (λ ne. s.done i (omega (arith, low, ne)) high) (cases_eq i at);
   closed = λ j k m edge o. s.closed j k m edge o;
   opened = λ k c. absurd (none_in k c);
   reached = s.reached;
   leads = s.leads;
 }
-  where
-    above : (a i : ℕ) → a ≤ i → (i ≡ a → ⊥) → a + 1 ≤ i
-    above a i le ne = ⊎_elim (λ h. omega (arith, h)) (λ h. absurd (ne (let same : i ≡ a = omega (arith, le, h) in same))) (cases_lt a i)
 
 pub no_waiting : (graph : List (List ℕ)) (order : List ℕ) (labels : List (Option ℕ)) (at : ℕ) (waiting : List ℕ) → length waiting ≡ 0 →
     IsLabelling graph order labels at waiting → IsLabelling graph order labels at []

@@ -7,4 +7,3 @@ pub mod Orders
 pub mod SearchLemmas
 pub mod LabelLemmas
 pub mod BoundedWalks
-pub mod OneWay

@@ -18,10 +18,6 @@ is_one k = (0, omega arith, refl)
 pub none_in : (k : ℕ) → Contains [] k → ⊥
 none_in k h = let below : h.0 < 0 = h.1 in omega (arith, below)
 
-pub nothing : {X : Type 0} (xs : List X) → length xs ≡ 0 → xs ≡ []
-nothing [] h = refl
-nothing (x ∷ xs) h = absurd (omega (arith, h))
-
 -- a list that was written through a slice of it
 pub written : {X : Type 0} (new items : List X) (len : ℕ) → length new ≡ length items → len ≡ length items → take len (new ++ drop (length new) items) ≡ new
 written {X} new items len a b =

@@ -1,11 +1,11 @@
 -- Orders of nodes, and one node more behind them.
-use Rattle.std.proofs.Common.{◌≡◌, ℕ, zero, suc, ◌+◌, ◌<◌, List, [], ◌∷◌, ◌++◌, length, get_or, refl, sym, subst, ap, ◌∙◌, arith, ◌⊎◌, length-append}
+use Rattle.std.proofs.Common.{◌≡◌, ℕ, zero, suc, ◌+◌, ◌<◌, List, [], ◌∷◌, ◌++◌, length, get_or, refl, subst, ap, ◌∙◌, arith, ◌⊎◌, length-append}
 use Rattle.std.specs.List.{AllByRecursion}
 use Rattle.std.specs.Prelude.{Contains}
 use Rattle.std.proofs.lemmas.List.{get_or_append_left}
 use Rattle.std.proofs.Math.Seq.{get_or-append_seam}
 use Rattle.al_graph.specs.Graphs.{Walk, here, onward}
-use Rattle.al_graph.specs.Private.Finishing.{Chain, node_at, nodes_of}
+use Rattle.al_graph.specs.Private.Finishing.{Chain, node_at}
 
 -- walks one behind the other
 pub both_walks : (graph : List (List ℕ)) (i j k : ℕ) → Walk graph i j → Walk graph j k → Walk graph i k
@@ -62,10 +62,6 @@ module _ (graph : List (List ℕ)) where
   chain_more [] y h w = (tt, tt)
   chain_more (x ∷ xs) y h w = (all_more (Walk graph x) xs y h.0 w.0, chain_more xs y h.1 w.1)
 
-pub nodes_append : (fs gs : List (ℕ × List ℕ)) → nodes_of (fs ++ gs) ≡ nodes_of fs ++ nodes_of gs
-nodes_append [] gs = refl
-nodes_append (f ∷ fs) gs = ap (λ l. f.0 ∷ l) (nodes_append fs gs)
-
 pub all_at : (P : ℕ → Type 0) (xs : List ℕ) (k : ℕ) → AllByRecursion P xs → Contains xs k → P k
 all_at P xs k h c = by xs h c.0 c.1 c.2
   where
@@ -73,9 +69,3 @@ all_at P xs k h c = by xs h c.0 c.1 c.2
     by [] h i lt e = absurd (omega arith)
     by (y ∷ ys) h zero lt e = subst P e h.0
     by (y ∷ ys) h (suc i) lt e = by ys h.1 i (omega arith) e
-
--- an element that was read
-pub read_at : {X : Type 0} (xs : List X) (i : ℕ) (x d : X) → i < length xs → x ≡ get_or xs i x → get_or xs i d ≡ x
-read_at [] i x d h e = absurd (omega arith)
-read_at (y ∷ ys) zero x d h e = sym e
-read_at (y ∷ ys) (suc i) x d h e = read_at ys i x d (omega arith) e

@@ -3,7 +3,7 @@ use Rattle.std.proofs.Common.{◌≡◌, ℕ, zero, suc, ◌+◌, ◌*◌, ◌<�
 use Rattle.std.proofs.Common.{subst, ap, ◌∙◌, arith, ◌⊎◌, ⊎_elim, inl, inr, sum_by}
 use Rattle.std.specs.List.{AllByRecursion}
 use Rattle.std.specs.Prelude.{Contains}
-use Rattle.std.proofs.lemmas.List.{length-set, get_or-set_other, get_or-set_same, get_or_past}
+use Rattle.std.proofs.lemmas.List.{length-set, map-append, get_or-set_other, get_or-set_same, get_or_past}
 use Rattle.std.proofs.lemmas.List.Sums.{sum_by-set, sum_by-append}
 use Rattle.std.proofs.Math.Nat.{suc-mul}
 use Rattle.std.proofs.lemmas.List.Elements.{Contains-append_left, Contains-append_right, Contains-append_cases, Contains-get_or}
@@ -13,7 +13,7 @@ use Rattle.al_graph.specs.Graphs.{Edge, Walk, here, onward}
 use Rattle.al_graph.specs.Private.Marks.{Marked, unmarked_one}
 use Rattle.al_graph.proofs.Lists.{is_one, none_in, one_is}
 use Rattle.al_graph.specs.Private.Finishing.{Chain, IsBegun, IsFinished, IsSearch, Nested, cost, frame_cost, SeesEdges, node_at, nodes_of}
-use Rattle.al_graph.proofs.Orders.{all_at, all_front, all_last, all_more, all_weaker, at_before, at_end, chain_front, chain_last, chain_more, last_or_before, nodes_append}
+use Rattle.al_graph.proofs.Orders.{all_at, all_front, all_last, all_more, all_weaker, at_before, at_end, chain_front, chain_last, chain_more, last_or_before}
 
 module _ (graph : List (List ℕ)) where
   abbrev EdgesOf : ℕ × List ℕ → Type 0
@@ -76,7 +76,7 @@ module _ (graph : List (List ℕ)) where
       IsSearch graph seen (frames ++ (w, []) ∷ []) order → IsSearch graph seen frames (order ++ w ∷ [])
   search_finish seen frames order w s =
       let b = s.begun in
-      let nodes : nodes_of (frames ++ (w, []) ∷ []) ≡ nodes_of frames ++ w ∷ [] = nodes_append frames ((w, []) ∷ []) in
+      let nodes : nodes_of (frames ++ (w, []) ∷ []) ≡ nodes_of frames ++ w ∷ [] = map-append (λ (f : ℕ × List ℕ). f.0) frames ((w, []) ∷ []) in
       let w_seen : Marked seen w = b.entered w (subst (λ (ns : List ℕ). Contains ns w) (sym nodes) (Contains-append_right (nodes_of frames) (w ∷ []) w (is_one w))) in
       let w_edges : (k : ℕ) → Edge graph w k → Marked seen k = λ k e.
       ⊎_elim (λ m. m) (λ c. absurd (none_in k c)) (all_last (SeesEdges graph seen) frames (w, []) s.looked k e) in
@@ -128,7 +128,7 @@ module _ (graph : List (List ℕ)) where
       IsBegun graph seen (frames ++ (w, next ∷ rest) ∷ []) order → IsBegun graph seen (frames ++ (w, rest) ∷ []) order
   begun_next seen frames order rest w next b =
       let nodes : nodes_of (frames ++ (w, next ∷ rest) ∷ []) ≡ nodes_of (frames ++ (w, rest) ∷ []) =
-      nodes_append frames ((w, next ∷ rest) ∷ []) ∙ sym (nodes_append frames ((w, rest) ∷ [])) in
+      map-append (λ (f : ℕ × List ℕ). f.0) frames ((w, next ∷ rest) ∷ []) ∙ sym (map-append (λ (f : ℕ × List ℕ). f.0) frames ((w, rest) ∷ [])) in
       record {
         size = b.size;
         listed = λ k m. ⊎_elim (λ c. inl c) (λ c. inr (subst (λ (ns : List ℕ). Contains ns k) nodes c)) (b.listed k m);
@@ -178,7 +178,7 @@ module _ (graph : List (List ℕ)) where
       AllByRecursion (SeesEdges graph (set seen w true)) frames →
       IsSearch graph (set seen w true) (frames ++ (w, get_or graph w []) ∷ []) order
   search_enter seen frames order w lt fresh leads b looked =
-      let nodes : nodes_of (frames ++ (w, get_or graph w []) ∷ []) ≡ nodes_of frames ++ w ∷ [] = nodes_append frames ((w, get_or graph w []) ∷ []) in
+      let nodes : nodes_of (frames ++ (w, get_or graph w []) ∷ []) ≡ nodes_of frames ++ w ∷ [] = map-append (λ (f : ℕ × List ℕ). f.0) frames ((w, get_or graph w []) ∷ []) in
       let inside : w < length seen = (let n = b.size in omega (arith, n, lt)) in
       let w_seen : Marked (set seen w true) w = get_or-set_same seen w true false inside in
       record {
@@ -210,7 +210,7 @@ module _ (graph : List (List ℕ)) where
   search_go_in seen frames order rest w next lt fresh s =
       let inside : next < length seen = (let n = s.begun.size in omega (arith, n, lt)) in
       let b : IsBegun graph seen (frames ++ (w, rest) ∷ []) order = begun_next seen frames order rest w next s.begun in
-      let nodes : nodes_of (frames ++ (w, rest) ∷ []) ≡ nodes_of frames ++ w ∷ [] = nodes_append frames ((w, rest) ∷ []) in
+      let nodes : nodes_of (frames ++ (w, rest) ∷ []) ≡ nodes_of frames ++ w ∷ [] = map-append (λ (f : ℕ × List ℕ). f.0) frames ((w, rest) ∷ []) in
       let chain : Chain graph (nodes_of frames ++ w ∷ []) = subst (Chain graph) nodes b.chain in
       let edge : Edge graph w next = edge_next seen frames order rest w next s in
       let leads : AllByRecursion (λ x. Walk graph x next) (nodes_of frames ++ w ∷ []) =
@@ -256,17 +256,13 @@ cost_enter graph seen frames w next rest lt fresh =
     omega (arith, times, a, b, c, d)
 
 -- the steps of the program, by what it finds
-abbrev Step : List (List ℕ) → List Bool → List (ℕ × List ℕ) → List ℕ → ℕ → List ℕ → Type 0
-Step graph seen frames order w nodes = IsSearch graph seen (frames ++ (w, nodes) ∷ []) order
-
 pub step_finish : (graph : List (List ℕ)) (seen : List Bool) (frames : List (ℕ × List ℕ)) (order new : List ℕ) (w : ℕ) (nodes : List ℕ) →
     nodes ≡ [] → new ≡ order ++ w ∷ [] → IsSearch graph seen (frames ++ (w, nodes) ∷ []) order → IsSearch graph seen frames new
-step_finish graph seen frames order new w nodes none is s =
-    subst (IsSearch graph seen frames) (sym is) (search_finish graph seen frames order w (subst (Step graph seen frames order w) none s))
+step_finish graph seen frames order new w nodes none is s = rw is (search_finish graph seen frames order w (rw none at s))
 
 pub step_edge : (graph : List (List ℕ)) (seen : List Bool) (frames : List (ℕ × List ℕ)) (order : List ℕ) (w next : ℕ) (nodes rest : List ℕ) →
     nodes ≡ next ∷ rest → IsSearch graph seen (frames ++ (w, nodes) ∷ []) order → Edge graph w next
-step_edge graph seen frames order w next nodes rest is s = edge_next graph seen frames order rest w next (subst (Step graph seen frames order w) is s)
+step_edge graph seen frames order w next nodes rest is s = edge_next graph seen frames order rest w next (rw is at s)
 
 -- the node that is looked at next is one of the graph, and has a mark
 pub step_inside : (graph : List (List ℕ)) (seen : List Bool) (frames : List (ℕ × List ℕ)) (order : List ℕ) (w next bound : ℕ) (nodes rest : List ℕ) →
@@ -280,42 +276,27 @@ step_inside graph seen frames order w next bound nodes rest is size edges_in s =
 pub step_pass : (graph : List (List ℕ)) (seen : List Bool) (frames after : List (ℕ × List ℕ)) (order : List ℕ) (w next : ℕ) (nodes rest : List ℕ) →
     nodes ≡ next ∷ rest → after ≡ frames ++ (w, rest) ∷ [] → Marked seen next → IsSearch graph seen (frames ++ (w, nodes) ∷ []) order →
     IsSearch graph seen after order
-step_pass graph seen frames after order w next nodes rest is e m s =
-    let P : List (ℕ × List ℕ) → Type 0 = λ fs. IsSearch graph seen fs order in
-    subst P (sym e) (search_pass graph seen frames order rest w next m (subst (Step graph seen frames order w) is s))
+step_pass graph seen frames after order w next nodes rest is e m s = rw e (search_pass graph seen frames order rest w next m (rw is at s))
 
 pub step_enter : (graph : List (List ℕ)) (seen now : List Bool) (frames mid after : List (ℕ × List ℕ)) (order : List ℕ) (w next : ℕ) (nodes rest : List ℕ) →
     nodes ≡ next ∷ rest → mid ≡ frames ++ (w, rest) ∷ [] → next < length graph → get_or seen next false ≡ false → now ≡ set seen next true →
     after ≡ mid ++ (next, get_or graph next []) ∷ [] → IsSearch graph seen (frames ++ (w, nodes) ∷ []) order →
     IsSearch graph now after order × (cost graph now after < cost graph seen (frames ++ (w, nodes) ∷ [])) × ((k : ℕ) → Marked seen k → Marked now k)
 step_enter graph seen now frames mid after order w next nodes rest is m lt fresh n a s =
-    let t = subst (Step graph seen frames order w) is s in
-    let inside : next < length seen = (let size = t.begun.size in omega (arith, size, lt)) in
-    let to : after ≡ (frames ++ (w, rest) ∷ []) ++ (next, get_or graph next []) ∷ [] = a ∙ ap (λ l. l ++ (next, get_or graph next []) ∷ []) m in
-    let P : List Bool → Type 0 = λ bs. IsSearch graph bs after order in
-    let Q : List (ℕ × List ℕ) → Type 0 = λ fs. IsSearch graph (set seen next true) fs order in
-    let C : List (ℕ × List ℕ) → Type 0 = λ fs. cost graph (set seen next true) fs < cost graph seen (frames ++ (w, next ∷ rest) ∷ []) in
-    let D : List Bool → Type 0 = λ bs. cost graph bs after < cost graph seen (frames ++ (w, next ∷ rest) ∷ []) in
-    let E : List ℕ → Type 0 = λ l. cost graph now after < cost graph seen (frames ++ (w, l) ∷ []) in
-    let S : List Bool → Type 0 = λ bs. (k : ℕ) → Marked seen k → Marked bs k in (
-      subst P (sym n) (subst Q (sym to) (search_go_in graph seen frames order rest w next lt fresh t)),
-      subst E (sym is) (subst D (sym n) (subst C (sym to) (cost_enter graph seen frames w next rest inside fresh))),
-      subst S (sym n) (λ k h. still_seen graph seen next k inside h),
+    let inside : next < length seen = (let size = s.begun.size in omega (arith, size, lt)) in (
+      rw (n, a, m) (search_go_in graph seen frames order rest w next lt fresh (rw is at s)),
+      rw (n, a, m, is) (cost_enter graph seen frames w next rest inside fresh),
+      rw n (λ k h. still_seen graph seen next k inside h),
     )
 
 pub step_start : (graph : List (List ℕ)) (seen now : List Bool) (none after : List (ℕ × List ℕ)) (order : List ℕ) (w : ℕ) → w < length graph →
     get_or seen w false ≡ false → now ≡ set seen w true → none ≡ [] → after ≡ none ++ (w, get_or graph w []) ∷ [] → IsSearch graph seen [] order →
     IsSearch graph now after order × ((k : ℕ) → Marked seen k → Marked now k) × Marked now w
 step_start graph seen now none after order w lt fresh n e a s =
-    let inside : w < length seen = (let size = s.begun.size in omega (arith, size, lt)) in
-    let to : after ≡ (w, get_or graph w []) ∷ [] = a ∙ ap (λ l. l ++ (w, get_or graph w []) ∷ []) e in
-    let P : List Bool → Type 0 = λ bs. IsSearch graph bs after order in
-    let Q : List (ℕ × List ℕ) → Type 0 = λ fs. IsSearch graph (set seen w true) fs order in
-    let S : List Bool → Type 0 = λ bs. (k : ℕ) → Marked seen k → Marked bs k in
-    let W : List Bool → Type 0 = λ bs. Marked bs w in (
-      subst P (sym n) (subst Q (sym to) (search_start graph seen order w lt fresh s)),
-      subst S (sym n) (λ k h. still_seen graph seen w k inside h),
-      subst W (sym n) (get_or-set_same seen w true false inside),
+    let inside : w < length seen = (let size = s.begun.size in omega (arith, size, lt)) in (
+      rw (n, a, e) (search_start graph seen order w lt fresh s),
+      rw n (λ k h. still_seen graph seen w k inside h),
+      rw n (get_or-set_same seen w true false inside),
     )
 
 -- all was seen

@@ -113,6 +113,16 @@ fn label_all(
     Ok(labels)
 }
 
+/// The nodes in an order in which, where an edge leads from one to an earlier one, all between them lead to the first.
+fn backward_order(alloc: Global, graph: &[Vec<usize>]) -> Result<Vec<usize>, AllocError>
+    requires { (j k : ℕ) → Edge (edges_of graph.now) j k → k < length graph.now }
+    ensures { IfOk result (λ order. IsBackward (edges_of graph.now) order.items) }
+{
+    let back = transpose(alloc, graph)?;
+    let order = finish_order(alloc, back.as_slice())?;
+    Ok(order)
+}
+
 /// A label for each node of a graph, the same for two nodes just where each leads to the other: where they are in one strongly connected
 /// component. No label is `None`.
 ///
@@ -127,8 +137,7 @@ pub fn strongly_connected_components(
         → (slice_index_or labels.items j None ≡ slice_index_or labels.items k None)
         ↔ StronglyConnected (edges_of graph.now) j k) }
 {
-    let back = transpose(alloc, graph)?;
-    let order = finish_order(alloc, back.as_slice())?;
+    let order = backward_order(alloc, graph)?;
     let labels = label_all(alloc, graph, order.as_slice())?;
     Ok(labels)
 }

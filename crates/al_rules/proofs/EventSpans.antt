@@ -2,22 +2,20 @@
 use Rattle.std.specs.Prelude.{ℕ, not, List, [], ◌∷◌, codes, Option, Some, None}
 use Rattle.std.specs.List.{flat_map}
 use Rattle.std.specs.Option.{option_map_or}
-use Rattle.std.specs.Str.{bytes_eq}
 use Rattle.al_base.specs.declared.codes.RuleCode.TheVariants.{ScheduleTooOften, UnknownActivity, UnknownEvent, UnknownInputType, WrongPattern, WrongSchedule}
 use Rattle.al_rules_formats.specs.Patterns.{is_pattern}
 use Rattle.al_rules_formats.specs.Schedules.{is_too_often, schedule_of}
 use Rattle.al_rules_formats.specs.declared.patterns.Filter.{Filter}
-use Rattle.al_rules_formats.specs.declared.patterns.Filter.TheVariants.{Names, Paths}
 use Rattle.al_rules_formats.specs.declared.schedules.Item.{Item}
 use Rattle.al_scalar.specs.Scalar.{text_of}
 use Rattle.al_yaml_tree.specs.Node.{Node}
 use Rattle.al_tree.specs.Names.{is_event}
 use Rattle.al_base.specs.Names.{among}
-use Rattle.al_tree.specs.Values.{entries_at, entries_in, items_in, text_at_key, texts_at, texts_in}
+use Rattle.al_tree.specs.Values.{entries_at, items_in, text_at_key, texts_at, texts_in}
 use Rattle.al_rules.specs.Events.{cron_faults, event_faults, filter_faults, filters_faults, input_faults, inputs_faults}
 use Rattle.al_rules.specs.Events.{activity_type_faults, event_name_faults, named_faults, on_faults, schedule_faults}
-use Rattle.al_rules.specs.Names.{activities_of, call_types, dispatch_types}
-use Rattle.al_rules_settings.specs.Words.{Named, of_key, of_scalar, unless, unless_among}
+use Rattle.al_rules.specs.Names.{activities_of}
+use Rattle.al_rules_settings.specs.Words.{Named, of_scalar, unless, unless_among}
 use Rattle.al_base.proofs.Elements.{each_of, map_or}
 use Rattle.al_rules_settings.proofs.Inside.{Are, Fine, Lies, NameLies, Pair, Text, about_lies, both, entries_at_fine, entries_in_fine}
 use Rattle.al_rules_settings.proofs.Inside.{items_in_fine, or_lies, span_lies, text_at_fine, texts_at_fine, texts_in_fine, unless_lies}
@@ -44,10 +42,7 @@ module _ (size : ℕ) where
   keys_lie filter event f (k ∷ ks) = both size (filter_faults filter event k) (flat_map (filter_faults filter event) ks) (filter_lies filter event k f) (keys_lie filter event f ks)
 
   filters_lie : (event : Node) → Fine size event → Are size (filters_faults event)
-  filters_lie event f =
-      both size (flat_map (filter_faults Names event) (codes "branches" ∷ codes "branches-ignore" ∷ codes "tags" ∷ codes "tags-ignore" ∷ []))
-      (flat_map (filter_faults Paths event) (codes "paths" ∷ codes "paths-ignore" ∷ []))
-      (keys_lie Names event f (codes "branches" ∷ codes "branches-ignore" ∷ codes "tags" ∷ codes "tags-ignore" ∷ [])) (keys_lie Paths event f (codes "paths" ∷ codes "paths-ignore" ∷ []))
+  filters_lie event f = search (both size, keys_lie)
 
   schedule_lies : (o : Option (List Item)) (n : Named) → NameLies size n → Are size (schedule_faults o n)
   schedule_lies None n p = about_lies size WrongSchedule n p
@@ -68,18 +63,14 @@ module _ (size : ℕ) where
 
   event_lies : (name : List ℕ) (event : Node) → Fine size event → Are size (event_faults name event)
   event_lies name event f =
-      or_lies size (bytes_eq name (codes "schedule")) _ _ (each_of (Fine size) (Lies size) cron_faults cron_lies (items_in event) (items_in_fine size event f))
-      (or_lies size (bytes_eq name (codes "workflow_call")) _ _ (inputs_lie call_types event f)
-      (or_lies size (bytes_eq name (codes "workflow_dispatch")) _ _ (inputs_lie dispatch_types event f)
-      (or_lies size (bytes_eq name (codes "image_version")) [] _ tt (both size (activity_type_faults name event) (filters_faults event) (types_lie name event f) (filters_lie event f)))))
+      let crons = each_of (Fine size) (Lies size) cron_faults cron_lies (items_in event) (items_in_fine size event f) in
+      search (or_lies size, crons, inputs_lie, both size, types_lie, filters_lie) depth 9
 
   named_lies : (m : Node × Node) → Pair size m → Are size (named_faults m)
-  named_lies m p =
-      or_lies size (is_event (of_key m.0).text) _ _ (event_lies (of_key m.0).text m.1 p.1) (about_lies size UnknownEvent (of_key m.0) (span_lies size m.0 p.0))
+  named_lies m p = search (or_lies size, event_lies, about_lies size, span_lies size)
 
   pub on_lies : (on : Node) → Fine size on → Are size (on_faults on)
   on_lies on f =
-      both size (flat_map (λ s. event_name_faults (of_scalar s)) (texts_in on)) (flat_map named_faults (entries_in on))
-      (each_of (Text size) (Lies size) (λ s. event_name_faults (of_scalar s)) (λ s t. unless_lies size (is_event (text_of s.0)) UnknownEvent (of_scalar s) t.place)
-      (texts_in on) (texts_in_fine size on f))
-      (each_of (Pair size) (Lies size) named_faults named_lies (entries_in on) (entries_in_fine size on f))
+      let names = each_of (Text size) (Lies size) (λ s. event_name_faults (of_scalar s))
+      (λ s t. unless_lies size (is_event (text_of s.0)) UnknownEvent (of_scalar s) t.place) (texts_in on) (texts_in_fine size on f) in
+      search (both size, names, each_of (Pair size) (Lies size) named_faults named_lies, entries_in_fine size)

@@ -32,12 +32,7 @@ fn may_be(around: Around, byte: u8) -> bool
 fn may_all(around: Around, bytes: &[u8]) -> bool
     ensures { result ≡ list_all (may_stand around) bytes.now }
 {
-    for byte in bytes {
-        if !may_be(around, *byte) {
-            return false;
-        }
-    }
-    true
+    bytes.iter().all(|byte| may_be(around, *byte))
 }
 
 /// The first bytes of a text.

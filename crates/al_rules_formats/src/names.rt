@@ -23,12 +23,7 @@ fn continues(byte: u8) -> bool
 fn all_continue(bytes: &[u8]) -> bool
     ensures { result ≡ list_all goes_on_name bytes.now }
 {
-    for byte in bytes {
-        if !continues(*byte) {
-            return false;
-        }
-    }
-    true
+    bytes.iter().all(|byte| continues(*byte))
 }
 
 /// Whether a text is an id of a job or a step: an ASCII letter or `_`, and then ASCII letters, digits, `_` and `-`.
@@ -52,12 +47,7 @@ fn may_name(byte: u8) -> bool
 fn may_all_name(bytes: &[u8]) -> bool
     ensures { result ≡ list_all is_variable_byte bytes.now }
 {
-    for byte in bytes {
-        if !may_name(*byte) {
-            return false;
-        }
-    }
-    true
+    bytes.iter().all(|byte| may_name(*byte))
 }
 
 /// Whether a text is the name of an environment variable: it isn't empty, and has no space, `=` or `&`.

@@ -113,12 +113,7 @@ fn is_barred_character(c: char) -> bool
 fn has_barred_character(characters: &[char]) -> bool
     ensures { result ≡ list_any is_barred characters.now }
 {
-    for c in characters {
-        if is_barred_character(*c) {
-            return true;
-        }
-    }
-    false
+    characters.iter().any(|c| is_barred_character(*c))
 }
 
 /// Whether a filter has what filters of its kind may not have.

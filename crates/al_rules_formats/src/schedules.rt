@@ -404,12 +404,7 @@ fn picks(number: u32, item: Item) -> bool
 fn is_member(number: u32, items: &[Item]) -> bool
     ensures { result ≡ list_any (item_picks number) items.now }
 {
-    for item in items {
-        if picks(number, *item) {
-            return true;
-        }
-    }
-    false
+    items.iter().any(|item| picks(number, *item))
 }
 
 /// Adds a minute, if it is a member of one of some items.
@@ -446,24 +441,14 @@ fn is_close(low: u32, high: u32) -> bool
 fn is_close_below(low: u32, numbers: &[u32]) -> bool
     ensures { result ≡ list_any (is_just_below low) numbers.now }
 {
-    for high in numbers {
-        if is_close(low, *high) {
-            return true;
-        }
-    }
-    false
+    numbers.iter().any(|high| is_close(low, *high))
 }
 
 /// Whether two of some numbers differ by less than 5.
 fn are_close(numbers: &[u32]) -> bool
     ensures { result ≡ list_any (λ m. list_any (is_just_below m) numbers.now) numbers.now }
 {
-    for low in numbers {
-        if is_close_below(*low, numbers) {
-            return true;
-        }
-    }
-    false
+    numbers.iter().any(|low| is_close_below(*low, numbers))
 }
 
 /// Whether two of the minutes of an hour in these items differ by less than 5. Fails with `AllocError` when out of memory.

@@ -1,5 +1,5 @@
 -- Each fault of a setting lies in the file that the tree was read from.
-use Rattle.std.specs.Prelude.{ℕ, ◌||◌, Bool, is_none, is_some, List, [], ◌∷◌, ◌++◌, codes, map, Option, Some, None, IfSome}
+use Rattle.std.specs.Prelude.{ℕ, Bool, is_none, is_some, List, [], ◌∷◌, ◌++◌, codes, map, Option, Some, None, IfSome}
 use Rattle.std.specs.List.{AllByRecursion, flat_map}
 use Rattle.al_base.specs.Spans.{LiesIn}
 use Rattle.al_base.specs.declared.codes.RuleCode.TheVariants.{AlwaysTrue, PasswordNotExpression, RepeatedId, UnknownMatrixRow}
@@ -9,13 +9,12 @@ use Rattle.al_base.specs.NamePlaces.{name_place}
 use Rattle.al_base.specs.declared.faults.Span.{Span}
 use Rattle.al_rules_formats.specs.Names.{is_id, is_variable}
 use Rattle.al_scalar.specs.Scalar.{Scalar, text_of}
-use Rattle.al_yaml_tree.specs.Access.{mapping_in}
 use Rattle.al_yaml_tree.specs.Node.{Node, span_of}
 use Rattle.al_base.specs.Names.{among}
 use Rattle.al_tree.specs.Values.{entries_at, entries_in, items_at, text_in, value_at, value_below}
 use Rattle.al_rules_settings.specs.Ids.{ids_faults, repeated_faults}
-use Rattle.al_rules_settings.specs.Matrix.{exclude_faults, exclude_keys, is_dynamic, is_null_node, is_row_value, matrix_faults, row_faults, row_names, shape_faults}
-use Rattle.al_rules_settings.specs.Names.{permissions, scope_values, whole_values}
+use Rattle.al_rules_settings.specs.Matrix.{exclude_faults, exclude_keys, is_row_value, matrix_faults, row_faults, shape_faults}
+use Rattle.al_rules_settings.specs.Names.{permissions, scope_values}
 use Rattle.al_rules_settings.specs.Settings.{all_permissions_faults, condition_faults, credentials_faults, env_faults, is_always_true}
 use Rattle.al_rules_settings.specs.Settings.{is_password, is_shell, password_faults, permission_faults, permissions_faults, script_faults}
 use Rattle.al_rules_settings.specs.Settings.{permission_value_faults, shell_faults, variable_faults}
@@ -36,8 +35,8 @@ module _ (size : ℕ) where
 
   pub ids_lie : (ids : List Named) → AllByRecursion (NameLies size) ids → Are size (ids_faults ids)
   ids_lie ids h =
-      both size (flat_map (λ n. unless (is_id n.text) WrongId n) ids) (repeated_faults [] ids)
-      (each_of (NameLies size) (Lies size) (λ n. unless (is_id n.text) WrongId n) (λ n p. unless_lies size (is_id n.text) WrongId n p) ids h) (repeated_lie [] ids h)
+      let wrong = each_of (NameLies size) (Lies size) (λ n. unless (is_id n.text) WrongId n) (λ n p. unless_lies size (is_id n.text) WrongId n p) ids h in
+      search (both size, wrong, repeated_lie)
 
   -- ---- matrices
 
@@ -59,13 +58,9 @@ module _ (size : ℕ) where
 
   pub matrix_lies : (n : Node) → Fine size n → Are size (matrix_faults n)
   matrix_lies n f =
-      let place = name_place (row_names (entries_in n)) in
-      let keys = exclude_keys (items_at (codes "exclude") n) in
-      or_lies size (is_some (mapping_in n)) _ _
-      (both size (flat_map row_faults (entries_in n)) (flat_map (exclude_faults place) keys)
-      (each_of (Pair size) (Lies size) row_faults row_lies (entries_in n) (entries_in_fine size n f))
-      (excludes_lie place keys (exclude_place (items_at (codes "exclude") n) (items_at_fine size (codes "exclude") n f))))
-      (shape_lies (is_null_node n || is_dynamic n) (span_of n) (codes "matrix") (span_lies size n f))
+      let rows = each_of (Pair size) (Lies size) row_faults row_lies (entries_in n) (entries_in_fine size n f) in
+      let keys = exclude_place (items_at (codes "exclude") n) (items_at_fine size (codes "exclude") n f) in
+      search (or_lies size, both size, rows, excludes_lie, keys, shape_lies, span_lies size) depth 7
 
   -- ---- settings
 
@@ -80,13 +75,11 @@ module _ (size : ℕ) where
 
   permission_lies : (m : Node × Node) → Pair size m → Are size (permission_faults m)
   permission_lies m p =
-      both size (unless_among UnknownPermission permissions (of_key m.0)) (permission_value_faults scope_values m.1)
-      (unless_lies size (among permissions (of_key m.0).text) UnknownPermission (of_key m.0) (span_lies size m.0 p.0)) (value_lies scope_values m.1 p.1)
+      let name = unless_lies size (among permissions (of_key m.0).text) UnknownPermission (of_key m.0) (span_lies size m.0 p.0) in
+      search (both size, name, value_lies scope_values m.1 p.1)
 
   all_permissions_lie : (n : Node) → Fine size n → Are size (all_permissions_faults n)
-  all_permissions_lie n f =
-      both size (permission_value_faults whole_values n) (flat_map permission_faults (entries_in n)) (value_lies whole_values n f)
-      (each_of (Pair size) (Lies size) permission_faults permission_lies (entries_in n) (entries_in_fine size n f))
+  all_permissions_lie n f = search (both size, value_lies, each_of (Pair size) (Lies size) permission_faults permission_lies, entries_in_fine size)
 
   pub permissions_lie : (n : Node) → Fine size n → Are size (permissions_faults n)
   permissions_lie n f = map_or (Fine size) (Lies size) all_permissions_faults all_permissions_lie (value_at (codes "permissions") n) (value_fine size (codes "permissions") n f)

@@ -9,7 +9,7 @@ use Rattle.al_scalar.specs.Places.{first_text, lines_at}
 use Rattle.al_scalar.specs.LineEnds.{cells_at, cells_between, with_cells_before, AreBlank, IsBlankByte, IsLineEnd, broken_line, SameLine, later, AreSpaces, BlankTo}
 use Rattle.al_scalar.specs.Private.BlockRead.{indent_from}
 use Rattle.al_scalar.proofs.LineLemmas.{cells_between-none, cells_between-more}
-use Rattle.al_scalar.proofs.SingleLemmas.{has_line, RunBefore, run_at, run_then, cell_at, text-line_end, lines-at_end, byte_kind, IsInside}
+use Rattle.al_scalar.proofs.LineCells.{has_line, RunBefore, run_at, run_then, cell_at, text-line_end, lines-at_end, byte_kind, IsInside}
 use Rattle.al_scalar.proofs.FoldLemmas.{after_blanks-run, after_blanks-solid}
 
 pub AreSpaces-more : (cs : List Cell) (c : Cell) → AreSpaces cs → c.0 ≡ 32 → AreSpaces (cs ++ c ∷ [])

@@ -1,4 +1,4 @@
--- Offsets of a block scalar's text.
+-- Offsets of a block scalar's text, and the lines left behind it.
 use Rattle.std.proofs.Common.{◌≡◌, ℕ, ◌+◌, ◌-◌, ◌<◌, ◌≤◌, List, [], ◌∷◌, ◌++◌, drop, refl, sym, subst, arith, Bool, true, false, not}
 use Rattle.std.proofs.Common.{if◌then◌else◌, ◌&&◌, ◌||◌, nat_le, Option, Some, None, Result, Ok, Err}
 use Rattle.std.specs.Option.{is_none, is_some, unwrap_or}
@@ -10,11 +10,12 @@ use Rattle.al_scalar.specs.declared.header.Chomping.TheVariants.{Strip, Clip, Ke
 use Rattle.al_scalar.specs.declared.header.Header.{Header}
 use Rattle.al_scalar.specs.Block.{chomping_of, content_indent, BlockLine, Rows, row_of, at_end, with_row, rows_at, final_breaks}
 use Rattle.al_scalar.specs.Block.{own_break, between_rows, joint, text_after, last_end, rows_end, block_scalar}
-use Rattle.al_scalar.specs.Offsets.{AreBefore, AreClimbing, IsTail, AreLines}
+use Rattle.al_scalar.specs.Offsets.{AreBefore, AreClimbing}
 use Rattle.al_scalar.specs.Taken.{Taken, ◌>>=◌, feeds}
 use Rattle.al_scalar.specs.declared.faults.FaultAt.{FaultAt}
 use Rattle.al_scalar.proofs.OffsetLemmas.{IsFrom, choose, from-none, from-one, from-join, from-wider, from-order, climbing-order}
-use Rattle.al_scalar.proofs.OffsetLemmas.{climbing-lower, climbing-place, climbing-drop, climbing-from, tail-lines, feeds-join}
+use Rattle.al_scalar.proofs.OffsetLemmas.{climbing-lower, climbing-blanks, climbing-drop, climbing-from, feeds-join}
+use Rattle.al_scalar.proofs.Standing.{Stand, stand-lower, stand-start, start-behind, stand-higher, stand-later, stand-at_end}
 
 -- ---- rows
 
@@ -31,36 +32,39 @@ abbrev AreRows : ℕ → ℕ → List BlockLine → Type 0
 AreRows low high [] = low ≤ high
 AreRows low high (r ∷ rs) = AreClimbing low (break_at high r.break) r.text × IsFrom (break_at high r.break) (break_behind high r.break) (feeds r.break) × AreRows (break_behind high r.break) high rs
 
-abbrev pub IsRowText : ℕ → ℕ → Option (List Cell) → Type 0
+abbrev IsRowText : ℕ → ℕ → Option (List Cell) → Type 0
 IsRowText low end None = Unit {0}
 IsRowText low end (Some text) = AreClimbing low end text
 
-pub row-from : (m : Option ℕ) (found : Bool) (low end : ℕ) (cs : List Cell) → AreClimbing low end cs → IsRowText low end (row_of m found cs)
+row-from : (m : Option ℕ) (found : Bool) (low end : ℕ) (cs : List Cell) → AreClimbing low end cs → IsRowText low end (row_of m found cs)
 row-from None found low end cs h = choose (IsRowText low end) (is_all_blank cs) (λ _. climbing-order low end cs h) (λ _. tt)
 row-from (Some m) found low end cs h =
     choose (IsRowText low end) (is_all_blank cs && not found) (λ _. climbing-order low end cs h)
     (λ _. choose (IsRowText low end) (nat_le m (indent cs)) (λ _. climbing-drop m low end cs h)
     (λ _. choose (IsRowText low end) (is_all_blank cs) (λ _. climbing-order low end cs h) (λ _. tt)))
 
-abbrev IsRows : ℕ → Rows → Type 0
-IsRows low rs = AreRows low (start rs.left) rs.rows
+abbrev IsRows : ℕ → ℕ → Rows → Type 0
+IsRows size low rs = AreRows low (start rs.left) rs.rows × Stand size low rs.left
 
-rows-by : (low : ℕ) (l : Line) (ls : List Line) (below : Rows) → AreLines low (l ∷ ls) → (AreLines (l.end + 1) ls → IsRows (l.end + 1) below) → (o : Option (List Cell)) → IsRowText low l.end o
-    → IsRows low (elim o [
+rows-by : (size low : ℕ) (l : Line) (ls : List Line) (below : Rows) → Stand size low (l ∷ ls)
+    → (Stand size (l.end + 1) ls → IsRows size (l.end + 1) below) → (o : Option (List Cell)) → IsRowText low l.end o
+    → IsRows size low (elim o [
       | None ↦ record { rows = []; left = l ∷ ls }
       | Some text ↦ (if l.last then record { rows = record { text = text; break = [] } ∷ []; left = at_end l }
           else with_row (record { text = text; break = l.end ∷ [] }) below)
     ])
-rows-by low l ls below h more None k = (climbing-place low l.end l.text h.0).0
-rows-by low l ls below h more (Some text) k = choose (IsRows low) l.last
-    (λ _. (k, from-none l.end l.end (omega arith), omega arith))
-    (λ e. (k, from-one l.end (l.end + 1) (ascii "\n") l.end (omega arith) (omega arith), more (tail-lines l.end l.last ls e h.1)))
+rows-by size low l ls below h more None k = (start-behind size low (l ∷ ls) h, h)
+rows-by size low l ls below h more (Some text) k = choose (IsRows size low) l.last
+    (λ _. ((k, from-none l.end l.end (omega arith), omega arith), stand-at_end size low l ls h))
+    (λ e. let m = more (stand-later size low l ls e h) in
+    let line = climbing-order low l.end l.text h.0.0 in
+    ((k, from-one l.end (l.end + 1) (ascii "\n") l.end (omega arith) (omega arith), m.0), stand-lower size (l.end + 1) low below.left (omega (arith, line)) m.1))
 
-rows-from : (m : Option ℕ) (found : Bool) (low : ℕ) (ls : List Line) → AreLines low ls → IsRows low (rows_at m found ls)
-rows-from m found low [] h = absurd h
-rows-from m found low (l ∷ ls) h =
+rows-from : (size : ℕ) (m : Option ℕ) (found : Bool) (low : ℕ) (ls : List Line) → Stand size low ls → IsRows size low (rows_at m found ls)
+rows-from size m found low [] h = absurd h.0
+rows-from size m found low (l ∷ ls) h =
     let next = found || not (is_all_blank l.text) in
-    rows-by low l ls (rows_at m next ls) h (λ k. rows-from m next (l.end + 1) ls k) (row_of m found l.text) (row-from m found low l.end l.text h.0)
+    rows-by size low l ls (rows_at m next ls) h (λ k. rows-from size m next (l.end + 1) ls k) (row_of m found l.text) (row-from m found low l.end l.text h.0.0)
 
 -- ---- the text of rows
 
@@ -145,14 +149,14 @@ last-behind : (low high at : ℕ) (cs : List Cell) → AreClimbing low high cs �
 last-behind low high at [] h e = absurd cc
 last-behind low high at (c ∷ cs) h e = let k = last-order (c.1 + 1) high (c.1 + 1) cs h.1 (omega arith) in let b = h.0 in omega (arith, k, b)
 
-rows-end : (at next high : ℕ) (rs : List BlockLine) → AreRows next high rs → at ≤ next → at ≤ rows_end at rs
-rows-end at next high [] h a = omega arith
+rows-end : (at next high : ℕ) (rs : List BlockLine) → AreRows next high rs → at ≤ next → (at ≤ rows_end at rs) × (rows_end at rs ≤ high)
+rows-end at next high [] h a = (omega arith, omega (arith, h, a))
 rows-end at next high (r ∷ rs) h a =
     let first = last-order next (break_at high r.break) at r.text h.0 a in
     let last = last-below next (break_at high r.break) at r.text h.0 a in
     let break = from-order (break_at high r.break) (break_behind high r.break) (feeds r.break) h.1 in
     let more = rows-end (last_end r.text at) (break_behind high r.break) high rs h.2 (omega (arith, last, break)) in
-    omega (arith, first, more)
+    (omega (arith, first, more.0), more.1)
 
 before-between : (low mid next end : ℕ) (own empties : List ℕ) → IsFrom low mid (feeds own) → mid ≤ end → AreBefore end (between_rows own empties)
 before-between low mid next end [] empties h a = before-feeds end empties
@@ -179,7 +183,7 @@ text-before is_literal k low mid next high last empties at (r ∷ rs) h rows a =
     let order = from-order break behind (feeds r.break) rows.1 in
     let below = last-below next break at r.text rows.0 a in
     let inside : now ≤ behind = omega (arith, order, below) in
-    let ends = rows-end now behind high rs rows.2 inside in
+    let ends = (rows-end now behind high rs rows.2 inside).0 in
     choose (AreBefore end) (is_empty r.text)
     (λ _. text-before is_literal k low mid behind high last (empties ++ r.break) now rs
     (pending-more low mid next break behind last empties r.break (climbing-order next break r.text rows.0) h rows.1) rows.2 inside)
@@ -191,22 +195,31 @@ text-before is_literal k low mid next high last empties at (r ∷ rs) h rows a =
 
 -- ---- the header
 
-abbrev EndsBefore : ℕ → Result Header FaultAt → Type 0
-EndsBefore end (Ok h) = h.end ≤ end
-EndsBefore end (Err e) = Unit {0}
+-- where the first of a line's cells stands
+place-first : (low end : ℕ) (cs : List Cell) → AreClimbing low end cs → place cs 0 ≤ end
+place-first low end [] h = omega arith
+place-first low end (c ∷ cs) h = let k = climbing-order (c.1 + 1) end cs h.1 in omega (arith, k)
 
-header_end-from : (end : ℕ) (h : Header) (cs : List Cell) → h.end ≤ end → EndsBefore end (header_end h cs)
-header_end-from end h cs a = choose (EndsBefore end) (is_empty (after_blanks cs) || (begins_blank cs && is_comment cs)) (λ _. a) (λ _. tt)
+abbrev HeaderIn : ℕ → ℕ → Result Header FaultAt → Type 0
+HeaderIn low end (Ok h) = (low ≤ h.end) × (h.end ≤ end)
+HeaderIn low end (Err e) = e.at ≤ end
 
-header-from : (digit : Option ℕ) (sign : Option Chomping) (at end : ℕ) (cs : List Cell) → AreClimbing at end cs → EndsBefore end (header digit sign at cs)
-header-from digit sign at end [] h = header_end-from end (record { digit = digit; chomping = unwrap_or sign Clip; end = at }) [] h
-header-from digit sign at end (c ∷ cs) h =
-    let a = climbing-order (c.1 + 1) end cs h.1 in
-    let b = h.0 in
-    let more = climbing-lower (c.1 + 1) (at + 1) end cs (omega (arith, b)) h.1 in
-    choose (EndsBefore end) (is_none digit && is_digit c.0) (λ _. header-from (Some (c.0 - 48)) sign (at + 1) end cs more)
-    (λ _. choose (EndsBefore end) (is_none sign && is_sign c.0) (λ _. header-from digit (Some (chomping_of c.0)) (at + 1) end cs more)
-    (λ _. header_end-from end (record { digit = digit; chomping = unwrap_or sign Clip; end = at }) (c ∷ cs) (omega (arith, a, b))))
+header_end-in : (low at end : ℕ) (h : Header) (cs : List Cell) → low ≤ h.end → h.end ≤ end → AreClimbing at end cs
+    → HeaderIn low end (header_end h cs)
+header_end-in low at end h cs a b k =
+    choose (HeaderIn low end) (is_empty (after_blanks cs) || (begins_blank cs && is_comment cs)) (λ _. (a, b))
+    (λ _. place-first at end (after_blanks cs) (climbing-blanks at end cs k))
+
+header-in : (digit : Option ℕ) (sign : Option Chomping) (low at end : ℕ) (cs : List Cell) → low ≤ at → AreClimbing at end cs
+    → HeaderIn low end (header digit sign at cs)
+header-in digit sign low at end [] a h = header_end-in low at end (record { digit = digit; chomping = unwrap_or sign Clip; end = at }) [] a h h
+header-in digit sign low at end (c ∷ cs) a h =
+    let b = climbing-order (c.1 + 1) end cs h.1 in
+    let f = h.0 in
+    let more = climbing-lower (c.1 + 1) (at + 1) end cs (omega (arith, f)) h.1 in
+    choose (HeaderIn low end) (is_none digit && is_digit c.0) (λ _. header-in (Some (c.0 - 48)) sign low (at + 1) end cs (omega (arith, a)) more)
+    (λ _. choose (HeaderIn low end) (is_none sign && is_sign c.0) (λ _. header-in digit (Some (chomping_of c.0)) low (at + 1) end cs (omega (arith, a)) more)
+    (λ _. header_end-in low at end (record { digit = digit; chomping = unwrap_or sign Clip; end = at }) (c ∷ cs) a (omega (arith, b, f)) h))
 
 pub behind-indicator : (q low end : ℕ) (cs : List Cell) → begins q cs ≡ true → AreClimbing low end cs → AreClimbing (place cs end + 1) end (drop 1 cs)
 behind-indicator q low end [] e h = absurd cc
@@ -214,33 +227,38 @@ behind-indicator q low end (c ∷ cs) e h = h.1
 
 -- ---- the scalar
 
-abbrev pub IsBlockTaken : ℕ → Result Taken FaultAt → Type 0
-IsBlockTaken low (Ok t) = IsFrom low (start t.left) t.text × AreBefore t.end t.text
-IsBlockTaken low (Err e) = Unit {0}
+module _ (size : ℕ) where
+  -- the text comes from before the lines left, and but for line feeds from before its end, behind which they stand; a fault lies in the file
+  abbrev pub IsBlockTaken : ℕ → Result Taken FaultAt → Type 0
+  IsBlockTaken low (Ok t) = IsFrom low (start t.left) t.text × AreBefore t.end t.text × (low ≤ t.end) × Stand size t.end t.left
+  IsBlockTaken low (Err e) = e.at ≤ size
 
-lines-lower : (low low' : ℕ) (ls : List Line) → low' ≤ low → AreLines low ls → AreLines low' ls
-lines-lower low low' [] a h = h
-lines-lower low low' (l ∷ ls) a h = (climbing-lower low low' l.end l.text a h.0, h.1)
+  block-by : (is_literal : Bool) (within low : ℕ) (l : Line) (ls : List Line) → Stand size low (l ∷ ls) → (r : Result Header FaultAt) → HeaderIn low l.end r
+      → IsBlockTaken low (r >>= (λ h.
+      let m = content_indent h.digit within ls in
+      let rs = (if l.last then record { rows = []; left = at_end l } else rows_at m (is_some h.digit) ls) in
+      Ok (record { text = text_after is_literal h.chomping None [] rs.rows; end = rows_end h.end rs.rows; left = rs.left })))
+  block-by is_literal within low l ls k (Err e) r = let a = k.1.0 in omega (arith, r, a)
+  block-by is_literal within low l ls k (Ok h) r =
+      let m = content_indent h.digit within ls in
+      let rs : Rows = (if l.last then record { rows = []; left = at_end l } else rows_at m (is_some h.digit) ls) in
+      let line = climbing-order low l.end l.text k.0.0 in
+      let rows : IsRows size l.end rs = choose (IsRows size l.end) l.last
+      (λ _. (omega arith, stand-at_end size l.end (record { text = []; end = l.end; last = l.last }) ls ((omega arith, k.0.1), k.1)))
+      (λ e. rows-from size m (is_some h.digit) l.end ls (stand-lower size (l.end + 1) l.end ls (omega arith) (stand-later size low l ls e k))) in
+      let none : ArePending low l.end l.end None [] = record { own = from-none low l.end line; since = from-none l.end l.end (omega arith) } in
+      let end = rows-end h.end l.end (start rs.left) rs.rows rows.0 r.1 in
+      let a = r.0 in
+      let b = end.0 in (
+        text-from is_literal h.chomping low l.end l.end (start rs.left) None [] rs.rows none rows.0,
+        text-before is_literal h.chomping low l.end l.end (start rs.left) None [] h.end rs.rows none rows.0 r.1,
+        omega (arith, a, b),
+        stand-higher size l.end (rows_end h.end rs.rows) rs.left end.1 rows.1,
+      )
 
-block-by : (is_literal : Bool) (within low : ℕ) (l : Line) (ls : List Line) → low ≤ l.end → IsTail l.end l.last ls → (r : Result Header FaultAt) → EndsBefore l.end r
-    → IsBlockTaken low (r >>= (λ h.
-    let m = content_indent h.digit within ls in
-    let rs = (if l.last then record { rows = []; left = at_end l } else rows_at m (is_some h.digit) ls) in
-    Ok (record { text = text_after is_literal h.chomping None [] rs.rows; end = rows_end h.end rs.rows; left = rs.left })))
-block-by is_literal within low l ls a k (Err e) r = tt
-block-by is_literal within low l ls a k (Ok h) r =
-    let m = content_indent h.digit within ls in
-    let rs : Rows = (if l.last then record { rows = []; left = at_end l } else rows_at m (is_some h.digit) ls) in
-    let rows : IsRows l.end rs = choose (IsRows l.end) l.last (λ _. omega arith)
-    (λ e. rows-from m (is_some h.digit) l.end ls (lines-lower (l.end + 1) l.end ls (omega arith) (tail-lines l.end l.last ls e k))) in
-    let none : ArePending low l.end l.end None [] = record { own = from-none low l.end a; since = from-none l.end l.end (omega arith) } in (
-      text-from is_literal h.chomping low l.end l.end (start rs.left) None [] rs.rows none rows,
-      text-before is_literal h.chomping low l.end l.end (start rs.left) None [] h.end rs.rows none rows r,
-    )
-
-pub block-from : (is_literal : Bool) (within low q : ℕ) (l : Line) (ls : List Line) → begins q l.text ≡ true → AreLines low (l ∷ ls)
-    → IsBlockTaken (place l.text l.end) (block_scalar is_literal within (l ∷ ls))
-block-from is_literal within low q l ls e h =
-    let at = place l.text l.end in
-    block-by is_literal within at l ls (climbing-order at l.end l.text (climbing-place low l.end l.text h.0).1) h.1
-    (header None None (at + 1) (drop 1 l.text)) (header-from None None (at + 1) l.end (drop 1 l.text) (behind-indicator q low l.end l.text e h.0))
+  pub block-from : (is_literal : Bool) (within low q : ℕ) (l : Line) (ls : List Line) → begins q l.text ≡ true → Stand size low (l ∷ ls)
+      → IsBlockTaken (place l.text l.end) (block_scalar is_literal within (l ∷ ls))
+  block-from is_literal within low q l ls e h =
+      let at = place l.text l.end in
+      block-by is_literal within at l ls (stand-start size low (l ∷ ls) h) (header None None (at + 1) (drop 1 l.text))
+      (header-in None None at (at + 1) l.end (drop 1 l.text) (omega arith) (behind-indicator q low l.end l.text e h.0.0))

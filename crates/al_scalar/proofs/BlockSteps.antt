@@ -1,5 +1,5 @@
 -- A block scalar from its indicator on: the header, then the rows.
-use Rattle.std.proofs.Common.{◌≡◌, ℕ, ◌+◌, List, [], ◌∷◌, length, drop, refl, sym, ap, ◌∙◌, Bool, true, false, cond, Option, None, Result, Ok, Err}
+use Rattle.std.proofs.Common.{◌≡◌, ℕ, ◌+◌, List, [], ◌∷◌, length, drop, refl, sym, ap, ◌∙◌, Bool, true, false, cond, Option, None, is_some, Result, Ok, Err}
 use Rattle.al_scalar.specs.Line.{Cell, Line, place}
 use Rattle.al_scalar.specs.Taken.{Taken, ◌>>=◌, with_text}
 use Rattle.al_scalar.specs.declared.faults.FaultAt.{FaultAt}
@@ -8,15 +8,15 @@ use Rattle.al_scalar.specs.LineEnds.{broken_line, SameLine, first_last, later}
 use Rattle.al_scalar.specs.Block.{Rows, header, content_indent, rows_at, block_scalar}
 use Rattle.al_scalar.specs.declared.header.Chomping.{Chomping}
 use Rattle.al_scalar.specs.declared.header.Header.{Header}
-use Rattle.al_scalar.specs.Private.BlockRead.{rest, is_said}
-use Rattle.al_scalar.proofs.SingleLemmas.{has_line, cell_at, lines-at_end, lines_at-some, IsInside}
+use Rattle.al_scalar.specs.Private.BlockRead.{rest}
+use Rattle.al_scalar.proofs.LineCells.{has_line, cell_at, lines-at_end, lines_at-some, IsInside}
 use Rattle.al_scalar.proofs.RowLemmas.{of_rows, final_breaks-none}
 
 -- behind the header h of the first line
 abbrev pub rows_behind : ℕ → List Line → Header → Rows
 rows_behind within xs h =
     cond (first_last xs) (record { rows = []; left = record { text = []; end = first_end xs; last = true } ∷ [] })
-    (rows_at (content_indent h.digit within (later xs)) (is_said h.digit) (later xs))
+    (rows_at (content_indent h.digit within (later xs)) (is_some h.digit) (later xs))
 
 abbrev pub body : Bool → ℕ → List Line → Header → Result Taken FaultAt
 body lit within xs h = Ok (of_rows lit h.chomping None [] h.end (rows_behind within xs h))
@@ -52,7 +52,7 @@ module _ (lit : Bool) (within : ℕ) (bytes : List ℕ) (at : ℕ) (here : IsIns
       block-given ∙ ap (λ r. r >>= body lit within xs) g
       ∙ ap (λ b. Ok (of_rows lit h.chomping None [] h.end
       (cond b (record { rows = []; left = record { text = []; end = first_end xs; last = true } ∷ [] })
-      (rows_at (content_indent h.digit within (later xs)) (is_said h.digit) (later xs))))) is_last
+      (rows_at (content_indent h.digit within (later xs)) (is_some h.digit) (later xs))))) is_last
       ∙ ap (λ t. Ok (record { text = t; end = h.end; left = record { text = []; end = first_end xs; last = true } ∷ [] })) (final_breaks-none h.chomping ∙ sym n)
       ∙ ap (λ m. Ok (record { text = new; end = h.end; left = record { text = []; end = m; last = true } ∷ [] })) ended
       ∙ ap (λ ls. Ok (record { text = new; end = h.end; left = ls })) (sym at_stop)
@@ -61,7 +61,7 @@ module _ (lit : Bool) (within : ℕ) (bytes : List ℕ) (at : ℕ) (here : IsIns
   pub block-more : (h : Header) (stop first : ℕ) → given ≡ Ok h → SameLine (lines_at bytes (at + 1)) (lines_at bytes end) → SameLine (lines_at bytes end) (lines_at bytes stop)
       → lines_at bytes stop ≡ broken_line stop ∷ lines_at bytes first
       → block_scalar lit within (lines_at bytes at)
-      ≡ Ok (rest lit h.chomping (content_indent h.digit within (lines_at bytes first)) (is_said h.digit) None [] h.end (lines_at bytes first))
+      ≡ Ok (rest lit h.chomping (content_indent h.digit within (lines_at bytes first)) (is_some h.digit) None [] h.end (lines_at bytes first))
   block-more h stop first g s u z =
       let xs = lines_at bytes at in
       let is_last : first_last xs ≡ false = first-same.last ∙ s.last ∙ u.last ∙ ap first_last z in
@@ -69,15 +69,13 @@ module _ (lit : Bool) (within : ℕ) (bytes : List ℕ) (at : ℕ) (here : IsIns
       block-given ∙ ap (λ r. r >>= body lit within xs) g
       ∙ ap (λ b. Ok (of_rows lit h.chomping None [] h.end
       (cond b (record { rows = []; left = record { text = []; end = first_end xs; last = true } ∷ [] })
-      (rows_at (content_indent h.digit within (later xs)) (is_said h.digit) (later xs))))) is_last
-      ∙ ap (λ ls. Ok (of_rows lit h.chomping None [] h.end (rows_at (content_indent h.digit within ls) (is_said h.digit) ls))) behind
+      (rows_at (content_indent h.digit within (later xs)) (is_some h.digit) (later xs))))) is_last
+      ∙ ap (λ ls. Ok (of_rows lit h.chomping None [] h.end (rows_at (content_indent h.digit within ls) (is_some h.digit) ls))) behind
 
 -- the rest, by the style that the code took from the header
-pub rest-style : (lit lit' : Bool) (k k' : Chomping) (m m' : Option ℕ) (b b' : Bool) (end : ℕ) (old : List Cell) (ls : List Line) → lit' ≡ lit → k' ≡ k → m' ≡ m → b' ≡ b → old ≡ []
-    → rest lit k m b None [] end ls ≡ with_text old (rest lit' k' m' b' None [] end ls)
-rest-style lit lit' k k' m m' b b' end old ls e f g h n =
-    ap (λ x. rest x k m b None [] end ls) (sym e)
-    ∙ ap (λ x. rest lit' x m b None [] end ls) (sym f)
-    ∙ ap (λ x. rest lit' k' x b None [] end ls) (sym g)
-    ∙ ap (λ x. rest lit' k' m' x None [] end ls) (sym h)
-    ∙ ap (λ x. with_text x (rest lit' k' m' b' None [] end ls)) (sym n)
+pub rest-style : (lit : Bool) (k : Chomping) (m m' : Option ℕ) (b b' : Bool) (end : ℕ) (old : List Cell) (ls : List Line) → m' ≡ m → b' ≡ b → old ≡ []
+    → rest lit k m b None [] end ls ≡ with_text old (rest lit k m' b' None [] end ls)
+rest-style lit k m m' b b' end old ls g h n =
+    ap (λ x. rest lit k x b None [] end ls) (sym g)
+    ∙ ap (λ x. rest lit k m' x None [] end ls) (sym h)
+    ∙ ap (λ x. with_text x (rest lit k m' b' None [] end ls)) (sym n)

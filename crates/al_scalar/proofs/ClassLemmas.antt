@@ -3,6 +3,7 @@ use Rattle.std.proofs.Common.{◌≡◌, ℕ, List, [], ◌∷◌, drop, refl, a
 use Rattle.std.proofs.lemmas.Grind.{common_steps}
 use Rattle.std.specs.Char.{is_ascii_digit}
 use Rattle.std.specs.List.{list_all}
+use Rattle.std.proofs.lemmas.Bool.{or_from}
 use Rattle.al_base.specs.FirstBytes.{begins_with, first_is}
 use Rattle.al_base.specs.Names.{among}
 use Rattle.al_scalar.specs.Class.{nulls, booleans, infinities, not_numbers, is_digit_in, are_digits, after_digits, without_sign}
@@ -11,9 +12,6 @@ use Rattle.al_scalar.specs.Private.Values.{begins_value}
 use Rattle.al_scalar.specs.declared.class.Base.{Base}
 use Rattle.al_scalar.specs.declared.class.Base.TheVariants as base
 use Rattle.al_scalar.specs.declared.styles.Class.TheVariants as class
-
-neither : (x y : Bool) → x ≡ false → y ≡ false → (x || y) ≡ false
-neither x y e f = ap (λ v. v || y) e ∙ f
 
 -- no word begins with a byte
 abbrev NoneBegins : ℕ → List (List ℕ) → Type 0
@@ -83,22 +81,22 @@ module _ (b : ℕ) (bs : List ℕ) (h : begins_value b ≡ false) where
   integer-no : is_integer (b ∷ bs) ≡ false
   integer-no =
       let digits : are_digits base.Decimal (b ∷ bs) ≡ false = ap (λ x. x && list_all (is_digit_in base.Decimal) bs) o.digit in
-      neither (are_digits base.Decimal (without_sign (b ∷ bs)) || is_prefixed 111 base.Octal (b ∷ bs)) (is_prefixed 120 base.Hexadecimal (b ∷ bs))
-      (neither (are_digits base.Decimal (without_sign (b ∷ bs))) (is_prefixed 111 base.Octal (b ∷ bs)) (ap (are_digits base.Decimal) no-sign ∙ digits)
+      or_from (are_digits base.Decimal (without_sign (b ∷ bs)) || is_prefixed 111 base.Octal (b ∷ bs)) (is_prefixed 120 base.Hexadecimal (b ∷ bs))
+      (or_from (are_digits base.Decimal (without_sign (b ∷ bs))) (is_prefixed 111 base.Octal (b ∷ bs)) (ap (are_digits base.Decimal) no-sign ∙ digits)
       (no-prefix 111 base.Octal bs))
       (no-prefix 120 base.Hexadecimal bs)
 
   decimal-no : is_decimal (b ∷ bs) ≡ false
   decimal-no =
-      neither (is_pure_fraction (b ∷ bs)) (first_is is_ascii_digit (b ∷ bs) && is_fraction (after_digits (b ∷ bs)))
+      or_from (is_pure_fraction (b ∷ bs)) (first_is is_ascii_digit (b ∷ bs) && is_fraction (after_digits (b ∷ bs)))
       (ap (λ x. x && first_is is_ascii_digit bs && is_exponent (after_digits bs)) o.dot)
       (ap (λ x. x && is_fraction (after_digits (b ∷ bs))) o.digit)
 
   float-no : is_float (b ∷ bs) ≡ false
   float-no =
       let no_dot : NoneBegins b infinities = (o.dot, (o.dot, (o.dot, tt))) in
-      neither (is_decimal (without_sign (b ∷ bs)) || among infinities (without_sign (b ∷ bs))) (among not_numbers (b ∷ bs))
-      (neither (is_decimal (without_sign (b ∷ bs))) (among infinities (without_sign (b ∷ bs))) (ap is_decimal no-sign ∙ decimal-no)
+      or_from (is_decimal (without_sign (b ∷ bs)) || among infinities (without_sign (b ∷ bs))) (among not_numbers (b ∷ bs))
+      (or_from (is_decimal (without_sign (b ∷ bs))) (among infinities (without_sign (b ∷ bs))) (ap is_decimal no-sign ∙ decimal-no)
       (ap (among infinities) no-sign ∙ no-word b bs infinities no_dot))
       (no-word b bs not_numbers no_dot)
 

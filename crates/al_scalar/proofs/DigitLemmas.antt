@@ -2,15 +2,14 @@
 use Rattle.std.proofs.Common.{◌≡◌, ℕ, suc, ◌+◌, ◌-◌, ◌*◌, ◌^◌, ◌<◌, ◌≤◌, lit<, List, [], ◌∷◌, ◌++◌, length, take, slice_index, refl, sym, ap, ◌∙◌, arith, append_assoc, Option, Some, None}
 use Rattle.std.proofs.Math.Nat.{pow-le-pow_right}
 use Rattle.std.proofs.Math.Seq.{take-append-add}
-use Rattle.al_scalar.specs.Private.Double.{hex_value}
+use Rattle.al_scalar.specs.Private.QuotedRead.{Between, hex_value}
 use Rattle.al_scalar.specs.Line.{Cell}
 use Rattle.al_scalar.specs.Quoted.{hex_digit}
 use Rattle.al_scalar.specs.Places.{text_at}
 use Rattle.al_scalar.specs.LineEnds.{cells_between}
-use Rattle.al_scalar.specs.Private.Double.{Between}
 use Rattle.al_scalar.proofs.BlockLemmas.{length-cells_between}
 use Rattle.al_scalar.proofs.LineLemmas.{cells_between-more}
-use Rattle.al_scalar.proofs.SingleLemmas.{cell_at, same_then, IsInside}
+use Rattle.al_scalar.proofs.LineCells.{cell_at, same_then, IsInside}
 
 -- ---- the value of digits
 

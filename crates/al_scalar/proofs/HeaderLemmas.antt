@@ -9,7 +9,7 @@ use Rattle.al_scalar.specs.declared.header.Header.{Header}
 use Rattle.al_scalar.specs.Places.{first_text, lines_at}
 use Rattle.al_scalar.specs.LineEnds.{cells_between, with_cells_before, AreBlank, IsBlankByte, IsLineEnd}
 use Rattle.al_scalar.proofs.LineLemmas.{cells_between-front}
-use Rattle.al_scalar.proofs.SingleLemmas.{run_at, text-line_end, is_blank-yes, is_blank-no, IsInside}
+use Rattle.al_scalar.proofs.LineCells.{run_at, text-line_end, is_blank-yes, is_blank-no, IsInside}
 use Rattle.al_scalar.proofs.FoldLemmas.{after_blanks-run, after_blanks-solid}
 use Rattle.al_scalar.proofs.BlockLemmas.{begins-cell}
 

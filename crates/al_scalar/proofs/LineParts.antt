@@ -4,7 +4,7 @@ use Rattle.std.proofs.lemmas.Grind.{common_steps}
 use Rattle.al_scalar.specs.Line.{Cell, Line, start, place, cut, after_blanks, after_spaces, begins, begins_blank, blanks_dropped, spaces_dropped}
 use Rattle.al_scalar.specs.Places.{first_text, first_end, lines_at, text_at}
 use Rattle.al_scalar.specs.LineEnds.{cells_between, with_cells_before, AreBlank, AreSpaces, IsBlankByte, IsBreakByte, IsLineEnd, SameLine}
-use Rattle.al_scalar.proofs.SingleLemmas.{lines-at_end, text-line_end, is_blank-no, byte_kind}
+use Rattle.al_scalar.proofs.LineCells.{lines-at_end, text-line_end, is_blank-no, byte_kind}
 use Rattle.al_scalar.proofs.FoldLemmas.{after_blanks-run}
 use Rattle.al_scalar.proofs.PlainLemmas.{text_at-cell}
 use Rattle.al_scalar.proofs.RestLemmas.{start-at}

@@ -8,7 +8,7 @@ use Rattle.al_scalar.specs.Places.{first_end, lines_at, text_at}
 use Rattle.al_scalar.specs.LineEnds.{IsBreakByte, IsLineEnd, OnLine, cells_between}
 use Rattle.al_scalar.proofs.BlockLemmas.{run-more, run-none}
 use Rattle.al_scalar.proofs.LineParts.{end_further}
-use Rattle.al_scalar.proofs.SingleLemmas.{IsInside, RunBefore, text-line_end}
+use Rattle.al_scalar.proofs.LineCells.{IsInside, RunBefore, text-line_end}
 
 break_byte : (b : ℕ) → is_byte2 10 13 b ≡ true → IsBreakByte b
 break_byte b passes = by (b == 10) refl passes
@@ -67,6 +67,11 @@ module _ (bytes : List ℕ) (at : ℕ) (start : at ≤ length bytes) where
           text = run.text ∙ ap (λ t. cells_between bytes at (at + n) ++ t) (text-line_end bytes (at + n) inside ends) ∙ append-nil (cells_between bytes at (at + n));
           end = end_further bytes at (at + n) inside ends run.same;
         }
+
+  pub to_here : IsLineEnd bytes at → IsLineTo bytes at at
+  to_here ends =
+      let here : at + 0 ≡ at = omega arith in
+      subst (IsLineTo bytes at) here (line_to 0 (omega arith) (λ k low high. absurd (omega (arith, high))) (subst (IsLineEnd bytes) (sym here) ends))
 
   pub to_break : (n : ℕ) → NoneBefore IsBreak 0 (length rest) n → IsBreak n → IsLineTo bytes at (at + n)
   to_break n first is =

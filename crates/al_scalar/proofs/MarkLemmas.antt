@@ -1,26 +1,29 @@
 -- What ends a run of characters that stand for themselves, against offsets.
-use Rattle.std.proofs.Common.{◌≡◌, ◌≢◌, ℕ, zero, suc, ◌-◌, ◌*◌, ◌≤◌, ◌==◌, drop, ◌+◌, ◌<◌, List, [], ◌∷◌, ◌++◌, length, take, slice_index, refl, sym, ap, subst, ◌∙◌, arith}
-use Rattle.std.proofs.Common.{append-nil, Bool, true, false, ◌&&◌, ◌||◌, nat_le, nat_lt, cond, inl, inr, ◌⊎◌, Option, Some, None, Result}
+use Rattle.std.proofs.Common.{◌≡◌, ◌≢◌, ℕ, zero, suc, ◌-◌, ◌*◌, ◌==◌, drop, ◌+◌, ◌<◌, List, [], ◌∷◌, ◌++◌, length, take, slice_index, refl, sym, ap, subst, ◌∙◌, arith}
+use Rattle.std.proofs.Common.{append-nil, Bool, true, false, nat_lt, cond, inl, inr, ◌⊎◌, Option, Some, None, Result}
 use Rattle.std.proofs.Common.{Ok, Err}
 use Rattle.std.proofs.lemmas.Grind.{common_steps}
 use Rattle.std.specs.Char.{IsScalar}
 use Rattle.std.proofs.lemmas.List.{take_all}
 use Rattle.std.proofs.Math.Seq.{take-append_seam, drop-append_seam}
-use Rattle.al_scalar.specs.Private.Double.{hex_value}
+use Rattle.std.proofs.lemmas.Bool.{false_from_ne_true}
+use Rattle.std.proofs.lemmas.Bool.Decides.{nat_tests}
 use Rattle.al_base.specs.declared.codes.YamlCode.TheVariants as yaml
-use Rattle.al_scalar.specs.Line.{Cell}
+use Rattle.al_scalar.specs.Line.{Cell, begins}
 use Rattle.al_scalar.specs.Taken.{fault}
 use Rattle.al_scalar.specs.declared.faults.FaultAt.{FaultAt}
 use Rattle.al_scalar.specs.Quoted.{QuotedLine, closed, escaped, cut_short, part_before, character_cells, escape_table, digits_table}
 use Rattle.std.specs.Map.{lookup}
-use Rattle.al_scalar.specs.Quoted.{escape_character, escape_digits, hex_digit, is_scalar_value, escape, double_part, quoted_lines, double_quoted}
-use Rattle.al_scalar.specs.Places.{lines_at, text_at}
-use Rattle.al_scalar.specs.LineEnds.{first_last, later, cells_between, IsLineEnd}
-use Rattle.al_scalar.specs.Private.Double.{ReadsOn, EndsRun, Between, read_behind}
-use Rattle.al_scalar.proofs.SingleLemmas.{lines_at-some, cell_at, run_then, RunBefore, text-line_end, lines-at_end, same_then}
+use Rattle.al_scalar.specs.Quoted.{escape_character, escape_digits, hex_digit, is_scalar_value, escape, double_part, quoted_lines, single_quoted, double_quoted}
+use Rattle.al_scalar.specs.Places.{first_text, lines_at, text_at}
+use Rattle.al_scalar.specs.LineEnds.{first_last, later, cells_between, IsBreakByte, IsLineEnd}
+use Rattle.al_scalar.specs.declared.quoted.Quotes.{Quotes}
+use Rattle.al_scalar.specs.declared.quoted.Quotes.TheVariants.{Single, Double}
+use Rattle.al_scalar.specs.Private.QuotedRead.{part_in, quoted_in, ReadsOn, EndsRun, IsMarkByte, Between, read_behind, hex_value}
+use Rattle.al_scalar.proofs.LineCells.{lines_at-some, cell_at, run_then, RunBefore, text-line_end, lines-at_end, same_then}
 use Rattle.al_scalar.proofs.FoldLemmas.{break-at}
 use Rattle.al_scalar.proofs.QuotedLemmas.{quoted-part, given, given-closed, given-break, given-end, given-cut}
-use Rattle.al_scalar.proofs.DoubleLemmas.{nothing, double-quote, double-escape}
+use Rattle.al_scalar.proofs.PartLemmas.{nothing, part-end, single-quote, single-pair, double-quote, double-escape}
 use Rattle.al_scalar.proofs.LiteralLemmas.{reads_on}
 use Rattle.al_scalar.proofs.BlockLemmas.{length-cells_between}
 
@@ -74,53 +77,71 @@ letter_given at cs x y = elim x [
 ]
 
 -- at least one digit follows
-has_digit : (x y z : Bool) (count : ℕ) → cond x (Some 2) (cond y (Some 4) (cond z (Some 8) None)) ≡ Some count → 1 ≤ count
-has_digit true y z count e = let same : 2 ≡ count = cc in omega (arith, same)
-has_digit false true z count e = let same : 4 ≡ count = cc in omega (arith, same)
-has_digit false false true count e = let same : 8 ≡ count = cc in omega (arith, same)
-has_digit false false false count e = absurd cc
-
 has_digits : (b count : ℕ) → lookup (λ k. k == b) digits_table ≡ Some count → suc (count - 1) ≡ count
-has_digits b count e = let some = has_digit (120 == b) (117 == b) (85 == b) count e in omega (arith, some)
+has_digits b count e = grind (arith, common_steps, e)
 
 -- a letter that digits follow is no break
 pub letter_kind : (b count : ℕ) → lookup (λ k. k == b) digits_table ≡ Some count → (b ≢ 10) × (b ≢ 13)
-letter_kind b count e = (
-  λ f. let no : lookup (λ k. k == 10) digits_table ≡ Some count = subst (λ x. lookup (λ k. k == x) digits_table ≡ Some count) f e in
-      cc,
-  λ f. let no : lookup (λ k. k == 13) digits_table ≡ Some count = subst (λ x. lookup (λ k. k == x) digits_table ≡ Some count) f e in cc,
-)
+letter_kind b count e = (λ f. grind (arith, common_steps, e, f), λ f. grind (arith, common_steps, e, f))
 
 -- what the part of a line gives
-given_at : (bytes : List ℕ) (at q : ℕ) (r : Result QuotedLine FaultAt) → double_part (text_at bytes at) ≡ r
-    → double_quoted q (lines_at bytes at) ≡ elim r [ Ok p ↦ given (double_part) q p (lines_at bytes at) | Err e ↦ Err e ]
-given_at bytes at q (Ok p) e = quoted-part (double_part) q (lines_at bytes at) (Ok p) (lines_at-some bytes at) e
-given_at bytes at q (Err f) e = quoted-part (double_part) q (lines_at bytes at) (Err f) (lines_at-some bytes at) e
+module _ (quotes : Quotes) (bytes : List ℕ) (at q : ℕ) where
+  given_at : (r : Result QuotedLine FaultAt) → part_in quotes (text_at bytes at) ≡ r
+      → quoted_in quotes q (lines_at bytes at) ≡ elim r [ Ok p ↦ given (part_in quotes) q p (lines_at bytes at) | Err e ↦ Err e ]
+  given_at (Ok p) e = quoted-part (part_in quotes) q (lines_at bytes at) (Ok p) (lines_at-some bytes at) e
+  given_at (Err f) e = quoted-part (part_in quotes) q (lines_at bytes at) (Err f) (lines_at-some bytes at) e
 
-pub file_end : (bytes : List ℕ) (at q : ℕ) → at ≡ length bytes → double_quoted q (lines_at bytes at) ≡ Err (record { code = yaml.UnclosedQuote; at = q })
-file_end bytes at q e = ap (double_quoted q) (lines-at_end bytes at e)
+  pub file_end : at ≡ length bytes → quoted_in quotes q (lines_at bytes at) ≡ Err (record { code = yaml.UnclosedQuote; at = q })
+  file_end e =
+      given_at (Ok nothing) (ap (λ ls. part_in quotes (first_text ls)) (lines-at_end bytes at e) ∙ part-end quotes)
+      ∙ given-end (part_in quotes) q false (lines_at bytes at) (lines_at-some bytes at) (ap first_last (lines-at_end bytes at e))
 
-pub closing : (bytes : List ℕ) (at q : ℕ) → at < length bytes → slice_index bytes at ≡ 34 → double_quoted q (lines_at bytes at)
-    ≡ Ok (record { text = []; end = at + 1; left = lines_at bytes (at + 1) })
-closing bytes at q h e =
-    let cell = cell_at bytes at h (omega arith) (omega arith) in
-    given_at bytes at q (Ok (record { text = []; stop = closed (at + 1) (text_at bytes (at + 1)) })) (ap (double_part) cell.text ∙ double-quote (slice_index bytes at, at) (text_at bytes (at + 1)) e)
-    ∙ given-closed (double_part) q (at + 1) (lines_at bytes at) (lines_at bytes (at + 1)) (lines_at-some bytes at) (lines_at-some bytes (at + 1)) cell.same
+  pub line_break : at < length bytes → IsLineEnd bytes at → quoted_in quotes q (lines_at bytes at) ≡ read_behind quotes bytes at false q
+  line_break h k =
+      let broke = break-at bytes at h k in
+      given_at (Ok nothing) (ap (part_in quotes) (text-line_end bytes at (omega arith) k) ∙ part-end quotes)
+      ∙ given-break (part_in quotes) q false (lines_at bytes at) (lines_at-some bytes at) broke.1
+      ∙ ap (λ end. quoted_lines (part_in quotes) q (Some end) (later (lines_at bytes at))) broke.0
 
-pub run_end : (bytes : List ℕ) (at : ℕ) → EndsRun bytes at → slice_index bytes at ≢ 34 → slice_index bytes at ≢ 92 → IsLineEnd bytes at
-run_end bytes at e n m h = ends (e h)
+  closed_at : at < length bytes → slice_index bytes at ≢ 10 → slice_index bytes at ≢ 13
+      → part_in quotes ((slice_index bytes at, at) ∷ text_at bytes (at + 1)) ≡ Ok (record { text = []; stop = closed (at + 1) (text_at bytes (at + 1)) })
+      → quoted_in quotes q (lines_at bytes at) ≡ Ok (record { text = []; end = at + 1; left = lines_at bytes (at + 1) })
+  closed_at h n m e =
+      let cell = cell_at bytes at h n m in
+      given_at (Ok (record { text = []; stop = closed (at + 1) (text_at bytes (at + 1)) })) (ap (part_in quotes) cell.text ∙ e)
+      ∙ given-closed (part_in quotes) q (at + 1) (lines_at bytes at) (lines_at bytes (at + 1)) (lines_at-some bytes at) (lines_at-some bytes (at + 1)) cell.same
+
+-- ---- at a quote
+
+pub mark_byte : (quotes : Quotes) (bytes : List ℕ) (at : ℕ) → at < length bytes → EndsRun quotes bytes at → (IsLineEnd bytes at → ⊥)
+    → IsMarkByte quotes (slice_index bytes at)
+mark_byte quotes bytes at h e n = kind (e h)
   where
-    ends : ((slice_index bytes at ≡ 10) ⊎ (slice_index bytes at ≡ 13)) ⊎ ((slice_index bytes at ≡ 34) ⊎ (slice_index bytes at ≡ 92)) → (slice_index bytes at ≡ 10) ⊎ (slice_index bytes at ≡ 13)
-    ends (inl k) = k
-    ends (inr (inl k)) = absurd (n k)
-    ends (inr (inr k)) = absurd (m k)
+    kind : IsBreakByte (slice_index bytes at) ⊎ IsMarkByte quotes (slice_index bytes at) → IsMarkByte quotes (slice_index bytes at)
+    kind (inl k) = absurd (n (λ _. k))
+    kind (inr m) = m
 
-pub line_break : (bytes : List ℕ) (at q : ℕ) → at < length bytes → IsLineEnd bytes at → double_quoted q (lines_at bytes at) ≡ read_behind bytes at false q
-line_break bytes at q h k =
-    let broke = break-at bytes at h k in
-    given_at bytes at q (Ok nothing) (ap (double_part) (text-line_end bytes at (omega arith) k))
-    ∙ given-break (double_part) q false (lines_at bytes at) (lines_at-some bytes at) broke.1
-    ∙ ap (λ end. quoted_lines (double_part) q (Some end) (later (lines_at bytes at))) broke.0
+pub double_closing : (bytes : List ℕ) (at q : ℕ) → at < length bytes → slice_index bytes at ≡ 34
+    → double_quoted q (lines_at bytes at) ≡ Ok (record { text = []; end = at + 1; left = lines_at bytes (at + 1) })
+double_closing bytes at q h e = closed_at Double bytes at q h (omega arith) (omega arith) (double-quote (slice_index bytes at, at) (text_at bytes (at + 1)) e)
+
+module _ (bytes : List ℕ) (at : ℕ) (h : at < length bytes) (e : slice_index bytes at ≡ 39) where
+  pub single_closing : (q : ℕ) → begins 39 (text_at bytes (at + 1)) ≡ false
+      → single_quoted q (lines_at bytes at) ≡ Ok (record { text = []; end = at + 1; left = lines_at bytes (at + 1) })
+  single_closing q f =
+      closed_at Single bytes at q h (omega arith) (omega arith) (ap Ok (single-quote (slice_index bytes at, at) (text_at bytes (at + 1)) e f))
+
+  -- two quotes stand for one
+  pub single_pair : at + 1 < length bytes → slice_index bytes (at + 1) ≡ 39 → ReadsOn Single bytes at (character_cells at 39) (at + 2)
+  single_pair l f =
+      let one = cell_at bytes at h (omega arith) (omega arith) in
+      let two = cell_at bytes (at + 1) l (omega arith) (omega arith) in
+      let both = run_then ((slice_index bytes at, at) ∷ []) ((slice_index bytes (at + 1), at + 1) ∷ []) one two in
+      let further : at + 1 + 1 ≡ at + 2 = omega arith in
+      subst (λ k. ReadsOn Single bytes at (character_cells at 39) k) further
+      (reads_on Single bytes at (at + 1 + 1) (character_cells at 39) both.same
+      (ap (part_in Single) both.text
+      ∙ single-pair (slice_index bytes at) at (slice_index bytes (at + 1), at + 1) (text_at bytes (at + 1 + 1)) e f))
 
 -- ---- behind a backslash
 
@@ -134,13 +155,13 @@ module _ (bytes : List ℕ) (at : ℕ) (h : at < length bytes) (e : slice_index 
   pub escape_cut : (q : ℕ) → at + 1 ≡ length bytes → double_quoted q (lines_at bytes at) ≡ Err (record { code = yaml.UnclosedQuote; at = q })
   escape_cut q f =
       let last : first_last (lines_at bytes at) ≡ true = slash.same.last ∙ ap first_last (lines-at_end bytes (at + 1) f) in
-      given_at bytes at q (Ok (record { text = []; stop = escaped })) (escape-part [] (text-line_end bytes (at + 1) (omega arith) (λ l. absurd (omega arith))))
+      given_at Double bytes at q (Ok (record { text = []; stop = escaped })) (escape-part [] (text-line_end bytes (at + 1) (omega arith) (λ l. absurd (omega arith))))
       ∙ given-end (double_part) q true (lines_at bytes at) (lines_at-some bytes at) last
 
-  pub escaped_break : (q : ℕ) → at + 1 < length bytes → IsLineEnd bytes (at + 1) → double_quoted q (lines_at bytes at) ≡ read_behind bytes (at + 1) true q
+  pub escaped_break : (q : ℕ) → at + 1 < length bytes → IsLineEnd bytes (at + 1) → double_quoted q (lines_at bytes at) ≡ read_behind Double bytes (at + 1) true q
   escaped_break q l k =
       let broke = break-at bytes (at + 1) l k in
-      given_at bytes at q (Ok (record { text = []; stop = escaped })) (escape-part [] (text-line_end bytes (at + 1) (omega arith) k))
+      given_at Double bytes at q (Ok (record { text = []; stop = escaped })) (escape-part [] (text-line_end bytes (at + 1) (omega arith) k))
       ∙ given-break (double_part) q true (lines_at bytes at) (lines_at-some bytes at) (slash.same.last ∙ broke.1)
       ∙ ap (λ ls. quoted_lines (double_part) q None ls) slash.same.later
 
@@ -159,12 +180,12 @@ module _ (bytes : List ℕ) (at : ℕ) (h : at < length bytes) (e : slice_index 
         ∙ ap (λ x. letter_given at (text_at bytes (at + 1 + 1)) x (lookup (λ k. k == slice_index bytes (at + 1)) digits_table)) f
         ∙ ap (letter_given at (text_at bytes (at + 1 + 1)) x) g
 
-    pub one_letter : (code : ℕ) → lookup (λ k. k == slice_index bytes (at + 1)) escape_table ≡ Some code → ReadsOn bytes at (character_cells at code) (at + 1 + 1)
-    one_letter code f = reads_on bytes at (at + 1 + 1) (character_cells at code) both.same (letter-part (Some code) (lookup (λ k. k == slice_index bytes (at + 1)) digits_table) f refl)
+    pub one_letter : (code : ℕ) → lookup (λ k. k == slice_index bytes (at + 1)) escape_table ≡ Some code → ReadsOn Double bytes at (character_cells at code) (at + 1 + 1)
+    one_letter code f = reads_on Double bytes at (at + 1 + 1) (character_cells at code) both.same (letter-part (Some code) (lookup (λ k. k == slice_index bytes (at + 1)) digits_table) f refl)
 
     pub no_letter : (q : ℕ) → lookup (λ k. k == slice_index bytes (at + 1)) escape_table ≡ None → lookup (λ k. k == slice_index bytes (at + 1)) digits_table ≡ None
         → double_quoted q (lines_at bytes at) ≡ Err (record { code = yaml.WrongEscape; at = at })
-    no_letter q f g = given_at bytes at q (Err (record { code = yaml.WrongEscape; at = at })) (letter-part None None f g)
+    no_letter q f g = given_at Double bytes at q (Err (record { code = yaml.WrongEscape; at = at })) (letter-part None None f g)
 
     -- digits behind the letter
     module _ (count : ℕ) (f : lookup (λ k. k == slice_index bytes (at + 1)) escape_table ≡ None) (g : lookup (λ k. k == slice_index bytes (at + 1)) digits_table ≡ Some count) where
@@ -177,7 +198,7 @@ module _ (bytes : List ℕ) (at : ℕ) (h : at < length bytes) (e : slice_index 
           (double_part (drop n (text_at bytes (at + 1 + 1))))) (has_digits (slice_index bytes (at + 1)) count g)
 
       pub wrong_digit : (q : ℕ) → hex_value 0 (take count (text_at bytes (at + 1 + 1))) ≡ None → double_quoted q (lines_at bytes at) ≡ Err (record { code = yaml.WrongEscape; at = at })
-      wrong_digit q e = given_at bytes at q (Err (record { code = yaml.WrongEscape; at = at }))
+      wrong_digit q e = given_at Double bytes at q (Err (record { code = yaml.WrongEscape; at = at }))
           (number-part ∙ ap (λ o. hex_escape at count (take count (text_at bytes (at + 1 + 1))) o
           (double_part (drop count (text_at bytes (at + 1 + 1))))) e)
 
@@ -206,13 +227,13 @@ module _ (bytes : List ℕ) (at : ℕ) (h : at < length bytes) (e : slice_index 
             long
             ∙ ap (λ r. cond (is_scalar_value code) (part_before (character_cells at code) r) (fault yaml.WrongEscape at)) behind
 
-        pub number : is_scalar_value code ≡ true → ReadsOn bytes at (character_cells at code) (at + 1 + 1 + count)
-        number e = reads_on bytes at (at + 1 + 1 + count) (character_cells at code) (same_then both.same b.0.same)
+        pub number : is_scalar_value code ≡ true → ReadsOn Double bytes at (character_cells at code) (at + 1 + 1 + count)
+        number e = reads_on Double bytes at (at + 1 + 1 + count) (character_cells at code) (same_then both.same b.0.same)
             (code-part ∙ ap (λ z. cond z (part_before (character_cells at code) (double_part (text_at bytes (at + 1 + 1 + count))))
             (fault yaml.WrongEscape at)) e)
 
         pub no_character : (q : ℕ) → is_scalar_value code ≡ false → double_quoted q (lines_at bytes at) ≡ Err (record { code = yaml.WrongEscape; at = at })
-        no_character q e = given_at bytes at q (Err (record { code = yaml.WrongEscape; at = at }))
+        no_character q e = given_at Double bytes at q (Err (record { code = yaml.WrongEscape; at = at }))
             (code-part ∙ ap (λ z. cond z (part_before (character_cells at code) (double_part (text_at bytes (at + 1 + 1 + count))))
             (fault yaml.WrongEscape at)) e)
 
@@ -235,7 +256,7 @@ module _ (bytes : List ℕ) (at : ℕ) (h : at < length bytes) (e : slice_index 
 
         short-given : (q : ℕ) (last : Bool) → first_last (lines_at bytes end) ≡ last → double_quoted q (lines_at bytes at) ≡ cond last (fault yaml.UnclosedQuote q) (fault yaml.WrongEscape at)
         short-given q last e =
-            given_at bytes at q (Ok (record { text = []; stop = cut_short at })) short-part
+            given_at Double bytes at q (Ok (record { text = []; stop = cut_short at })) short-part
             ∙ given-cut (double_part) q at (lines_at bytes at) (lines_at-some bytes at)
             ∙ ap (λ z. cond z (fault yaml.UnclosedQuote q) (fault yaml.WrongEscape at)) (both.same.last ∙ b.0.same.last ∙ e)
 
@@ -245,16 +266,8 @@ module _ (bytes : List ℕ) (at : ℕ) (h : at < length bytes) (e : slice_index 
         pub short_line : (q : ℕ) → end < length bytes → double_quoted q (lines_at bytes at) ≡ Err (record { code = yaml.WrongEscape; at = at })
         short_line q l = short-given q false (break-at bytes end l k).1
 
-or-cond : (x y : Bool) → (x || y) ≡ cond x true y
-or-cond true y = refl
-or-cond false y = refl
-
-not_true : (b : Bool) → (b ≡ true → ⊥) → b ≡ false
-not_true true h = absurd (h refl)
-not_true false h = refl
-
 pub scalar_value : (code : ℕ) → IsScalar code → is_scalar_value code ≡ true
-scalar_value code h = or-cond (nat_lt code 0xd800) (nat_le 0xe000 code && nat_lt code 0x110000) ∙ h
+scalar_value code h = grind (arith, nat_tests, h)
 
 pub no_scalar_value : (code : ℕ) → (IsScalar code → ⊥) → is_scalar_value code ≡ false
-no_scalar_value code h = not_true (is_scalar_value code) (λ e. h (sym (or-cond (nat_lt code 0xd800) (nat_le 0xe000 code && nat_lt code 0x110000)) ∙ e))
+no_scalar_value code h = false_from_ne_true (is_scalar_value code) (λ e. h (grind (arith, nat_tests, e)))

@@ -1,9 +1,10 @@
 -- Bytes at an offset and document markers.
-use Rattle.std.proofs.Common.{◌≡◌, ℕ, ◌+◌, ◌≤◌, List, [], ◌∷◌, length, slice_index, refl, sym, ap, ◌∙◌, arith, Bool, true, false, ◌&&◌, ◌==◌}
+use Rattle.std.proofs.Common.{◌≡◌, ℕ, ◌+◌, ◌≤◌, List, [], ◌∷◌, length, slice_index, refl, sym, ap, ◌∙◌, arith, Bool, true, false, ◌==◌}
+use Rattle.std.proofs.lemmas.Grind.{common_steps}
 use Rattle.al_scalar.specs.Line.{Cell, is_blank_or_end, begins, is_marker}
 use Rattle.al_scalar.specs.Places.{text_at}
 use Rattle.al_scalar.specs.LineEnds.{IsLineEnd}
-use Rattle.al_scalar.proofs.SingleLemmas.{text-line_end, never}
+use Rattle.al_scalar.proofs.LineCells.{text-line_end, never}
 use Rattle.al_scalar.proofs.PlainLemmas.{text_at-cell}
 
 -- ---- a byte at an offset
@@ -20,27 +21,17 @@ module _ (bytes : List ℕ) (i b : ℕ) (inside : i ≤ length bytes) where
 
 -- ---- markers
 
-and-false_at : (x y z : Bool) → false ≡ (x && false && y && z)
-and-false_at true y z = refl
-and-false_at false y z = refl
-
-and-false_third : (x y z : Bool) → false ≡ (x && y && false && z)
-and-false_third true true z = refl
-and-false_third true false z = refl
-and-false_third false y z = refl
-
 marker-second : (b : ℕ) (c : Cell) (t : List Cell) → false ≡ begins b t → false ≡ is_marker b (c ∷ t)
 marker-second b c [] h = refl
 marker-second b c (d ∷ []) h = refl
-marker-second b c (d ∷ e ∷ cs) h = and-false_at (c.0 == b) (e.0 == b) (is_blank_or_end cs) ∙ ap (λ x. (c.0 == b) && x && (e.0 == b) && is_blank_or_end cs) h
+marker-second b c (d ∷ e ∷ cs) h = grind (arith, common_steps, h)
 
 marker-third : (b : ℕ) (c d : Cell) (t : List Cell) → false ≡ begins b t → false ≡ is_marker b (c ∷ d ∷ t)
 marker-third b c d [] h = refl
-marker-third b c d (e ∷ cs) h = and-false_third (c.0 == b) (d.0 == b) (is_blank_or_end cs) ∙ ap (λ x. (c.0 == b) && (d.0 == b) && x && is_blank_or_end cs) h
+marker-third b c d (e ∷ cs) h = grind (arith, common_steps, h)
 
 marker-all : (b : ℕ) (c d e : Cell) (cs : List Cell) → true ≡ (c.0 == b) → true ≡ (d.0 == b) → true ≡ (e.0 == b) → is_blank_or_end cs ≡ is_marker b (c ∷ d ∷ e ∷ cs)
-marker-all b c d e cs h k m =
-    ap (λ x. x && true && true && is_blank_or_end cs) h ∙ ap (λ x. (c.0 == b) && x && true && is_blank_or_end cs) k ∙ ap (λ x. (c.0 == b) && (d.0 == b) && x && is_blank_or_end cs) m
+marker-all b c d e cs h k m = rw (← h, ← k, ← m) refl
 
 module _ (bytes : List ℕ) (i b : ℕ) (inside : i ≤ length bytes) where
   module _ (one : true ≡ begins b (text_at bytes i)) where

@@ -1,13 +1,12 @@
 -- Offsets of a scalar's text: they never fall, and lie in what the scalar takes; and how many bytes it has.
 use Rattle.std.proofs.Common.{◌≡◌, ℕ, zero, suc, ◌+◌, ◌*◌, ◌<◌, ◌≤◌, List, [], ◌∷◌, ◌++◌, length, length-append, drop, refl, sym, ap, subst}
-use Rattle.std.proofs.Common.{◌∙◌, arith, Bool, true, false, not, ◌&&◌, ◌||◌, ◌==◌, if◌then◌else◌, Result, Ok, Err}
+use Rattle.std.proofs.Common.{◌∙◌, arith, Bool, true, false, not, ◌&&◌, ◌||◌, ◌==◌, if◌then◌else◌, Option, Some, None}
 use Rattle.al_base.specs.Ascii.{ascii}
 use Rattle.al_scalar.specs.Line.{Cell, Line, lines, place, start, is_blank, after_blanks, is_break, with_cell, with_return}
 use Rattle.al_base.specs.FirstBytes.{begins_with}
 use Rattle.al_scalar.specs.Places.{first_text}
 use Rattle.al_scalar.specs.Offsets.{AreRising, AreClimbing, IsTail, AreLines}
-use Rattle.al_scalar.specs.Taken.{Taken, before, feeds, folded_break}
-use Rattle.al_scalar.specs.declared.faults.FaultAt.{FaultAt}
+use Rattle.al_scalar.specs.Taken.{feeds, folded_break}
 
 -- ---- cells that are taken
 
@@ -79,6 +78,10 @@ pub choose : {A : Type 0} (P : A → Type 0) (b : Bool) {x y : A} → (b ≡ tru
 choose P true h k = h refl
 choose P false h k = k refl
 
+pub choose-option : {A : Type 0} (P : A → Type 0) (o : Option ℕ) {x : A} {f : ℕ → A} → P x → ((n : ℕ) → o ≡ Some n → P (f n)) → P (elim o [ None ↦ x | Some n ↦ f n ])
+choose-option P None h k = h
+choose-option P (Some n) h k = k n refl
+
 pub climbing-blanks : (low end : ℕ) (cs : List Cell) → AreClimbing low end cs → AreClimbing low end (after_blanks cs)
 climbing-blanks low end [] h = h
 climbing-blanks low end (c ∷ cs) h =
@@ -134,17 +137,6 @@ lines-climb at (b ∷ bs) =
 pub lines-start : (low : ℕ) (ls : List Line) → AreLines low ls → low ≤ start ls
 lines-start low [] h = absurd h
 lines-start low (l ∷ ls) h = (climbing-place low l.end l.text h.0).0
-
--- ---- what is taken
-
--- what was taken comes from between an offset and its end, and what is left begins there or behind
-abbrev pub AreTaken : ℕ → Result Taken FaultAt → Type 0
-AreTaken low (Ok t) = IsFrom low t.end t.text × (t.end ≤ start t.left)
-AreTaken low (Err e) = Unit {0}
-
-pub taken-behind : (low mid : ℕ) (cs : List Cell) (r : Result Taken FaultAt) → IsFrom low mid cs → AreTaken mid r → AreTaken low (before cs r)
-taken-behind low mid cs (Ok t) h k = (from-join low mid t.end cs t.text h k.0, k.1)
-taken-behind low mid cs (Err e) h k = tt
 
 -- ---- breaks
 

@@ -3,13 +3,14 @@ use Rattle.std.proofs.Common.{◌≡◌, ◌≢◌, ℕ, zero, suc, ◌+◌, ◌
 use Rattle.std.proofs.Common.{arith, append_assoc, append-nil, Bool, true, false, ◌&&◌, ◌||◌, ◌==◌, nat_lt, cond, inl, inr, ◌⊎◌, ◌↔◌}
 use Rattle.std.proofs.Common.{IsTrue, eq-or-lt_of_le, subst}
 use Rattle.std.proofs.lemmas.Grind.{common_steps}
+use Rattle.std.proofs.Math.Bool.{and-false}
 use Rattle.al_scalar.specs.Line.{Cell, is_blank, is_blank_or_end, is_empty}
 use Rattle.al_scalar.specs.Plain.{Context, is_flow, is_flow_indicator, begins_flow_indicator, ends_key, is_value_colon, ends_plain, plain_part}
 use Rattle.al_scalar.specs.Places.{lines_at, text_at}
 use Rattle.al_scalar.specs.LineEnds.{cells_at, cells_between, AreBlank, IsBlankByte, IsLineEnd, SameLine}
 use Rattle.al_scalar.specs.Private.PlainLines.{IsWordAt, IsWordByte, PartTo}
 use Rattle.al_scalar.proofs.LineLemmas.{cells_between-none, cells_between-front, cells_between-more}
-use Rattle.al_scalar.proofs.SingleLemmas.{RunBefore, cell_at, text-line_end, is_blank-yes, is_blank-no, is_inside, never}
+use Rattle.al_scalar.proofs.LineCells.{RunBefore, cell_at, text-line_end, is_blank-yes, is_blank-no, is_inside, never}
 
 -- ---- the cell at an offset
 
@@ -33,27 +34,11 @@ blank_or_end-end bytes i h k = sym (ap is_blank_or_end (text-line_end bytes i h 
 
 -- ---- where a plain scalar ends
 
-or-first : (k f : Bool) → (false || k || false || (f && false)) ≡ k
-or-first true true = refl
-or-first true false = refl
-or-first false true = refl
-or-first false false = refl
-
-or-second : (k f : Bool) → (false || false || k || (f && false)) ≡ k
-or-second true true = refl
-or-second true false = refl
-or-second false true = refl
-or-second false false = refl
-
-pub and-false : (f : Bool) → (f && false) ≡ false
-and-false true = refl
-and-false false = refl
-
 pub ends-colon : (p : Context) (f : Bool) (c : Cell) (cs : List Cell) → c.0 ≡ 58 → ends_plain p f (c ∷ cs) ≡ ends_key p cs
-ends-colon p f c cs e = rw e (or-first (ends_key p cs) (is_flow p))
+ends-colon p f c cs e = rw e (grind (arith, common_steps))
 
 pub ends-hash : (p : Context) (f : Bool) (c : Cell) (cs : List Cell) → c.0 ≡ 35 → ends_plain p f (c ∷ cs) ≡ f
-ends-hash p f c cs e = rw e (or-second f (is_flow p))
+ends-hash p f c cs e = rw e (grind (arith, common_steps))
 
 pub ends-other : (p : Context) (f : Bool) (c : Cell) (cs : List Cell) → c.0 ≢ 58 → c.0 ≢ 35 → ends_plain p f (c ∷ cs) ≡ (is_flow p && is_flow_indicator c.0)
 ends-other p f c cs n m = grind (arith, common_steps, n, m)
@@ -156,6 +141,20 @@ part_more p first f bytes at i j e r b o h l k n s =
     e ∙ ap (in_front (cells_between bytes at i)) own ∙ ap (λ t. (t, more.1)) (sym (append_assoc (cells_between bytes at i) (run ++ c ∷ []) more.0) ∙ ap (λ t. t ++ more.0) (sym cells))
 
 -- ---- bytes of words
+
+pub letter_is_word : (b : ℕ) → 97 ≤ b → b ≤ 122 → IsWordByte b
+letter_is_word b h k =
+    let comma : b ≢ 44 = omega arith in
+    let bracket : b ≢ 91 = omega arith in
+    let closing : b ≢ 93 = omega arith in
+    let brace : b ≢ 123 = omega arith in
+    let last : b ≢ 125 = omega arith in
+    record {
+      solid = omega arith;
+      no_colon = omega arith;
+      no_hash = omega arith;
+      no_indicator = grind (arith, common_steps, comma, bracket, closing, brace, last);
+    }
 
 module _ (b : ℕ) (w : IsWordByte b) where
   word-feed : b ≢ 10

@@ -1,6 +1,7 @@
 -- The reader of plain scalars, one line after the other.
 use Rattle.std.proofs.Common.{◌≡◌, ◌≢◌, ℕ, ◌+◌, ◌<◌, ◌≤◌, List, [], ◌∷◌, ◌++◌, length, drop, slice_index, refl, sym, ap, ◌∙◌, append_assoc}
 use Rattle.std.proofs.Common.{append-nil, Bool, true, false, not, ◌&&◌, ◌==◌, cond, inl, inr, ◌⊎◌, eq-or-lt_of_le, Result, Ok, Err}
+use Rattle.std.proofs.lemmas.Bool.{and_parts, not-false, not-true}
 use Rattle.al_base.specs.declared.codes.YamlCode.TheVariants.{UnexpectedCharacter}
 use Rattle.al_scalar.specs.Line.{Cell, Line, lines, with_cell, with_return, is_break, place, cut, after_blanks, is_empty}
 use Rattle.al_scalar.specs.Taken.{Taken, before, fault, folded_break}
@@ -10,7 +11,7 @@ use Rattle.al_scalar.specs.Places.{first_text, first_end, lines_at, text_at}
 use Rattle.al_scalar.specs.LineEnds.{cells_between, with_cells_before, AreBlank, IsBlankByte, IsBreakAt, SameLine, broken_line, first_last, later}
 use Rattle.al_scalar.specs.Private.PlainLines.{is_blank_line, begins_blank_line, text_lines, empty_ends, here_at, after_part, PartTo}
 use Rattle.al_scalar.proofs.LineLemmas.{lines_at-other}
-use Rattle.al_scalar.proofs.SingleLemmas.{has_line, lines_at-some, lines-at_end, run_at, never}
+use Rattle.al_scalar.proofs.LineCells.{has_line, lines_at-some, lines-at_end, run_at, never}
 use Rattle.al_scalar.proofs.FoldLemmas.{after_blanks-run, after_blanks-solid, before-two, cut-same}
 use Rattle.al_scalar.proofs.RestLemmas.{text_kind, place-same}
 use Rattle.al_scalar.proofs.BlankLemmas.{after_blanks-none}
@@ -82,16 +83,12 @@ after-break p here run s ls h = ap (λ t. cond (is_empty t) (plain_lines p here 
 
 -- ---- the look-ahead
 
-and-left : (x y : Bool) → (x && y) ≡ true → x ≡ true
-and-left true y h = refl
-and-left false y h = cc
-
 skip-line : (p : Context) (here : Taken) (break : ℕ) (es : List ℕ) (l : Line) (ls : List Line) (b : Bool) → is_blank_line l ≡ b
     → plain_lines p here break (es ++ l.end ∷ []) ls ≡ plain_lines p here break ((es ++ l.end ∷ []) ++ empty_ends ls) (text_lines ls)
     → plain_lines p here break es (l ∷ ls) ≡ plain_lines p here break (es ++ cond b (l.end ∷ empty_ends ls) []) (cond b (text_lines ls) (l ∷ ls))
 skip-line p here break es l ls false e below = ap (λ es. plain_lines p here break es (l ∷ ls)) (sym (append-nil es))
 skip-line p here break es l ls true e below =
-    let blank : is_empty (after_blanks l.text) ≡ true = and-left (is_empty (after_blanks l.text)) (not l.last) e in
+    let blank : is_empty (after_blanks l.text) ≡ true = (and_parts (is_empty (after_blanks l.text)) (not l.last) e).0 in
     skipped p here break es l ls blank ∙ below ∙ ap (λ es. plain_lines p here break es (text_lines ls)) (append_assoc es (l.end ∷ []) (empty_ends ls))
   where
     skipped : (p : Context) (here : Taken) (break : ℕ) (es : List ℕ) (l : Line) (ls : List Line) → is_empty (after_blanks l.text) ≡ true
@@ -137,10 +134,6 @@ last-alone at (b ∷ bs) =
 stops-with : (p : Context) (here : Taken) (break : ℕ) (es : List ℕ) (l : Line) (ls : List Line) (x : Bool) → is_empty (after_blanks l.text) ≡ x → (l.last ≡ true → ls ≡ []) → (x && not l.last) ≡ false
     → (not x && continues p l.text) ≡ false → plain_lines p here break es (l ∷ ls) ≡ Ok here
 stops-with p here break es l ls true e a h k = rw (e, a (not-false l.last h)) refl
-  where
-    not-false : (b : Bool) → not b ≡ false → b ≡ true
-    not-false true h = refl
-    not-false false h = cc
 stops-with p here break es l ls false e a h k = rw (e, k) refl
 
 stops : (p : Context) (here : Taken) (break : ℕ) (es : List ℕ) (ls : List Line) → LastAlone ls → begins_blank_line ls ≡ false
@@ -215,24 +208,15 @@ begins-on p cells end (x ∷ xs) (y ∷ ys) h k s m z =
     ∙ ap (λ a. before cells (after_lines p (record { text = []; end = a; left = cut y.text x xs }) (cut y.text x xs))) z
     ∙ ap (λ ls. before cells (after_lines p (record { text = []; end = end; left = ls }) ls)) (cut-same x y xs ys s)
 
-not-true : (b : Bool) → not b ≡ true → b ≡ false
-not-true true h = cc
-not-true false h = refl
-
-and-both : (x y : Bool) → true ≡ (x && y) → (x ≡ true) × (y ≡ true)
-and-both true true h = (refl, refl)
-and-both true false h = absurd (never (sym h))
-and-both false y h = absurd (never (sym h))
-
 -- a part of a further line from solid to end, and the place behind the blanks after it
 module _ (p : Context) (bytes : List ℕ) (start solid end rest : ℕ) (text : after_blanks (text_at bytes start) ≡ text_at bytes solid)
     (goes : true ≡ (not (is_empty (text_at bytes solid)) && continues p (text_at bytes start))) (part : PartTo p true bytes solid end)
     (behind : after_blanks (text_at bytes end) ≡ text_at bytes rest) where
   has_text : is_empty (text_at bytes solid) ≡ false
-  has_text = not-true (is_empty (text_at bytes solid)) (and-both (not (is_empty (text_at bytes solid))) (continues p (text_at bytes start)) goes).0
+  has_text = not-true (is_empty (text_at bytes solid)) (and_parts (not (is_empty (text_at bytes solid))) (continues p (text_at bytes start)) (sym goes)).0
 
   goes_on : continues p (text_at bytes start) ≡ true
-  goes_on = (and-both (not (is_empty (text_at bytes solid))) (continues p (text_at bytes start)) goes).1
+  goes_on = (and_parts (not (is_empty (text_at bytes solid))) (continues p (text_at bytes start)) (sym goes)).1
 
   pub read_more : {x : Result Taken FaultAt} {mid new : List Cell} (here : Taken) (break : ℕ) (es : List ℕ) (old : List Cell) → false
       ≡ (not (is_flow p) && is_value_colon p (text_at bytes rest)) → end ≤ length bytes
@@ -251,7 +235,7 @@ module _ (p : Context) (bytes : List ℕ) (start solid end rest : ℕ) (text : a
   pub read_key : {x : Result Taken FaultAt} (here : Taken) (break : ℕ) (es : List ℕ) (old : List Cell) → rest ≤ length bytes → true ≡ (not (is_flow p) && is_value_colon p (text_at bytes rest))
       → x ≡ before old (plain_lines p here break es (lines_at bytes start)) → x ≡ Err (record { code = UnexpectedCharacter; at = rest })
   read_key here break es old h n e =
-      let colon = (and-both (not (is_flow p)) (is_value_colon p (text_at bytes rest)) n).1 in
+      let colon = (and_parts (not (is_flow p)) (is_value_colon p (text_at bytes rest)) (sym n)).1 in
       let z = first_end (lines_at bytes start) in
       e ∙ ap (before old) (goes-key p here break es (text_at bytes solid) (cells_between bytes solid end) (lines_at bytes start)
       (lines_at bytes end) (lines_at-some bytes start) (lines_at-some bytes end) text has_text goes_on part

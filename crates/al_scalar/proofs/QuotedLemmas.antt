@@ -4,12 +4,12 @@ use Rattle.al_base.specs.declared.codes.YamlCode.TheVariants as yaml
 use Rattle.al_scalar.specs.Line.{Cell, Line, cut, is_blank, after_blanks, is_empty}
 use Rattle.al_scalar.specs.Taken.{Taken, ◌>>=◌, before, folding_space, feeds, fault}
 use Rattle.al_scalar.specs.declared.faults.FaultAt.{FaultAt}
-use Rattle.al_scalar.specs.Quoted.{QuotedLine, QuotedEnd, closed, broken, escaped, cut_short, with_cells, part_before, line_given, is_empty_line, quoted_lines, quoted_scalar}
+use Rattle.al_scalar.specs.Quoted.{QuotedLine, QuotedEnd, closed, broken, escaped, cut_short, is_broken, with_cells, part_before, line_given, is_empty_line, quoted_lines, quoted_scalar}
 use Rattle.al_scalar.specs.Places.{first_text, first_end}
 use Rattle.al_scalar.specs.LineEnds.{IsBlankByte, SameLine, first_last, later}
 use Rattle.al_scalar.specs.Private.PlainLines.{is_blank_line, empty_ends, break_left}
 use Rattle.al_scalar.specs.Private.Folding.{solid_lines, break_of}
-use Rattle.al_scalar.proofs.SingleLemmas.{has_line, is_nothing}
+use Rattle.al_scalar.proofs.LineCells.{has_line}
 use Rattle.al_scalar.proofs.FoldLemmas.{before-two, before-none, line_given-before, given-line, cut-same}
 
 -- what the part of the first line gives with the lines behind it
@@ -95,6 +95,11 @@ given-cut part q at [] h = cc
 given-cut part q at (x ∷ xs) h = refl
 
 -- ---- folding
+
+-- whether a line's rest gives nothing
+
+abbrev pub is_nothing : QuotedLine → Bool
+is_nothing p = is_empty p.text && is_broken p.stop
 
 abbrev pub gives_nothing : Result QuotedLine FaultAt → Bool
 gives_nothing (Ok p) = is_nothing p

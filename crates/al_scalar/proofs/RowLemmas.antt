@@ -10,7 +10,7 @@ use Rattle.al_scalar.specs.Places.{first_text, first_end, lines_at}
 use Rattle.al_scalar.specs.LineEnds.{cells_at, cells_between, IsBlankByte, broken_line, SameLine, first_last, later}
 use Rattle.al_scalar.specs.Private.BlockRead.{row_like, rest, last_line}
 use Rattle.al_scalar.proofs.LineLemmas.{cells_between-front}
-use Rattle.al_scalar.proofs.SingleLemmas.{has_line, is_blank-yes, is_blank-no, lines-at_end, lines_at-some, never}
+use Rattle.al_scalar.proofs.LineCells.{has_line, is_blank-yes, is_blank-no, lines-at_end, lines_at-some, never}
 
 -- of a row only that matters whether it begins with a blank, and its break
 pub joint-like : (lit : Bool) (last : Option BlockLine) (es : List ℕ) (r s : BlockLine) → begins_blank r.text ≡ begins_blank s.text → joint lit last es r ≡ joint lit last es s

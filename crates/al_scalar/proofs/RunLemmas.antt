@@ -3,9 +3,10 @@ use Rattle.std.proofs.Common.{◌≡◌, ◌==◌, ℕ, zero, suc, ◌+◌, ◌-
 use Rattle.std.proofs.Common.{◌∙◌, arith, Bool, true, false, not, cond, map, take, drop, drop-cons, slice_range, slice_index}
 use Rattle.std.proofs.Math.Seq.{take-suc}
 use Rattle.std.proofs.lemmas.Grind.{common_steps}
+use Rattle.std.proofs.lemmas.Bool.{not-false}
 use Rattle.al_scalar.specs.Line.{Cell}
 use Rattle.al_scalar.specs.LineEnds.{cells_at, cells_between}
-use Rattle.al_scalar.specs.Private.Segments.{first_run, offset_in, offset_after, offset_from, offset_at, cells_from, AreBehind, AreFrom, IsRising, IsOrdered, GoesOn, AreInRange}
+use Rattle.al_scalar.specs.Private.Segments.{first_run, offset_in, offset_after, offset_from, offset_at, cells_from, AreBehind, AreFrom, IsRising, IsOrdered, GoesOn, AreInRange, run_cells}
 use Rattle.al_scalar.specs.declared.texts.Segment.{Segment}
 
 pub after-behind : (found : ℕ) (s : Segment) (i : ℕ) → s.index ≤ i → offset_after found s i ≡ offset_in s i
@@ -75,10 +76,6 @@ last-offset d at i (s ∷ ss) h z = ap (λ t. offset_in t i) (last-is d s ss) �
 pub equal : (a b : ℕ) → (a == b) ≡ true → a ≡ b
 equal a b h = grind (arith, common_steps, h)
 
-not-false : (b : Bool) → not b ≡ false → b ≡ true
-not-false true h = refl
-not-false false h = sym h
-
 moving : (last : Segment) (n at k : ℕ) → last.index ≤ n → not last.moves ≡ false → last.offset ≤ at → at - last.offset ≡ n - last.index → offset_in last (n + k) ≡ at + k
 moving last n at k b m o e =
     let sum : last.offset + ((n + k) - last.index) ≡ at + k = omega (arith, b, o, e) in
@@ -86,19 +83,20 @@ moving last n at k b m o e =
 
 pub goes-on : (last : Segment) (n at : ℕ) (ss : List Segment) → ((i : ℕ) → AreBehind i ss → offset_in last i ≡ offset_at ss i)
     → AreBehind n ss → last.index ≤ n → not last.moves ≡ false → last.offset ≤ at
-    → at - last.offset ≡ n - last.index → GoesOn ss n at
+    → at - last.offset ≡ n - last.index → GoesOn ss n at true
 goes-on last n at ss f h b m o e = λ k. sym (f (n + k) (AreBehind-up n (n + k) ss h (omega arith))) ∙ moving last n at k b m o e
 
 -- where there is no byte yet, the first run alone
-pub first-goes-on : (ss : List Segment) (at : ℕ) → length ss ≡ 0 → GoesOn (first_run at ∷ ss) 0 at
+pub first-goes-on : (ss : List Segment) (at : ℕ) → length ss ≡ 0 → GoesOn (first_run at ∷ ss) 0 at true
 first-goes-on ss at z = λ k. let sum : at + ((0 + k) - 0) ≡ at + k = omega arith in sym (only-offset at (0 + k) ss z) ∙ sum
 
 -- a run more, from the next byte on
-pub next-run : (ss new : List Segment) (s : Segment) (n at : ℕ) → s.index ≡ n → s.offset ≡ at → s.moves ≡ true → new ≡ ss ++ s ∷ [] → GoesOn new n at
-next-run ss new s n at i o m g = λ k.
-    let sum : s.offset + ((n + k) - s.index) ≡ at + k = omega (arith, i, o) in
-    ap (λ xs. offset_at xs (n + k)) g ∙ offset_from-more 0 ss s (n + k) ∙ after-behind (offset_at ss (n + k)) s (n + k) (omega (arith, i))
-    ∙ ap (λ b. cond b (s.offset + ((n + k) - s.index)) s.offset) m ∙ sum
+pub next-run : (ss new : List Segment) (n at : ℕ) (moves : Bool) → new ≡ ss ++ record { index = n; offset = at; moves = moves } ∷ [] → GoesOn new n at moves
+next-run ss new n at moves g = λ k.
+    let s : Segment = record { index = n; offset = at; moves = moves } in
+    let sum : at + ((n + k) - n) ≡ at + k = omega arith in
+    ap (λ xs. offset_at xs (n + k)) g ∙ offset_from-more 0 ss s (n + k) ∙ after-behind (offset_at ss (n + k)) s (n + k) (omega arith)
+    ∙ ap (λ o. cond moves o at) sum
 
 -- ---- cells
 
@@ -115,40 +113,35 @@ cells_from-two k (b ∷ bs) ds ss =
     let e : suc k + length bs ≡ k + suc (length bs) = omega arith in
     ap (λ cs. (b, offset_at ss k) ∷ cs) (cells_from-two (suc k) bs ds ss ∙ ap (λ j. cells_from (suc k) bs ss ++ cells_from j ds ss) e)
 
-run-cells : (file : List ℕ) (ss : List Segment) (n from k m : ℕ) → GoesOn ss n from → from + k + m ≤ length file → cells_from (n + k) (take m (drop (from + k) file)) ss ≡ cells_at file (from + k) m
-run-cells file ss n from k zero g h = refl
-run-cells file ss n from k (suc m) g h =
-    let next : suc (from + k) ≡ from + suc k = omega arith in
+cells-run : (ss : List Segment) (n at : ℕ) (moves : Bool) (k : ℕ) (ds : List ℕ) → GoesOn ss n at moves → cells_from (n + k) ds ss ≡ run_cells at moves k ds
+cells-run ss n at moves k [] g = refl
+cells-run ss n at moves k (d ∷ ds) g =
     let index : suc (n + k) ≡ n + suc k = omega arith in
-    let inside : from + k < length file = omega (arith, h) in
+    ap (λ o. (d, o) ∷ cells_from (suc (n + k)) ds ss) (g k)
+    ∙ ap (λ cs. (d, cond moves (at + k) at) ∷ cs) (ap (λ j. cells_from j ds ss) index ∙ cells-run ss n at moves (suc k) ds g)
+
+pub new-run : (ss : List Segment) (n at : ℕ) (moves : Bool) (ds : List ℕ) → GoesOn ss n at moves → cells_from n ds ss ≡ run_cells at moves 0 ds
+new-run ss n at moves ds g = let index : n ≡ n + 0 = omega arith in ap (λ j. cells_from j ds ss) index ∙ cells-run ss n at moves 0 ds g
+
+file-run : (file : List ℕ) (from k m : ℕ) → from + k + m ≤ length file → run_cells from true k (take m (drop (from + k) file)) ≡ cells_at file (from + k) m
+file-run file from k zero h = refl
+file-run file from k (suc m) h =
+    let next : suc (from + k) ≡ from + suc k = omega arith in
     let b = slice_index file (from + k) in
-    ap (λ xs. cells_from (n + k) (take (suc m) xs) ss) (drop-cons file (from + k) 0 inside)
-    ∙ ap (λ o. (b, o) ∷ cells_from (suc (n + k)) (take m (drop (suc (from + k)) file)) ss) (g k)
+    ap (λ xs. run_cells from true k (take (suc m) xs)) (drop-cons file (from + k) 0 (omega (arith, h)))
     ∙ ap (λ cs. (b, from + k) ∷ cs)
-    (ap (λ j. cells_from j (take m (drop (suc (from + k)) file)) ss) index ∙ ap (λ j. cells_from (n + suc k) (take m (drop j file)) ss) next
-    ∙ run-cells file ss n from (suc k) m g (omega (arith, h)) ∙ ap (λ j. cells_at file j m) (sym next))
+    (ap (λ j. run_cells from true (suc k) (take m (drop j file))) next ∙ file-run file from (suc k) m (omega (arith, h)) ∙ ap (λ j. cells_at file j m) (sym next))
 
 -- the cells of a part of the file
-pub run-between : (file : List ℕ) (ss : List Segment) (n from to : ℕ) → GoesOn ss n from → from ≤ to → to ≤ length file → cells_from n (slice_range file from to) ss ≡ cells_between file from to
-run-between file ss n from to g h l =
+pub run-between : (file : List ℕ) (from to : ℕ) → from ≤ to → to ≤ length file → run_cells from true 0 (slice_range file from to) ≡ cells_between file from to
+run-between file from to h l =
     let e : from + 0 ≡ from = omega arith in
-    let i : n + 0 ≡ n = omega arith in
-    ap (λ j. cells_from j (take (to - from) (drop from file)) ss) (sym i) ∙ ap (λ j. cells_from (n + 0) (take (to - from) (drop j file)) ss) (sym e)
-    ∙ run-cells file ss n from 0 (to - from) g (omega (arith, h, l)) ∙ ap (λ j. cells_at file j (to - from)) e
+    ap (λ j. run_cells from true 0 (take (to - from) (drop j file))) (sym e) ∙ file-run file from 0 (to - from) (omega (arith, h, l)) ∙ ap (λ j. cells_at file j (to - from)) e
 
--- the cell of a byte
-pub byte-cell : (ss : List Segment) (n at b : ℕ) → GoesOn ss n at → cells_from n (b ∷ []) ss ≡ (b, at) ∷ []
-byte-cell ss n at b g =
-    let i : n ≡ n + 0 = omega arith in
-    let o : at + 0 ≡ at = omega arith in
-    ap (λ x. (b, x) ∷ []) (ap (offset_at ss) i ∙ g 0 ∙ o)
-
--- the cells of an escape, whose run is the last one
-pub escape-cells : (k : ℕ) (ds : List ℕ) (ss : List Segment) (s : Segment) → s.index ≤ k → s.moves ≡ false → cells_from k ds (ss ++ s ∷ []) ≡ map (λ b. (b, s.offset)) ds
-escape-cells k [] ss s h m = refl
-escape-cells k (d ∷ ds) ss s h m =
-    let here = offset_from-more 0 ss s k ∙ after-behind (offset_at ss k) s k h ∙ ap (λ x. cond x (s.offset + (k - s.index)) s.offset) m in
-    ap (λ o. (d, o) ∷ cells_from (suc k) ds (ss ++ s ∷ [])) here ∙ ap (λ cs. (d, s.offset) ∷ cs) (escape-cells (suc k) ds ss s (omega (arith, h)) m)
+-- the cells of an escape
+pub escape-run : (at k : ℕ) (ds : List ℕ) → run_cells at false k ds ≡ map (λ b. (b, at)) ds
+escape-run at k [] = refl
+escape-run at k (d ∷ ds) = ap (λ cs. (d, at) ∷ cs) (escape-run at (suc k) ds)
 
 -- ---- what a push leaves
 

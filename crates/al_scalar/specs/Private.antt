@@ -1,11 +1,10 @@
 -- Words that only contracts of private functions need: no definition of what the product means stands on them.
 pub mod BlockRead
 pub mod Contract
-pub mod Double
 pub mod Folding
 pub mod Forms
 pub mod PlainLines
+pub mod QuotedRead
 pub mod Reads
 pub mod Segments
-pub mod Single
 pub mod Values

@@ -1,4 +1,5 @@
 -- Quoted scalars (7.3.1 double-quoted, 7.3.2 single-quoted, 5.7 escaped characters, 6.5 line folding).
+use Rattle.std.specs.Bool.{then_some}
 use Rattle.std.specs.Prelude.{ℕ, zero, suc, ◌+◌, ◌*◌, ◌-◌, List, [], ◌∷◌, ◌++◌, map, Bool, true, false, not, ◌&&◌, ◌||◌}
 use Rattle.std.specs.Prelude.{◌==◌, nat_le, nat_lt, if◌then◌else◌, Option, Some, None, Result, Ok, encode_utf8}
 use Rattle.std.specs.Char.{digit_value}
@@ -106,18 +107,13 @@ abbrev mutual
   escape_digits at (suc n) value (c ∷ cs) =
       elim (hex_digit c.0) [ None ↦ fault yaml.WrongEscape at | Some d ↦ escape_digits at n (16 * value + d) cs ]
 
--- The break after a line, which is folded unless it is escaped.
-abbrev pub break_after : QuotedEnd → Line → Option ℕ
-break_after broken l = Some l.end
-break_after _ l = None
-
--- What a line gives, by how the scalar leaves it. quote is the opening quote.
+-- What a line gives, by how the scalar leaves it; its break is folded unless it is escaped. quote is the opening quote.
 abbrev pub line_given : ℕ → List Cell → QuotedLine → Line → List Line → (Option ℕ → Result Taken FaultAt) → Result Taken FaultAt
 line_given quote space p l ls below =
     elim p.stop [
       | closed end rest ↦ Ok (record { text = space ++ p.text; end = end; left = cut rest l ls })
       | cut_short at ↦ (if l.last then fault yaml.UnclosedQuote quote else fault yaml.WrongEscape at)
-      | _ ↦ (if l.last then fault yaml.UnclosedQuote quote else before (space ++ p.text) (below (break_after p.stop l)))
+      | _ ↦ (if l.last then fault yaml.UnclosedQuote quote else before (space ++ p.text) (below (then_some (is_broken p.stop) l.end)))
     ]
 
 -- a line between the first and the last that is all blanks

@@ -4,14 +4,14 @@ ghost use Rattle.std.specs.Prelude.{◌≡◌, ◌+◌, ◌<◌, ◌≤◌, ◌^
 ghost use Rattle.al_scalar.specs.Block.{block_scalar, found_indent, content_indent, row_of};
 ghost use Rattle.al_scalar.specs.Block.{own_break, final_breaks, joint, text_after, rows_end};
 ghost use Rattle.al_scalar.specs.Private.BlockRead.{RowStarts, ReadsRows, last_row, row_like, RowTo, indent_from};
-ghost use Rattle.al_scalar.specs.Private.BlockRead.{AddsRow, EndsRow, last_line, is_said};
+ghost use Rattle.al_scalar.specs.Private.BlockRead.{AddsRow, EndsRow, last_line};
 ghost use Rattle.al_scalar.specs.Places.{lines_at, text_at};
 ghost use Rattle.al_scalar.specs.LineEnds.{cells_between, IsLineEnd, BlankTo};
 ghost use Rattle.al_scalar.specs.Private.Reads.{Gives, StaysWithin};
 ghost use Rattle.al_scalar.specs.Taken.{feeds, folded_break};
 
 use crate::faults::FaultAt;
-use crate::header::{Chomping, Header, header_fault, indicators};
+use crate::header::{Chomping, header_fault, indicators};
 use crate::lines::{after_break, blank_line_end, indent, is_blank, line_end, spaces_end};
 use crate::reads::Taken;
 use crate::texts::Text;
@@ -337,27 +337,15 @@ fn read_rows(
     }
 }
 
-/// How the lines after a header are read; the first of them begins at an offset.
-fn block_style(bytes: &[u8], first: usize, header: Header, literal: bool, within: u32) -> BlockStyle
+/// The indent of the content: by the digit of the header, or else by the lines after it, the first of which begins at an
+/// offset.
+fn content_indent(bytes: &[u8], first: usize, digit: Option<u8>, within: u32) -> Option<usize>
     requires { first ≤ length bytes.now }
-    ensures literal { result.literal ≡ literal }
-    ensures chomping { result.chomping ≡ header.chomping }
-    ensures indent { result.indent ≡ content_indent header.digit within (lines_at bytes.now first) }
-    ensures explicit { result.explicit ≡ is_said header.digit }
+    ensures { result ≡ content_indent digit within (lines_at bytes.now first) }
 {
-    match header.digit {
-        Some(digit) => BlockStyle {
-            literal,
-            chomping: header.chomping,
-            indent: Some(digit as usize + (within as usize).saturating_sub(1)),
-            explicit: true,
-        },
-        None => BlockStyle {
-            literal,
-            chomping: header.chomping,
-            indent: find_indent(bytes, first, within as usize),
-            explicit: false,
-        },
+    match digit {
+        Some(digit) => Some(digit as usize + (within as usize).saturating_sub(1)),
+        None => find_indent(bytes, first, within as usize),
     }
 }
 
@@ -377,14 +365,11 @@ pub fn read_block(
     ensures within { IfOk result (λ read. StaysWithin bytes.now at read) }
 {
     let header = indicators(bytes, at + 1);
-    match header_fault(bytes, header.end) {
-        Some(place) => {
-            return Ok(Err(FaultAt {
-                code: YamlCode::WrongBlockHeader,
-                at: place,
-            }));
-        }
-        None => {}
+    if let Some(place) = header_fault(bytes, header.end) {
+        return Ok(Err(FaultAt {
+            code: YamlCode::WrongBlockHeader,
+            at: place,
+        }));
     }
     let mut text = Text::new(alloc);
     let end = line_end(bytes, header.end);
@@ -396,7 +381,12 @@ pub fn read_block(
         }));
     }
     let first = after_break(bytes, end);
-    let style = block_style(bytes, first, header, literal, within);
+    let style = BlockStyle {
+        literal,
+        chomping: header.chomping,
+        indent: content_indent(bytes, first, header.digit, within),
+        explicit: header.digit.is_some(),
+    };
     let rows = read_rows(alloc, &mut text, bytes, first, style, header.end)?;
     Ok(Ok(Taken {
         text,

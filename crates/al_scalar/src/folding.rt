@@ -1,11 +1,10 @@
-//! Breaks inside quoted scalars (YAML 1.2.2, 6.5 and 7.3.1).
+//! Breaks inside plain and quoted scalars (YAML 1.2.2, 6.5 and 7.3).
 
 ghost use Rattle.std.specs.Prelude.{◌≡◌, ◌<◌, ◌≤◌, ◌^◌, ◌++◌, length, IfOk};
 ghost use Rattle.al_scalar.specs.Places.{lines_at};
 ghost use Rattle.al_scalar.specs.LineEnds.{later, IsLineEnd};
 ghost use Rattle.al_scalar.specs.Private.PlainLines.{empty_ends, break_left};
 ghost use Rattle.al_scalar.specs.Private.Folding.{solid_lines};
-ghost use Rattle.al_base.specs.Growth.{BeginsWith};
 
 use crate::lines::{after_break, blanks_end, is_break_at};
 use crate::texts::Text;
@@ -14,8 +13,7 @@ use std::alloc::AllocError;
 /// Folds the break at an offset and the empty lines after it, and returns where the next text begins. An escaped break
 /// adds nothing itself (YAML 1.2.2, 6.5 and 7.3.1).
 ///
-/// Fails with `AllocError` when out of memory; the text then still begins with what it held before.
-#[tactic(auto, using(al_base::proofs::Growing::growth))]
+/// Fails with `AllocError` when out of memory.
 pub fn fold_break(
     text: &mut Text,
     bytes: &[u8],
@@ -32,7 +30,6 @@ pub fn fold_break(
     ensures text { IfOk result
         (λ _. text.new
         ≡ text.old ++ break_left escaped end (empty_ends (later (lines_at bytes.now end)))) }
-    ensures begins { BeginsWith text.new text.old }
 {
     let mut start = after_break(bytes, end);
     let mut folded = escaped;

@@ -72,22 +72,12 @@ fn behind_digit(bytes: &[u8], at: usize, digit: u8) -> Header
     ensures { Indicates bytes.now at (header (Some digit) None at (text_at bytes.now at)) result }
 {
     match first_byte(bytes, at) {
-        Some(b) => {
-            if is_sign(b) {
-                Header {
-                    digit: Some(digit),
-                    chomping: chomping_of(b),
-                    end: at + 1,
-                }
-            } else {
-                Header {
-                    digit: Some(digit),
-                    chomping: Chomping::Clip,
-                    end: at,
-                }
-            }
-        }
-        None => Header {
+        Some(byte) if is_sign(byte) => Header {
+            digit: Some(digit),
+            chomping: chomping_of(byte),
+            end: at + 1,
+        },
+        _ => Header {
             digit: Some(digit),
             chomping: Chomping::Clip,
             end: at,
@@ -101,22 +91,12 @@ fn behind_sign(bytes: &[u8], at: usize, chomping: Chomping) -> Header
     ensures { Indicates bytes.now at (header None (Some chomping) at (text_at bytes.now at)) result }
 {
     match first_byte(bytes, at) {
-        Some(b) => {
-            if is_digit(b) {
-                Header {
-                    digit: Some(b - b'0'),
-                    chomping,
-                    end: at + 1,
-                }
-            } else {
-                Header {
-                    digit: None,
-                    chomping,
-                    end: at,
-                }
-            }
-        }
-        None => Header {
+        Some(byte) if is_digit(byte) => Header {
+            digit: Some(byte - b'0'),
+            chomping,
+            end: at + 1,
+        },
+        _ => Header {
             digit: None,
             chomping,
             end: at,
@@ -130,20 +110,9 @@ pub fn indicators(bytes: &[u8], at: usize) -> Header
     ensures { Indicates bytes.now at (header None None at (text_at bytes.now at)) result }
 {
     match first_byte(bytes, at) {
-        Some(b) => {
-            if is_digit(b) {
-                behind_digit(bytes, at + 1, b - b'0')
-            } else if is_sign(b) {
-                behind_sign(bytes, at + 1, chomping_of(b))
-            } else {
-                Header {
-                    digit: None,
-                    chomping: Chomping::Clip,
-                    end: at,
-                }
-            }
-        }
-        None => Header {
+        Some(byte) if is_digit(byte) => behind_digit(bytes, at + 1, byte - b'0'),
+        Some(byte) if is_sign(byte) => behind_sign(bytes, at + 1, chomping_of(byte)),
+        _ => Header {
             digit: None,
             chomping: Chomping::Clip,
             end: at,

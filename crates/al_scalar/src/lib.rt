@@ -3,17 +3,16 @@
 
 mod block;
 mod class;
-mod double;
 mod examples;
 mod faults;
 mod folding;
 mod header;
 pub mod lines;
 mod plain;
+mod quoted;
 mod reader;
 mod reads;
 mod scalars;
-mod single;
 mod styles;
 mod texts;
 

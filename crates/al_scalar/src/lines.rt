@@ -2,6 +2,7 @@
 
 ghost use Rattle.std.specs.Prelude.{◌≡◌, ◌≢◌, ◌∷◌, ◌+◌, ◌<◌, ◌≤◌, length, IsTrue, ◌↔◌, slice_index};
 ghost use Rattle.al_scalar.specs.Line as line;
+ghost use Rattle.al_scalar.specs.Plain as plain;
 ghost use Rattle.al_scalar.specs.Places.{first_end, lines_at, text_at};
 ghost use Rattle.al_scalar.specs.LineEnds.{cells_between, with_cells_before, broken_line, AreBlank};
 ghost use Rattle.al_scalar.specs.LineEnds.{AreSpaces, IsBlankByte, IsLineEnd, IsBreakAt, OnLine, BlankTo, FirstByte};
@@ -43,6 +44,13 @@ pub fn is_blank(byte: u8) -> bool
     ensures { IsTrue result ↔ IsBlankByte byte }
 {
     byte == b' ' || byte == b'\t'
+}
+
+/// Whether a byte is one of `,[]{}`.
+pub fn is_flow_indicator(byte: u8) -> bool
+    ensures { result ≡ plain.is_flow_indicator byte }
+{
+    byte == b',' || byte == b'[' || byte == b']' || byte == b'{' || byte == b'}'
 }
 
 /// The offset after the blanks at an offset.
@@ -91,6 +99,10 @@ pub fn line_end(bytes: &[u8], at: usize) -> usize
     ensures text { text_at bytes.now at ≡ cells_between bytes.now at result }
     ensures end { first_end (lines_at bytes.now at) ≡ result }
 {
+    // often a scalar has just been read up to the end of its line
+    if is_line_end(bytes, at) {
+        return at;
+    }
     match memchr2(b'\n', b'\r', &bytes[at..]) {
         Some(break_at) => at + break_at,
         None => bytes.len(),

@@ -1,18 +1,18 @@
 //! Plain scalars (YAML 1.2.2, 7.3.3).
 
-ghost use Rattle.std.specs.Prelude.{◌≡◌, ◌<◌, ◌≤◌, ◌^◌, ◌++◌, false, not, ◌&&◌, ◌||◌, nat_lt, length, IfOk, IsTrue};
+ghost use Rattle.std.specs.Prelude.{◌≡◌, ◌<◌, ◌≤◌, ◌^◌, false, not, ◌&&◌, ◌||◌, nat_lt, length, IfOk, IsTrue};
 ghost use Rattle.al_scalar.specs.Line as line;
 ghost use Rattle.al_scalar.specs.Places.{lines_at, text_at};
 ghost use Rattle.al_scalar.specs.LineEnds.{SameLine};
 ghost use Rattle.al_scalar.specs.Plain as plain;
-ghost use Rattle.al_scalar.specs.Private.PlainLines.{context_of, begins_blank_line, text_lines, empty_ends, IsWordAt, IsWordByte, PartTo};
+ghost use Rattle.al_scalar.specs.Private.PlainLines.{context_of, begins_blank_line, text_lines, IsWordAt, IsWordByte, PartTo};
 ghost use Rattle.al_scalar.specs.Private.Reads.{Gives, StaysWithin};
-ghost use Rattle.al_scalar.specs.Taken.{folded_break};
 
 use crate::faults::FaultAt;
+use crate::folding::fold_break;
 use crate::lines::{
     after_break, begins, blanks_end, indent, is_blank_or_end, is_break_at, is_document_marker,
-    is_line_end,
+    is_flow_indicator, is_line_end,
 };
 use crate::reads::Taken;
 use crate::texts::Text;
@@ -34,13 +34,6 @@ pub fn is_flow(context: PlainContext) -> bool
         PlainContext::Flow => true,
         PlainContext::Block(_) => false,
     }
-}
-
-/// Whether a byte is one of `,[]{}`.
-fn is_flow_indicator(byte: u8) -> bool
-    ensures { result ≡ plain.is_flow_indicator byte }
-{
-    byte == b',' || byte == b'[' || byte == b']' || byte == b'{' || byte == b'}'
 }
 
 /// Whether a colon before an offset separates a key from its value.
@@ -98,6 +91,10 @@ fn is_behind_blank(before: bool, from: usize, to: usize) -> bool
 fn is_word(byte: u8) -> bool
     ensures { IsTrue result → IsWordByte byte }
 {
+    // most are letters
+    if byte >= b'a' && byte <= b'z' {
+        return true;
+    }
     byte > b' ' && byte != b':' && byte != b'#' && !is_flow_indicator(byte)
 }
 
@@ -149,31 +146,6 @@ fn text_line(bytes: &[u8], from: usize) -> usize
             return start;
         }
         start = after_break(bytes, solid);
-    }
-}
-
-/// Adds a break and the breaks of the blank lines after it, folded.
-fn push_break(text: &mut Text, bytes: &[u8], end: usize, next: usize) -> Result<(), AllocError>
-    requires order { end < length bytes.now }
-    requires inside { next ≤ length bytes.now }
-    requires size { length bytes.now < 2 ^ 32 }
-    ensures { IfOk result
-        (λ _. text.new ≡ text.old ++ folded_break end (empty_ends (lines_at bytes.now next))) }
-{
-    let mut start = next;
-    let mut folded = false;
-    'blank_lines: loop {
-        let solid = blanks_end(bytes, start);
-        if !is_break_at(bytes, solid) {
-            if !folded {
-                text.push(b' ', end)?;
-            }
-            return Ok(());
-        }
-        let behind = after_break(bytes, solid);
-        text.push(b'\n', solid)?;
-        folded = true;
-        start = behind;
     }
 }
 
@@ -277,7 +249,7 @@ pub fn read_plain(
                 at: rest,
             }));
         }
-        push_break(&mut text, bytes, line_end, next)?;
+        fold_break(&mut text, bytes, line_end, false)?;
         text.push_run(bytes, solid, part_end)?;
         end = part_end;
     }

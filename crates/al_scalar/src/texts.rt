@@ -1,11 +1,11 @@
 //! Decoded texts, each byte with the file offset it came from.
 
-ghost use Rattle.std.specs.Prelude.{◌≡◌, ℕ, ◌+◌, ◌<◌, ◌≤◌, ◌^◌, List, [], ◌∷◌, ◌++◌, length, map, IsTrue, IfOk, OnErr};
+ghost use Rattle.std.specs.Prelude.{◌≡◌, ℕ, ◌+◌, ◌<◌, ◌≤◌, ◌^◌, List, [], ◌∷◌, ◌++◌, length, map, true, IsTrue, IfOk, OnErr};
 ghost use Rattle.al_scalar.specs.Line.{Cell};
 ghost use Rattle.al_scalar.specs.LineEnds.{cells_between};
 ghost use Rattle.al_scalar.specs.Scalar.{offset_or};
 ghost use Rattle.al_scalar.specs.Private.Segments.{first_run, offset_in, offset_at, cells_from, AreBehind, AreInRange, IsRising};
-ghost use Rattle.al_scalar.specs.Private.Segments.{IsOrdered, GoesOn};
+ghost use Rattle.al_scalar.specs.Private.Segments.{IsOrdered, GoesOn, run_cells};
 ghost use Rattle.al_scalar.specs.Private.Forms.{short_cells, IsSound};
 ghost use Rattle.al_scalar.specs.declared.texts.Form.TheVariants.{Short};
 
@@ -91,7 +91,7 @@ impl Runs {
     /// Whether an offset continues those of the last run, which extends to an index.
     fn goes_on(&self, index: usize, at: u32) -> bool
         requires { AreBehind index self.now }
-        ensures { IsTrue result → GoesOn self.now index at }
+        ensures { IsTrue result → GoesOn self.now index at true }
     {
         let last = self.last();
         if !last.moves {
@@ -103,25 +103,25 @@ impl Runs {
         (at - last.offset) as usize == index - last.index
     }
 
-    /// Sets the offset of the next byte, at an index; offsets increase from there.
-    fn begin(&mut self, index: usize, at: u32) -> Result<(), AllocError>
+    /// Sets the offset of the next byte, at an index; those of the bytes after it increase from there or are the same.
+    fn begin(&mut self, index: usize, at: u32, moves: bool) -> Result<(), AllocError>
         requires { IsOrdered index self.old }
         ensures order { IsOrdered index self.new }
         ensures cells { (bs : List ℕ) → length bs ≡ index
             → cells_from 0 bs self.new ≡ cells_from 0 bs self.old }
-        ensures next { IfOk result (λ _. GoesOn self.new index at) }
+        ensures next { IfOk result (λ _. GoesOn self.new index at moves) }
     {
-        if index == 0 && self.rest.is_empty() {
+        if moves && index == 0 && self.rest.is_empty() {
             self.first = at;
             return Ok(());
         }
-        if self.goes_on(index, at) {
+        if moves && self.goes_on(index, at) {
             return Ok(());
         }
         self.push(Segment {
             index,
             offset: at,
-            moves: true,
+            moves,
         })?;
         Ok(())
     }
@@ -193,42 +193,13 @@ impl LongText {
         })
     }
 
-    /// Adds a byte that came from an offset.
-    fn push(&mut self, byte: u8, at: usize) -> Result<(), AllocError>
-        requires { at < 2 ^ 32 }
-        ensures added { IfOk result (λ _. self.new ≡ self.old ++ (byte, at) ∷ []) }
-        ensures stays { OnErr result (self.new ≡ self.old) }
+    /// Adds bytes, of which the first came from an offset, and each further one from the next or, in an escape, the same.
+    fn push(&mut self, bytes: &[u8], at: u32, moves: bool) -> Result<(), AllocError>
+        requires { AreInRange (run_cells at moves 0 bytes.now) }
+        ensures { IfOk result (λ _. self.new ≡ self.old ++ run_cells at moves 0 bytes.now) }
     {
-        self.runs.begin(self.bytes.len(), at as u32)?;
-        self.bytes.push(byte)?;
-        Ok(())
-    }
-
-    /// Adds the bytes of a file from an offset up to another one.
-    fn push_run(&mut self, file: &[u8], from: usize, to: usize) -> Result<(), AllocError>
-        requires order { from ≤ to }
-        requires inside { to ≤ length file.now }
-        requires size { length file.now < 2 ^ 32 }
-        ensures added { IfOk result (λ _. self.new ≡ self.old ++ cells_between file.now from to) }
-        ensures stays { OnErr result (self.new ≡ self.old) }
-    {
-        self.runs.begin(self.bytes.len(), from as u32)?;
-        self.bytes.extend_from_slice(&file[from..to])?;
-        Ok(())
-    }
-
-    /// Adds the bytes that an escape at an offset stands for.
-    fn push_escape(&mut self, decoded: &[u8], at: usize) -> Result<(), AllocError>
-        requires { at < 2 ^ 32 }
-        ensures added { IfOk result (λ _. self.new ≡ self.old ++ map (λ b. (b, at)) decoded.now) }
-        ensures stays { OnErr result (self.new ≡ self.old) }
-    {
-        self.runs.push(Segment {
-            index: self.bytes.len(),
-            offset: at as u32,
-            moves: false,
-        })?;
-        self.bytes.extend_from_slice(decoded)?;
+        self.runs.begin(self.bytes.len(), at, moves)?;
+        self.bytes.extend_from_slice(bytes)?;
         Ok(())
     }
 
@@ -311,21 +282,28 @@ impl Text {
         }
     }
 
-    /// Adds a byte that came from an offset.
-    pub fn push(&mut self, byte: u8, at: usize) -> Result<(), AllocError>
-        requires { at < 2 ^ 32 }
-        ensures added { IfOk result (λ _. self.new ≡ self.old ++ (byte, at) ∷ []) }
-        ensures stays { OnErr result (self.new ≡ self.old) }
+    /// Adds bytes, of which the first came from an offset, and each further one from the next or, in an escape, the same.
+    fn extend(&mut self, bytes: &[u8], at: u32, moves: bool) -> Result<(), AllocError>
+        requires { AreInRange (run_cells at moves 0 bytes.now) }
+        ensures { IfOk result (λ _. self.new ≡ self.old ++ run_cells at moves 0 bytes.now) }
     {
         match &mut self.form {
-            Form::Long(text) => text.push(byte, at),
+            Form::Long(text) => text.push(bytes, at, moves),
             Form::Short(short) => {
                 let mut text = short.to_long(self.alloc)?;
-                text.push(byte, at)?;
+                text.push(bytes, at, moves)?;
                 self.form = Form::Long(Box::new(self.alloc, text)?);
                 Ok(())
             }
         }
+    }
+
+    /// Adds a byte that came from an offset.
+    pub fn push(&mut self, byte: u8, at: usize) -> Result<(), AllocError>
+        requires { at < 2 ^ 32 }
+        ensures { IfOk result (λ _. self.new ≡ self.old ++ (byte, at) ∷ []) }
+    {
+        self.extend(&[byte], at as u32, true)
     }
 
     /// Adds the bytes of a file from an offset up to another one.
@@ -333,8 +311,7 @@ impl Text {
         requires order { from ≤ to }
         requires inside { to ≤ length file.now }
         requires size { length file.now < 2 ^ 32 }
-        ensures added { IfOk result (λ _. self.new ≡ self.old ++ cells_between file.now from to) }
-        ensures stays { OnErr result (self.new ≡ self.old) }
+        ensures { IfOk result (λ _. self.new ≡ self.old ++ cells_between file.now from to) }
     {
         let count = to - from;
         if let Form::Short(short) = &mut self.form {
@@ -345,32 +322,15 @@ impl Text {
                 return Ok(());
             }
         }
-        match &mut self.form {
-            Form::Long(text) => text.push_run(file, from, to),
-            Form::Short(short) => {
-                let mut text = short.to_long(self.alloc)?;
-                text.push_run(file, from, to)?;
-                self.form = Form::Long(Box::new(self.alloc, text)?);
-                Ok(())
-            }
-        }
+        self.extend(&file[from..to], from as u32, true)
     }
 
     /// Adds the bytes that an escape at an offset stands for.
     pub fn push_escape(&mut self, decoded: &[u8], at: usize) -> Result<(), AllocError>
         requires { at < 2 ^ 32 }
-        ensures added { IfOk result (λ _. self.new ≡ self.old ++ map (λ b. (b, at)) decoded.now) }
-        ensures stays { OnErr result (self.new ≡ self.old) }
+        ensures { IfOk result (λ _. self.new ≡ self.old ++ map (λ b. (b, at)) decoded.now) }
     {
-        match &mut self.form {
-            Form::Long(text) => text.push_escape(decoded, at),
-            Form::Short(short) => {
-                let mut text = short.to_long(self.alloc)?;
-                text.push_escape(decoded, at)?;
-                self.form = Form::Long(Box::new(self.alloc, text)?);
-                Ok(())
-            }
-        }
+        self.extend(decoded, at as u32, false)
     }
 
     /// The decoded bytes.

@@ -1,22 +1,21 @@
 //! Files that are read one after another, and checked once all of them are there.
 
-ghost use Rattle.std.specs.Prelude.{◌≡◌, ◌≢◌, ◌≤◌, ◌<◌, [], None, Some, length, true, IfOk, OnOk, OnErr, IfErr};
+ghost use Rattle.std.specs.Prelude.{◌≡◌, ◌≢◌, [], None, length, IfOk, OnOk, OnErr, IfErr};
 ghost use Rattle.std.specs.Option.{option_copied, option_map};
 ghost use Rattle.al_base.specs.Counted.{count_after};
-ghost use Rattle.al_base.specs.Paths.{path_fault_of};
-ghost use Rattle.al_base.specs.Limits.{largest_file, most_files};
 ghost use Rattle.al_session_folder.specs.Folder.{bytes_at, paths_of, put_refusal, refusal_or_memory, with_file};
 ghost use Rattle.al_session_folder.specs.Kept.{folder_of, AreKept};
 ghost use Rattle.al_session_folder.specs.Meaning.{IsUpTo};
 ghost use Rattle.al_session.specs.Builder.{IsLoaded};
+ghost use Rattle.al_session.specs.Private.Edits.{IsAllowed};
 ghost use Rattle.al_session.specs.Session.{IsLinted, folder_in};
 
-use crate::edit::{keep_file, read_file, set_faults};
+use crate::edit::{file_of, keep_file, set_faults};
 use crate::indexed::IndexedFiles;
 use crate::refused::put_refused;
 use crate::session::Session;
 use al_base::Path;
-use al_session_folder::{Files, FolderView, Lint, Refused, Target, file_number};
+use al_session_folder::{Files, FolderView, Lint, Refused, Target, file_number, owned_path};
 use indexmap::IndexMap;
 use std::alloc::{AllocError, Global};
 use std::marker::Model;
@@ -33,7 +32,6 @@ pub struct SessionBuilder<L: Lint> {
 }
 
 impl<L: Lint> Model for SessionBuilder<L> {
-    ghost use Rattle.std.specs.Prelude.{◌≤◌};
     ghost use Rattle.al_session.specs.Builder.{IsLoaded};
     ghost use Rattle.al_session_folder.specs.Kept.{folder_of};
     ghost use Rattle.al_session.specs.Session.{SessionState};
@@ -95,14 +93,14 @@ impl<L: Lint> SessionBuilder<L> {
     /// # Errors
     ///
     /// The first of E1 to E4 that applies; if none does, E6 if memory ran out. The folder is then unchanged.
-    pub fn put(&mut self, path: &str, bytes: &[u8]) -> Result<(), Refused>
+    pub fn put(&mut self, path: &str, bytes: Vec<u8>) -> Result<(), Refused>
         ensures accepted { OnOk result
-            (put_refusal L.meaning self.old.folder path.now bytes.now ≡ None) }
+            (put_refusal L.meaning self.old.folder path.now bytes.items ≡ None) }
         ensures folder { OnOk result
-            (self.new.folder ≡ with_file self.old.folder path.now bytes.now) }
+            (self.new.folder ≡ with_file self.old.folder path.now bytes.items) }
         ensures refused { IfErr result (λ refused.
             refused ≡ refusal_or_memory
-            (put_refusal L.meaning self.old.folder path.now bytes.now)) }
+            (put_refusal L.meaning self.old.folder path.now bytes.items)) }
         ensures as_before { OnErr result (self.new.folder ≡ self.old.folder) }
         ensures meter { self.new.checks ≡ self.old.checks }
         ensures reads { OnOk result (self.new.reads ≡ count_after self.old.reads 1) }
@@ -110,7 +108,7 @@ impl<L: Lint> SessionBuilder<L> {
         ensures no_read { IfErr result
             (λ refused. refused ≢ Refused.Memory → self.new.reads ≡ self.old.reads) }
     {
-        if let Some(refused) = put_refused(&self.lint, &self.kept.files, path, bytes) {
+        if let Some(refused) = put_refused(&self.lint, &self.kept.files, path, &bytes) {
             return Err(refused);
         }
         match load_file(&mut self.lint, &mut self.kept, path, bytes) {
@@ -139,22 +137,19 @@ fn load_file<L: Lint>(
     lint: &mut L,
     kept: &mut IndexedFiles<L::Unit, L::Iface>,
     path: &str,
-    bytes: &[u8],
+    bytes: Vec<u8>,
 ) -> Result<(), AllocError>
     requires loaded { IsLoaded L.meaning L.is_unit kept.old }
-    requires valid { path_fault_of path.now ≡ None }
-    requires accepted { L.meaning.accepts path.now ≡ true }
-    requires small { length bytes.now ≤ largest_file }
-    requires room { bytes_at (folder_in kept.old) path.now ≡ None
-        → length kept.old.files.entries < most_files }
+    requires allowed { IsAllowed L.meaning (folder_in kept.old) path.now bytes.items }
     ensures loaded { IsLoaded L.meaning L.is_unit kept.new }
     ensures folder { OnOk result
-        (folder_in kept.new ≡ with_file (folder_in kept.old) path.now bytes.now) }
+        (folder_in kept.new ≡ with_file (folder_in kept.old) path.now bytes.items) }
     ensures as_before { OnErr result (kept.new.files.entries ≡ kept.old.files.entries) }
     ensures checks { L.checks_of lint.new ≡ L.checks_of lint.old }
     ensures reads { L.reads_of lint.new ≡ count_after (L.reads_of lint.old) 1 }
 {
-    let file = read_file(lint, kept.alloc, path, bytes)?;
+    let unit = lint.read(kept.alloc, path, &bytes)?;
+    let file = file_of(lint, kept.alloc, path, bytes, unit)?;
     keep_file::<L>(kept, path, file)?;
     Ok(())
 }
@@ -203,15 +198,7 @@ fn paths_in<L: Lint>(
     let mut paths = Vec::new(alloc);
     for index in 0..files.len() {
         let (name, _) = file_number(files, index);
-        paths.push(path_of(alloc, name.as_str())?)?;
+        paths.push(owned_path(alloc, name.as_str())?)?;
     }
     Ok(paths)
-}
-
-// A text that is a path, as a `Path`.
-fn path_of(alloc: Global, text: &str) -> Result<Path, AllocError>
-    requires { path_fault_of text.now ≡ None }
-    ensures { IfOk result (λ path. path ≡ text.now) }
-{
-    Path::new(alloc, text).map_err(|_| AllocError)
 }

@@ -1,8 +1,9 @@
 //! Why a file is refused.
 
-ghost use Rattle.std.specs.Prelude.{◌≡◌, is_some};
+ghost use Rattle.std.specs.Prelude.{◌≡◌, is_some, IfNone};
 ghost use Rattle.al_session_folder.specs.Folder.{bytes_at, put_refusal};
 ghost use Rattle.al_session_folder.specs.Kept.{folder_of};
+ghost use Rattle.al_session.specs.Private.Edits.{IsAllowed};
 
 use al_base::limits::{LARGEST_FILE, MOST_FILES};
 use al_base::path_fault;
@@ -15,7 +16,10 @@ pub(crate) fn put_refused<L: Lint>(
     path: &str,
     bytes: &[u8],
 ) -> Option<Refused>
-    ensures { result ≡ put_refusal L.meaning (folder_of files.now.entries) path.now bytes.now }
+    ensures refusal { result
+        ≡ put_refusal L.meaning (folder_of files.now.entries) path.now bytes.now }
+    ensures allowed { IfNone result
+        (IsAllowed L.meaning (folder_of files.now.entries) path.now bytes.now) }
 {
     if path_fault(path).is_some() {
         return Some(Refused::BadPath);

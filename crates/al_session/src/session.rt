@@ -136,13 +136,6 @@ impl<L: Lint> Session<L> {
         }
     }
 
-    // Why a put is refused, other than for lack of memory.
-    fn put_refused(&self, path: &str, bytes: &[u8]) -> Option<Refused>
-        ensures { result ≡ put_refusal L.meaning self.now.folder path.now bytes.now }
-    {
-        put_refused(&self.lint, &self.kept.files, path, bytes)
-    }
-
     // Whether a file has exactly these bytes.
     fn has_bytes(&self, path: &str, bytes: &[u8]) -> bool
         ensures { Decides result (bytes_at self.now.folder path.now ≡ Some bytes.now) }
@@ -183,7 +176,7 @@ impl<L: Lint> Session<L> {
         ensures no_read { IfErr result
             (λ refused. refused ≢ Refused.Memory → self.new.reads ≡ self.old.reads) }
     {
-        if let Some(refused) = self.put_refused(path, bytes) {
+        if let Some(refused) = put_refused(&self.lint, &self.kept.files, path, bytes) {
             return Err(refused);
         }
         if self.has_bytes(path, bytes) {

@@ -1,9 +1,9 @@
 -- Which files a change of one path can affect.
-use Rattle.std.proofs.Math.Bool.{or-false, and-true, and-false, or_comm, and_comm}
+use Rattle.std.proofs.Math.Bool.{or-false, or_comm}
 use Rattle.std.proofs.lemmas.Map.Lookups.{btree_set_from_contains, exact_bytes}
 use Rattle.std.proofs.lemmas.Map.Keys.{sorted_tail}
-use Rattle.std.proofs.Common.{◌+◌, ◌<◌, ◌++◌, take, get_or, ◌≡◌, ℕ, Bool, true, false, not, ◌&&◌, ◌||◌, cond, filter}
-use Rattle.std.proofs.Common.{List, [], ◌∷◌, length, Option, Some, None, is_some, refl, sym, ◌∙◌, ap, subst}
+use Rattle.std.proofs.Common.{◌++◌, ◌≡◌, ℕ, Bool, true, false, not, ◌&&◌, ◌||◌, cond, filter}
+use Rattle.std.proofs.Common.{List, [], ◌∷◌, Option, Some, None, is_some, refl, sym, ◌∙◌, ap, subst, arith}
 use Rattle.std.specs.Prelude.{bytes_eq}
 use Rattle.std.proofs.Common.{Bor}
 use Rattle.std.specs.Option.{option_copied}
@@ -15,11 +15,12 @@ use Rattle.std.specs.Ordering.{nat_cmp, is_eq, match_ordering, eq_by_cmp}
 use Rattle.std.specs.declared.cmp.Ordering.{Ordering}
 use Rattle.std.specs.declared.cmp.Ordering.TheVariants.{Less}
 use Rattle.std.specs.Cmp.Lexicographic.{slice_cmp}
-use Rattle.std.proofs.lemmas.Bool.{cond-true, cond-false, or_parts, and_from, cond_both}
+use Rattle.std.proofs.lemmas.Bool.Decides.{nat_tests}
+use Rattle.std.proofs.lemmas.Bool.{cond-true, cond-false, or_parts, cond_both}
 use Rattle.std.proofs.lemmas.Map.Text.{is_eq-slice_cmp}
 use Rattle.std.proofs.lemmas.Cmp.{nat_list_cmp_total, nat_list_eq_equiv}
 use Rattle.al_session_folder.specs.Meaning.{Meaning, candidates, is_candidate}
-use Rattle.std.proofs.lemmas.List.Folds.{list_any-append, list_all_more, list_all_at}
+use Rattle.std.proofs.lemmas.List.Folds.{list_any-append}
 use Rattle.al_session_folder.specs.Folder.{Folder, without_file, bytes_at, paths_of, interface_in, find_map, answer}
 use Rattle.al_session_folder.specs.Affected.{is_untouched, affected_paths, is_affected, is_among}
 use Rattle.al_session_folder.specs.Kept.{with_bytes_at}
@@ -108,24 +109,23 @@ module _ {I : Type 0} (m : Meaning I) (p : List ℕ) (f : Folder) (now : Option 
 
     -- no file at another path is affected where p offers what it offered
     pub none_affected : interface_in m f p ≡ interface_in m (with_bytes_at f p now) p → (q : List ℕ) → not (bytes_eq q p) && is_affected eq m f (with_bytes_at f p now) q ≡ false
-    none_affected still q = by (bytes_eq q p) refl (bytes_at f q) refl
+    none_affected still q =
+        let far : bytes_eq q p ≡ false → is_affected eq m f (with_bytes_at f p now) q ≡ false = λ a. by a (bytes_at f q) refl in
+        grind (arith, nat_tests, far)
       where
-        by : (t : Bool) → bytes_eq q p ≡ t → (o : Option (List ℕ)) → bytes_at f q ≡ o → not (bytes_eq q p) && is_affected eq m f (with_bytes_at f p now) q ≡ false
-        by true a o there = ap (λ t. not t && is_affected eq m f (with_bytes_at f p now) q) a
-        by false a None none = ap (λ t. not t && is_affected eq m f (with_bytes_at f p now) q) a ∙ affected_absent q a none
-        by false a (Some b) there = ap (λ t. not t && is_affected eq m f (with_bytes_at f p now) q) a ∙ affected_other q b a there ∙ ap not (still_answers still (m.calls q b))
+        by : bytes_eq q p ≡ false → (o : Option (List ℕ)) → bytes_at f q ≡ o → is_affected eq m f (with_bytes_at f p now) q ≡ false
+        by a None none = affected_absent q a none
+        by a (Some b) there = affected_other q b a there ∙ ap not (still_answers still (m.calls q b))
 
     -- the same, where it is known whether the answers are the same
     pub touched_is : (q b : List ℕ) (r : Bool) → bytes_eq q p ≡ false → bytes_at f q ≡ Some b → r ≡ list_all (λ t. option_eq eq (answer m f t) (answer m (with_bytes_at f p now) t)) (m.calls q b)
         → not (bytes_eq q p) && is_affected eq m f (with_bytes_at f p now) q ≡ not r
-    touched_is q b r far there h = ap (λ t. not t && is_affected eq m f (with_bytes_at f p now) q) far ∙ affected_other q b far there ∙ ap not (sym h)
+    touched_is q b r far there h = rw far (affected_other q b far there ∙ ap not (sym h))
 
     pub absent_is : (q : List ℕ) → bytes_at f q ≡ None → not (bytes_eq q p) && is_affected eq m f (with_bytes_at f p now) q ≡ false
-    absent_is q none = by (bytes_eq q p) refl
-      where
-        by : (t : Bool) → bytes_eq q p ≡ t → not (bytes_eq q p) && is_affected eq m f (with_bytes_at f p now) q ≡ false
-        by true a = ap (λ t. not t && is_affected eq m f (with_bytes_at f p now) q) a
-        by false a = ap (λ t. not t && is_affected eq m f (with_bytes_at f p now) q) a ∙ affected_absent q a none
+    absent_is q none =
+        let far : bytes_eq q p ≡ false → is_affected eq m f (with_bytes_at f p now) q ≡ false = λ a. affected_absent q a none in
+        grind (arith, nat_tests, far)
 
     -- the file that is put is affected where it has not these bytes
     pub affected_itself : (q : List ℕ) (now2 : Option (List ℕ)) → now2 ≡ now → bytes_eq q p ≡ true → (now ≡ bytes_at f p → ⊥) → is_affected eq m f (with_bytes_at f p now) q ≡ is_some now2
@@ -148,21 +148,15 @@ module _ {I : Type 0} (m : Meaning I) (p : List ℕ) (f : Folder) (now : Option 
     -- the path of the change, and those of its callers that it affects, are all that it affects
     pub affected_members : (q : List ℕ) (any : Bool) → any ≡ option_map_or (λ b. is_candidate (m.calls q b) p) (bytes_at f q) false → (now ≡ bytes_at f p → ⊥)
         → (any && (not (bytes_eq q p) && is_affected eq m f (with_bytes_at f p now) q)) || is_among q (cond (is_some now) (p ∷ []) []) ≡ is_affected eq m f (with_bytes_at f p now) q
-    affected_members q any calls other = by (bytes_eq q p) any refl calls
+    affected_members q any calls other =
+        let put = first (is_some now) in
+        let itself : bytes_eq q p ≡ true → is_affected eq m f (with_bytes_at f p now) q ≡ is_some now = λ a. affected_itself q now refl a other in
+        let stranger : bytes_eq q p ≡ false → any ≡ false → is_affected eq m f (with_bytes_at f p now) q ≡ false = λ a no. affected_stranger q a (sym calls ∙ no) in
+        grind (arith, nat_tests, put, itself, stranger)
       where
-        first : (t s : Bool) → bytes_eq q p ≡ t → is_among q (cond s (p ∷ []) []) ≡ s && t
-        first t true a = or-false (bytes_eq q p) ∙ a
-        first t false a = refl
-
-        by : (t any2 : Bool) → bytes_eq q p ≡ t → any2 ≡ option_map_or (λ b. is_candidate (m.calls q b) p) (bytes_at f q) false
-            → (any2 && (not (bytes_eq q p) && is_affected eq m f (with_bytes_at f p now) q)) || is_among q (cond (is_some now) (p ∷ []) []) ≡ is_affected eq m f (with_bytes_at f p now) q
-        by true any2 a e =
-            ap (λ t. (any2 && (not t && is_affected eq m f (with_bytes_at f p now) q)) || is_among q (cond (is_some now) (p ∷ []) [])) a
-            ∙ ap (λ t. t || is_among q (cond (is_some now) (p ∷ []) [])) (and-false any2) ∙ first true (is_some now) a ∙ and-true (is_some now) ∙ sym (affected_itself q now refl a other)
-        by false true a e =
-            ap (λ t. (not t && is_affected eq m f (with_bytes_at f p now) q) || is_among q (cond (is_some now) (p ∷ []) [])) a
-            ∙ ap (λ t. is_affected eq m f (with_bytes_at f p now) q || t) (first false (is_some now) a ∙ and-false (is_some now)) ∙ or-false _
-        by false false a e = first false (is_some now) a ∙ and-false (is_some now) ∙ sym (affected_stranger q a (sym e))
+        first : (s : Bool) → is_among q (cond s (p ∷ []) []) ≡ s && bytes_eq q p
+        first true = or-false (bytes_eq q p)
+        first false = refl
 
 -- Strictly sorted lists with the same members are the same
 
@@ -192,49 +186,30 @@ module _ (T : List ℕ × List ℕ → Bool) where
 
   pub member_kept : (g : Folder) (q : List ℕ) → IsStrictlySortedBy (slice_cmp nat_cmp) (paths_of g) → is_among q (paths_of (filter T g)) ≡ option_map_or (λ b. T (q, b)) (bytes_at g q) false
   member_kept [] q s = refl
-  member_kept (e ∷ es) q s = by (bytes_eq q e.0) (T e) refl refl (member_kept es q (sorted_tail _ _ _ s))
+  member_kept (e ∷ es) q s =
+      let rest = member_kept es q (sorted_tail _ _ _ s) in
+      let more = filtered (T e) in
+      let here : bytes_eq q e.0 ≡ true → kept (bytes_at (e ∷ es) q) ≡ T e = λ a. ap kept (cond-true _ _ _ (is_eq-slice_cmp q e.0 ∙ a)) ∙ ap (λ x. T (x, e.1)) (bytes_same q e.0 a) in
+      let behind : bytes_eq q e.0 ≡ true → kept (bytes_at es q) ≡ false = λ a. ap kept (none_behind q e es (bytes_same q e.0 a) s) in
+      let past : bytes_eq q e.0 ≡ false → kept (bytes_at (e ∷ es) q) ≡ kept (bytes_at es q) = λ a. ap kept (cond-false _ _ _ (is_eq-slice_cmp q e.0 ∙ a)) in
+      grind (arith, nat_tests, rest, more, here, behind, past)
     where
-      filtered : (t : Bool) → T e ≡ t → is_among q (paths_of (filter T (e ∷ es))) ≡ is_among q (paths_of (cond t (e ∷ filter T es) (filter T es)))
-      filtered t a = ap (λ t. is_among q (paths_of (cond t (e ∷ filter T es) (filter T es)))) a
+      kept : Option (List ℕ) → Bool
+      kept o = option_map_or (λ b. T (q, b)) o false
 
-      found : bytes_eq q e.0 ≡ true → bytes_at (e ∷ es) q ≡ Some e.1
-      found a = cond-true _ _ _ (is_eq-slice_cmp q e.0 ∙ a)
-
-      passed : bytes_eq q e.0 ≡ false → bytes_at (e ∷ es) q ≡ bytes_at es q
-      passed a = cond-false _ _ _ (is_eq-slice_cmp q e.0 ∙ a)
-
-      by : (b t : Bool) → bytes_eq q e.0 ≡ b → T e ≡ t → is_among q (paths_of (filter T es))
-          ≡ option_map_or (λ b. T (q, b)) (bytes_at es q) false → is_among q (paths_of (filter T (e ∷ es)))
-          ≡ option_map_or (λ b. T (q, b)) (bytes_at (e ∷ es) q) false
-      by true true a h rest =
-          let at : q ≡ e.0 = bytes_same q e.0 a in
-          filtered true h ∙ ap (λ t. t || is_among q (paths_of (filter T es))) a ∙ sym (ap (λ (o : Option (List ℕ)). option_map_or (λ b. T (q, b)) o false) (found a) ∙ ap (λ x. T (x, e.1)) at ∙ h)
-      by true false a h rest =
-          let at : q ≡ e.0 = bytes_same q e.0 a in
-          filtered false h ∙ rest ∙ ap (λ (o : Option (List ℕ)). option_map_or (λ b. T (q, b)) o false) (none_behind q e es at s)
-          ∙ sym (ap (λ (o : Option (List ℕ)). option_map_or (λ b. T (q, b)) o false) (found a) ∙ ap (λ x. T (x, e.1)) at ∙ h)
-      by false true a h rest = filtered true h ∙ ap (λ t. t || is_among q (paths_of (filter T es))) a ∙ rest ∙ sym (ap (λ (o : Option (List ℕ)). option_map_or (λ b. T (q, b)) o false) (passed a))
-      by false false a h rest = filtered false h ∙ rest ∙ sym (ap (λ (o : Option (List ℕ)). option_map_or (λ b. T (q, b)) o false) (passed a))
+      filtered : (t : Bool) → is_among q (paths_of (cond t (e ∷ filter T es) (filter T es))) ≡ (t && bytes_eq q e.0) || is_among q (paths_of (filter T es))
+      filtered true = refl
+      filtered false = refl
 
 pub among_put : (q n : List ℕ) (ps : List (List ℕ)) → is_among q (with_one (slice_cmp nat_cmp) n ps) ≡ bytes_eq q n || is_among q ps
 among_put q n [] = refl
 among_put q n (r ∷ rs) = by_ordering (slice_cmp nat_cmp n r)
     (λ a. ap (is_among q) (put a))
-    (λ a. ap (is_among q) (put a) ∙ there (bytes_eq q n) refl (exact_bytes n r a))
-    (λ a. ap (is_among q) (put a) ∙ ap (λ t. bytes_eq q r || t) (among_put q n rs) ∙ swap (bytes_eq q r) (bytes_eq q n) (is_among q rs))
+    (λ a. ap (is_among q) (put a) ∙ rw (exact_bytes n r a) (grind (arith, nat_tests)))
+    (λ a. let rest = among_put q n rs in ap (is_among q) (put a) ∙ grind (arith, nat_tests, rest))
   where
     put : {o : Ordering} → slice_cmp nat_cmp n r ≡ o → with_one (slice_cmp nat_cmp) n (r ∷ rs) ≡ match_ordering o (n ∷ r ∷ rs) (r ∷ rs) (r ∷ with_one (slice_cmp nat_cmp) n rs)
     put h = ap (λ o. match_ordering o (n ∷ r ∷ rs) (r ∷ rs) (r ∷ with_one (slice_cmp nat_cmp) n rs)) h
-
-    swap : (a b d : Bool) → a || (b || d) ≡ b || (a || d)
-    swap true true d = refl
-    swap true false d = refl
-    swap false true d = refl
-    swap false false d = refl
-
-    there : (t : Bool) → bytes_eq q n ≡ t → n ≡ r → is_among q (r ∷ rs) ≡ bytes_eq q n || is_among q (r ∷ rs)
-    there true a same = ap (λ x. bytes_eq q x || is_among q rs) (sym same) ∙ ap (λ t. t || is_among q rs) a ∙ sym (ap (λ t. t || is_among q (r ∷ rs)) a)
-    there false a same = sym (ap (λ t. t || is_among q (r ∷ rs)) a)
 
 -- paths in order have the members that they had
 pub among_ordered : (q : List ℕ) (ps : List (List ℕ)) → is_among q (in_order (slice_cmp nat_cmp) ps) ≡ is_among q ps
@@ -248,19 +223,14 @@ among_last q n ps = list_any-append (bytes_eq q) ps (n ∷ []) ∙ or_comm (is_a
 
 pub members_more : (q n p : List ℕ) (aff : List ℕ → Bool) (old new : List (List ℕ)) → new ≡ cond (not (bytes_eq n p) && aff n) (old ++ n ∷ []) old
     → is_among q new ≡ (bytes_eq q n && (not (bytes_eq q p) && aff q)) || is_among q old
-members_more q n p aff old new e = ap (is_among q) e ∙ by (not (bytes_eq n p) && aff n) refl
+members_more q n p aff old new e =
+    let members = ap (is_among q) e ∙ more (not (bytes_eq n p) && aff n) in
+    let same : bytes_eq q n ≡ true → not (bytes_eq q p) && aff q ≡ not (bytes_eq n p) && aff n = λ z. ap (λ x. not (bytes_eq x p) && aff x) (bytes_same q n z) in
+    grind (arith, nat_tests, members, same)
   where
-    here : (t : Bool) → not (bytes_eq n p) && aff n ≡ t → bytes_eq q n && (not (bytes_eq q p) && aff q) ≡ bytes_eq q n && t
-    here t a = same (bytes_eq q n) refl
-      where
-        same : (s : Bool) → bytes_eq q n ≡ s → bytes_eq q n && (not (bytes_eq q p) && aff q) ≡ bytes_eq q n && t
-        same true z = ap (λ b. b && (not (bytes_eq q p) && aff q)) z ∙ ap (λ x. not (bytes_eq x p) && aff x) (bytes_same q n z) ∙ a ∙ sym (ap (λ b. b && t) z)
-        same false z = ap (λ b. b && (not (bytes_eq q p) && aff q)) z ∙ sym (ap (λ b. b && t) z)
-
-    by : (t : Bool) → not (bytes_eq n p) && aff n ≡ t → is_among q (cond (not (bytes_eq n p) && aff n) (old ++ n ∷ []) old)
-        ≡ (bytes_eq q n && (not (bytes_eq q p) && aff q)) || is_among q old
-    by true a = ap (λ t. is_among q (cond t (old ++ n ∷ []) old)) a ∙ among_last q n old ∙ sym (ap (λ t. t || is_among q old) (here true a ∙ and-true (bytes_eq q n)))
-    by false a = ap (λ t. is_among q (cond t (old ++ n ∷ []) old)) a ∙ sym (ap (λ t. t || is_among q old) (here false a ∙ and-false (bytes_eq q n)))
+    more : (t : Bool) → is_among q (cond t (old ++ n ∷ []) old) ≡ (t && bytes_eq q n) || is_among q old
+    more true = among_last q n old
+    more false = refl
 
 module _ {I : Type 0} (eq : I → I → Bool) (m : Meaning I) (f g : Folder) (ordered : IsStrictlySortedBy (slice_cmp nat_cmp) (paths_of g)) where
   pub affected_sorted : IsStrictlySortedBy (slice_cmp nat_cmp) (affected_paths eq m f g)
@@ -274,13 +244,6 @@ module _ {I : Type 0} (eq : I → I → Bool) (m : Meaning I) (f g : Folder) (or
   -- the paths in order that have just the affected files
   pub affected_is : (paths : List (List ℕ)) → IsStrictlySortedBy (slice_cmp nat_cmp) paths → ((q : List ℕ) → is_among q paths ≡ is_affected eq m f g q) → paths ≡ affected_paths eq m f g
   affected_is paths s members = same_members paths (affected_paths eq m f g) s affected_sorted (λ q. members q ∙ sym (affected_member q))
-
-module _ (T : Target → Bool) where
-  pub all_next : (ts : List Target) (i : ℕ) (t : Target) → i < length ts → t ≡ get_or ts i t → list_all T (take i ts) ≡ true → T t ≡ true → list_all T (take (i + 1) ts) ≡ true
-  all_next ts i t within read before now = list_all_more T ts i t within ∙ and_from _ _ before (ap T (sym read) ∙ now)
-
-  pub all_stop : (ts : List Target) (i : ℕ) (t : Target) → i < length ts → t ≡ get_or ts i t → T t ≡ false → list_all T ts ≡ false
-  all_stop ts i t within read stop = list_all_at T ts i t within (ap T (sym read) ∙ stop)
 
 start_sorted : (t : Bool) (p : List ℕ) (ps : List (List ℕ)) → ps ≡ cond t (p ∷ []) [] → IsStrictlySortedBy (slice_cmp nat_cmp) ps
 unfolding IsStrictlySortedBy
@@ -313,9 +276,10 @@ module _ {I : Type 0} (m : Meaning I) (eq : I → I → Bool) (itself : (x : I) 
     (calls : (q : List ℕ) → any q ≡ option_map_or (λ b. is_candidate (m.calls q b) p) (bytes_at f q) false) where
   affected_all : (start paths : List (List ℕ)) → start ≡ cond (is_some now) (p ∷ []) [] → IsStrictlySortedBy (slice_cmp nat_cmp) paths
       → ((q : List ℕ) → is_among q paths ≡ ((not (bytes_eq q p) && is_affected eq m f (with_bytes_at f p now) q) && any q) || is_among q start) → paths ≡ affected_paths eq m f (with_bytes_at f p now)
-  affected_all start paths e s members = affected_is eq m f (with_bytes_at f p now) (changed_sorted p f now ordered) paths s
-      (λ q. members q ∙ ap (λ t. t || is_among q start) (and_comm (not (bytes_eq q p) && is_affected eq m f (with_bytes_at f p now) q) (any q))
-      ∙ ap (λ l. (any q && (not (bytes_eq q p) && is_affected eq m f (with_bytes_at f p now) q)) || is_among q l) e ∙ affected_members m p f now ordered eq itself q (any q) (calls q) other)
+  affected_all start paths e s members = affected_is eq m f (with_bytes_at f p now) (changed_sorted p f now ordered) paths s (λ q.
+      let here = rw e at (members q) in
+      let all = affected_members m p f now ordered eq itself q (any q) (calls q) other in
+      grind (arith, nat_tests, here, all))
 
   -- put in order
   pub affected_found : (start paths : List (List ℕ)) → start ≡ cond (is_some now) (p ∷ []) []
@@ -325,19 +289,17 @@ module _ {I : Type 0} (m : Meaning I) (eq : I → I → Bool) (itself : (x : I) 
       affected_all start (in_order (slice_cmp nat_cmp) paths) e (IsStrictlySortedBy-in_order nat_list_cmp_total exact_bytes paths) (λ q. among_ordered q paths ∙ members q)
 
   pub affected_none : (start : List (List ℕ)) → start ≡ cond (is_some now) (p ∷ []) [] → ((q : List ℕ) → any q ≡ false) → start ≡ affected_paths eq m f (with_bytes_at f p now)
-  affected_none start e none = affected_all start start e (start_sorted (is_some now) p start e)
-      (λ q. sym (ap (λ t. ((not (bytes_eq q p) && is_affected eq m f (with_bytes_at f p now) q) && t) || is_among q start) (none q) ∙ ap (λ t. t || is_among q start) (and-false _)))
+  affected_none start e none = affected_all start start e (start_sorted (is_some now) p start e) (λ q. let no = none q in grind (arith, nat_tests, no))
 
   pub affected_still : (start : List (List ℕ)) → start ≡ cond (is_some now) (p ∷ []) []
       → interface_in m f p ≡ interface_in m (with_bytes_at f p now) p → start ≡ affected_paths eq m f (with_bytes_at f p now)
   affected_still start e still = affected_all start start e (start_sorted (is_some now) p start e)
-      (λ q. sym (ap (λ t. (t && any q) || is_among q start) (none_affected m p f now ordered eq itself still q)))
+      (λ q. let no = none_affected m p f now ordered eq itself still q in grind (arith, nat_tests, no))
 
 pub same_answer_exact : {I : Type 0} (eq : I → I → Bool) → ((x y : I) → eq x y ≡ true → x ≡ y) → (a b : Option I) → option_eq eq a b ≡ true → a ≡ b
 same_answer_exact eq exact None None h = refl
 same_answer_exact eq exact (Some x) (Some y) h = ap Some (exact x y h)
-same_answer_exact eq exact None (Some y) h = absurd cc
-same_answer_exact eq exact (Some x) None h = absurd cc
+same_answer_exact eq exact _ _ h = absurd cc
 
 pub some_kept : {U I : Type 0} (now : Option (Bor (KeptFile U I))) → is_some now ≡ is_some (option_map (λ (file : KeptFile U I). file.bytes.items) (option_copied now))
 some_kept None = refl

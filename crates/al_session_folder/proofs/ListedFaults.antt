@@ -1,5 +1,4 @@
 -- The faults that a report lists: each file's own, and those of its calls on a call cycle.
-use Rattle.std.proofs.Math.Bool.{or-true, or-false}
 use Rattle.al_session_folder.proofs.Places.{each_at}
 use Rattle.std.proofs.Common.{◌≤◌, ◌≡◌, ◌<◌, ℕ, zero, suc, ◌+◌, Bool, true, false, cond, not, List, [], ◌∷◌, ◌++◌, length}
 use Rattle.std.proofs.Common.{get_or, Option, Some, String, slice_get, refl, sym, ◌∙◌, ap, subst, ◌||◌, arith, length-append, ⊎_elim}
@@ -14,7 +13,8 @@ use Rattle.std.specs.declared.cmp.Ordering.{Ordering}
 use Rattle.std.specs.declared.cmp.Ordering.TheVariants.{Less, Equal, Greater}
 use Rattle.std.proofs.lemmas.Bool.Decides.{nat_tests}
 use Rattle.std.proofs.lemmas.Bool.{cases_lt}
-use Rattle.std.proofs.lemmas.List.{get_or-append-add, get_or_append_left, length-map}
+use Rattle.std.proofs.lemmas.List.{get_or-append-add, get_or_append_left, length-map, nil_from_length}
+use Rattle.al_base.proofs.Elements.{each_both}
 use Rattle.std.proofs.lemmas.List.Sorted.{IsPermutation-append_comm}
 use Rattle.al_base.proofs.FaultLists.{AllByRecursion-fault_list, derived_is, derived_ties, fault_cmp_same, fault_cmp_total, fault_list-permutation, fault_list-sorted}
 use Rattle.al_session_folder.proofs.Referring.{ordered_referred}
@@ -53,10 +53,6 @@ module _ {I : Type 0} (m : Meaning I) (ordered : (p b : List ℕ) (given : List 
 
 -- ---- they lie in the file
 
-all_one : {X : Type 0} (P : X → Type 0) (xs ys : List X) → AllByRecursion P xs → AllByRecursion P ys → AllByRecursion P (xs ++ ys)
-all_one P [] ys a b = b
-all_one P (x ∷ xs) ys a b = (a.0, all_one P xs ys a.1 b)
-
 module _ {I : Type 0} (m : Meaning I) (f : Folder) (i : ℕ) (size : ℕ) where
   one_inside : (t : Bool) (s : Fault) → LiesIn size s.span → AllByRecursion (λ (fault : Fault). LiesIn size fault.span) (fault_if t s)
   one_inside true s h = (h, tt)
@@ -67,7 +63,7 @@ module _ {I : Type 0} (m : Meaning I) (f : Folder) (i : ℕ) (size : ℕ) where
   looping_inside [] ss h = tt
   looping_inside (t ∷ ts) [] h = tt
   looping_inside (t ∷ ts) (s ∷ ss) h =
-      all_one _ (fault_if (leads_back (calls_graph m f) i (callee f t)) s) (looping (calls_graph m f) f i ts ss)
+      each_both _ (fault_if (leads_back (calls_graph m f) i (callee f t)) s) (looping (calls_graph m f) f i ts ss)
       (one_inside (leads_back (calls_graph m f) i (callee f t)) s h.0) (looping_inside ts ss h.1)
 
 module _ {I : Type 0} (m : Meaning I)
@@ -77,7 +73,7 @@ module _ {I : Type 0} (m : Meaning I)
   unfolding report_faults faults_in
   reported_inside f i p b small =
       AllByRecursion-fault_list (λ (fault : Fault). LiesIn (length b) fault.span) (loop_faults m f i p b ++ m.faults p b (answers m f p b))
-      (all_one _ (loop_faults m f i p b) (m.faults p b (answers m f p b)) (looping_inside m f i (length b) (m.calls p b) (m.sites p b) (sites p b small)) (inside p b (answers m f p b) small))
+      (each_both _ (loop_faults m f i p b) (m.faults p b (answers m f p b)) (looping_inside m f i (length b) (m.calls p b) (m.sites p b) (sites p b small)) (inside p b (answers m f p b) small))
 
   pub printable : {U : Type 0} (is_unit : U → List ℕ → List ℕ → Type 0) (files : Files U I) → AllKept m is_unit files → ArePrintable m files
   printable is_unit files kept i e at =
@@ -101,14 +97,10 @@ report_is m files oneline = lines_from m (folder_of files) oneline 0 files
 -- ---- the status
 
 some_list : (x : Fault) (xs : List Fault) → not (length (x ∷ xs) == 0) ≡ true
-some_list x xs = ap not (apart (length xs))
-  where
-    apart : (n : ℕ) → (suc n == 0) ≡ false
-    apart n = grind (arith, nat_tests)
+some_list x xs = grind (arith, nat_tests)
 
 none_of : {X : Type 0} (xs : List X) → (length xs == 0) ≡ true → xs ≡ []
-none_of [] e = refl
-none_of (x ∷ xs) e = let some : length (x ∷ xs) ≡ 0 = grind (arith, nat_tests) in absurd (omega (arith, some))
+none_of xs e = nil_from_length xs (grind (arith, nat_tests))
 
 put_some : (x : Fault) (ys : List Fault) → not (length (with_one fault_cmp x ys) == 0) ≡ true
 put_some x [] = some_list x []
@@ -124,18 +116,11 @@ some_in_order [] = refl
 some_in_order (x ∷ xs) = put_some x (in_order fault_cmp xs) ∙ sym (some_list x xs)
 
 some_of_both : (a b : List Fault) → not (length (a ++ b) == 0) ≡ (not (length a == 0) || not (length b == 0))
-some_of_both [] b = refl
-some_of_both (x ∷ a) b = some_list x (a ++ b) ∙ sym (ap (λ t. t || not (length b == 0)) (some_list x a))
+some_of_both a b = let all = length-append a b in grind (arith, nat_tests, all)
 
 either_any : {X : Type 0} (P Q R : X → Bool) (xs : List X) → ((x : X) → R x ≡ (P x || Q x)) → list_any R xs ≡ (list_any P xs || list_any Q xs)
 either_any P Q R [] h = refl
-either_any P Q R (x ∷ xs) h = ap (λ b. b || list_any R xs) (h x) ∙ ap (λ b. (P x || Q x) || b) (either_any P Q R xs h) ∙ four (P x) (Q x) (list_any P xs) (list_any Q xs)
-  where
-    four : (a b c d : Bool) → ((a || b) || (c || d)) ≡ ((a || c) || (b || d))
-    four true b c d = refl
-    four false true true d = refl
-    four false true false d = refl
-    four false false c d = refl
+either_any P Q R (x ∷ xs) h = let here = h x in let rest = either_any P Q R xs h in grind (arith, nat_tests, here, rest)
 
 any_numbered : {X : Type 0} (P : X → Bool) (n : ℕ) (xs : List X) → list_any (λ (x : ℕ × X). P x.1) (enumerate_from n xs) ≡ list_any P xs
 any_numbered P n [] = refl
@@ -157,13 +142,12 @@ module _ {U I : Type 0} (m : Meaning I) (files : Files U I) (checked : AllChecke
 
   pub status_faults : list_any (λ (e : String Global × KeptFile U I). not (length e.1.faults.items == 0)) files ≡ true → 1 ≡ status_of m (folder_of files)
   unfolding status_of
-  status_faults h = sym (ap (λ b. cond b 1 0) (any_reported ∙ ap (λ b. list_any LoopAt (enumerate_from 0 (folder_of files)) || b) h ∙ or-true (list_any LoopAt (enumerate_from 0 (folder_of files)))))
+  status_faults h = rw (any_reported, h) (grind (arith, nat_tests))
 
   pub status_loops : (some : Bool) → list_any (λ (e : String Global × KeptFile U I). not (length e.1.faults.items == 0)) files ≡ false → some ≡ list_any LoopAt (enumerate_from 0 (folder_of files)) →
       cond some 1 0 ≡ status_of m (folder_of files)
   unfolding status_of
-  status_loops some h s = ap (λ b. cond b 1 0) (s ∙ sym (any_reported ∙ ap (λ b. list_any LoopAt (enumerate_from 0 (folder_of files)) || b) h
-      ∙ or-false (list_any LoopAt (enumerate_from 0 (folder_of files)))))
+  status_loops some h s = rw (any_reported, h, s) (grind (arith, nat_tests))
 
 -- ---- faults in order by references to them
 
@@ -194,10 +178,6 @@ listed_both m files i e all list checked at a o =
 module _ {U I : Type 0} (m : Meaning I) (ordered : (p b : List ℕ) (given : List (Option I)) → IsStrictlySortedBy fault_cmp (m.faults p b given)) (files : Files U I) (i : ℕ)
     (e : String Global × KeptFile U I) (own loops : List Fault) (joined : List (Bor Fault)) (checked : AllChecked m (folder_of files) files) (at : slice_get files i ≡ Some e)
     (is : own ≡ e.1.faults.items) (all : loops ≡ loop_faults m (folder_of files) i (string_bytes e.0) e.1.bytes.items) (now : referents joined ≡ joined_faults own loops) where
-  not_true : (b : Bool) → not b ≡ true → b ≡ false
-  not_true false h = refl
-  not_true true h = absurd cc
-
   none_listed : loops ≡ [] → joined_or_own e.1 joined ≡ report_faults m (folder_of files) i (string_bytes e.0) e.1.bytes.items
   none_listed none =
       let empty : referents joined ≡ [] = now ∙ ap (joined_faults own) none in
@@ -210,9 +190,11 @@ module _ {U I : Type 0} (m : Meaning I) (ordered : (p b : List ℕ) (given : Lis
   some_listed some =
       let put : referents joined ≡ fault_list (own ++ loops) = now ∙ ap (λ b. cond b [] (fault_list (own ++ loops))) some in
       let n : length (referents joined) ≡ length joined = length-map joined (λ (r : Bor Fault). r.now) in
-      let told : not (length joined == 0) ≡ true =
-      ap (λ k. not (k == 0)) (sym n ∙ ap length put) ∙ some_in_order (own ++ loops) ∙ some_of_both own loops ∙ ap (λ b. not (length own == 0) || not b) some ∙ or-true (not (length own == 0)) in
-      ap (λ b. cond b e.1.faults.items (referents joined)) (not_true (length joined == 0) told)
+      let length_is = ap length put in
+      let in_order_too = some_in_order (own ++ loops) in
+      let both = some_of_both own loops in
+      let no : (length joined == 0) ≡ false = grind (arith, nat_tests, n, length_is, in_order_too, both, some) in
+      ap (λ b. cond b e.1.faults.items (referents joined)) no
       ∙ listed_both m files i e (own ++ loops) joined checked at (ap (λ l. l ++ loops) is ∙ ap (λ l. e.1.faults.items ++ l) all) put
 
   pub listed_is : joined_or_own e.1 joined ≡ report_faults m (folder_of files) i (string_bytes e.0) e.1.bytes.items

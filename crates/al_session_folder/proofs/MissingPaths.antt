@@ -1,5 +1,6 @@
 -- What is missing of a folder: a path is among it just where it isn't there and a call has it as a candidate.
-use Rattle.std.proofs.Common.{◌≡◌, ℕ, Bool, true, false, ◌&&◌, ◌||◌, List, [], ◌∷◌, refl, sym, ◌∙◌, ap}
+use Rattle.std.proofs.Common.{◌≡◌, ℕ, ◌&&◌, ◌||◌, List, [], ◌∷◌, refl, sym, ◌∙◌, ap, arith}
+use Rattle.std.proofs.lemmas.Bool.Decides.{nat_tests}
 use Rattle.std.specs.Prelude.{bytes_eq}
 use Rattle.std.specs.List.{flat_map, list_any}
 use Rattle.std.proofs.lemmas.List.Folds.{list_any-append}
@@ -23,22 +24,13 @@ module _ (p : List ℕ) where
       any-filter_same (bytes_eq p) (is_absent f) (is_absent f p) (λ q same. ap (is_absent f) (sym (bytes_same p q same))) (flat_map candidates ts)
       ∙ ap (λ r. is_absent f p && r) (among_candidates ts)
 
-  either : (a b d : Bool) → ((a && b) || (a && d)) ≡ (a && (b || d))
-  either true b d = refl
-  either false b d = refl
-
-  never : (a : Bool) → false ≡ (a && false)
-  never true = refl
-  never false = refl
-
   module _ {I : Type 0} (m : Meaning I) (f : Folder) where
     among_all : (es : Folder) → is_among p (flat_map (λ e. absent_candidates f (m.calls e.0 e.1)) es) ≡ (is_absent f p && list_any (λ e. is_candidate (m.calls e.0 e.1) p) es)
-    among_all [] = never (is_absent f p)
+    among_all [] = grind (arith, nat_tests)
     among_all (e ∷ es) =
-        list_any-append (bytes_eq p) (absent_candidates f (m.calls e.0 e.1)) (flat_map (λ e. absent_candidates f (m.calls e.0 e.1)) es)
-        ∙ ap (λ r. is_among p (absent_candidates f (m.calls e.0 e.1)) || r) (among_all es)
-        ∙ ap (λ r. r || (is_absent f p && list_any (λ e. is_candidate (m.calls e.0 e.1) p) es)) (among_absent f (m.calls e.0 e.1))
-        ∙ either (is_absent f p) (is_candidate (m.calls e.0 e.1) p) (list_any (λ e. is_candidate (m.calls e.0 e.1) p) es)
+        let first = among_absent f (m.calls e.0 e.1) in
+        let rest = among_all es in
+        list_any-append (bytes_eq p) (absent_candidates f (m.calls e.0 e.1)) (flat_map (λ e. absent_candidates f (m.calls e.0 e.1)) es) ∙ grind (arith, nat_tests, first, rest)
 
 pub missing_members : {I : Type 0} (m : Meaning I) (f : Folder) (p : List ℕ) → is_among p (missing_in m f) ≡ is_missing m f p
 unfolding missing_in

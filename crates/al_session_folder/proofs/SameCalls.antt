@@ -1,8 +1,8 @@
 -- Folders whose files have the same paths and call the same have the same graph of calls.
 use Rattle.std.proofs.lemmas.Bool.{and_parts}
 use Rattle.std.proofs.Common.{◌≡◌, ℕ, zero, suc, ◌+◌, ◌<◌, true, false, List, [], ◌∷◌, length, map, get_or, set, slice_get, take, Option, Some, None}
-use Rattle.std.proofs.Common.{Result, Ok, Err, Vec, refl, sym, ◌∙◌, ap, subst, arith, ◌&&◌, true≢false}
-use Rattle.std.specs.Prelude.{bytes_eq, ◌⊎◌}
+use Rattle.std.proofs.Common.{Vec, refl, sym, ◌∙◌, ap, subst, ◌&&◌, true≢false}
+use Rattle.std.specs.Prelude.{bytes_eq}
 use Rattle.std.specs.Bool.{Decides}
 use Rattle.std.specs.Global.{Global}
 use Rattle.std.specs.List.{cons_option, filter_map, position}
@@ -10,21 +10,17 @@ use Rattle.std.specs.List.Sorted.{IsStrictlySortedBy}
 use Rattle.std.specs.Option.{option_map, unwrap_or, option_or}
 use Rattle.std.specs.Ordering.{nat_cmp}
 use Rattle.std.specs.Cmp.Lexicographic.{slice_cmp}
-use Rattle.std.proofs.lemmas.List.{length-map, take_more_same}
-use Rattle.std.proofs.lemmas.Option.{slice_get-map, slice_get_within}
-use Rattle.al_graph.specs.Graphs.{Edge, Walk, edges_of}
+use Rattle.std.proofs.lemmas.List.{get_or_read, take_more_same}
+use Rattle.std.proofs.lemmas.Simd.{map-map}
 use Rattle.al_session_folder.specs.Meaning.{Meaning, candidates}
 use Rattle.al_session_folder.specs.Folder.{Folder, bytes_at, find_map, paths_of, with_file}
 use Rattle.al_session_folder.specs.Kept.{AreKept, Files, IsKept, file_at, folder_of}
 use Rattle.al_session_folder.specs.Loops.{callee, calls_graph, number_of_path}
-use Rattle.al_session_folder.specs.CallGraphs.{HasSameCalls, IsCallGraph, IsRow, TellLoops, is_same_target}
-use Rattle.al_session_folder.specs.Place.{path_place}
+use Rattle.al_session_folder.specs.CallGraphs.{HasSameCalls, IsCallGraph, TellLoops, is_same_target}
 use Rattle.al_session_folder.specs.declared.kept.KeptFile.{KeptFile}
 use Rattle.al_session_folder.specs.declared.lint.Target.{Target}
 use Rattle.al_session_folder.specs.declared.lint.Target.TheVariants.{FirstOf, Only}
-use Rattle.al_session_folder.proofs.Looping.{entry_there, same_read}
-use Rattle.al_session_folder.proofs.Places.{absent, found}
-use Rattle.al_session_folder.proofs.Views.{bytes_kept, bytes_same, bytes_self, kept_at}
+use Rattle.al_session_folder.proofs.Views.{bytes_kept, bytes_same, bytes_self, kept_at, place_of}
 
 -- ---- calls that are compared
 
@@ -33,11 +29,10 @@ differ apart = (λ h. absurd (true≢false (sym h)), λ p. absurd (apart p))
 
 pub same_target : (t u : Target) → is_same_target t u ≡ true → t ≡ u
 same_target (Only p) (Only q) h = ap Only (bytes_same p q h)
-same_target (Only p) (FirstOf q r) h = cc
-same_target (FirstOf p q) (Only r) h = cc
 same_target (FirstOf p q) (FirstOf r s) h =
     let parts = and_parts (bytes_eq p r) (bytes_eq q s) h in
     ap (λ x. FirstOf x q) (bytes_same p r parts.0) ∙ ap (FirstOf r) (bytes_same q s parts.1)
+same_target _ _ h = cc
 
 same_itself : (t : Target) → is_same_target t t ≡ true
 same_itself (Only p) = bytes_self p
@@ -59,18 +54,12 @@ take_same {X} xs ys i x y lt below is at same before =
 -- lists that differ at a place are not the same
 pub apart : (xs ys : List Target) (i : ℕ) (x y : Target) → i < length xs → x ≡ get_or xs i x → y ≡ get_or ys i y → is_same_target x y ≡ false → xs ≡ ys → ⊥
 apart xs ys i x y lt is at other e =
-    let same : x ≡ y = same_read xs i x y lt is (at ∙ ap (λ l. get_or l i y) (sym e)) in
+    let same : x ≡ y = get_or_read xs i x lt is y ∙ sym (at ∙ ap (λ l. get_or l i y) (sym e)) in
     true≢false (sym (same_itself y) ∙ ap (λ t. is_same_target t y) (sym same) ∙ other)
 
 -- ---- the graph of such a folder
 
 module _ {I : Type 0} (m : Meaning I) (f g : Folder) (same : HasSameCalls m f g) where
-  as_many : length g ≡ length f
-  as_many =
-      let n : length (paths_of g) ≡ length g = length-map g (λ e. e.0) in
-      let k : length (paths_of f) ≡ length f = length-map f (λ e. e.0) in
-      sym n ∙ ap length same.paths ∙ k
-
   among_same : (ps : List (List ℕ)) → find_map (number_of_path g) ps ≡ find_map (number_of_path f) ps
   among_same [] = refl
   among_same (p ∷ ps) = ap (λ l. option_or (position (bytes_eq p) l) (find_map (number_of_path g) ps)) same.paths ∙ ap (option_or (number_of_path f p)) (among_same ps)
@@ -79,43 +68,20 @@ module _ {I : Type 0} (m : Meaning I) (f g : Folder) (same : HasSameCalls m f g)
   row_same [] = refl
   row_same (t ∷ ts) = ap (λ o. cons_option o (filter_map (callee g) ts)) (among_same (candidates t)) ∙ ap (cons_option (callee f t)) (row_same ts)
 
-  rows_of : (es : Folder) → map (λ (e : List ℕ × List ℕ). filter_map (callee g) (m.calls e.0 e.1)) es
-      ≡ map (filter_map (callee f)) (map (λ (e : List ℕ × List ℕ). m.calls e.0 e.1) es)
-  rows_of [] = refl
-  rows_of (e ∷ es) =
-      ap (λ l. l ∷ map (λ (e : List ℕ × List ℕ). filter_map (callee g) (m.calls e.0 e.1)) es) (row_same (m.calls e.0 e.1))
-      ∙ ap (λ l. filter_map (callee f) (m.calls e.0 e.1) ∷ l) (rows_of es)
-
-  own_rows : (es : Folder) → map (filter_map (callee f)) (map (λ (e : List ℕ × List ℕ). m.calls e.0 e.1) es)
-      ≡ map (λ (e : List ℕ × List ℕ). filter_map (callee f) (m.calls e.0 e.1)) es
-  own_rows [] = refl
-  own_rows (e ∷ es) = ap (λ l. filter_map (callee f) (m.calls e.0 e.1) ∷ l) (own_rows es)
+  same_rows : (ls : List (List Target)) → map (filter_map (callee g)) ls ≡ map (filter_map (callee f)) ls
+  same_rows [] = refl
+  same_rows (ts ∷ ls) = ap (λ l. l ∷ map (filter_map (callee g)) ls) (row_same ts) ∙ ap (λ l. filter_map (callee f) ts ∷ l) (same_rows ls)
 
   pub graph_same : calls_graph m g ≡ calls_graph m f
-  graph_same = rows_of g ∙ ap (map (filter_map (callee f))) same.calls ∙ own_rows f
-
-  calls_number : (h : Folder) (i : ℕ) (e : List ℕ × List ℕ) → slice_get h i ≡ Some e → slice_get (map (λ (x : List ℕ × List ℕ). m.calls x.0 x.1) h) i ≡ Some (m.calls e.0 e.1)
-  calls_number h i e at =
-      slice_get-map (λ (x : List ℕ × List ℕ). m.calls x.0 x.1) h i ∙ ap (option_map (λ (x : List ℕ × List ℕ). m.calls x.0 x.1)) at
-
-  row_still : (graph : List (Vec ℕ Global)) (labels : List (Option ℕ)) → IsCallGraph m f graph labels → (i : ℕ) (p b : List ℕ) → slice_get g i ≡ Some (p, b) →
-      IsRow g (get_or (edges_of graph) i []) (m.calls p b)
-  row_still graph labels is i p b at =
-      let below = slice_get_within g i (p, b) at in
-      let e = entry_there f i (omega (arith, below, as_many)) in
-      let one : Some (m.calls e.0.0 e.0.1) ≡ Some (m.calls p b) = sym (calls_number f i e.0 e.1) ∙ ap (λ l. slice_get l i) (sym same.calls) ∙ calls_number g i (p, b) at in
-      let calls : m.calls e.0.0 e.0.1 ≡ m.calls p b = ap (λ o. unwrap_or o []) one in
-      let row : IsRow f (get_or (edges_of graph) i []) (m.calls p b) =
-      subst (λ (ts : List Target). IsRow f (get_or (edges_of graph) i []) ts) calls (is.rows i e.0.0 e.0.1 e.1) in
-      subst (λ (l : List ℕ). (get_or (edges_of graph) i [] ≡ []) ⊎ (get_or (edges_of graph) i [] ≡ l)) (sym (row_same (m.calls p b))) row
+  graph_same =
+      let calls : List ℕ × List ℕ → List Target = λ e. m.calls e.0 e.1 in
+      sym (map-map (filter_map (callee g)) calls g) ∙ same_rows (map calls g) ∙ ap (map (filter_map (callee f))) same.calls
+      ∙ map-map (filter_map (callee f)) calls f
 
   -- what is the graph of the one is that of the other
   pub graph_still : (graph : List (Vec ℕ Global)) (labels : List (Option ℕ)) → IsCallGraph m f graph labels → IsCallGraph m g graph labels
   graph_still graph labels is = record {
-    size = is.size ∙ sym as_many;
-    inside = λ j k e. let below = is.inside j k e in omega (arith, below, as_many);
-    rows = row_still graph labels is;
-    kept = subst (λ (l : List (List ℕ)). (j k : ℕ) → Edge l j k → Walk l k j → Edge (edges_of graph) j k) (sym graph_same) is.kept;
+    edges = is.edges ∙ sym graph_same;
     tell = subst (λ (l : List (List ℕ)). TellLoops l labels) (sym graph_same) is.tell;
   }
 
@@ -136,15 +102,7 @@ module _ {I : Type 0} (m : Meaning I) where
 
   pub put_calls : (f : Folder) (p b now : List ℕ) → IsStrictlySortedBy (slice_cmp nat_cmp) (paths_of f) → bytes_at f p ≡ Some b → m.calls p now ≡ m.calls p b →
       HasSameCalls m f (with_file f p now)
-  put_calls f p b now s there same = by (path_place (paths_of f) p) refl
-    where
-      by : (r : Result ℕ ℕ) → path_place (paths_of f) p ≡ r → HasSameCalls m f (with_file f p now)
-      by (Err i) h = let none : None ≡ Some b = sym (absent f p i s h) ∙ there in absurd cc
-      by (Ok i) h =
-          let r = found p f i h in
-          let one : Some r.bytes ≡ Some b = sym r.finds ∙ there in
-          let bytes : r.bytes ≡ b = ap (λ o. unwrap_or o b) one in
-          subst (HasSameCalls m f) (r.puts now) (set_calls f i p r.bytes now r.entry (same ∙ ap (m.calls p) (sym bytes)))
+  put_calls f p b now s there same = let at = place_of p b f s there in subst (HasSameCalls m f) (at.2 now) (set_calls f at.0 p b now at.1 same)
 
   -- among kept files
   pub put_same_calls : {U : Type 0} (is_unit : U → List ℕ → List ℕ → Type 0) (files : Files U I) (p : List ℕ) (file : KeptFile U I) → AreKept m is_unit files → IsKept m is_unit p file →

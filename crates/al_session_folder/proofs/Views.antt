@@ -6,7 +6,7 @@ use Rattle.std.proofs.lemmas.Cmp.{eq_by_cmp_equiv, nat_list_cmp_total, nat_list_
 use Rattle.std.proofs.lemmas.Map.Entries.{none_past_head, lookup_from_place, place_from_lookup}
 use Rattle.std.proofs.lemmas.List.Elements.{recursion_from_All}
 use Rattle.std.proofs.lemmas.Option.{slice_get-get_or, get_or_from_slice_get}
-use Rattle.std.proofs.Common.{String, is_some, true≢false, set, Result, Ok, Err, ◌≡◌, ℕ, Bool, true, false, cond, List, [], ◌∷◌, Option, Some, None, refl, sym, ◌∙◌, ap, subst}
+use Rattle.std.proofs.Common.{String, is_some, true≢false, set, slice_get, Result, Ok, Err, ◌≡◌, ℕ, Bool, true, false, cond, List, [], ◌∷◌, Option, Some, None, refl, sym, ◌∙◌, ap, subst}
 use Rattle.std.specs.Global.{Global}
 use Rattle.std.specs.Prelude.{string_bytes, bytes_eq, IsSome, IfSome}
 use Rattle.std.specs.Borrow.{Bor}
@@ -124,17 +124,24 @@ module _ {U I : Type 0} where
             let is : kept ≡ file = ap (λ o. unwrap_or o file) here in
             subst (IsKept m is_unit q) is (subst (λ (x : List ℕ). IsKept m is_unit x kept) (sym (bytes_same q p a)) next)
 
--- a file that is put with the bytes that it has
-pub put_same : (p b : List ℕ) (f : Folder) → IsStrictlySortedBy (slice_cmp nat_cmp) (paths_of f) → bytes_at f p ≡ Some b → with_file f p b ≡ f
-put_same p b f s there = by (path_place (paths_of f) p) refl
+-- a file that is there has a place, where a put sets it
+pub place_of : (p b : List ℕ) (f : Folder) → IsStrictlySortedBy (slice_cmp nat_cmp) (paths_of f) → bytes_at f p ≡ Some b
+    → (i : ℕ) × (slice_get f i ≡ Some (p, b)) × ((now : List ℕ) → set f i (p, now) ≡ with_file f p now)
+place_of p b f s there = by (path_place (paths_of f) p) refl
   where
-    by : (r : Result ℕ ℕ) → path_place (paths_of f) p ≡ r → with_file f p b ≡ f
+    by : (r : Result ℕ ℕ) → path_place (paths_of f) p ≡ r → (i : ℕ) × (slice_get f i ≡ Some (p, b)) × ((now : List ℕ) → set f i (p, now) ≡ with_file f p now)
     by (Err i) h = let none : None ≡ Some b = sym (absent f p i s h) ∙ there in absurd cc
     by (Ok i) h =
         let r = found p f i h in
         let same : Some r.bytes ≡ Some b = sym r.finds ∙ there in
-        let bytes : r.bytes ≡ b = ap (λ o. unwrap_or o b) same in
-        sym (r.puts b) ∙ ap (set f i) (sym (get_or_from_slice_get f i (p, b) (p, b) (r.entry ∙ ap (λ x. Some (p, x)) bytes))) ∙ set-get_or f i (p, b)
+        let bytes : r.bytes ≡ b = cc in
+        (i, r.entry ∙ ap (λ x. Some (p, x)) bytes, r.puts)
+
+-- a file that is put with the bytes that it has
+pub put_same : (p b : List ℕ) (f : Folder) → IsStrictlySortedBy (slice_cmp nat_cmp) (paths_of f) → bytes_at f p ≡ Some b → with_file f p b ≡ f
+put_same p b f s there =
+    let at = place_of p b f s there in
+    sym (at.2 b) ∙ ap (set f at.0) (sym (get_or_from_slice_get f at.0 (p, b) (p, b) at.1)) ∙ set-get_or f at.0 (p, b)
 
 -- each file of a folder in order is found in it
 pub all_in : (f : Folder) → IsStrictlySortedBy (slice_cmp nat_cmp) (paths_of f) → AllByRecursion (λ x. bytes_at f x.0 ≡ Some x.1) f

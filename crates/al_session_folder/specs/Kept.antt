@@ -4,9 +4,9 @@ use Rattle.std.specs.Prelude.{length, map, String, string_bytes, bytes_eq, cond}
 use Rattle.std.specs.Borrow.{Bor}
 use Rattle.std.specs.Global.{Global}
 use Rattle.std.specs.Option.{option_map, option_map_or}
-use Rattle.std.specs.List.{AllByRecursion, list_any}
+use Rattle.std.specs.List.{AllByRecursion}
 use Rattle.std.specs.List.Sorted.{IsStrictlySortedBy}
-use Rattle.std.specs.Ordering.{is_ge, is_le, nat_cmp}
+use Rattle.std.specs.Ordering.{nat_cmp}
 use Rattle.std.specs.Cmp.Lexicographic.{slice_cmp}
 use Rattle.std.specs.Map.{lookup}
 use Rattle.indexmap.specs.IndexMap.{IndexMap, get_by_text}
@@ -15,7 +15,7 @@ use Rattle.al_base.specs.declared.faults.Fault.{Fault}
 use Rattle.al_base.specs.Limits.{largest_file, most_files}
 use Rattle.al_base.specs.LineStarts.{line_starts}
 use Rattle.al_base.specs.Paths.{path_fault_of}
-use Rattle.al_session_folder.specs.Meaning.{Meaning, candidates, is_candidate}
+use Rattle.al_session_folder.specs.Meaning.{Meaning, is_candidate}
 use Rattle.al_session_folder.specs.Folder.{Folder, bytes_at, faults_in, paths_of, with_file, without_file}
 use Rattle.al_session_folder.specs.declared.kept.Calls.{Calls}
 use Rattle.al_session_folder.specs.declared.kept.KeptFile.{KeptFile}
@@ -40,19 +40,10 @@ folder_of files = map entry_of files
 abbrev pub file_at : {U I : Type 0} → Files U I → List ℕ → Option (KeptFile U I)
 file_at files q = lookup (λ k. bytes_eq q (string_bytes k)) files
 
--- whether a candidate of a call is this path, or stands behind it, or in front of it, in order of path
-abbrev pub goes_forward : List ℕ → Target → Bool
-goes_forward p t = list_any (λ c. is_le (slice_cmp nat_cmp p c)) (candidates t)
-
-abbrev pub goes_backward : List ℕ → Target → Bool
-goes_backward p t = list_any (λ c. is_ge (slice_cmp nat_cmp p c)) (candidates t)
-
--- The calls of the file at a path, by what they call, as they are kept.
-pub record AreCalls (path : List ℕ) (ts : List Target) (calls : Calls) : Type 0 where
+-- The calls of a file, by what they call, as they are kept.
+pub record AreCalls (ts : List Target) (calls : Calls) : Type 0 where
   pub targets : calls.targets.items ≡ ts
   pub candidates : (c : List ℕ) → contains_text calls.candidates c ≡ is_candidate ts c
-  pub forward : calls.go_forward ≡ list_any (goes_forward path) ts
-  pub backward : calls.go_backward ≡ list_any (goes_backward path) ts
 
 -- A kept file is one that the linter takes, and its parts are those of its bytes.
 pub record IsKept {U I : Type 0} (m : Meaning I) (is_unit : U → List ℕ → List ℕ → Type 0) (path : List ℕ)
@@ -63,7 +54,7 @@ pub record IsKept {U I : Type 0} (m : Meaning I) (is_unit : U → List ℕ → L
   pub lines : file.lines ≡ line_starts file.bytes.items
   pub unit : is_unit file.unit path file.bytes.items
   pub iface : file.iface ≡ m.interface path file.bytes.items
-  pub calls : AreCalls path (m.calls path file.bytes.items) file.calls
+  pub calls : AreCalls (m.calls path file.bytes.items) file.calls
 
 abbrev pub AllKept : {U I : Type 0} → Meaning I → (U → List ℕ → List ℕ → Type 0) → Files U I → Type 0
 AllKept m is_unit files = AllByRecursion (λ e. IsKept m is_unit (string_bytes e.0) e.1) files

@@ -108,12 +108,7 @@ impl<'a, L: Lint> PlannedChange<'a, L> {
             (λ t. option_eq L.Iface.eq (answer L.meaning self.now.before t)
             (answer L.meaning (changed_by self.now) t)) targets.now }
     {
-        for target in targets {
-            if !self.has_same_answer(target) {
-                return false;
-            }
-        }
-        true
+        targets.iter().all(|target| self.has_same_answer(target))
     }
 
     // Adds the path of a caller behind the others, where the change affects it.

@@ -177,12 +177,9 @@ pub struct CandidateChange<'a> {
     pub after: &'a IndexSet<String>,
 }
 
-/// Makes a file, which is a caller of the candidates before the change, one of those after it too.
-///
-/// # Errors
-///
-/// [`AllocError`] where memory ran out. The callers are then as before.
-pub fn index_calls(
+// Makes a file, which is a caller of the candidates before the change, one of those after it too. On failure the callers are
+// as before.
+fn index_calls(
     alloc: Global,
     callers: &mut Callers,
     file: &CandidateChange<'_>,

@@ -6,7 +6,6 @@
 mod affected;
 mod callers;
 mod calls;
-mod directions;
 mod joining;
 mod kept;
 mod lint;
@@ -19,14 +18,14 @@ mod same_calls;
 mod view;
 
 pub use affected::PlannedChange;
-pub use callers::{CandidateChange, drop_callers, index_calls, reindex};
+pub use callers::{CandidateChange, drop_callers, reindex};
 pub use calls::calls_of;
 pub use joining::{find_loops, has_loops, join_files};
 pub use kept::{Callers, Calls, Files, KeptFile};
 pub use lint::{Lint, Refused, Site, Target};
 pub use loops::{CallGraph, LinkedFiles, call_graph};
 pub use missing::missing_paths;
-pub use paths::Paths;
+pub use paths::{Paths, owned_path};
 pub use place::{file_number, place_in};
 pub use report::{has_faults, write_files};
 pub use same_calls::has_same_calls;

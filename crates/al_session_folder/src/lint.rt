@@ -11,6 +11,7 @@ ghost use Rattle.al_session_folder.specs.Meaning.{AreAnswers, Meaning};
 ghost use Rattle.al_session_folder.specs.Sites.{site_fault};
 ghost use Rattle.al_base.specs.Counted.{count_after};
 
+use crate::paths::owned_path;
 use al_base::{Code, Fault, Path, Span};
 use std::alloc::{AllocError, Global};
 use thiserror::Error;
@@ -32,20 +33,14 @@ impl Target {
         ensures { IfOk result (λ copy. copy ≡ self.now) }
     {
         match self {
-            Target::Only(path) => Ok(Target::Only(copy_of(alloc, path)?)),
+            Target::Only(path) => Ok(Target::Only(owned_path(alloc, path.as_str())?)),
             Target::FirstOf(first, second) => {
-                let first = copy_of(alloc, first)?;
-                Ok(Target::FirstOf(first, copy_of(alloc, second)?))
+                let first = owned_path(alloc, first.as_str())?;
+                let second = owned_path(alloc, second.as_str())?;
+                Ok(Target::FirstOf(first, second))
             }
         }
     }
-}
-
-// A copy of a path.
-fn copy_of(alloc: Global, path: &Path) -> Result<Path, AllocError>
-    ensures { IfOk result (λ copy. copy ≡ path.now) }
-{
-    Path::new(alloc, path.as_str()).map_err(|_| AllocError)
 }
 
 /// Where a call stands, and what is said where it is on a call cycle.

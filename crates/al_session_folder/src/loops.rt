@@ -1,19 +1,17 @@
 //! Call cycles.
 
-ghost use Rattle.std.specs.Prelude.{◌≡◌, ◌<◌, ◌+◌, ◌++◌, ◌&&◌, ◌==◌, [], ◌∷◌, ℕ, List, None, Some, Contains, cond, length, not, true};
-ghost use Rattle.std.specs.Prelude.{nat_eq, nat_le, nat_lt, slice_get, slice_index_or};
+ghost use Rattle.std.specs.Prelude.{◌≡◌, ◌<◌, ◌++◌, ◌==◌, [], ◌∷◌, ℕ, List, None, Some, Contains, cond, length, not};
+ghost use Rattle.std.specs.Prelude.{nat_eq, slice_get, slice_index_or};
 ghost use Rattle.std.specs.Prelude.{IfOk, IfSome, OnOk};
-ghost use Rattle.std.specs.List.{cons_option, filter_map, list_any};
+ghost use Rattle.std.specs.List.{filter_map, list_any};
 ghost use Rattle.std.specs.Option.{option_eq};
 ghost use Rattle.al_graph.specs.Graphs.{edges_of};
 ghost use Rattle.al_session_folder.specs.Kept.{AreKept, folder_of};
 ghost use Rattle.al_session_folder.specs.Loops as loops;
-ghost use Rattle.al_session_folder.specs.CallGraphs.{AreLinked, IsCallGraph, IsCalledBy, IsRow, NoneBackward, NoneForward};
-ghost use Rattle.al_session_folder.specs.CallGraphs.{TellLoops, edges_between};
+ghost use Rattle.al_session_folder.specs.CallGraphs.{AreLinked, IsCallGraph, IsCalledBy, TellLoops};
 ghost use Rattle.al_session_folder.specs.Sites.{site_fault};
-ghost use Rattle.al_session_folder.specs.declared.lint.Target.{Target};
 
-use crate::kept::{Files, KeptFile};
+use crate::kept::Files;
 use crate::lint::{Lint, Site, Target};
 use crate::place::file_number;
 use al_base::{Args, Fault, FaultSink, Path};
@@ -21,11 +19,11 @@ use al_graph::strongly_connected_components;
 use std::alloc::{AllocError, Global};
 use std::marker::Model;
 
-/// The calls between the files of a folder, which are known by their numbers in order of path, as far as they can be
-/// on a cycle. It depends on the paths of the files and on their calls, and on nothing else of them.
+/// The calls between the files of a folder, which are known by their numbers in order of path. It depends on the paths of
+/// the files and on their calls, and on nothing else of them.
 #[derive(Drop)]
 pub struct CallGraph {
-    // For each file the numbers of the files that its calls lead to, or none where no call of the file can be on a cycle.
+    // For each file the numbers of the files that its calls lead to.
     graph: Vec<Vec<usize>>,
     // Of each file a label, the same for two files that these calls lead between just where they lead from each to the other.
     labels: Vec<Option<usize>>,
@@ -53,25 +51,6 @@ fn callee<U, I>(files: &Files<U, I>, target: &Target) -> Option<usize>
     }
 }
 
-/// Adds the number of the file that a call leads to.
-fn add_callee<U, I>(
-    files: &Files<U, I>,
-    target: &Target,
-    numbers: &mut Vec<usize>,
-) -> Result<(), AllocError>
-    ensures { OnOk result (numbers.new.items
-        ≡ numbers.old.items
-        ++ cons_option (loops.callee (folder_of files.now.entries) target.now) []) }
-{
-    match callee(files, target) {
-        None => Ok(()),
-        Some(number) => {
-            numbers.push(number)?;
-            Ok(())
-        }
-    }
-}
-
 /// The numbers of the files that calls lead to, in order.
 fn callees<U, I>(
     alloc: Global,
@@ -82,87 +61,33 @@ fn callees<U, I>(
         (λ numbers. numbers.items
         ≡ filter_map (loops.callee (folder_of files.now.entries)) targets.now) }
 {
-    let mut numbers = Vec::with_capacity(alloc, targets.len())?;
-    for target in targets {
-        add_callee(files, target, &mut numbers)?;
-    }
-    Ok(numbers)
+    targets
+        .iter()
+        .filter_map(|target| callee(files, target))
+        .collect(alloc)
 }
 
-/// The number of the first file that calls its own path or one behind it, or how many files there are. Calls of the files before it go back
-/// in the order of paths, and so do all calls that they lead to: none is on a cycle.
-fn first_forward<U, I>(files: &Files<U, I>) -> usize
-    ensures { NoneForward files.now.entries result }
-{
-    for index in 0..files.len() {
-        let (_, file) = file_number(files, index);
-        if file.calls.go_forward {
-            return index;
-        }
-    }
-    files.len()
-}
-
-/// The number behind the last file that calls its own path or one in front of it, or 0. Calls of the files from there on go on in the order
-/// of paths.
-fn end_backward<U, I>(files: &Files<U, I>) -> usize
-    ensures { NoneBackward files.now.entries result }
-{
-    let mut end = files.len();
-    while end > 0 {
-        let (_, file) = file_number(files, end - 1);
-        if file.calls.go_backward {
-            return end;
-        }
-        end -= 1;
-    }
-    0
-}
-
-/// Whether a number isn't before one and is before the other.
-fn is_between(first: usize, index: usize, end: usize) -> bool
-    ensures { result ≡ (nat_le first index && nat_lt index end) }
-{
-    first <= index && index < end
-}
-
-/// The calls of a file, or none.
-fn calls_if<U, I>(is_wanted: bool, file: &KeptFile<U, I>) -> &[Target]
-    ensures { result.now ≡ cond is_wanted file.now.calls.targets.items [] }
-{
-    if is_wanted {
-        file.calls.targets.as_slice()
-    } else {
-        &[]
-    }
-}
-
-/// For each file from one number on and before another the numbers of the files that its calls lead to, and for the others none.
+/// For each file the numbers of the files that its calls lead to.
 fn calls_graph<L: Lint>(
     alloc: Global,
     files: &Files<L::Unit, L::Iface>,
-    first: usize,
-    end: usize,
 ) -> Result<Vec<Vec<usize>>, AllocError>
     requires { AreKept L.meaning L.is_unit files.now.entries }
     ensures { IfOk result
         (λ graph. edges_of graph.items
-        ≡ edges_between first end (loops.calls_graph L.meaning (folder_of files.now.entries))) }
+        ≡ loops.calls_graph L.meaning (folder_of files.now.entries)) }
 {
     let mut graph = Vec::with_capacity(alloc, files.len())?;
     for index in 0..files.len() {
         let (_, file) = file_number(files, index);
-        let is_wanted = is_between(first, index, end);
-        let calls = calls_if(is_wanted, file);
-        graph.push(callees(alloc, files, calls)?)?;
+        graph.push(callees(alloc, files, &file.calls.targets)?)?;
     }
     Ok(graph)
 }
 
-/// The calls between the files, as far as they can be on a cycle, with the strongly connected components of their graph.
+/// The calls between the files, with the strongly connected components of their graph.
 ///
-/// Takes time in proportion to the files and calls, and looks each candidate of a call up by hash, but for those of files whose calls can't
-/// be on a cycle: where all calls of the files before one go back in the order of paths, or all calls of the files from one on go on.
+/// Takes time in proportion to the files and calls, and looks each candidate of a call up by hash.
 ///
 /// # Errors
 ///
@@ -176,9 +101,7 @@ pub fn call_graph<L: Lint>(
         (λ calls. IsCallGraph L.meaning
         (folder_of files.now.entries) calls.graph.items calls.labels.items) }
 {
-    let first = first_forward(files);
-    let end = end_backward(files);
-    let graph = calls_graph::<L>(alloc, files, first, end)?;
+    let graph = calls_graph::<L>(alloc, files)?;
     let labels = strongly_connected_components(alloc, graph.as_slice())?;
     Ok(CallGraph { graph, labels })
 }
@@ -206,26 +129,6 @@ fn has_label_of(nodes: &[usize], labels: &[Option<usize>], node: usize) -> bool
         }
     }
     false
-}
-
-/// The number of the file that one of a file's calls leads to, by the row that these calls gave in the graph. Where each of them leads to a
-/// file, it has its place in the row, and nothing is looked up again.
-fn callee_again<U, I>(
-    files: &Files<U, I>,
-    row: &[usize],
-    calls: &[Target],
-    call: usize,
-) -> Option<usize>
-    requires row { IsRow (folder_of files.now.entries) row.now calls.now }
-    requires call { call < length calls.now }
-    ensures { (target : Target) → target ≡ slice_index_or calls.now call target
-        → result ≡ loops.callee (folder_of files.now.entries) target }
-{
-    if row.len() == calls.len() {
-        Some(row[call])
-    } else {
-        callee(files, &calls[call])
-    }
 }
 
 /// Whether a call of the file with this number is on a call cycle, by the number of the file that the call leads to.
@@ -321,11 +224,10 @@ impl<'a, L: Lint> LinkedFiles<'a, L> {
         ensures { (p b : List ℕ) → slice_get self.now index ≡ Some (p, b) → OnOk result (faults.new
             ≡ faults.old ++ loops.loop_faults L.meaning self.now index p b) }
     {
-        let row = self.calls.graph[index].as_slice();
         let (_, file) = file_number(self.files, index);
         let targets = file.calls.targets.as_slice();
         for call in 0..targets.len() {
-            let to = callee_again(self.files, row, targets, call);
+            let to = callee(self.files, &targets[call]);
             let leads_back = leads_back(&self.calls.labels, index, to);
             add_fault_if(leads_back, lint.site(&file.unit, call), faults)?;
         }
@@ -333,7 +235,7 @@ impl<'a, L: Lint> LinkedFiles<'a, L> {
     }
 
     /// The faults of the calls of the file with this number that are on a call cycle, in their order. No candidate is looked up of a
-    /// file each of whose calls leads to a file, nor of one none of whose calls is on a cycle.
+    /// file none of whose calls is on a cycle.
     ///
     /// # Errors
     ///

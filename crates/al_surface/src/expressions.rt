@@ -1,9 +1,9 @@
 //! `al_expr`: tokens, trees, chunks, signatures and types.
 
 use al_expr::{
-    Available, Chunk, ContextSet, ContextTypes, Expr, FunctionSet, Operand, Operator, Parameters,
-    PathStep, Returned, Scope, Signature, TokenKind, Ty, Wanted, Word, assignable, chunks, fuse,
-    lex, parse_expr, signature_of, type_of,
+    Available, Chunk, Context, ContextTypes, Expr, Operand, Operator, Parameters, PathStep,
+    Returned, Scope, Signature, TokenKind, Ty, Wanted, Word, assignable, chunks, fuse, lex,
+    parse_expr, signature_of, type_of,
 };
 use al_text::{Code, ExpressionCode, Fault};
 use std::alloc::{AllocError, Global};
@@ -244,27 +244,8 @@ fn context_types(alloc: Global) -> ContextTypes {
 
 fn only_github() -> Available {
     Available {
-        contexts: ContextSet {
-            github: true,
-            env: false,
-            vars: false,
-            secrets: false,
-            runner: false,
-            job: false,
-            strategy: false,
-            needs: false,
-            jobs: false,
-            steps: false,
-            matrix: false,
-            inputs: false,
-        },
-        functions: FunctionSet {
-            hash_files: false,
-            success: false,
-            always: false,
-            cancelled: false,
-            failure: false,
-        },
+        contexts: &[Context::Github],
+        special: &[],
     }
 }
 

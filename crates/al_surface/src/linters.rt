@@ -177,7 +177,7 @@ fn knows_secrets(alloc: Global, tree: &Tree, known: Answers<'_>) -> Result<bool,
     let env = Env::new(alloc, File { kind, root, known })?;
     Ok(
         env.scope.types.get(Context::Secrets).form() == Form::Object
-            && !env.scope.available.contexts.contains(Context::Secrets),
+            && !env.scope.available.contexts.contains(&Context::Secrets),
     )
 }
 

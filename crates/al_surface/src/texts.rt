@@ -8,12 +8,16 @@ use al_text::{
 };
 use std::alloc::{AllocError, Global};
 
-static PATHS: [(&str, Option<PathFault>); 6] = [
+static PATHS: [(&str, Option<PathFault>); 10] = [
     ("a/action.yml", None),
     ("", Some(PathFault::Empty)),
-    ("/a", Some(PathFault::Absolute)),
+    ("/../\n", Some(PathFault::Absolute)),
+    ("a//b\n", Some(PathFault::BadPart)),
+    ("a/./b", Some(PathFault::BadPart)),
     ("a/../b", Some(PathFault::BadPart)),
+    ("../x.yml", Some(PathFault::BadPart)),
     ("a\\b", Some(PathFault::BadByte)),
+    ("a/b\u{7f}", Some(PathFault::BadByte)),
     ("a//\\", Some(PathFault::BadPart)),
 ];
 
@@ -51,6 +55,33 @@ fn a_path_has_1024_bytes(rt: HostRuntime) -> Result<(), AllocError> {
     let longer = letters(rt.alloc(), 1_025)?;
     assert!(rt; path_fault(longer.as_str()) == Some(PathFault::TooLong));
     Ok(())
+}
+
+/// One break, and characters of two and three bytes.
+const TEXT: &str = "a\r\né\u{20ac}b\rc";
+
+static PLACES: [(u32, (u32, u32)); 6] = [
+    (0, (1, 1)),
+    (2, (1, 3)),
+    (3, (2, 1)),
+    (5, (2, 2)),
+    (8, (2, 3)),
+    (10, (3, 1)),
+];
+
+fn places() -> &'static [(u32, (u32, u32))] {
+    &PLACES
+}
+
+fn is_at(bytes: &[u8], offset: u32, place: (u32, u32)) -> bool {
+    offset as usize <= bytes.len() && bytes.len() <= 1_048_576 && position(bytes, offset) == place
+}
+
+#[test]
+fn offsets_have_positions(rt: HostRuntime) {
+    for (offset, place) in places() {
+        assert!(rt; is_at(TEXT.as_bytes(), *offset, *place));
+    }
 }
 
 static KINDS: [(Code, &str); 6] = [

@@ -93,7 +93,15 @@ fn read(alloc: Global, file: &[u8]) -> Result<Result<Doc, YamlFault>, AllocError
     read_yaml(alloc, file)
 }
 
-static FAULTS: [(&[u8], YamlCode, u32); 10] = [
+/// Anchors and aliases that would stand for more than a hundred thousand nodes.
+const ALIASES: &[u8] = b"x0: &x0 [1, 1, 1, 1, 1, 1, 1, 1, 1, 1]
+x1: &x1 [*x0, *x0, *x0, *x0, *x0, *x0, *x0, *x0, *x0, *x0]
+x2: &x2 [*x1, *x1, *x1, *x1, *x1, *x1, *x1, *x1, *x1, *x1]
+x3: &x3 [*x2, *x2, *x2, *x2, *x2, *x2, *x2, *x2, *x2, *x2]
+x4: &x4 [*x3, *x3, *x3, *x3, *x3, *x3, *x3, *x3, *x3, *x3]
+";
+
+static FAULTS: [(&[u8], YamlCode, u32); 12] = [
     (b"a: b: c\n", YamlCode::UnexpectedCharacter, 4),
     (b"a:\n\tb: c\n", YamlCode::TabInIndentation, 3),
     (b"a: 'b\n", YamlCode::UnclosedQuote, 3),
@@ -104,6 +112,12 @@ static FAULTS: [(&[u8], YamlCode, u32); 10] = [
     (b"---\na: 1\n...\nb: 2\n", YamlCode::SecondDocument, 13),
     (b"a: \xff", YamlCode::NotUtf8, 3),
     (b"a: &a [*a]\n", YamlCode::UnknownAlias, 7),
+    (
+        b"on:\n  push:\n    branches: [${{ github.ref }}]\n",
+        YamlCode::UnexpectedCharacter,
+        28,
+    ),
+    (ALIASES, YamlCode::TooManyNodes, 260),
 ];
 
 fn faults() -> &'static [(&'static [u8], YamlCode, u32)] {
@@ -113,7 +127,11 @@ fn faults() -> &'static [(&'static [u8], YamlCode, u32)] {
 fn has_fault(alloc: Global, file: &[u8], code: YamlCode, start: u32) -> Result<bool, AllocError> {
     match read(alloc, file)? {
         Ok(_) => Ok(false),
-        Err(fault) => Ok(fault.code == code && fault.span.start == start),
+        Err(fault) => Ok(
+            fault.code == code
+                && fault.span.start == start
+                && fault.span.end == start.saturating_add(1),
+        ),
     }
 }
 

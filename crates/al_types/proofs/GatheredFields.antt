@@ -7,9 +7,9 @@ use Rattle.std.specs.Str.{bytes_eq}
 use Rattle.al_base.specs.Names.{lower_case, same_name}
 use Rattle.al_types.specs.FusedFields.{are_distinct}
 use Rattle.al_types.specs.Puts.{TypedName, firsts, put_or_fuse, put_all, put_new}
-use Rattle.al_types.specs.Types.{Type', Fields, Optional, field_at, fuse_optional, fuse_type, has_field, optional}
+use Rattle.al_types.specs.Types.{Type', Fields, Optional, Present, common_in, field_at, fuse_optional, fuse_type, has_field, optional}
 use Rattle.al_types.specs.TypeParts.{common_type}
-use Rattle.al_types.proofs.FuseLaws.{common_optional}
+use Rattle.al_types.proofs.FuseLaws.{common_optional, last_turned, optional_assoc}
 use Rattle.al_types.proofs.JoinedFields.{first_apart, has_field_at, has_same, nothing_at, others_apart, same_turned}
 
 -- a type where a name is the one that is asked for
@@ -54,6 +54,17 @@ found_put [] p n = refl
 found_put (q ∷ qs) p n =
     put_step (same_name q.0 p.0) (same_name q.0 n) (same_name p.0 n) n q p qs (put_or_fuse qs p) (λ s. ap (λ m. bytes_eq m (lower_case n)) ((bytes_decides _ _).0 s))
     (λ f s. ap (bytes_eq (lower_case p.0)) (sym ((bytes_decides _ _).0 s)) ∙ same_turned p.0 q.0 ∙ f) refl (found_put qs p n)
+
+common_step : (b : Bool) (q p : TypedName) (qs more : List TypedName) → common_in more ≡ fuse_optional (common_in qs) (Present p.1) →
+    common_in (if b then (q.0, fuse_type q.1 p.1) ∷ qs else q ∷ more) ≡ fuse_optional (common_in (q ∷ qs)) (Present p.1)
+common_step true q p qs more e = last_turned (Present q.1) (Present p.1) (common_in qs)
+common_step false q p qs more e =
+    ap (fuse_optional (Present q.1)) e ∙ sym (optional_assoc (Present q.1) (common_in qs) (Present p.1))
+
+-- what all have in common then
+pub common_put : (ts : List TypedName) (p : TypedName) → common_in (put_or_fuse ts p) ≡ fuse_optional (common_in ts) (Present p.1)
+common_put [] p = refl
+common_put (q ∷ qs) p = common_step (same_name q.0 p.0) q p qs (put_or_fuse qs p) (common_put qs p)
 
 -- ---- many that are put, whose names are distinct
 

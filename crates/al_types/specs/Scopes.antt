@@ -1,12 +1,12 @@
 -- What a place makes available.
-use Rattle.std.specs.Prelude.{Bool, true}
+use Rattle.std.specs.Prelude.{List, [], ◌∷◌, Bool, ◌||◌, not}
+use Rattle.std.specs.List.{list_any}
+use Rattle.al_types.specs.contracts.names.ContextPartialEq.TheImpl as contexts
+use Rattle.al_types.specs.contracts.names.FunctionPartialEq.TheImpl as functions
 use Rattle.al_types.specs.declared.names.Context.{Context}
-use Rattle.al_types.specs.declared.names.Context.TheVariants as context
 use Rattle.al_types.specs.declared.names.Function.{Function}
-use Rattle.al_types.specs.declared.names.Function.TheVariants as function
+use Rattle.al_types.specs.declared.names.Function.TheVariants.{Always, Cancelled, Failure, HashFiles, Success}
 use Rattle.al_types.specs.declared.scope.Available as code
-use Rattle.al_types.specs.declared.scope.ContextSet.{ContextSet}
-use Rattle.al_types.specs.declared.scope.FunctionSet.{FunctionSet}
 use Rattle.al_types.specs.Types.{Type'}
 
 -- which contexts are there, and which functions can be called
@@ -20,27 +20,24 @@ pub record Scope : Type 0 where
   pub available : Available
   pub in_run : Bool
 
-abbrev pub is_available : ContextSet → Context → Bool
-is_available s context.Github = s.github
-is_available s context.Env = s.env
-is_available s context.Vars = s.vars
-is_available s context.Secrets = s.secrets
-is_available s context.Runner = s.runner
-is_available s context.Job = s.job
-is_available s context.Strategy = s.strategy
-is_available s context.Needs = s.needs
-is_available s context.Jobs = s.jobs
-is_available s context.Steps = s.steps
-is_available s context.Matrix = s.matrix
-is_available s context.Inputs = s.inputs
+-- the functions that tell how a job went so far
+abbrev pub status : List Function
+status = Always ∷ Cancelled ∷ Success ∷ Failure ∷ []
 
-abbrev pub is_allowed : FunctionSet → Function → Bool
-is_allowed s function.HashFiles = s.hash_files
-is_allowed s function.Success = s.success
-is_allowed s function.Always = s.always
-is_allowed s function.Cancelled = s.cancelled
-is_allowed s function.Failure = s.failure
-is_allowed s _ = true
+-- the functions that only some places make available
+abbrev pub special : List Function
+special = HashFiles ∷ status
+
+abbrev pub is_special : Function → Bool
+is_special f = list_any (λ g. functions.ghosts.eq g f) special
+
+-- A special function has to be listed.
+abbrev pub can_call : List Function → Function → Bool
+can_call fs f = not (is_special f) || list_any (λ g. functions.ghosts.eq g f) fs
+
+-- these contexts, and these special functions
+abbrev pub available : List Context → List Function → Available
+available cs fs = record { contexts = λ c. list_any (λ d. contexts.ghosts.eq d c) cs; functions = can_call fs }
 
 abbrev pub available_of : code.Available → Available
-available_of a = record { contexts = is_available a.contexts; functions = is_allowed a.functions }
+available_of a = available a.contexts.now a.special.now

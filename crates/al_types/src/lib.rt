@@ -11,5 +11,5 @@ mod signatures;
 pub use forms::Form;
 pub use law::{all_fields_cover_each, objects_fuse, types_fuse};
 pub use names::{CONTEXTS, Context, Function};
-pub use scope::{Available, ContextSet, FunctionSet};
+pub use scope::{Available, SPECIAL_FUNCTIONS};
 pub use signatures::{Parameters, Returned, Signature, Wanted, signature_of};

@@ -25,8 +25,6 @@ mod sets;
 #[cfg(test)]
 mod shown;
 #[cfg(test)]
-mod texts;
-#[cfg(test)]
 mod trees;
 #[cfg(test)]
 mod types;

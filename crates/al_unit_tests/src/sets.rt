@@ -5,7 +5,7 @@ use al_check_contexts::File;
 use al_check_places::{available, placed_scalars, rows};
 use al_expr_typing::Scope;
 use al_tree::FileKind;
-use al_types::{Context, ContextSet, Function, FunctionSet};
+use al_types::{Available, CONTEXTS, SPECIAL_FUNCTIONS};
 use std::alloc::{AllocError, Global};
 
 const WORKFLOW: &[u8] = b"name: '${{ anything }}'
@@ -28,51 +28,20 @@ const ACTION: &[u8] = b"runs:
     - {run: '${{ in-run }}', shell: sh, if: in-if}
 ";
 
-static CONTEXTS: [Context; 12] = [
-    Context::Github,
-    Context::Env,
-    Context::Vars,
-    Context::Secrets,
-    Context::Runner,
-    Context::Job,
-    Context::Strategy,
-    Context::Needs,
-    Context::Jobs,
-    Context::Steps,
-    Context::Matrix,
-    Context::Inputs,
-];
-
-static SPECIAL: [Function; 5] = [
-    Function::Always,
-    Function::Cancelled,
-    Function::Success,
-    Function::Failure,
-    Function::HashFiles,
-];
-
-fn all_contexts() -> &'static [Context] {
-    &CONTEXTS
-}
-
-fn special_functions() -> &'static [Function] {
-    &SPECIAL
-}
-
-fn count_of_contexts(set: &ContextSet) -> usize {
+fn count_of_contexts(available: &Available) -> usize {
     let mut count: usize = 0;
-    for context in all_contexts() {
-        if set.contains(*context) {
+    for context in &CONTEXTS {
+        if available.contexts.contains(context) {
             count = count.saturating_add(1);
         }
     }
     count
 }
 
-fn count_of_functions(set: &FunctionSet) -> usize {
+fn count_of_functions(available: &Available) -> usize {
     let mut count: usize = 0;
-    for function in special_functions() {
-        if set.allows(*function) {
+    for function in &SPECIAL_FUNCTIONS {
+        if available.allows(*function) {
             count = count.saturating_add(1);
         }
     }
@@ -83,8 +52,8 @@ fn count_of_functions(set: &FunctionSet) -> usize {
 type Told = (&'static str, usize, usize, bool);
 
 fn is_told(scope: &Scope, told: &Told) -> bool {
-    count_of_contexts(&scope.available.contexts) == told.1
-        && count_of_functions(&scope.available.functions) == told.2
+    count_of_contexts(&scope.available) == told.1
+        && count_of_functions(&scope.available) == told.2
         && scope.in_run == told.3
 }
 

@@ -3,7 +3,7 @@
 ghost use Rattle.std.specs.Prelude.{◌≡◌, true};
 ghost use Rattle.al_expr_types.specs.Tables.{is_known};
 
-use al_expr_trees::{Field, Ty, tree_of};
+use al_expr::{Field, Ty, tree_of};
 use al_expr_types::Types;
 use std::alloc::{AllocError, Global};
 

@@ -233,9 +233,8 @@ fn entry_on(bytes: &[u8], column: usize, next: Next) -> Result<Option<usize>, Fa
     ensures column { IfOk result (λ found. IfSome found (λ at. column ≤ at)) }
     ensures here { IfOk result (λ found. IfSome found (IsNextAt next)) }
 {
-    let (indent, at) = match next {
-        Next::Ended => return Ok(None),
-        Next::Line { indent, at } => (indent, at),
+    let Next::Line { indent, at } = next else {
+        return Ok(None);
     };
     if indent == column {
         return Ok(Some(at));

@@ -30,6 +30,7 @@ use al_yaml_parts::part::Part;
 use al_yaml_parts::scalars::read_line_scalar;
 use al_yaml_parts::slots::{Spot, is_behind_key, tab_before};
 use al_yaml_parts::starts::{block_fault, is_block_start, is_flow_start, is_property};
+use std::alloc::AllocError;
 
 /// Whether a scalar here can't be a key: it is a block scalar, or a value on the line of its key.
 fn is_no_key(bytes: &[u8], spot: Spot, at: usize) -> bool
@@ -50,6 +51,19 @@ fn is_refused_key(bytes: &[u8], spot: Spot, next: usize) -> bool
         return false;
     }
     has_colon(bytes, next)
+}
+
+/// Whether an anchor or alias stands on a key, as none on the line of its own key does.
+fn is_on_block_key(file: &File, spot: Spot, at: usize) -> Result<bool, AllocError>
+    requires inside { at ≤ size file.now }
+    requires property { content.is_property (text_at file.now.bytes.now at) ≡ true }
+    ensures { IfOk result (λ b. b ≡
+        (not (block.is_behind_key (spot_of spot)) && keys.is_on_key (left_at file.now at))) }
+{
+    if is_behind_key(spot) {
+        return Ok(false);
+    }
+    is_on_key(file, at)
 }
 
 /// Reads a flow collection in block context and the rest of its line.
@@ -164,7 +178,8 @@ fn read_property(
     if has_no_name(file.bytes, node.start.at) {
         return Err(unexpected);
     }
-    if !is_behind_key(node.slot.spot) && is_on_key(file, node.start.at)? {
+    let on_key = is_on_block_key(file, node.slot.spot, node.start.at)?;
+    if on_key {
         return Err(ReadError::Fault(FaultAt {
             code: YamlCode::AnchorOrAlias,
             at: node.start.at,

@@ -3,7 +3,6 @@
 ghost use Rattle.al_scalar.specs.Line as line;
 ghost use Rattle.al_scalar.specs.ReadScalar.{read_of};
 ghost use Rattle.al_scalar.specs.Places.{lines_at, text_at};
-ghost use Rattle.al_yaml_tree.specs.Content as content;
 ghost use Rattle.al_yaml_parts.specs.Files.{left_at, size};
 ghost use Rattle.al_yaml.specs.Private.FlowFrames.{IsAfter, IsPlaceInside, IsPut, IsStep, Resumes};
 ghost use Rattle.al_yaml.specs.Private.FlowFrames.{Steps, after_of, closer_of, open_of, waiting_of};
@@ -14,7 +13,7 @@ ghost use Rattle.al_yaml_parts.specs.Reads as reads;
 ghost use Rattle.al_yaml_parts.specs.Reads.{IsStopInside, part_of, state_of};
 ghost use Rattle.al_yaml_tree.specs.View.{entries_of, entry_view, nodes_of, view};
 ghost use Rattle.al_yaml_parts.specs.declared.frames.Open.TheVariants as open_code;
-ghost use Rattle.std.specs.Prelude.{IfErr, IfOk, false, length, map, true, ℕ, ◌+◌, ◌<◌, ◌≡◌, ◌≤◌};
+ghost use Rattle.std.specs.Prelude.{IfErr, IfOk, false, length, map, ℕ, ◌+◌, ◌<◌, ◌≡◌, ◌≤◌};
 
 use al_base::YamlCode;
 use al_scalar::lines::begins;
@@ -23,14 +22,12 @@ use al_yaml_parts::content::gap_end;
 use al_yaml_parts::faults::ReadError;
 use al_yaml_parts::file::File;
 use al_yaml_parts::flow_nodes::{
-    Bracket, FlowSlot, FoundKey, FoundNode, read_flow_key, read_flow_property, read_flow_scalar,
-    read_flow_value,
+    Bracket, FlowSlot, FoundKey, FoundNode, read_flow_key, read_flow_node, read_flow_value,
 };
 use al_yaml_parts::frames::{Open, OpenMapping};
 use al_yaml_parts::limits::State;
 use al_yaml_parts::lines::is_text_end;
 use al_yaml_parts::part::Part;
-use al_yaml_parts::starts::{is_flow_start, is_property};
 use al_yaml_tree::{Entry, Node, entry_of, scalar_node};
 
 /// What follows an item: a comma, with the offset of what comes next, or the closing bracket, with the offset after it.
@@ -129,35 +126,6 @@ fn put_entry(
     Ok(after_item(file.bytes, opening, b'}', gap_end(file.bytes, part.next))?)
 }
 
-/// Reads an item that begins with an anchor or is an alias, up to what follows it or to an opening bracket.
-fn read_property_item(
-    file: &File,
-    state: &mut State,
-    items: &mut Vec<Node>,
-    place: FlowPlace,
-) -> Result<FlowStep, ReadError>
-    requires place { IsPlaceInside (size file.now) place }
-    requires property { content.is_property (text_at file.now.bytes.now place.at) ≡ true }
-    requires solid { false ≡ line.is_empty (text_at file.now.bytes.now place.at) }
-    requires other { false ≡ line.begins 93 (text_at file.now.bytes.now place.at) }
-    ensures fault { IfErr result (IsStopInside (size file.now)) }
-    ensures is { Steps file.now.bytes.now place.depth place.opening
-        (λ c t. open_rest c t place.depth place.opening
-        (frames.items (nodes_of (map view items.old.items))) (left_at file.now place.at))
-        (state_of state.old) (open_code.Items items.new)
-        result (state_of state.new) }
-    ensures within { IfOk result (IsStep file.now.bytes.now place.at) }
-{
-    let slot = FlowSlot {
-        opening: place.opening,
-        empty: None,
-    };
-    match read_flow_property(file, state, slot, place.at, place.depth)? {
-        FoundNode::Node(part) => Ok(FlowStep::Behind(put_item(file, place.opening, items, part)?)),
-        FoundNode::Opens(bracket) => Ok(FlowStep::Opens(bracket)),
-    }
-}
-
 /// Reads an open sequence, not at its closing bracket, up to what follows its next item or to an opening bracket in it.
 fn read_item(
     file: &File,
@@ -176,18 +144,14 @@ fn read_item(
         result (state_of state.new) }
     ensures within { IfOk result (IsStep file.now.bytes.now place.at) }
 {
-    // a bracket has no fault, and is neither an anchor nor an alias
-    if is_flow_start(file.bytes, place.at) {
-        return Ok(FlowStep::Opens(Bracket {
-            at: place.at,
-            anchor: None,
-        }));
+    let slot = FlowSlot {
+        opening: place.opening,
+        empty: None,
+    };
+    match read_flow_node(file, state, slot, place.at, place.depth)? {
+        FoundNode::Node(part) => Ok(FlowStep::Behind(put_item(file, place.opening, items, part)?)),
+        FoundNode::Opens(bracket) => Ok(FlowStep::Opens(bracket)),
     }
-    if is_property(file.bytes, place.at) {
-        return read_property_item(file, state, items, place);
-    }
-    let part = read_flow_scalar(file, state, place.at)?;
-    Ok(FlowStep::Behind(put_item(file, place.opening, items, part)?))
 }
 
 /// Reads an open mapping, not at its closing bracket, up to what follows its next entry or to an opening bracket in it.

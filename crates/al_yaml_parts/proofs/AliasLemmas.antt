@@ -1,5 +1,5 @@
 -- What an alias reads, and its limits.
-use Rattle.std.proofs.Common.{◌≡◌, ℕ, zero, suc, ◌+◌, ◌-◌, ◌<◌, ◌≤◌, List, [], ◌∷◌, length, refl, sym, ap, ◌∙◌, arith, Bool, true, false, ◌||◌, cond, nat_lt, Option, Some, None, Ok, Err}
+use Rattle.std.proofs.Common.{◌≡◌, ℕ, zero, suc, ◌+◌, ◌-◌, ◌<◌, ◌≤◌, List, [], ◌∷◌, length, refl, sym, ap, ◌∙◌, arith, Bool, false, ◌||◌, cond, nat_lt, Option, Some, None, Ok, Err}
 use Rattle.std.proofs.lemmas.Grind.{common_steps}
 use Rattle.al_base.specs.declared.codes.YamlCode.TheVariants as yaml
 use Rattle.al_scalar.specs.declared.faults.FaultAt.{FaultAt}
@@ -55,17 +55,11 @@ same-limits n t at depth x nodes text levels deep a b c d =
     let f : nat_lt 1048576 (t + text) ≡ nat_lt 1048576 (t + text_size x) = ap (λ m. nat_lt 1048576 (t + m)) b ∙ same-text t (text_size x) in
     let g : nat_lt 64 deep ≡ nat_lt 64 (deepest depth (levels_in x)) =
     ap (nat_lt 64) (d ∙ ap (λ l. most_counted (deepest depth l)) c) ∙ same-deepest depth (levels_in x) in
-    ap (λ u. broken u (nat_lt 1048576 (t + text)) (nat_lt 64 deep) at) e ∙ ap (λ u. broken (nat_lt 100000 (n + nodes_in x)) u (nat_lt 64 deep) at) f
-    ∙ ap (λ u. broken (nat_lt 100000 (n + nodes_in x)) (nat_lt 1048576 (t + text_size x)) u at) g
+    rw (e, f, g) refl
 
 -- what fits is counted as it is
 fits : (n t nodes text deep at : ℕ) → broken_limit n t (start_with at nodes text deep ∷ []) ≡ None → (nat_lt 100000 (n + nodes) ≡ false) × (nat_lt 1048576 (t + text) ≡ false)
-fits n t nodes text deep at h = by-cases (nat_lt 100000 (n + nodes)) (nat_lt 1048576 (t + text)) (nat_lt 64 deep) h
-  where
-    by-cases : (a b c : Bool) → broken a b c at ≡ None → (a ≡ false) × (b ≡ false)
-    by-cases false false c k = (refl, refl)
-    by-cases false true c k = absurd cc
-    by-cases true b c k = absurd cc
+fits n t nodes text deep at h = (grind (arith, common_steps, h), grind (arith, common_steps, h))
 
 exact-nodes : (n m : ℕ) → nat_lt 100000 (n + most_counted m) ≡ false → most_counted m ≡ m
 exact-nodes n m h = grind (arith, common_steps, h)
@@ -95,8 +89,7 @@ module _ (s : State) (name : List ℕ) (at depth : ℕ) where
         run-alias s name at depth (Some a) found
         ∙ run-any_start s (alias_start at depth a.node) (gives a.node) (sym same ∙ h)
         ∙ run-gives (record { nodes = s.nodes + nodes_in a.node; text = s.text + text_size a.node; known = s.known }) a.node
-        ∙ ap (λ m. Ok (a.node, record { nodes = m; text = s.text + text_size a.node; known = s.known })) (ap (λ m. s.nodes + m) (sym p) ∙ sym c)
-        ∙ ap (λ m. Ok (a.node, record { nodes = n; text = m; known = s.known })) (ap (λ m. s.text + m) (sym q) ∙ sym d)
+        ∙ rw (c, d, ← p, ← q) refl
 
 -- ---- an alias with what is left behind it
 
@@ -115,5 +108,4 @@ module _ (bytes : List ℕ) (at : ℕ) (inside : at ≤ length bytes) (s : State
       → run s (alias (anchor_name (lines_at bytes at)) at depth) ≡ Ok (n, t) → run s (alias_part depth (lines_at bytes at)) ≡ Ok (part n end (lines_at bytes end), t)
   alias-part n t end to h k =
       alias-here ∙ bind-ok (alias (anchor_name (lines_at bytes at)) at depth) behind_alias s t n k
-      ∙ run-gives t (part n (start (behind_name (lines_at bytes at))) (behind_name (lines_at bytes at)))
-      ∙ ap (λ ls. Ok (part n (start ls) ls, t)) h ∙ ap (λ i. Ok (part n i (lines_at bytes end), t)) (start-at bytes end to)
+      ∙ rw (h, start-at bytes end to) (run-gives t (part n end (lines_at bytes end)))

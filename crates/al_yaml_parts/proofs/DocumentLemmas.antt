@@ -1,17 +1,16 @@
 -- The lines round a document against offsets.
-use Rattle.std.proofs.Common.{◌≡◌, ℕ, ◌+◌, ◌<◌, ◌≤◌, List, [], ◌∷◌, length, drop, slice_index, refl, sym, ap, ◌∙◌, arith, Bool, true, false, cond, Some, Result, Ok}
+use Rattle.std.proofs.Common.{◌≡◌, ℕ, ◌+◌, ◌<◌, ◌≤◌, List, [], ◌∷◌, length, drop, slice_index, refl, sym, ap, ◌∙◌, arith, true, false, Some}
 use Rattle.al_base.specs.declared.codes.YamlCode.TheVariants as yaml
-use Rattle.al_scalar.specs.Line.{Cell, Line, start, cut, is_empty, begins, is_marker, spaces_dropped}
-use Rattle.al_scalar.specs.Places.{first_text, lines_at, text_at}
+use Rattle.al_scalar.specs.Line.{Cell, Line, cut, is_empty, begins, is_marker, spaces_dropped}
+use Rattle.al_scalar.specs.Places.{lines_at, text_at}
 use Rattle.al_scalar.specs.LineEnds.{IsLineEnd}
 use Rattle.al_scalar.specs.Taken.{fault}
-use Rattle.al_scalar.specs.declared.faults.FaultAt.{FaultAt}
-use Rattle.al_yaml_tree.specs.Content.{behind, line_ended}
-use Rattle.al_yaml_tree.specs.Document.{first_line, ended_behind, last_line}
+use Rattle.al_yaml_tree.specs.Content.{behind}
+use Rattle.al_yaml_tree.specs.Document.{first_line, last_line}
 use Rattle.al_yaml_parts.specs.Private.DocumentLines.{IsBehindMarker}
 use Rattle.al_yaml_parts.proofs.LineLemmas.{behind-one}
 use Rattle.al_scalar.proofs.RestLemmas.{start-at}
-use Rattle.al_scalar.proofs.SingleLemmas.{text-line_end, never, IsInside, is_inside}
+use Rattle.al_scalar.proofs.LineCells.{text-line_end, never, IsInside, is_inside}
 use Rattle.al_scalar.proofs.PlainLemmas.{text_at-cell}
 
 -- ---- markers
@@ -69,44 +68,19 @@ module _ (bytes : List ℕ) (i b : ℕ) (h : i ≤ length bytes) (m : true ≡ i
   pub marker-found : IsBehindMarker bytes i b (Some (i + 3))
   marker-found = let found = marker-behind in (m, found.0, omega arith, found.1)
 
--- ---- the first line
-
-abbrev pub first_step : Bool → Bool → ℕ → Result (List Line) FaultAt → Result (List Line) FaultAt → Result (List Line) FaultAt
-first_step directive marker at marked plain = cond directive (fault yaml.Directive at) (cond marker marked plain)
+-- ---- the first line, and the last
 
 module _ (bytes : List ℕ) (at : ℕ) where
   pub first-directive : at ≤ length bytes → true ≡ begins 37 (text_at bytes at) → first_line (lines_at bytes at) ≡ fault yaml.Directive at
-  first-directive inside h =
-      ap (λ b. first_step b (is_marker 45 (text_at bytes at)) (start (lines_at bytes at)) (line_ended (behind 3 (lines_at bytes at))) (Ok (lines_at bytes at))) (sym h)
-      ∙ ap (fault yaml.Directive) (start-at bytes at inside)
+  first-directive inside h = rw (← h, start-at bytes at inside) refl
 
--- ---- the last line
-
-abbrev pub last_step : Bool → Bool → Bool → ℕ → Result (Unit {0}) FaultAt → ℕ → Result (Unit {0}) FaultAt
-last_step second marker tab at marked solid =
-    cond second (fault yaml.SecondDocument at) (cond marker marked (cond tab (fault yaml.TabInIndentation solid) (fault yaml.WrongIndentation solid)))
-
-abbrev pub last_at : List Line → Bool → Bool → Result (Unit {0}) FaultAt
-last_at ls second marker = last_step second marker (begins 9 (first_text (spaces_dropped ls))) (start ls) (ended_behind (behind 3 ls)) (start (spaces_dropped ls))
-
-module _ (bytes : List ℕ) (at : ℕ) where
   pub last-second : at ≤ length bytes → true ≡ is_marker 45 (text_at bytes at) → last_line (lines_at bytes at) ≡ fault yaml.SecondDocument at
-  last-second inside h = ap (λ b. last_at (lines_at bytes at) b (is_marker 46 (text_at bytes at))) (sym h) ∙ ap (fault yaml.SecondDocument) (start-at bytes at inside)
+  last-second inside h = rw (← h, start-at bytes at inside) refl
 
-  module _ (h : false ≡ is_marker 45 (text_at bytes at)) where
-    last-other : last_line (lines_at bytes at) ≡ last_at (lines_at bytes at) false (is_marker 46 (text_at bytes at))
-    last-other = ap (λ b. last_at (lines_at bytes at) b (is_marker 46 (text_at bytes at))) (sym h)
+  module _ (h : false ≡ is_marker 45 (text_at bytes at)) (m : false ≡ is_marker 46 (text_at bytes at)) (solid : ℕ)
+      (w : spaces_dropped (lines_at bytes at) ≡ lines_at bytes solid) (inside : solid ≤ length bytes) where
+    pub last-tab : true ≡ begins 9 (text_at bytes solid) → last_line (lines_at bytes at) ≡ fault yaml.TabInIndentation solid
+    last-tab t = rw (← h, ← m, w, ← t, start-at bytes solid inside) refl
 
-    module _ (m : false ≡ is_marker 46 (text_at bytes at)) (solid : ℕ) (w : spaces_dropped (lines_at bytes at) ≡ lines_at bytes solid) (inside : solid ≤ length bytes) where
-      last-content : (tab : Bool) → tab ≡ begins 9 (text_at bytes solid) → last_line (lines_at bytes at) ≡ cond tab (fault yaml.TabInIndentation solid) (fault yaml.WrongIndentation solid)
-      last-content tab t =
-          last-other ∙ ap (last_at (lines_at bytes at) false) (sym m)
-          ∙ ap (λ ls. last_step false false (begins 9 (first_text ls)) (start (lines_at bytes at)) (ended_behind (behind 3 (lines_at bytes at))) (start ls)) w
-          ∙ ap (λ b. last_step false false b (start (lines_at bytes at)) (ended_behind (behind 3 (lines_at bytes at))) (start (lines_at bytes solid))) (sym t)
-          ∙ ap (last_step false false tab (start (lines_at bytes at)) (ended_behind (behind 3 (lines_at bytes at)))) (start-at bytes solid inside)
-
-      pub last-tab : true ≡ begins 9 (text_at bytes solid) → last_line (lines_at bytes at) ≡ fault yaml.TabInIndentation solid
-      last-tab t = last-content true t
-
-      pub last-indent : false ≡ begins 9 (text_at bytes solid) → last_line (lines_at bytes at) ≡ fault yaml.WrongIndentation solid
-      last-indent t = last-content false t
+    pub last-indent : false ≡ begins 9 (text_at bytes solid) → last_line (lines_at bytes at) ≡ fault yaml.WrongIndentation solid
+    last-indent t = rw (← h, ← m, w, ← t, start-at bytes solid inside) refl

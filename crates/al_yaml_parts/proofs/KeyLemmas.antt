@@ -7,7 +7,8 @@ use Rattle.al_scalar.specs.Line.{Cell, Line, lines, is_break, with_cell, with_re
 use Rattle.al_scalar.specs.Places.{first_text, first_end, lines_at, text_at}
 use Rattle.al_scalar.specs.LineEnds.{IsBreakByte, IsLineEnd}
 use Rattle.std.proofs.Common.{zero}
-use Rattle.std.proofs.lemmas.Bool.{eqb-true}
+use Rattle.std.proofs.Math.Bool.{or-false}
+use Rattle.std.proofs.lemmas.Bool.{and_parts, eq-eqb, eqb-true, ne_eqb, or_right}
 use Rattle.al_scalar.specs.Plain.{Context, flow, block, is_value_colon, ends_key, begins_flow_indicator}
 use Rattle.al_scalar.proofs.MarkerLemmas.{begins-inside}
 use Rattle.al_yaml_tree.specs.Content.{same_line, characters, behind}
@@ -16,7 +17,7 @@ use Rattle.al_yaml_parts.specs.BlockReads as block_reads
 use Rattle.al_yaml_parts.specs.Places.{IsColon}
 use Rattle.al_yaml_parts.proofs.LineLemmas.{solid-lines, behind-one}
 use Rattle.al_scalar.proofs.LineParts.{blanks_dropped-stays, Kind, at_file_end, at_break, at_byte, kind, end-here}
-use Rattle.al_scalar.proofs.SingleLemmas.{has_line, lines-some, lines-at_end, text-line_end, is_inside, never}
+use Rattle.al_scalar.proofs.LineCells.{has_line, lines-some, lines-at_end, text-line_end, is_inside, never}
 use Rattle.al_scalar.proofs.LineLemmas.{lines_at-other}
 use Rattle.al_scalar.proofs.PlainLemmas.{text_at-cell}
 
@@ -43,18 +44,12 @@ lines-end at (b ∷ bs) = end_from-cond (is_break b bs) (b == 13) at (b, at) (li
 pub end-from : (bytes : List ℕ) (i : ℕ) → i ≤ first_end (lines_at bytes i)
 end-from bytes i = lines-end i (drop i bytes)
 
-is_not : (a b : ℕ) → a ≢ b → (a == b) ≡ false
-is_not a b h = grind (arith, common_steps, h)
-
-is_same : (a b : ℕ) → a ≡ b → (a == b) ≡ true
-is_same a b h = grind (arith, common_steps, h)
-
 pub other_line : (bytes : List ℕ) (from i to : ℕ) → i < to → to ≤ length bytes → IsBreakByte (slice_index bytes i) → first_end (lines_at bytes from) ≡ first_end (lines_at bytes i)
     → false ≡ same_line (lines_at bytes from) (lines_at bytes to)
 other_line bytes from i to o h k e =
     let here = end-here bytes i (omega arith) (λ _. k) in
     let there = end-from bytes to in
-    sym (is_not (first_end (lines_at bytes from)) (first_end (lines_at bytes to)) (λ d. omega (arith, here, there, e, d)))
+    sym (ne_eqb (first_end (lines_at bytes from)) (first_end (lines_at bytes to)) (λ d. omega (arith, here, there, e, d)))
 
 -- ---- characters
 
@@ -64,7 +59,7 @@ line_end-before : (bytes : List ℕ) (from i to : ℕ) → i < to → to ≤ len
 line_end-before bytes from i to o h s e k =
     let here = end-here bytes i (omega arith) k in
     let there = end-from bytes to in
-    never (sym (is_not (first_end (lines_at bytes from)) (first_end (lines_at bytes to)) (λ d. omega (arith, here, there, e, d))) ∙ s)
+    never (sym (ne_eqb (first_end (lines_at bytes from)) (first_end (lines_at bytes to)) (λ d. omega (arith, here, there, e, d))) ∙ s)
 
 end-step : (bytes : List ℕ) (i : ℕ) → Kind bytes i → first_end (lines_at bytes i) ≤ first_end (lines_at bytes (i + 1))
 end-step bytes i (at_file_end e) =
@@ -104,7 +99,7 @@ same_line-before bytes from mid to a b c h =
     let e = same_ends (lines_at bytes from) (lines_at bytes to) h in
     let one = end-order bytes from mid a (omega arith) in
     let two = end-order bytes mid to b c in
-    is_same (first_end (lines_at bytes from)) (first_end (lines_at bytes mid)) (omega (arith, e, one, two))
+    eq-eqb (first_end (lines_at bytes from)) (first_end (lines_at bytes mid)) (omega (arith, e, one, two))
 
 abbrev pub counted_byte : Bool → ℕ → ℕ
 counted_byte continues more = cond continues more (more + 1)
@@ -176,10 +171,6 @@ module _ (bytes : List ℕ) (from i to : ℕ) (inside : to ≤ length bytes) whe
 
 -- ---- colons
 
-or-false : (a : Bool) → (a || false) ≡ a
-or-false true = refl
-or-false false = refl
-
 none : (t : List Cell) → false ≡ begins 58 t → (p : Context) → false ≡ is_value_colon p t
 none [] h p = refl
 none (c ∷ cs) h p = ap (λ b. b && ends_key p cs) h
@@ -206,25 +197,13 @@ solid-colon bytes solid inside h =
     let no_end = begins-inside bytes solid 58 inside (sym h) in
     (behind-one bytes solid inside no_end, (is_inside bytes solid inside no_end).inside)
 
-first : (a b : Bool) → true ≡ (a && b) → a ≡ true
-first true b h = refl
-first false b h = sym h
-
-second : (a b : Bool) → true ≡ (a && b) → b ≡ true
-second true b h = sym h
-second false b h = absurd (never (sym h))
-
-or-true : (b : Bool) → (b || true) ≡ true
-or-true true = refl
-or-true false = refl
-
 no_blank : (t : List Cell) → begins 58 t ≡ true → begins_blank t ≡ false
 no_blank [] h = refl
 no_blank (c ∷ cs) h = let e : c.0 ≡ 58 = eqb-true c.0 58 h in rw e refl
 
 begins-value : (p : Context) (t : List Cell) → true ≡ is_value_colon p t → begins 58 t ≡ true
 begins-value p [] h = absurd (never (sym h))
-begins-value p (c ∷ cs) h = first (c.0 == 58) (ends_key p cs) h
+begins-value p (c ∷ cs) h = (and_parts (c.0 == 58) (ends_key p cs) (sym h)).0
 
 blanks_text : (ls : List Line) → first_text (blanks_dropped ls) ≡ after_blanks (first_text ls)
 blanks_text [] = refl
@@ -239,7 +218,7 @@ module _ (bytes : List ℕ) (at solid : ℕ) (from : at ≤ solid) (inside : sol
   found_by p b h =
       let both = solid-colon bytes solid inside (begins-value p (text_at bytes solid) h) in
       let l : solid < length bytes = both.1 in
-      let value : (b || is_value_colon p (after_blanks (text_at bytes at))) ≡ true = ap (λ t. b || is_value_colon p t) text_solid ∙ ap (λ x. b || x) (sym h) ∙ or-true b in
+      let value : (b || is_value_colon p (after_blanks (text_at bytes at))) ≡ true = or_right b _ (ap (is_value_colon p) text_solid ∙ sym h) in
       (ap (λ x. cond x (Some (behind 1 (blanks_dropped (lines_at bytes at)))) None) value ∙ ap (λ ls. Some (behind 1 ls)) e ∙ ap Some both.0, omega arith, omega arith)
 
   pub block_found : true ≡ is_value_colon (block 0) (text_at bytes solid) → IsColon (block_reads.behind_colon_in_block (lines_at bytes at)) bytes at (Some (solid + 1))
@@ -251,7 +230,7 @@ module _ (bytes : List ℕ) (at solid : ℕ) (from : at ≤ solid) (inside : sol
 pub quoted_found : (bytes : List ℕ) (at : ℕ) (q : Bool) → at ≤ length bytes → true ≡ (q && begins 58 (text_at bytes at))
     → IsColon (items.behind_colon_in_flow q (lines_at bytes at)) bytes at (Some (at + 1))
 quoted_found bytes at q inside h =
-    let colon : begins 58 (text_at bytes at) ≡ true = second q (begins 58 (text_at bytes at)) h in
+    let colon : begins 58 (text_at bytes at) ≡ true = (and_parts q (begins 58 (text_at bytes at)) (sym h)).1 in
     let both = solid-colon bytes at inside colon in
     let l : at < length bytes = both.1 in (
       ap (λ x. cond (x || is_value_colon flow (after_blanks (text_at bytes at))) (Some (behind 1 (blanks_dropped (lines_at bytes at)))) None) (sym h)

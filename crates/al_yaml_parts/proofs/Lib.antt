@@ -1,4 +1,3 @@
-pub mod Choices
 pub mod LineLemmas
 pub mod NameLemmas
 pub mod SumLemmas

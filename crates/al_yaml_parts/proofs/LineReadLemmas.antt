@@ -25,7 +25,7 @@ use Rattle.al_yaml_parts.specs.Places.{IsReadInside}
 use Rattle.al_yaml_parts.specs.Reads.{State, run, with_nodes, FailsWith, Refuses, Answers, part_of}
 use Rattle.al_yaml_parts.specs.declared.faults.ReadError.{ReadError}
 use Rattle.al_yaml_parts.specs.declared.faults.ReadError.TheVariants as stop
-use Rattle.al_scalar.proofs.SingleLemmas.{has_line, lines_at-some, lines-at_end, text-line_end, is_inside}
+use Rattle.al_scalar.proofs.LineCells.{has_line, lines_at-some, lines-at_end, text-line_end, is_inside}
 use Rattle.al_scalar.proofs.LineLemmas.{lines_at-other}
 use Rattle.al_scalar.proofs.RestLemmas.{start-at}
 use Rattle.al_scalar.proofs.PlacedLemmas.{placed-wider}
@@ -33,7 +33,6 @@ use Rattle.al_yaml_parts.proofs.KeyLemmas.{end-more, end-order}
 use Rattle.al_scalar.proofs.LineParts.{end-here}
 use Rattle.al_yaml_parts.proofs.RunLemmas.{run-gives, run-start, run-broken, run-stop, run-refused}
 use Rattle.al_yaml_parts.proofs.ReadLemmas.{stops-from, stops-given, given-ok, same_part}
-use Rattle.al_yaml_parts.proofs.Choices.{if-true, if-false}
 
 -- ---- a file cut at a line's end
 
@@ -175,10 +174,10 @@ answers-same bytes asked other (Err (stop.Fault f)) e h = e ∙ h
 answers-same bytes asked other (Err stop.Memory) e h = tt
 
 pub key-quoted : (ls : List Line) → true ≡ starts_quoted (first_text ls) → key_scalar ls ≡ scalar_at (block 0) ls
-key-quoted ls h = if-true (starts_quoted (first_text ls)) _ _ h
+key-quoted ls h = rw (← h) refl
 
 pub key-plain : (ls : List Line) → false ≡ starts_quoted (first_text ls) → key_scalar ls ≡ plain_on_line ls
-key-plain ls h = if-false (starts_quoted (first_text ls)) _ _ h
+key-plain ls h = rw (← h) refl
 
 -- ---- a scalar with the rest of its line
 

@@ -9,13 +9,12 @@ use Rattle.al_scalar.specs.LineEnds.{cells_at, cells_between, with_cells_before,
 use Rattle.al_scalar.specs.Plain.{is_flow_indicator}
 use Rattle.al_scalar.proofs.LineLemmas.{cells_between-more, with_cells_before-more}
 use Rattle.al_scalar.proofs.PlainLemmas.{text_at-cell}
-use Rattle.al_scalar.proofs.SingleLemmas.{is_inside, never, text-line_end}
+use Rattle.al_scalar.proofs.LineCells.{is_inside, never, text-line_end}
 use Rattle.al_yaml_tree.specs.Content.{anchor_cells, anchor_name, behind, behind_name, ends_name, has_no_name, is_property, same_line}
-use Rattle.al_yaml_parts.proofs.Choices.{if-false}
 use Rattle.al_yaml_parts.proofs.LineLemmas.{first_cell, solid-lines}
 
 name-cell : (c : Cell) (cs : List Cell) → false ≡ ends_name (c ∷ cs) → anchor_cells (c ∷ cs) ≡ c ∷ anchor_cells cs
-name-cell c cs h = if-false (is_blank c || is_flow_indicator c.0) _ _ h
+name-cell c cs h = rw (← h) refl
 
 not-empty : (cs : List Cell) → false ≡ ends_name cs → false ≡ is_empty cs
 not-empty [] h = absurd (never h)

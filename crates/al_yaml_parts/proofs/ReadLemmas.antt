@@ -74,12 +74,7 @@ read-from seen r q n m k (Err e) g h = stops-from r q n m e g h
 
 pub same_part : {A : Type 0} (v w : A) (end end' : ℕ) (left left' : List Line) (m m' : State) → v ≡ w → end ≡ end' → left ≡ left' → m ≡ m'
     → ◌≡◌ {A = Result (Part A × State) FaultAt} (Ok (part v end left, m)) (Ok (part w end' left', m'))
-same_part {A = A} v w end end' left left' m m' a b c d =
-    let f : A → Result (Part A × State) FaultAt = λ x. Ok (part x end left, m) in
-    let g : ℕ → Result (Part A × State) FaultAt = λ i. Ok (part w i left, m) in
-    let h : List Line → Result (Part A × State) FaultAt = λ ls. Ok (part w end' ls, m) in
-    let j : State → Result (Part A × State) FaultAt = λ i. Ok (part w end' left', i) in
-    ap f a ∙ ap g b ∙ ap h c ∙ ap j d
+same_part v w end end' left left' m m' a b c d = rw (a, b, c, d) refl
 
 -- ---- scalars
 

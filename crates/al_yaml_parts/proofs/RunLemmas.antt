@@ -3,7 +3,7 @@ use Rattle.std.proofs.Common.{◌≡◌, ℕ, ◌+◌, List, [], ◌∷◌, ◌+
 use Rattle.std.specs.Prelude.{nat_lt}
 use Rattle.al_base.specs.declared.codes.YamlCode.{YamlCode}
 use Rattle.al_scalar.specs.declared.faults.FaultAt.{FaultAt}
-use Rattle.al_yaml_tree.specs.Reading.{Start, start_of, Anchor, gives_with_anchor, with_anchor, no_anchors, with_start}
+use Rattle.al_yaml_tree.specs.Reading.{Start, start_of, Anchor, gives_with_anchor, no_anchors, with_start}
 use Rattle.al_yaml_tree.specs.Reading.{KnownAnchors, Outcome, Reading, gives, fails, of_result, after, next, ◌>>=◌}
 use Rattle.al_yaml_tree.specs.Limits.{broken_limit, unless_fault, within_limits, nodes_listed, text_listed}
 use Rattle.al_base.specs.Limits.{deepest_collection, most_alias_text, most_nodes}
@@ -50,22 +50,13 @@ text_listed-append (s ∷ ss) ys = omega (arith, text_listed-append ss ys)
 
 -- ---- what is read next
 
-goes-state : {A : Type 0} (n t : ℕ) (xs ys : List Start) (k : KnownAnchors) (r : Result A FaultAt) (b : Option FaultAt)
-    → with_state (record { nodes = n + nodes_listed (xs ++ ys); text = t + text_listed (xs ++ ys); known = k }) (unless_fault b r)
-    ≡ with_state (record { nodes = (n + nodes_listed xs) + nodes_listed ys; text = (t + text_listed xs) + text_listed ys; known = k }) (unless_fault b r)
-goes-state n t xs ys k r b =
-    let e : n + nodes_listed (xs ++ ys) ≡ (n + nodes_listed xs) + nodes_listed ys = omega (arith, nodes_listed-append xs ys) in
-    let d : t + text_listed (xs ++ ys) ≡ (t + text_listed xs) + text_listed ys = omega (arith, text_listed-append xs ys) in
-    ap (λ m. with_state (record { nodes = m; text = t + text_listed (xs ++ ys); known = k }) (unless_fault b r)) e
-    ∙ ap (λ m. with_state (record { nodes = (n + nodes_listed xs) + nodes_listed ys; text = m; known = k }) (unless_fault b r)) d
-
 -- reading that ended with an answer, and what is read behind it
 goes-after : {B : Type 0} (n t : ℕ) (xs : List Start) (o : Outcome B) → broken_limit n t xs ≡ None
     → run_outcome (record { nodes = n; text = t; known = o.known }) (after xs o) ≡ run_outcome (record { nodes = n + nodes_listed xs; text = t + text_listed xs; known = o.known }) o
 goes-after n t xs o h =
-    ap (λ b. with_state (record { nodes = n + nodes_listed (xs ++ o.starts); text = t + text_listed (xs ++ o.starts); known = o.known })
-    (unless_fault b o.answer)) (broken_limit-append n t xs o.starts h)
-    ∙ goes-state n t xs o.starts o.known o.answer (broken_limit (n + nodes_listed xs) (t + text_listed xs) o.starts)
+    let nodes : n + nodes_listed (xs ++ o.starts) ≡ (n + nodes_listed xs) + nodes_listed o.starts = omega (arith, nodes_listed-append xs o.starts) in
+    let text : t + text_listed (xs ++ o.starts) ≡ (t + text_listed xs) + text_listed o.starts = omega (arith, text_listed-append xs o.starts) in
+    rw (nodes, text, broken_limit-append n t xs o.starts h) refl
 
 bind-cases : {A B : Type 0} (n t : ℕ) (ss : List Start) (r : Result A FaultAt) (k : KnownAnchors) (f : A → Reading B) (x : A) (u : State) (broken : Option FaultAt) → broken_limit n t ss ≡ broken
     → with_state (record { nodes = n + nodes_listed ss; text = t + text_listed ss; known = k }) (unless_fault broken r) ≡ Ok (x, u)
@@ -103,15 +94,14 @@ unfolding run
 run-gives s x =
     let e : s.nodes + 0 ≡ s.nodes = omega arith in
     let d : s.text + 0 ≡ s.text = omega arith in
-    ap (λ m. Ok (x, record { nodes = m; text = s.text + 0; known = s.known })) e ∙ ap (λ m. Ok (x, record { nodes = s.nodes; text = m; known = s.known })) d
+    rw (e, d) refl
 
 pub run-anchored : {A : Type 0} (s : State) (a : Anchor) (x : A) → run s (gives_with_anchor a x) ≡ Ok (x, state_with_anchor a s)
 unfolding run
 run-anchored s a x =
     let e : s.nodes + 0 ≡ s.nodes = omega arith in
     let d : s.text + 0 ≡ s.text = omega arith in
-    ap (λ m. Ok (x, record { nodes = m; text = s.text + 0; known = with_anchor a s.known })) e
-    ∙ ap (λ m. Ok (x, record { nodes = s.nodes; text = m; known = with_anchor a s.known })) d
+    rw (e, d) refl
 
 pub run-fails : {A : Type 0} (s : State) (code : YamlCode) (at : ℕ) → run s (fails {A = A} code at) ≡ Err (record { code = code; at = at })
 unfolding run
@@ -135,9 +125,7 @@ start-cases : {A : Type 0} (s : State) (start : Start) (o : Outcome A) → broke
 start-cases s start o h =
     let e : s.nodes + (start.nodes + 0) ≡ s.nodes + start.nodes = omega arith in
     let d : s.text + (start.text + 0) ≡ s.text + start.text = omega arith in
-    goes-after s.nodes s.text (start ∷ []) o h
-    ∙ ap (λ m. run_outcome (record { nodes = m; text = s.text + (start.text + 0); known = o.known }) o) e
-    ∙ ap (λ m. run_outcome (record { nodes = s.nodes + start.nodes; text = m; known = o.known }) o) d
+    goes-after s.nodes s.text (start ∷ []) o h ∙ rw (e, d) refl
 
 pub run-any_start : {A : Type 0} (s : State) (start : Start) (r : Reading A) → broken_limit s.nodes s.text (start ∷ []) ≡ None
     → run s (with_start start r) ≡ run (record { nodes = s.nodes + start.nodes; text = s.text + start.text; known = s.known }) r

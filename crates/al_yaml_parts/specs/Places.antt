@@ -2,8 +2,7 @@
 use Rattle.std.specs.Prelude.{◌≡◌, ℕ, ◌<◌, ◌≤◌, List, length, Option, Some, None, Result, Ok, Err}
 use Rattle.al_scalar.specs.Line.{Line}
 use Rattle.al_scalar.specs.Offsets.{IsPlaced}
-use Rattle.al_scalar.specs.Places.{first_end, lines_at}
-use Rattle.al_scalar.specs.LineEnds.{IsLineEnd}
+use Rattle.al_scalar.specs.Places.{lines_at}
 use Rattle.al_scalar.specs.declared.scalars.ScalarRead.{ScalarRead}
 use Rattle.al_yaml_tree.specs.Content as content
 use Rattle.al_scalar.specs.declared.faults.FaultAt.{FaultAt}
@@ -40,7 +39,3 @@ pub record IsReadInside (bytes : List ℕ) (at : ℕ) (r : ScalarRead) : Type 0 
   pub end : r.span.end ≤ r.next
   pub inside : r.next ≤ length bytes
   pub placed : IsPlaced (length bytes) r.scalar r.span
-
--- the end of the line on which an offset stands
-abbrev pub IsLineTo : List ℕ → ℕ → ℕ → Type 0
-IsLineTo bytes at end = IsLineEnd bytes end × (first_end (lines_at bytes at) ≡ end)

@@ -7,7 +7,7 @@ ghost use Rattle.al_yaml_parts.specs.Files.{left_at, size};
 ghost use Rattle.al_yaml_tree.specs.Reading as reading;
 ghost use Rattle.al_yaml_tree.specs.Reading.{with_anchor, no_anchors};
 ghost use Rattle.al_yaml_parts.specs.Reads.{IsRead, IsStopInside, anchor_at, anchor_seen, anchors_view, is_later};
-ghost use Rattle.al_yaml_parts.specs.Reads.{state_with_anchor_at, state_of};
+ghost use Rattle.al_yaml_parts.specs.Reads.{state_of};
 ghost use Rattle.al_yaml_tree.specs.View.{view};
 ghost use Rattle.std.specs.Prelude.{IfErr, IfOk, length, true, ◌+◌, ◌<◌, ◌≡◌, ◌≤◌};
 
@@ -149,25 +149,6 @@ impl Anchors {
 }
 
 impl State {
-    /// A node is complete; it has an anchor if there is one at an offset.
-    #[inline(always)]
-    pub fn complete(
-        &mut self,
-        file: &File,
-        anchor: Option<usize>,
-        node: Node,
-    ) -> Result<Node, AllocError>
-        ensures node { IfOk result (λ n. view n ≡ view node) }
-        ensures state { IfOk result
-            (λ _. state_of self.new
-            ≡ state_with_anchor_at file.now.bytes.now anchor (view node) (state_of self.old)) }
-    {
-        match anchor {
-            None => Ok(node),
-            Some(at) => self.anchors.complete(file, at, node),
-        }
-    }
-
     /// The node that the alias at an offset stands for. All nodes in it are counted.
     pub fn alias(&mut self, file: &File, at: usize, depth: u32) -> Result<Node, ReadError>
         requires { at ≤ size file.now }

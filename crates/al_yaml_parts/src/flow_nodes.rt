@@ -144,28 +144,6 @@ fn ends_value(bytes: &[u8], at: usize) -> bool
     begins(bytes, at, b',') || begins(bytes, at, b'}')
 }
 
-/// Reads a scalar without anchor in a flow collection.
-#[inline(always)]
-pub fn read_flow_scalar(file: &File, state: &mut State, at: usize) -> Result<Part, ReadError>
-    requires inside { at ≤ size file.now }
-    requires plain { false ≡ content.is_property (text_at file.now.bytes.now at) }
-    requires scalar { false ≡ content.is_flow_start (text_at file.now.bytes.now at) }
-    ensures fault { IfErr result (IsStopInside (size file.now)) }
-    ensures is { (collection : flow.CollectionReader) (slot : flow.FlowSlot) (depth : ℕ)
-        → IsRead (part_of file.now.bytes.now)
-        (flow.flow_content collection slot depth (left_at file.now at)) (state_of state.old) result
-        (state_of state.new) }
-    ensures within { IfOk result (λ part. IsBehind file.now.bytes.now at part) }
-{
-    if let Some(code) = flow_fault(file.bytes, at) {
-        return Err(ReadError::Fault(FaultAt { code, at }));
-    }
-    state.start(at, 1, 0)?;
-    let read = scalar_at(file.alloc, file.bytes, at, ScalarContext::Flow)?;
-    let next = read.next;
-    Ok(scalar_part(read, next))
-}
-
 /// Reads a node without anchor in a flow collection, if it is no collection.
 #[inline(always)]
 fn read_flow_content(file: &File, state: &mut State, at: usize) -> Result<FoundNode, ReadError>
@@ -182,7 +160,13 @@ fn read_flow_content(file: &File, state: &mut State, at: usize) -> Result<FoundN
     if is_flow_start(file.bytes, at) {
         return Ok(FoundNode::Opens(Bracket { at, anchor: None }));
     }
-    Ok(FoundNode::Node(read_flow_scalar(file, state, at)?))
+    if let Some(code) = flow_fault(file.bytes, at) {
+        return Err(ReadError::Fault(FaultAt { code, at }));
+    }
+    state.start(at, 1, 0)?;
+    let read = scalar_at(file.alloc, file.bytes, at, ScalarContext::Flow)?;
+    let next = read.next;
+    Ok(FoundNode::Node(scalar_part(read, next)))
 }
 
 /// Reads an alias.
@@ -204,7 +188,7 @@ pub fn read_alias(file: &File, state: &mut State, at: usize, depth: u32) -> Resu
 }
 
 /// Reads an alias, or an anchor and its node if that is no collection.
-pub fn read_flow_property(
+fn read_flow_property(
     file: &File,
     state: &mut State,
     slot: FlowSlot,
@@ -261,11 +245,14 @@ pub fn complete(
         (λ _. state_of state.new
         ≡ state_with_anchor_at file.now.bytes.now anchor (view part.node) (state_of state.old)) }
 {
-    Ok(Part {
-        node: state.complete(file, anchor, part.node)?,
-        end: part.end,
-        next: part.next,
-    })
+    match anchor {
+        None => Ok(part),
+        Some(at) => Ok(Part {
+            node: state.anchors.complete(file, at, part.node)?,
+            end: part.end,
+            next: part.next,
+        }),
+    }
 }
 
 /// Reads the node behind an anchor in a flow collection, if it is no collection.

@@ -10,10 +10,9 @@ ghost use Rattle.al_yaml_tree.specs.Content as content;
 ghost use Rattle.al_yaml_parts.specs.Files.{left_at, size};
 ghost use Rattle.al_yaml_tree.specs.Flow as flow;
 ghost use Rattle.al_yaml_tree.specs.Keys as keys;
-ghost use Rattle.al_yaml_parts.specs.Places.{IsColon, IsLineTo, IsReadInside};
+ghost use Rattle.al_yaml_parts.specs.Places.{IsColon, IsReadInside};
 ghost use Rattle.al_yaml_parts.specs.Reads.{Answers, IsStopInside};
 ghost use Rattle.std.specs.Prelude.{IfErr, IfOk, IsTrue, length, true, ◌&&◌, ◌<◌, ◌≡◌, ◌≤◌};
-ghost use Rattle.al_base.specs.Limits.{largest_file};
 
 use crate::anchors::{has_no_name, property_end};
 use crate::content::{gap_end, is_dash, is_skipped};
@@ -28,7 +27,7 @@ use al_base::YamlCode;
 use al_base::limits::LONGEST_KEY;
 use al_scalar::lines::{begins, blanks_end, is_blank_or_end, line_end};
 use al_scalar::{ScalarContext, ScalarRead};
-use std::alloc::{AllocError, Global};
+use std::alloc::AllocError;
 
 /// Whether a scalar that was read from an offset on may be a key: on one line, with at most 1,024 characters.
 pub fn is_simple_key(bytes: &[u8], at: usize, read: &ScalarRead) -> bool
@@ -148,24 +147,6 @@ pub struct Key {
     pub behind: usize,
 }
 
-/// Reads the plain scalar at an offset as far as it stands on its line, which ends at `end`.
-fn plain_on_line(
-    alloc: Global,
-    bytes: &[u8],
-    at: usize,
-    end: usize,
-) -> Result<ScalarRead, ReadError>
-    requires order { at ≤ end }
-    requires inside { end ≤ length bytes.now }
-    requires size { length bytes.now ≤ largest_file }
-    requires line { IsLineTo bytes.now at end }
-    ensures fault { IfErr result (IsStopInside (length bytes.now)) }
-    ensures is { Answers (read_of bytes.now) (keys.plain_on_line (lines_at bytes.now at)) result }
-    ensures inside { IfOk result (λ read. IsReadInside bytes.now at read) }
-{
-    scalar_at(alloc, &bytes[..end], at, ScalarContext::BlockFromIndent(0))
-}
-
 /// Reads a scalar as far as it tells whether a key begins here: a quoted one whole, a plain one on its line.
 fn key_scalar(file: &File, at: usize) -> Result<ScalarRead, ReadError>
     requires inside { at ≤ size file.now }
@@ -182,7 +163,13 @@ fn key_scalar(file: &File, at: usize) -> Result<ScalarRead, ReadError>
             ScalarContext::BlockFromIndent(0),
         );
     }
-    plain_on_line(file.alloc, file.bytes, at, line_end(file.bytes, at))
+    let end = line_end(file.bytes, at);
+    scalar_at(
+        file.alloc,
+        &file.bytes[..end],
+        at,
+        ScalarContext::BlockFromIndent(0),
+    )
 }
 
 /// The key that begins at an offset, if one does; it may be too long or span lines yet.

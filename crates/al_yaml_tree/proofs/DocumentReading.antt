@@ -1,15 +1,15 @@
 -- The tree of a file keeps to what is said of nodes, and its first fault lies in the file.
-use Rattle.std.proofs.Common.{◌≡◌, ℕ, suc, ◌+◌, ◌≤◌, List, [], ◌∷◌, length, drop, refl, arith, true, ◌&&◌, ◌||◌, ◌==◌, nat_lt}
+use Rattle.std.proofs.Common.{◌≡◌, ℕ, suc, ◌+◌, ◌≤◌, List, [], ◌∷◌, ◌++◌, length, drop, arith, true, ◌||◌, nat_lt}
 use Rattle.std.proofs.Common.{Option, Some, None, Result, Ok, Err, IfOk}
 use Rattle.std.proofs.Math.Utf8.{encode}
-use Rattle.std.proofs.lemmas.Str.{IsUtf8-nil, IsUtf8-past_char}
+use Rattle.std.proofs.lemmas.Grind.{common_steps}
+use Rattle.std.proofs.lemmas.Str.{IsUtf8-past_char}
 use Rattle.std.specs.Prelude.{IsUtf8}
 use Rattle.al_base.specs.Limits.{deepest_collection, most_alias_text, most_nodes}
 use Rattle.al_scalar.specs.Line.{Line, lines}
 use Rattle.al_scalar.specs.declared.faults.FaultAt.{FaultAt}
 use Rattle.al_scalar.proofs.OffsetLemmas.{choose, lines-climb}
-use Rattle.al_scalar.proofs.Utf8Lemmas.{AreUtf8, lines-utf8, both-left}
-use Rattle.al_scalar.proofs.Utf8Texts.{both-right}
+use Rattle.al_scalar.proofs.Utf8Lemmas.{AreUtf8, lines-utf8}
 use Rattle.al_yaml_tree.specs.Blocks.{block_node}
 use Rattle.al_yaml_tree.specs.Bytes.{has_mark, file_lines}
 use Rattle.al_yaml_tree.specs.Content.{content}
@@ -18,12 +18,11 @@ use Rattle.al_yaml_tree.specs.Limits.{broken_limit, unless_fault}
 use Rattle.al_yaml_tree.specs.Node.{Node}
 use Rattle.al_yaml_tree.specs.Reading.{Start, no_anchors, gives, Part}
 use Rattle.al_yaml_tree.proofs.BlockReading.{found-in, block_node-in}
-use Rattle.al_yaml_tree.proofs.ByteTexts.{cons-same, equal}
 use Rattle.al_yaml_tree.proofs.LeftLines.{File, AreLeft, NextLeft, Anything, content-in, document_start-in, document_end-in}
 use Rattle.al_yaml_tree.proofs.NodeReading.{Lies, IsPart, itself, StartsIn, Reads, reads-value, reads-given, reads-then}
 use Rattle.al_yaml_tree.proofs.ScalarSpans.{Answers}
 use Rattle.al_yaml_tree.proofs.SpanLemmas.{wider_in}
-use Rattle.al_yaml_tree.proofs.Standing.{Stand, stand-lower, lines-end}
+use Rattle.al_scalar.proofs.Standing.{Stand, stand-lower, lines-end}
 
 -- ---- the lines of a file
 
@@ -43,18 +42,15 @@ file-stands bs =
     (λ _. climb-from 0 0 bs (length bs) (omega arith) (omega arith))
 
 -- and it is a character
-mark-text : (bs : List ℕ) → has_mark bs ≡ true → IsUtf8 bs → IsUtf8 (drop 3 bs)
+mark-front : (bs : List ℕ) → has_mark bs ≡ true → bs ≡ encode 65279 ++ drop 3 bs
 unfolding encode
-mark-text [] e u = IsUtf8-nil
-mark-text (a ∷ []) e u = IsUtf8-nil
-mark-text (a ∷ b ∷ []) e u = IsUtf8-nil
-mark-text (a ∷ b ∷ c ∷ bs) e u =
-    let front = both-left ((a == 0xef) && (b == 0xbb)) (c == 0xbf) e in
-    let first = equal a 0xef (both-left (a == 0xef) (b == 0xbb) front) in
-    let second = equal b 0xbb (both-right (a == 0xef) (b == 0xbb) front) in
-    let third = equal c 0xbf (both-right ((a == 0xef) && (b == 0xbb)) (c == 0xbf) e) in
-    IsUtf8-past_char (a ∷ b ∷ c ∷ bs) bs 65279 u
-    (cons-same a 239 (b ∷ c ∷ bs) (187 ∷ 191 ∷ bs) first (cons-same b 187 (c ∷ bs) (191 ∷ bs) second (cons-same c 191 bs bs third refl)))
+mark-front [] e = absurd cc
+mark-front (a ∷ []) e = absurd cc
+mark-front (a ∷ b ∷ []) e = absurd cc
+mark-front (a ∷ b ∷ c ∷ bs) e = grind (arith, common_steps)
+
+mark-text : (bs : List ℕ) → has_mark bs ≡ true → IsUtf8 bs → IsUtf8 (drop 3 bs)
+mark-text bs e u = IsUtf8-past_char bs (drop 3 bs) 65279 u (mark-front bs e)
 
 file-utf8 : (bs : List ℕ) → IsUtf8 bs → AreUtf8 (file_lines bs)
 file-utf8 bs u = choose AreUtf8 (has_mark bs) (λ e. lines-utf8 3 (drop 3 bs) (mark-text bs e u)) (λ _. lines-utf8 0 bs u)
@@ -128,3 +124,7 @@ document-lies bytes plain none =
 pub answered : {A : Type 0} (size : ℕ) (P Q : A → Type 0) (r : Result A FaultAt) → ((x : A) → P x → Q x) → Answers size P r → IfOk r Q
 answered size P Q (Ok x) g h = g x h
 answered size P Q (Err e) g h = tt
+
+pub unless-fault : {A : Type 0} (o : Option FaultAt) (r : Result A FaultAt) (P : A → Type 0) → IfOk r P → IfOk (unless_fault o r) P
+unless-fault None r P h = h
+unless-fault (Some f) r P h = tt

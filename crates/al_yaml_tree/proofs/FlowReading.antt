@@ -1,5 +1,5 @@
 -- Flow collections keep to what is said of nodes.
-use Rattle.std.proofs.Common.{◌≡◌, ◌⊎◌, inl, inr, ℕ, zero, suc, ◌+◌, ◌<◌, ◌≤◌, List, refl, arith, Bool, true, false, not, ◌&&◌, ◌||◌}
+use Rattle.std.proofs.Common.{◌≡◌, inl, inr, ℕ, zero, suc, ◌+◌, ◌<◌, ◌≤◌, List, refl, arith, Bool, true, false, not, ◌&&◌, ◌||◌}
 use Rattle.std.proofs.Common.{Option, Some, None}
 use Rattle.al_base.specs.declared.codes.YamlCode.TheVariants as yaml
 use Rattle.al_base.specs.declared.faults.Span.{Span}
@@ -9,8 +9,8 @@ use Rattle.al_scalar.specs.Places.{first_text}
 use Rattle.al_scalar.specs.Plain.{flow, is_value_colon}
 use Rattle.al_scalar.specs.Scalar.{ScalarRead, scalar_at}
 use Rattle.al_scalar.proofs.OffsetLemmas.{choose}
-use Rattle.al_scalar.proofs.Utf8Lemmas.{AreUtf8, either}
-use Rattle.al_scalar.proofs.Utf8Texts.{both-right}
+use Rattle.al_scalar.proofs.Utf8Lemmas.{AreUtf8}
+use Rattle.std.proofs.lemmas.Bool.{and_parts, or_cases}
 use Rattle.al_yaml_tree.specs.Content.{behind, is_file_end, flow_fault, is_flow_start, starts_quoted, is_property, is_simple_key, anchor_name, behind_name, has_no_name}
 use Rattle.al_yaml_tree.specs.Flow.{FlowSlot, FlowReader, CollectionReader, gap, empty_node}
 use Rattle.al_yaml_tree.specs.Flow.{rest_behind, flow_items, is_key_colon, behind_colon_in_flow, flow_value, FlowKey}
@@ -25,7 +25,7 @@ use Rattle.al_yaml_tree.proofs.NodeReading.{AreEntries, whole-part, read-part, p
 use Rattle.al_yaml_tree.proofs.NodeReading.{reads-given, reads-then, reads-start, reads-one, reads-unless, reads-by, reads-also, empty-reads, collected}
 use Rattle.al_yaml_tree.proofs.NodeReading.{alias-reads, anchored-reads}
 use Rattle.al_yaml_tree.proofs.ScalarSpans.{Answers}
-use Rattle.al_yaml_tree.proofs.TextLines.{first_colon-utf8, colon-utf8}
+use Rattle.al_yaml_tree.proofs.TextLines.{colon-utf8, solid-colon, value-colon}
 
 abbrev pub CollectionIn : File → CollectionReader → Type 0
 CollectionIn f collection = (depth low : ℕ) (ls : List Line) → is_flow_start (first_text ls) ≡ true → AreLeft f low ls
@@ -49,12 +49,10 @@ FlowKeyIn f low key = IsRead f low key.scalar × OptionLeft f key.scalar.span.en
 key_colon-behind : (after_quote : Bool) (ls : List Line) → is_key_colon after_quote ls ≡ true → AreUtf8 ls
     → AreUtf8 (behind 1 (blanks_dropped ls))
 key_colon-behind after_quote ls e u =
-    by-colon (either (after_quote && begins (ascii ":") (first_text ls)) (is_value_colon flow (after_blanks (first_text ls))) e)
-  where
-    by-colon : ((after_quote && begins (ascii ":") (first_text ls)) ≡ true) ⊎ (is_value_colon flow (after_blanks (first_text ls)) ≡ true)
-        → AreUtf8 (behind 1 (blanks_dropped ls))
-    by-colon (inl h) = first_colon-utf8 ls (both-right after_quote (begins (ascii ":") (first_text ls)) h) u
-    by-colon (inr h) = colon-utf8 flow ls h u
+    colon-utf8 ls (elim (or_cases (after_quote && begins (ascii ":") (first_text ls)) (is_value_colon flow (after_blanks (first_text ls))) e) [
+      | inl h ↦ solid-colon (first_text ls) (and_parts after_quote (begins (ascii ":") (first_text ls)) h).1
+      | inr h ↦ value-colon flow (after_blanks (first_text ls)) h
+    ]) u
 
 late-in : (f : File) (low : ℕ) (ls : List Line) (r : ScalarRead) (o : Option (List Line)) → start ls ≤ f.size → OptionLeft f low o
     → Answers f.size (OptionLeft f low) (unless_late ls r o)

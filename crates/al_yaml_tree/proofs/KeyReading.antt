@@ -3,7 +3,7 @@ use Rattle.std.proofs.Common.{◌≡◌, ℕ, ◌≤◌, List, [], ◌∷◌, re
 use Rattle.std.proofs.lemmas.Str.{IsUtf8-nil}
 use Rattle.al_base.specs.declared.codes.YamlCode.{YamlCode}
 use Rattle.al_base.specs.declared.codes.YamlCode.TheVariants as yaml
-use Rattle.al_scalar.specs.Line.{Line, start}
+use Rattle.al_scalar.specs.Line.{Line, start, after_blanks}
 use Rattle.al_scalar.specs.Offsets.{AreClimbing}
 use Rattle.al_scalar.specs.Places.{first_text}
 use Rattle.al_scalar.specs.Plain.{block}
@@ -23,8 +23,9 @@ use Rattle.al_yaml_tree.proofs.LeftLines.{File, AreLeft, IsRead, starts-in, left
 use Rattle.al_yaml_tree.proofs.NodeReading.{Reads, reads-fault, reads-given, reads-then, reads-one, reads-unless, reads-by}
 use Rattle.al_yaml_tree.proofs.ScalarSpans.{Answers}
 use Rattle.al_yaml_tree.proofs.SpanLemmas.{placed-more}
-use Rattle.al_yaml_tree.proofs.Standing.{climbing-higher, Stand, stand-cut}
-use Rattle.al_yaml_tree.proofs.TextLines.{colon-utf8}
+use Rattle.al_scalar.proofs.Standing.{Stand, stand-cut}
+use Rattle.al_yaml_tree.proofs.Standing.{climbing-higher}
+use Rattle.al_yaml_tree.proofs.TextLines.{colon-utf8, value-colon}
 
 -- ---- the scalar of a key
 
@@ -82,7 +83,7 @@ key_from-in : (f : File) (low : ℕ) (r : Result ScalarRead FaultAt) → Answers
     → Answers f.size (OptionKeyIn f low) (elim r [ Ok r ↦ Ok (key_before_colon r) | Err f ↦ Err f ])
 key_from-in f low (Err e) h = h
 key_from-in f low (Ok r) h =
-    choose (OptionKeyIn f low) (has_colon r.left) (λ e. (h, left-colon (colon-utf8 (block 0) r.left e) h.left)) (λ _. tt)
+    choose (OptionKeyIn f low) (has_colon r.left) (λ e. (h, left-colon (colon-utf8 r.left (value-colon (block 0) (after_blanks (first_text r.left)) e)) h.left)) (λ _. tt)
 
 module _ {f : File} where
   pub key_at-in : (low : ℕ) (ls : List Line) → AreLeft f low ls → Answers f.size (OptionKeyIn f low) (key_here ls)

@@ -1,12 +1,16 @@
 -- The tree of a file lies in it, and so does its first fault.
-use Rattle.std.proofs.Common.{◌≡◌, subst, ℕ, zero, suc, ◌+◌, ◌<◌, ◌≤◌, List, [], ◌∷◌, length, arith}
-use Rattle.std.proofs.Common.{Option, Some, None, is_some, option_map, cond, Result, Ok, Err, IfOk}
-use Rattle.std.specs.Option.{option_or}
+use Rattle.std.proofs.Common.{◌≡◌, refl, sym, ap, ◌∙◌, subst, ℕ, zero, suc, ◌+◌, ◌<◌, ◌≤◌, List, [], ◌∷◌, length, take, arith}
+use Rattle.std.proofs.Common.{Bool, true, false, Option, Some, None, option_map, cond, Result, Ok, Err, IfOk}
+use Rattle.std.proofs.Math.Seq.{take-length}
+use Rattle.std.proofs.lemmas.Bool.{false≢true}
+use Rattle.std.proofs.lemmas.Str.{is_utf8-from_IsUtf8, IsUtf8-nil}
+use Rattle.std.specs.Str.{is_utf8}
+use Rattle.std.specs.Str.Lossy.{valid_len_up_to, utf8_valid_len}
 use Rattle.al_base.specs.Spans.{LiesIn}
 use Rattle.al_base.specs.declared.codes.YamlCode.TheVariants as yaml
 use Rattle.al_scalar.specs.declared.faults.FaultAt.{FaultAt}
 use Rattle.al_scalar.proofs.OffsetLemmas.{choose}
-use Rattle.al_yaml_tree.specs.Bytes.{following, is_well_formed, ill_formed_at, is_unprintable, unprintable_at}
+use Rattle.al_yaml_tree.specs.Bytes.{is_unprintable, unprintable_at}
 use Rattle.al_scalar.specs.Characters.{character_at}
 use Rattle.al_yaml_tree.specs.Document.{document_of, tree_of}
 use Rattle.al_yaml_tree.specs.Limits.{unless_fault}
@@ -25,25 +29,23 @@ abbrev IsBelow : ℕ → Option ℕ → Type 0
 IsBelow high None = Unit {0}
 IsBelow high (Some at) = at < high
 
-below-more : (low high : ℕ) (o : Option ℕ) → low ≤ high → IsBelow low o → IsBelow high o
-below-more low high None a h = tt
-below-more low high (Some at) a h = omega (arith, a, h)
+valid-below : (bs : List ℕ) (n : ℕ) → valid_len_up_to bs n ≤ n
+valid-below bs zero = omega arith
+valid-below bs (suc n) =
+    choose (λ k. k ≤ suc n) (is_utf8 (take (suc n) bs)) (λ _. omega arith) (λ _. omega (arith, valid-below bs n))
 
-ill_formed-below : (n at : ℕ) (bs : List ℕ) → IsBelow (at + length bs) (ill_formed_at n at bs)
-ill_formed-below zero at [] = tt
-ill_formed-below (suc n) at [] = tt
-ill_formed-below (suc n) at (b ∷ bs) = below-more (at + 1 + length bs) (at + suc (length bs)) (ill_formed_at n (at + 1) bs) (omega arith)
-    (ill_formed-below n (at + 1) bs)
-ill_formed-below zero at (b ∷ bs) =
-    choose (IsBelow (at + suc (length bs))) (is_well_formed (b ∷ bs))
-    (λ _. below-more (at + 1 + length bs) (at + suc (length bs)) (ill_formed_at (following b) (at + 1) bs) (omega arith)
-    (ill_formed-below (following b) (at + 1) bs)) (λ _. omega arith)
+-- bytes that aren't UTF-8 go on behind their longest prefix that is
+valid-short : (bs : List ℕ) → is_utf8 bs ≡ false → utf8_valid_len bs < length bs
+unfolding utf8_valid_len
+valid-short [] e = absurd (false≢true (sym e ∙ is_utf8-from_IsUtf8 [] IsUtf8-nil))
+valid-short (b ∷ bs) e =
+    choose (λ k. k < suc (length bs)) (is_utf8 (b ∷ take (length bs) bs))
+    (λ t. absurd (false≢true (sym e ∙ ap (λ l. is_utf8 (b ∷ l)) (sym (take-length bs)) ∙ t))) (λ _. omega (arith, valid-below (b ∷ bs) (length bs)))
 
-unprintable-below : (at : ℕ) (bs : List ℕ) → IsBelow (at + length bs) (unprintable_at at bs)
-unprintable-below at [] = tt
-unprintable-below at (b ∷ bs) =
-    choose (IsBelow (at + suc (length bs))) (is_unprintable (b ∷ bs)) (λ _. omega arith)
-    (λ _. below-more (at + 1 + length bs) (at + suc (length bs)) (unprintable_at (at + 1) bs) (omega arith) (unprintable-below (at + 1) bs))
+unprintable-below : (high at : ℕ) (bs : List ℕ) → at + length bs ≤ high → IsBelow high (unprintable_at at bs)
+unprintable-below high at [] h = tt
+unprintable-below high at (b ∷ bs) h =
+    choose (IsBelow high) (is_unprintable (b ∷ bs)) (λ _. omega (arith, h)) (λ _. unprintable-below high (at + 1) bs (omega (arith, h)))
 
 module _ (bytes : List ℕ) where
   abbrev ValueIn : Node → Type 0
@@ -66,37 +68,32 @@ module _ (bytes : List ℕ) where
 
   -- ---- the file
 
-  -- a fault in the file, of which it isn't known whether it is UTF-8
-  abbrev LiesAmong : Option ℕ → Result Node FaultAt → Type 0
-  LiesAmong wrong (Ok root) = IsLaidIn (length bytes) (length bytes) root
-  LiesAmong wrong (Err f) = LiesIn (length bytes) (cond (is_some wrong) (record { start = f.at; end = f.at + 1 }) (character_at bytes f.at))
+  -- a fault in the file, which may be UTF-8
+  abbrev LiesAmong : Bool → Result Node FaultAt → Type 0
+  LiesAmong good (Ok root) = IsLaidIn (length bytes) (length bytes) root
+  LiesAmong good (Err f) = LiesIn (length bytes) (cond good (character_at bytes f.at) (record { start = f.at; end = f.at + 1 }))
 
-  answer_lies : (r : Result Node FaultAt) → Answers (length bytes) ValueIn r → LiesAmong None r
+  answer_lies : (r : Result Node FaultAt) → Answers (length bytes) ValueIn r → LiesAmong true r
   answer_lies (Ok root) h = h
   answer_lies (Err f) h = character-inside bytes f.at h
 
   -- the tree, unless the bytes have a fault
 
-  abbrev unprintable : Option ℕ → Option FaultAt
-  unprintable o = option_map (λ at. record { code = yaml.ControlCharacter; at = at }) o
-
-  abbrev ill_formed : Option ℕ → Option FaultAt
-  ill_formed o = option_or (option_map (λ at. record { code = yaml.NotUtf8; at = at }) o) (unprintable (unprintable_at 0 bytes))
-
-  printed : (o : Option ℕ) → IsBelow (length bytes) o → LiesAmong None (unless_fault (unprintable o) (document_of bytes))
+  printed : (o : Option ℕ) → IsBelow (length bytes) o
+      → LiesAmong true (unless_fault (option_map (λ at. record { code = yaml.ControlCharacter; at = at }) o) (document_of bytes))
   printed None h = answer_lies (document_of bytes) document_of-in
   printed (Some at) h = character-inside bytes at (omega (arith, h))
 
-  formed : (o : Option ℕ) → IsBelow (length bytes) o → LiesAmong o (unless_fault (ill_formed o) (document_of bytes))
-  formed None h = printed (unprintable_at 0 bytes)
-      (below-more (0 + length bytes) (length bytes) (unprintable_at 0 bytes) (omega arith) (unprintable-below 0 bytes))
-  formed (Some at) h = record { ordered = omega arith; inside = omega (arith, h) }
+  formed : (good : Bool) → is_utf8 bytes ≡ good → LiesAmong good (unless_fault
+      (cond good (option_map (λ at. record { code = yaml.ControlCharacter; at = at }) (unprintable_at 0 bytes))
+      (Some (record { code = yaml.NotUtf8; at = utf8_valid_len bytes }))) (document_of bytes))
+  formed true e = printed (unprintable_at 0 bytes) (unprintable-below (length bytes) 0 bytes (omega arith))
+  formed false e = record { ordered = omega arith; inside = omega (arith, valid-short bytes e) }
 
   pub tree-laid_in : IsTreeLaid bytes (tree_of bytes)
-  tree-laid_in = whole (tree_of bytes) (formed (ill_formed_at 0 0 bytes)
-      (below-more (0 + length bytes) (length bytes) (ill_formed_at 0 0 bytes) (omega arith) (ill_formed-below 0 0 bytes)))
+  tree-laid_in = whole (tree_of bytes) (formed (is_utf8 bytes) refl)
     where
-      whole : (r : Result Node FaultAt) → LiesAmong (ill_formed_at 0 0 bytes) r → IsTreeLaid bytes r
+      whole : (r : Result Node FaultAt) → LiesAmong (is_utf8 bytes) r → IsTreeLaid bytes r
       whole (Ok root) h = h
       whole (Err f) h = h
 

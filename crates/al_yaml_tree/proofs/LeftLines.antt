@@ -20,8 +20,8 @@ use Rattle.al_yaml_tree.specs.Flow.{gap}
 use Rattle.al_yaml_tree.specs.Node.{scalar_node}
 use Rattle.al_yaml_tree.specs.Spans.{IsPlacedIn}
 use Rattle.al_yaml_tree.proofs.ScalarSpans.{Answers, ReadIn, scalar-in}
-use Rattle.al_yaml_tree.proofs.Standing.{Stand, stand-lower, low-in, stand-start, start-behind, start-in, stand-below, stand-at_end}
-use Rattle.al_yaml_tree.proofs.Standing.{stand-behind, stand-first, stand-blanks, stand-spaces, stand-whole, stand-gap}
+use Rattle.al_scalar.proofs.Standing.{Stand, stand-lower, stand-start, start-behind, start-in, stand-at_end}
+use Rattle.al_yaml_tree.proofs.Standing.{low-in, stand-below, stand-behind, stand-first, stand-blanks, stand-spaces, stand-whole, stand-gap}
 use Rattle.al_yaml_tree.proofs.TextLines.{whole-utf8, first-utf8, dash-utf8, bracket-utf8, blanks-utf8, spaces-utf8, gap-utf8}
 use Rattle.al_yaml_tree.proofs.TextLines.{name-utf8, marker-utf8}
 

@@ -1,11 +1,7 @@
 pub mod ViewLemmas
 pub mod SpanLemmas
-pub mod ByteTexts
 pub mod TextLines
 pub mod Standing
-pub mod PlainRest
-pub mod QuotedRest
-pub mod BlockRest
 pub mod ScalarSpans
 pub mod LaidLemmas
 pub mod LeftLines

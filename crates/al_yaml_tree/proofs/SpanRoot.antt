@@ -1,13 +1,12 @@
 -- The tree of a file in which no alias is read lies in it, each node in the one around it and behind those before it.
-use Rattle.std.proofs.Common.{◌≡◌, subst, ℕ, ◌≤◌, List, length, Option, Some, None, Result, Ok, Err, IfOk}
+use Rattle.std.proofs.Common.{◌≡◌, subst, ℕ, ◌≤◌, List, length, Result, Ok, Err, IfOk}
 use Rattle.al_scalar.specs.declared.faults.FaultAt.{FaultAt}
 use Rattle.al_yaml_tree.specs.Bytes.{byte_fault}
 use Rattle.al_yaml_tree.specs.Document.{document_of, HasNoAlias, tree_of}
-use Rattle.al_yaml_tree.specs.Limits.{unless_fault}
 use Rattle.al_yaml_tree.specs.Node.{Node}
 use Rattle.al_yaml_tree.specs.Spans.{IsPlacedIn}
 use Rattle.al_base.specs.Limits.{largest_file}
-use Rattle.al_yaml_tree.proofs.DocumentReading.{file_of, document-lies, answered}
+use Rattle.al_yaml_tree.proofs.DocumentReading.{file_of, document-lies, answered, unless-fault}
 use Rattle.al_yaml_tree.proofs.NodeReading.{Lies}
 use Rattle.al_yaml_tree.proofs.SpanLemmas.{placed-more}
 
@@ -25,14 +24,9 @@ module _ (bytes : List ℕ) where
   document-within root h a u =
       placed-more (length bytes) 1048576 a 0 (length bytes) root (subst (λ (r : Result Node FaultAt). IfOk r ValueIn) h (document_of-in u))
 
-  by_fault : (o : Option FaultAt) → HasNoAlias bytes
-      → IfOk (unless_fault o (document_of bytes)) ValueIn
-  by_fault None u = document_of-in u
-  by_fault (Some f) u = tt
-
   -- where no alias is read each node lies in the one around it, and behind those before it
   pub tree-nested : HasNoAlias bytes → IfOk (tree_of bytes) (IsPlacedIn (length bytes) 0 (length bytes))
-  tree-nested u = by_fault (byte_fault bytes) u
+  tree-nested u = unless-fault (byte_fault bytes) (document_of bytes) ValueIn (document_of-in u)
 
   more : (r : Result Node FaultAt) → length bytes ≤ 1048576 → IfOk r (IsPlacedIn (length bytes) 0 (length bytes))
       → IfOk r (IsPlacedIn largest_file 0 (length bytes))

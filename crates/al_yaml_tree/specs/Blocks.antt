@@ -7,7 +7,8 @@ use Rattle.al_scalar.specs.Places.{first_text}
 use Rattle.al_scalar.specs.Plain.{block}
 use Rattle.al_scalar.specs.Scalar.{scalar_at}
 use Rattle.al_yaml_tree.specs.Node.{Node, Nodes, Entries, sequence, mapping, no_nodes, with_item, no_entries, with_entry, scalar_node}
-use Rattle.al_yaml_tree.specs.Reading.{Reading, gives, fails, of_result, starting_scalar, starting_collection, Part, part, with_span, ◌>>=◌}
+use Rattle.al_yaml_tree.specs.Reading.{Reading, Part, gives, fails, of_result, part, start_of, starting_scalar, with_span, with_start}
+use Rattle.al_yaml_tree.specs.Reading.{◌>>=◌}
 use Rattle.al_yaml_tree.specs.Content.{Next, ended, at_line, is_skipped, content, line_ended, whole_lines, behind, is_dash, tab_among}
 use Rattle.al_yaml_tree.specs.Content.{block_fault, unless_code, is_flow_start, is_property, same_line, characters, is_short_key}
 use Rattle.al_yaml_tree.specs.Flow.{CollectionReader, empty_node, property, flow_collection}
@@ -135,7 +136,7 @@ abbrev pub block_sequence : BlockReader → CollectionReader → ℕ → BlockRe
 block_sequence node collection turns slot depth column ls =
     let at = start ls in
     if is_behind_key slot.spot then fails yaml.UnexpectedCharacter at
-    else unless_tab (tab_before slot.spot) (starting_collection at 1 depth (
+    else unless_tab (tab_before slot.spot) (with_start (start_of at 1 depth) (
     with_span sequence at (sequence_entries node collection turns slot.in_mapping column (depth + 1) no_nodes ls)))
 
 -- a mapping whose first key was read
@@ -145,7 +146,7 @@ block_mapping node collection turns spot depth column ls key =
     if not (same_line ls key.scalar.left) then fails yaml.WrongKey at
     else unless_tab (tab_before spot) (
     if not (is_short_key ls key.scalar) then fails yaml.WrongKey at
-    else starting_collection at 2 depth (
+    else with_start (start_of at 2 depth) (
     with_span mapping at (mapping_entries node collection turns column (depth + 1) no_entries key)))
 
 -- a node without properties

@@ -13,7 +13,7 @@ use Rattle.al_scalar.specs.Scalar.{ScalarRead, scalar_at, empty_scalar}
 use Rattle.al_base.specs.Spans.{span}
 use Rattle.al_yaml_tree.specs.Node.{Node, Nodes, Entries, scalar, sequence, mapping}
 use Rattle.al_yaml_tree.specs.Node.{no_nodes, with_item, no_entries, with_entry, scalar_node}
-use Rattle.al_yaml_tree.specs.Reading.{Reading, gives, fails, of_result, starting_scalar, starting_collection}
+use Rattle.al_yaml_tree.specs.Reading.{Reading, gives, fails, of_result, starting_scalar, start_of, with_start}
 use Rattle.al_yaml_tree.specs.Reading.{gives_with_anchor, alias, Part, part, with_span, ◌>>=◌}
 use Rattle.al_yaml_tree.specs.Content.{behind, is_file_end, flow_fault, unless_code, is_flow_start, starts_quoted, is_property}
 use Rattle.al_yaml_tree.specs.Content.{anchor_name, behind_name, has_no_name, same_line, is_simple_key}
@@ -180,7 +180,7 @@ flow_collection (suc bound) depth ls =
     let node = flow_node_over collection in
     let at = start ls in
     let inside = gap false (behind 1 ls) in
-    starting_collection at 1 depth (
+    with_start (start_of at 1 depth) (
     if begins (ascii "[") (first_text ls)
     then with_span sequence at (flow_items node (suc bound) at (depth + 1) no_nodes inside)
     else with_span mapping at (flow_entries node collection (suc bound) at (depth + 1) no_entries inside))

@@ -75,16 +75,13 @@ abbrev pub ◌>>=◌ : {A B : Type 0} → Reading A → (A → Reading B) → Re
 abbrev pub with_start : {A : Type 0} → Start → Reading A → Reading A
 with_start s r known = after (s ∷ []) (r known)
 
+-- a start of so many nodes, and of a collection at this depth
 abbrev pub start_of : ℕ → ℕ → ℕ → Start
 start_of at nodes depth = record { at = at; nodes = nodes; text = 0; depth = depth; alias = false }
 
 -- a scalar, or an empty node
 abbrev pub starting_scalar : {A : Type 0} → ℕ → Reading A → Reading A
 starting_scalar at r = with_start (start_of at 1 0) r
-
--- a collection, with so many nodes that start there
-abbrev pub starting_collection : {A : Type 0} → ℕ → ℕ → ℕ → Reading A → Reading A
-starting_collection at nodes depth r = with_start (start_of at nodes depth) r
 
 -- of two anchors of a name the one whose & stands later: an alias refers to the latest (7.1)
 abbrev pub later_of : Anchor → Option Anchor → Option Anchor

@@ -1,9 +1,9 @@
 -- What the program's calls, values and answers stand for.
 use Rattle.std.specs.Prelude.{ℕ, List, [], ◌∷◌, Bool, drop, Option, option_map, slice_get, slice_index_or, None}
 use Rattle.std.specs.List.{cons_option, list_all}
-use Rattle.std.specs.Option.{option_copied, option_map_or}
+use Rattle.std.specs.Option.{option_copied}
 use Rattle.al_tree.specs.Values.{member_of}
-use Rattle.al_types.specs.Types.{Parts, Type', Any}
+use Rattle.al_types.specs.Types.{Parts}
 use Rattle.al_yaml_tree.specs.View.{view}
 use Rattle.al_check_contexts.specs.Answered.{known_of}
 use Rattle.al_check_contexts.specs.declared.env.File.{File}
@@ -13,7 +13,7 @@ use Rattle.al_expr_types.specs.declared.types.Types.{Types}
 use Rattle.al_check_interfaces.specs.declared.interfaces.Interface.{Interface}
 use Rattle.al_check_interfaces.specs.CallViews.{call_of}
 use Rattle.al_check_interfaces.specs.Uses.{Call}
-use Rattle.al_check_calls.specs.Answers.{Answered, Typing}
+use Rattle.al_check_calls.specs.Answers.{Answered, Typing, answered_by}
 use Rattle.al_check_calls.specs.CallFaults.{Given}
 use Rattle.al_check_calls.specs.FileCalls.{typing}
 use Rattle.al_check_calls.specs.Private.Comparing.{Comparison, GivenName}
@@ -21,9 +21,6 @@ use Rattle.al_check_calls.specs.declared.answers.Answered as code_answers
 use Rattle.al_check_calls.specs.declared.comparisons.Comparison as code_comparisons
 use Rattle.al_check_calls.specs.declared.undefined.GivenName as code_names
 use Rattle.al_check_calls.specs.declared.wrong_types.Value as code_values
-use Rattle.al_scalar.specs.Scalar.{Scalar}
-use Rattle.al_yaml_tree.specs.Access.{scalar_in}
-use Rattle.al_yaml_tree.specs.Node.{Node}
 
 -- a value with its type, by the objects of a table
 abbrev pub given_in : List Parts → code_values.Value → Given
@@ -48,12 +45,6 @@ name_of n = record { by = compared_of n.by; entry = member_of n.member }
 -- the types of what the calls of a file give
 abbrev pub typing_in : File → Typing
 typing_in f = typing f.kind (known_of f.known) (view f.root.now)
-
-abbrev pub given_type : (Node → Scalar → Type') → Node × Node → Type'
-given_type type_of e = option_map_or (type_of e.0) (scalar_in e.1) Any
-
-abbrev pub answered_by : Call → Option Interface → Answered
-answered_by c answer = record { call = c; answer = answer }
 
 -- the calls with some numbers, with their answers
 abbrev pub answered_at : List Call → List ℕ → List (Option Interface) → List Answered

@@ -6,8 +6,6 @@ use Rattle.std.specs.Ordering.{bool_cmp, nat_cmp, ordering_then}
 use Rattle.al_check_contexts.specs.Answered.{Behind, behind_of}
 use Rattle.al_check_calls.specs.declared.known.KnownOutputs.{KnownOutputs}
 use Rattle.al_check_calls.specs.declared.known.Lists.{Lists}
-use Rattle.al_check_calls.specs.Answers.{Answered}
-use Rattle.al_check_calls.specs.Outputs.{outputs_behind}
 
 -- names that are told by whether a step calls, and by which text
 abbrev pub Naming : Type 0
@@ -39,7 +37,3 @@ pub record Takes (old new : Lists) (of_step : Bool) (text : List ℕ) (names : O
 
 abbrev pub behind_all : KnownOutputs → List Behind
 behind_all known = map (behind_of (lists_of known.lists)) known.answers.items
-
--- what is known of the outputs behind a call
-abbrev pub behind : Answered → Behind
-behind a = record { job = a.call.site.job; step = a.call.site.step; names = outputs_behind a }

@@ -9,4 +9,4 @@ abbrev pub places_in : rust.Walk → List Place
 places_in walk = map place_of walk.found.items
 
 abbrev pub way_in : rust.Walk → List WayStep
-way_in walk = map way_step_view walk.way.items
+way_in walk = map way_step_view walk.way.steps.items

@@ -1,9 +1,8 @@
 -- What a call on the bytes that wait leaves.
-use Rattle.std.specs.Prelude.{ℕ, ◌≤◌, ◌⊎◌, List, ◌++◌, length, drop, codes, Option}
+use Rattle.std.specs.Prelude.{ℕ, ◌≤◌, List, ◌++◌, length, drop, codes, Option}
 use Rattle.std.specs.Io.KnownBytes.{Appends}
-use Rattle.al_base.specs.Counted.{AppendsPrefix}
 use Rattle.al_cli_scripts.specs.Script.{IsWrong, IsPending}
-use Rattle.al_cli_scripts.specs.Runs.{Steps, Served}
+use Rattle.al_cli_scripts.specs.Runs.{Steps, Served, PutsPrefix}
 use Rattle.al_cli_scripts.specs.declared.run.Progress.{Progress}
 use Rattle.al_cli_scripts.specs.declared.run.Progress.TheVariants.{Waits, Bad}
 
@@ -15,8 +14,6 @@ Progresses steps start folder waiting (Waits done) wrote now = (replies : List �
 Progresses {F} steps start folder waiting Bad wrote now = (replies : List ℕ) × (rest : List ℕ)
     × Served steps start waiting folder replies rest × IsWrong rest × Appends wrote now (replies ++ codes "bad command\n")
 
--- the run stopped in the midst of what it writes for these bytes, or before it
+-- the run stopped in the midst of what it writes for these bytes, or before it, whatever follows them
 abbrev pub IsStuck : {F : Type 0} → Steps F → F → List ℕ → Option (List ℕ) → Option (List ℕ) → Type 0
-IsStuck {F} steps start waiting wrote now = (folder : F) × (replies : List ℕ) × (rest : List ℕ)
-    × Served steps start waiting folder replies rest
-    × (AppendsPrefix wrote now replies ⊎ (IsWrong rest × AppendsPrefix wrote now (replies ++ codes "bad command\n")))
+IsStuck steps start waiting wrote now = (more : List ℕ) → PutsPrefix steps start (waiting ++ more) wrote now

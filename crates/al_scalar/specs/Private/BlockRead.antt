@@ -1,5 +1,5 @@
 -- What the reader of block scalars answers, in terms of offsets.
-use Rattle.std.specs.Prelude.{◌≡◌, ℕ, List, [], ◌∷◌, ◌++◌, length, Bool, true, false, Option, Some}
+use Rattle.std.specs.Prelude.{◌≡◌, ℕ, List, [], ◌∷◌, ◌++◌, length, Bool, Option, Some}
 use Rattle.std.specs.Prelude.{None, Result, Ok, Err, cond, nat_le, if◌then◌else◌}
 use Rattle.al_base.specs.Ascii.{ascii}
 use Rattle.al_scalar.specs.Line.{Cell, Line, is_all_blank, indent}
@@ -76,10 +76,6 @@ EndsRow was text is = last_end text was.end ≡ is.end
 -- the row of the file's last line, from an offset on
 abbrev pub last_line : List ℕ → ℕ → List BlockLine
 last_line bytes from = record { text = cells_between bytes from (length bytes); break = [] } ∷ []
-
-abbrev pub is_said : Option ℕ → Bool
-is_said None = false
-is_said (Some d) = true
 
 -- rows read from an offset on
 abbrev pub ReadsRows : List ℕ → BlockStyle → List Cell → ℕ → ℕ → List Cell → RowsRead → Type 0

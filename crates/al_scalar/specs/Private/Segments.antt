@@ -1,5 +1,5 @@
 -- Decoded bytes with their offsets, from the runs that keep them.
-use Rattle.std.specs.Prelude.{◌≡◌, ℕ, suc, ◌^◌, ◌+◌, ◌-◌, ◌<◌, ◌≤◌, List, [], ◌∷◌, nat_le, true, if◌then◌else◌}
+use Rattle.std.specs.Prelude.{◌≡◌, ℕ, suc, ◌^◌, ◌+◌, ◌-◌, ◌<◌, ◌≤◌, List, [], ◌∷◌, nat_le, Bool, true, if◌then◌else◌}
 use Rattle.al_scalar.specs.Line.{Cell}
 use Rattle.al_scalar.specs.declared.texts.Segment.{Segment}
 
@@ -45,9 +45,14 @@ IsRising (s ∷ ss) = AreFrom s.index ss × IsRising ss
 abbrev pub IsOrdered : ℕ → List Segment → Type 0
 IsOrdered n ss = AreBehind n ss × IsRising ss
 
--- the offsets of the bytes from an index on go up from one
-abbrev pub GoesOn : List Segment → ℕ → ℕ → Type 0
-GoesOn ss index at = (k : ℕ) → offset_at ss (index + k) ≡ at + k
+-- the offsets of the bytes from an index on go up from one, or are all the same
+abbrev pub GoesOn : List Segment → ℕ → ℕ → Bool → Type 0
+GoesOn ss index at moves = (k : ℕ) → offset_at ss (index + k) ≡ (if moves then at + k else at)
+
+-- the cells of one run, from an index in it on
+abbrev pub run_cells : ℕ → Bool → ℕ → List ℕ → List Cell
+run_cells at moves k [] = []
+run_cells at moves k (b ∷ bs) = (b, if moves then at + k else at) ∷ run_cells at moves (suc k) bs
 
 -- each offset fits 32 bits
 abbrev pub AreInRange : List Cell → Type 0

@@ -1,11 +1,20 @@
--- What an edit of kept files leaves.
-use Rattle.std.specs.Prelude.{◌≡◌, ℕ, Bool, List, length}
+-- What an edit of kept files asks for, and what it leaves.
+use Rattle.std.specs.Prelude.{◌≡◌, ◌≤◌, ◌<◌, ℕ, Bool, true, List, None, length}
 use Rattle.al_base.specs.Counted.{count_after}
+use Rattle.al_base.specs.Limits.{largest_file, most_files}
+use Rattle.al_base.specs.Paths.{path_fault_of}
 use Rattle.al_session_folder.specs.Meaning.{IsUpTo, Meaning}
-use Rattle.al_session_folder.specs.Folder.{Folder}
+use Rattle.al_session_folder.specs.Folder.{Folder, bytes_at}
 use Rattle.al_session_folder.specs.Affected.{affected_paths}
 use Rattle.al_session.specs.Session.{IsLinted, folder_in}
 use Rattle.al_session.specs.declared.indexed.IndexedFiles.{IndexedFiles}
+
+-- A put that only lack of memory can refuse.
+pub record IsAllowed {I : Type 0} (m : Meaning I) (f : Folder) (path bytes : List ℕ) : Type 0 where
+  pub valid : path_fault_of path ≡ None
+  pub accepted : m.accepts path ≡ true
+  pub small : length bytes ≤ largest_file
+  pub room : bytes_at f path ≡ None → length f < most_files
 
 -- The files of the folder that was wanted, linted: the affected ones were checked, each once.
 pub record IsEdited {U I : Type 0} (eq : I → I → Bool) (m : Meaning I) (is_unit : U → List ℕ → List ℕ → Type 0) (before : IndexedFiles U I)

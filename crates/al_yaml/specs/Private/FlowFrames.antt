@@ -116,10 +116,6 @@ abbrev pub IsStep : List ℕ → ℕ → FlowStep → Type 0
 IsStep bytes at (step.Behind next) = IsPut (length bytes) at next
 IsStep bytes at (step.Opens b) = IsBracket bytes at b.at
 
--- where an item is due in it
-abbrev pub item_slot : FlowPlace → flow.FlowSlot
-item_slot p = record { opening = p.opening; empty = None }
-
 -- a collection is read in the file
 pub record IsPlaceInside (size : ℕ) (p : FlowPlace) : Type 0 where
   pub inside : p.at ≤ size

@@ -3,7 +3,7 @@ use Rattle.al_check_interfaces.specs.Forms.{form_by}
 use Rattle.al_check_interfaces.specs.CallViews.{call_of}
 use Rattle.al_check_interfaces.specs.declared.forms.Form.TheVariants.{Local, Wrong}
 use Rattle.al_check_interfaces.proofs.CallLists.{local_added}
-use Rattle.al_check_interfaces.specs.Private.Texts.{wrong_by}
+use Rattle.al_check_interfaces.specs.Uses.{wrong_by}
 use Rattle.al_check_interfaces.proofs.calls.add_call.Goals as goal
 
 pub returns-in_ok-push-in-Local-clause-calls : goal.returns-in_ok-push-in-Local-clause-calls

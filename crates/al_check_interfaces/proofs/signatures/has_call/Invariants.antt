@@ -1,7 +1,7 @@
 use Rattle.std.proofs.Common.{◌≡◌, drop, map}
 use Rattle.std.specs.List.{list_any}
 use Rattle.al_tree.specs.Values.{scalar_node_of}
-use Rattle.al_check_interfaces.specs.Private.Texts.{says_call}
+use Rattle.al_check_interfaces.specs.Interfaces.{says_call}
 use Rattle.al_check_interfaces.proofs.signatures.has_call.Given as goal
 
 abbrev pub invariant-loop-text : goal.invariant-loop-text

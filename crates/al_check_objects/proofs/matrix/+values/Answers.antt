@@ -11,7 +11,7 @@ use Rattle.al_expr_types.specs.Tables.{objects_of}
 use Rattle.al_expr_types.proofs.Keeping.{joined_longer, joined_wider, longer}
 use Rattle.al_check_objects.specs.Matrix.{fields_of, node_type}
 use Rattle.al_check_objects.specs.Objects.{strictly}
-use Rattle.al_check_objects.specs.Numbers.{fields_in}
+use Rattle.al_expr_types.specs.FieldMaps.{fields_in}
 use Rattle.al_check_objects.proofs.Numbers.{lists_stay, means_as}
 use Rattle.al_check_objects.proofs.Values.{entries_next, items_next}
 use Rattle.al_check_objects.proofs.matrix.+values.Goals as goal

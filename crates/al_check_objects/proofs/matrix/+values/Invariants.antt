@@ -6,7 +6,7 @@ use Rattle.al_yaml_tree.specs.View.{entries_of, entry_view, nodes_of, view}
 use Rattle.al_expr_types.specs.Joining.{is_join_below, join_in}
 use Rattle.al_expr_types.specs.Tables.{objects_of}
 use Rattle.al_check_objects.specs.Matrix.{fields_of, items_type}
-use Rattle.al_check_objects.specs.Numbers.{fields_in, is_map_below}
+use Rattle.al_expr_types.specs.FieldMaps.{fields_in, is_map_below}
 use Rattle.al_check_objects.proofs.matrix.+values.Given as goal
 
 abbrev pub invariant-items_type-loop-node : goal.invariant-items_type-loop-node

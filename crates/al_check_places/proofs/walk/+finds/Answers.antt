@@ -16,7 +16,7 @@ pub find-returns-in-Mapping-clause-found : goal.find-returns-in-Mapping-clause-f
 find-returns-in-Mapping-clause-found t c =
     let es = c.in-Mapping.entries.items in
     let kind = c.args.walk.now.kind in
-    let way = map way_step_view c.args.walk.now.way.items in
+    let way = map way_step_view c.args.walk.now.way.steps.items in
     let taken : rule_or_any (rule (mapping_shape c.args.asked.shape (map entry_view es))) ≡ rule_view c.rule_at-in-Mapping.result =
     cc (c.refine.ensures, c.as_slice-in-Mapping.ensures.value, c.rule_at-in-Mapping.ensures) in
     let same = places_of_mapping kind c.args.asked.shape c.args.asked.is_item way c.args.node.now c.in-Mapping.entries c.in-Mapping.is
@@ -32,7 +32,7 @@ find_entries-loop-i-preserved t c =
     let all = among (keys_in (map entry_view es)) in
     let ks = keys_view c.args.takes in
     let kind = c.args.walk.now.kind in
-    let way = map way_step_view c.args.walk.now.way.items in
+    let way = map way_step_view c.args.walk.now.way.steps.items in
     let before = keys_in (map entry_view (take i es)) in
     let left = map entry_view (drop (i + 1) es) in
     let more = texts_next key_of entry_view es i e c.loop-i-test.true c.index-entries-i.is in
@@ -52,8 +52,8 @@ find_entries-loop-i-preserved t c =
     let now = keys_in (map entry_view (take (i + 1) es)) in
     record {
       found = ap (λ l. l ++ behind now) c.in_ok-find_entry.ensures.found
-          ∙ ap (λ s. (out ++ here s c.loop-i.walk.kind (map way_step_view c.loop-i.walk.way.items)) ++ behind now) stands
-          ∙ ap (λ k. (out ++ here st k (map way_step_view c.loop-i.walk.way.items)) ++ behind now) c.loop-i.invariant.kind
+          ∙ ap (λ s. (out ++ here s c.loop-i.walk.kind (map way_step_view c.loop-i.walk.way.steps.items)) ++ behind now) stands
+          ∙ ap (λ k. (out ++ here st k (map way_step_view c.loop-i.walk.way.steps.items)) ++ behind now) c.loop-i.invariant.kind
           ∙ ap (λ ws. (out ++ here st kind (map way_step_view ws)) ++ behind now) c.loop-i.invariant.way
           ∙ ap (λ ks'. (out ++ here st kind way) ++ behind ks') more
           ∙ append_assoc out (here st kind way) (behind (before ++ key_of (entry_view e) ∷ []))

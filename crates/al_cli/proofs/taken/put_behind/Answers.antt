@@ -39,7 +39,7 @@ pub returns : goal.returns
 returns c =
     let more = pushed c.reserve.result c.is_err.result (is_ok c.push.result) _ _ c.args.order.now.items c.reserve.new.self.items c.push.new.self.items c.args.path
     c.if-is_err.false c.is_err.ensures.negation c.reserve.ensures.ok c.push.ensures.succeeds c.reserve.ensures.items c.push.ensures.items in
-    let put = kept_more c.args.files.now.folder c.put.new.self.folder c.args.path c.as_str.result.now c.args.bytes.now c.args.files.now.checks c.put.new.self.checks
+    let put = kept_more c.args.files.now.folder c.put.new.self.folder c.args.path c.as_str.result.now c.args.bytes.items c.args.files.now.checks c.put.new.self.checks
     c.args.order.now.items c.push.new.self.items c.requires.kept c.requires.new c.as_str.ensures.text c.in_ok-put.ensures.accepted c.in_ok-put.ensures.folder
     c.put.ensures.meter more in
     record { kept = put.0; put = put.1; as_before = tt }

@@ -1,5 +1,5 @@
 use Rattle.std.proofs.Common.{◌+◌}
-use Rattle.al_cli_scripts.proofs.Serving.{rest_is}
+use Rattle.al_cli_scripts.proofs.Answering.{rest_is}
 use Rattle.al_cli_scripts.proofs.Prefixes.{put_pending, put_wrong, put_whole}
 use Rattle.al_cli_scripts.proofs.commands.next_put.Goals as goal
 

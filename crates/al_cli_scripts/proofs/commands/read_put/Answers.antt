@@ -1,6 +1,6 @@
 use Rattle.std.proofs.Common.{◌+◌, ◌∙◌}
 use Rattle.al_cli_scripts.proofs.Prefixes.{no_space, put_parts}
-use Rattle.al_cli_scripts.proofs.Serving.{rest_is}
+use Rattle.al_cli_scripts.proofs.Answering.{rest_is}
 use Rattle.al_cli_scripts.proofs.commands.read_put.Goals as goal
 
 pub returns-in-None : goal.returns-in-None

@@ -4,29 +4,25 @@ use Rattle.std.proofs.KnownBytes.{Appends-trans}
 use Rattle.std.proofs.lemmas.Result.{err_from_is_err_and}
 use Rattle.al_cli_scripts.specs.Script.{IsWrong}
 use Rattle.al_cli_scripts.specs.Private.Next.{meaning}
-use Rattle.al_cli_scripts.specs.Replies.{session}
-use Rattle.al_cli_scripts.proofs.Serving.{rest_is, Answering-push, IsStuck-in_reply, IsStuck-in_bad}
+use Rattle.al_cli_scripts.proofs.Answering.{rest_is, Answering-next, IsStuck-in_reply, IsStuck-in_bad}
 use Rattle.al_cli_scripts.proofs.run.answer_all.Goals as goal
 
 pub returns-in_err-answer-in-Whole-clause-err : goal.returns-in_err-answer-in-Whole-clause-err
 returns-in_err-answer-in-Whole-clause-err g c =
     let p = err_from_is_err_and c.from_residual.result c.from_residual.ensures.1 in
-    rw p.1 (IsStuck-in_reply (session c.args.oneline) _ _ c.args.waiting.now c.loop-done.done c.in-Whole.count (meaning c.in-Whole.command) _ _ _
-    c.loop-done.invariant.served c.in-Whole.ensures c.in_err-answer-in-Whole.ensures.err)
+    rw p.1 (IsStuck-in_reply _ c.loop-done.invariant.served (meaning c.in-Whole.command) c.in-Whole.count c.in-Whole.ensures c.in_err-answer-in-Whole.ensures.err)
 
 pub loop-done-preserved : goal.loop-done-preserved
 loop-done-preserved g c = record {
   within = let h = c.in-Whole.ensures.within in let e = ap length (rest_is c.args.waiting.now c.loop-done.done) in grind (arith, common_steps);
-  served = rw c.in_ok-answer-in-Whole.ensures.after (Answering-push (session c.args.oneline) _ _ c.args.waiting.now c.loop-done.done c.in-Whole.count (meaning c.in-Whole.command) _ _ _
-      c.loop-done.invariant.served c.in-Whole.ensures c.in_ok-answer-in-Whole.ensures.ok);
+  served = rw c.in_ok-answer-in-Whole.ensures.after (Answering-next _ c.loop-done.invariant.served (meaning c.in-Whole.command) c.in-Whole.count c.in-Whole.ensures c.in_ok-answer-in-Whole.ensures.ok);
   unfailed = c.in_ok-answer-in-Whole.ensures.failures ∙ c.loop-done.invariant.unfailed;
 }
 
 pub returns-in_err-write_all-in-Wrong-clause-err : goal.returns-in_err-write_all-in-Wrong-clause-err
 returns-in_err-write_all-in-Wrong-clause-err g c =
     let p = err_from_is_err_and c.from_residual-in_err-write_all-in-Wrong.result c.from_residual-in_err-write_all-in-Wrong.ensures.1 in
-    rw p.1 (IsStuck-in_bad (session c.args.oneline) _ _ c.args.waiting.now c.loop-done.done _ _ _
-    c.loop-done.invariant.served c.in-Wrong.ensures c.in_err-write_all-in-Wrong.ensures.prefix)
+    rw p.1 (IsStuck-in_bad _ c.loop-done.invariant.served c.in-Wrong.ensures c.in_err-write_all-in-Wrong.ensures.prefix)
 
 pub returns-in-Wrong-clause-ok : goal.returns-in-Wrong-clause-ok
 returns-in-Wrong-clause-ok g c =

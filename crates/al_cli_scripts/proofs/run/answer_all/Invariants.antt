@@ -1,6 +1,6 @@
 use Rattle.std.proofs.Common.{length, ◌-◌, ◌≡◌, ◌≤◌}
 use Rattle.al_cli_scripts.specs.Replies.{session}
-use Rattle.al_cli_scripts.proofs.Serving.{Answering}
+use Rattle.al_cli_scripts.proofs.Answering.{Answering}
 use Rattle.al_cli_scripts.proofs.run.answer_all.Given as goal
 
 abbrev pub invariant-loop-done : goal.invariant-loop-done

@@ -30,7 +30,7 @@ loop-turn-preserved g c =
       kind = search (rules, common_steps);
       asked = asked_again _ _ _ c.loop-turn.invariant.asked c.take_turn.ensures.asked;
       asks = λ h. c.take_turn.ensures.asked ∙ c.loop-turn.invariant.asked;
-      paused = (s.0 ++ t.read, omega (arith, length-append s.0 t.read, t.some), Paused-more (session c.args.oneline) c.args.session.now.folder s.0 _ _ _ _ s.2 t);
+      paused = (s.0 ++ t.read, omega (arith, length-append s.0 t.read, t.some), Paused-more (session c.args.oneline) _ _ s.2 t);
       turns = search (rules, common_steps);
       reads_well = c.in_ok-answer.ensures.read_failures.answered ∙ c.loop-turn.invariant.reads_well;
       writes_well = c.in_ok-answer.ensures.write_failures.answered ∙ c.loop-turn.invariant.writes_well;
@@ -58,7 +58,7 @@ returns-in_err-answer-clause-runs g c =
     let asked = c.take_turn.ensures.asked ∙ c.loop-turn.invariant.asked in
     rw (p.1, p.2) (record {
       end = tt;
-      stop = Stops-after (session c.args.oneline) c.args.session.now.folder s.0 _ _ _ _ _ s.2 (rw c.loop-turn.invariant.kind at c.in_err-answer.ensures.turn);
+      stop = Stops-after (session c.args.oneline) _ _ s.2 _ (rw c.loop-turn.invariant.kind at c.in_err-answer.ensures.turn);
       last_read = tt;
       read_failures = counted_stop _ _ _ ReadFault _ _ _ refl refl c.loop-turn.invariant.reads_well c.in_err-answer.ensures.read_failures;
       write_failures = counted_stop _ _ _ WriteFault _ _ _ refl refl c.loop-turn.invariant.writes_well c.in_err-answer.ensures.write_failures;
@@ -74,9 +74,9 @@ returns-in-Some-clause-runs g c =
     let r = rw (c.in-Some.is, c.loop-turn.invariant.kind) at c.in_ok-answer.ensures.turn in
     let asked = c.take_turn.ensures.asked ∙ c.loop-turn.invariant.asked in
     record {
-      end = Runs-after (session c.args.oneline) c.args.session.now.folder _ _ s.0 _ _ _ _ _ _ s.2 r.0;
+      end = Runs-after (session c.args.oneline) s.2 _ _ r.0;
       stop = tt;
-      last_read = Last-after (session c.args.oneline) c.args.session.now.folder _ _ s.0 _ _ _ _ _ s.2 r.1;
+      last_read = Last-after (session c.args.oneline) s.2 _ r.1;
       read_failures = record { answered = c.in_ok-answer.ensures.read_failures.answered ∙ c.loop-turn.invariant.reads_well; stopped = λ h. absurd cc };
       write_failures = record { answered = c.in_ok-answer.ensures.write_failures.answered ∙ c.loop-turn.invariant.writes_well; stopped = λ h. absurd cc };
       reads = omega (arith, c.take_turn.ensures.turns, c.loop-turn.invariant.turns);
@@ -89,7 +89,7 @@ pub returns-in-Some-clause-folder : goal.returns-in-Some-clause-folder
 returns-in-Some-clause-folder g c =
     let s = c.loop-turn.invariant.paused in
     let r = rw (c.in-Some.is, c.loop-turn.invariant.kind) at c.in_ok-answer.ensures.turn in
-    Leaves-after (session c.args.oneline) c.args.session.now.folder _ _ _ s.0 _ _ _ _ s.2 r.2
+    Leaves-after (session c.args.oneline) s.2 _ r.2
 
 pub returns-clause-runs : goal.returns-clause-runs
 returns-clause-runs g c =

@@ -1,49 +1,52 @@
-use Rattle.std.proofs.Common.{◌≡◌, ◌<◌, ◌+◌, length, drop, map, ap, sym, ◌∙◌, arith, rules, length-drop}
-use Rattle.std.proofs.lemmas.List.{take_rest, drop-drop, map-append}
-use Rattle.al_expr_grammar.specs.declared.chunk.ChunkState.TheVariants.{Outside}
-use Rattle.al_expr_grammar.specs.Chunks.{then_chunk, span_of_chunk}
-use Rattle.al_expr_grammar.specs.Private.ChunkStates.{behind_chunks, chunks_from}
-use Rattle.al_base.specs.Spans.{span}
-use Rattle.al_expr_grammar.proofs.Chunking.{goes_on, ends, behind_one, stands, cut_more}
-use Rattle.al_expr_grammar.proofs.ChunkLemmas.{states_give}
+use Rattle.std.proofs.Common.{◌+◌, [], length-append, sym, ◌∙◌, arith, rules}
+use Rattle.std.proofs.lemmas.List.{take_rest, map-append}
+use Rattle.std.proofs.lemmas.List.Elements.{All-append, All-cons, All-nil}
+use Rattle.al_expr_grammar.specs.Chunks.{IsCutFrom}
+use Rattle.al_expr_grammar.proofs.Chunking.{closing_begins, cut_off, none_left, one_more, opening_ends}
 use Rattle.al_expr_grammar.proofs.chunk.chunks.Goals as goal
 
-pub text-init : goal.text-init
-text-init c =
-    let nothing : chunks_from 0 Outside 0 c.args.text.now ≡ behind_chunks (map span_of_chunk c.new-found.result.items) (chunks_from 0 Outside 0 c.args.text.now) =
-    search rules in
-    record {
-      within = omega arith;
-      stands = tt;
-      contents = search rules;
-      so_far = sym (states_give c.args.text.now) ∙ nothing;
-    }
+pub returns-clause-spans : goal.returns-clause-spans
+returns-clause-spans c =
+    let none = rw (c.as_bytes-bytes.ensures.value, take_rest) at c.in_default.ensures.value in
+    (none_left c.args.text.now _ c.text.at c.text.invariant.so_far none).0
 
-pub text-preserved-in-On : goal.text-preserved-in-On
-text-preserved-in-On c =
-    let m = rw (c.as_bytes-bytes.ensures.value, take_rest) at c.in-On.ensures.value in
-    let f = rw (c.as_bytes-bytes.ensures.value, take_rest) at c.in-On.ensures.fits in
-    let some : c.text.at < length c.args.text.now = omega (arith, f, length-drop c.text.at c.args.text.now) in
-    record {
-      within = omega (arith, f, length-drop c.text.at c.args.text.now);
-      stands = stands c.args.text.now c.text.state c.in-On.after c.text.at c.in-On.skip c.utf8.text some m c.text.invariant.stands;
-      contents = c.text.invariant.contents;
-      so_far = c.text.invariant.so_far ∙ ap (behind_chunks (map span_of_chunk c.text.found.items))
-          (goes_on c.text.state c.in-On.after c.text.at c.in-On.skip (1 + c.in-On.skip) (drop c.text.at c.args.text.now) m (omega arith) f
-          ∙ ap (chunks_from 0 c.in-On.after (c.text.at + (1 + c.in-On.skip))) (drop-drop (1 + c.in-On.skip) c.text.at c.args.text.now));
-    }
+pub returns-clause-fault : goal.returns-clause-fault
+returns-clause-fault c =
+    let none = rw (c.as_bytes-bytes.ensures.value, take_rest) at c.in_default.ensures.value in
+    (none_left c.args.text.now _ c.text.at c.text.invariant.so_far none).1
+
+pub returns-in_default-closing_position-clause-spans : goal.returns-in_default-closing_position-clause-spans
+returns-in_default-closing_position-clause-spans c =
+    let before = rw (c.as_bytes-bytes.ensures.value, take_rest) at c.in-Some.ensures.value in
+    let none = rw (c.as_bytes-bytes.ensures.value, take_rest) at c.in_default-closing_position.ensures.value in
+    (cut_off c.args.text.now _ c.text.at c.text.invariant.so_far c.in-Some.before c.text.invariant.few before none).0
+
+pub returns-in_default-closing_position-clause-fault : goal.returns-in_default-closing_position-clause-fault
+returns-in_default-closing_position-clause-fault c =
+    let before = rw (c.as_bytes-bytes.ensures.value, take_rest) at c.in-Some.ensures.value in
+    let none = rw (c.as_bytes-bytes.ensures.value, take_rest) at c.in_default-closing_position.ensures.value in
+    let fault = rw (c.as_bytes-bytes.ensures.value, take_rest) at c.open_fault.ensures in
+    fault ∙ (cut_off c.args.text.now _ c.text.at c.text.invariant.so_far c.in-Some.before c.text.invariant.few before none).1
+
+pub cut-requires-clause-start : goal.cut-requires-clause-start
+cut-requires-clause-start c =
+    let before = rw (c.as_bytes-bytes.ensures.value, take_rest) at c.in-Some.ensures.value in
+    opening_ends c.args.text.now c.text.at c.in-Some.before c.utf8.text (sym before)
+
+pub cut-requires-clause-end : goal.cut-requires-clause-end
+cut-requires-clause-end c =
+    let len = rw (c.as_bytes-bytes.ensures.value, take_rest) at c.in-Some-closing_position.ensures.value in
+    closing_begins c.args.text.now (c.text.at + c.in-Some.before + 3) c.in-Some-closing_position.len (sym len)
 
 pub text-preserved : goal.text-preserved
 text-preserved c =
-    let m = rw (c.as_bytes-bytes.ensures.value, take_rest) at c.in-End.ensures.value in
-    let f = rw (c.as_bytes-bytes.ensures.value, take_rest) at c.in-End.ensures.fits in
+    let before = rw (c.as_bytes-bytes.ensures.value, take_rest) at c.in-Some.ensures.value in
+    let len = rw (c.as_bytes-bytes.ensures.value, take_rest) at c.in-Some-closing_position.ensures.value in
     record {
-      within = omega (arith, f, length-drop c.text.at c.args.text.now);
-      stands = tt;
-      contents = rw c.in_ok-push-in-End.ensures.items (cut_more c.args.text.now c.text.found.items c.cut.result c.text.invariant.contents c.cut.ensures.content);
-      so_far = rw (c.in_ok-push-in-End.ensures.items, map-append, c.cut.ensures.span)
-          (c.text.invariant.so_far ∙ ap (behind_chunks (map span_of_chunk c.text.found.items))
-          (ends c.text.state c.text.at c.in-End.start (drop c.text.at c.args.text.now) m f
-          ∙ ap (λ bs. then_chunk (span c.in-End.start c.text.at) (chunks_from 0 Outside (c.text.at + 2) bs)) (drop-drop 2 c.text.at c.args.text.now))
-          ∙ behind_one _ _ _);
+      within = search rules;
+      few = rw (c.in_ok-push.ensures.items, map-append, length-append) (omega (arith, c.text.invariant.few));
+      contents = rw c.in_ok-push.ensures.items (All-append (IsCutFrom c.args.text.now) c.text.found.items _ c.text.invariant.contents
+          (All-cons (IsCutFrom c.args.text.now) c.cut.result [] c.cut.ensures.content (All-nil (IsCutFrom c.args.text.now))));
+      so_far = rw (c.in_ok-push.ensures.items, map-append, c.cut.ensures.span)
+          (one_more c.args.text.now _ c.text.at c.text.invariant.so_far c.in-Some.before c.text.invariant.few before c.in-Some-closing_position.len len);
     }

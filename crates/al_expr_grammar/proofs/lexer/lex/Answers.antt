@@ -1,4 +1,4 @@
-use Rattle.std.proofs.Common.{refl}
+use Rattle.std.proofs.Common.{sym}
 use Rattle.al_expr_grammar.proofs.Quotes.{quote_found}
 use Rattle.al_expr_grammar.proofs.lexer.lex.Goals as goal
 
@@ -12,4 +12,4 @@ pub returns-in-Some : goal.returns-in-Some
 returns-in-Some c =
     let unclosed = rw (c.in-Err-OpenText.is, c.in-Err-OpenText.field-0-is) at c.in_ok-read.ensures in
     let last = rw c.as_bytes.ensures.value at c.in-Some.ensures.value in
-    rw (unclosed, ← last, c.plain_fault-in-Err-OpenText.ensures) refl
+    rw (unclosed, ← last) (sym c.unclosed_text.ensures)

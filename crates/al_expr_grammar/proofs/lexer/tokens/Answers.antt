@@ -1,20 +1,11 @@
-use Rattle.std.proofs.Common.{◌<◌, map, length, length-drop, ap, ◌∙◌, arith, rules}
+use Rattle.std.proofs.Common.{◌≡◌, ◌<◌, length, length-drop, ap, arith, rules}
 use Rattle.std.proofs.lemmas.Str.{IsUtf8-drop}
-use Rattle.std.proofs.lemmas.List.{map-append}
-use Rattle.al_expr_grammar.specs.Lexeme.{seen}
-use Rattle.al_expr_grammar.specs.Private.TokenStates.{behind}
-use Rattle.al_expr_grammar.proofs.Lexing.{token_read, behind_none, behind_one, ends_char}
-use Rattle.al_expr_grammar.proofs.Splitting.{tokens_are}
+use Rattle.std.proofs.lemmas.List.{map-append, take_rest}
+use Rattle.al_expr_grammar.proofs.Lexing.{all_read, ends_char, none_read, past_token, stays_open, stops_at}
 use Rattle.al_expr_grammar.proofs.lexer.tokens.Goals as goal
 
 pub tokens-init : goal.tokens-init
-tokens-init c =
-    let content = c.args.content.now in
-    record {
-      place = omega arith;
-      text = c.utf8.content;
-      so_far = rw c.new-tokens.ensures.items (tokens_are (length content) 0 content (omega arith) ∙ behind_none _);
-    }
+tokens-init c = record { place = omega arith; text = c.utf8.content; so_far = rw c.new-tokens.ensures.items (none_read c.args.content.now) }
 
 pub range_from-rest-requires : goal.range_from-rest-requires
 range_from-rest-requires c =
@@ -27,6 +18,24 @@ split_at-requires c =
     let f = rw c.as_bytes.ensures.value at c.in-Token.ensures.fits in
     ends_char c.tokens.rest.now c.in-Token.len c.tokens.invariant.text f.0 f.1 f.2
 
+pub returns-in-BadCharacter : goal.returns-in-BadCharacter
+returns-in-BadCharacter c =
+    let r = rw c.as_bytes.ensures.value at c.in-BadCharacter.ensures.value in
+    let some : 0 < length c.tokens.rest.now = search rules in
+    let inside = rw (c.as_bytes-in-BadCharacter.ensures.value, take_rest) at c.inside_len.ensures.value in
+    rw inside (stops_at _ _ _ _ c.tokens.invariant.so_far some r)
+
+pub returns-in-OpenText : goal.returns-in-OpenText
+returns-in-OpenText c =
+    let r = rw c.as_bytes.ensures.value at c.in-OpenText.ensures.value in
+    let some : 0 < length c.tokens.rest.now = search rules in
+    stays_open _ _ _ _ c.tokens.invariant.so_far some r
+
+pub returns : goal.returns
+returns c =
+    let none : length c.tokens.rest.now ≡ 0 = search rules in
+    all_read _ _ _ _ c.tokens.invariant.so_far none
+
 pub tokens-preserved : goal.tokens-preserved
 tokens-preserved c =
     let f = rw c.as_bytes.ensures.value at c.in-Token.ensures.fits in
@@ -37,6 +46,5 @@ tokens-preserved c =
     record {
       place = omega (arith, f.1, ap length back, length-drop c.in-Token.len c.tokens.rest.now);
       text = rw back (IsUtf8-drop _ _ c.tokens.invariant.text boundary);
-      so_far = rw (c.in_ok-push-in-Token.ensures.items, map-append, front, back)
-          (c.tokens.invariant.so_far ∙ ap (behind (map seen c.tokens.tokens.items)) (token_read _ _ _ _ r f.0 f.1) ∙ behind_one _ _ _);
+      so_far = rw (c.in_ok-push-in-Token.ensures.items, map-append, front, back) (past_token _ _ _ _ c.tokens.invariant.so_far (omega (arith, f.0, f.1)) _ _ r f.0);
     }

@@ -5,7 +5,7 @@ use Rattle.al_expr_grammar.specs.Lexeme.{seen}
 use Rattle.al_expr_grammar.proofs.Trees.{tree_of-Keyword, tree_of-Number, tree_of-Text, tree_of-Name, tree_of-Call, tree_of-Group, tree_of-Not, step_of-All, step_of-Index, operand_of-made}
 use Rattle.al_expr_grammar.proofs.Rules.{constant_read, number_read, text_read, name_read, group_read, group_refused, call_empty_read, each_read, index_read, index_refused}
 use Rattle.al_expr_grammar.proofs.Chains.{not_read, positive_read, steps_read, path_begins, path_goes_on, chain_begins, chain_goes_on, operands_read, either_way}
-use Rattle.al_expr_grammar.proofs.Chains.{not_refused, positive_refused, base_refused, path_refused, first_refused, later_refused}
+use Rattle.al_expr_grammar.proofs.Chains.{not_refused, path_refused, first_refused, later_refused}
 use Rattle.al_expr_grammar.proofs.Front.{no_call, no_close, no_comma, no_star, group_not_closed, star_not_closed, first_argument_refused, first_argument_read, later_argument_refused}
 use Rattle.al_expr_grammar.proofs.Front.{later_argument_read, call_closed, call_not_closed, index_not_closed}
 use Rattle.al_expr_grammar.proofs.parser.+parser.Goals as goal
@@ -110,7 +110,7 @@ arguments-list-preserved t c =
 pub postfix-returns-in_err-base : goal.postfix-returns-in_err-base
 postfix-returns-in_err-base t c =
     let p = err_from_is_err_and c.from_residual.result c.from_residual.ensures.1 in
-    rw (p.1, p.2) (base_refused c.args.room (map seen c.args.tokens.now) _ c.in_err-base.ensures)
+    rw (p.1, p.2) c.in_err-base.ensures
 
 pub postfix-returns-in_err-taken : goal.postfix-returns-in_err-taken
 postfix-returns-in_err-taken t c =
@@ -195,7 +195,7 @@ unary-returns-in_err-expr t c =
 
 pub unary-returns-in_default : goal.unary-returns-in_default
 unary-returns-in_default t c =
-    either_way _ _ _ _ c.postfix.result (λ x. positive_read c.args.room (map seen c.args.tokens.now) _ _) (λ e. positive_refused c.args.room (map seen c.args.tokens.now) e) c.postfix.ensures
+    either_way _ _ _ _ c.postfix.result (λ x. positive_read c.args.room (map seen c.args.tokens.now) _ _) (λ e r. r) c.postfix.ensures
 
 pub unary-returns : goal.unary-returns
 unary-returns t c =

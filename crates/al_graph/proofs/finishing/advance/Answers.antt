@@ -1,8 +1,7 @@
-use Rattle.std.proofs.Common.{rules, ◌≡◌, ◌∙◌, ap, ◌<◌, ◌++◌, ◌∷◌, [], false, true, length, get_or, arith}
-use Rattle.std.proofs.lemmas.List.{length-map, map-append}
+use Rattle.std.proofs.Common.{rules, ◌≡◌, ◌∙◌, ap, ◌<◌, ◌++◌, ◌∷◌, [], false, true, length, get_or, arith, sym}
+use Rattle.std.proofs.lemmas.List.{get_or_read, length-map, map-append}
 use Rattle.al_graph.specs.Graphs.{edges_of}
 use Rattle.al_graph.specs.Private.Finishing.{frames_of, frame_of}
-use Rattle.al_graph.proofs.Orders.{read_at}
 use Rattle.al_graph.proofs.SearchLemmas.{step_edge, step_enter, step_finish, step_inside, step_pass}
 use Rattle.al_graph.proofs.finishing.advance.Goals as goal
 
@@ -28,7 +27,8 @@ returns-then-index-clause-search c =
     c.args.frame.node c.in-Some.next _ c.args.frame.rest.now c.in-Some.rest.now is (length-map c.args.graph.now _) c.requires.edges_in c.requires.search in
     let pushed : frames_of c.push-2.new.self.items ≡ frames_of c.args.frames.now.items ++ (c.args.frame.node, c.in-Some.rest.now)
     ∷ [] = ap frames_of c.in_ok-push-2.ensures.items ∙ map-append frame_of c.args.frames.now.items _ in
-    let marked : get_or c.args.seen.now.items c.in-Some.next false ≡ true = read_at c.args.seen.now.items c.in-Some.next c.index.result.now false inside.1 c.index.ensures ∙ c.if-index.true in
+    let marked : get_or c.args.seen.now.items c.in-Some.next false ≡ true =
+    sym (get_or_read c.args.seen.now.items c.in-Some.next c.index.result.now inside.1 c.index.ensures false) ∙ c.if-index.true in
     step_pass (edges_of c.args.graph.now) c.args.seen.now.items (frames_of c.args.frames.now.items) (frames_of c.push-2.new.self.items)
     c.args.order.now.items c.args.frame.node c.in-Some.next c.args.frame.rest.now c.in-Some.rest.now is pushed marked c.requires.search
 
@@ -39,28 +39,17 @@ enter-requires-clause-node_in c =
     (step_edge (edges_of c.args.graph.now) c.args.seen.now.items (frames_of c.args.frames.now.items) c.args.order.now.items
     c.args.frame.node c.in-Some.next c.args.frame.rest.now c.in-Some.rest.now is c.requires.search)
 
-pub returns-clause-search : goal.returns-clause-search
-returns-clause-search c =
+pub returns : goal.returns
+returns c =
     let is : c.args.frame.rest.now ≡ c.in-Some.next ∷ c.in-Some.rest.now = search rules in
     let inside = step_inside (edges_of c.args.graph.now) c.args.seen.now.items (frames_of c.args.frames.now.items) c.args.order.now.items
     c.args.frame.node c.in-Some.next _ c.args.frame.rest.now c.in-Some.rest.now is (length-map c.args.graph.now _) c.requires.edges_in c.requires.search in
     let pushed : frames_of c.push-2.new.self.items ≡ frames_of c.args.frames.now.items ++ (c.args.frame.node, c.in-Some.rest.now)
     ∷ [] = ap frames_of c.in_ok-push-2.ensures.items ∙ map-append frame_of c.args.frames.now.items _ in
-    let fresh : get_or c.args.seen.now.items c.in-Some.next false ≡ false = read_at c.args.seen.now.items c.in-Some.next c.index.result.now false inside.1 c.index.ensures ∙ c.if-index.false in
-    (step_enter (edges_of c.args.graph.now) c.args.seen.now.items c.enter.new.seen.items (frames_of c.args.frames.now.items)
+    let fresh : get_or c.args.seen.now.items c.in-Some.next false ≡ false =
+    sym (get_or_read c.args.seen.now.items c.in-Some.next c.index.result.now inside.1 c.index.ensures false) ∙ c.if-index.false in
+    let s = step_enter (edges_of c.args.graph.now) c.args.seen.now.items c.enter.new.seen.items (frames_of c.args.frames.now.items)
     (frames_of c.push-2.new.self.items) (frames_of c.enter.new.frames.items) c.args.order.now.items c.args.frame.node c.in-Some.next
     c.args.frame.rest.now c.in-Some.rest.now
-    is pushed inside.0 fresh c.in_ok-enter.ensures.seen c.in_ok-enter.ensures.frames c.requires.search).0
-
-pub returns-clause-smaller : goal.returns-clause-smaller
-returns-clause-smaller c =
-    let is : c.args.frame.rest.now ≡ c.in-Some.next ∷ c.in-Some.rest.now = search rules in
-    let inside = step_inside (edges_of c.args.graph.now) c.args.seen.now.items (frames_of c.args.frames.now.items) c.args.order.now.items
-    c.args.frame.node c.in-Some.next _ c.args.frame.rest.now c.in-Some.rest.now is (length-map c.args.graph.now _) c.requires.edges_in c.requires.search in
-    let pushed : frames_of c.push-2.new.self.items ≡ frames_of c.args.frames.now.items ++ (c.args.frame.node, c.in-Some.rest.now)
-    ∷ [] = ap frames_of c.in_ok-push-2.ensures.items ∙ map-append frame_of c.args.frames.now.items _ in
-    let fresh : get_or c.args.seen.now.items c.in-Some.next false ≡ false = read_at c.args.seen.now.items c.in-Some.next c.index.result.now false inside.1 c.index.ensures ∙ c.if-index.false in
-    (step_enter (edges_of c.args.graph.now) c.args.seen.now.items c.enter.new.seen.items (frames_of c.args.frames.now.items)
-    (frames_of c.push-2.new.self.items) (frames_of c.enter.new.frames.items) c.args.order.now.items c.args.frame.node c.in-Some.next
-    c.args.frame.rest.now c.in-Some.rest.now
-    is pushed inside.0 fresh c.in_ok-enter.ensures.seen c.in_ok-enter.ensures.frames c.requires.search).1
+    is pushed inside.0 fresh c.in_ok-enter.ensures.seen c.in_ok-enter.ensures.frames c.requires.search in
+    record { search = s.0; kept = s.2; smaller = s.1 }

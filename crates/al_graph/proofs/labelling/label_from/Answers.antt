@@ -1,9 +1,7 @@
-use Rattle.std.proofs.Common.{rules, ◌≡◌, ◌<◌, None, is_some, true, get_or, length, arith, refl}
-use Rattle.std.proofs.lemmas.List.{length-map}
+use Rattle.std.proofs.Common.{rules, ◌≡◌, ◌<◌, None, is_some, true, get_or, length, arith, refl, sym}
+use Rattle.std.proofs.lemmas.List.{get_or_read, length-map, nil_from_length}
 use Rattle.std.proofs.lemmas.List.Elements.{Contains-get_or}
 use Rattle.al_graph.specs.Graphs.{edges_of}
-use Rattle.al_graph.proofs.Lists.{nothing}
-use Rattle.al_graph.proofs.Orders.{read_at}
 use Rattle.al_graph.proofs.LabelLemmas.{labelling_next, labelling_start, no_waiting, skipped, node_inside}
 use Rattle.al_graph.proofs.labelling.label_from.Goals as goal
 
@@ -19,7 +17,7 @@ returns-then-is_some-clause-labels c =
     let size = c.requires.labels.size in
     let some : is_some c.index.result.now ≡ true = search rules in
     skipped (edges_of c.args.graph.now) c.args.order.now c.args.labels.now.items c.args.at c.index.result.now
-    (read_at c.args.labels.now.items (get_or c.args.order.now c.args.at 0) c.index.result.now None (omega (arith, below, size)) c.index.ensures) some c.requires.labels
+    (sym (get_or_read c.args.labels.now.items (get_or c.args.order.now c.args.at 0) c.index.result.now (omega (arith, below, size)) c.index.ensures None)) some c.requires.labels
 
 pub label_node-requires : goal.label_node-requires
 label_node-requires c =
@@ -54,7 +52,7 @@ loop-node-preserved c =
     (λ j k e. let below = c.requires.edges_in j k e in omega (arith, below, nodes)) c.requires.order c.requires.at_in c.in-Some.ensures.items c.loop-node.invariant c.in_ok-label_next.ensures
 
 pub returns-clause-emptied : goal.returns-clause-emptied
-returns-clause-emptied c = nothing c.pop.new.self.items (search rules)
+returns-clause-emptied c = nil_from_length c.pop.new.self.items (search rules)
 
 pub returns-clause-labels : goal.returns-clause-labels
 returns-clause-labels c =

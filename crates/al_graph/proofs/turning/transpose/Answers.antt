@@ -1,5 +1,4 @@
-use Rattle.std.proofs.Common.{◌≡◌, ◌∙◌, ◌<◌, [], List, ℕ, arith, get_or, length, subst, sym}
-use Rattle.std.specs.Prelude.{Contains}
+use Rattle.std.proofs.Common.{◌≡◌, ◌∙◌, ◌<◌, [], arith, get_or, length, sym}
 use Rattle.al_graph.specs.Graphs.{edges_of}
 use Rattle.al_graph.proofs.Edges.{edges_at}
 use Rattle.al_graph.proofs.TurnLemmas.{turned_end, turned_write}
@@ -7,10 +6,9 @@ use Rattle.al_graph.proofs.turning.transpose.Goals as goal
 
 pub add_edges-requires : goal.add_edges-requires
 add_edges-requires c k h =
-    let same : get_or (edges_of c.args.graph.now) c.loop-node.node [] ≡ c.as_slice-in-loop-node.result.now = edges_at c.args.graph.now c.loop-node.node
-    c.index-graph-node.result c.loop-node-test.true c.index-graph-node.is ∙ sym c.as_slice-in-loop-node.ensures.value in
-    let P : List ℕ → Type 0 = λ ns. Contains ns k in
-    let below : k < length c.args.graph.now = c.requires c.loop-node.node k (subst P (sym same) h) in
+    let same : c.as_slice-in-loop-node.result.now ≡ get_or (edges_of c.args.graph.now) c.loop-node.node [] = c.as_slice-in-loop-node.ensures.value
+    ∙ sym (edges_at c.args.graph.now c.loop-node.node c.index-graph-node.result c.loop-node-test.true c.index-graph-node.is) in
+    let below : k < length c.args.graph.now = c.requires c.loop-node.node k (rw same at h) in
     omega (arith, below, c.loop-node.invariant.len)
 
 pub loop-node-preserved : goal.loop-node-preserved

@@ -19,7 +19,7 @@ returns-clause-text c = λ k rs.
     let b = c.is_blank-spaced.result in
     let spaced = spaced-between bytes from stop b less (is_blank-of (slice_index bytes from, from) b c.is_blank-spaced.ensures) in
     row-text new c.push_joint.new.text lit k last es (cells_between bytes from stop) (stop ∷ []) rs old b (some-between bytes from stop less) spaced
-    (c.in_ok-push_joint.ensures ∙ ap (λ xs. old ++ joint lit last xs (row_like b [])) c.deref.ensures.value) c.in_ok-push_run.ensures.added
+    (c.in_ok-push_joint.ensures ∙ ap (λ xs. old ++ joint lit last xs (row_like b [])) c.deref.ensures.value) c.in_ok-push_run.ensures
     ∙ ap (λ xs. new ++ text_after lit k (Some (row_like b (stop ∷ []))) xs rs) (sym c.clear.ensures.items)
 
 pub returns-clause-end : goal.returns-clause-end

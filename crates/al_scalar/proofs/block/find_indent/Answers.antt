@@ -1,7 +1,7 @@
 use Rattle.std.proofs.Common.{◌∙◌, Some, None, sym, subst}
 use Rattle.al_scalar.specs.Places.{lines_at}
 use Rattle.al_scalar.specs.LineEnds.{BlankTo}
-use Rattle.al_scalar.proofs.SingleLemmas.{lines_at-some}
+use Rattle.al_scalar.proofs.LineCells.{lines_at-some}
 use Rattle.al_scalar.proofs.BlockLemmas.{found-solid, found-last, found-next}
 use Rattle.al_scalar.proofs.block.find_indent.Goals as goal
 

@@ -1,7 +1,7 @@
 use Rattle.std.proofs.Common.{◌∙◌, Some, None, ap, sym, subst}
 use Rattle.al_scalar.specs.Places.{first_text, lines_at}
 use Rattle.al_scalar.specs.LineEnds.{BlankTo}
-use Rattle.al_scalar.proofs.SingleLemmas.{text-line_end}
+use Rattle.al_scalar.proofs.LineCells.{text-line_end}
 use Rattle.al_scalar.proofs.BlockLemmas.{indented-same, indented-yes, indented-no, row-blank, row-none, blank-is}
 use Rattle.al_scalar.proofs.block.indented_row.Goals as goal
 

@@ -1,10 +1,10 @@
 use Rattle.al_base.specs.declared.codes.YamlCode.TheVariants.{WrongBlockHeader}
-use Rattle.std.proofs.Common.{◌∙◌, ◌≤◌, Some, None, IfSome, Ok, length, ap, subst, arith}
+use Rattle.std.proofs.Common.{◌∙◌, ◌≤◌, Some, None, Ok, is_some, length, ap, arith}
 use Rattle.al_scalar.specs.Taken.{Taken}
 use Rattle.al_scalar.specs.Places.{first_text, lines_at}
 use Rattle.al_scalar.specs.Block.{header_end, content_indent}
-use Rattle.al_scalar.specs.Private.BlockRead.{EndsHeader, is_said}
-use Rattle.al_scalar.proofs.SingleLemmas.{is_inside}
+use Rattle.al_scalar.specs.Private.BlockRead.{EndsHeader}
+use Rattle.al_scalar.proofs.LineCells.{is_inside}
 use Rattle.al_scalar.proofs.BlockSteps.{block-fault, block-last, block-more, rest-style}
 use Rattle.al_scalar.proofs.block.read_block.Goals as goal
 
@@ -14,7 +14,7 @@ returns-in-Some-clause-gives c =
     let at = c.args.at in
     let here = is_inside bytes at (omega (arith, c.requires.inside)) c.requires.begins in
     let h = c.indicators-header.result in
-    let ends : EndsHeader bytes h.end (Some c.in-Some.place) = subst (λ r. EndsHeader bytes h.end r) c.in-Some.is c.header_fault.ensures.ends in
+    let ends : EndsHeader bytes h.end (Some c.in-Some.place) = c.in-Some.ensures.ends in
     block-fault c.args.literal c.args.within bytes at here h.end (header_end h (first_text (lines_at bytes h.end))) c.indicators-header.ensures.given
     (record { code = WrongBlockHeader; at = c.in-Some.place }) (ends h)
 
@@ -24,7 +24,7 @@ returns-then-end-bytes-clause-gives c =
     let at = c.args.at in
     let here = is_inside bytes at (omega (arith, c.requires.inside)) c.requires.begins in
     let h = c.indicators-header.result in
-    let ends : EndsHeader bytes h.end None = subst (λ r. EndsHeader bytes h.end r) c.in-None.is c.header_fault.ensures.ends in
+    let ends : EndsHeader bytes h.end None = c.in_default.ensures.ends in
     block-last c.args.literal c.args.within bytes at here h.end (header_end h (first_text (lines_at bytes h.end))) c.indicators-header.ensures.given
     h c.new-text.result c.line_end-end.result (ends h) c.indicators-header.ensures.on_line.same c.line_end-end.ensures.on_line.same c.if-end-bytes.true c.new-text.ensures
 
@@ -35,18 +35,16 @@ returns-clause-gives c =
     let here = is_inside bytes at (omega (arith, c.requires.inside)) c.requires.begins in
     let h = c.indicators-header.result in
     let first = c.after_break-first.result in
-    let style = c.block_style-style.result in
-    let ends : EndsHeader bytes h.end None = subst (λ r. EndsHeader bytes h.end r) c.in-None.is c.header_fault.ensures.ends in
+    let ends : EndsHeader bytes h.end None = c.in_default.ensures.ends in
     block-more c.args.literal c.args.within bytes at here h.end (header_end h (first_text (lines_at bytes h.end))) c.indicators-header.ensures.given
     h c.line_end-end.result first (ends h) c.indicators-header.ensures.on_line.same c.line_end-end.ensures.on_line.same c.after_break-first.ensures.lines
-    ∙ ap (λ (t : Taken). Ok t) (rest-style c.args.literal style.literal h.chomping style.chomping (content_indent h.digit c.args.within (lines_at bytes first)) style.indent
-    (is_said h.digit) style.explicit h.end c.new-text.result (lines_at bytes first)
-    c.block_style-style.ensures.literal c.block_style-style.ensures.chomping c.block_style-style.ensures.indent c.block_style-style.ensures.explicit c.new-text.ensures
+    ∙ ap (λ (t : Taken). Ok t) (rest-style c.args.literal h.chomping (content_indent h.digit c.args.within (lines_at bytes first)) c.content_indent.result
+    (is_some h.digit) c.is_some.result h.end c.new-text.result (lines_at bytes first) c.content_indent.ensures c.is_some.ensures c.new-text.ensures
     ∙ c.in_ok-rows.ensures.rows)
 
 pub returns-in-Some-clause-within : goal.returns-in-Some-clause-within
 returns-in-Some-clause-within c =
     let n = length c.args.bytes.now in
     let from = c.indicators-header.result.end in
-    let within : IfSome (Some c.in-Some.place) (λ place. (from ≤ place) × (place ≤ n)) = subst (λ r. IfSome r (λ place. (from ≤ place) × (place ≤ n))) c.in-Some.is c.header_fault.ensures.within in
+    let within : (from ≤ c.in-Some.place) × (c.in-Some.place ≤ n) = c.in-Some.ensures.within in
     (omega (arith, within.0, c.indicators-header.ensures.on_line.from), within.1)

@@ -1,5 +1,4 @@
 use Rattle.std.proofs.Common.{length, ◌-◌, ◌≡◌, ◌≤◌, ◌<◌, ◌++◌}
-use Rattle.al_base.specs.Growth.{BeginsWith}
 use Rattle.al_scalar.specs.Places.{lines_at}
 use Rattle.al_scalar.specs.LineEnds.{later}
 use Rattle.al_scalar.specs.Private.PlainLines.{empty_ends, break_left}
@@ -13,7 +12,6 @@ invariant-empty_lines l = record {
   lines : solid_lines (later (lines_at l.bytes l.end)) ≡ solid_lines (lines_at l.bytes l.start);
   text : l.text ++ break_left l.folded l.end (empty_ends (lines_at l.bytes l.start))
       ≡ l.initial.text ++ break_left l.escaped l.end (empty_ends (later (lines_at l.bytes l.end)));
-  begins : BeginsWith l.text l.initial.text;
 }
 
 abbrev pub decreases-empty_lines : goal.decreases-empty_lines

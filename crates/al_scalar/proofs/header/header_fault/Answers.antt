@@ -1,5 +1,5 @@
 use Rattle.std.proofs.Common.{refl, arith}
-use Rattle.al_scalar.proofs.SingleLemmas.{is_inside, never}
+use Rattle.al_scalar.proofs.LineCells.{is_inside, never}
 use Rattle.al_scalar.proofs.HeaderLemmas.{header-ended, header-other, header-close, header-comment}
 use Rattle.al_scalar.proofs.header.header_fault.Goals as goal
 

@@ -1,4 +1,4 @@
-use Rattle.al_scalar.proofs.SingleLemmas.{never}
+use Rattle.al_scalar.proofs.LineCells.{never}
 use Rattle.al_scalar.proofs.MarkerLemmas.{begins-cell_at}
 use Rattle.al_scalar.proofs.lines.begins.Goals as goal
 

@@ -1,6 +1,6 @@
 use Rattle.std.proofs.Common.{refl}
 use Rattle.al_scalar.specs.LineEnds.{cells_between}
-use Rattle.al_scalar.proofs.SingleLemmas.{run_at, is_inside, never}
+use Rattle.al_scalar.proofs.LineCells.{run_at, is_inside, never}
 use Rattle.al_scalar.proofs.BlockLemmas.{all_blank-run, all_blank-solid}
 use Rattle.al_scalar.proofs.lines.blank_line_end.Goals as goal
 

@@ -1,5 +1,5 @@
 use Rattle.std.proofs.Common.{arith}
-use Rattle.al_scalar.proofs.SingleLemmas.{cell_at, is_inside, never}
+use Rattle.al_scalar.proofs.LineCells.{cell_at, is_inside, never}
 use Rattle.al_scalar.proofs.lines.first_byte.Goals as goal
 
 pub returns-else-is_line_end : goal.returns-else-is_line_end

@@ -1,4 +1,4 @@
-use Rattle.al_scalar.proofs.SingleLemmas.{never}
+use Rattle.al_scalar.proofs.LineCells.{never}
 use Rattle.al_scalar.proofs.PlainLemmas.{blank_or_end-cell}
 use Rattle.al_scalar.proofs.lines.is_blank_or_end.Goals as goal
 

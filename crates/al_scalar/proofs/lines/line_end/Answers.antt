@@ -1,5 +1,15 @@
-use Rattle.al_scalar.proofs.LineSearch.{to_break, to_file_end}
+use Rattle.std.proofs.Common.{refl}
+use Rattle.al_scalar.proofs.LineSearch.{to_here, to_break, to_file_end}
 use Rattle.al_scalar.proofs.lines.line_end.Goals as goal
+
+pub returns-then-is_line_end-clause-on_line : goal.returns-then-is_line_end-clause-on_line
+returns-then-is_line_end-clause-on_line c = (to_here c.args.bytes.now c.args.at c.requires (c.if-is_line_end.ensures.0 refl)).on_line
+
+pub returns-then-is_line_end-clause-text : goal.returns-then-is_line_end-clause-text
+returns-then-is_line_end-clause-text c = (to_here c.args.bytes.now c.args.at c.requires (c.if-is_line_end.ensures.0 refl)).text
+
+pub returns-then-is_line_end-clause-end : goal.returns-then-is_line_end-clause-end
+returns-then-is_line_end-clause-end c = (to_here c.args.bytes.now c.args.at c.requires (c.if-is_line_end.ensures.0 refl)).end
 
 pub returns-in-Some-clause-on_line : goal.returns-in-Some-clause-on_line
 returns-in-Some-clause-on_line c = (to_break c.args.bytes.now c.args.at c.requires c.in-Some.break_at c.in-Some.ensures.0 c.in-Some.ensures.1).on_line

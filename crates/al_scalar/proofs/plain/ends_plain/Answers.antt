@@ -1,7 +1,7 @@
 use Rattle.std.proofs.Common.{◌∙◌, ◌&&◌, ap, slice_index}
 use Rattle.al_scalar.specs.Plain.{is_flow_indicator}
 use Rattle.al_scalar.specs.Private.PlainLines.{context_of}
-use Rattle.al_scalar.proofs.SingleLemmas.{never}
+use Rattle.al_scalar.proofs.LineCells.{never}
 use Rattle.al_scalar.proofs.PlainLemmas.{ends_at-colon, ends_at-hash, ends_at-other}
 use Rattle.al_scalar.proofs.plain.ends_plain.Goals as goal
 

@@ -2,7 +2,7 @@ use Rattle.std.proofs.Common.{◌∙◌, ◌&&◌, not, ap, sym}
 use Rattle.al_scalar.specs.Plain.{continues}
 use Rattle.al_scalar.specs.Private.PlainLines.{context_of}
 use Rattle.al_scalar.specs.Places.{text_at}
-use Rattle.al_scalar.proofs.SingleLemmas.{never}
+use Rattle.al_scalar.proofs.LineCells.{never}
 use Rattle.al_scalar.proofs.PlainLemmas.{text_at-some}
 use Rattle.al_scalar.proofs.plain.goes_on.Goals as goal
 

@@ -1,5 +1,5 @@
 use Rattle.al_scalar.specs.Private.PlainLines.{context_of}
-use Rattle.al_scalar.proofs.SingleLemmas.{never}
+use Rattle.al_scalar.proofs.LineCells.{never}
 use Rattle.al_scalar.proofs.PlainLemmas.{value_colon-yes, value_colon-no}
 use Rattle.al_scalar.proofs.plain.is_value_colon.Goals as goal
 

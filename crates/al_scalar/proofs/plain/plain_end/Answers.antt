@@ -3,7 +3,7 @@ use Rattle.al_scalar.specs.Plain.{ends_plain}
 use Rattle.al_scalar.specs.Places.{text_at}
 use Rattle.al_scalar.specs.LineEnds.{cells_between, IsLineEnd}
 use Rattle.al_scalar.specs.Private.PlainLines.{context_of}
-use Rattle.al_scalar.proofs.SingleLemmas.{run_at, cell_at, same_then, is_inside, never}
+use Rattle.al_scalar.proofs.LineCells.{run_at, cell_at, same_then, is_inside, never}
 use Rattle.al_scalar.proofs.PlainLemmas.{part_done, part_more, part_word, same_word, ends-end}
 use Rattle.al_scalar.proofs.plain.plain_end.Goals as goal
 

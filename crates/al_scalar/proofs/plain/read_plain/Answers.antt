@@ -1,8 +1,10 @@
-use Rattle.std.proofs.Common.{arith}
+use Rattle.std.proofs.Common.{◌∙◌, ◌++◌, List, ap, arith}
+use Rattle.al_scalar.specs.Line.{Line}
 use Rattle.al_scalar.specs.Places.{lines_at}
-use Rattle.al_scalar.specs.LineEnds.{cells_between}
+use Rattle.al_scalar.specs.LineEnds.{cells_between, later}
+use Rattle.al_scalar.specs.Taken.{folded_break}
 use Rattle.al_scalar.specs.Private.PlainLines.{context_of, empty_ends, here_at}
-use Rattle.al_scalar.proofs.SingleLemmas.{run_at, same_then, never}
+use Rattle.al_scalar.proofs.LineCells.{run_at, same_then, never}
 use Rattle.al_scalar.proofs.PlainReadLemmas.{solid_text, read_first, read_done, found_at, read_stopped, read_more, read_key}
 use Rattle.al_scalar.proofs.plain.read_plain.Goals as goal
 
@@ -12,7 +14,7 @@ text_lines-init c =
     record {
       from = found.from;
       inside = found.inside;
-      read = read_first (context_of c.args.context) c.args.bytes.now c.args.at c.plain_end-end.result found.inside found.part found.same c.new-text.ensures c.in_ok-push_run.ensures.added;
+      read = read_first (context_of c.args.context) c.args.bytes.now c.args.at c.plain_end-end.result found.inside found.part found.same c.new-text.ensures c.in_ok-push_run.ensures;
     }
 
 pub returns-then-not-is_break_at-clause-gives : goal.returns-then-not-is_break_at-clause-gives
@@ -68,6 +70,7 @@ text_lines-preserved c =
     let rest = c.blanks_end-rest in
     let text = c.text_lines.text in
     let ahead = found_at p bytes c.text_lines.end line.result next.result start.result text c.text_lines.invariant.read line.ensures.lines line.ensures.blanks next.ensures.lines start.ensures.lines in
+    let folded = c.in_ok-fold_break.ensures.text ∙ ap (λ (ls : List Line). text ++ folded_break line.result (empty_ends (later ls))) next.ensures.lines in
     let same = same_then (run_at bytes start.result solid.result (cells_between bytes start.result solid.result) solid.ensures.lines).same end.ensures.same in
     record {
       from = omega (arith, c.text_lines.invariant.from, line.ensures.from, next.ensures.after, start.ensures.from, solid.ensures.from, end.ensures.from);
@@ -76,5 +79,5 @@ text_lines-preserved c =
           (solid_text bytes start.result solid.result solid.ensures.inside solid.ensures.lines solid.ensures.blanks solid.ensures.not_blank) c.if-not-goes_on.ensures end.ensures.part
           (solid_text bytes end.result rest.result rest.ensures.inside rest.ensures.lines rest.ensures.blanks rest.ensures.not_blank)
           (here_at bytes c.text_lines.end) line.result (empty_ends (lines_at bytes next.result)) text c.if-makes_key.ensures
-          end.ensures.inside same ahead c.in_ok-push_break.ensures c.in_ok-push_run-2.ensures.added;
+          end.ensures.inside same ahead folded c.in_ok-push_run-2.ensures;
     }

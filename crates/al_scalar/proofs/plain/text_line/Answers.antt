@@ -1,5 +1,5 @@
 use Rattle.std.proofs.Common.{arith}
-use Rattle.al_scalar.proofs.SingleLemmas.{never}
+use Rattle.al_scalar.proofs.LineCells.{never}
 use Rattle.al_scalar.proofs.BlankLemmas.{no_blank_line, text_found, text_more}
 use Rattle.al_scalar.proofs.plain.text_line.Goals as goal
 

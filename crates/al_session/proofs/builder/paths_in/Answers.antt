@@ -8,8 +8,8 @@ use Rattle.al_session_folder.proofs.Looping.{kept_number}
 use Rattle.al_session.proofs.Loading.{paths_more}
 use Rattle.al_session.proofs.builder.paths_in.Goals as goal
 
-pub path_of-requires : goal.path_of-requires
-path_of-requires g c =
+pub owned_path-requires : goal.owned_path-requires
+owned_path-requires g c =
     ap path_fault_of c.as_str.ensures.value ∙ (kept_number g.L.Lint.meaning g.L.Lint.is_unit c.args.files.now.entries c.loop-index.index
     (c.file_number.result.0.now, c.file_number.result.1.now) c.requires.kept c.file_number.ensures).valid
 
@@ -17,8 +17,8 @@ pub loop-index-preserved : goal.loop-index-preserved
 loop-index-preserved g c =
     let es = c.args.files.now.entries in
     let whole = paths_more es c.loop-index.index (c.file_number.result.0.now, c.file_number.result.1.now) c.file_number.ensures in
-    c.in_ok-push.ensures.items ∙ ap (λ l. l ++ c.in_ok-path_of.field-0 ∷ []) c.loop-index.invariant
-    ∙ ap (λ x. take c.loop-index.index (paths_of (folder_of es)) ++ x ∷ []) (c.in_ok-path_of.ensures ∙ c.as_str.ensures.value) ∙ sym whole
+    c.in_ok-push.ensures.items ∙ ap (λ l. l ++ c.in_ok-owned_path.field-0 ∷ []) c.loop-index.invariant
+    ∙ ap (λ x. take c.loop-index.index (paths_of (folder_of es)) ++ x ∷ []) (c.in_ok-owned_path.ensures ∙ c.as_str.ensures.value) ∙ sym whole
 
 pub returns : goal.returns
 returns g c =

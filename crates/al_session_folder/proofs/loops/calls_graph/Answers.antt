@@ -1,14 +1,13 @@
-use Rattle.std.proofs.Common.{sym, ◌∙◌, ◌≡◌, [], ap, rules, arith, cond, length, map, String}
+use Rattle.std.proofs.Common.{sym, ◌∙◌, ◌≡◌, [], ap, rules, arith, map, String}
 use Rattle.std.specs.Global.{Global}
-use Rattle.std.specs.List.{enumerate_from, filter_map}
+use Rattle.std.specs.List.{filter_map}
 use Rattle.std.proofs.lemmas.List.{take_all}
-use Rattle.std.proofs.lemmas.List.FromFn.{length-enumerate_from}
+use Rattle.std.proofs.lemmas.Option.{get_or_from_slice_get}
 use Rattle.al_graph.specs.Graphs.{edges_of}
 use Rattle.al_session_folder.specs.Kept.{folder_of}
 use Rattle.al_session_folder.specs.Loops.{callee}
 use Rattle.al_session_folder.specs.declared.kept.KeptFile.{KeptFile}
-use Rattle.std.proofs.lemmas.Option.{get_or_from_slice_get}
-use Rattle.al_session_folder.proofs.Looping.{Inside, graph_next, numbered, part_of_kept}
+use Rattle.al_session_folder.proofs.Looping.{graph_kept, graph_next}
 use Rattle.al_session_folder.proofs.loops.calls_graph.Goals as goal
 
 pub loop-index-init : goal.loop-index-init
@@ -21,19 +20,14 @@ loop-index-preserved g c =
     let files = c.args.files.now.entries in
     let h = callee (folder_of files) in
     let e : String Global × KeptFile _ _ = (c.file_number.result.0.now, c.file_number.result.1.now) in
-    let n : length (enumerate_from 0 files) ≡ length files = length-enumerate_from 0 files in
-    graph_next (λ x. filter_map h (cond (Inside c.args.first c.args.end x.0) x.1.1.calls.targets.items [])) (enumerate_from 0 files) c.loop-index.index
-    (c.loop-index.index, e) c.loop-index.graph.items c.push.new.self.items c.in_ok-callees.field-0
-    (omega (arith, n, c.len-index-end.ensures.len, c.loop-index-test.true))
-    (sym (get_or_from_slice_get (enumerate_from 0 files) c.loop-index.index (c.loop-index.index, e) _ (numbered files c.loop-index.index e c.file_number.ensures)))
-    c.loop-index.invariant c.in_ok-push.ensures.items
-    (c.in_ok-callees.ensures ∙ ap (filter_map h) (c.calls_if-calls.ensures ∙ ap (λ b. cond b e.1.calls.targets.items []) c.is_between-is_wanted.ensures))
+    graph_next (λ x. filter_map h x.1.calls.targets.items) files c.loop-index.index e c.loop-index.graph.items c.push.new.self.items c.in_ok-callees.field-0
+    (omega (arith, c.len-index-end.ensures.len, c.loop-index-test.true)) (sym (get_or_from_slice_get files c.loop-index.index e e c.file_number.ensures))
+    c.loop-index.invariant c.in_ok-push.ensures.items (c.in_ok-callees.ensures ∙ ap (filter_map h) c.deref.ensures.value)
 
 pub returns : goal.returns
 returns g c =
     let files = c.args.files.now.entries in
     let h = callee (folder_of files) in
-    let n : length (enumerate_from 0 files) ≡ length files = length-enumerate_from 0 files in
-    let whole = take_all c.loop-index.index (enumerate_from 0 files) (omega (arith, n, c.len-index-end.ensures.len, c.loop-index-test.false)) in
-    c.loop-index.invariant ∙ ap (map (λ x. filter_map h (cond (Inside c.args.first c.args.end x.0) x.1.1.calls.targets.items []))) whole
-    ∙ part_of_kept c.args.first c.args.end g.L.Lint.meaning g.L.Lint.is_unit h 0 files c.requires.kept
+    let whole = take_all c.loop-index.index files (omega (arith, c.len-index-end.ensures.len, c.loop-index-test.false)) in
+    c.loop-index.invariant ∙ ap (map (λ x. filter_map h x.1.calls.targets.items)) whole
+    ∙ graph_kept g.L.Lint.meaning g.L.Lint.is_unit h files c.requires.kept

@@ -1,6 +1,6 @@
 use Rattle.std.proofs.Common.{arith, refl, inl, inr}
 use Rattle.al_yaml_parts.proofs.KeyLemmas.{other_line, end-more}
-use Rattle.al_scalar.proofs.SingleLemmas.{never}
+use Rattle.al_scalar.proofs.LineCells.{never}
 use Rattle.al_yaml_parts.proofs.lines.is_same_line.Goals as goal
 
 pub returns-then-is_break : goal.returns-then-is_break

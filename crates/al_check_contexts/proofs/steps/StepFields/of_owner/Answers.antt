@@ -7,7 +7,8 @@ use Rattle.al_check_contexts.specs.Contexts.{step_field}
 use Rattle.al_expr_types.specs.Prefixes.{HasPrefix, map_in}
 use Rattle.al_expr_types.specs.Tables.{objects_of}
 use Rattle.al_check_contexts.specs.Made.{known_from}
-use Rattle.al_check_objects.specs.Numbers.{Lists, fields_in, is_map_below}
+use Rattle.al_check_objects.specs.Numbers.{Lists}
+use Rattle.al_expr_types.specs.FieldMaps.{fields_in, is_map_below}
 use Rattle.al_check_contexts.specs.Private.Owners.{owner_view}
 use Rattle.al_check_contexts.specs.Steps.{IsCount, first_fields}
 use Rattle.al_check_objects.proofs.Numbers.{list_long}

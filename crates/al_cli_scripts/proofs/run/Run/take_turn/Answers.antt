@@ -44,8 +44,7 @@ returns-in_err-answer_all-clause-turn g c =
     let p = err_from_is_err_and c.from_residual-in_err-answer_all.result c.from_residual-in_err-answer_all.ensures.1 in
     let e : c.deref-2.result.now ≡ c.args.self.now.waiting.items ++ take c.in_ok-count.count c.read.new.buf = search (rules, common_steps) in
     rw (p.1, p.2) (TurnStops-cut (session c.args.self.now.oneline) _ _ _ c.in_err-answer_all.ensures.only
-    (turn_stuck (session c.args.self.now.oneline) _ c.args.self.now.waiting.items (take c.in_ok-count.count c.read.new.buf) _ _ _ _
-    c.in_ok-count.ensures.bytes.0 (rw e at c.in_err-answer_all.ensures.err)))
+    (turn_stuck (session c.args.self.now.oneline) _ c.args.self.now.waiting.items _ _ _ c.in_ok-count.ensures.bytes.0 _ _ (rw e at c.in_err-answer_all.ensures.err)))
 
 pub returns-in_err-flush-in-Waits-clause-turn : goal.returns-in_err-flush-in-Waits-clause-turn
 returns-in_err-flush-in-Waits-clause-turn g c =
@@ -53,9 +52,7 @@ returns-in_err-flush-in-Waits-clause-turn g c =
     let e : c.deref-2.result.now ≡ c.args.self.now.waiting.items ++ take c.in_ok-count.count c.read.new.buf = search (rules, common_steps) in
     let s = rw (c.in-Waits.is, e) at c.in_ok-answer_all.ensures.ok in
     rw (p.1, p.2, c.in_err-flush-in-Waits.ensures.err)
-    (turn_answered (session c.args.self.now.oneline) _ _ c.args.self.now.waiting.items (take c.in_ok-count.count c.read.new.buf) s.0 _ _ _ _ _
-    c.in_ok-count.ensures.bytes.0 s.1
-    (Appends-kept _ _ _ s.0 s.4 c.in_err-flush-in-Waits.ensures.bytes))
+    (turn_answered (session c.args.self.now.oneline) _ _ _ _ _ c.in_ok-count.ensures.bytes.0 s.1 _ _ (Appends-kept _ _ _ s.0 s.4 c.in_err-flush-in-Waits.ensures.bytes))
 
 pub returns-in-Bad-clause-turn : goal.returns-in-Bad-clause-turn
 returns-in-Bad-clause-turn g c =
@@ -64,7 +61,7 @@ returns-in-Bad-clause-turn g c =
     let room : length c.read.new.buf ≡ 65536 = search (rules, common_steps) in
     let some : c.in_ok-count.count ≤ length c.read.new.buf = search (rules, common_steps) in
     let short : length (take c.in_ok-count.count c.read.new.buf) ≤ 65536 = omega (arith, some, room, length-take-le c.in_ok-count.count c.read.new.buf some) in (
-      turn_bad (session c.args.self.now.oneline) _ _ c.args.self.now.waiting.items (take c.in_ok-count.count c.read.new.buf) s.0 s.1 _ _ _ _ c.in_ok-count.ensures.bytes.0 s.2 s.3 s.4,
+      turn_bad (session c.args.self.now.oneline) _ _ _ _ _ c.in_ok-count.ensures.bytes.0 s.2 _ _ s.3 s.4,
       (take c.in_ok-count.count c.read.new.buf, short, c.in_ok-count.ensures.bytes.0, inr (_, s.0, s.1, s.2, s.3)),
-      bad_leaves (session c.args.self.now.oneline) _ _ c.args.self.now.waiting.items (take c.in_ok-count.count c.read.new.buf) s.0 s.1 _ _ c.in_ok-count.ensures.bytes.0 s.2 s.3,
+      bad_leaves (session c.args.self.now.oneline) _ _ _ _ _ c.in_ok-count.ensures.bytes.0 s.2 s.3,
     )

@@ -4,6 +4,7 @@ use Rattle.std.specs.Prelude.{IfSome, nat_lt, option_map}
 use Rattle.al_base.proofs.Growing.{begins_trans}
 use Rattle.al_types.specs.Types.{option_of}
 use Rattle.al_types.proofs.FuseLaws.{optional_back}
+use Rattle.al_expr_types.specs.Kept.{IsCommon}
 use Rattle.al_expr_types.specs.Types.{are_below, parts_of_all, type_in}
 use Rattle.al_expr_types.proofs.Below.{all_at, less}
 use Rattle.al_expr_types.proofs.Gathering.{rest_is}
@@ -16,14 +17,14 @@ common-gather-requires t c =
     omega (arith, c.requires, le)
 
 pub common-join_type-requires : goal.common-join_type-requires
-common-join_type-requires t c = c.in_ok-all-in-Unknown.ensures.below refl
+common-join_type-requires t c = c.in_ok-all-in-None.ensures.below refl
 
-pub common-set_mark-requires : goal.common-set_mark-requires
-common-set_mark-requires t c =
+pub common-keep_common-requires : goal.common-keep_common-requires
+common-keep_common-requires t c =
     let middle = c.make_commons.new.self.objects.items in
     let after = c.join_type.new.self.objects.items in
-    let made = c.in_ok-common-in-Unknown in
-    let all = c.in_ok-all-in-Unknown in
+    let made = c.in_ok-common-in-None in
+    let all = c.in_ok-all-in-None in
     let le = longer middle c.args.self.now.objects.items c.make_commons.ensures in
     let more = longer after middle made.ensures.kept in
     let there : c.args.n < length middle = omega (arith, c.requires, le) in (
@@ -32,22 +33,23 @@ common-set_mark-requires t c =
       rest_is (parts_of_all after) made.common ∙ made.ensures.ty ∙ all.ensures.part ∙ ap (λ p. p.2) (sym (same_there after middle c.args.n made.ensures.kept there)),
     )
 
-pub common-returns-in-Common-clause-ty : goal.common-returns-in-Common-clause-ty
-common-returns-in-Common-clause-ty t c =
-    kept_answer c.args.self.now.objects.items c.args.n c.in-Common.common
-    (c.args.self.now.right c.args.n c.in-Common.common (sym c.mark.ensures ∙ c.in-Common.is))
+pub common-returns-in-Some-clause-ty : goal.common-returns-in-Some-clause-ty
+common-returns-in-Some-clause-ty t c =
+    let os = c.args.self.now.objects.items in
+    kept_answer os c.args.n c.in-Some.common (subst (λ o. IfSome o (IsCommon os c.args.n)) c.in-Some.is c.kept_common.ensures)
 
-pub common-returns-in_ok-common-in-Unknown-clause-ty : goal.common-returns-in_ok-common-in-Unknown-clause-ty
-common-returns-in_ok-common-in-Unknown-clause-ty t c =
+pub common-returns-in_ok-keep_common-in-None-clause-ty : goal.common-returns-in_ok-keep_common-in-None-clause-ty
+common-returns-in_ok-keep_common-in-None-clause-ty t c =
     let before = c.args.self.now.objects.items in
     let middle = c.make_commons.new.self.objects.items in
     let after = c.join_type.new.self.objects.items in
-    let made = c.in_ok-common-in-Unknown in
-    ap (λ os. option_map (type_in (parts_of_all os.items)) made.common) c.set_mark.ensures ∙ sym (optional_back (option_map (type_in (parts_of_all after)) made.common))
-    ∙ ap option_of (made.ensures.ty ∙ c.in_ok-all-in-Unknown.ensures.part ∙ ap (λ p. p.2) (same_there middle before c.args.n c.make_commons.ensures c.requires))
+    let made = c.in_ok-common-in-None in
+    ap (λ os. option_map (type_in (parts_of_all os.items)) made.common) c.keep_common.ensures ∙ sym (optional_back (option_map (type_in (parts_of_all after)) made.common))
+    ∙ ap option_of (made.ensures.ty ∙ c.in_ok-all-in-None.ensures.part ∙ ap (λ p. p.2) (same_there middle before c.args.n c.make_commons.ensures c.requires))
 
-pub common-returns-in-Common-clause-known : goal.common-returns-in-Common-clause-known
-common-returns-in-Common-clause-known t c = (c.args.self.now.right c.args.n c.in-Common.common (sym c.mark.ensures ∙ c.in-Common.is)).1
+pub common-returns-in-Some-clause-known : goal.common-returns-in-Some-clause-known
+common-returns-in-Some-clause-known t c =
+    (subst (λ o. IfSome o (IsCommon c.args.self.now.objects.items c.args.n)) c.in-Some.is c.kept_common.ensures).1
 
 pub make_commons-common-requires-in-loop-m : goal.make_commons-common-requires-in-loop-m
 make_commons-common-requires-in-loop-m t c =

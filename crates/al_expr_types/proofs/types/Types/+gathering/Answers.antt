@@ -1,16 +1,16 @@
 use Rattle.std.proofs.Common.{◌<◌, ◌∙◌, ap, arith, get_or, length, map, sym}
 use Rattle.std.proofs.lemmas.List.{get_or_default, take_all}
+use Rattle.std.specs.List.{list_all}
 use Rattle.std.specs.Prelude.{nat_lt}
 use Rattle.al_types.specs.Types.{fuse_optional}
 use Rattle.al_types.specs.Fused.{fuse_all}
 use Rattle.al_expr_types.specs.Joining.{join_in}
 use Rattle.al_expr_types.specs.Parts.{part_in}
 use Rattle.al_expr_types.specs.Tables.{objects_of}
-use Rattle.al_expr_types.specs.Types.{common_of, are_below, are_fields_below, extension_parts, is_extended_below, is_object_below, object_in, object_parts, type_in}
+use Rattle.al_expr_types.specs.Types.{common_of, are_below, are_fields_below, extension_parts, is_below, is_extended_below, is_object_below, object_in, type_in}
 use Rattle.al_expr_types.specs.declared.objects.Object.TheVariants as object
 use Rattle.al_expr_types.proofs.Below.{all_at, left_of, less, object_wider, right_of}
-use Rattle.al_expr_types.proofs.Gathering.{fields_then_rest, gathered_next, gathered_none}
-use Rattle.al_expr_types.proofs.Tables.{order_at, read}
+use Rattle.al_expr_types.proofs.Gathering.{fields_then_rest, gathered_next, gathered_none, of_object}
 use Rattle.al_expr_types.proofs.types.Types.+gathering.Goals as goal
 
 pub gather-loop-m-init : goal.gather-loop-m-init
@@ -21,13 +21,11 @@ gather-loop-m-init t c = record {
 
 pub gather-gather-requires-in-loop-m : goal.gather-gather-requires-in-loop-m
 gather-gather-requires-in-loop-m t c =
-    let os = c.args.self.now.objects.items in
     let n = c.args.n in
     let ns = c.as_slice-m-items.result.now in
     let i = c.loop-m.m-index in
     let m = get_or ns i 0 in
-    let h = order_at 0 n os n c.index.result.now c.args.self.now.ordered c.requires c.index.ensures (omega arith) in
-    let all = ap (are_below n) c.as_slice-m-items.ensures.value ∙ sym (ap (is_object_below n) c.in-Common.is) ∙ h in
+    let all = ap (are_below n) c.as_slice-m-items.ensures.value ∙ sym (ap (is_object_below n) c.in-Common.is) ∙ c.object.ensures.below in
     let lt : m < n = less m n (all_at (λ k. nat_lt k n) ns i m c.loop-m-test.true (get_or_default ns i 0 m c.loop-m-test.true) all) in
     (omega (arith, lt, c.decreases), omega (arith, lt, c.requires))
 
@@ -45,61 +43,43 @@ gather-loop-m-preserved t c =
 
 pub gather-returns-in_ok-gathered-in-Fields-clause-part : goal.gather-returns-in_ok-gathered-in-Fields-clause-part
 gather-returns-in_ok-gathered-in-Fields-clause-part t c =
-    let os = c.args.self.now.objects.items in
     let ms = objects_of c.args.self.now in
-    let there = read os c.args.n c.index.result.now c.args.self.now.ordered c.requires c.index.ensures in
-    c.in_ok-gathered-in-Fields.ensures.part ms
-    ∙ ap (λ o. fuse_optional (join_in ms c.args.sofar) (part_in c.args.part (object_parts ms o))) (sym c.in-Fields.is)
-    ∙ ap (λ p. fuse_optional (join_in ms c.args.sofar) (part_in c.args.part p)) (sym there)
+    of_object ms c.args.part (join_in ms c.args.sofar) _ _ c.object.result.now _ c.object.ensures.object c.in-Fields.is (c.in_ok-gathered-in-Fields.ensures.part ms)
 
 pub gather-returns-in_ok-gathered-in-Fields-clause-below : goal.gather-returns-in_ok-gathered-in-Fields-clause-below
 gather-returns-in_ok-gathered-in-Fields-clause-below t c =
     let os = c.args.self.now.objects.items in
-    let n = c.args.n in
-    let h = order_at 0 n os n c.index.result.now c.args.self.now.ordered c.requires c.index.ensures (omega arith) in
-    let wide = object_wider n (length os) (omega (arith, c.requires)) c.index.result.now h in
+    let wide = object_wider c.args.n (length os) (omega (arith, c.requires)) c.object.result.now c.object.ensures.below in
     c.in_ok-gathered-in-Fields.ensures.below (length os) (ap (is_object_below (length os)) (sym c.in-Fields.is) ∙ wide)
 
 pub gather-returns-in_ok-gathered-in-Strings-clause-part : goal.gather-returns-in_ok-gathered-in-Strings-clause-part
 gather-returns-in_ok-gathered-in-Strings-clause-part t c =
-    let os = c.args.self.now.objects.items in
     let ms = objects_of c.args.self.now in
-    let there = read os c.args.n c.index.result.now c.args.self.now.ordered c.requires c.index.ensures in
-    c.in_ok-gathered-in-Strings.ensures.part ms
-    ∙ ap (λ o. fuse_optional (join_in ms c.args.sofar) (part_in c.args.part (object_parts ms o))) (sym c.in-Strings.is)
-    ∙ ap (λ p. fuse_optional (join_in ms c.args.sofar) (part_in c.args.part p)) (sym there)
+    of_object ms c.args.part (join_in ms c.args.sofar) _ _ c.object.result.now _ c.object.ensures.object c.in-Strings.is (c.in_ok-gathered-in-Strings.ensures.part ms)
 
 pub gather-returns-after-loop-m-clause-part : goal.gather-returns-after-loop-m-clause-part
 gather-returns-after-loop-m-clause-part t c =
-    let os = c.args.self.now.objects.items in
     let ms = objects_of c.args.self.now in
     let ns = c.as_slice-m-items.result.now in
-    let there = read os c.args.n c.index.result.now c.args.self.now.ordered c.requires c.index.ensures in
+    let start = join_in ms c.args.sofar in
     let all = take_all c.loop-m.m-index ns (omega (arith, c.loop-m-test.false)) in
-    c.loop-m.invariant.part
-    ∙ ap (λ l. fuse_optional (join_in ms c.args.sofar) (part_in c.args.part (fuse_all (map (object_in ms) l)))) (all ∙ c.as_slice-m-items.ensures.value)
-    ∙ ap (λ o. fuse_optional (join_in ms c.args.sofar) (part_in c.args.part (object_parts ms o))) (sym c.in-Common.is)
-    ∙ ap (λ p. fuse_optional (join_in ms c.args.sofar) (part_in c.args.part p)) (sym there)
+    of_object ms c.args.part start _ _ c.object.result.now _ c.object.ensures.object c.in-Common.is
+    (c.loop-m.invariant.part ∙ ap (λ l. fuse_optional start (part_in c.args.part (fuse_all (map (object_in ms) l)))) (all ∙ c.as_slice-m-items.ensures.value))
 
 pub gather-gather_extension-requires : goal.gather-gather_extension-requires
 gather-gather_extension-requires t c =
     let os = c.args.self.now.objects.items in
     let n = c.args.n in
     let e = c.in-Extension.extension in
-    let h = order_at 0 n os n c.index.result.now c.args.self.now.ordered c.requires c.index.ensures (omega arith) in
-    let below = sym (ap (is_object_below n) c.in-Extension.is) ∙ h in
+    let below = sym (ap (is_object_below n) c.in-Extension.is) ∙ c.object.ensures.below in
     let behind = right_of (are_fields_below n e.fields) (is_extended_below n e) below in
     let lt : e.base.object < n = less e.base.object n (left_of (nat_lt e.base.object n) _ behind) in
     (omega (arith, lt, c.decreases), object_wider n (length os) (omega (arith, c.requires)) (object.Extension e) below)
 
 pub gather-returns-in_ok-gathered-in-Extension-clause-part : goal.gather-returns-in_ok-gathered-in-Extension-clause-part
 gather-returns-in_ok-gathered-in-Extension-clause-part t c =
-    let os = c.args.self.now.objects.items in
     let ms = objects_of c.args.self.now in
-    let there = read os c.args.n c.index.result.now c.args.self.now.ordered c.requires c.index.ensures in
-    c.in_ok-gathered-in-Extension.ensures.part
-    ∙ ap (λ o. fuse_optional (join_in ms c.args.sofar) (part_in c.args.part (object_parts ms o))) (sym c.in-Extension.is)
-    ∙ ap (λ p. fuse_optional (join_in ms c.args.sofar) (part_in c.args.part p)) (sym there)
+    of_object ms c.args.part (join_in ms c.args.sofar) _ _ c.object.result.now _ c.object.ensures.object c.in-Extension.is c.in_ok-gathered-in-Extension.ensures.part
 
 pub gather_extension-gather-requires : goal.gather_extension-gather-requires
 gather_extension-gather-requires t c =
@@ -116,8 +96,9 @@ gather_extension-returns-in_ok-all-in-All-clause-part t c =
     let start = join_in ms c.args.sofar in
     let own = common_of (map (type_in ms) e.own.items) in
     let base = c.in_ok-of_base-in-All.ensures.part ∙ ap (λ p. fuse_optional start (part_in p (object_in ms e.base.object))) c.in-All.is in
-    fields_then_rest start (join_in ms c.in_ok-of_base-in-All.of_base) (join_in ms c.in_ok-all-in-All.all) (object_in ms e.base.object).2 own base
-    (c.in_ok-all-in-All.ensures.part ms)
+    let of_base = join_in ms c.in_ok-of_base-in-All.of_base in
+    let all = c.in_ok-all-in-All.ensures.part ms ∙ ap (λ ts. fuse_optional of_base (common_of (map (type_in ms) ts))) c.as_slice.ensures.value in
+    fields_then_rest start of_base (join_in ms c.in_ok-all-in-All.all) (object_in ms e.base.object).2 own base all
     ∙ ap (λ p. fuse_optional start (part_in p (extension_parts ms e))) (sym c.in-All.is)
 
 pub gather_extension-returns-in_ok-all-in-All-clause-below : goal.gather_extension-returns-in_ok-all-in-All-clause-below
@@ -125,4 +106,5 @@ gather_extension-returns-in_ok-all-in-All-clause-below t c = λ h.
     let e = c.args.extension.now in
     let len = length c.args.self.now.objects.items in
     let behind = right_of (are_fields_below len e.fields) (is_extended_below len e) c.requires in
-    c.in_ok-all-in-All.ensures.below len (right_of (nat_lt e.base.object len) _ behind) (c.in_ok-of_base-in-All.ensures.below h)
+    c.in_ok-all-in-All.ensures.below len (ap (list_all (is_below len)) c.as_slice.ensures.value ∙ right_of (nat_lt e.base.object len) _ behind)
+    (c.in_ok-of_base-in-All.ensures.below h)

@@ -8,18 +8,15 @@ use Rattle.al_expr_types.specs.Tables.{objects_of}
 use Rattle.al_expr_types.specs.Types.{are_below, are_fields_below, is_object_below, object_in, object_parts}
 use Rattle.al_expr_types.proofs.Below.{all_at, left_of, less, object_wider}
 use Rattle.al_expr_types.proofs.Gathering.{named_next}
-use Rattle.al_expr_types.proofs.Tables.{order_at, read}
 use Rattle.al_expr_types.proofs.types.Types.+merging.Goals as goal
 
 pub merge-requires : goal.merge-requires
 merge-requires t c =
-    let os = c.args.self.now.objects.items in
     let n = c.args.n in
     let ns = c.as_slice-m-items.result.now in
     let i = c.loop-m.m-index in
     let m = get_or ns i 0 in
-    let h = order_at 0 n os n c.index.result.now c.args.self.now.ordered c.requires c.index.ensures (omega arith) in
-    let all = ap (are_below n) c.as_slice-m-items.ensures.value ∙ sym (ap (is_object_below n) c.in-Common.is) ∙ h in
+    let all = ap (are_below n) c.as_slice-m-items.ensures.value ∙ sym (ap (is_object_below n) c.in-Common.is) ∙ c.object.ensures.below in
     let lt : m < n = less m n (all_at (λ k. nat_lt k n) ns i m c.loop-m-test.true (get_or_default ns i 0 m c.loop-m-test.true) all) in
     (omega (arith, lt, c.decreases), omega (arith, lt, c.requires))
 
@@ -38,42 +35,34 @@ loop-m-preserved t c =
 
 pub returns-in_ok-merged-in-Fields-clause-found : goal.returns-in_ok-merged-in-Fields-clause-found
 returns-in_ok-merged-in-Fields-clause-found t c =
-    let os = c.args.self.now.objects.items in
     let ms = objects_of c.args.self.now in
-    let there = read os c.args.n c.index.result.now c.args.self.now.ordered c.requires c.index.ensures in
     c.in_ok-merged-in-Fields.ensures.found ms
-    ∙ ap (λ p name. fuse_optional (found_in ms c.args.sofar name) (p.0 name)) (sym (there ∙ ap (object_parts ms) c.in-Fields.is))
+    ∙ ap (λ p name. fuse_optional (found_in ms c.args.sofar name) (p.0 name)) (sym (c.object.ensures.object ∙ ap (object_parts ms) c.in-Fields.is))
 
 pub returns-in_ok-merged-in-Fields-clause-below : goal.returns-in_ok-merged-in-Fields-clause-below
 returns-in_ok-merged-in-Fields-clause-below t c =
     let os = c.args.self.now.objects.items in
-    let n = c.args.n in
-    let h = order_at 0 n os n c.index.result.now c.args.self.now.ordered c.requires c.index.ensures (omega arith) in
-    let wide = object_wider n (length os) (omega (arith, c.requires)) c.index.result.now h in
+    let wide = object_wider c.args.n (length os) (omega (arith, c.requires)) c.object.result.now c.object.ensures.below in
     c.in_ok-merged-in-Fields.ensures.below (length os) (ap (is_object_below (length os)) (sym c.in-Fields.is) ∙ wide)
 
 pub returns-in_ok-merged-in-Strings-clause-found : goal.returns-in_ok-merged-in-Strings-clause-found
 returns-in_ok-merged-in-Strings-clause-found t c =
-    let os = c.args.self.now.objects.items in
     let ms = objects_of c.args.self.now in
-    let there = read os c.args.n c.index.result.now c.args.self.now.ordered c.requires c.index.ensures in
     c.in_ok-merged-in-Strings.ensures.found ms
-    ∙ ap (λ p name. fuse_optional (found_in ms c.args.sofar name) (p.0 name)) (sym (there ∙ ap (object_parts ms) c.in-Strings.is))
+    ∙ ap (λ p name. fuse_optional (found_in ms c.args.sofar name) (p.0 name)) (sym (c.object.ensures.object ∙ ap (object_parts ms) c.in-Strings.is))
 
 pub returns-in_ok-merged-in-Strings-clause-below : goal.returns-in_ok-merged-in-Strings-clause-below
 returns-in_ok-merged-in-Strings-clause-below t c = c.in_ok-merged-in-Strings.ensures.below (length c.args.self.now.objects.items)
 
 pub returns-after-loop-m-clause-found : goal.returns-after-loop-m-clause-found
 returns-after-loop-m-clause-found t c = λ d name.
-    let os = c.args.self.now.objects.items in
     let ms = objects_of c.args.self.now in
     let ns = c.as_slice-m-items.result.now in
     let start : Optional = found_in ms c.args.sofar name in
-    let there = read os c.args.n c.index.result.now c.args.self.now.ordered c.requires c.index.ensures in
     let all = take_all c.loop-m.m-index ns (omega (arith, c.loop-m-test.false)) in
     (c.loop-m.invariant.found name
     ∙ ap (λ l. fuse_optional start ((fuse_all (map (object_in ms) l)).0 name)) (all ∙ c.as_slice-m-items.ensures.value)
-    ∙ ap (λ p. fuse_optional start (p.0 name)) (sym (there ∙ ap (object_parts ms) c.in-Common.is))) d
+    ∙ ap (λ p. fuse_optional start (p.0 name)) (sym (c.object.ensures.object ∙ ap (object_parts ms) c.in-Common.is))) d
 
 pub returns-in-Some-clause-found : goal.returns-in-Some-clause-found
 returns-in-Some-clause-found t c =
@@ -82,17 +71,13 @@ returns-in-Some-clause-found t c =
 
 pub returns-in_ok-merged-in-Extension-clause-found : goal.returns-in_ok-merged-in-Extension-clause-found
 returns-in_ok-merged-in-Extension-clause-found t c =
-    let os = c.args.self.now.objects.items in
     let ms = objects_of c.args.self.now in
-    let there = read os c.args.n c.index.result.now c.args.self.now.ordered c.requires c.index.ensures in
     c.in_ok-merged-in-Extension.ensures.found ms
-    ∙ ap (λ p name. fuse_optional (found_in ms c.args.sofar name) (p.0 name)) (sym (there ∙ ap (object_parts ms) c.in-Extension.is))
+    ∙ ap (λ p name. fuse_optional (found_in ms c.args.sofar name) (p.0 name)) (sym (c.object.ensures.object ∙ ap (object_parts ms) c.in-Extension.is))
 
 pub returns-in_ok-merged-in-Extension-clause-below : goal.returns-in_ok-merged-in-Extension-clause-below
 returns-in_ok-merged-in-Extension-clause-below t c =
     let os = c.args.self.now.objects.items in
-    let n = c.args.n in
-    let h = order_at 0 n os n c.index.result.now c.args.self.now.ordered c.requires c.index.ensures (omega arith) in
-    let wide = object_wider n (length os) (omega (arith, c.requires)) c.index.result.now h in
+    let wide = object_wider c.args.n (length os) (omega (arith, c.requires)) c.object.result.now c.object.ensures.below in
     c.in_ok-merged-in-Extension.ensures.below (length os)
     (left_of (are_fields_below (length os) c.in-Extension.extension.fields) _ (ap (is_object_below (length os)) (sym c.in-Extension.is) ∙ wide))

@@ -21,15 +21,15 @@ join_type-requires c =
     let one = c.types_of.new.self.objects.items in
     joined_wider (length entry) (length one) (longer one entry c.in_ok-types.ensures.kept) c.in_ok-others.others (c.in_ok-others.ensures.below refl)
 
-pub of-requires : goal.of-requires
-of-requires c =
+pub invariant_of-of : goal.invariant_of-of
+invariant_of-of c =
     let merging = c.in_ok-merging.merging in
     let entry = c.args.self.now.objects.items in
     let one = c.types_of.new.self.objects.items in
     let ts = c.in_ok-types.types.items in
     let made = length-map ts (λ t. Present (type_in (parts_of_all one) t)) in
     let were = length-map merging.joins.items (join_in (parts_of_all entry)) in
-    omega (arith, ap length c.into_names.ensures, merging.even, ap length c.in_ok-types.ensures.types, made, were)
+    omega (arith, ap length c.into_names-names.ensures, merging.even, ap length c.in_ok-types.ensures.types, made, were)
 
 pub returns-clause-index : goal.returns-clause-index
 returns-clause-index c =
@@ -49,15 +49,15 @@ returns-clause-index c =
     let wide = all_weaker (is_below (length one)) (is_below (length two)) (below_wider (length one) (length two) (longer two one rest.kept)) ts types.known in (
       (omega (arith, c.requires, le), c.in_ok-fields.ensures.below (length two) wide rest.known),
       (
-        c.in_ok-fields.ensures.named (parts_of_all two)
+        ap (λ p. p.0) (c.in_ok-fields.ensures.parts (parts_of_all two))
             ∙ (λ d n.
-            (ap (λ l. optional (field_at n (named_types (parts_of_all two) l ts))) c.into_names.ensures
+            (ap (λ l. optional (field_at n (named_types (parts_of_all two) l ts))) c.into_names-names.ensures
             ∙ ap (λ us. optional (field_at n (zip ns us))) (named_kept two one ts rest.kept types.known)
             ∙ index_named (parts_of_all entry) (parts_of_all one) ns merging.joins.items ts types.types n
             ∙ ap (λ f. f n) c.in_ok-merging.ensures.found
             ∙ ap (λ f. fuse_optional (f n) ((object_in (parts_of_all entry) c.args.n).0 n)) (c.new.ensures.found (parts_of_all entry))
             ∙ ap (λ p. p.0 n) there) d),
-        c.in_ok-fields.ensures.rest (parts_of_all two) ∙ rest_is (parts_of_all two) c.in_ok-rest.rest ∙ rest.ty
+        ap (λ p. p.1) (c.in_ok-fields.ensures.parts (parts_of_all two)) ∙ rest_is (parts_of_all two) c.in_ok-rest.rest ∙ rest.ty
             ∙ joined_longer one entry others types.kept below ∙ c.in_ok-others.ensures.part ∙ ap (λ p. p.1) there,
       ),
     )

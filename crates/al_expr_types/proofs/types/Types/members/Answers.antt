@@ -1,11 +1,8 @@
-use Rattle.std.proofs.Common.{◌∙◌, ap, arith, sym}
+use Rattle.std.proofs.Common.{◌∙◌, ap, sym}
 use Rattle.al_expr_types.specs.Types.{are_below, is_object_below}
-use Rattle.al_expr_types.proofs.Tables.{order_at}
 use Rattle.al_expr_types.proofs.types.Types.members.Goals as goal
 
 pub returns-in_ok-numbers-in-Common : goal.returns-in_ok-numbers-in-Common
 returns-in_ok-numbers-in-Common c =
-    let os = c.args.self.now.objects.items in
     let n = c.args.n in
-    let h = order_at 0 n os n c.index.result.now c.args.self.now.ordered c.requires c.index.ensures (omega arith) in
-    ap (are_below n) (c.in_ok-numbers-in-Common.ensures.items ∙ c.as_slice.ensures.value) ∙ sym (ap (is_object_below n) c.in-Common.is) ∙ h
+    ap (are_below n) (c.in_ok-numbers-in-Common.ensures.items ∙ c.as_slice.ensures.value) ∙ sym (ap (is_object_below n) c.in-Common.is) ∙ c.object.ensures.below

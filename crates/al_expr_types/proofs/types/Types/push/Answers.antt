@@ -2,7 +2,7 @@ use Rattle.std.proofs.Common.{◌≡◌, ◌∙◌, [], ap, arith, length}
 use Rattle.al_expr_types.specs.Types.{object_in, object_parts, parts_of_all}
 use Rattle.al_base.proofs.Growing.{begins_by}
 use Rattle.al_expr_types.proofs.Tables.{length_after, number_of_more, one_more, order_if}
-use Rattle.al_expr_types.proofs.Keeping.{begins_if, indexed_if, indexed_longer, right_if, right_longer}
+use Rattle.al_expr_types.proofs.Keeping.{begins_if, commons_longer, indexes_longer}
 use Rattle.al_expr_types.proofs.types.Types.push.Goals as goal
 
 pub returns-clause-objects : goal.returns-clause-objects
@@ -28,35 +28,6 @@ invariant_of-self c =
     let longer = begins_if _ c.push.new.self.items was.objects.items c.args.object c.push.ensures.items in
     record {
       ordered = order_if _ c.push.new.self.items was.objects.items c.args.object c.push.ensures.items was.ordered c.requires;
-      right = right_longer c.push.new.self.items was.objects.items was.marks.items longer was.right;
-      indexed = indexed_longer c.push.new.self.items was.objects.items was.indexes.items longer was.indexed;
+      common = commons_longer c.push.new.self.items was.objects.items was.commons longer was.common;
+      indexed = indexes_longer c.push.new.self.items was.objects.items was.indexes longer was.indexed;
     }
-
-pub invariant_of-self-2 : goal.invariant_of-self-2
-invariant_of-self-2 c =
-    let was = c.args.self.now in
-    let longer = begins_if _ c.push.new.self.items was.objects.items c.args.object c.push.ensures.items in
-    let right = right_longer c.push.new.self.items was.objects.items was.marks.items longer was.right in
-    let indexed = indexed_longer c.push.new.self.items was.objects.items was.indexes.items longer was.indexed in
-    record {
-      ordered = order_if _ c.push.new.self.items was.objects.items c.args.object c.push.ensures.items was.ordered c.requires;
-      right = right_if _ c.push.new.self.items c.push-2.new.self.items was.marks.items c.push-2.ensures.items right;
-      indexed = indexed_if _ c.push.new.self.items c.push-3.new.self.items was.indexes.items c.push-3.ensures.items indexed;
-    }
-
-pub invariant_of-self-in-Break-branch-2 : goal.invariant_of-self-in-Break-branch-2
-invariant_of-self-in-Break-branch-2 c =
-    let was = c.args.self.now in
-    let longer = begins_if _ c.push.new.self.items was.objects.items c.args.object c.push.ensures.items in
-    let right = right_longer c.push.new.self.items was.objects.items was.marks.items longer was.right in
-    record {
-      ordered = order_if _ c.push.new.self.items was.objects.items c.args.object c.push.ensures.items was.ordered c.requires;
-      right = right_if _ c.push.new.self.items c.push-2.new.self.items was.marks.items c.push-2.ensures.items right;
-      indexed = indexed_longer c.push.new.self.items was.objects.items was.indexes.items longer was.indexed;
-    }
-
-pub returns-in_err-push-2-clause-kept : goal.returns-in_err-push-2-clause-kept
-returns-in_err-push-2-clause-kept c = begins_if _ _ c.args.self.now.objects.items c.args.object c.push.ensures.items
-
-pub returns-in_err-push-3-clause-kept : goal.returns-in_err-push-3-clause-kept
-returns-in_err-push-3-clause-kept c = begins_if _ _ c.args.self.now.objects.items c.args.object c.push.ensures.items

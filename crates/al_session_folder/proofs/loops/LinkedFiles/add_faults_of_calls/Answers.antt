@@ -1,25 +1,15 @@
 use Rattle.std.proofs.Common.{◌≡◌, ◌∙◌, ◌<◌, ◌++◌, length, get_or, ap, arith, refl, subst, sym, List, ℕ, String}
-use Rattle.std.proofs.lemmas.List.{length-map}
+use Rattle.std.proofs.lemmas.List.{get_or_read, length-map}
 use Rattle.std.proofs.lemmas.Option.{get_or_from_slice_get}
-use Rattle.std.specs.Prelude.{string_bytes}
+use Rattle.std.specs.Prelude.{string_bytes, IfSome}
 use Rattle.std.specs.Global.{Global}
 use Rattle.al_session_folder.specs.declared.kept.KeptFile.{KeptFile}
 use Rattle.al_session_folder.specs.Kept.{folder_of}
-use Rattle.al_session_folder.specs.Loops.{calls_graph, leads_back}
+use Rattle.al_session_folder.specs.Loops.{callee, calls_graph, leads_back}
 use Rattle.al_session_folder.specs.CallGraphs.{IsCalledBy, TellLoops}
 use Rattle.al_session_folder.specs.Sites.{site_fault}
-use Rattle.al_session_folder.proofs.Looping.{call_edge, entry_number, entry_there, fault_if, if_called, kept_number, looping_end, looping_next, one_entry, row_of}
+use Rattle.al_session_folder.proofs.Looping.{call_edge, entry_number, entry_there, fault_if, kept_number, looping_end, looping_next, one_entry}
 use Rattle.al_session_folder.proofs.loops.LinkedFiles.add_faults_of_calls.Goals as goal
-
-pub callee_again-to-requires-clause-row : goal.callee_again-to-requires-clause-row
-callee_again-to-requires-clause-row g c =
-    let v = c.self.inside in
-    let e : String Global × KeptFile _ _ = (c.file_number.result.0.now, c.file_number.result.1.now) in
-    let kept = kept_number g.L.Lint.meaning g.L.Lint.is_unit v.files.now.entries c.args.index e c.self.invariant.kept.kept c.file_number.ensures in
-    row_of g.L.Lint.meaning (folder_of v.files.now.entries) v.calls.now.graph.items v.calls.now.labels.items v.calls.now.labels.items c.as_slice-row.result.now
-    c.index.result.now c.args.index c.self.invariant.calls (rw (← c.self.view_is) at c.requires) c.index.ensures c.as_slice-row.ensures.value refl
-    (string_bytes e.0) e.1.bytes.items c.as_slice-targets.result.now (entry_number v.files.now.entries c.args.index e c.file_number.ensures)
-    (c.as_slice-targets.ensures.value ∙ kept.calls.targets)
 
 pub leads_back-leads_back-requires-clause-index : goal.leads_back-leads_back-requires-clause-index
 leads_back-leads_back-requires-clause-index g c =
@@ -34,10 +24,8 @@ leads_back-leads_back-requires-clause-to g c =
     let F = folder_of c.self.inside.files.now.entries in
     let size = c.self.invariant.calls.tell.0 in
     let n : length (calls_graph g.L.Lint.meaning F) ≡ length F = length-map F _ in
-    let t = entry_there c.as_slice-targets.result.now c.loop-call.call (omega (arith, c.loop-call-test.true)) in
-    if_called F t.0 c.callee_again-to.result (length c.deref.result.now)
-    (c.callee_again-to.ensures t.0 (sym (get_or_from_slice_get c.as_slice-targets.result.now c.loop-call.call t.0 t.0 t.1)))
-    (omega (arith, size, n, ap length c.deref.ensures.value))
+    let all : length F ≡ length c.self.inside.files.now.entries = length-map c.self.inside.files.now.entries _ in
+    subst (λ (bound : ℕ). IfSome c.callee-to.result (λ k. k < bound)) (omega (arith, size, n, all, ap length c.deref.ensures.value)) c.callee-to.ensures.inside
 
 pub site-requires : goal.site-requires
 site-requires g c =
@@ -63,9 +51,12 @@ loop-call-preserved g c p b at =
     let within : c.loop-call.call < length (m.calls p b) = omega (arith, c.loop-call-test.true, ap length items) in
     let t = entry_there (m.calls p b) c.loop-call.call within in
     let read = sym (get_or_from_slice_get (m.calls p b) c.loop-call.call t.0 t.0 t.1) in
-    let to = c.callee_again-to.ensures t.0 (read ∙ ap (λ l. get_or l c.loop-call.call t.0) (sym items)) in
+    let target : c.index-targets-call.result ≡ t.0 =
+    get_or_read c.as_slice-targets.result.now c.loop-call.call _ (omega (arith, c.loop-call-test.true)) c.index-targets-call.is t.0
+    ∙ ap (λ l. get_or l c.loop-call.call t.0) items ∙ sym read in
+    let to = c.callee-to.ensures.number ∙ ap (callee F) target in
     let tells = subst (TellLoops G) (sym c.deref.ensures.value) c.self.invariant.calls.tell in
-    let edge : IsCalledBy G c.args.index c.callee_again-to.result =
+    let edge : IsCalledBy G c.args.index c.callee-to.result =
     subst (IsCalledBy G c.args.index) (sym to) (call_edge m F c.args.index c.loop-call.call p b t.0 at within read) in
     let back = c.leads_back-leads_back.ensures G tells edge ∙ ap (leads_back G c.args.index) to in
     let added = c.in_ok-add_fault_if.ensures ∙ ap (λ back. c.loop-call.faults ++ fault_if back (site_fault c.site.result)) back in

@@ -1,3 +1,0 @@
--- Words that only contracts of private functions need: no definition of what the product means stands on them.
-pub mod Places
-pub mod Texts

@@ -1,0 +1,58 @@
+use Rattle.std.proofs.Common.{◌≡◌, ◌<◌, ◌∷◌, ◌++◌, [], ℕ, ◌∙◌, ap, arith, get_or, length, map, sym, take}
+use Rattle.std.proofs.lemmas.List.{get_or_default, map-append}
+use Rattle.al_types.specs.FusedFields.{are_distinct}
+use Rattle.al_types.specs.Fused.{fuse_parts, fuse_all}
+use Rattle.al_types.specs.Types.{Parts, parts_with}
+use Rattle.al_types.proofs.FuseLaws.{fused_one_more}
+use Rattle.al_expr_types.specs.Names.{names_in}
+use Rattle.al_expr_types.specs.Tables.{objects_of}
+use Rattle.al_expr_types.specs.Types.{object_in, type_in}
+use Rattle.al_expr_types.proofs.OnceLemmas.{once_distinct}
+use Rattle.al_expr.specs.Trees.{field_of, listed_parts, rest_of}
+use Rattle.al_expr_types.proofs.Scans.{mapped_more}
+use Rattle.al_expr.proofs.Firsts.{firsts_same}
+use Rattle.al_expr.proofs.TableFields.{taken_all, taken_next}
+use Rattle.al_expr.proofs.taking.+taking.Goals as goal
+
+pub field_trees-loop-i-preserved : goal.field_trees-loop-i-preserved
+field_trees-loop-i-preserved t c =
+    let m = c.args.fields.now.map.value in
+    let ns = names_in m.names in
+    let i = c.loop-i.i in
+    let n = c.at.result.0.now in
+    let ty = c.at.result.1 in
+    let within : i < length m.types.items = omega (arith, c.loop-i-test.true, c.args.fields.now.inside) in
+    let named : i < length ns = omega (arith, within, m.even) in
+    let name = c.at.ensures.name ∙ ap (λ k. get_or (names_in k.names) i n) c.deref.ensures in
+    let typed = c.at.ensures.ty ∙ ap (λ k. get_or k.types.items i ty) c.deref.ensures in
+    ap (map field_of) c.in_ok-push.ensures.items ∙ map-append field_of c.loop-i.trees.items (c.in_ok-field.field ∷ [])
+    ∙ (λ d. c.loop-i.invariant d ++ (c.in_ok-field.ensures ∙ ap (λ u. (n, u)) c.in_ok-tree.ensures) d ∷ [])
+    ∙ sym (taken_next (type_in (objects_of c.args.types.now)) ns m.types.items i n ty named within name typed)
+
+pub field_trees-returns : goal.field_trees-returns
+field_trees-returns t c =
+    let m = c.args.fields.now.map.value in
+    let end : c.loop-i.i ≡ c.args.fields.now.count = omega (arith, c.loop-i-test.false, c.loop-i.auto.i-end) in
+    c.loop-i.invariant ∙ taken_all (type_in (objects_of c.args.types.now)) (names_in m.names) m.types.items c.args.fields.now.count c.loop-i.i end
+
+pub fields_listing-invariant_of-result : goal.fields_listing-invariant_of-result
+fields_listing-invariant_of-result t c =
+    let f = c.args.fields.now in
+    let m = f.map.value in
+    record {
+      distinct = ap are_distinct c.in_ok-trees.ensures
+          ∙ once_distinct (names_in m.names) (map (type_in (objects_of c.args.types.now)) (take f.count m.types.items)) m.names.once;
+    }
+
+pub object_listing-loop-m-preserved : goal.object_listing-loop-m-preserved
+object_listing-loop-m-preserved t c =
+    let f : ℕ → Parts = object_in (objects_of c.args.types.now) in
+    let ns = c.as_slice-m-items.result.now in
+    let i = c.loop-m.m-index in
+    let m = get_or ns i 0 in
+    let one = c.in_ok-one-in-Common.one in
+    let rest = rest_of one.rest in
+    let same = ap (λ xs. listed_parts (map field_of xs) rest) c.as_slice.ensures.value
+    ∙ ap (λ us. parts_with us rest) (firsts_same (map field_of one.fields.items) one.distinct) ∙ c.in_ok-one-in-Common.ensures in
+    c.in_ok-more-in-Common.ensures ∙ (λ d. fuse_parts (c.loop-m.invariant d) (same d))
+    ∙ sym (ap fuse_all (mapped_more f ns i m c.loop-m-test.true (get_or_default ns i 0 m c.loop-m-test.true)) ∙ fused_one_more (map f (take i ns)) (f m))

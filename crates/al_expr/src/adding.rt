@@ -1,0 +1,147 @@
+//! Trees put into a table.
+
+ghost use Rattle.std.specs.Prelude.{◌≡◌, IfOk, length, map, true};
+ghost use Rattle.al_base.specs.Growth.{BeginsWith};
+ghost use Rattle.al_types.specs.Puts.{firsts};
+ghost use Rattle.al_expr_types.specs.FieldMaps.{fields_in, is_map_below};
+ghost use Rattle.al_expr_types.specs.Tables.{is_known, objects_of, type_at};
+ghost use Rattle.al_expr_types.specs.Types.{is_rest_below, rest_in};
+ghost use Rattle.al_expr_typing.specs.Scopes.{IsShown, scope_view};
+ghost use Rattle.al_expr.specs.Scopes.{StandFor, scope_of};
+ghost use Rattle.al_expr.specs.Trees.{field_of, rest_of, ty_of};
+
+use crate::scope::{ContextTypes, Scope};
+use crate::trees::{Field, Ty};
+use al_expr_types::{FieldMap, Scalar, Types};
+use std::alloc::{AllocError, Global};
+
+/// Adds the objects of a tree to a table, and answers the type that it stands for. Fails with `AllocError`, only when out of memory, as all
+/// here.
+#[tactic(auto, using(al_base::proofs::Growing::growth))]
+#[cycle(adding)]
+fn add<'a>(
+    alloc: Global,
+    types: &mut Types<'a>,
+    ty: &'a Ty,
+) -> Result<al_expr_types::Ty, AllocError>
+    ensures ty { IfOk result (λ t. type_at types.new t ≡ ty_of ty.now) }
+    ensures known { IfOk result (λ t. is_known types.new t ≡ true) }
+    ensures kept { BeginsWith (objects_of types.new) (objects_of types.old) }
+{
+    match ty {
+        Ty::Any => Ok(al_expr_types::Ty::scalar(Scalar::Any)),
+        Ty::Null => Ok(al_expr_types::Ty::scalar(Scalar::Null)),
+        Ty::Number => Ok(al_expr_types::Ty::scalar(Scalar::Number)),
+        Ty::Bool => Ok(al_expr_types::Ty::scalar(Scalar::Bool)),
+        Ty::String => Ok(al_expr_types::Ty::scalar(Scalar::String)),
+        Ty::Array(of) => {
+            let element = add(alloc, types, of)?;
+            let all = element.in_arrays(1)?;
+            Ok(all)
+        }
+        Ty::Object { fields, rest } => {
+            let map = add_fields(alloc, types, fields)?;
+            let others = add_rest(alloc, types, rest)?;
+            let all = types.fields(map, others)?;
+            Ok(all)
+        }
+    }
+}
+
+// Adds the objects of fields.
+#[tactic(auto, using(al_base::proofs::Growing::growth))]
+#[cycle(adding)]
+fn add_fields<'a>(
+    alloc: Global,
+    types: &mut Types<'a>,
+    fields: &'a [Field],
+) -> Result<FieldMap<'a>, AllocError>
+    ensures fields { IfOk result
+        (λ m. fields_in (objects_of types.new) m ≡ firsts (map field_of fields.now)) }
+    ensures known { IfOk result
+        (λ m. is_map_below (length types.new.objects.items) m ≡ true) }
+    ensures kept { BeginsWith (objects_of types.new) (objects_of types.old) }
+{
+    let mut map = FieldMap::new(alloc);
+    for field in fields {
+        let ty = add(alloc, types, &field.ty)?;
+        let more = map.and(alloc, field.name.as_bytes(), ty)?;
+        map = more;
+    }
+    Ok(map)
+}
+
+// Adds the objects of the type of other fields, where there may be others.
+#[tactic(auto, using(al_base::proofs::Growing::growth))]
+#[cycle(adding)]
+fn add_rest<'a>(
+    alloc: Global,
+    types: &mut Types<'a>,
+    rest: &'a Option<Box<Ty>>,
+) -> Result<Option<al_expr_types::Ty>, AllocError>
+    ensures ty { IfOk result (λ t. rest_in (objects_of types.new) t ≡ rest_of rest.now) }
+    ensures known { IfOk result (λ t. is_rest_below (length types.new.objects.items) t ≡ true) }
+    ensures kept { BeginsWith (objects_of types.new) (objects_of types.old) }
+{
+    match rest {
+        Some(ty) => {
+            let other = add(alloc, types, ty)?;
+            Ok(Some(other))
+        }
+        None => Ok(None),
+    }
+}
+
+/// Adds the types of all contexts.
+#[tactic(auto, using(al_base::proofs::Growing::growth))]
+fn add_contexts<'a>(
+    alloc: Global,
+    types: &mut Types<'a>,
+    contexts: &'a ContextTypes,
+) -> Result<al_expr_typing::ContextTypes, AllocError>
+    ensures { IfOk result (λ t. StandFor types.new t contexts.now) }
+{
+    let github = add(alloc, types, &contexts.github)?;
+    let env = add(alloc, types, &contexts.env)?;
+    let vars = add(alloc, types, &contexts.vars)?;
+    let secrets = add(alloc, types, &contexts.secrets)?;
+    let runner = add(alloc, types, &contexts.runner)?;
+    let job = add(alloc, types, &contexts.job)?;
+    let strategy = add(alloc, types, &contexts.strategy)?;
+    let needs = add(alloc, types, &contexts.needs)?;
+    let jobs = add(alloc, types, &contexts.jobs)?;
+    let steps = add(alloc, types, &contexts.steps)?;
+    let matrix = add(alloc, types, &contexts.matrix)?;
+    let inputs = add(alloc, types, &contexts.inputs)?;
+    Ok(al_expr_typing::ContextTypes {
+        github,
+        env,
+        vars,
+        secrets,
+        runner,
+        job,
+        strategy,
+        needs,
+        jobs,
+        steps,
+        matrix,
+        inputs,
+    })
+}
+
+/// Adds the types of a scope.
+pub(crate) fn add_scope<'a>(
+    alloc: Global,
+    types: &mut Types<'a>,
+    scope: &'a Scope,
+) -> Result<al_expr_typing::Scope, AllocError>
+    ensures same { IfOk result (λ s. scope_view types.new s ≡ scope_of scope.now) }
+    ensures shown { IfOk result (λ s. IsShown types.new s) }
+{
+    let contexts = add_contexts(alloc, types, &scope.types)?;
+    Ok(al_expr_typing::Scope {
+        types: contexts,
+        available: scope.available,
+        in_run: scope.in_run,
+    })
+}

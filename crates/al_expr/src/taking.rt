@@ -1,0 +1,191 @@
+//! Trees taken out of a table.
+
+ghost use Rattle.std.specs.Prelude.{◌≡◌, ◌<◌, ◌≤◌, IfOk, length, map, take, true};
+ghost use Rattle.al_expr_types.specs.Names.{names_in};
+ghost use Rattle.al_expr_types.specs.Tables.{is_known, objects_of, type_at};
+ghost use Rattle.al_expr_types.specs.Types.{are_fields_below, arrays_of, fields_parts, is_below, is_rest_below};
+ghost use Rattle.al_expr_types.specs.Types.{named_types, object_in, rest_in, scalar_type, strings_parts};
+ghost use Rattle.al_expr.specs.Listings.{parts_in};
+ghost use Rattle.al_expr.specs.Trees.{field_of, rest_of, ty_of};
+
+use crate::fusing::add_object;
+use crate::listings::Listing;
+use crate::trees::{Field, Ty};
+use al_expr_types::{Base, Fields, NameList, Object, Scalar, Types};
+use std::alloc::{AllocError, Global};
+
+/// The tree of a type of a table. Fails with `AllocError`, only when out of memory, as all here.
+pub fn tree_of(alloc: Global, types: &Types<'_>, ty: al_expr_types::Ty) -> Result<Ty, AllocError>
+    requires { is_known types.now ty ≡ true }
+    ensures { IfOk result (λ t. ty_of t ≡ type_at types.now ty) }
+{
+    let tree = tree_below(alloc, types, ty, types.len())?;
+    Ok(tree)
+}
+
+/// The tree of a scalar.
+pub(crate) fn scalar_tree(scalar: Scalar) -> Ty
+    ensures { ty_of result ≡ scalar_type scalar }
+{
+    match scalar {
+        Scalar::Any => Ty::Any,
+        Scalar::Null => Ty::Null,
+        Scalar::Number => Ty::Number,
+        Scalar::Bool => Ty::Bool,
+        Scalar::String => Ty::String,
+    }
+}
+
+// A type in so many arrays.
+fn in_arrays(alloc: Global, ty: Ty, arrays: u32) -> Result<Ty, AllocError>
+    ensures { IfOk result (λ t. ty_of t ≡ arrays_of arrays (ty_of ty)) }
+{
+    let mut all = ty;
+    for _made in 0..arrays {
+        all = Ty::Array(Box::new(alloc, all)?);
+    }
+    Ok(all)
+}
+
+// The tree of a type whose object has a number below this.
+#[cycle(taking)]
+fn tree_below(
+    alloc: Global,
+    types: &Types<'_>,
+    ty: al_expr_types::Ty,
+    below: usize,
+) -> Result<Ty, AllocError>
+    requires below { is_below below ty ≡ true }
+    requires inside { below ≤ length types.now.objects.items }
+    ensures { IfOk result (λ t. ty_of t ≡ type_at types.now ty) }
+{
+    match ty.of {
+        Base::Scalar(scalar) => {
+            let tree = in_arrays(alloc, scalar_tree(scalar), ty.arrays)?;
+            Ok(tree)
+        }
+        Base::Object(n) => {
+            let listing = object_listing(alloc, types, n)?;
+            let tree = in_arrays(alloc, listing.into_type(), ty.arrays)?;
+            Ok(tree)
+        }
+    }
+}
+
+// The fields of an object.
+#[cycle(taking)]
+fn object_listing(alloc: Global, types: &Types<'_>, n: u32) -> Result<Listing, AllocError>
+    requires { n < length types.now.objects.items }
+    ensures { IfOk result (λ l. parts_in l ≡ object_in (objects_of types.now) n) }
+{
+    match types.object(n) {
+        Object::Fields(fields) => {
+            let listing = fields_listing(alloc, types, fields, n)?;
+            Ok(listing)
+        }
+        Object::Strings(names) => {
+            let listing = strings_listing(alloc, names)?;
+            Ok(listing)
+        }
+        Object::Common(of) => {
+            let mut all = Listing::new(alloc);
+            for m in of.as_slice() {
+                let one = object_listing(alloc, types, *m)?;
+                let more = add_object(alloc, one.fields.as_slice(), &one.rest, all)?;
+                all = more;
+            }
+            Ok(all)
+        }
+        // Neither a tree nor an expression makes one.
+        Object::Extension(_) => Err(AllocError),
+    }
+}
+
+// Fields of types whose objects have numbers below this.
+#[cycle(taking)]
+fn fields_listing(
+    alloc: Global,
+    types: &Types<'_>,
+    fields: &Fields<'_>,
+    below: u32,
+) -> Result<Listing, AllocError>
+    requires below { are_fields_below below fields.now ≡ true }
+    requires inside { below ≤ length types.now.objects.items }
+    ensures { IfOk result (λ l. parts_in l ≡ fields_parts (objects_of types.now) fields.now) }
+{
+    let trees = field_trees(alloc, types, fields, below)?;
+    let rest = rest_tree(alloc, types, fields.rest, below)?;
+    Ok(Listing {
+        fields: trees,
+        rest,
+    })
+}
+
+#[cycle(taking)]
+fn field_trees(
+    alloc: Global,
+    types: &Types<'_>,
+    fields: &Fields<'_>,
+    below: u32,
+) -> Result<Vec<Field>, AllocError>
+    requires below { are_fields_below below fields.now ≡ true }
+    requires inside { below ≤ length types.now.objects.items }
+    ensures { IfOk result (λ v. map field_of v.items ≡ named_types (objects_of types.now)
+        (names_in fields.now.map.value.names)
+        (take fields.now.count fields.now.map.value.types.items)) }
+{
+    let mut trees = Vec::new(alloc);
+    for i in 0..fields.count {
+        let (name, ty) = fields.map.at(i);
+        let tree = tree_below(alloc, types, ty, below as usize)?;
+        let field = field_with(alloc, name, tree)?;
+        trees.push(field)?;
+    }
+    Ok(trees)
+}
+
+#[cycle(taking)]
+fn rest_tree(
+    alloc: Global,
+    types: &Types<'_>,
+    rest: Option<al_expr_types::Ty>,
+    below: u32,
+) -> Result<Option<Box<Ty>>, AllocError>
+    requires below { is_rest_below below rest ≡ true }
+    requires inside { below ≤ length types.now.objects.items }
+    ensures { IfOk result (λ r. rest_of r ≡ rest_in (objects_of types.now) rest) }
+{
+    match rest {
+        Some(ty) => {
+            let tree = tree_below(alloc, types, ty, below as usize)?;
+            Ok(Some(Box::new(alloc, tree)?))
+        }
+        None => Ok(None),
+    }
+}
+
+// A field of a name and a type. Names are those of trees or of a file that was read, so they are UTF-8.
+fn field_with(alloc: Global, name: &[u8], ty: Ty) -> Result<Field, AllocError>
+    ensures { IfOk result (λ f. field_of f ≡ (name.now, ty_of ty)) }
+{
+    match std::str::from_utf8(name) {
+        Ok(text) => {
+            let name = String::from_str(alloc, text)?;
+            Ok(Field { name, ty })
+        }
+        Err(_) => Err(AllocError),
+    }
+}
+
+// Strings of these names, and no others.
+fn strings_listing(alloc: Global, names: &NameList) -> Result<Listing, AllocError>
+    ensures { IfOk result (λ l. parts_in l ≡ strings_parts names.now) }
+{
+    let mut fields = Vec::new(alloc);
+    for i in 0..names.len() {
+        let field = field_with(alloc, names.at(i), Ty::String)?;
+        fields.push(field)?;
+    }
+    let listing = Listing::of(alloc, fields.as_slice(), &None)?;
+    Ok(listing)
+}

@@ -1,0 +1,51 @@
+//! Types as trees.
+
+ghost use Rattle.std.specs.Prelude.{◌≡◌};
+ghost use Rattle.al_types.specs.TypeParts.{form_of};
+ghost use Rattle.al_expr.specs.Trees.{ty_of};
+
+use al_types::Form;
+
+/// The type of a value, as far as it is known before a workflow runs.
+#[derive(Drop)]
+#[cycle(trees)]
+pub enum Ty {
+    Any,
+    Null,
+    Number,
+    Bool,
+    String,
+    /// An array, by the type of its elements.
+    Array(Box<Ty>),
+    /// An object. Of fields whose names differ in ASCII case alone, the first counts.
+    Object {
+        fields: Vec<Field>,
+        /// The type of every field beside these, where there may be others.
+        rest: Option<Box<Ty>>,
+    },
+}
+
+/// A field of an object, by its name.
+#[derive(Drop)]
+#[cycle(trees)]
+pub struct Field {
+    pub name: String,
+    pub ty: Ty,
+}
+
+impl Ty {
+    /// The outermost form.
+    pub fn form(&self) -> Form
+        ensures { result ≡ form_of (ty_of self.now) }
+    {
+        match self {
+            Ty::Any => Form::Any,
+            Ty::Null => Form::Null,
+            Ty::Number => Form::Number,
+            Ty::Bool => Form::Bool,
+            Ty::String => Form::String,
+            Ty::Array(_) => Form::Array,
+            Ty::Object { .. } => Form::Object,
+        }
+    }
+}

@@ -1,0 +1,42 @@
+//! The type of an expression.
+
+ghost use Rattle.std.specs.Prelude.{◌≡◌, ◌++◌, IfOk, OnOk};
+ghost use Rattle.al_base.specs.Growth.{BeginsWith};
+ghost use Rattle.al_expr_grammar.specs.View.{expr_view};
+ghost use Rattle.al_expr_typing.specs.Meaning.{faults_found, meaning_of, type_found};
+ghost use Rattle.al_expr.specs.Scopes.{scope_of};
+ghost use Rattle.al_expr.specs.Trees.{ty_of};
+
+use crate::adding::add_scope;
+use crate::scope::Scope;
+use crate::taking::tree_of;
+use crate::trees::Ty;
+use al_base::{Fault, FaultSink};
+use al_expr_grammar::Expr;
+use al_expr_types::Types;
+use std::alloc::{AllocError, Global};
+
+/// The type of an expression under a scope, with the faults in it added to `out` in the order in which it is read:
+/// X7 to X17 and X19. Spans are places in the expression's content. Where it is out of memory, `out` begins with what
+/// it held. Recursion goes no deeper than the expression's nesting, and than the types of the scope.
+pub fn type_of(
+    alloc: Global,
+    env: &Scope,
+    expr: &Expr<'_>,
+    out: &mut Vec<Fault>,
+) -> Result<Ty, AllocError>
+    ensures ty { IfOk result
+        (λ t. ty_of t ≡ type_found (meaning_of (scope_of env.now) (expr_view expr.now))) }
+    ensures faults { OnOk result
+        (out.new.items
+        ≡ out.old.items ++ faults_found (meaning_of (scope_of env.now) (expr_view expr.now))) }
+    ensures begins { BeginsWith out.new.items out.old.items }
+{
+    let mut types = Types::new(alloc);
+    let scope = add_scope(alloc, &mut types, env)?;
+    let mut faults = FaultSink::new(alloc);
+    let ty = al_expr_typing::type_of(&mut types, &scope, expr, &mut faults)?;
+    let tree = tree_of(alloc, &types, ty)?;
+    faults.append_to(out)?;
+    Ok(tree)
+}

@@ -1,7 +1,0 @@
-pub mod TreeViews
-pub mod Firsts
-pub mod Added
-pub mod Positions
-pub mod TableFields
-pub mod Contexts
-pub mod ScalarsFused

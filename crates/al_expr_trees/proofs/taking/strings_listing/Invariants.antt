@@ -1,7 +1,0 @@
-use Rattle.std.proofs.Common.{◌≡◌, map, take}
-use Rattle.al_types.specs.Strings.{strings}
-use Rattle.al_expr_trees.specs.Trees.{field_of}
-use Rattle.al_expr_trees.proofs.taking.strings_listing.Given as goal
-
-abbrev pub invariant-loop-i : goal.invariant-loop-i
-invariant-loop-i l = map field_of l.fields.items ≡ strings (take l.i l.names)

@@ -1,4 +1,0 @@
-pub mod Trees
-pub mod Listings
-pub mod Scopes
-pub mod Tables

@@ -1,9 +1,0 @@
-use Rattle.std.proofs.Common.{◌≡◌, ◌+◌, ◌∙◌, ap, arith}
-use Rattle.al_expr_types.specs.Types.{arrays_of, base_type}
-use Rattle.al_expr_typing.proofs.Forms.{arrays_more}
-use Rattle.al_expr_typing.proofs.steps.in_arrays.Goals as goal
-
-pub returns-in-Some-clause-ty : goal.returns-in-Some-clause-ty
-returns-in-Some-clause-ty c = λ ms.
-    let e : c.in-Some.all ≡ c.args.arrays + c.args.ty.arrays = omega (arith, c.in-Some.ensures) in
-    ap (λ n. arrays_of n (base_type ms c.args.ty.of)) e ∙ arrays_more c.args.arrays c.args.ty.arrays (base_type ms c.args.ty.of)
