@@ -4,12 +4,11 @@ use Rattle.std.proofs.Common.{Option, Some, None}
 use Rattle.al_base.specs.declared.codes.YamlCode.TheVariants as yaml
 use Rattle.al_base.specs.declared.faults.Span.{Span}
 use Rattle.al_base.specs.Ascii.{ascii}
-use Rattle.al_scalar.specs.Line.{Line, start, after_blanks, begins, blanks_dropped}
+use Rattle.al_scalar.specs.Line.{Line, start, after_blanks, begins}
 use Rattle.al_scalar.specs.Places.{first_text}
 use Rattle.al_scalar.specs.Plain.{flow, is_value_colon}
 use Rattle.al_scalar.specs.Scalar.{ScalarRead, scalar_at}
 use Rattle.al_scalar.proofs.OffsetLemmas.{choose}
-use Rattle.al_scalar.proofs.Utf8Lemmas.{AreUtf8}
 use Rattle.std.proofs.lemmas.Bool.{and_parts, or_cases}
 use Rattle.al_yaml_tree.specs.Content.{behind, is_file_end, flow_fault, is_flow_start, starts_quoted, is_property, is_simple_key, anchor_name, behind_name, has_no_name}
 use Rattle.al_yaml_tree.specs.Flow.{FlowSlot, FlowReader, CollectionReader, gap, empty_node}
@@ -25,7 +24,7 @@ use Rattle.al_yaml_tree.proofs.NodeReading.{AreEntries, whole-part, read-part, p
 use Rattle.al_yaml_tree.proofs.NodeReading.{reads-given, reads-then, reads-start, reads-one, reads-unless, reads-by, reads-also, empty-reads, collected}
 use Rattle.al_yaml_tree.proofs.NodeReading.{alias-reads, anchored-reads}
 use Rattle.al_yaml_tree.proofs.ScalarSpans.{Answers}
-use Rattle.al_yaml_tree.proofs.TextLines.{colon-utf8, solid-colon, value-colon}
+use Rattle.al_yaml_tree.proofs.TextLines.{solid-colon, value-colon}
 
 abbrev pub CollectionIn : File → CollectionReader → Type 0
 CollectionIn f collection = (depth low : ℕ) (ls : List Line) → is_flow_start (first_text ls) ≡ true → AreLeft f low ls
@@ -46,13 +45,12 @@ FlowIn f node = (slot : FlowSlot) (depth low : ℕ) (ls : List Line) → SlotIn 
 abbrev FlowKeyIn : File → ℕ → FlowKey → Type 0
 FlowKeyIn f low key = IsRead f low key.scalar × OptionLeft f key.scalar.span.end key.behind
 
-key_colon-behind : (after_quote : Bool) (ls : List Line) → is_key_colon after_quote ls ≡ true → AreUtf8 ls
-    → AreUtf8 (behind 1 (blanks_dropped ls))
-key_colon-behind after_quote ls e u =
-    colon-utf8 ls (elim (or_cases (after_quote && begins (ascii ":") (first_text ls)) (is_value_colon flow (after_blanks (first_text ls))) e) [
+key_colon-stands : (after_quote : Bool) (ls : List Line) → is_key_colon after_quote ls ≡ true → begins (ascii ":") (after_blanks (first_text ls)) ≡ true
+key_colon-stands after_quote ls e =
+    elim (or_cases (after_quote && begins (ascii ":") (first_text ls)) (is_value_colon flow (after_blanks (first_text ls))) e) [
       | inl h ↦ solid-colon (first_text ls) (and_parts after_quote (begins (ascii ":") (first_text ls)) h).1
       | inr h ↦ value-colon flow (after_blanks (first_text ls)) h
-    ]) u
+    ]
 
 late-in : (f : File) (low : ℕ) (ls : List Line) (r : ScalarRead) (o : Option (List Line)) → start ls ≤ f.size → OptionLeft f low o
     → Answers f.size (OptionLeft f low) (unless_late ls r o)
@@ -91,7 +89,7 @@ module _ {f : File} where
 
   behind_colon-in : (after_quote : Bool) (low : ℕ) (ls : List Line) → AreLeft f low ls → OptionLeft f low (behind_colon_in_flow after_quote ls)
   behind_colon-in after_quote low ls h =
-      choose (OptionLeft f low) (is_key_colon after_quote ls) (λ e. left-colon (key_colon-behind after_quote ls e) h) (λ _. tt)
+      choose (OptionLeft f low) (is_key_colon after_quote ls) (λ e. left-colon (key_colon-stands after_quote ls e) h) (λ _. tt)
 
   key_colon-in : (low : ℕ) (ls : List Line) (r : ScalarRead) → start ls ≤ f.size → AreLeft f low r.left
       → Answers f.size (OptionLeft f low) (key_colon ls r)

@@ -1,9 +1,9 @@
 -- Keys of block mappings keep to what is said of scalars, and the lines behind their colon to what is said of lines.
-use Rattle.std.proofs.Common.{◌≡◌, ℕ, ◌≤◌, List, [], ◌∷◌, refl, arith, true, ◌||◌, Option, Some, None, Result, Ok, Err}
+use Rattle.std.proofs.Common.{◌≡◌, ℕ, ◌+◌, ◌≤◌, List, [], ◌∷◌, refl, arith, true, ◌||◌, Option, Some, None, Result, Ok, Err}
 use Rattle.std.proofs.lemmas.Str.{IsUtf8-nil}
 use Rattle.al_base.specs.declared.codes.YamlCode.{YamlCode}
 use Rattle.al_base.specs.declared.codes.YamlCode.TheVariants as yaml
-use Rattle.al_scalar.specs.Line.{Line, start, after_blanks}
+use Rattle.al_scalar.specs.Line.{Cell, Line, start, after_blanks}
 use Rattle.al_scalar.specs.Offsets.{AreClimbing}
 use Rattle.al_scalar.specs.Places.{first_text}
 use Rattle.al_scalar.specs.Plain.{block}
@@ -24,10 +24,13 @@ use Rattle.al_yaml_tree.proofs.NodeReading.{Reads, reads-fault, reads-given, rea
 use Rattle.al_yaml_tree.proofs.ScalarSpans.{Answers}
 use Rattle.al_yaml_tree.proofs.SpanLemmas.{placed-more}
 use Rattle.al_scalar.proofs.Standing.{Stand, stand-cut}
-use Rattle.al_yaml_tree.proofs.Standing.{climbing-higher}
-use Rattle.al_yaml_tree.proofs.TextLines.{colon-utf8, value-colon}
+use Rattle.al_yaml_tree.proofs.TextLines.{value-colon}
 
 -- ---- the scalar of a key
+
+climbing-higher : (low end end' : ℕ) (cs : List Cell) → end ≤ end' → AreClimbing low end cs → AreClimbing low end' cs
+climbing-higher low end end' [] a h = omega (arith, a, h)
+climbing-higher low end end' (c ∷ cs) a h = (h.0, climbing-higher (c.1 + 1) end end' cs a h.1)
 
 first_text-climbs : (end low : ℕ) (rest : List Line) → Stand end low rest → AreClimbing low end (first_text rest)
 first_text-climbs end low [] h = absurd h.0
@@ -59,7 +62,7 @@ module _ {f : File} where
       → Answers l.end (IsRead (up_to f l) low) r → Answers f.size (IsRead f low) (read_with_lines (l ∷ ls) r)
   with_lines-read low l ls (Err e) h k = let a = h.stand.1.0 in omega (arith, k, a)
   with_lines-read low l ls (Ok r) h k = record {
-    placed = placed-more l.end f.size h.stand.1.0 low r.span.end (scalar_node r) k.placed;
+    placed = placed-more l.end f.size h.stand.1.0 low r.span.end low r.span.end (scalar_node r) (omega arith) (omega arith) k.placed;
     text = k.text;
     left = record {
       stand = stand-cut f.size low r.span.end (first_text r.left) l ls (first_text-climbs l.end r.span.end r.left k.left.stand) h.stand;
@@ -83,7 +86,7 @@ key_from-in : (f : File) (low : ℕ) (r : Result ScalarRead FaultAt) → Answers
     → Answers f.size (OptionKeyIn f low) (elim r [ Ok r ↦ Ok (key_before_colon r) | Err f ↦ Err f ])
 key_from-in f low (Err e) h = h
 key_from-in f low (Ok r) h =
-    choose (OptionKeyIn f low) (has_colon r.left) (λ e. (h, left-colon (colon-utf8 r.left (value-colon (block 0) (after_blanks (first_text r.left)) e)) h.left)) (λ _. tt)
+    choose (OptionKeyIn f low) (has_colon r.left) (λ e. (h, left-colon (value-colon (block 0) (after_blanks (first_text r.left)) e) h.left)) (λ _. tt)
 
 module _ {f : File} where
   pub key_at-in : (low : ℕ) (ls : List Line) → AreLeft f low ls → Answers f.size (OptionKeyIn f low) (key_here ls)

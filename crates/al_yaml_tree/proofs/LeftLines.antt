@@ -1,29 +1,30 @@
 -- What is left of a file's lines as it is read: it stands behind an offset, and is UTF-8 where the file is; a fault lies in the file.
-use Rattle.std.proofs.Common.{◌≡◌, ℕ, ◌+◌, ◌<◌, ◌≤◌, List, [], ◌∷◌, length, drop, arith, true, false}
+use Rattle.std.proofs.Common.{◌≡◌, ℕ, ◌+◌, ◌<◌, ◌≤◌, List, [], ◌∷◌, length, drop, arith, Bool, true, false}
 use Rattle.std.proofs.Common.{Option, Some, None, Result, Ok, Err, IfOk}
 use Rattle.std.proofs.lemmas.Str.{IsUtf8-nil}
 use Rattle.std.specs.Prelude.{IsUtf8}
 use Rattle.al_base.specs.Ascii.{ascii}
 use Rattle.al_scalar.specs.Block.{at_end}
-use Rattle.al_scalar.specs.Line.{Line, start, begins, is_marker, is_document_marker, blanks_dropped, spaces_dropped}
+use Rattle.al_scalar.specs.Line.{Cell, Line, start, cut, after_blanks, after_spaces, begins, is_marker, is_document_marker, blanks_dropped, spaces_dropped}
+use Rattle.al_scalar.specs.Offsets.{AreClimbing}
 use Rattle.al_scalar.specs.Places.{first_text}
 use Rattle.al_scalar.specs.Plain.{Context}
 use Rattle.al_scalar.specs.Scalar.{ScalarRead, text_of, scalar_at}
 use Rattle.al_scalar.specs.declared.faults.FaultAt.{FaultAt}
-use Rattle.al_scalar.proofs.OffsetLemmas.{choose}
+use Rattle.al_scalar.proofs.BlockOffsets.{behind-indicator}
+use Rattle.al_scalar.proofs.OffsetLemmas.{choose, climbing-order, climbing-blanks, climbing-drop}
+use Rattle.al_scalar.proofs.Standing.{Stand, stand-lower, stand-start, start-behind, start-in, stand-cut, stand-later, stand-at_end}
 use Rattle.al_scalar.proofs.TextLemmas.{ReadsText, scalar-text}
-use Rattle.al_scalar.proofs.Utf8Lemmas.{AreUtf8}
+use Rattle.al_scalar.proofs.Utf8Lemmas.{AreUtf8, keeps-blanks}
+use Rattle.al_scalar.proofs.Utf8Texts.{IsText, behind-text}
 use Rattle.al_yaml_tree.specs.Content.{Next, ended, at_line, is_skipped, text_line, is_file_end, content_line, content, ends_line, line_ended, whole_lines, behind}
 use Rattle.al_yaml_tree.specs.Content.{is_dash, is_flow_start, is_property, anchor_cells, behind_name}
 use Rattle.al_yaml_tree.specs.Document.{first_line, document_start, ended_behind, last_line, document_end}
-use Rattle.al_yaml_tree.specs.Flow.{gap}
+use Rattle.al_yaml_tree.specs.Flow.{is_gap_line, gap}
 use Rattle.al_yaml_tree.specs.Node.{scalar_node}
 use Rattle.al_yaml_tree.specs.Spans.{IsPlacedIn}
 use Rattle.al_yaml_tree.proofs.ScalarSpans.{Answers, ReadIn, scalar-in}
-use Rattle.al_scalar.proofs.Standing.{Stand, stand-lower, stand-start, start-behind, start-in, stand-at_end}
-use Rattle.al_yaml_tree.proofs.Standing.{low-in, stand-below, stand-behind, stand-first, stand-blanks, stand-spaces, stand-whole, stand-gap}
-use Rattle.al_yaml_tree.proofs.TextLines.{whole-utf8, first-utf8, dash-utf8, bracket-utf8, blanks-utf8, spaces-utf8, gap-utf8}
-use Rattle.al_yaml_tree.proofs.TextLines.{name-utf8, marker-utf8}
+use Rattle.al_yaml_tree.proofs.TextLines.{dash-text, bracket-text, spaces-text, climbing-spaces, property-text, marker-text}
 
 -- A file of so many bytes, that it is UTF-8, and that no alias is read in it.
 pub record File : Type 1 where
@@ -73,51 +74,75 @@ module _ {f : File} where
   starts-in {low} {ls} h = start-in f.size low ls h.stand
 
   pub is-inside : {low : ℕ} {ls : List Line} → AreLeft f low ls → low ≤ f.size
-  is-inside {low} {ls} h = low-in f.size low ls h.stand
+  is-inside h = omega (arith, starts-behind h, starts-in h)
 
-  -- ---- what is dropped
+  -- ---- the first line, cut, and those behind it
 
-  pub left-whole : {low : ℕ} {ls : List Line} → AreLeft f low ls → AreLeft f low (whole_lines ls)
-  left-whole {low} {ls} h = record { stand = stand-whole f.size low ls h.stand; utf8 = λ u. whole-utf8 ls (h.utf8 u) }
-
-  pub left-blanks : {low : ℕ} {ls : List Line} → AreLeft f low ls → AreLeft f low (blanks_dropped ls)
-  left-blanks {low} {ls} h = record { stand = stand-blanks f.size low ls h.stand; utf8 = λ u. blanks-utf8 ls (h.utf8 u) }
-
-  left-spaces : {low : ℕ} {ls : List Line} → AreLeft f low ls → AreLeft f low (spaces_dropped ls)
-  left-spaces {low} {ls} h = record { stand = stand-spaces f.size low ls h.stand; utf8 = λ u. spaces-utf8 ls (h.utf8 u) }
-
-  pub left-gap : {low : ℕ} {ls : List Line} → AreLeft f low ls → AreLeft f low (gap false ls)
-  left-gap {low} {ls} h = record { stand = stand-gap f.size false low ls h.stand; utf8 = λ u. gap-utf8 false ls (h.utf8 u) }
-
-  pub left-first : (q : ℕ) {low : ℕ} {ls : List Line} → q < 128 → begins q (first_text ls) ≡ true → AreLeft f low ls
-      → AreLeft f (start ls + 1) (behind 1 ls)
-  left-first q {low} {ls} a e h = record { stand = stand-first f.size q low ls e h.stand; utf8 = λ u. first-utf8 q ls a e (h.utf8 u) }
-
-  left-behind : (k : ℕ) {low : ℕ} {ls : List Line} → (AreUtf8 ls → AreUtf8 (behind k ls)) → AreLeft f low ls → AreLeft f low (behind k ls)
-  left-behind k {low} {ls} g h = record { stand = stand-behind f.size k low ls h.stand; utf8 = λ u. g (h.utf8 u) }
-
-  pub left-dash : {low : ℕ} {ls : List Line} → is_dash (first_text ls) ≡ true → AreLeft f low ls → AreLeft f low (behind 1 ls)
-  left-dash {low} {ls} e h = left-behind 1 (dash-utf8 ls e) h
-
-  pub left-bracket : {low : ℕ} {ls : List Line} → is_flow_start (first_text ls) ≡ true → AreLeft f low ls → AreLeft f low (behind 1 ls)
-  left-bracket {low} {ls} e h = left-behind 1 (bracket-utf8 ls e) h
-
-  pub left-name : {low : ℕ} {ls : List Line} → is_property (first_text ls) ≡ true → AreLeft f low ls → AreLeft f low (behind_name ls)
-  left-name {low} {ls} e h = left-behind (length (anchor_cells (drop 1 (first_text ls))) + 1) (name-utf8 ls e) h
-
-  -- behind a colon, which blanks may stand before
-  pub left-colon : {low : ℕ} {ls : List Line} → (AreUtf8 ls → AreUtf8 (behind 1 (blanks_dropped ls))) → AreLeft f low ls
-      → AreLeft f low (behind 1 (blanks_dropped ls))
-  left-colon {low} {ls} g h = record {
-    stand = stand-behind f.size 1 low (blanks_dropped ls) (stand-blanks f.size low ls h.stand);
-    utf8 = λ u. g (h.utf8 u);
-  }
+  left-cut : {low at : ℕ} {l : Line} {ls : List Line} (cs : List Cell) → AreClimbing at l.end cs → (f.is_utf8 → IsText cs)
+      → AreLeft f low (l ∷ ls) → AreLeft f at (cut cs l ls)
+  left-cut {low} {at} {l} {ls} cs k t h = record { stand = stand-cut f.size low at cs l ls k h.stand; utf8 = λ u. (t u, (h.utf8 u).1) }
 
   left-at_end : {low : ℕ} {l : Line} {ls : List Line} → AreLeft f low (l ∷ ls) → AreLeft f low (at_end l)
   left-at_end {low} {l} {ls} h = record { stand = stand-at_end f.size low l ls h.stand; utf8 = λ u. (IsUtf8-nil, tt) }
 
   left-below : {low : ℕ} {l : Line} {ls : List Line} → l.last ≡ false → AreLeft f low (l ∷ ls) → AreLeft f low ls
-  left-below {low} {l} {ls} e h = record { stand = stand-below f.size low l ls e h.stand; utf8 = λ u. (h.utf8 u).1 }
+  left-below {low} {l} {ls} e h =
+      let a = climbing-order low l.end l.text h.stand.0.0 in
+      left-lower (omega (arith, a)) (record { stand = stand-later f.size low l ls e h.stand; utf8 = λ u. (h.utf8 u).1 })
+
+  -- ---- what is dropped
+
+  pub left-whole : {low : ℕ} {ls : List Line} → AreLeft f low ls → AreLeft f low (whole_lines ls)
+  left-whole {ls = []} h = h
+  left-whole {low = low} {ls = l ∷ ls} h = choose (AreLeft f low) l.last (λ _. left-at_end h) (λ e. left-below e h)
+
+  pub left-blanks : {low : ℕ} {ls : List Line} → AreLeft f low ls → AreLeft f low (blanks_dropped ls)
+  left-blanks {ls = []} h = h
+  left-blanks {low = low} {ls = l ∷ ls} h =
+      left-cut (after_blanks l.text) (climbing-blanks low l.end l.text h.stand.0.0) (λ u. keeps-blanks l.text [] (h.utf8 u).0) h
+
+  left-spaces : {low : ℕ} {ls : List Line} → AreLeft f low ls → AreLeft f low (spaces_dropped ls)
+  left-spaces {ls = []} h = h
+  left-spaces {low = low} {ls = l ∷ ls} h =
+      left-cut (after_spaces l.text) (climbing-spaces low l.end l.text h.stand.0.0) (λ u. spaces-text l.text (h.utf8 u).0) h
+
+  gap-left : (at_start : Bool) (low : ℕ) (ls : List Line) → AreLeft f low ls → AreLeft f low (gap at_start ls)
+  gap-left at_start low [] h = h
+  gap-left at_start low (l ∷ ls) h =
+      choose (AreLeft f low) (is_gap_line at_start l.text)
+      (λ _. choose (AreLeft f low) l.last (λ _. left-at_end h) (λ e. gap-left true low ls (left-below e h))) (λ _. left-blanks h)
+
+  pub left-gap : {low : ℕ} {ls : List Line} → AreLeft f low ls → AreLeft f low (gap false ls)
+  left-gap {low} {ls} h = gap-left false low ls h
+
+  pub left-first : (q : ℕ) {low : ℕ} {ls : List Line} → q < 128 → begins q (first_text ls) ≡ true → AreLeft f low ls
+      → AreLeft f (start ls + 1) (behind 1 ls)
+  left-first q {ls = []} a e h = absurd h.stand.0
+  left-first q {low = low} {ls = l ∷ ls} a e h =
+      left-cut (drop 1 l.text) (behind-indicator q low l.end l.text e h.stand.0.0) (λ u. (behind-text q l ls a e (h.utf8 u)).0) h
+
+  left-behind : (k : ℕ) {low : ℕ} {ls : List Line} → (IsText (first_text ls) → IsText (drop k (first_text ls))) → AreLeft f low ls
+      → AreLeft f low (behind k ls)
+  left-behind k {ls = []} g h = h
+  left-behind k {low = low} {ls = l ∷ ls} g h = left-cut (drop k l.text) (climbing-drop k low l.end l.text h.stand.0.0) (λ u. g (h.utf8 u).0) h
+
+  pub left-dash : {low : ℕ} {ls : List Line} → is_dash (first_text ls) ≡ true → AreLeft f low ls → AreLeft f low (behind 1 ls)
+  left-dash {low} {ls} e h = left-behind 1 (dash-text (first_text ls) e) h
+
+  pub left-bracket : {low : ℕ} {ls : List Line} → is_flow_start (first_text ls) ≡ true → AreLeft f low ls → AreLeft f low (behind 1 ls)
+  left-bracket {low} {ls} e h = left-behind 1 (bracket-text (first_text ls) e) h
+
+  pub left-name : {low : ℕ} {ls : List Line} → is_property (first_text ls) ≡ true → AreLeft f low ls → AreLeft f low (behind_name ls)
+  left-name {low} {ls} e h = left-behind (length (anchor_cells (drop 1 (first_text ls))) + 1) (property-text (first_text ls) e) h
+
+  -- behind a colon, which blanks may stand before
+  pub left-colon : {low : ℕ} {ls : List Line} → begins (ascii ":") (after_blanks (first_text ls)) ≡ true → AreLeft f low ls
+      → AreLeft f low (behind 1 (blanks_dropped ls))
+  left-colon {ls = []} e h = h
+  left-colon {low = low} {ls = l ∷ ls} e h =
+      let b = left-blanks h in
+      let a = starts-behind b in
+      left-lower (omega (arith, a)) (left-first (ascii ":") (omega arith) e b)
 
   -- ---- scalars
 
@@ -153,7 +178,7 @@ module _ {f : File} where
   first_line-in low ls h =
       choose (Answers f.size (AreLeft f low)) (begins (ascii "%") (first_text ls)) (λ _. starts-in h)
       (λ _. choose (Answers f.size (AreLeft f low)) (is_marker (ascii "-") (first_text ls))
-      (λ e. line_ended-in low (behind 3 ls) (left-behind 3 (marker-utf8 (ascii "-") ls (omega arith) e) h)) (λ _. h))
+      (λ e. line_ended-in low (behind 3 ls) (left-behind 3 (marker-text (ascii "-") (first_text ls) (omega arith) e) h)) (λ _. h))
 
   pub document_start-in : (low : ℕ) (ls : List Line) → AreLeft f low ls → Answers f.size (AreLeft f low) (document_start ls)
   document_start-in low ls h = first_line-in low (text_line ls) (left-text_line ls h)
@@ -166,7 +191,7 @@ module _ {f : File} where
   last_line-in low ls h =
       choose (Answers f.size Anything) (is_marker (ascii "-") (first_text ls)) (λ _. starts-in h)
       (λ _. choose (Answers f.size Anything) (is_marker (ascii ".") (first_text ls))
-      (λ e. ended_behind-in low (behind 3 ls) (left-behind 3 (marker-utf8 (ascii ".") ls (omega arith) e) h))
+      (λ e. ended_behind-in low (behind 3 ls) (left-behind 3 (marker-text (ascii ".") (first_text ls) (omega arith) e) h))
       (λ _. choose (Answers f.size Anything) (begins (ascii "\t") (first_text (spaces_dropped ls)))
       (λ _. starts-in (left-spaces h)) (λ _. starts-in (left-spaces h))))
 

@@ -1,7 +1,6 @@
 pub mod ViewLemmas
 pub mod SpanLemmas
 pub mod TextLines
-pub mod Standing
 pub mod ScalarSpans
 pub mod LaidLemmas
 pub mod LeftLines

@@ -15,10 +15,10 @@ use Rattle.al_scalar.proofs.OffsetLemmas.{choose}
 use Rattle.al_yaml_tree.specs.Content.{unless_code}
 use Rattle.al_yaml_tree.specs.Flow.{empty_node}
 use Rattle.al_yaml_tree.specs.Node.{Node, Nodes, Entries, scalar, sequence, mapping, no_nodes, no_entries}
-use Rattle.al_yaml_tree.specs.Node.{with_item, with_entry, scalar_node}
+use Rattle.al_yaml_tree.specs.Node.{with_item, with_entry, scalar_node, EachItem, EachEntry}
 use Rattle.al_yaml_tree.specs.Reading.{Start, HaveNoAlias, Anchor, KnownAnchors, Outcome, Reading, gives, fails, of_result, next, later_of, alias_of, alias}
 use Rattle.al_yaml_tree.specs.Reading.{◌>>=◌, with_start, start_of, gives_with_anchor, Part, part, with_span}
-use Rattle.al_yaml_tree.specs.Spans.{IsPlacedIn, IsLaidIn, LiesAround}
+use Rattle.al_yaml_tree.specs.Spans.{IsPlacedIn, ArePlacedIn, EntriesPlacedIn, IsLaidIn, LiesAround}
 use Rattle.al_yaml_tree.specs.Texts.{HasTexts}
 use Rattle.al_yaml_tree.proofs.LaidLemmas.{Laid, each-item, each-entry}
 use Rattle.al_yaml_tree.proofs.LeftLines.{File, AreLeft, IsRead, left-lower, is-inside}
@@ -81,87 +81,41 @@ module _ {f : File} where
 
   -- ---- collections
 
-  pub no-items : (at : ℕ) → at ≤ f.size → IsDone f sequence at at no_nodes
-  no-items at a = record {
-    ordered = omega arith;
+  items-done : (from end : ℕ) (ns : Nodes) → from ≤ end → end ≤ f.size → EachItem (Laid f.size f.size) (LiesAround f.size) ns
+      → (f.is_utf8 → EachItem Text Inner ns) → (f.is_plain → ArePlacedIn f.size from end ns) → IsDone f sequence from end ns
+  items-done from end ns a b laid texts placed = record {
+    ordered = a;
     lies = record {
-      laid = (record { ordered = omega arith; inside = a }, tt);
-      texts = λ u. tt;
-      placed = λ p. (record { from = omega arith; ordered = omega arith; to = omega arith }, tt);
+      laid = (record { ordered = a; inside = b }, laid);
+      texts = texts;
+      placed = λ p. (record { from = omega arith; ordered = a; to = omega arith }, placed p);
     };
   }
+
+  entries-done : (from end : ℕ) (es : Entries) → from ≤ end → end ≤ f.size → EachEntry (Laid f.size f.size) (LiesAround f.size) es
+      → (f.is_utf8 → EachEntry Text Inner es) → (f.is_plain → EntriesPlacedIn f.size from end es) → IsDone f mapping from end es
+  entries-done from end es a b laid texts placed = record {
+    ordered = a;
+    lies = record {
+      laid = (record { ordered = a; inside = b }, laid);
+      texts = texts;
+      placed = λ p. (record { from = omega arith; ordered = a; to = omega arith }, placed p);
+    };
+  }
+
+  pub no-items : (at : ℕ) → at ≤ f.size → IsDone f sequence at at no_nodes
+  no-items at a = items-done at at no_nodes (omega arith) a tt (λ u. tt) (λ p. tt)
 
   pub no-entries : (at : ℕ) → at ≤ f.size → IsDone f mapping at at no_entries
-  no-entries at a = record {
-    ordered = omega arith;
-    lies = record {
-      laid = (record { ordered = omega arith; inside = a }, tt);
-      texts = λ u. tt;
-      placed = λ p. (record { from = omega arith; ordered = omega arith; to = omega arith }, tt);
-    };
-  }
+  no-entries at a = entries-done at at no_entries (omega arith) a tt (λ u. tt) (λ p. tt)
 
   pub items-grow : Grows f sequence
-  items-grow from low end ns a b h =
-      let c : from ≤ end = omega (arith, a, h.ordered) in
-      record {
-        ordered = c;
-        lies = record {
-          laid = (record { ordered = c; inside = b }, h.lies.laid.1);
-          texts = h.lies.texts;
-          placed = λ p. (record { from = omega arith; ordered = c; to = omega arith }, items-wider f.size from low end ns a (h.lies.placed p).1);
-        };
-      }
+  items-grow from low end ns a b h = items-done from end ns (omega (arith, a, h.ordered)) b h.lies.laid.1 h.lies.texts
+      (λ p. items-wider f.size f.size (omega arith) from low end ns a (h.lies.placed p).1)
 
   pub entries-grow : Grows f mapping
-  entries-grow from low end es a b h =
-      let c : from ≤ end = omega (arith, a, h.ordered) in
-      record {
-        ordered = c;
-        lies = record {
-          laid = (record { ordered = c; inside = b }, h.lies.laid.1);
-          texts = h.lies.texts;
-          placed = λ p. (record { from = omega arith; ordered = c; to = omega arith }, entries-wider f.size from low end es a (h.lies.placed p).1);
-        };
-      }
-
-  -- one more behind others
-
-  more-items : (from low end : ℕ) (ns : Nodes) (n : Node) → low ≤ end → end ≤ f.size → IsDone f sequence from low ns → Lies f low end n
-      → IsDone f sequence from end (with_item ns n)
-  more-items from low end ns n a b h k =
-      let c : from ≤ end = omega (arith, a, h.ordered) in
-      record {
-        ordered = c;
-        lies = record {
-          laid = (record { ordered = c; inside = b }, each-item (Laid f.size f.size) (LiesAround f.size) ns n h.lies.laid.1 k.laid);
-          texts = λ u. each-item Text Inner ns n (h.lies.texts u) (k.texts u);
-          placed = λ p. (
-            record { from = omega arith; ordered = c; to = omega arith },
-            behind-item f.size from low end ns n h.ordered a (h.lies.placed p).1 (k.placed p),
-          );
-        };
-      }
-
-  more-entries : (from low end : ℕ) (es : Entries) (r : ScalarRead) (v : Node) → r.span.end ≤ end → end ≤ f.size
-      → IsDone f mapping from low es → IsRead f low r → Lies f r.span.end end v → IsDone f mapping from end (with_entry es (scalar_node r) v)
-  more-entries from low end es r v a b h k m =
-      let d = read-ends k in
-      let e : low ≤ end = omega (arith, a, d) in
-      let c : from ≤ end = omega (arith, e, h.ordered) in
-      let key = scalar-lies k in
-      record {
-        ordered = c;
-        lies = record {
-          laid = (record { ordered = c; inside = b }, each-entry (Laid f.size f.size) (LiesAround f.size) es (scalar_node r) v h.lies.laid.1 key.laid m.laid);
-          texts = λ u. each-entry Text Inner es (scalar_node r) v (h.lies.texts u) (key.texts u) (m.texts u);
-          placed = λ p. (
-            record { from = omega arith; ordered = c; to = omega arith },
-            behind-entry f.size from low end es (scalar_node r) v h.ordered e (h.lies.placed p).1
-                (wider_in f.size low r.span.end low end (scalar_node r) (omega arith) a k.placed) (m.placed p),
-          );
-        };
-      }
+  entries-grow from low end es a b h = entries-done from end es (omega (arith, a, h.ordered)) b h.lies.laid.1 h.lies.texts
+      (λ p. entries-wider f.size f.size (omega arith) from low end es a (h.lies.placed p).1)
 
 -- ---- what was read, and the lines left
 
@@ -205,13 +159,30 @@ module _ {f : File} where
   pub part-back : (back : ℕ → ℕ) {low : ℕ} {p : Part Node} → back p.end ≤ p.end → IsNode f low p → IsPart f itself back low p
   part-back back a h = record { done = h.done; inside = h.inside; left = left-lower a h.left }
 
+  -- one more behind others
+
   pub item-done : {from low : ℕ} {ns : Nodes} {p : Part Node} → IsDone f sequence from low ns → IsNode f low p
       → IsDone f sequence from p.end (with_item ns p.value)
-  item-done {from} {low} {ns} {p} d h = more-items from low p.end ns p.value h.done.ordered h.inside d h.done.lies
+  item-done {from} {low} {ns} {p} d h =
+      let a = h.done.ordered in
+      let n = h.done.lies in
+      items-done from p.end (with_item ns p.value) (omega (arith, a, d.ordered)) h.inside
+      (each-item (Laid f.size f.size) (LiesAround f.size) ns p.value d.lies.laid.1 n.laid)
+      (λ u. each-item Text Inner ns p.value (d.lies.texts u) (n.texts u))
+      (λ u. behind-item f.size from low p.end ns p.value d.ordered a (d.lies.placed u).1 (n.placed u))
 
   pub entry-done : {from low : ℕ} {es : Entries} {r : ScalarRead} {p : Part Node} → IsDone f mapping from low es → IsRead f low r
       → IsNode f r.span.end p → IsDone f mapping from p.end (with_entry es (scalar_node r) p.value)
-  entry-done {from} {low} {es} {r} {p} d k h = more-entries from low p.end es r p.value h.done.ordered h.inside d k h.done.lies
+  entry-done {from} {low} {es} {r} {p} d k h =
+      let a = h.done.ordered in
+      let b : low ≤ p.end = omega (arith, a, read-ends k) in
+      let key = scalar-lies k in
+      let v = h.done.lies in
+      entries-done from p.end (with_entry es (scalar_node r) p.value) (omega (arith, b, d.ordered)) h.inside
+      (each-entry (Laid f.size f.size) (LiesAround f.size) es (scalar_node r) p.value d.lies.laid.1 key.laid v.laid)
+      (λ u. each-entry Text Inner es (scalar_node r) p.value (d.lies.texts u) (key.texts u) (v.texts u))
+      (λ u. behind-entry f.size from low p.end es (scalar_node r) p.value d.ordered b (d.lies.placed u).1
+      (wider_in f.size low r.span.end low p.end (scalar_node r) (omega arith) a k.placed) (v.placed u))
 
 -- ---- outcomes
 

@@ -5,7 +5,29 @@ use Rattle.al_scalar.proofs.PlacedLemmas.{placed-wider}
 use Rattle.al_yaml_tree.specs.Node.{Node, Nodes, Entries, scalar, sequence, mapping, no_nodes, item, no_entries, entry, span_of, with_item, with_entry}
 use Rattle.al_yaml_tree.specs.Spans.{IsBetween, IsPlacedIn, ArePlacedIn, EntriesPlacedIn}
 
--- ---- wider bounds
+-- ---- wider bounds, in a file of more bytes
+
+module _ (size more : ℕ) (grown : size ≤ more) where
+  between-wider : (low high low' high' : ℕ) (at : Span) → low' ≤ low → high ≤ high' → IsBetween low high at → IsBetween low' high' at
+  between-wider low high low' high' at a b h = record { from = omega (arith, h.from); ordered = h.ordered; to = omega (arith, h.to) }
+
+  mutual
+    pub placed-more : (low high low' high' : ℕ) (n : Node) → low' ≤ low → high ≤ high' → IsPlacedIn size low high n → IsPlacedIn more low' high' n
+    placed-more low high low' high' (scalar s at) a b h = (between-wider low high low' high' at a b h.0, placed-wider size more s at grown h.1)
+    placed-more low high low' high' (sequence ns at) a b h = (between-wider low high low' high' at a b h.0, items-wider at.start at.end at.end ns (omega arith) h.1)
+    placed-more low high low' high' (mapping es at) a b h = (between-wider low high low' high' at a b h.0, entries-wider at.start at.end at.end es (omega arith) h.1)
+
+    pub items-wider : (low high high' : ℕ) (ns : Nodes) → high ≤ high' → ArePlacedIn size low high ns → ArePlacedIn more low high' ns
+    items-wider low high high' no_nodes b h = tt
+    items-wider low high high' (item n ns) b h = (placed-more low high low high' n (omega arith) b h.0, items-wider (span_of n).end high high' ns b h.1)
+
+    pub entries-wider : (low high high' : ℕ) (es : Entries) → high ≤ high' → EntriesPlacedIn size low high es → EntriesPlacedIn more low high' es
+    entries-wider low high high' no_entries b h = tt
+    entries-wider low high high' (entry k v es) b h = (
+      placed-more low high low high' k (omega arith) b h.0,
+      placed-more (span_of k).end high (span_of k).end high' v (omega arith) b h.1,
+      entries-wider (span_of v).end high high' es b h.2,
+    )
 
 module _ (size : ℕ) where
   bounds_in : (low high : ℕ) (n : Node) → IsPlacedIn size low high n → IsBetween low high (span_of n)
@@ -13,22 +35,8 @@ module _ (size : ℕ) where
   bounds_in low high (sequence ns at) h = h.0
   bounds_in low high (mapping es at) h = h.0
 
-  between-wider : (low high low' high' : ℕ) (at : Span) → low' ≤ low → high ≤ high' → IsBetween low high at → IsBetween low' high' at
-  between-wider low high low' high' at a b h = record { from = omega (arith, h.from); ordered = h.ordered; to = omega (arith, h.to) }
-
   pub wider_in : (low high low' high' : ℕ) (n : Node) → low' ≤ low → high ≤ high' → IsPlacedIn size low high n → IsPlacedIn size low' high' n
-  wider_in low high low' high' (scalar s at) a b h = (between-wider low high low' high' at a b h.0, h.1)
-  wider_in low high low' high' (sequence ns at) a b h = (between-wider low high low' high' at a b h.0, h.1)
-  wider_in low high low' high' (mapping es at) a b h = (between-wider low high low' high' at a b h.0, h.1)
-
-  pub items-wider : (low high high' : ℕ) (ns : Nodes) → high ≤ high' → ArePlacedIn size low high ns → ArePlacedIn size low high' ns
-  items-wider low high high' no_nodes b h = tt
-  items-wider low high high' (item n ns) b h = (wider_in low high low high' n (omega arith) b h.0, items-wider (span_of n).end high high' ns b h.1)
-
-  pub entries-wider : (low high high' : ℕ) (es : Entries) → high ≤ high' → EntriesPlacedIn size low high es → EntriesPlacedIn size low high' es
-  entries-wider low high high' no_entries b h = tt
-  entries-wider low high high' (entry k v es) b h =
-      (wider_in low high low high' k (omega arith) b h.0, wider_in (span_of k).end high (span_of k).end high' v (omega arith) b h.1, entries-wider (span_of v).end high high' es b h.2)
+  wider_in = placed-more size size (omega arith)
 
   -- ---- one more behind those that end before an offset
 
@@ -44,20 +52,3 @@ module _ (size : ℕ) where
     wider_in (span_of l).end at (span_of l).end high w (omega arith) b h.1,
     behind-entry (span_of w).end at high es k v (bounds_in (span_of l).end at w h.1).to b h.2 x y,
   )
-
--- ---- a file of more bytes
-
-module _ (size more : ℕ) (a : size ≤ more) where
-  mutual
-    pub placed-more : (low high : ℕ) (n : Node) → IsPlacedIn size low high n → IsPlacedIn more low high n
-    placed-more low high (scalar s at) h = (h.0, placed-wider size more s at a h.1)
-    placed-more low high (sequence ns at) h = (h.0, items_placed-more at.start at.end ns h.1)
-    placed-more low high (mapping es at) h = (h.0, entries_placed-more at.start at.end es h.1)
-
-    items_placed-more : (low high : ℕ) (ns : Nodes) → ArePlacedIn size low high ns → ArePlacedIn more low high ns
-    items_placed-more low high no_nodes h = tt
-    items_placed-more low high (item n ns) h = (placed-more low high n h.0, items_placed-more (span_of n).end high ns h.1)
-
-    entries_placed-more : (low high : ℕ) (es : Entries) → EntriesPlacedIn size low high es → EntriesPlacedIn more low high es
-    entries_placed-more low high no_entries h = tt
-    entries_placed-more low high (entry k v es) h = (placed-more low high k h.0, placed-more (span_of k).end high v h.1, entries_placed-more (span_of v).end high es h.2)

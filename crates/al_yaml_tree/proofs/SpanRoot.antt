@@ -1,5 +1,5 @@
 -- The tree of a file in which no alias is read lies in it, each node in the one around it and behind those before it.
-use Rattle.std.proofs.Common.{◌≡◌, subst, ℕ, ◌≤◌, List, length, Result, Ok, Err, IfOk}
+use Rattle.std.proofs.Common.{◌≡◌, subst, ℕ, ◌≤◌, List, length, arith, Result, Ok, Err, IfOk}
 use Rattle.al_scalar.specs.declared.faults.FaultAt.{FaultAt}
 use Rattle.al_yaml_tree.specs.Bytes.{byte_fault}
 use Rattle.al_yaml_tree.specs.Document.{document_of, HasNoAlias, tree_of}
@@ -22,7 +22,7 @@ module _ (bytes : List ℕ) where
   -- where no alias is read each node lies in the one around it, and behind those before it
   pub document-within : (root : Node) → document_of bytes ≡ Ok root → length bytes ≤ 1048576 → HasNoAlias bytes → IsPlacedIn largest_file 0 (length bytes) root
   document-within root h a u =
-      placed-more (length bytes) 1048576 a 0 (length bytes) root (subst (λ (r : Result Node FaultAt). IfOk r ValueIn) h (document_of-in u))
+      placed-more (length bytes) 1048576 a 0 (length bytes) 0 (length bytes) root (omega arith) (omega arith) (subst (λ (r : Result Node FaultAt). IfOk r ValueIn) h (document_of-in u))
 
   -- where no alias is read each node lies in the one around it, and behind those before it
   pub tree-nested : HasNoAlias bytes → IfOk (tree_of bytes) (IsPlacedIn (length bytes) 0 (length bytes))
@@ -30,7 +30,7 @@ module _ (bytes : List ℕ) where
 
   more : (r : Result Node FaultAt) → length bytes ≤ 1048576 → IfOk r (IsPlacedIn (length bytes) 0 (length bytes))
       → IfOk r (IsPlacedIn largest_file 0 (length bytes))
-  more (Ok root) a h = placed-more (length bytes) 1048576 a 0 (length bytes) root h
+  more (Ok root) a h = placed-more (length bytes) 1048576 a 0 (length bytes) 0 (length bytes) root (omega arith) (omega arith) h
   more (Err e) a h = tt
 
   pub tree-within : length bytes ≤ 1048576 → HasNoAlias bytes → IfOk (tree_of bytes) (IsPlacedIn largest_file 0 (length bytes))
