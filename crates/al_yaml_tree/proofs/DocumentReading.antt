@@ -1,6 +1,6 @@
 -- The tree of a file keeps to what is said of nodes, and its first fault lies in the file.
 use Rattle.std.proofs.Common.{◌≡◌, ℕ, suc, ◌+◌, ◌≤◌, List, [], ◌∷◌, ◌++◌, length, drop, arith, true, ◌||◌, nat_lt}
-use Rattle.std.proofs.Common.{Option, Some, None, Result, Ok, Err, IfOk}
+use Rattle.std.proofs.Common.{Option, Some, None, Result}
 use Rattle.std.proofs.Math.Utf8.{encode}
 use Rattle.std.proofs.lemmas.Grind.{common_steps}
 use Rattle.std.proofs.lemmas.Str.{IsUtf8-past_char}
@@ -120,11 +120,3 @@ document-lies bytes plain none =
     let k = (document-in (file_lines bytes) left).run no_anchors (λ name. tt) none in
     limited-in (length bytes) (Lies f 0 (length bytes)) (broken_limit 0 0 o.starts) o.answer
     (limit-in (length bytes) 0 0 o.starts k.starts) k.answers
-
-pub answered : {A : Type 0} (size : ℕ) (P Q : A → Type 0) (r : Result A FaultAt) → ((x : A) → P x → Q x) → Answers size P r → IfOk r Q
-answered size P Q (Ok x) g h = g x h
-answered size P Q (Err e) g h = tt
-
-pub unless-fault : {A : Type 0} (o : Option FaultAt) (r : Result A FaultAt) (P : A → Type 0) → IfOk r P → IfOk (unless_fault o r) P
-unless-fault None r P h = h
-unless-fault (Some f) r P h = tt

@@ -1,27 +1,33 @@
--- The tree of a file lies in it, and so does its first fault.
+-- The tree of a file lies in it, in order where no alias is read, and its texts are UTF-8; its first fault lies in the file too.
 use Rattle.std.proofs.Common.{◌≡◌, refl, sym, ap, ◌∙◌, subst, ℕ, zero, suc, ◌+◌, ◌<◌, ◌≤◌, List, [], ◌∷◌, length, take, arith}
-use Rattle.std.proofs.Common.{Bool, true, false, Option, Some, None, option_map, cond, Result, Ok, Err, IfOk}
+use Rattle.std.proofs.Common.{Bool, true, false, Option, Some, None, option_map, cond, Result, Ok, Err, IfOk, IsUtf8}
+use Rattle.std.specs.Prelude.{IfNone}
 use Rattle.std.proofs.Math.Seq.{take-length}
 use Rattle.std.proofs.lemmas.Bool.{false≢true}
-use Rattle.std.proofs.lemmas.Str.{is_utf8-from_IsUtf8, IsUtf8-nil}
+use Rattle.std.proofs.lemmas.Result.{IfOk-weaker}
+use Rattle.std.proofs.lemmas.Str.{is_utf8-from_IsUtf8, IsUtf8-from_is_utf8, IsUtf8-nil}
 use Rattle.std.specs.Str.{is_utf8}
 use Rattle.std.specs.Str.Lossy.{valid_len_up_to, utf8_valid_len}
+use Rattle.al_base.specs.Limits.{largest_file}
 use Rattle.al_base.specs.Spans.{LiesIn}
 use Rattle.al_base.specs.declared.codes.YamlCode.TheVariants as yaml
 use Rattle.al_scalar.specs.declared.faults.FaultAt.{FaultAt}
+use Rattle.al_scalar.specs.declared.faults.YamlFault.{YamlFault}
 use Rattle.al_scalar.proofs.OffsetLemmas.{choose}
-use Rattle.al_yaml_tree.specs.Bytes.{is_unprintable, unprintable_at}
+use Rattle.al_yaml_tree.specs.Bytes.{byte_fault, is_unprintable, unprintable_at}
 use Rattle.al_scalar.specs.Characters.{character_at}
-use Rattle.al_yaml_tree.specs.Document.{document_of, tree_of}
+use Rattle.al_yaml_tree.specs.Document.{document_of, HasNoAlias, tree_of}
 use Rattle.al_yaml_tree.specs.Limits.{unless_fault}
 use Rattle.al_yaml_tree.specs.Node.{Node}
 use Rattle.al_yaml_tree.specs.Laws.{IsTreeLaid}
-use Rattle.al_yaml_tree.specs.Spans.{IsLaidIn, IsLaid, IsInside, AreFrom}
+use Rattle.al_yaml_tree.specs.Spans.{IsPlacedIn, IsLaid, IsInside, AreFrom}
+use Rattle.al_yaml_tree.specs.Texts.{HasTexts}
 use Rattle.al_yaml_tree.proofs.LaidLemmas.{laid-inside, laid-from, laid-wider}
 use Rattle.al_yaml_tree.proofs.CharacterLemmas.{character-inside}
 use Rattle.al_yaml_tree.proofs.DocumentReading.{file_of, document-lies}
 use Rattle.al_yaml_tree.proofs.NodeReading.{Lies}
-use Rattle.al_yaml_tree.proofs.ScalarSpans.{Answers, answers-also}
+use Rattle.al_yaml_tree.proofs.ScalarSpans.{Answers}
+use Rattle.al_yaml_tree.proofs.SpanLemmas.{placed-more}
 
 -- ---- faults of bytes
 
@@ -47,33 +53,38 @@ unprintable-below high at [] h = tt
 unprintable-below high at (b ∷ bs) h =
     choose (IsBelow high) (is_unprintable (b ∷ bs)) (λ _. omega (arith, h)) (λ _. unprintable-below high (at + 1) bs (omega (arith, h)))
 
+answered : {A : Type 0} (size : ℕ) (P : A → Type 0) (r : Result A FaultAt) → Answers size P r → IfOk r P
+answered size P (Ok x) h = h
+answered size P (Err e) h = tt
+
+unless-fault : {A : Type 0} (o : Option FaultAt) (r : Result A FaultAt) (P : A → Type 0) → IfOk r P → IfOk (unless_fault o r) P
+unless-fault None r P h = h
+unless-fault (Some f) r P h = tt
+
+-- bytes that were found to have no fault
+pub no-fault : (bs : List ℕ) (o : Option YamlFault) → ((f : YamlFault) → o ≡ Some f → ⊥) → IfNone o (IsUtf8 bs) → IsUtf8 bs
+no-fault bs None n h = h
+no-fault bs (Some f) n h = absurd (n f refl)
+
 module _ (bytes : List ℕ) where
-  abbrev ValueIn : Node → Type 0
-  ValueIn n = IsLaidIn (length bytes) (length bytes) n
+  -- a node of the tree, where its order is known if so much holds
+  abbrev pub LiesIf : Type 0 → Node → Type 0
+  LiesIf plain = Lies (file_of bytes plain) 0 (length bytes)
 
-  document_of-in : Answers (length bytes) ValueIn (document_of bytes)
-  document_of-in =
-      answers-also (length bytes) (Lies (file_of bytes ⊥) 0 (length bytes)) ValueIn (document_of bytes) (λ n h. h.laid)
-      (document-lies bytes ⊥ (λ e. absurd e))
+  pub document-root : (plain : Type 0) → (plain → HasNoAlias bytes) → (root : Node) → document_of bytes ≡ Ok root → LiesIf plain root
+  document-root plain none root h = subst (Answers (length bytes) (LiesIf plain)) h (document-lies bytes plain none)
 
-  -- each node of the tree lies in the file, one behind an alias at its anchor, and so does its text
-  pub document-laid : (root : Node) → document_of bytes ≡ Ok root → IsLaidIn (length bytes) (length bytes) root
-  document-laid root h = subst (Answers (length bytes) ValueIn) h document_of-in
-
-  pub document-inside : (root : Node) → document_of bytes ≡ Ok root → IsInside (length bytes) root
-  document-inside root h = laid-inside (length bytes) (length bytes) root (document-laid root h)
-
-  pub document-from : (root : Node) → document_of bytes ≡ Ok root → AreFrom (length bytes) root
-  document-from root h = laid-from (length bytes) root (document-laid root h)
+  document-ok : (plain : Type 0) → (plain → HasNoAlias bytes) → IfOk (document_of bytes) (LiesIf plain)
+  document-ok plain none = answered (length bytes) (LiesIf plain) (document_of bytes) (document-lies bytes plain none)
 
   -- ---- the file
 
   -- a fault in the file, which may be UTF-8
   abbrev LiesAmong : Bool → Result Node FaultAt → Type 0
-  LiesAmong good (Ok root) = IsLaidIn (length bytes) (length bytes) root
+  LiesAmong good (Ok root) = LiesIf ⊥ root
   LiesAmong good (Err f) = LiesIn (length bytes) (cond good (character_at bytes f.at) (record { start = f.at; end = f.at + 1 }))
 
-  answer_lies : (r : Result Node FaultAt) → Answers (length bytes) ValueIn r → LiesAmong true r
+  answer_lies : (r : Result Node FaultAt) → Answers (length bytes) (LiesIf ⊥) r → LiesAmong true r
   answer_lies (Ok root) h = h
   answer_lies (Err f) h = character-inside bytes f.at h
 
@@ -81,7 +92,7 @@ module _ (bytes : List ℕ) where
 
   printed : (o : Option ℕ) → IsBelow (length bytes) o
       → LiesAmong true (unless_fault (option_map (λ at. record { code = yaml.ControlCharacter; at = at }) o) (document_of bytes))
-  printed None h = answer_lies (document_of bytes) document_of-in
+  printed None h = answer_lies (document_of bytes) (document-lies bytes ⊥ (λ e. absurd e))
   printed (Some at) h = character-inside bytes at (omega (arith, h))
 
   formed : (good : Bool) → is_utf8 bytes ≡ good → LiesAmong good (unless_fault
@@ -94,22 +105,41 @@ module _ (bytes : List ℕ) where
   tree-laid_in = whole (tree_of bytes) (formed (is_utf8 bytes) refl)
     where
       whole : (r : Result Node FaultAt) → LiesAmong (is_utf8 bytes) r → IsTreeLaid bytes r
-      whole (Ok root) h = h
+      whole (Ok root) h = h.laid
       whole (Err f) h = h
 
-  -- ---- what follows of its tree
+  -- ---- its tree
 
-  follows : (Q : Node → Type 0) (r : Result Node FaultAt) → ((root : Node) → IsLaidIn (length bytes) (length bytes) root → Q root)
-      → IsTreeLaid bytes r → IfOk r Q
-  follows Q (Ok root) f h = f root h
-  follows Q (Err e) f h = tt
+  tree-lies : (plain : Type 0) → (plain → HasNoAlias bytes) → IfOk (tree_of bytes) (LiesIf plain)
+  tree-lies plain none = unless-fault (byte_fault bytes) (document_of bytes) (LiesIf plain) (document-ok plain none)
+
+  tree-follows : (Q : Node → Type 0) → ((root : Node) → LiesIf ⊥ root → Q root) → IfOk (tree_of bytes) Q
+  tree-follows Q f = IfOk-weaker (tree_of bytes) (LiesIf ⊥) Q f (tree-lies ⊥ (λ e. absurd e))
 
   pub tree-inside : IfOk (tree_of bytes) (IsInside (length bytes))
-  tree-inside = follows (IsInside (length bytes)) (tree_of bytes) (λ root h. laid-inside (length bytes) (length bytes) root h) tree-laid_in
+  tree-inside = tree-follows (IsInside (length bytes)) (λ root h. laid-inside (length bytes) (length bytes) root h.laid)
 
   pub tree-from : IfOk (tree_of bytes) (AreFrom (length bytes))
-  tree-from = follows (AreFrom (length bytes)) (tree_of bytes) (λ root h. laid-from (length bytes) root h) tree-laid_in
+  tree-from = tree-follows (AreFrom (length bytes)) (λ root h. laid-from (length bytes) root h.laid)
 
   pub tree-laid : length bytes ≤ 1048576 → IfOk (tree_of bytes) (IsLaid (length bytes))
-  tree-laid a = follows (IsLaid (length bytes)) (tree_of bytes)
-      (λ root h. laid-wider (length bytes) (length bytes) 1048576 (length bytes) a (omega arith) root h) tree-laid_in
+  tree-laid a = tree-follows (IsLaid (length bytes))
+      (λ root h. laid-wider (length bytes) (length bytes) 1048576 (length bytes) a (omega arith) root h.laid)
+
+  -- where no alias is read each node lies in the one around it, and behind those before it
+
+  pub root-within : length bytes ≤ 1048576 → (root : Node) → LiesIf (Unit {0}) root → IsPlacedIn largest_file 0 (length bytes) root
+  root-within a root h = placed-more (length bytes) 1048576 a 0 (length bytes) 0 (length bytes) root (omega arith) (omega arith) (h.placed tt)
+
+  pub tree-nested : HasNoAlias bytes → IfOk (tree_of bytes) (IsPlacedIn (length bytes) 0 (length bytes))
+  tree-nested u = IfOk-weaker (tree_of bytes) (LiesIf (Unit {0})) _ (λ root h. h.placed tt) (tree-lies (Unit {0}) (λ _. u))
+
+  pub tree-within : length bytes ≤ 1048576 → HasNoAlias bytes → IfOk (tree_of bytes) (IsPlacedIn largest_file 0 (length bytes))
+  tree-within a u = IfOk-weaker (tree_of bytes) (LiesIf (Unit {0})) _ (root-within a) (tree-lies (Unit {0}) (λ _. u))
+
+  -- the texts are UTF-8
+  pub tree-text : IfOk (tree_of bytes) HasTexts
+  tree-text =
+      choose (λ (o : Option FaultAt). IfOk (unless_fault o (document_of bytes)) HasTexts) (is_utf8 bytes)
+      (λ e. unless-fault _ (document_of bytes) HasTexts (IfOk-weaker (document_of bytes) (LiesIf ⊥) HasTexts
+      (λ root h. h.texts (IsUtf8-from_is_utf8 bytes e)) (document-ok ⊥ (λ e. absurd e)))) (λ _. tt)

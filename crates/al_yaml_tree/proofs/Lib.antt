@@ -10,6 +10,4 @@ pub mod KeyReading
 pub mod BlockReading
 pub mod DocumentReading
 pub mod CharacterLemmas
-pub mod TextRoot
-pub mod SpanRoot
 pub mod LaidRoot

@@ -1,4 +1,4 @@
-use Rattle.al_yaml_tree.proofs.TextRoot.{tree-text}
+use Rattle.al_yaml_tree.proofs.LaidRoot.{tree-text}
 use Rattle.al_yaml_tree.proofs.texts.tree_texts.Goals as goal
 
 pub returns : goal.returns
