@@ -3,3 +3,4 @@ pub mod BlockFrames
 pub mod FlowAnswers
 pub mod FlowFrames
 pub mod Frames
+pub mod Nested

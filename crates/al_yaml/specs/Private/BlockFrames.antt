@@ -12,7 +12,7 @@ use Rattle.al_yaml_tree.specs.Flow.{CollectionReader, flow_collection}
 use Rattle.al_yaml_tree.specs.Keys.{Key, no_entry, entry_key}
 use Rattle.al_yaml_tree.specs.Blocks.{BlockReader, rest_below, sequence_entries, mapping_entries, block_node, bare_node}
 use Rattle.al_yaml_parts.specs.BlockReads.{IsKeyBehind, IsTabInside, key_seen, slot_of}
-use Rattle.al_yaml_parts.specs.Answers.{Answer, Mark, then_read, noting}
+use Rattle.al_yaml_parts.specs.Answers.{Answer, then_read, noting}
 use Rattle.al_yaml_parts.specs.Answers.{mark_of}
 use Rattle.al_yaml_parts.specs.Places.{next_of, IsLineFrom}
 use Rattle.al_yaml_parts.specs.Reads.{State, run, FailsWith, IsBehind, part_of}
@@ -28,7 +28,6 @@ use Rattle.al_yaml.specs.declared.block.BlockOpen as open_type
 use Rattle.al_yaml.specs.declared.block.BlockOpen.TheVariants as open_code
 use Rattle.al_yaml_parts.specs.declared.frames.BlockWaiting as waiting_type
 use Rattle.al_yaml_parts.specs.declared.frames.BlockWaiting.TheVariants as waiting_code
-use Rattle.al_yaml_parts.specs.declared.frames.BlockFrame as frame_type
 use Rattle.al_yaml.specs.declared.block.BlockTask as task_type
 use Rattle.al_yaml.specs.declared.block.PartBefore as before_type
 use Rattle.al_yaml.specs.declared.block.BlockTask.TheVariants as task
@@ -42,12 +41,6 @@ pub data BlockOpen : Type 0 where
 pub data BlockWaiting : Type 0 where
   item : Bool → Nodes → BlockWaiting
   value : Entries → ScalarRead → BlockWaiting
-
-pub record BlockFrame : Type 0 where
-  pub start : ℕ
-  pub column : ℕ
-  pub mark : Option Mark
-  pub waiting : BlockWaiting
 
 -- An open collection from here on. bound is what the nodes in it are read with, turns bounds what is still read.
 abbrev pub block_rest : ℕ → ℕ → ℕ → ℕ → ℕ → BlockOpen → List Line → Reading (Part Node)
@@ -89,12 +82,6 @@ block_open_of bytes (open_code.Entries v key) = entries (entries_of (map entry_v
 abbrev pub block_waiting_of : List ℕ → waiting_type.BlockWaiting → BlockWaiting
 block_waiting_of bytes (waiting_code.Item in_mapping v) = item in_mapping (nodes_of (map view v.items))
 block_waiting_of bytes (waiting_code.Value v read) = value (entries_of (map entry_view v.items)) (read_of bytes read)
-
-abbrev pub block_frame_of : List ℕ → frame_type.BlockFrame → BlockFrame
-block_frame_of bytes f =
-    let begun = f.begun in
-    let waiting = block_waiting_of bytes f.waiting in
-    record { start = begun.start.at; column = begun.start.column; mark = mark_of bytes begun.anchor; waiting = waiting }
 
 -- what reads a node from its first character on, or from behind its anchor
 abbrev pub node_reader : ℕ → Option ℕ → BlockReader

@@ -1,12 +1,10 @@
-use Rattle.std.proofs.Common.{◌∷◌, length, map, refl, sym, ap, subst, arith}
+use Rattle.std.proofs.Common.{◌∷◌, length, refl, sym, ap, subst, arith}
 use Rattle.std.proofs.lemmas.Result.{err_from_is_err_and}
 use Rattle.al_yaml.specs.Private.FlowAnswers.{Keeps}
-use Rattle.al_yaml.specs.Private.FlowFrames.{AreOpen, frame_of, open_of, waiting_of}
-use Rattle.al_yaml_parts.specs.Answers.{mark_of}
+use Rattle.al_yaml.specs.Private.FlowFrames.{AreOpen, open_of}
 use Rattle.al_yaml_parts.specs.Reads.{state_of}
 use Rattle.al_yaml.proofs.FlowLemmas.{collection-broken}
-use Rattle.al_yaml.proofs.FlowLoop.{frames-length, opens-keeps, step-keeps}
-use Rattle.al_yaml.proofs.FrameLemmas.{inside-stops, inside-broken}
+use Rattle.al_yaml.proofs.FlowLoop.{frames-length, inside-stops, opens-broken, opens-keeps, step-keeps}
 use Rattle.al_yaml.proofs.flow.read_on.Goals as goal
 
 pub returns-in_err-step-clause-is : goal.returns-in_err-step-clause-is
@@ -14,9 +12,8 @@ returns-in_err-step-clause-is c = λ first whole deep now.
     let bytes = c.args.file.now.bytes.now in
     let outer = c.args.progress.now.stack.flows in
     let p = err_from_is_err_and c.from_residual.result c.from_residual.ensures.1 in
-    rw (p.1, p.2) (inside-stops bytes first whole (map (frame_of bytes) outer) (state_of c.args.progress.now.state) c.args.collection.opening
-    (open_of c.args.collection.has) c.args.at c.args.depth (omega (arith, deep, frames-length bytes outer)) now c.requires.at
-    c.in_err-step.field-0.0 c.in_err-step.ensures.is)
+    rw (p.1, p.2) (inside-stops bytes first whole outer (state_of c.args.progress.now.state) c.args.collection.opening (open_of c.args.collection.has)
+    c.args.at c.args.depth (omega (arith, deep, frames-length bytes outer)) now c.requires.at c.in_err-step.field-0.0 c.in_err-step.ensures.is)
 
 pub returns-in-Behind-clause-is : goal.returns-in-Behind-clause-is
 returns-in-Behind-clause-is c = λ first whole deep now.
@@ -24,9 +21,9 @@ returns-in-Behind-clause-is c = λ first whole deep now.
     let outer = c.args.progress.now.stack.flows in
     let found = rw c.in-Behind.is at c.in_ok-step.ensures.is in
     let within = rw c.in-Behind.is at c.in_ok-step.ensures.within in
-    step-keeps bytes first whole outer (state_of c.args.progress.now.state) (state_of c.read_inside.new.state) c.args.collection.opening
-    (open_of c.args.collection.has) (open_of c.read_inside.new.has) c.args.at c.in-Behind.next now c.requires.at c.args.depth
-    (omega (arith, deep, frames-length bytes outer)) found within.0
+    step-keeps bytes first whole outer (state_of c.args.progress.now.state) c.args.collection.opening (open_of c.args.collection.has) c.args.at
+    c.args.depth (omega (arith, deep, frames-length bytes outer)) now (state_of c.read_inside.new.state) (open_of c.read_inside.new.has)
+    c.in-Behind.next c.requires.at found within.0
 
 pub returns-in-Behind-clause-within : goal.returns-in-Behind-clause-within
 returns-in-Behind-clause-within c =
@@ -44,15 +41,14 @@ pub returns-in_err-start-in-Opens-clause-is : goal.returns-in_err-start-in-Opens
 returns-in_err-start-in-Opens-clause-is c = λ first whole deep now.
     let bytes = c.args.file.now.bytes.now in
     let outer = c.args.progress.now.stack.flows in
-    let b = c.in-Opens.inner in
+    let n = state_of c.read_inside.new.state in
     let found = rw c.in-Opens.is at c.in_ok-step.ensures.is in
     let within = rw c.in-Opens.is at c.in_ok-step.ensures.within in
     let p = err_from_is_err_and c.from_residual-in_err-start-in-Opens.result c.from_residual-in_err-start-in-Opens.ensures.1 in
-    rw (p.1, p.2) (inside-broken bytes first whole (map (frame_of bytes) outer) (state_of c.args.progress.now.state)
-    c.args.collection.opening (open_of c.args.collection.has) c.args.at c.args.depth (omega (arith, deep, frames-length bytes outer)) now
-    c.requires.at (state_of c.read_inside.new.state) b.at (mark_of bytes b.anchor) (waiting_of bytes b.at c.read_inside.new.has) found
-    within.from within.inside c.in_err-start-in-Opens.field-0.0
-    (λ bound. collection-broken bound c.args.depth (state_of c.read_inside.new.state) bytes b.at (omega (arith, within.inside))
+    rw (p.1, p.2) (opens-broken bytes first whole outer (state_of c.args.progress.now.state) c.args.collection.opening
+    (open_of c.args.collection.has) c.args.at c.args.depth (omega (arith, deep, frames-length bytes outer)) now n c.in-Opens.inner
+    c.read_inside.new.has found within.from within.inside c.in_err-start-in-Opens.field-0.0
+    (λ bound. collection-broken bound c.args.depth n bytes c.in-Opens.inner.at (omega (arith, within.inside))
     c.in_err-start-in-Opens.field-0.0 c.in_err-start-in-Opens.ensures.limits))
 
 pub returns-in_ok-start-in-Opens-clause-is : goal.returns-in_ok-start-in-Opens-clause-is
@@ -68,7 +64,7 @@ returns-in_ok-start-in-Opens-clause-is c = λ first whole deep now.
     (subst (λ o. Keeps bytes first whole (record { opening = c.args.collection.opening; has = c.read_inside.new.has; inner = b } ∷ outer)
     (state_of c.start.new.self) o (open_of begun.result.has) begun.result.next) (sym begun.ensures.opening)
     (opens-keeps bytes first whole outer (state_of c.args.progress.now.state) c.args.collection.opening
-    (open_of c.args.collection.has) c.args.at c.args.depth (omega (arith, deep, frames-length bytes outer)) now c.requires.at
+    (open_of c.args.collection.has) c.args.at c.args.depth (omega (arith, deep, frames-length bytes outer)) now
     (state_of c.read_inside.new.state) b c.read_inside.new.has found within.from within.inside (state_of c.start.new.self)
     (open_of begun.result.has) begun.result.next begun.ensures.from
     (begun.ensures.is c.args.depth (state_of c.read_inside.new.state) (state_of c.start.new.self)
