@@ -1,15 +1,11 @@
--- The lines round a document against offsets.
+-- The markers round a document against offsets.
 use Rattle.std.proofs.Common.{◌≡◌, ℕ, ◌+◌, ◌<◌, ◌≤◌, List, [], ◌∷◌, length, drop, slice_index, refl, sym, ap, ◌∙◌, arith, true, false, Some}
-use Rattle.al_base.specs.declared.codes.YamlCode.TheVariants as yaml
-use Rattle.al_scalar.specs.Line.{Cell, Line, cut, is_empty, begins, is_marker, spaces_dropped}
+use Rattle.al_scalar.specs.Line.{Cell, Line, cut, is_empty, is_marker}
 use Rattle.al_scalar.specs.Places.{lines_at, text_at}
 use Rattle.al_scalar.specs.LineEnds.{IsLineEnd}
-use Rattle.al_scalar.specs.Taken.{fault}
 use Rattle.al_yaml_tree.specs.Content.{behind}
-use Rattle.al_yaml_tree.specs.Document.{first_line, last_line}
 use Rattle.al_yaml_parts.specs.Private.DocumentLines.{IsBehindMarker}
 use Rattle.al_yaml_parts.proofs.LineLemmas.{behind-one}
-use Rattle.al_scalar.proofs.RestLemmas.{start-at}
 use Rattle.al_scalar.proofs.LineCells.{text-line_end, never, IsInside, is_inside}
 use Rattle.al_scalar.proofs.PlainLemmas.{text_at-cell}
 
@@ -67,20 +63,3 @@ module _ (bytes : List ℕ) (i b : ℕ) (h : i ≤ length bytes) (m : true ≡ i
 
   pub marker-found : IsBehindMarker bytes i b (Some (i + 3))
   marker-found = let found = marker-behind in (m, found.0, omega arith, found.1)
-
--- ---- the first line, and the last
-
-module _ (bytes : List ℕ) (at : ℕ) where
-  pub first-directive : at ≤ length bytes → true ≡ begins 37 (text_at bytes at) → first_line (lines_at bytes at) ≡ fault yaml.Directive at
-  first-directive inside h = rw (← h, start-at bytes at inside) refl
-
-  pub last-second : at ≤ length bytes → true ≡ is_marker 45 (text_at bytes at) → last_line (lines_at bytes at) ≡ fault yaml.SecondDocument at
-  last-second inside h = rw (← h, start-at bytes at inside) refl
-
-  module _ (h : false ≡ is_marker 45 (text_at bytes at)) (m : false ≡ is_marker 46 (text_at bytes at)) (solid : ℕ)
-      (w : spaces_dropped (lines_at bytes at) ≡ lines_at bytes solid) (inside : solid ≤ length bytes) where
-    pub last-tab : true ≡ begins 9 (text_at bytes solid) → last_line (lines_at bytes at) ≡ fault yaml.TabInIndentation solid
-    last-tab t = rw (← h, ← m, w, ← t, start-at bytes solid inside) refl
-
-    pub last-indent : false ≡ begins 9 (text_at bytes solid) → last_line (lines_at bytes at) ≡ fault yaml.WrongIndentation solid
-    last-indent t = rw (← h, ← m, w, ← t, start-at bytes solid inside) refl

@@ -13,16 +13,14 @@ use Rattle.al_scalar.specs.Scalar.{scalar_at}
 use Rattle.al_scalar.specs.declared.faults.FaultAt.{FaultAt}
 use Rattle.al_scalar.specs.declared.scalars.ScalarRead.{ScalarRead}
 use Rattle.al_yaml_tree.specs.Node as tree
-use Rattle.al_yaml_tree.specs.Reading.{Reading, Part, part, gives, of_result, with_start, start_of, ◌>>=◌}
+use Rattle.al_yaml_tree.specs.Reading.{Reading, Part, part, gives, of_result, start_of, ◌>>=◌}
 use Rattle.al_yaml_tree.specs.Limits.{broken_limit}
-use Rattle.al_yaml_tree.specs.Content.{behind, line_ended, starts_quoted}
+use Rattle.al_yaml_tree.specs.Content.{behind, line_ended}
 use Rattle.al_yaml_tree.specs.Blocks.{ending_line, scalar_node_at}
-use Rattle.al_yaml_tree.specs.View.{view}
-use Rattle.al_yaml_parts.specs.declared.part.Part as code
-use Rattle.al_yaml_tree.specs.Keys.{Key, is_block_start, one_line, with_lines, plain_on_line, key_scalar, has_colon, key_before_colon}
+use Rattle.al_yaml_tree.specs.Keys.{Key, is_block_start, one_line, with_lines, plain_on_line, has_colon, key_before_colon}
 use Rattle.al_yaml_parts.specs.BlockReads.{behind_colon_in_block, scalar_left}
 use Rattle.al_yaml_parts.specs.Places.{IsReadInside}
-use Rattle.al_yaml_parts.specs.Reads.{State, run, with_nodes, FailsWith, Refuses, Answers, part_of}
+use Rattle.al_yaml_parts.specs.Reads.{State, run, with_nodes, Refuses, Answers}
 use Rattle.al_yaml_parts.specs.declared.faults.ReadError.{ReadError}
 use Rattle.al_yaml_parts.specs.declared.faults.ReadError.TheVariants as stop
 use Rattle.al_scalar.proofs.LineCells.{has_line, lines_at-some, lines-at_end, text-line_end, is_inside}
@@ -31,8 +29,8 @@ use Rattle.al_scalar.proofs.RestLemmas.{start-at}
 use Rattle.al_scalar.proofs.PlacedLemmas.{placed-wider}
 use Rattle.al_yaml_parts.proofs.KeyLemmas.{end-more, end-order}
 use Rattle.al_scalar.proofs.LineParts.{end-here}
-use Rattle.al_yaml_parts.proofs.RunLemmas.{run-gives, run-start, run-broken, run-stop, run-refused}
-use Rattle.al_yaml_parts.proofs.ReadLemmas.{stops-from, stops-given, given-ok, same_part}
+use Rattle.al_yaml_parts.proofs.RunLemmas.{run-start}
+use Rattle.al_yaml_parts.proofs.ReadLemmas.{given-ok}
 
 -- ---- a file cut at a line's end
 
@@ -167,66 +165,26 @@ pub key-given : (asked : Result value.ScalarRead FaultAt) (r : value.ScalarRead)
 key-given asked r o h k =
     ap keyed h ∙ ap Ok (key-by r (behind 1 (blanks_dropped r.left)) (has_colon r.left)) ∙ ap (λ x. Ok (key_with r x)) k
 
-pub answers-same : (bytes : List ℕ) (asked other : Result value.ScalarRead FaultAt) (result : Result ScalarRead ReadError) → asked ≡ other
-    → Answers (read_of bytes) other result → Answers (read_of bytes) asked result
-answers-same bytes asked other (Ok r) e h = e ∙ h
-answers-same bytes asked other (Err (stop.Fault f)) e h = e ∙ h
-answers-same bytes asked other (Err stop.Memory) e h = tt
-
-pub key-quoted : (ls : List Line) → true ≡ starts_quoted (first_text ls) → key_scalar ls ≡ scalar_at (block 0) ls
-key-quoted ls h = rw (← h) refl
-
-pub key-plain : (ls : List Line) → false ≡ starts_quoted (first_text ls) → key_scalar ls ≡ plain_on_line ls
-key-plain ls h = rw (← h) refl
-
 -- ---- a scalar with the rest of its line
 
 abbrev behind_scalar : Bool → Part tree.Node → Reading (Part tree.Node)
 behind_scalar is_block = if is_block then gives else ending_line
 
-module _ (within : ℕ) (n : State) (at : ℕ) (bytes : List ℕ) (inside : at ≤ length bytes) where
+left-by : (r : value.ScalarRead) (is_block : Bool) → behind_scalar is_block (part (tree.scalar_node r) r.span.end r.left)
+    ≡ (of_result (cond is_block (Ok r.left) (line_ended r.left)) >>= (λ left. gives (part (tree.scalar_node r) r.span.end left)))
+left-by r true = refl
+left-by r false = refl
+
+module _ (within : ℕ) (n m : State) (bytes : List ℕ) (at : ℕ) (inside : at ≤ length bytes) (fits : broken_limit n.nodes n.text (start_of at 1 0 ∷ []) ≡ None) (more : m ≡ with_nodes 1 n) where
   abbrev pub left_of : value.ScalarRead → Reading (Part tree.Node)
   left_of r = behind_scalar (is_block_start (text_at bytes at)) (part (tree.scalar_node r) r.span.end r.left)
 
-  abbrev pub behind_of : value.ScalarRead → Reading (Part tree.Node)
-  behind_of r = of_result (scalar_left (lines_at bytes at) r.left) >>= (λ left. gives (part (tree.scalar_node r) r.span.end left))
+  pub line-starts : run n (scalar_node_at within (lines_at bytes at)) ≡ run m (of_result (scalar_at (block within) (lines_at bytes at)) >>= left_of)
+  line-starts = rw (start-at bytes at inside, more) (run-start n 1 at 0 (of_result (scalar_at (block within) (lines_at bytes at)) >>= left_of) fits)
 
-  left-by : (r : value.ScalarRead) (is_block : Bool) → behind_scalar is_block (part (tree.scalar_node r) r.span.end r.left)
-      ≡ (of_result (cond is_block (Ok r.left) (line_ended r.left)) >>= (λ left. gives (part (tree.scalar_node r) r.span.end left)))
-  left-by r true = refl
-  left-by r false = refl
-
-  abbrev pub line_scalar : Reading (Part tree.Node)
-  line_scalar = of_result (scalar_at (block within) (lines_at bytes at)) >>= left_of
-
-  line-first : scalar_node_at within (lines_at bytes at) ≡ with_start (start_of at 1 0) line_scalar
-  line-first = ap (λ i. with_start (start_of i 1 0) line_scalar) (start-at bytes at inside)
-
-  pub line-broken : (f : FaultAt) → broken_limit n.nodes n.text (start_of at 1 0 ∷ []) ≡ Some f → run n (scalar_node_at within (lines_at bytes at)) ≡ Err f
-  line-broken f h = ap (run n) line-first ∙ run-broken n 1 at 0 line_scalar f h
-
-  module _ (m : State) (fits : broken_limit n.nodes n.text (start_of at 1 0 ∷ []) ≡ None) (more : m ≡ with_nodes 1 n) where
-    line-starts : run n (scalar_node_at within (lines_at bytes at)) ≡ run m line_scalar
-    line-starts = ap (run n) line-first ∙ run-start n 1 at 0 line_scalar fits ∙ ap (λ i. run i line_scalar) (sym more)
-
-    pub line-unread : (e : ReadError) → Refuses (scalar_at (block within) (lines_at bytes at)) e → FailsWith (scalar_node_at within (lines_at bytes at)) n e
-    line-unread e h = stops-from _ _ n m e line-starts (stops-given (scalar_at (block within) (lines_at bytes at)) left_of m e h)
-
-    module _ (r : ScalarRead) (read : scalar_at (block within) (lines_at bytes at) ≡ Ok (read_of bytes r)) where
-      line-read : run n (scalar_node_at within (lines_at bytes at)) ≡ run m (behind_of (read_of bytes r))
-      line-read =
-          line-starts ∙ given-ok (scalar_at (block within) (lines_at bytes at)) left_of m (read_of bytes r) read
-          ∙ ap (run m) (left-by (read_of bytes r) (is_block_start (text_at bytes at)))
-
-      pub line-wrong : (f : FaultAt) → scalar_left (lines_at bytes at) (lines_at bytes r.next) ≡ Err f → run n (scalar_node_at within (lines_at bytes at)) ≡ Err f
-      line-wrong f h =
-          line-read ∙ run-stop m (of_result (scalar_left (lines_at bytes at) (lines_at bytes r.next))) (λ left. gives (part (tree.scalar_node (read_of bytes r)) r.span.end left)) f
-          (run-refused m (scalar_left (lines_at bytes at) (lines_at bytes r.next)) f h)
-
-      pub line-ok : (next : ℕ) (p : code.Part) → scalar_left (lines_at bytes at) (lines_at bytes r.next) ≡ Ok (lines_at bytes next)
-          → view p.node ≡ tree.scalar r.scalar r.span → p.end ≡ r.span.end → p.next ≡ next
-          → run n (scalar_node_at within (lines_at bytes at)) ≡ Ok (part_of bytes p, m)
-      line-ok next p h a b c =
-          line-read ∙ given-ok (scalar_left (lines_at bytes at) (lines_at bytes r.next)) (λ left. gives (part (tree.scalar_node (read_of bytes r)) r.span.end left)) m (lines_at bytes next) h
-          ∙ run-gives m (part (tree.scalar r.scalar r.span) r.span.end (lines_at bytes next))
-          ∙ same_part (tree.scalar r.scalar r.span) (view p.node) r.span.end p.end (lines_at bytes next) (lines_at bytes p.next) m m (sym a) (sym b) (ap (lines_at bytes) (sym c)) refl
+  pub line-read : (r : ScalarRead) → scalar_at (block within) (lines_at bytes at) ≡ Ok (read_of bytes r)
+      → run n (scalar_node_at within (lines_at bytes at))
+      ≡ run m (of_result (scalar_left (lines_at bytes at) (lines_at bytes r.next)) >>= (λ left. gives (part (tree.scalar_node (read_of bytes r)) r.span.end left)))
+  line-read r read =
+      line-starts ∙ given-ok (scalar_at (block within) (lines_at bytes at)) left_of m (read_of bytes r) read
+      ∙ ap (run m) (left-by (read_of bytes r) (is_block_start (text_at bytes at)))

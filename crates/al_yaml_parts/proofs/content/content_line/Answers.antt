@@ -1,7 +1,8 @@
-use Rattle.std.proofs.Common.{◌+◌}
-use Rattle.al_yaml_parts.proofs.ContentLemmas.{tab-fault}
+use Rattle.std.proofs.Common.{◌+◌, refl}
+use Rattle.al_scalar.proofs.RestLemmas.{start-at}
 use Rattle.al_yaml_parts.proofs.content.content_line.Goals as goal
 
 pub returns-then-begins-clause-is : goal.returns-then-begins-clause-is
 returns-then-begins-clause-is c =
-    tab-fault c.args.bytes.now c.args.at (c.args.at + c.indent-indent.result) c.indent-indent.ensures.inside c.if-is_document_marker.ensures c.indent-indent.ensures.dropped c.if-begins.ensures.value
+    rw (← c.if-is_document_marker.ensures, c.indent-indent.ensures.dropped, ← c.if-begins.ensures.value,
+    start-at c.args.bytes.now (c.args.at + c.indent-indent.result) c.indent-indent.ensures.inside) refl

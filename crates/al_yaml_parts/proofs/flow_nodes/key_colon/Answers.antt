@@ -1,14 +1,13 @@
-use Rattle.std.proofs.Common.{ap, sym, ◌∙◌}
+use Rattle.std.proofs.Common.{ap, refl, sym, ◌∙◌}
 use Rattle.al_scalar.specs.Places.{lines_at}
+use Rattle.al_scalar.proofs.RestLemmas.{start-at}
 use Rattle.al_yaml_tree.specs.Flow.{behind_colon_in_flow}
-use Rattle.al_scalar.specs.ReadScalar.{read_of}
-use Rattle.al_yaml_parts.proofs.FlowNodeLemmas.{key-not_simple, key-late}
 use Rattle.al_yaml_parts.proofs.flow_nodes.key_colon.Goals as goal
 
 pub returns-then-not-is_simple_key-clause-is : goal.returns-then-not-is_simple_key-clause-is
-returns-then-not-is_simple_key-clause-is c = key-not_simple c.args.bytes.now c.args.at c.requires.at (read_of c.args.bytes.now c.args.read.now) c.if-not-is_simple_key.ensures
+returns-then-not-is_simple_key-clause-is c = rw (← c.if-not-is_simple_key.ensures, start-at c.args.bytes.now c.args.at c.requires.at) refl
 
 pub returns-then-is_late_colon-clause-is : goal.returns-then-is_late_colon-clause-is
 returns-then-is_late_colon-clause-is c =
-    key-late c.args.bytes.now c.args.at c.requires.at (read_of c.args.bytes.now c.args.read.now) c.if-not-is_simple_key.ensures
-    (ap (λ b. behind_colon_in_flow b (lines_at c.args.bytes.now c.args.read.now.next)) (sym c.is_quote.ensures) ∙ c.in_default.ensures) c.if-is_late_colon.ensures
+    rw (← c.if-not-is_simple_key.ensures, ap (λ b. behind_colon_in_flow b (lines_at c.args.bytes.now c.args.read.now.next)) (sym c.is_quote.ensures) ∙ c.in_default.ensures,
+    ← c.if-is_late_colon.ensures, start-at c.args.bytes.now c.args.at c.requires.at) refl
