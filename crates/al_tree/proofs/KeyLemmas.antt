@@ -128,21 +128,12 @@ many_keys es p is first =
           ap not (first i inside) ∙ repeats_before ks i k inside refl ∙ sym (ap (λ f. is_before i (f k)) is)),
     )
 
-pub told_by : (x : KeyIndex) (i : ℕ) (k : List ℕ) (o : Option TextPositions) → o ≡ x.positions → option_map_or (λ p. not (is_first_text p i)) o (has_first x i k) ≡ repeats x i k
-unfolding repeats
-told_by x i k o is = ap (λ o. option_map_or (λ p. not (is_first_text p i)) o (has_first x i k)) is
-
--- what a set of few keys holds, and one of many
+-- what a set of few keys holds
 pub few_hold : (s : KeySet) (k : List ℕ) → s.index.now.positions ≡ None →
     among (keys_in (map entry_view (take s.count s.index.now.entries.now))) k ≡ holds s k
 unfolding has_first
 few_hold s k few =
     sym (ap (λ o. option_map_or (λ p. is_before s.count (text_position p k)) o (among (keys_in (map entry_view (take s.count s.index.now.entries.now))) k)) few)
-
-pub many_hold : (s : KeySet) (k : List ℕ) (p : TextPositions) → s.index.now.positions ≡ Some p → is_before s.count (text_position p k) ≡ holds s k
-unfolding has_first
-many_hold s k p many =
-    sym (ap (λ o. option_map_or (λ p. is_before s.count (text_position p k)) o (among (keys_in (map entry_view (take s.count s.index.now.entries.now))) k)) many)
 
 -- all keys of a mapping
 pub all_keys : (x : KeyIndex) (s : KeySet) (es : List Entry) (n : ℕ) → IsIndexOf x es → holds s ≡ has_first x n → length es ≤ n →

@@ -1,6 +1,5 @@
-use Rattle.std.proofs.Common.{◌∷◌, length, refl, sym, ap, subst, arith}
+use Rattle.std.proofs.Common.{length, refl, sym, ap, subst, arith}
 use Rattle.std.proofs.lemmas.Result.{err_from_is_err_and}
-use Rattle.al_yaml.specs.Private.FlowAnswers.{Keeps}
 use Rattle.al_yaml.specs.Private.FlowFrames.{AreOpen, open_of}
 use Rattle.al_yaml_parts.specs.Reads.{state_of}
 use Rattle.al_yaml.proofs.FlowLemmas.{collection-broken}
@@ -59,16 +58,13 @@ returns-in_ok-start-in-Opens-clause-is c = λ first whole deep now.
     let found = rw c.in-Opens.is at c.in_ok-step.ensures.is in
     let within = rw c.in-Opens.is at c.in_ok-step.ensures.within in
     let begun = c.open_at in
-    subst (λ s. Keeps bytes first whole s (state_of c.start.new.self) begun.result.opening (open_of begun.result.has) begun.result.next)
-    (sym c.push_flow.ensures.flows)
-    (subst (λ o. Keeps bytes first whole (record { opening = c.args.collection.opening; has = c.read_inside.new.has; inner = b } ∷ outer)
-    (state_of c.start.new.self) o (open_of begun.result.has) begun.result.next) (sym begun.ensures.opening)
+    rw (c.push_flow.ensures.flows, begun.ensures.opening)
     (opens-keeps bytes first whole outer (state_of c.args.progress.now.state) c.args.collection.opening
     (open_of c.args.collection.has) c.args.at c.args.depth (omega (arith, deep, frames-length bytes outer)) now
     (state_of c.read_inside.new.state) b c.read_inside.new.has found within.from within.inside (state_of c.start.new.self)
     (open_of begun.result.has) begun.result.next begun.ensures.from
     (begun.ensures.is c.args.depth (state_of c.read_inside.new.state) (state_of c.start.new.self)
-    c.in_ok-start-in-Opens.ensures.limits c.in_ok-start-in-Opens.ensures.state)))
+    c.in_ok-start-in-Opens.ensures.limits c.in_ok-start-in-Opens.ensures.state))
 
 pub returns-in_ok-start-in-Opens-clause-within : goal.returns-in_ok-start-in-Opens-clause-within
 returns-in_ok-start-in-Opens-clause-within c =

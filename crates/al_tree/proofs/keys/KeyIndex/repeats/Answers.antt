@@ -1,10 +1,11 @@
-use Rattle.std.proofs.Common.{◌∙◌, ap, not, sym}
-use Rattle.al_tree.proofs.KeyLemmas.{told_by}
+use Rattle.std.proofs.Common.{◌∙◌, ap, not}
+use Rattle.al_tree.specs.Keys.{repeats}
 use Rattle.al_tree.proofs.keys.KeyIndex.repeats.Goals as goal
 
 pub returns-in-None : goal.returns-in-None
-returns-in-None c =
-    c.contains.ensures ∙ ap (λ f. f c.args.key.now) c.first.ensures ∙ told_by c.args.self.now c.args.i c.args.key.now _ (sym c.in-None.is)
+unfolding repeats
+returns-in-None c = rw c.in-None.is (c.contains.ensures ∙ ap (λ f. f c.args.key.now) c.first.ensures)
 
 pub returns-in-Some : goal.returns-in-Some
-returns-in-Some c = ap not c.is_first.ensures ∙ told_by c.args.self.now c.args.i c.args.key.now _ (sym c.in-Some.is)
+unfolding repeats
+returns-in-Some c = rw c.in-Some.is (ap not c.is_first.ensures)
