@@ -2,6 +2,7 @@
 use Rattle.al_base.specs.declared.codes.YamlCode.TheVariants.{WrongBlockHeader}
 use Rattle.std.proofs.Common.{◌≡◌, ◌≢◌, ℕ, suc, ◌+◌, ◌<◌, ◌≤◌, List, [], ◌∷◌, ◌++◌, length, slice_index, refl, ap, subst, ◌∙◌, arith, Bool, true, false, ◌&&◌, ◌||◌, ◌==◌, cond, Ok, Err, eq-eqb}
 use Rattle.std.proofs.lemmas.Grind.{common_steps}
+use Rattle.std.proofs.Math.Bool.{and-false}
 use Rattle.al_scalar.specs.Line.{Cell, place, after_blanks, is_empty, begins_blank, begins}
 use Rattle.al_scalar.specs.Taken.{fault}
 use Rattle.al_scalar.specs.Block.{header_end}
@@ -16,26 +17,14 @@ use Rattle.al_scalar.proofs.BlockLemmas.{begins-cell}
 eqb-no : (a b : ℕ) → a ≢ b → (a == b) ≡ false
 eqb-no a b n = grind (arith, common_steps, n)
 
-header-is : (h : Header) (cs w : List Cell) (x y : Bool) → after_blanks cs ≡ w → begins_blank cs ≡ x → begins 35 w ≡ y
-    → header_end h cs ≡ cond (is_empty w || (x && y)) (Ok h) (fault WrongBlockHeader (place w 0))
-header-is h cs w x y e f g =
-    ap (λ v. cond (is_empty v || (begins_blank cs && begins 35 v)) (Ok h) (fault WrongBlockHeader (place v 0))) e
-    ∙ ap (λ b. cond (is_empty w || (b && begins 35 w)) (Ok h) (fault WrongBlockHeader (place w 0))) f
-    ∙ ap (λ b. cond (is_empty w || (x && b)) (Ok h) (fault WrongBlockHeader (place w 0))) g
-
-no-comment : (h : Header) (c : Cell) (cs : List Cell) (x : Bool) → cond (false || (x && false)) (Ok h) (fault WrongBlockHeader c.1) ≡ Err (record { code = WrongBlockHeader; at = c.1 })
-no-comment h c cs true = refl
-no-comment h c cs false = refl
-
 module _ (bytes : List ℕ) (at solid : ℕ) (inside : solid ≤ length bytes) (b : AreBlank (cells_between bytes at solid))
     (e : lines_at bytes at ≡ with_cells_before (cells_between bytes at solid) (lines_at bytes solid)) (h : Header) where
   pub header-ended : IsLineEnd bytes solid → header_end h (first_text (lines_at bytes at)) ≡ Ok h
   header-ended k =
-      let text = first_text (lines_at bytes at) in
       let r = run_at bytes at solid (cells_between bytes at solid) e in
-      header-is h text [] (begins_blank text) false
-      (ap after_blanks r.text ∙ after_blanks-run (cells_between bytes at solid) (first_text (lines_at bytes solid)) b
-      ∙ ap after_blanks (text-line_end bytes solid inside k)) refl refl
+      let none : after_blanks (first_text (lines_at bytes at)) ≡ [] = ap after_blanks r.text
+      ∙ after_blanks-run (cells_between bytes at solid) (first_text (lines_at bytes solid)) b ∙ ap after_blanks (text-line_end bytes solid inside k) in
+      rw none refl
 
   after-solid : IsInside bytes solid → (IsBlankByte (slice_index bytes solid) → ⊥)
       → after_blanks (first_text (lines_at bytes at)) ≡ (slice_index bytes solid, solid) ∷ first_text (lines_at bytes (solid + 1))
@@ -47,9 +36,7 @@ module _ (bytes : List ℕ) (at solid : ℕ) (inside : solid ≤ length bytes) (
   pub header-other : IsInside bytes solid → (IsBlankByte (slice_index bytes solid) → ⊥) → slice_index bytes solid ≢ 35
       → header_end h (first_text (lines_at bytes at)) ≡ Err (record { code = WrongBlockHeader; at = solid })
   header-other here n m =
-      let text = first_text (lines_at bytes at) in
-      header-is h text _ (begins_blank text) false (after-solid here n) refl (eqb-no (slice_index bytes solid) 35 m)
-      ∙ no-comment h (slice_index bytes solid, solid) (first_text (lines_at bytes (solid + 1))) (begins_blank text)
+      rw (after-solid here n, eqb-no (slice_index bytes solid) 35 m, and-false (begins_blank (first_text (lines_at bytes at)))) refl
 
   pub header-close : IsInside bytes solid → (IsBlankByte (slice_index bytes solid) → ⊥) → at ≡ solid
       → header_end h (first_text (lines_at bytes at)) ≡ Err (record { code = WrongBlockHeader; at = solid })
@@ -57,7 +44,7 @@ module _ (bytes : List ℕ) (at solid : ℕ) (inside : solid ≤ length bytes) (
       let text = first_text (lines_at bytes at) in
       let none : begins_blank text ≡ false = ap (λ i. begins_blank (first_text (lines_at bytes i))) same
       ∙ ap begins_blank (begins-cell bytes solid here) ∙ is_blank-no (slice_index bytes solid, solid) n in
-      header-is h text _ false (slice_index bytes solid == 35) (after-solid here n) none refl
+      rw (after-solid here n, none) refl
 
   pub header-comment : IsInside bytes solid → (IsBlankByte (slice_index bytes solid) → ⊥) → at < solid → slice_index bytes solid ≡ 35
       → header_end h (first_text (lines_at bytes at)) ≡ Ok h
@@ -67,4 +54,4 @@ module _ (bytes : List ℕ) (at solid : ℕ) (inside : solid ≤ length bytes) (
       let front = cells_between-front bytes at solid less in
       let blank : AreBlank ((slice_index bytes at, at) ∷ cells_between bytes (suc at) solid) = subst AreBlank front b in
       let some : begins_blank text ≡ true = ap begins_blank (r.text ∙ ap (λ cs. cs ++ first_text (lines_at bytes solid)) front) ∙ is_blank-yes (slice_index bytes at, at) blank.0 in
-      header-is h text _ true true (after-solid here n) some (eq-eqb (slice_index bytes solid) 35 m)
+      rw (after-solid here n, some, eq-eqb (slice_index bytes solid) 35 m) refl

@@ -9,6 +9,7 @@ use Rattle.al_scalar.specs.Line.{Cell, Line, lines, with_cell, with_return, is_b
 use Rattle.al_scalar.specs.Places.{first_text, lines_at}
 use Rattle.al_scalar.specs.LineEnds.{with_cells_before, IsBlankByte, IsLineEnd, SameLine}
 use Rattle.al_scalar.proofs.LineLemmas.{lines_at-other}
+use Rattle.al_scalar.proofs.OffsetLemmas.{choose}
 
 pub is_blank-yes : (c : Cell) → IsBlankByte c.0 → is_blank c ≡ true
 is_blank-yes c h = grind (arith, common_steps, h)
@@ -31,19 +32,13 @@ has_line-with_return : (at : ℕ) (ls : List Line) → has_line (with_return at 
 has_line-with_return at [] = refl
 has_line-with_return at (l ∷ ls) = refl
 
-has_line-cond : (b : Bool) (xs ys : List Line) → has_line xs ≡ true → has_line ys ≡ true → has_line (cond b xs ys) ≡ true
-has_line-cond true xs ys h k = h
-has_line-cond false xs ys h k = k
-
 pub lines-some : (at : ℕ) (bs : List ℕ) → has_line (lines at bs) ≡ true
 lines-some at [] = refl
 lines-some at (b ∷ bs) =
     let some = lines-some (at + 1) bs in
     let more = lines (at + 1) bs in
-    has_line-cond (is_break b bs) (record { text = []; end = at; last = false } ∷ more)
-    (cond (b == 13) (with_return at more) (with_cell (b, at) more)) refl
-    (has_line-cond (b == 13) (with_return at more) (with_cell (b, at) more) (has_line-with_return at more ∙ some)
-    (has_line-with_cell (b, at) more ∙ some))
+    choose (λ (ls : List Line). has_line ls ≡ true) (is_break b bs) (λ _. refl)
+    (λ _. choose (λ (ls : List Line). has_line ls ≡ true) (b == 13) (λ _. has_line-with_return at more ∙ some) (λ _. has_line-with_cell (b, at) more ∙ some))
 
 pub lines_at-some : (bytes : List ℕ) (i : ℕ) → has_line (lines_at bytes i) ≡ true
 lines_at-some bytes i = lines-some i (drop i bytes)

@@ -4,27 +4,15 @@ use Rattle.al_scalar.specs.Line.{Cell}
 use Rattle.al_scalar.specs.Taken.{before}
 use Rattle.al_scalar.specs.Quoted.{part_before}
 use Rattle.al_scalar.specs.Places.{lines_at, text_at}
-use Rattle.al_scalar.specs.LineEnds.{cells_at, cells_between, with_cells_before, AreBlank, IsBlankByte, IsLineEnd, SameLine}
+use Rattle.al_scalar.specs.LineEnds.{cells_between, with_cells_before, AreBlank, IsBlankByte, IsLineEnd, SameLine}
 use Rattle.al_scalar.specs.Private.QuotedRead.{part_in, quoted_in, IsMarkByte, ReadsOn}
 use Rattle.al_scalar.specs.declared.quoted.Quotes.{Quotes}
 use Rattle.al_scalar.proofs.LineLemmas.{cells_between-more}
 use Rattle.al_scalar.proofs.LineCells.{lines_at-some, RunBefore, run_at, cell_at, text-line_end, IsInside}
 use Rattle.al_scalar.proofs.FoldLemmas.{before-two}
+use Rattle.al_scalar.proofs.PlainLemmas.{cells_between-two}
 use Rattle.al_scalar.proofs.QuotedLemmas.{gives_nothing, quoted-run}
 use Rattle.al_scalar.proofs.PartLemmas.{part-end, part-blanks, part-run, part-byte, part-some}
-
-cells_at-two : (bytes : List ℕ) (i n m : ℕ) → cells_at bytes i n ++ cells_at bytes (i + n) m ≡ cells_at bytes i (n + m)
-cells_at-two bytes i zero m = let e : i + 0 ≡ i = omega arith in let f : 0 + m ≡ m = omega arith in rw (e, f) refl
-cells_at-two bytes i (suc n) m =
-    let e : i + suc n ≡ suc i + n = omega arith in
-    let f : suc n + m ≡ suc (n + m) = omega arith in
-    rw (e, f) (ap (λ cs. (slice_index bytes i, i) ∷ cs) (cells_at-two bytes (suc i) n m))
-
-pub cells_between-two : (bytes : List ℕ) (i j k : ℕ) → i ≤ j → j ≤ k → cells_between bytes i j ++ cells_between bytes j k ≡ cells_between bytes i k
-cells_between-two bytes i j k h l =
-    let e : i + (j - i) ≡ j = omega arith in
-    let f : (j - i) + (k - j) ≡ k - i = omega arith in
-    ap (λ x. cells_at bytes i (j - i) ++ cells_at bytes x (k - j)) (sym e) ∙ cells_at-two bytes i (j - i) (k - j) ∙ ap (cells_at bytes i) f
 
 -- ---- reading on
 
@@ -42,7 +30,7 @@ module _ (quotes : Quotes) (bytes : List ℕ) where
   pub reads-more : (i j k : ℕ) → i ≤ j → j ≤ k → ReadsOn quotes bytes i (cells_between bytes i j) j → ReadsOn quotes bytes j (cells_between bytes j k) k
       → ReadsOn quotes bytes i (cells_between bytes i k) k
   reads-more i j k o p r s =
-      subst (λ cs. ReadsOn quotes bytes i cs k) (cells_between-two bytes i j k o p) (reads-then i j k (cells_between bytes i j) (cells_between bytes j k) r s)
+      subst (λ cs. ReadsOn quotes bytes i cs k) (sym (cells_between-two bytes i j k o p)) (reads-then i j k (cells_between bytes i j) (cells_between bytes j k) r s)
 
   -- the blanks from i to j
   module _ (i j : ℕ) (blanks : AreBlank (cells_between bytes i j)) (lines : lines_at bytes i ≡ with_cells_before (cells_between bytes i j) (lines_at bytes j)) where

@@ -1,4 +1,4 @@
--- Offsets of a scalar's text: they never fall, and lie in what the scalar takes; and how many bytes it has.
+-- Offsets that never fall, in texts and in lines.
 use Rattle.std.proofs.Common.{◌≡◌, ℕ, zero, suc, ◌+◌, ◌*◌, ◌<◌, ◌≤◌, List, [], ◌∷◌, ◌++◌, length, length-append, drop, refl, sym, ap, subst}
 use Rattle.std.proofs.Common.{◌∙◌, arith, Bool, true, false, not, ◌&&◌, ◌||◌, ◌==◌, if◌then◌else◌, Option, Some, None}
 use Rattle.al_base.specs.Ascii.{ascii}
@@ -6,20 +6,14 @@ use Rattle.al_scalar.specs.Line.{Cell, Line, lines, place, start, is_blank, afte
 use Rattle.al_base.specs.FirstBytes.{begins_with}
 use Rattle.al_scalar.specs.Places.{first_text}
 use Rattle.al_scalar.specs.Offsets.{AreRising, AreClimbing, IsTail, AreLines}
-use Rattle.al_scalar.specs.Taken.{feeds, folded_break}
 
 -- ---- cells that are taken
-
--- the cells come from between two offsets, which leave room for them
-pub record IsFrom (low high : ℕ) (cs : List Cell) : Type 0 where
-  pub rising : AreRising low high cs
-  pub size : length cs + 4 * low ≤ 4 * high
 
 pub rising-order : (low high : ℕ) (cs : List Cell) → AreRising low high cs → low ≤ high
 rising-order low high [] h = h
 rising-order low high (c ∷ cs) h = omega (arith, h.0, h.1)
 
-rising-lower : (low low' high : ℕ) (cs : List Cell) → low' ≤ low → AreRising low high cs → AreRising low' high cs
+pub rising-lower : (low low' high : ℕ) (cs : List Cell) → low' ≤ low → AreRising low high cs → AreRising low' high cs
 rising-lower low low' high [] a h = omega (arith, h)
 rising-lower low low' high (c ∷ cs) a h = (omega (arith, h.0), h.1, h.2)
 
@@ -27,24 +21,9 @@ pub rising-higher : (low high high' : ℕ) (cs : List Cell) → high ≤ high' �
 rising-higher low high high' [] a h = omega (arith, h)
 rising-higher low high high' (c ∷ cs) a h = (h.0, omega (arith, h.1), rising-higher c.1 high high' cs a h.2)
 
-rising-join : (low mid high : ℕ) (xs ys : List Cell) → AreRising low mid xs → AreRising mid high ys → AreRising low high (xs ++ ys)
+pub rising-join : (low mid high : ℕ) (xs ys : List Cell) → AreRising low mid xs → AreRising mid high ys → AreRising low high (xs ++ ys)
 rising-join low mid high [] ys h k = rising-lower mid low high ys h k
 rising-join low mid high (c ∷ cs) ys h k = let o = rising-order mid high ys k in (h.0, omega (arith, h.1, o), rising-join c.1 mid high cs ys h.2 k)
-
-pub from-order : (low high : ℕ) (cs : List Cell) → IsFrom low high cs → low ≤ high
-from-order low high cs h = rising-order low high cs h.rising
-
-pub from-join : (low mid high : ℕ) (xs ys : List Cell) → IsFrom low mid xs → IsFrom mid high ys → IsFrom low high (xs ++ ys)
-from-join low mid high xs ys h k = record { rising = rising-join low mid high xs ys h.rising k.rising; size = omega (arith, length-append xs ys, h.size, k.size) }
-
-pub from-none : (low high : ℕ) → low ≤ high → IsFrom low high []
-from-none low high h = record { rising = h; size = omega arith }
-
-pub from-one : (low high b at : ℕ) → low ≤ at → at < high → IsFrom low high ((b, at) ∷ [])
-from-one low high b at h k = record { rising = (h, k, omega arith); size = omega arith }
-
-pub from-wider : (low high low' high' : ℕ) (cs : List Cell) → low' ≤ low → high ≤ high' → IsFrom low high cs → IsFrom low' high' cs
-from-wider low high low' high' cs a b h = record { rising = rising-lower low low' high' cs a (rising-higher low high high' cs b h.rising); size = omega (arith, h.size) }
 
 -- ---- cells of a line
 
@@ -64,13 +43,6 @@ climbing-place low end (c ∷ cs) h = (h.0, (omega arith, h.1))
 -- without the first cell
 pub climbing-behind : (low end : ℕ) (c : Cell) (cs : List Cell) → AreClimbing low end (c ∷ cs) → AreClimbing low end cs
 climbing-behind low end c cs h = climbing-lower (c.1 + 1) low end cs (omega (arith, h.0)) h.1
-
-pub climbing-from : (low end : ℕ) (cs : List Cell) → AreClimbing low end cs → IsFrom low end cs
-climbing-from low end [] h = from-none low end h
-climbing-from low end (c ∷ cs) h =
-    let more = climbing-from (c.1 + 1) end cs h.1 in
-    let o = climbing-order (c.1 + 1) end cs h.1 in
-    record { rising = (h.0, omega (arith, o), rising-lower (c.1 + 1) c.1 end cs (omega arith) more.rising); size = omega (arith, h.0, more.size) }
 
 -- ---- choices
 
@@ -137,31 +109,3 @@ lines-climb at (b ∷ bs) =
 pub lines-start : (low : ℕ) (ls : List Line) → AreLines low ls → low ≤ start ls
 lines-start low [] h = absurd h
 lines-start low (l ∷ ls) h = (climbing-place low l.end l.text h.0).0
-
--- ---- breaks
-
-pub feeds-join : (xs ys : List ℕ) → feeds (xs ++ ys) ≡ feeds xs ++ feeds ys
-feeds-join [] ys = refl
-feeds-join (x ∷ xs) ys = ap (λ cs. (ascii "\n", x) ∷ cs) (feeds-join xs ys)
-
--- a break and the breaks of empty lines behind it
-pub record AreBreaks (low high break : ℕ) (empties : List ℕ) : Type 0 where
-  pub from : low ≤ break
-  pub below : break < high
-  pub feeds : IsFrom (break + 1) high (feeds empties)
-
-pub breaks-folded : (low high break : ℕ) (es : List ℕ) → AreBreaks low high break es → IsFrom low high (folded_break break es)
-breaks-folded low high break [] h = from-one low high (ascii " ") break h.from h.below
-breaks-folded low high break (e ∷ es) h = let a = h.from in from-wider (break + 1) high low high (feeds (e ∷ es)) (omega (arith, a)) (omega arith) h.feeds
-
-pub breaks-more : (low high break : ℕ) (es : List ℕ) (e : ℕ) → high ≤ e → AreBreaks low high break es → AreBreaks low (e + 1) break (es ++ e ∷ [])
-breaks-more low high break es e a h = let b = h.below in record {
-  from = h.from;
-  below = omega (arith, a, b);
-  feeds = subst (IsFrom (break + 1) (e + 1)) (sym (feeds-join es (e ∷ [])))
-      (from-join (break + 1) high (e + 1) (feeds es) ((ascii "\n", e) ∷ []) h.feeds
-      (from-one high (e + 1) (ascii "\n") e a (omega arith)));
-}
-
-pub breaks-one : (low break : ℕ) → low ≤ break → AreBreaks low (break + 1) break []
-breaks-one low break a = record { from = a; below = omega arith; feeds = from-none (break + 1) (break + 1) (omega arith) }

@@ -1,16 +1,23 @@
--- Each byte of a scalar's text comes from the file that the scalar was read from.
-use Rattle.std.proofs.Common.{ℕ, ◌<◌, ◌≤◌, List, length, arith, Bool, true, false, if◌then◌else◌, Result, Ok, Err, IfOk}
+-- What is read of a file: its text comes from there, lies in its span, and is UTF-8 where the file is.
+use Rattle.std.proofs.Common.{ℕ, ◌+◌, ◌<◌, ◌≤◌, List, length, drop, subst, arith, Bool, true, false, if◌then◌else◌, Result, Ok, Err, IfOk}
 use Rattle.std.proofs.lemmas.List.{length-map}
-use Rattle.al_scalar.specs.ReadScalar.{LiesBehind}
+use Rattle.std.specs.Prelude.{IsUtf8}
+use Rattle.al_scalar.specs.ReadScalar.{LiesBehind, read_of}
 use Rattle.al_scalar.specs.Private.Contract.{GivesIn}
 use Rattle.al_scalar.specs.Line.{Cell}
 use Rattle.al_scalar.specs.Offsets.{IsFrom, IsPlaced, is_block, reach}
 use Rattle.al_scalar.specs.Plain.{Context}
-use Rattle.al_scalar.specs.Scalar.{Scalar, empty_scalar}
+use Rattle.al_scalar.specs.Scalar.{Scalar, ScalarRead, empty_scalar, text_of}
+use Rattle.al_scalar.specs.Places.{lines_at}
+use Rattle.al_scalar.specs.declared.faults.FaultAt.{FaultAt}
 use Rattle.al_scalar.specs.declared.faults.YamlFault.{YamlFault}
 use Rattle.al_scalar.specs.declared.scalars.ScalarRead as code
 use Rattle.al_base.specs.declared.faults.Span.{Span}
-use Rattle.al_scalar.proofs.PlacedLemmas.{offset-within, placed-read}
+use Rattle.al_scalar.proofs.OffsetLemmas.{lines-climb}
+use Rattle.al_scalar.proofs.PlacedLemmas.{IsPlacedRead, ReadsText, offset-within, scalar-placed, scalar-text}
+use Rattle.al_scalar.proofs.RestLemmas.{start-at}
+use Rattle.al_scalar.proofs.Standing.{Stand, lines-end}
+use Rattle.al_scalar.proofs.Utf8Lemmas.{lines-utf8}
 
 reach-inside : (b : Bool) (high end size : ℕ) → high ≤ size → end ≤ size → (if b then high else end) ≤ size
 reach-inside true high end size h k = h
@@ -28,11 +35,31 @@ from-placed high size s at a b h i l =
 pub from-empty : (size at : ℕ) → IsFrom size (empty_scalar at)
 from-empty size at i l = absurd (omega (arith, l))
 
-from-read : (bytes : List ℕ) (at : ℕ) (p : Context) (r : Result code.ScalarRead YamlFault) → GivesIn bytes at p r → LiesBehind bytes at r → IfOk r (λ x. IsFrom (length bytes) x.scalar)
-from-read bytes at p (Ok x) h k = from-placed x.next (length bytes) x.scalar x.span k.3 (omega (arith, k.2, k.3)) (placed-read bytes at p (Ok x) h k)
-from-read bytes at p (Err f) h k = tt
+-- what is read of a file
+pub record IsReadAt (bytes : List ℕ) (at : ℕ) (r : code.ScalarRead) : Type 0 where
+  pub placed : IsPlaced r.next r.scalar r.span
+  pub from : IsFrom (length bytes) r.scalar
+  pub utf8 : IsUtf8 (drop at bytes) → IsUtf8 (text_of r.scalar)
 
-pub from-ok : {E : Type 0} (bytes : List ℕ) (at : ℕ) (p : Context) (r : Result (Result code.ScalarRead YamlFault) E) → IfOk r (λ x. GivesIn bytes at p x) → IfOk r (λ x. LiesBehind bytes at x)
-    → IfOk r (λ x. IfOk x (λ y. IsFrom (length bytes) y.scalar))
-from-ok bytes at p (Ok x) h k = from-read bytes at p x h k
-from-ok bytes at p (Err e) h k = tt
+read-at : (bytes : List ℕ) (at : ℕ) (p : Context) (r : Result code.ScalarRead YamlFault) → GivesIn bytes at p r → LiesBehind bytes at r → IfOk r (IsReadAt bytes at)
+read-at bytes at p (Ok r) h k =
+    let size = at + length (drop at bytes) in
+    let ls = lines_at bytes at in
+    let lines : Stand size at ls = (lines-climb at (drop at bytes), lines-end size at (drop at bytes) (omega arith)) in
+    let read : IsPlacedRead size at (Ok (read_of bytes r)) = subst (IsPlacedRead size at) h (scalar-placed size p at ls lines) in
+    let placed : IsPlaced r.next r.scalar r.span = subst (λ high. IsPlaced high r.scalar r.span) (start-at bytes r.next k.3) read.0 in
+    record {
+      placed = placed;
+      from = from-placed r.next (length bytes) r.scalar r.span k.3 (omega (arith, k.2, k.3)) placed;
+      utf8 = λ u.
+          let text : ReadsText (read_of bytes r) =
+          subst (λ (x : Result ScalarRead FaultAt). IfOk x ReadsText) h (scalar-text size p at ls lines (lines-utf8 at (drop at bytes) u)) in
+          text.0;
+    }
+read-at bytes at p (Err f) h k = tt
+
+pub read-ok : {E : Type 0} (P : code.ScalarRead → Type 0) (bytes : List ℕ) (at : ℕ) (p : Context) (r : Result (Result code.ScalarRead YamlFault) E)
+    → ((x : code.ScalarRead) → IsReadAt bytes at x → P x) → IfOk r (λ x. GivesIn bytes at p x) → IfOk r (λ x. LiesBehind bytes at x) → IfOk r (λ x. IfOk x P)
+read-ok P bytes at p (Ok (Ok x)) f h k = f x (read-at bytes at p (Ok x) h k)
+read-ok P bytes at p (Ok (Err e)) f h k = tt
+read-ok P bytes at p (Err e) f h k = tt

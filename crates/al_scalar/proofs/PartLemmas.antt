@@ -1,6 +1,6 @@
 -- The parts of a quoted scalar's lines.
 use Rattle.std.proofs.Common.{◌≡◌, ◌≢◌, ℕ, zero, suc, ◌*◌, ◌-◌, ◌+◌, ◌≤◌, List, [], ◌∷◌, ◌++◌, length, map, refl, sym, ap, ◌∙◌, arith, append_assoc, Bool}
-use Rattle.std.proofs.Common.{true, false, ◌==◌, ◌&&◌, cond, inl, inr, Option, Some, None, Result, Ok, Err, encode_utf8}
+use Rattle.std.proofs.Common.{true, false, not, ◌==◌, ◌&&◌, cond, inl, inr, Option, Some, None, Result, Ok, Err, encode_utf8}
 use Rattle.std.proofs.lemmas.Grind.{common_steps}
 use Rattle.std.proofs.Math.Utf8.{encode}
 use Rattle.std.proofs.lemmas.Str.{length-encode, len_utf8_bounds}
@@ -17,6 +17,7 @@ use Rattle.std.specs.Map.{lookup}
 use Rattle.al_scalar.specs.LineEnds.{AreBlank, IsBlankByte}
 use Rattle.al_scalar.specs.Private.QuotedRead.{part_in, IsMarkByte}
 use Rattle.al_scalar.proofs.LineCells.{is_blank-yes, is_blank-no}
+use Rattle.al_scalar.proofs.OffsetLemmas.{choose, choose-option}
 use Rattle.al_scalar.proofs.QuotedLemmas.{is_nothing, gives_nothing}
 
 abbrev pub nothing : QuotedLine
@@ -130,53 +131,39 @@ some-after [] r h = cc
 some-after (c ∷ cs) (Ok p) h = refl
 some-after (c ∷ cs) (Err e) h = refl
 
-by-option : {A : Type 0} (P : A → Type 0) (o : Option ℕ) {x : A} {f : ℕ → A} → P x → ((n : ℕ) → P (f n)) → P (elim o [ None ↦ x | Some n ↦ f n ])
-by-option P None h k = h
-by-option P (Some n) h k = k n
-
 abbrev GivesSome : Result QuotedLine FaultAt → Type 0
 GivesSome r = gives_nothing r ≡ false
 
 character-some : (at code : ℕ) (rest : Result QuotedLine FaultAt) → GivesSome (escape_character at code rest)
-character-some at code rest = kind (is_scalar_value code)
-  where
-    kind : (x : Bool) → GivesSome (cond x (part_before (character_cells at code) rest) (fault yaml.WrongEscape at))
-    kind true = some-after (character_cells at code) rest (written-some at code)
-    kind false = refl
+character-some at code rest =
+    choose GivesSome (is_scalar_value code) (λ _. some-after (character_cells at code) rest (written-some at code)) (λ _. refl)
 
 digits-some : (at n v : ℕ) (cs : List Cell) → GivesSome (escape_digits at n v cs)
 digits-some at n v [] = refl
-digits-some at zero v (c ∷ cs) = by-option GivesSome (hex_digit c.0) refl (λ d. character-some at (16 * v + d) (double_part cs))
-digits-some at (suc n) v (c ∷ cs) = by-option GivesSome (hex_digit c.0) refl (λ d. digits-some at n (16 * v + d) cs)
+digits-some at zero v (c ∷ cs) = choose-option GivesSome (hex_digit c.0) refl (λ d _. character-some at (16 * v + d) (double_part cs))
+digits-some at (suc n) v (c ∷ cs) = choose-option GivesSome (hex_digit c.0) refl (λ d _. digits-some at n (16 * v + d) cs)
 
 escape-some : (at : ℕ) (cs : List Cell) → GivesSome (escape at cs)
 escape-some at [] = refl
 escape-some at (c ∷ cs) =
-    by-option GivesSome (lookup (λ k. k == c.0) escape_table)
-    (by-option GivesSome (lookup (λ k. k == c.0) digits_table) refl (λ width. digits-some at (width - 1) 0 cs))
-    (λ code. some-after (character_cells at code) (double_part cs) (written-some at code))
+    choose-option GivesSome (lookup (λ k. k == c.0) escape_table)
+    (choose-option GivesSome (lookup (λ k. k == c.0) digits_table) refl (λ width _. digits-some at (width - 1) 0 cs))
+    (λ code _. some-after (character_cells at code) (double_part cs) (written-some at code))
 
 double-some : (c : Cell) (cs : List Cell) → (IsBlankByte c.0 → ⊥) → GivesSome (double_part (c ∷ cs))
-double-some c cs h = kind (c.0 == 34) (c.0 == 92) refl refl
-  where
-    kind : (x y : Bool) → (c.0 == 34) ≡ x → (c.0 == 92) ≡ y → GivesSome (double_part (c ∷ cs))
-    kind true y e f = rw e refl
-    kind false true e f = rw (e, f) (escape-some c.1 cs)
-    kind false false e f = rw (e, f) (ap gives_nothing (own-byte c (double_part cs) h) ∙ some-after (c ∷ []) (double_part cs) refl)
+double-some c cs h =
+    choose GivesSome (c.0 == 34) (λ _. refl)
+    (λ _. choose GivesSome (c.0 == 92) (λ _. escape-some c.1 cs)
+    (λ _. ap gives_nothing (own-byte c (double_part cs) h) ∙ some-after (c ∷ []) (double_part cs) refl))
+
+own-solid : (c : Cell) (p : QuotedLine) → (IsBlankByte c.0 → ⊥) → is_nothing (with_own c p) ≡ false
+own-solid c p h = rw (is_blank-no c h) refl
 
 single-some : (c : Cell) (cs : List Cell) → (IsBlankByte c.0 → ⊥) → is_nothing (single_part (c ∷ cs)) ≡ false
-single-some c [] h = last_cell c (c.0 == 39) refl h
-  where
-    last_cell : (c : Cell) (x : Bool) → (c.0 == 39) ≡ x → (IsBlankByte c.0 → ⊥) → is_nothing (single_part (c ∷ [])) ≡ false
-    last_cell c true e h = rw e refl
-    last_cell c false e h = rw (e, is_blank-no c h) refl
-single-some c (d ∷ cs) h = two_cells c d cs (c.0 == 39) (d.0 == 39) refl refl h
-  where
-    two_cells : (c d : Cell) (cs : List Cell) (x y : Bool) → (c.0 == 39) ≡ x → (d.0 == 39) ≡ y → (IsBlankByte c.0 → ⊥)
-        → is_nothing (single_part (c ∷ d ∷ cs)) ≡ false
-    two_cells c d cs true true e f h = rw (e, f) refl
-    two_cells c d cs true false e f h = rw (e, f) refl
-    two_cells c d cs false y e f h = rw (e, is_blank-no c h) refl
+single-some c [] h = choose (λ (p : QuotedLine). is_nothing p ≡ false) (c.0 == 39) (λ _. refl) (λ _. own-solid c (single_part []) h)
+single-some c (d ∷ cs) h =
+    choose (λ (p : QuotedLine). is_nothing p ≡ false) (not (c.0 == 39)) (λ _. own-solid c (single_part (d ∷ cs)) h)
+    (λ _. choose (λ (p : QuotedLine). is_nothing p ≡ false) (d.0 == 39) (λ _. refl) (λ _. refl))
 
 -- what is no blank gives something
 pub part-some : (quotes : Quotes) (c : Cell) (cs : List Cell) → (IsBlankByte c.0 → ⊥) → gives_nothing (part_in quotes (c ∷ cs)) ≡ false

@@ -13,6 +13,7 @@ use Rattle.al_scalar.specs.Private.PlainLines.{is_blank_line, begins_blank_line,
 use Rattle.al_scalar.proofs.LineLemmas.{lines_at-other}
 use Rattle.al_scalar.proofs.LineCells.{has_line, lines_at-some, lines-at_end, run_at, never}
 use Rattle.al_scalar.proofs.FoldLemmas.{after_blanks-run, after_blanks-solid, before-two, cut-same}
+use Rattle.al_scalar.proofs.OffsetLemmas.{choose}
 use Rattle.al_scalar.proofs.RestLemmas.{text_kind, place-same}
 use Rattle.al_scalar.proofs.BlankLemmas.{after_blanks-none}
 
@@ -106,10 +107,6 @@ skip p here break es (l ∷ ls) =
 abbrev LastAlone : List Line → Type 0
 LastAlone ls = first_last ls ≡ true → later ls ≡ []
 
-alone-cond : (b : Bool) (xs ys : List Line) → LastAlone xs → LastAlone ys → LastAlone (cond b xs ys)
-alone-cond true xs ys h k = h
-alone-cond false xs ys h k = k
-
 alone-with_cell : (c : Cell) (ls : List Line) → LastAlone ls → LastAlone (with_cell c ls)
 alone-with_cell c [] h = λ e. refl
 alone-with_cell c (l ∷ ls) h = h
@@ -126,8 +123,8 @@ last-alone at [] = λ e. refl
 last-alone at (b ∷ bs) =
     let more = lines (at + 1) bs in
     let below = last-alone (at + 1) bs in
-    alone-cond (is_break b bs) (broken_line at ∷ more) (cond (b == 13) (with_return at more) (with_cell (b, at) more)) (alone-broken at more)
-    (alone-cond (b == 13) (with_return at more) (with_cell (b, at) more) (alone-with_return at more below) (alone-with_cell (b, at) more below))
+    choose LastAlone (is_break b bs) (λ _. alone-broken at more)
+    (λ _. choose LastAlone (b == 13) (λ _. alone-with_return at more below) (λ _. alone-with_cell (b, at) more below))
 
 -- ---- a line that doesn't continue the scalar
 

@@ -1,192 +1,211 @@
--- Offsets of a quoted scalar's text, and the lines left behind it.
-use Rattle.std.proofs.Common.{◌≡◌, ℕ, zero, suc, ◌*◌, ◌-◌, ◌+◌, ◌<◌, ◌≤◌, List, [], ◌∷◌, ◌++◌, length, map, refl, ap, arith, false}
-use Rattle.std.proofs.Common.{not, if◌then◌else◌, ◌&&◌, ◌==◌, Option, Some, None, Result, Ok, Err, encode_utf8}
-use Rattle.std.proofs.lemmas.Str.{length-encode, len_utf8_bounds}
+-- What is taken of lines as a quoted scalar, and the lines left behind it.
+use Rattle.std.proofs.Common.{◌≡◌, ℕ, zero, suc, ◌*◌, ◌-◌, ◌+◌, ◌<◌, ◌≤◌, List, [], ◌∷◌, ◌++◌, refl, sym, subst, arith, true, false}
+use Rattle.std.proofs.Common.{not, if◌then◌else◌, ◌&&◌, ◌==◌, nat_lt, Option, Some, None, Result, Ok, Err}
 use Rattle.std.proofs.lemmas.Bool.{and_parts, not-true}
+use Rattle.std.proofs.lemmas.Bool.Decides.{nat_tests}
+use Rattle.std.proofs.lemmas.Grind.{common_steps}
+use Rattle.std.proofs.Math.Utf8.{scalar}
+use Rattle.std.specs.Char.{IsScalar}
+use Rattle.std.specs.List.{list_all}
+use Rattle.std.specs.Map.{lookup}
 use Rattle.al_base.specs.Ascii.{ascii}
-use Rattle.al_scalar.specs.Line.{Cell, Line, is_blank, after_blanks, is_empty}
-use Rattle.al_scalar.specs.Offsets.{AreRising, AreClimbing, IsTail}
+use Rattle.al_scalar.specs.Line.{Cell, Line, place, cut, is_blank, after_blanks, is_empty}
+use Rattle.al_scalar.specs.Offsets.{AreClimbing}
 use Rattle.al_scalar.specs.Quoted.{QuotedLine, QuotedEnd, closed, broken, escaped, cut_short, is_broken, with_own, single_part}
 use Rattle.al_scalar.specs.Quoted.{escape_table, digits_table, is_scalar_value, character_cells, part_before, own_before}
-use Rattle.std.specs.Map.{lookup}
 use Rattle.al_scalar.specs.Quoted.{escape_character, escape_digits, hex_digit, escape, double_part, line_given, is_empty_line, quoted_lines, quoted_scalar, single_quoted}
 use Rattle.al_scalar.specs.Quoted.{double_quoted}
 use Rattle.al_scalar.specs.Taken.{Taken, ◌>>=◌, before, folding_space}
 use Rattle.al_scalar.specs.declared.faults.FaultAt.{FaultAt}
-use Rattle.al_scalar.proofs.OffsetLemmas.{IsFrom, choose, choose-option, from-none, from-one, from-join, from-wider, from-order, climbing-order, climbing-blanks}
-use Rattle.al_scalar.proofs.Standing.{EndIn, Stand, AreTaken, stand-later, taken-behind}
+use Rattle.al_scalar.proofs.CellsRead.{Reads, reads-none, reads-here, reads-kept, reads-left_out, reads-second, reads-written, reads-blanks, reads-line}
+use Rattle.al_scalar.proofs.OffsetLemmas.{choose, choose-option, climbing-blanks, climbing-order, climbing-lower}
+use Rattle.al_scalar.proofs.TakenLemmas.{IsFrom, AreLeft, AreTaken, from-none, from-ascii, from-join, from-wider, from-order, rest-behind, left-cut, left-first, left-later, taken-behind}
 
--- what a line gives, by how the scalar leaves it
-abbrev IsStop : ℕ → ℕ → List Cell → QuotedEnd → Type 0
-IsStop low end text (closed e rest) = IsFrom low e text × AreClimbing e end rest
-IsStop low end text (cut_short at) = IsFrom low end text × (at ≤ end)
-IsStop low end text _ = IsFrom low end text
+-- ---- what a line gives
 
-abbrev IsPart : ℕ → ℕ → QuotedLine → Type 0
-IsPart low end p = IsStop low end p.text p.stop
+-- an offset of one of the cells
+abbrev StandsIn : List Cell → ℕ → Type 0
+StandsIn cs at = (low end : ℕ) → AreClimbing low end cs → at ≤ end
 
-abbrev GivesPart : ℕ → ℕ → Result QuotedLine FaultAt → Type 0
-GivesPart low end (Ok p) = IsPart low end p
-GivesPart low end (Err e) = e.at ≤ end
+-- by how the scalar leaves it: a quote is ASCII
+abbrev Stops : List Cell → List Cell → QuotedEnd → Type 0
+Stops cs text (closed end rest) = (q : Cell) × (q.0 < 128) × (end ≡ q.1 + 1) × Reads cs text (q ∷ rest)
+Stops cs text (cut_short at) = Reads cs text [] × StandsIn cs at
+Stops cs text broken = Reads cs text []
+Stops cs text escaped = Reads cs text []
 
-stop-behind : (low mid end : ℕ) (cs text : List Cell) (s : QuotedEnd) → IsFrom low mid cs → IsStop mid end text s → IsStop low end (cs ++ text) s
-stop-behind low mid end cs text (closed e rest) h k = (from-join low mid e cs text h k.0, k.1)
-stop-behind low mid end cs text broken h k = from-join low mid end cs text h k
-stop-behind low mid end cs text escaped h k = from-join low mid end cs text h k
-stop-behind low mid end cs text (cut_short at) h k = (from-join low mid end cs text h k.0, k.1)
+abbrev GivesPart : List Cell → Result QuotedLine FaultAt → Type 0
+GivesPart cs (Ok p) = Stops cs p.text p.stop
+GivesPart cs (Err e) = StandsIn cs e.at
 
-stop-lower : (low low' end : ℕ) (text : List Cell) (s : QuotedEnd) → low' ≤ low → IsStop low end text s → IsStop low' end text s
-stop-lower low low' end text s a h = stop-behind low' low end [] text s (from-none low' low a) h
+stands-first : (c : Cell) (cs : List Cell) → StandsIn (c ∷ cs) c.1
+stands-first c cs low end h = let o = climbing-order (c.1 + 1) end cs h.1 in omega (arith, o)
 
-own-from : (low end : ℕ) (c : Cell) (p : QuotedLine) → low ≤ c.1 → IsPart (c.1 + 1) end p → IsPart low end (with_own c p)
-own-from low end c p a h =
-    choose (IsPart low end) (is_blank c && is_empty p.text && is_broken p.stop) (λ _. stop-lower (c.1 + 1) low end p.text p.stop (omega (arith, a)) h)
-    (λ _. stop-behind low (c.1 + 1) end (c ∷ []) p.text p.stop (from-one low (c.1 + 1) c.0 c.1 a (omega arith)) h)
+stands-more : (c : Cell) (cs : List Cell) (at : ℕ) → StandsIn cs at → StandsIn (c ∷ cs) at
+stands-more c cs at k low end h = k (c.1 + 1) end h.1
+
+-- what is read of some cells is read of others
+module _ {cs ds : List Cell} (stands : (at : ℕ) → StandsIn cs at → StandsIn ds at) where
+  stops-also : {text new : List Cell} (s : QuotedEnd) → ((rest : List Cell) → Reads cs text rest → Reads ds new rest) → Stops cs text s → Stops ds new s
+  stops-also (closed end rest) f h = (h.0, h.1, h.2, f (h.0 ∷ rest) h.3)
+  stops-also (cut_short at) f h = (f [] h.0, stands at h.1)
+  stops-also broken f h = f [] h
+  stops-also escaped f h = f [] h
+
+  gives-also : (r : Result QuotedLine FaultAt) → ((text rest : List Cell) → Reads cs text rest → Reads ds text rest) → GivesPart cs r → GivesPart ds r
+  gives-also (Ok p) f h = stops-also p.stop (f p.text) h
+  gives-also (Err e) f h = stands e.at h
+
+  gives-before : (ws : List Cell) (r : Result QuotedLine FaultAt) → ((text rest : List Cell) → Reads cs text rest → Reads ds (ws ++ text) rest)
+      → GivesPart cs r → GivesPart ds (part_before ws r)
+  gives-before ws (Ok p) f h = stops-also p.stop (f p.text) h
+  gives-before ws (Err e) f h = stands e.at h
+
+own-reads : (c : Cell) (cs : List Cell) (p : QuotedLine) → GivesPart cs (Ok p) → GivesPart (c ∷ cs) (Ok (with_own c p))
+own-reads c cs p h =
+    choose (λ (p : QuotedLine). GivesPart (c ∷ cs) (Ok p)) (is_blank c && is_empty p.text && is_broken p.stop)
+    (λ e. stops-also (stands-more c cs) p.stop (λ rest. reads-left_out c cs (grind (arith, nat_tests))) h)
+    (λ _. stops-also (stands-more c cs) p.stop (λ rest. reads-kept c cs) h)
+
+closed-reads : (c : Cell) (cs : List Cell) → c.0 < 128 → Stops (c ∷ cs) [] (closed (c.1 + 1) cs)
+closed-reads c cs a = (c, a, refl, reads-here c cs a)
 
 -- ---- single quotes
 
-single-from : (low end : ℕ) (cs : List Cell) → AreClimbing low end cs → IsPart low end (single_part cs)
-single-from low end [] h = from-none low end h
-single-from low end (c ∷ []) h =
-    let a = h.0 in
-    choose (IsPart low end) (c.0 == ascii "'") (λ _. (from-none low (c.1 + 1) (omega (arith, a)), h.1))
-    (λ _. own-from low end c (single_part []) a (from-none (c.1 + 1) end h.1))
-single-from low end (c ∷ d ∷ cs) h =
-    let pair = single_part cs in
-    let a = h.0 in
-    let b = h.1.0 in
-    choose (IsPart low end) (not (c.0 == ascii "'")) (λ _. own-from low end c (single_part (d ∷ cs)) a (single-from (c.1 + 1) end (d ∷ cs) h.1))
-    (λ _. choose (IsPart low end) (d.0 == ascii "'")
-    (λ _. stop-behind low (c.1 + 1) end (c ∷ []) pair.text pair.stop (from-one low (c.1 + 1) c.0 c.1 a (omega arith))
-    (stop-lower (d.1 + 1) (c.1 + 1) end pair.text pair.stop (omega (arith, b)) (single-from (d.1 + 1) end cs h.1.1)))
-    (λ _. (from-none low (c.1 + 1) (omega (arith, a)), h.1)))
+single-reads : (cs : List Cell) → GivesPart cs (Ok (single_part cs))
+single-reads [] = reads-none
+single-reads (c ∷ []) =
+    choose (λ (p : QuotedLine). GivesPart (c ∷ []) (Ok p)) (c.0 == ascii "'") (λ e. closed-reads c [] (grind (arith, nat_tests)))
+    (λ _. own-reads c [] (single_part []) (single-reads []))
+single-reads (c ∷ d ∷ cs) =
+    choose (λ (p : QuotedLine). GivesPart (c ∷ d ∷ cs) (Ok p)) (not (c.0 == ascii "'")) (λ _. own-reads c (d ∷ cs) (single_part (d ∷ cs)) (single-reads (d ∷ cs)))
+    (λ e. choose (λ (p : QuotedLine). GivesPart (c ∷ d ∷ cs) (Ok p)) (d.0 == ascii "'")
+    (λ f. stops-also (λ at k. stands-more c (d ∷ cs) at (stands-more d cs at k)) (single_part cs).stop
+    (λ rest h. reads-kept c (d ∷ cs) (reads-left_out d cs (grind (arith, nat_tests)) h)) (single-reads cs))
+    (λ _. closed-reads c (d ∷ cs) (grind (arith, nat_tests))))
 
 -- ---- double quotes
 
-at-one : (at : ℕ) (bs : List ℕ) → AreRising at (at + 1) (map (λ b. (b, at)) bs)
-at-one at [] = omega arith
-at-one at (b ∷ bs) = (omega arith, omega arith, at-one at bs)
+-- in a table whose keys are ASCII and whose values are characters
+found : (b x : ℕ) (es : List (ℕ × ℕ)) → list_all (λ e. nat_lt e.0 128 && scalar e.1) es ≡ true → lookup (λ k. k == b) es ≡ Some x
+    → (b < 128) × IsScalar x
+found b x [] h f = absurd cc
+found b x (e ∷ es) h f = grind (arith, nat_tests, common_steps, found b x es)
 
-length-at : (at : ℕ) (bs : List ℕ) → length {A = Cell} (map (λ b. (b, at)) bs) ≡ length bs
-length-at at [] = refl
-length-at at (b ∷ bs) = ap suc (length-at at bs)
+digit-ascii : (b d : ℕ) → hex_digit b ≡ Some d → b < 128
+digit-ascii b d e = grind (arith, common_steps, e)
 
-written-from : (low at code : ℕ) → low ≤ at → IsFrom low (at + 1) (character_cells at code)
-written-from low at code a =
-    from-wider at (at + 1) low (at + 1) (character_cells at code) a (omega arith)
-    (record { rising = at-one at (encode_utf8 code); size = omega (arith, length-at at (encode_utf8 code), length-encode code, len_utf8_bounds code) })
+own-both : (c : Cell) (cs : List Cell) (r : Result QuotedLine FaultAt) → GivesPart cs r → GivesPart (c ∷ cs) (own_before c r)
+own-both c cs (Ok p) h = own-reads c cs p h
+own-both c cs (Err e) h = stands-more c cs e.at h
 
-part-behind : (low mid end : ℕ) (cs : List Cell) (r : Result QuotedLine FaultAt) → IsFrom low mid cs → GivesPart mid end r → GivesPart low end (part_before cs r)
-part-behind low mid end cs (Ok p) h k = stop-behind low mid end cs p.text p.stop h k
-part-behind low mid end cs (Err e) h k = k
+-- behind the backslash c
+module _ (c : Cell) (a : c.0 < 128) (d : Cell) (cs : List Cell) (b : d.0 < 128) where
+  second : (r : Result QuotedLine FaultAt) → GivesPart (c ∷ cs) r → GivesPart (c ∷ d ∷ cs) r
+  second r h =
+      let stands : (at : ℕ) → StandsIn (c ∷ cs) at → StandsIn (c ∷ d ∷ cs) at =
+      λ at k low end o. k low end (o.0, climbing-lower (d.1 + 1) (c.1 + 1) end cs (omega (arith, o.1.0)) o.1.1) in
+      gives-also stands r (λ text rest. reads-second c d cs a b) h
 
-own-behind : (low end : ℕ) (c : Cell) (r : Result QuotedLine FaultAt) → low ≤ c.1 → GivesPart (c.1 + 1) end r → GivesPart low end (own_before c r)
-own-behind low end c (Ok p) a k = own-from low end c p a k
-own-behind low end c (Err e) a k = k
-
-character-from : (low end at code : ℕ) (behind : Result QuotedLine FaultAt) → low ≤ at → at ≤ end → GivesPart (at + 1) end behind
-    → GivesPart low end (escape_character at code behind)
-character-from low end at code behind a b h =
-    choose (GivesPart low end) (is_scalar_value code) (λ _. part-behind low (at + 1) end (character_cells at code) behind (written-from low at code a) h) (λ _. b)
-
-gives-lower : (low low' end : ℕ) (r : Result QuotedLine FaultAt) → low' ≤ low → GivesPart low end r → GivesPart low' end r
-gives-lower low low' end (Ok p) a h = stop-lower low low' end p.text p.stop a h
-gives-lower low low' end (Err e) a h = h
+  character-reads : (code : ℕ) → IsScalar code → (r : Result QuotedLine FaultAt) → GivesPart cs r → GivesPart (c ∷ d ∷ cs) (part_before (character_cells c.1 code) r)
+  character-reads code v r h =
+      gives-before (λ at k. stands-more c (d ∷ cs) at (stands-more d cs at k)) (character_cells c.1 code) r
+      (λ text rest k. reads-second c d cs a b (reads-written c cs code a v k)) h
 
 mutual
-  double-from : (low end : ℕ) (cs : List Cell) → AreClimbing low end cs → GivesPart low end (double_part cs)
-  double-from low end [] h = from-none low end h
-  double-from low end (c ∷ cs) h =
-      let a = h.0 in
-      choose (GivesPart low end) (c.0 == ascii "\"") (λ _. (from-none low (c.1 + 1) (omega (arith, a)), h.1))
-      (λ _. choose (GivesPart low end) (c.0 == ascii "\\") (λ _. escape-from low end c.1 cs a h.1)
-      (λ _. own-behind low end c (double_part cs) a (double-from (c.1 + 1) end cs h.1)))
+  double-reads : (cs : List Cell) → GivesPart cs (double_part cs)
+  double-reads [] = reads-none
+  double-reads (c ∷ cs) =
+      choose (GivesPart (c ∷ cs)) (c.0 == ascii "\"") (λ e. closed-reads c cs (grind (arith, nat_tests)))
+      (λ _. choose (GivesPart (c ∷ cs)) (c.0 == ascii "\\") (λ e. escape-reads c (grind (arith, nat_tests)) cs)
+      (λ _. own-both c cs (double_part cs) (double-reads cs)))
 
-  escape-from : (low end at : ℕ) (cs : List Cell) → low ≤ at → AreClimbing (at + 1) end cs → GivesPart low end (escape at cs)
-  escape-from low end at [] a h = from-none low end (omega (arith, a, h))
-  escape-from low end at (c ∷ cs) a h =
-      let b = h.0 in
-      let o = climbing-order (c.1 + 1) end cs h.1 in
-      choose-option (GivesPart low end) (lookup (λ k. k == c.0) escape_table)
-      (choose-option (GivesPart low end) (lookup (λ k. k == c.0) digits_table) (omega (arith, b, o))
-      (λ width _. digits-from low end at (c.1 + 1) (width - 1) 0 cs a (omega (arith, b)) h.1))
-      (λ code _. part-behind low (at + 1) end (character_cells at code) (double_part cs) (written-from low at code a)
-      (gives-lower (c.1 + 1) (at + 1) end (double_part cs) (omega (arith, b)) (double-from (c.1 + 1) end cs h.1)))
+  escape-reads : (c : Cell) → c.0 < 128 → (cs : List Cell) → GivesPart (c ∷ cs) (escape c.1 cs)
+  escape-reads c a [] = reads-left_out c [] a reads-none
+  escape-reads c a (d ∷ cs) =
+      choose-option (GivesPart (c ∷ d ∷ cs)) (lookup (λ k. k == d.0) escape_table)
+      (choose-option (GivesPart (c ∷ d ∷ cs)) (lookup (λ k. k == d.0) digits_table) (stands-first c (d ∷ cs))
+      (λ width e. second c a d cs (found d.0 width digits_table refl e).0 (escape_digits c.1 (width - 1) 0 cs) (digits-reads c a (width - 1) 0 cs)))
+      (λ code e. character-reads c a d cs (found d.0 code escape_table refl e).0 code (found d.0 code escape_table refl e).1 (double_part cs) (double-reads cs))
 
-  digits-from : (low end at from n v : ℕ) (cs : List Cell) → low ≤ at → at < from → AreClimbing from end cs → GivesPart low end (escape_digits at n v cs)
-  digits-from low end at from n v [] a b h = (from-none low end (omega (arith, a, b, h)), omega (arith, b, h))
-  digits-from low end at from zero v (c ∷ cs) a b h =
-      let o = h.0 in
-      let in_line : at ≤ end = let k = climbing-order (c.1 + 1) end cs h.1 in omega (arith, b, o, k) in
-      choose-option (GivesPart low end) (hex_digit c.0) in_line
-      (λ d _. character-from low end at (16 * v + d) (double_part cs) a in_line
-      (gives-lower (c.1 + 1) (at + 1) end (double_part cs) (omega (arith, b, o)) (double-from (c.1 + 1) end cs h.1)))
-  digits-from low end at from (suc n) v (c ∷ cs) a b h =
-      let o = h.0 in
-      let k = climbing-order (c.1 + 1) end cs h.1 in
-      choose-option (GivesPart low end) (hex_digit c.0) (omega (arith, b, o, k))
-      (λ d _. digits-from low end at (c.1 + 1) n (16 * v + d) cs a (omega (arith, b, o)) h.1)
+  digits-reads : (c : Cell) → c.0 < 128 → (n v : ℕ) (cs : List Cell) → GivesPart (c ∷ cs) (escape_digits c.1 n v cs)
+  digits-reads c a n v [] = (reads-left_out c [] a reads-none, stands-first c [])
+  digits-reads c a zero v (d ∷ cs) =
+      choose-option (GivesPart (c ∷ d ∷ cs)) (hex_digit d.0) (stands-first c (d ∷ cs))
+      (λ x e. choose (GivesPart (c ∷ d ∷ cs)) (is_scalar_value (16 * v + x))
+      (λ s. character-reads c a d cs (digit-ascii d.0 x e) (16 * v + x) (grind (arith, nat_tests)) (double_part cs) (double-reads cs)) (λ _. stands-first c (d ∷ cs)))
+  digits-reads c a (suc n) v (d ∷ cs) =
+      choose-option (GivesPart (c ∷ d ∷ cs)) (hex_digit d.0) (stands-first c (d ∷ cs))
+      (λ x e. second c a d cs (digit-ascii d.0 x e) (escape_digits c.1 n (16 * v + x) cs) (digits-reads c a n (16 * v + x) cs))
 
 -- ---- lines
 
 abbrev PartReader : (List Cell → Result QuotedLine FaultAt) → Type 0
-PartReader part = (low end : ℕ) (cs : List Cell) → AreClimbing low end cs → GivesPart low end (part cs)
+PartReader part = (cs : List Cell) → GivesPart cs (part cs)
 
-module _ (size quote : ℕ) (q : quote ≤ size) where
-  -- what a line takes, and the lines behind it
-  given-from : (low mid : ℕ) (space : List Cell) (p : QuotedLine) (l : Line) (ls : List Line) (below : Option ℕ → Result Taken FaultAt)
-      → IsFrom low mid space → IsPart mid l.end p → IsTail l.end l.last ls → EndIn size (l ∷ ls)
-      → (l.last ≡ false → (b : Option ℕ) → IsFrom l.end (l.end + 1) (folding_space b) → AreTaken size l.end (below b))
-      → AreTaken size low (line_given quote space p l ls below)
-  given-from low mid space p l ls below h k t u more = by-stop p.stop k
-    where
-      by-stop : (s : QuotedEnd) → IsStop mid l.end p.text s → AreTaken size low (line_given quote space (record { text = p.text; stop = s }) l ls below)
-      by-stop (closed e rest) k = (from-join low mid e space p.text h k.0, ((k.1, t), u))
-      by-stop (cut_short at) k = choose (AreTaken size low) l.last (λ _. q) (λ _. let a = k.1 in let b = u.0 in omega (arith, a, b))
-      by-stop broken k = choose (AreTaken size low) l.last (λ _. q)
-          (λ e. taken-behind size low l.end (space ++ p.text) _ (from-join low mid l.end space p.text h k)
-          (more e (Some l.end) (from-one l.end (l.end + 1) (ascii " ") l.end (omega arith) (omega arith))))
-      by-stop escaped k = choose (AreTaken size low) l.last (λ _. q)
-          (λ e. taken-behind size low l.end (space ++ p.text) _ (from-join low mid l.end space p.text h k)
-          (more e None (from-none l.end (l.end + 1) (omega arith))))
-
+module _ (size : ℕ) (U : Type 0) (quote : ℕ) (q : quote ≤ size) where
   -- what is taken behind a line
   abbrev LinesReader : (Option ℕ → Result Taken FaultAt) → List Line → Type 0
-  LinesReader below ls = (low mid : ℕ) (b : Option ℕ) → IsFrom low mid (folding_space b) → Stand size mid ls → AreTaken size low (below b)
+  LinesReader below ls = (low mid : ℕ) (b : Option ℕ) → IsFrom U low mid (folding_space b) → AreLeft size U mid ls → AreTaken size U low (below b)
 
-  line-from : (low mid : ℕ) (break : Option ℕ) (l : Line) (ls : List Line) (below : Option ℕ → Result Taken FaultAt)
-      → IsFrom low mid (folding_space break) → Stand size mid (l ∷ ls) → LinesReader below ls
-      → (r : Result QuotedLine FaultAt) → GivesPart mid l.end r
-      → AreTaken size low (r >>= (λ p. if is_empty_line p l then before ((ascii "\n", l.end) ∷ []) (below None) else line_given quote (folding_space break) p l ls below))
-  line-from low mid break l ls below h k more (Err e) r = let a = k.1.0 in omega (arith, r, a)
-  line-from low mid break l ls below h k more (Ok p) r =
-      let order = from-order low mid (folding_space break) h in
-      let line = climbing-order mid l.end l.text k.0.0 in
-      choose (AreTaken size low) (is_empty_line p l)
-      (λ e. taken-behind size low (l.end + 1) ((ascii "\n", l.end) ∷ []) (below None) (from-one low (l.end + 1) (ascii "\n") l.end (omega (arith, order, line)) (omega arith))
-      (more (l.end + 1) (l.end + 1) None (from-none (l.end + 1) (l.end + 1) (omega arith))
-      (stand-later size mid l ls (not-true l.last (and_parts (is_empty p.text && is_broken p.stop) (not l.last) e).1) k)))
-      (λ _. given-from low mid (folding_space break) p l ls below h r k.0.1 k.1 (λ e b f. more l.end (l.end + 1) b f (stand-later size mid l ls e k)))
+  module _ (l : Line) (ls : List Line) (below : Option ℕ → Result Taken FaultAt) (more : LinesReader below ls) where
+    -- what a line takes, and the lines behind it
+    given-from : (low mid : ℕ) (space : List Cell) (p : QuotedLine) → IsFrom U low mid space → AreLeft size U mid (l ∷ ls) → GivesPart l.text (Ok p)
+        → AreTaken size U low (line_given quote space p l ls below)
+    given-from low mid space p h k g = by-stop p.stop g
+      where
+        goes_on : (b : Option ℕ) → IsFrom U l.end (l.end + 1) (folding_space b) → Reads l.text p.text [] → l.last ≡ false
+            → AreTaken size U low (before (space ++ p.text) (below b))
+        goes_on b f r e = taken-behind size (below b) (from-join h (reads-line l ls r k).0) (more l.end (l.end + 1) b f (left-later e k))
 
-  lines-from : (part : List Cell → Result QuotedLine FaultAt) → PartReader part → (low mid : ℕ) (break : Option ℕ) (ls : List Line)
-      → IsFrom low mid (folding_space break) → Stand size mid ls → AreTaken size low (quoted_lines part quote break ls)
-  lines-from part r low mid break [] h k = q
-  lines-from part r low mid break (l ∷ ls) h k =
-      line-from low mid break l ls (λ b. quoted_lines part quote b ls) h k (λ low mid b f g. lines-from part r low mid b ls f g)
-      (part (after_blanks l.text)) (r mid l.end (after_blanks l.text) (climbing-blanks mid l.end l.text k.0.0))
+        by-stop : (s : QuotedEnd) → Stops l.text p.text s → AreTaken size U low (line_given quote space (record { text = p.text; stop = s }) l ls below)
+        by-stop (closed end rest) g =
+            let read : IsFrom U mid g.0.1 p.text × AreLeft size U g.0.1 (cut (g.0 ∷ rest) l ls) = reads-line l ls g.3 k in
+            subst (λ (end : ℕ). AreTaken size U low (Ok (record { text = space ++ p.text; end = end; left = cut rest l ls }))) (sym g.2)
+            (from-join h (from-wider (omega arith) (omega arith) read.0),
+            left-cut (rest-behind g.1 (left-first read.1)) k)
+        by-stop (cut_short at) g = choose (AreTaken size U low) l.last (λ _. q)
+            (λ _. let a = g.1 mid l.end k.stand.0.0 in let b = k.stand.1.0 in omega (arith, a, b))
+        by-stop broken g = choose (AreTaken size U low) l.last (λ _. q) (goes_on (Some l.end) (from-ascii (omega arith) (omega arith)) g)
+        by-stop escaped g = choose (AreTaken size U low) l.last (λ _. q) (goes_on None (from-none (omega arith)) g)
 
-  quoted-from : (part : List Cell → Result QuotedLine FaultAt) → PartReader part → (low : ℕ) (ls : List Line) → Stand size low ls
-      → AreTaken size low (quoted_scalar part quote ls)
-  quoted-from part r low [] k = q
-  quoted-from part r low (l ∷ ls) k = by-part (part l.text) (r low l.end l.text k.0.0)
-    where
-      by-part : (r : Result QuotedLine FaultAt) → GivesPart low l.end r → AreTaken size low (r >>= (λ p. line_given quote [] p l ls (λ b. quoted_lines part quote b ls)))
-      by-part (Err e) g = let a = k.1.0 in omega (arith, g, a)
-      by-part (Ok p) g = given-from low low [] p l ls (λ b. quoted_lines part quote b ls) (from-none low low (omega arith)) g k.0.1 k.1
-          (λ e b f. lines-from part r l.end (l.end + 1) b ls f (stand-later size low l ls e k))
+    line-fault : (low at : ℕ) → AreLeft size U low (l ∷ ls) → StandsIn l.text at → at ≤ size
+    line-fault low at k g = let a = g low l.end k.stand.0.0 in let b = k.stand.1.0 in omega (arith, a, b)
 
-  pub single_quoted-from : (low : ℕ) (ls : List Line) → Stand size low ls → AreTaken size low (single_quoted quote ls)
-  single_quoted-from low ls h = quoted-from (λ text. Ok (single_part text)) (λ low end cs k. single-from low end cs k) low ls h
+    line-from : (low mid : ℕ) (break : Option ℕ) → IsFrom U low mid (folding_space break) → AreLeft size U mid (l ∷ ls)
+        → (r : Result QuotedLine FaultAt) → GivesPart l.text r
+        → AreTaken size U low (r >>= (λ p. if is_empty_line p l then before ((ascii "\n", l.end) ∷ []) (below None) else line_given quote (folding_space break) p l ls below))
+    line-from low mid break h k (Err e) g = line-fault mid e.at k g
+    line-from low mid break h k (Ok p) g =
+        let order = from-order h in
+        let line = climbing-order mid l.end l.text k.stand.0.0 in
+        let feed : IsFrom U low (l.end + 1) ((ascii "\n", l.end) ∷ []) = from-ascii (omega arith) (omega (arith, order, line)) in
+        choose (AreTaken size U low) (is_empty_line p l)
+        (λ e. taken-behind size (below None) feed (more (l.end + 1) (l.end + 1) None (from-none (omega arith))
+        (left-later (not-true l.last (and_parts (is_empty p.text && is_broken p.stop) (not l.last) e).1) k)))
+        (λ _. given-from low mid (folding_space break) p h k g)
 
-  pub double_quoted-from : (low : ℕ) (ls : List Line) → Stand size low ls → AreTaken size low (double_quoted quote ls)
-  double_quoted-from low ls h = quoted-from double_part double-from low ls h
+    first-from : (low : ℕ) → AreLeft size U low (l ∷ ls) → (r : Result QuotedLine FaultAt) → GivesPart l.text r
+        → AreTaken size U low (r >>= (λ p. line_given quote [] p l ls below))
+    first-from low k (Err e) g = line-fault low e.at k g
+    first-from low k (Ok p) g = given-from low low [] p (from-none (omega arith)) k g
+
+  module _ (part : List Cell → Result QuotedLine FaultAt) (reads : PartReader part) where
+    lines-from : (low mid : ℕ) (break : Option ℕ) (ls : List Line) → IsFrom U low mid (folding_space break) → AreLeft size U mid ls
+        → AreTaken size U low (quoted_lines part quote break ls)
+    lines-from low mid break [] h k = q
+    lines-from low mid break (l ∷ ls) h k =
+        let text = after_blanks l.text in
+        line-from l ls (λ b. quoted_lines part quote b ls) (λ low mid b f g. lines-from low mid b ls f g) low mid break h k (part text)
+        (gives-also (λ at g low end o. g low end (climbing-blanks low end l.text o)) (part text) (λ text rest. reads-blanks l.text) (reads text))
+
+    quoted-from : (low : ℕ) (ls : List Line) → AreLeft size U low ls → AreTaken size U low (quoted_scalar part quote ls)
+    quoted-from low [] k = q
+    quoted-from low (l ∷ ls) k =
+        first-from l ls (λ b. quoted_lines part quote b ls) (λ low mid b f g. lines-from low mid b ls f g) low k (part l.text) (reads l.text)
+
+  pub single_quoted-from : (low : ℕ) (ls : List Line) → AreLeft size U low ls → AreTaken size U low (single_quoted quote ls)
+  single_quoted-from low ls h = quoted-from (λ text. Ok (single_part text)) single-reads low ls h
+
+  pub double_quoted-from : (low : ℕ) (ls : List Line) → AreLeft size U low ls → AreTaken size U low (double_quoted quote ls)
+  double_quoted-from low ls h = quoted-from double_part double-reads low ls h

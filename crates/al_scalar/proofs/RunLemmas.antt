@@ -1,9 +1,10 @@
 -- Runs of offsets, and the cells that they stand for.
-use Rattle.std.proofs.Common.{◌≡◌, ◌==◌, ℕ, zero, suc, ◌+◌, ◌-◌, ◌^◌, ◌<◌, ◌≤◌, List, [], ◌∷◌, ◌++◌, length, get_or, refl, sym, ap, subst}
+use Rattle.std.proofs.Common.{◌≡◌, ◌==◌, ℕ, zero, suc, ◌+◌, ◌-◌, ◌^◌, ◌<◌, ◌≤◌, List, [], ◌∷◌, ◌++◌, length, length-append, get_or, refl, sym, ap, subst}
 use Rattle.std.proofs.Common.{◌∙◌, arith, Bool, true, false, not, cond, map, take, drop, drop-cons, slice_range, slice_index}
 use Rattle.std.proofs.Math.Seq.{take-suc}
 use Rattle.std.proofs.lemmas.Grind.{common_steps}
 use Rattle.std.proofs.lemmas.Bool.{not-false}
+use Rattle.std.proofs.lemmas.List.{take_all}
 use Rattle.al_scalar.specs.Line.{Cell}
 use Rattle.al_scalar.specs.LineEnds.{cells_at, cells_between}
 use Rattle.al_scalar.specs.Private.Segments.{first_run, offset_in, offset_after, offset_from, offset_at, cells_from, AreBehind, AreFrom, IsRising, IsOrdered, GoesOn, AreInRange, run_cells}
@@ -168,15 +169,11 @@ pub AreInRange-escape : (ds : List ℕ) (at : ℕ) → at < 2 ^ 32 → AreInRang
 AreInRange-escape [] at h = tt
 AreInRange-escape (d ∷ ds) at h = (h, AreInRange-escape ds at h)
 
-length-two : (bs ds : List ℕ) → length bs ≤ length (bs ++ ds)
-length-two [] ds = omega arith
-length-two (b ∷ bs) ds = let below = length-two bs ds in omega (arith, below)
-
 pub pushed-kept : (old run : List Cell) (bs ds new : List ℕ) (ss ss' : List Segment) (n : ℕ) → n ≡ length bs → new ≡ bs ++ ds
     → cells_from 0 bs ss ≡ old → AreInRange (cells_from 0 bs ss) → AreInRange run
     → IsOrdered n ss' → cells_from 0 new ss' ≡ old ++ run → IsOrdered (length new) ss' × AreInRange (cells_from 0 new ss')
 pushed-kept old run bs ds new ss ss' n e f g p q b t =
-    let long : length bs ≤ length new = subst (λ xs. length bs ≤ length xs) (sym f) (length-two bs ds) in
+    let long : length bs ≤ length new = subst (λ xs. length bs ≤ length xs) (sym f) (omega (arith, length-append bs ds)) in
     ((AreBehind-up n (length new) ss' b.0 (omega (arith, long, e)), b.1), subst AreInRange (sym t) (AreInRange-two old run (subst AreInRange g p) q))
 
 -- ---- the search for the last run
@@ -202,12 +199,8 @@ pub search-below : (found : ℕ) (d : Segment) (ss : List Segment) (high middle 
     → offset_from found ss i ≡ offset_from found (take middle ss) i
 search-below found d ss high middle i r h o l e = e ∙ cut-from found high middle i d ss r h (omega (arith, o)) (omega (arith, o, l))
 
-take-all : (ss : List Segment) → take (length ss) ss ≡ ss
-take-all [] = refl
-take-all (s ∷ ss) = ap (λ xs. s ∷ xs) (take-all ss)
-
 pub search-all : (found : ℕ) (ss : List Segment) (i count : ℕ) → count ≡ length ss → offset_from found ss i ≡ offset_from found (take count ss) i
-search-all found ss i count e = ap (λ xs. offset_from found xs i) (sym (ap (λ n. take n ss) e ∙ take-all ss))
+search-all found ss i count e = ap (λ xs. offset_from found xs i) (sym (take_all count ss (omega (arith, e))))
 
 pub search-none : (found : ℕ) (ss : List Segment) (i low : ℕ) → low ≡ 0 → offset_from found ss i ≡ offset_from found (take low ss) i → found ≡ offset_from found ss i
 search-none found ss i low z e = sym (e ∙ ap (λ n. offset_from found (take n ss) i) z)

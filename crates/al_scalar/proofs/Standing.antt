@@ -1,11 +1,9 @@
--- Lines that stand behind an offset, in a file of so many bytes; what is taken of them, and what is left.
-use Rattle.std.proofs.Common.{◌≡◌, ℕ, ◌+◌, ◌≤◌, List, [], ◌∷◌, length, refl, arith, false, ◌==◌, Result, Ok, Err}
+-- Lines that stand behind an offset, in a file of so many bytes.
+use Rattle.std.proofs.Common.{◌≡◌, ℕ, ◌+◌, ◌≤◌, List, [], ◌∷◌, length, refl, arith, false, ◌==◌}
 use Rattle.al_scalar.specs.Block.{at_end}
 use Rattle.al_scalar.specs.Line.{Cell, Line, lines, place, start, cut, is_break, with_cell, with_return}
 use Rattle.al_scalar.specs.Offsets.{AreClimbing, AreLines}
-use Rattle.al_scalar.specs.Taken.{Taken, before}
-use Rattle.al_scalar.specs.declared.faults.FaultAt.{FaultAt}
-use Rattle.al_scalar.proofs.OffsetLemmas.{IsFrom, choose, from-join, climbing-order, climbing-lower, climbing-place, tail-lines, lines-start}
+use Rattle.al_scalar.proofs.OffsetLemmas.{choose, climbing-order, climbing-lower, climbing-place, tail-lines, lines-start}
 
 pub place-end : (low end : ℕ) (cs : List Cell) → AreClimbing low end cs → place cs end ≤ end
 place-end low end cs h = climbing-order (place cs end) end cs (climbing-place low end cs h).1
@@ -70,14 +68,3 @@ module _ (size : ℕ) where
       let here : at ≤ size = omega (arith, a) in
       choose EndIn (is_break b bs) (λ _. (here, more))
       (λ _. choose EndIn (b == 13) (λ _. end-return at (lines (at + 1) bs) here more) (λ _. end-cell (b, at) (lines (at + 1) bs) more))
-
-  -- ---- what is taken
-
-  -- what was taken comes from between an offset and its end, behind which what is left stands; a fault lies in the file
-  abbrev pub AreTaken : ℕ → Result Taken FaultAt → Type 0
-  AreTaken low (Ok t) = IsFrom low t.end t.text × Stand t.end t.left
-  AreTaken low (Err e) = e.at ≤ size
-
-  pub taken-behind : (low mid : ℕ) (cs : List Cell) (r : Result Taken FaultAt) → IsFrom low mid cs → AreTaken mid r → AreTaken low (before cs r)
-  taken-behind low mid cs (Ok t) h k = (from-join low mid t.end cs t.text h k.0, k.1)
-  taken-behind low mid cs (Err e) h k = k

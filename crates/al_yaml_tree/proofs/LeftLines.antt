@@ -14,7 +14,7 @@ use Rattle.al_scalar.specs.declared.faults.FaultAt.{FaultAt}
 use Rattle.al_scalar.proofs.BlockOffsets.{behind-indicator}
 use Rattle.al_scalar.proofs.OffsetLemmas.{choose, climbing-order, climbing-blanks, climbing-drop}
 use Rattle.al_scalar.proofs.Standing.{Stand, stand-lower, stand-start, start-behind, start-in, stand-cut, stand-later, stand-at_end}
-use Rattle.al_scalar.proofs.TextLemmas.{ReadsText, scalar-text}
+use Rattle.al_scalar.proofs.PlacedLemmas.{ReadsText, scalar-text}
 use Rattle.al_scalar.proofs.Utf8Lemmas.{AreUtf8, keeps-blanks}
 use Rattle.al_scalar.proofs.Utf8Texts.{IsText, behind-text}
 use Rattle.al_yaml_tree.specs.Content.{Next, ended, at_line, is_skipped, text_line, is_file_end, content_line, content, ends_line, line_ended, whole_lines, behind}
@@ -147,7 +147,7 @@ module _ {f : File} where
   -- ---- scalars
 
   pub scalar-read : (p : Context) (low : ℕ) (ls : List Line) → AreLeft f low ls → Answers f.size (IsRead f low) (scalar_at p ls)
-  scalar-read p low ls h = both-read f low (scalar_at p ls) (scalar-in f.size p low ls h.stand) (λ u. scalar-text p ls (h.utf8 u))
+  scalar-read p low ls h = both-read f low (scalar_at p ls) (scalar-in f.size p low ls h.stand) (λ u. scalar-text f.size p low ls h.stand (h.utf8 u))
 
   -- ---- content lines
 

@@ -1,0 +1,120 @@
+-- What is taken of lines comes from between two offsets, which leave room for it, and is UTF-8 where the file is; so is what is left.
+use Rattle.std.proofs.Common.{◌≡◌, ℕ, ◌+◌, ◌*◌, ◌<◌, ◌≤◌, List, [], ◌∷◌, ◌++◌, length, length-append, sym, ap, subst, arith, refl, false, Result, Ok, Err}
+use Rattle.std.proofs.lemmas.Str.{IsUtf8-nil}
+use Rattle.al_base.specs.Ascii.{ascii}
+use Rattle.al_scalar.specs.Block.{at_end}
+use Rattle.al_scalar.specs.Line.{Cell, Line, cut, start}
+use Rattle.al_scalar.specs.Offsets.{AreClimbing, AreRising}
+use Rattle.al_scalar.specs.Taken.{Taken, before, feeds, folded_break}
+use Rattle.al_scalar.specs.declared.faults.FaultAt.{FaultAt}
+use Rattle.al_scalar.proofs.OffsetLemmas.{climbing-lower, climbing-order, rising-order, rising-lower, rising-higher, rising-join}
+use Rattle.al_scalar.proofs.Standing.{Stand, stand-cut, stand-lower, stand-start, stand-later, stand-at_end}
+use Rattle.al_scalar.proofs.Utf8Lemmas.{AreUtf8, bytes_of, split-behind}
+use Rattle.al_scalar.proofs.Utf8Texts.{IsText, text-join, one-ascii}
+
+-- cells from between two offsets; U says that the file is UTF-8
+pub record IsFrom (U : Type 0) (low high : ℕ) (cs : List Cell) : Type 0 where
+  pub rising : AreRising low high cs
+  pub size : length cs + 4 * low ≤ 4 * high
+  pub text : U → IsText cs
+
+-- what is left of a line
+pub record IsRest (U : Type 0) (low end : ℕ) (cs : List Cell) : Type 0 where
+  pub climbing : AreClimbing low end cs
+  pub text : U → IsText cs
+
+-- lines that are left, in a file of so many bytes
+pub record AreLeft (size : ℕ) (U : Type 0) (low : ℕ) (ls : List Line) : Type 0 where
+  pub stand : Stand size low ls
+  pub utf8 : U → AreUtf8 ls
+
+-- what was taken comes from between an offset and its end, behind which what is left stands; a fault lies in the file
+abbrev pub AreTaken : ℕ → Type 0 → ℕ → Result Taken FaultAt → Type 0
+AreTaken size U low (Ok t) = IsFrom U low t.end t.text × AreLeft size U t.end t.left
+AreTaken size U low (Err e) = e.at ≤ size
+
+module _ {U : Type 0} where
+  -- ---- cells
+
+  pub from-order : {low high : ℕ} {cs : List Cell} → IsFrom U low high cs → low ≤ high
+  from-order {low} {high} {cs} h = rising-order low high cs h.rising
+
+  pub from-join : {low mid high : ℕ} {xs ys : List Cell} → IsFrom U low mid xs → IsFrom U mid high ys → IsFrom U low high (xs ++ ys)
+  from-join {low} {mid} {high} {xs} {ys} h k = record {
+    rising = rising-join low mid high xs ys h.rising k.rising;
+    size = omega (arith, length-append xs ys, h.size, k.size);
+    text = λ u. text-join xs ys (h.text u) (k.text u);
+  }
+
+  pub from-none : {low high : ℕ} → low ≤ high → IsFrom U low high []
+  from-none h = record { rising = h; size = omega arith; text = λ _. IsUtf8-nil }
+
+  pub from-cell : {low : ℕ} {c : Cell} → low ≤ c.1 → (U → IsText (c ∷ [])) → IsFrom U low (c.1 + 1) (c ∷ [])
+  from-cell {low} {c} h t = record { rising = (h, omega arith, omega arith); size = omega (arith, h); text = t }
+
+  pub from-ascii : {low b at : ℕ} → b < 128 → low ≤ at → IsFrom U low (at + 1) ((b, at) ∷ [])
+  from-ascii {low} {b} {at} a h = from-cell h (λ _. one-ascii b a)
+
+  pub from-wider : {low high low' high' : ℕ} {cs : List Cell} → low' ≤ low → high ≤ high' → IsFrom U low high cs → IsFrom U low' high' cs
+  from-wider {low} {high} {low'} {high'} {cs} a b h = record {
+    rising = rising-lower low low' high' cs a (rising-higher low high high' cs b h.rising);
+    size = omega (arith, h.size);
+    text = h.text;
+  }
+
+  pub from-rest : {low end : ℕ} {cs : List Cell} → IsRest U low end cs → IsFrom U low end cs
+  from-rest {low} {end} {cs} h = record { rising = rising low cs h.climbing; size = size low cs h.climbing; text = h.text }
+    where
+      rising : (low : ℕ) (cs : List Cell) → AreClimbing low end cs → AreRising low end cs
+      rising low [] h = h
+      rising low (c ∷ cs) h =
+          let o = climbing-order (c.1 + 1) end cs h.1 in
+          (h.0, omega (arith, o), rising-lower (c.1 + 1) c.1 end cs (omega arith) (rising (c.1 + 1) cs h.1))
+
+      size : (low : ℕ) (cs : List Cell) → AreClimbing low end cs → length cs + 4 * low ≤ 4 * end
+      size low [] h = omega (arith, h)
+      size low (c ∷ cs) h = let more = size (c.1 + 1) cs h.1 in omega (arith, h.0, more)
+
+  pub rest-behind : {low end : ℕ} {c : Cell} {cs : List Cell} → c.0 < 128 → IsRest U low end (c ∷ cs) → IsRest U (c.1 + 1) end cs
+  rest-behind {low} {end} {c} {cs} a h = record { climbing = h.climbing.1; text = λ u. split-behind c.0 (bytes_of cs) a (h.text u) }
+
+  pub rest-lower : {low low' end : ℕ} {cs : List Cell} → low' ≤ low → IsRest U low end cs → IsRest U low' end cs
+  rest-lower {low} {low'} {end} {cs} a h = record { climbing = climbing-lower low low' end cs a h.climbing; text = h.text }
+
+  -- ---- breaks
+
+  pub from-feeds : {low mid high : ℕ} (xs ys : List ℕ) → IsFrom U low mid (feeds xs) → IsFrom U mid high (feeds ys) → IsFrom U low high (feeds (xs ++ ys))
+  from-feeds {low} {mid} {high} xs ys h k = subst (IsFrom U low high) (join xs) (from-join h k)
+    where
+      join : (xs : List ℕ) → feeds xs ++ feeds ys ≡ feeds (xs ++ ys)
+      join [] = refl
+      join (x ∷ xs) = ap (λ cs. (ascii "\n", x) ∷ cs) (join xs)
+
+  pub from-folded : {low mid high break : ℕ} (es : List ℕ) → low ≤ break → break < mid → IsFrom U mid high (feeds es) → IsFrom U low high (folded_break break es)
+  from-folded {low} {mid} {high} {break} [] a b h = let o = from-order h in from-wider (omega arith) (omega (arith, b, o)) (from-ascii {b = ascii " "} (omega arith) a)
+  from-folded {low} {mid} {high} {break} (e ∷ es) a b h = from-wider (omega (arith, a, b)) (omega arith) h
+
+  -- ---- lines
+
+  module _ {size : ℕ} where
+    pub left-cut : {low at : ℕ} {cs : List Cell} {l : Line} {ls : List Line} → IsRest U at l.end cs → AreLeft size U low (l ∷ ls) → AreLeft size U at (cut cs l ls)
+    left-cut {low} {at} {cs} {l} {ls} r h = record { stand = stand-cut size low at cs l ls r.climbing h.stand; utf8 = λ u. (r.text u, (h.utf8 u).1) }
+
+    pub left-first : {low : ℕ} {l : Line} {ls : List Line} → AreLeft size U low (l ∷ ls) → IsRest U low l.end l.text
+    left-first h = record { climbing = h.stand.0.0; text = λ u. (h.utf8 u).0 }
+
+    pub left-lower : {low low' : ℕ} {ls : List Line} → low' ≤ low → AreLeft size U low ls → AreLeft size U low' ls
+    left-lower {low} {low'} {ls} a h = record { stand = stand-lower size low low' ls a h.stand; utf8 = h.utf8 }
+
+    pub left-later : {low : ℕ} {l : Line} {ls : List Line} → l.last ≡ false → AreLeft size U low (l ∷ ls) → AreLeft size U (l.end + 1) ls
+    left-later {low} {l} {ls} e h = record { stand = stand-later size low l ls e h.stand; utf8 = λ u. (h.utf8 u).1 }
+
+    pub left-at_end : {low : ℕ} {l : Line} {ls : List Line} → AreLeft size U low (l ∷ ls) → AreLeft size U low (at_end l)
+    left-at_end {low} {l} {ls} h = record { stand = stand-at_end size low l ls h.stand; utf8 = λ u. (IsUtf8-nil, tt) }
+
+    pub left-start : {low : ℕ} {ls : List Line} → AreLeft size U low ls → AreLeft size U (start ls) ls
+    left-start {low} {ls} h = record { stand = stand-start size low ls h.stand; utf8 = h.utf8 }
+
+  pub taken-behind : (size : ℕ) {low mid : ℕ} {cs : List Cell} (r : Result Taken FaultAt) → IsFrom U low mid cs → AreTaken size U mid r → AreTaken size U low (before cs r)
+  taken-behind size (Ok t) h k = (from-join h k.0, k.1)
+  taken-behind size (Err e) h k = k
