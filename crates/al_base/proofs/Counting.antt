@@ -20,8 +20,8 @@ count_below-none p (suc n) h =
 line_at-more : (bytes : List ℕ) (k : ℕ) → line_at bytes (k + 1) ≡ line_at bytes k + cond (ends_break bytes k) 1 0
 line_at-more bytes k = let s = count_below-step (ends_break bytes) k in omega (arith, s)
 
-line_at-le : (bytes : List ℕ) (j d : ℕ) → line_at bytes j ≤ line_at bytes (j + d)
-line_at-le bytes j d = let m = count_below-mono (ends_break bytes) j d in omega (arith, m)
+pub line_at-later : (bytes : List ℕ) (j d : ℕ) → line_at bytes j ≤ line_at bytes (j + d)
+line_at-later bytes j d = let m = count_below-mono (ends_break bytes) j d in omega (arith, m)
 
 pub line_at-break : (bytes : List ℕ) (k : ℕ) → ends_break bytes k ≡ true → line_at bytes (k + 1) ≡ line_at bytes k + 1
 line_at-break bytes k e = rw (line_at-more bytes k, e) refl
@@ -37,7 +37,7 @@ column_at-break bytes k e =
     let next = line_at-break bytes k e in
     let none : count_below (λ j. eqb (line_at bytes j) (line_at bytes (k + 1)) && begins_char (get_or bytes j 0)) (k + 1) ≡ 0 =
     count_below-none _ (k + 1) (λ j l.
-    let le : line_at bytes j ≤ line_at bytes k = subst (λ (m : ℕ). line_at bytes j ≤ line_at bytes m) (omega arith) (line_at-le bytes j (k - j)) in
+    let le : line_at bytes j ≤ line_at bytes k = subst (λ (m : ℕ). line_at bytes j ≤ line_at bytes m) (omega arith) (line_at-later bytes j (k - j)) in
     below_false (line_at bytes j) (line_at bytes (k + 1)) _ (omega (arith, le, next))) in
     ap (λ n. 1 + n) none
 
@@ -63,6 +63,9 @@ count_below-small p (suc n) = by (p n) refl (count_below-small p n)
     by : (b : Bool) → p n ≡ b → count_below p n ≤ n → count_below p n + cond (p n) 1 0 ≤ suc n
     by true e h = rw e (omega (arith, h))
     by false e h = rw e (omega (arith, h))
+
+pub line_at-small : (bytes : List ℕ) (n : ℕ) → line_at bytes n ≤ n + 1
+line_at-small bytes n = let h = count_below-small (ends_break bytes) n in omega (arith, h)
 
 pub column_at-small : (bytes : List ℕ) (n : ℕ) → column_at bytes n ≤ n + 1
 column_at-small bytes n = let h = count_below-small (λ k. eqb (line_at bytes k) (line_at bytes n) && begins_char (get_or bytes k 0)) n in omega (arith, h)

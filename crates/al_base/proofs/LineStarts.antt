@@ -5,49 +5,23 @@ use Rattle.std.proofs.Math.Nat.{eq-or-lt_of_le}
 use Rattle.std.proofs.Common.{◌||◌, ◌&&◌, ◌==◌, not, append_assoc, if◌then◌else◌}
 use Rattle.std.specs.List.{flat_map}
 use Rattle.std.specs.List.Sorted.{IsNonDecreasingBy}
+use Rattle.std.proofs.lemmas.Bool.{cases_Bool}
+use Rattle.std.proofs.lemmas.Bool.Decides.{nat_tests}
 use Rattle.std.proofs.lemmas.List.{get_or_append_left, get_or_at, get_or_default}
 use Rattle.std.proofs.lemmas.List.Sorted.{IsNonDecreasingBy-push, IsNonDecreasingBy-short}
 use Rattle.memchr.specs.Find.{is_byte2, places, places_from}
 use Rattle.al_base.specs.Positions.{ends_break, line_at, column_at}
 use Rattle.al_base.specs.LineStarts.{starts_to, line_starts}
-use Rattle.al_base.proofs.Counting.{line_at-break, line_at-same, column_at-break}
-
-either_way : (b : Bool) → (b ≡ true) ⊎ (b ≡ false)
-either_way true = inl refl
-either_way false = inr refl
-
-at_suc : (P : ℕ → Type 0) (n : ℕ) → P (n + 1) → P (suc n)
-at_suc P n h = subst P (add-one n) h
+use Rattle.al_base.proofs.Counting.{line_at-break, line_at-later, line_at-same, line_at-small, column_at-break}
 
 -- a line is at most that of a later offset
-line_at-step : (bytes : List ℕ) (k : ℕ) → line_at bytes k ≤ line_at bytes (k + 1)
-line_at-step bytes k =
-    elim (either_way (ends_break bytes k)) [
-      | inl e ↦ let h = line_at-break bytes k e in omega (arith, h)
-      | inr e ↦ let h = line_at-same bytes k e in omega (arith, h)
-    ]
-
-line_at-next : (bytes : List ℕ) (k : ℕ) → line_at bytes (k + 1) ≤ line_at bytes k + 1
-line_at-next bytes k =
-    elim (either_way (ends_break bytes k)) [
-      | inl e ↦ let h = line_at-break bytes k e in omega (arith, h)
-      | inr e ↦ let h = line_at-same bytes k e in omega (arith, h)
-    ]
-
-line_at-add : (bytes : List ℕ) (j d : ℕ) → line_at bytes j ≤ line_at bytes (j + d)
-line_at-add bytes j zero = rw add-zero (omega arith)
-line_at-add bytes j (suc d) =
-    let first = line_at-add bytes j d in
-    let last : line_at bytes (j + d) ≤ line_at bytes (suc (j + d)) = at_suc (λ m. line_at bytes (j + d) ≤ line_at bytes m) (j + d) (line_at-step bytes (j + d)) in
-    rw add-suc (omega (arith, first, last))
-
 pub line_at-le : (bytes : List ℕ) (j k : ℕ) → j ≤ k → line_at bytes j ≤ line_at bytes k
-line_at-le bytes j k h = subst (λ (m : ℕ). line_at bytes j ≤ line_at bytes m) (omega arith) (line_at-add bytes j (k - j))
+line_at-le bytes j k h = subst (λ (m : ℕ). line_at bytes j ≤ line_at bytes m) (omega arith) (line_at-later bytes j (k - j))
 
 -- between two offsets on one line no break ends
 pub no_break_between : (bytes : List ℕ) (s k o : ℕ) → s ≤ k → k < o → line_at bytes s ≡ line_at bytes o → ends_break bytes k ≡ false
 no_break_between bytes s k o a b same =
-    elim (either_way (ends_break bytes k)) [
+    elim (cases_Bool (ends_break bytes k)) [
       | inl e ↦
           let h = line_at-break bytes k e in
           let low = line_at-le bytes s k a in
@@ -77,12 +51,6 @@ start_behind_break bytes k = if ends_break bytes k then (k + 1) ∷ [] else []
 abbrev pub break_bytes : ℕ → Bool
 break_bytes = is_byte2 10 13
 
--- no break ends at another byte
-other_byte : (a b c : Bool) → (a || b) ≡ false → (a || (b && c)) ≡ false
-other_byte true b c h = absurd cc
-other_byte false true c h = absurd cc
-other_byte false false c h = refl
-
 place_more : (here ends : Bool) (own before more : List ℕ) (k : ℕ) (f : ℕ → List ℕ) (rest : List ℕ) → f k ≡ (if ends then own else []) → more ≡ flat_map f rest →
     (here ≡ false → ends ≡ false) → (before ++ (if ends then own else [])) ++ more ≡ before ++ flat_map f (if here then k ∷ rest else rest)
 place_more true ends own before more k f rest e m h =
@@ -101,7 +69,7 @@ starts_from bytes i (suc n) =
     (starts_from bytes (i + 1) n) in
     ap (starts_to bytes) next ∙ later
     ∙ place_more (break_bytes x) (ends_break bytes i) ((i + 1) ∷ []) (starts_to bytes i) _ i (start_behind_break bytes) (places_from break_bytes bytes (i + 1) n) refl refl
-    (other_byte (x == 10) (x == 13) (not (get_or bytes (i + 1) 0 == 10)))
+    (λ e. grind (arith, nat_tests))
 
 -- all starts of a file, by the places of those bytes
 pub starts_by_places : (bytes : List ℕ) → 0 ∷ flat_map (start_behind_break bytes) (places break_bytes bytes) ≡ line_starts bytes
@@ -129,13 +97,9 @@ pub starts_to-length : (bytes : List ℕ) (n : ℕ) → length (starts_to bytes 
 starts_to-length bytes zero = refl
 starts_to-length bytes (suc n) =
     let before = starts_to-length bytes n in
-    elim (either_way (ends_break bytes n)) [
-      | inl e ↦
-          let next : line_at bytes (suc n) ≡ line_at bytes n + 1 = at_suc (λ m. line_at bytes m ≡ line_at bytes n + 1) n (line_at-break bytes n e) in
-          ap length (starts_to-break bytes n e) ∙ length-append (starts_to bytes n) ((n + 1) ∷ []) ∙ ap (λ m. m + 1) before ∙ sym next
-      | inr e ↦
-          let next : line_at bytes (suc n) ≡ line_at bytes n = at_suc (λ m. line_at bytes m ≡ line_at bytes n) n (line_at-same bytes n e) in
-          ap length (starts_to-same bytes n e) ∙ before ∙ sym next
+    elim (cases_Bool (ends_break bytes n)) [
+      | inl e ↦ rw e (omega (arith, length-append (starts_to bytes n) ((n + 1) ∷ []), before))
+      | inr e ↦ rw e (omega (arith, ap length (append-nil (starts_to bytes n)), before))
     ]
 
 -- a start behind the others
@@ -171,7 +135,7 @@ pub start_at : (bytes : List ℕ) (n i : ℕ) → i < length (starts_to bytes n)
 start_at bytes zero zero h = record { small = omega arith; start = record { line = refl; column = refl; before = λ k l. absurd (omega arith) } }
 start_at bytes zero (suc i) h = absurd (omega arith)
 start_at bytes (suc n) i h =
-    elim (either_way (ends_break bytes n)) [
+    elim (cases_Bool (ends_break bytes n)) [
       | inl e ↦
           let same = starts_to-break bytes n e in
           let few : i < length (starts_to bytes n) + 1 = omega (arith, ap length same, length-append (starts_to bytes n) ((n + 1) ∷ []), h) in
@@ -190,7 +154,7 @@ pub starts_to-rise : (bytes : List ℕ) (n : ℕ) → IsNonDecreasingBy (λ x. x
 starts_to-rise bytes zero = IsNonDecreasingBy-short (λ x. x) (0 ∷ []) (omega arith)
 starts_to-rise bytes (suc n) =
     let first = starts_to-rise bytes n in
-    elim (either_way (ends_break bytes n)) [
+    elim (cases_Bool (ends_break bytes n)) [
       | inl e ↦
           subst (IsNonDecreasingBy (λ x. x)) (sym (starts_to-break bytes n e))
           (IsNonDecreasingBy-push (λ x. x) (starts_to bytes n) (n + 1) first (λ d some.
@@ -239,13 +203,6 @@ pub record IsLineOf (bytes : List ℕ) (offset line start : ℕ) : Type 0 where
   pub begins : column_at bytes start ≡ 1
   pub same : line_at bytes start ≡ line_at bytes offset
   pub first : (k : ℕ) → k < start → line_at bytes k < line_at bytes offset
-
-line_at-small : (bytes : List ℕ) (n : ℕ) → line_at bytes n ≤ n + 1
-line_at-small bytes zero = omega arith
-line_at-small bytes (suc n) =
-    let before = line_at-small bytes n in
-    let next : line_at bytes (suc n) ≤ line_at bytes n + 1 = at_suc (λ m. line_at bytes m ≤ line_at bytes n + 1) n (line_at-next bytes n) in
-    omega (arith, before, next)
 
 pub line_of : (bytes starts : List ℕ) (offset r : ℕ) → starts ≡ line_starts bytes → offset ≤ length bytes → r ≤ length starts
     → ((k : ℕ) → k < r → get_or starts k 0 ≤ offset)
