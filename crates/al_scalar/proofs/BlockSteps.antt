@@ -49,13 +49,7 @@ module _ (lit : Bool) (within : ℕ) (bytes : List ℕ) (at : ℕ) (here : IsIns
       let at_stop = lines-at_end bytes stop z in
       let ended : first_end xs ≡ stop = first-same.end ∙ s.end ∙ u.end ∙ ap first_end at_stop in
       let is_last : first_last xs ≡ true = first-same.last ∙ s.last ∙ u.last ∙ ap first_last at_stop in
-      block-given ∙ ap (λ r. r >>= body lit within xs) g
-      ∙ ap (λ b. Ok (of_rows lit h.chomping None [] h.end
-      (cond b (record { rows = []; left = record { text = []; end = first_end xs; last = true } ∷ [] })
-      (rows_at (content_indent h.digit within (later xs)) (is_some h.digit) (later xs))))) is_last
-      ∙ ap (λ t. Ok (record { text = t; end = h.end; left = record { text = []; end = first_end xs; last = true } ∷ [] })) (final_breaks-none h.chomping ∙ sym n)
-      ∙ ap (λ m. Ok (record { text = new; end = h.end; left = record { text = []; end = m; last = true } ∷ [] })) ended
-      ∙ ap (λ ls. Ok (record { text = new; end = h.end; left = ls })) (sym at_stop)
+      block-given ∙ rw (g, is_last, ended, n, final_breaks-none h.chomping, at_stop) refl
 
   -- the lines behind the header's
   pub block-more : (h : Header) (stop first : ℕ) → given ≡ Ok h → SameLine (lines_at bytes (at + 1)) (lines_at bytes end) → SameLine (lines_at bytes end) (lines_at bytes stop)
@@ -66,16 +60,10 @@ module _ (lit : Bool) (within : ℕ) (bytes : List ℕ) (at : ℕ) (here : IsIns
       let xs = lines_at bytes at in
       let is_last : first_last xs ≡ false = first-same.last ∙ s.last ∙ u.last ∙ ap first_last z in
       let behind : later xs ≡ lines_at bytes first = first-same.later ∙ s.later ∙ u.later ∙ ap later z in
-      block-given ∙ ap (λ r. r >>= body lit within xs) g
-      ∙ ap (λ b. Ok (of_rows lit h.chomping None [] h.end
-      (cond b (record { rows = []; left = record { text = []; end = first_end xs; last = true } ∷ [] })
-      (rows_at (content_indent h.digit within (later xs)) (is_some h.digit) (later xs))))) is_last
-      ∙ ap (λ ls. Ok (of_rows lit h.chomping None [] h.end (rows_at (content_indent h.digit within ls) (is_some h.digit) ls))) behind
+      block-given ∙ rw (g, is_last, behind) refl
 
 -- the rest, by the style that the code took from the header
 pub rest-style : (lit : Bool) (k : Chomping) (m m' : Option ℕ) (b b' : Bool) (end : ℕ) (old : List Cell) (ls : List Line) → m' ≡ m → b' ≡ b → old ≡ []
     → rest lit k m b None [] end ls ≡ with_text old (rest lit k m' b' None [] end ls)
 rest-style lit k m m' b b' end old ls g h n =
-    ap (λ x. rest lit k x b None [] end ls) (sym g)
-    ∙ ap (λ x. rest lit k m' x None [] end ls) (sym h)
-    ∙ ap (λ x. with_text x (rest lit k m' b' None [] end ls)) (sym n)
+    rw (g, h, n) refl

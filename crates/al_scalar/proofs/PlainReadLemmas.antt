@@ -15,7 +15,7 @@ use Rattle.al_scalar.proofs.LineCells.{has_line, lines_at-some, lines-at_end, ru
 use Rattle.al_scalar.proofs.FoldLemmas.{after_blanks-run, after_blanks-solid, before-two, cut-same}
 use Rattle.al_scalar.proofs.OffsetLemmas.{choose}
 use Rattle.al_scalar.proofs.RestLemmas.{text_kind, place-same}
-use Rattle.al_scalar.proofs.BlankLemmas.{after_blanks-none}
+use Rattle.al_scalar.proofs.BlankLemmas.{after_blanks-none, no_blank_line}
 
 -- ---- the text at an offset
 
@@ -43,65 +43,6 @@ weaker (inr b) = inr b.1
 place-colon : (p : Context) (bytes : List ℕ) (j z : ℕ) → j ≤ length bytes → is_value_colon p (text_at bytes j) ≡ true → place (text_at bytes j) z ≡ j
 place-colon p bytes j z h e = colon-kind p (text_at bytes j) (text_at bytes (j + 1)) (slice_index bytes j, j) z (weaker (text_kind bytes j h)) e
 
--- ---- behind a part
-
-abbrev after_lines : Context → Taken → List Line → Result Taken FaultAt
-after_lines p here ls = cond (is_empty (after_blanks (first_text ls))) (plain_lines p here (first_end ls) [] (later ls)) (Ok here)
-
-cond-same : {A : Type 0} (b : Bool) (x : A) → cond b x x ≡ x
-cond-same true x = refl
-cond-same false x = refl
-
-stop-solid : (p : Context) (here : Taken) (run : List Cell) (c : Cell) (ls : List Line) → has_line ls ≡ true → AreBlank run
-    → (IsBlankByte c.0 → ⊥) → after_lines p here (with_cells_before run (with_cell c ls)) ≡ Ok here
-stop-solid p here run c [] k h n = cc
-stop-solid p here run c (m ∷ ms) k h n =
-    ap (λ t. cond (is_empty t) (plain_lines p here m.end [] ms) (Ok here)) (after_blanks-run run (c ∷ m.text) h ∙ after_blanks-solid c m.text n)
-
-stop-cases : (p : Context) (here : Taken) (bytes : List ℕ) (i j : ℕ) (run : List Cell) → (j ≡ length bytes) ⊎ (j < length bytes)
-    → lines_at bytes i ≡ with_cells_before run (lines_at bytes j) → AreBlank run
-    → (IsBreakAt bytes j → ⊥) → (j < length bytes → IsBlankByte (slice_index bytes j) → ⊥) → after_lines p here (lines_at bytes i) ≡ Ok here
-stop-cases p here bytes i j run (inl e) f h k n =
-    ap (after_lines p here) (f ∙ ap (with_cells_before run) (lines-at_end bytes j e)) ∙ cond-same (is_empty (after_blanks (run ++ []))) (Ok here)
-stop-cases p here bytes i j run (inr l) f h k n =
-    let feed : slice_index bytes j ≢ 10 = λ e. k (l, inl e) in
-    let return : slice_index bytes j ≢ 13 = λ e. k (l, inr e) in
-    ap (after_lines p here) (f ∙ ap (with_cells_before run) (lines_at-other bytes j l feed return))
-    ∙ stop-solid p here run (slice_index bytes j, j) (lines_at bytes (j + 1)) (lines_at-some bytes (j + 1)) h (n l)
-
-before-here : (text : List Cell) (bytes : List ℕ) (end : ℕ) → before text (Ok (here_at bytes end)) ≡ Ok (record { text = text; end = end; left = lines_at bytes end })
-before-here text bytes end = ap (λ t. Ok (record { text = t; end = end; left = lines_at bytes end })) (append-nil text)
-
--- no break stands behind the part and the blanks after it
-pub read_done : {x : Result Taken FaultAt} (p : Context) (bytes : List ℕ) (end j : ℕ) (text : List Cell) → x ≡ before text (after_part p bytes end) → j ≤ length bytes
-    → lines_at bytes end ≡ with_cells_before (cells_between bytes end j) (lines_at bytes j) → AreBlank (cells_between bytes end j) → (IsBreakAt bytes j → ⊥)
-    → (j < length bytes → IsBlankByte (slice_index bytes j) → ⊥) → x ≡ Ok (record { text = text; end = end; left = lines_at bytes end })
-read_done p bytes end j text e h f b k n =
-    e ∙ ap (before text) (stop-cases p (here_at bytes end) bytes end j (cells_between bytes end j) (eq-or-lt_of_le h) f b k n) ∙ before-here text bytes end
-
-after-break : (p : Context) (here : Taken) (run : List Cell) (s : ℕ) (ls : List Line) → AreBlank run → after_lines p here (with_cells_before run (broken_line s ∷ ls)) ≡ plain_lines p here s [] ls
-after-break p here run s ls h = ap (λ t. cond (is_empty t) (plain_lines p here s [] ls) (Ok here)) (after_blanks-none run h)
-
--- ---- the look-ahead
-
-skip-line : (p : Context) (here : Taken) (break : ℕ) (es : List ℕ) (l : Line) (ls : List Line) (b : Bool) → is_blank_line l ≡ b
-    → plain_lines p here break (es ++ l.end ∷ []) ls ≡ plain_lines p here break ((es ++ l.end ∷ []) ++ empty_ends ls) (text_lines ls)
-    → plain_lines p here break es (l ∷ ls) ≡ plain_lines p here break (es ++ cond b (l.end ∷ empty_ends ls) []) (cond b (text_lines ls) (l ∷ ls))
-skip-line p here break es l ls false e below = ap (λ es. plain_lines p here break es (l ∷ ls)) (sym (append-nil es))
-skip-line p here break es l ls true e below =
-    let blank : is_empty (after_blanks l.text) ≡ true = (and_parts (is_empty (after_blanks l.text)) (not l.last) e).0 in
-    skipped p here break es l ls blank ∙ below ∙ ap (λ es. plain_lines p here break es (text_lines ls)) (append_assoc es (l.end ∷ []) (empty_ends ls))
-  where
-    skipped : (p : Context) (here : Taken) (break : ℕ) (es : List ℕ) (l : Line) (ls : List Line) → is_empty (after_blanks l.text) ≡ true
-        → plain_lines p here break es (l ∷ ls) ≡ plain_lines p here break (es ++ l.end ∷ []) ls
-    skipped p here break es l ls e = rw e refl
-
--- blank lines only count
-skip : (p : Context) (here : Taken) (break : ℕ) (es : List ℕ) (ls : List Line) → plain_lines p here break es ls ≡ plain_lines p here break (es ++ empty_ends ls) (text_lines ls)
-skip p here break es [] = refl
-skip p here break es (l ∷ ls) =
-    skip-line p here break es l ls (is_blank_line l) refl (skip p here break (es ++ l.end ∷ []) ls)
-
 -- ---- the last line stands alone
 
 abbrev LastAlone : List Line → Type 0
@@ -125,6 +66,53 @@ last-alone at (b ∷ bs) =
     let below = last-alone (at + 1) bs in
     choose LastAlone (is_break b bs) (λ _. alone-broken at more)
     (λ _. choose LastAlone (b == 13) (λ _. alone-with_return at more below) (λ _. alone-with_cell (b, at) more below))
+
+-- ---- behind a part
+
+abbrev after_lines : Context → Taken → List Line → Result Taken FaultAt
+after_lines p here ls = cond (is_empty (after_blanks (first_text ls))) (plain_lines p here (first_end ls) [] (later ls)) (Ok here)
+
+-- it stops before a line that isn't blank, or the last one
+after-stop : (p : Context) (here : Taken) (ls : List Line) → LastAlone ls → begins_blank_line ls ≡ false → after_lines p here ls ≡ Ok here
+after-stop p here [] a h = refl
+after-stop p here (l ∷ ls) a h = by_text (is_empty (after_blanks l.text)) refl h
+  where
+    by_text : (x : Bool) → is_empty (after_blanks l.text) ≡ x → (x && not l.last) ≡ false → after_lines p here (l ∷ ls) ≡ Ok here
+    by_text true e h = rw (e, a (not-false l.last h)) refl
+    by_text false e h = rw e refl
+
+before-here : (text : List Cell) (bytes : List ℕ) (end : ℕ) → before text (Ok (here_at bytes end)) ≡ Ok (record { text = text; end = end; left = lines_at bytes end })
+before-here text bytes end = ap (λ t. Ok (record { text = t; end = end; left = lines_at bytes end })) (append-nil text)
+
+-- no break stands behind the part and the blanks after it
+pub read_done : {x : Result Taken FaultAt} (p : Context) (bytes : List ℕ) (end j : ℕ) (text : List Cell) → x ≡ before text (after_part p bytes end) → j ≤ length bytes
+    → lines_at bytes end ≡ with_cells_before (cells_between bytes end j) (lines_at bytes j) → AreBlank (cells_between bytes end j) → (IsBreakAt bytes j → ⊥)
+    → (j < length bytes → IsBlankByte (slice_index bytes j) → ⊥) → x ≡ Ok (record { text = text; end = end; left = lines_at bytes end })
+read_done p bytes end j text e h f b k n =
+    e ∙ ap (before text) (after-stop p (here_at bytes end) (lines_at bytes end) (last-alone end (drop end bytes)) (no_blank_line bytes end j h f b k n)) ∙ before-here text bytes end
+
+after-break : (p : Context) (here : Taken) (run : List Cell) (s : ℕ) (ls : List Line) → AreBlank run → after_lines p here (with_cells_before run (broken_line s ∷ ls)) ≡ plain_lines p here s [] ls
+after-break p here run s ls h = ap (λ t. cond (is_empty t) (plain_lines p here s [] ls) (Ok here)) (after_blanks-none run h)
+
+-- ---- the look-ahead
+
+skip-line : (p : Context) (here : Taken) (break : ℕ) (es : List ℕ) (l : Line) (ls : List Line) (b : Bool) → is_blank_line l ≡ b
+    → plain_lines p here break (es ++ l.end ∷ []) ls ≡ plain_lines p here break ((es ++ l.end ∷ []) ++ empty_ends ls) (text_lines ls)
+    → plain_lines p here break es (l ∷ ls) ≡ plain_lines p here break (es ++ cond b (l.end ∷ empty_ends ls) []) (cond b (text_lines ls) (l ∷ ls))
+skip-line p here break es l ls false e below = ap (λ es. plain_lines p here break es (l ∷ ls)) (sym (append-nil es))
+skip-line p here break es l ls true e below =
+    let blank : is_empty (after_blanks l.text) ≡ true = (and_parts (is_empty (after_blanks l.text)) (not l.last) e).0 in
+    skipped p here break es l ls blank ∙ below ∙ ap (λ es. plain_lines p here break es (text_lines ls)) (append_assoc es (l.end ∷ []) (empty_ends ls))
+  where
+    skipped : (p : Context) (here : Taken) (break : ℕ) (es : List ℕ) (l : Line) (ls : List Line) → is_empty (after_blanks l.text) ≡ true
+        → plain_lines p here break es (l ∷ ls) ≡ plain_lines p here break (es ++ l.end ∷ []) ls
+    skipped p here break es l ls e = rw e refl
+
+-- blank lines only count
+skip : (p : Context) (here : Taken) (break : ℕ) (es : List ℕ) (ls : List Line) → plain_lines p here break es ls ≡ plain_lines p here break (es ++ empty_ends ls) (text_lines ls)
+skip p here break es [] = refl
+skip p here break es (l ∷ ls) =
+    skip-line p here break es l ls (is_blank_line l) refl (skip p here break (es ++ l.end ∷ []) ls)
 
 -- ---- a line that doesn't continue the scalar
 

@@ -1,5 +1,5 @@
 -- Quoted scalars from the lines that are left, for each reader of a line's part.
-use Rattle.std.proofs.Common.{◌≡◌, ℕ, List, [], ◌∷◌, refl, sym, ap, ◌∙◌, Bool, true, false, not, ◌&&◌, cond, inl, inr, ◌⊎◌, Option, Some, None, Result, Ok, Err}
+use Rattle.std.proofs.Common.{◌≡◌, ℕ, List, [], ◌∷◌, refl, sym, ap, ◌∙◌, Bool, true, false, not, ◌&&◌, cond, inl, inr, Option, Some, None, Result, Ok, Err}
 use Rattle.al_base.specs.declared.codes.YamlCode.TheVariants as yaml
 use Rattle.al_scalar.specs.Line.{Cell, Line, cut, is_blank, after_blanks, is_empty}
 use Rattle.al_scalar.specs.Taken.{Taken, ◌>>=◌, before, folding_space, feeds, fault}
@@ -10,6 +10,7 @@ use Rattle.al_scalar.specs.LineEnds.{IsBlankByte, SameLine, first_last, later}
 use Rattle.al_scalar.specs.Private.PlainLines.{is_blank_line, empty_ends, break_left}
 use Rattle.al_scalar.specs.Private.Folding.{solid_lines, break_of}
 use Rattle.al_scalar.proofs.LineCells.{has_line}
+use Rattle.al_scalar.proofs.OffsetLemmas.{choose}
 use Rattle.al_scalar.proofs.FoldLemmas.{before-two, before-none, line_given-before, given-line, cut-same}
 
 -- what the part of the first line gives with the lines behind it
@@ -110,24 +111,13 @@ pub record IsReader (part : List Cell → Result QuotedLine FaultAt) : Type 0 wh
   pub none : part [] ≡ Ok (record { text = []; stop = broken })
   pub some : (c : Cell) (cs : List Cell) → (IsBlankByte c.0 → ⊥) → gives_nothing (part (c ∷ cs)) ≡ false
 
--- behind its blanks a line has no text, or a cell that is no blank
-pub record HasCell (cs : List Cell) : Type 0 where
-  pub first : Cell
-  pub rest : List Cell
-  pub are : cs ≡ first ∷ rest
-  pub solid : IsBlankByte first.0 → ⊥
-
 solid-cell : (c : Cell) → is_blank c ≡ false → IsBlankByte c.0 → ⊥
 solid-cell c e (inl f) = let g : is_blank c ≡ true = rw f refl in cc
 solid-cell c e (inr f) = let g : is_blank c ≡ true = rw f refl in cc
 
-after_blanks-kind : (cs : List Cell) → (after_blanks cs ≡ []) ⊎ HasCell (after_blanks cs)
-after_blanks-kind [] = inl refl
-after_blanks-kind (c ∷ cs) = kind (is_blank c) refl (after_blanks-kind cs)
-  where
-    kind : (b : Bool) → is_blank c ≡ b → (after_blanks cs ≡ []) ⊎ HasCell (after_blanks cs) → (after_blanks (c ∷ cs) ≡ []) ⊎ HasCell (after_blanks (c ∷ cs))
-    kind true e more = rw e more
-    kind false e more = inr (record { first = c; rest = cs; are = rw e refl; solid = solid-cell c e })
+no-cells : (cs : List Cell) → is_empty cs ≡ true → cs ≡ []
+no-cells [] e = refl
+no-cells (c ∷ cs) e = cc
 
 -- a break or a space that is to come, with the breaks of empty lines
 abbrev pub pending_given : Option ℕ → List ℕ → List Cell
@@ -159,6 +149,13 @@ module _ (part : List Cell → Result QuotedLine FaultAt) (q : ℕ) where
   lines-solid b l ls e = line-solid b (after_blanks l.text) l ls (part (after_blanks l.text)) (λ p. before ((10, l.end) ∷ []) (quoted_lines part q None ls)) e
 
   module _ (ok : IsReader part) where
+    -- behind its blanks a line that isn't all blanks gives something
+    solid-some : (cs : List Cell) → is_empty (after_blanks cs) ≡ false → gives_nothing (part (after_blanks cs)) ≡ false
+    solid-some [] e = cc
+    solid-some (c ∷ cs) e =
+        choose (λ (t : List Cell). is_empty t ≡ false → gives_nothing (part t) ≡ false) (is_blank c)
+        (λ _. solid-some cs) (λ n _. ok.some c cs (solid-cell c n)) e
+
     lines-blank : (b : Option ℕ) (l : Line) (ls : List Line) → after_blanks l.text ≡ [] → l.last ≡ false
         → quoted_lines part q b (l ∷ ls) ≡ before ((10, l.end) ∷ []) (quoted_lines part q None ls)
     lines-blank b l ls e f =
@@ -169,32 +166,21 @@ module _ (part : List Cell → Result QuotedLine FaultAt) (q : ℕ) where
     -- the text of the next line that isn't blank, behind what the break and the empty lines before it give
     pub lines-fold : (b : Option ℕ) (ls : List Line) → quoted_lines part q b ls ≡ before (pending_given b (empty_ends ls)) (quoted_scalar part q (solid_lines ls))
     lines-fold b [] = refl
-    lines-fold b (l ∷ ls) = by_text (lines-fold None ls) (after_blanks-kind l.text) l.last refl
+    lines-fold b (l ∷ ls) = by_text (lines-fold None ls) (is_empty (after_blanks l.text)) l.last refl refl
       where
-        text-none : after_blanks l.text ≡ [] → l.last ≡ true → (gives_nothing (part (after_blanks l.text)) && not l.last) ≡ false
-        text-none e f = rw (e, ok.none, f) refl
-
-        text-some : HasCell (after_blanks l.text) → (gives_nothing (part (after_blanks l.text)) && not l.last) ≡ false
-        text-some h = ap (λ t. gives_nothing (part t) && not l.last) h.are ∙ ap (λ z. z && not l.last) (ok.some h.first h.rest h.solid)
-
         stops : is_blank_line l ≡ false → (gives_nothing (part (after_blanks l.text)) && not l.last) ≡ false
             → quoted_lines part q b (l ∷ ls) ≡ before (pending_given b (empty_ends (l ∷ ls))) (quoted_scalar part q (solid_lines (l ∷ ls)))
         stops e f = rw e (lines-solid b l ls f)
 
         by_text : quoted_lines part q None ls ≡ before (pending_given None (empty_ends ls)) (quoted_scalar part q (solid_lines ls))
-            → (after_blanks l.text ≡ []) ⊎ HasCell (after_blanks l.text) → (z : Bool) → l.last ≡ z
-            → quoted_lines part q b (l ∷ ls) ≡ before (pending_given b (empty_ends (l ∷ ls))) (quoted_scalar part q (solid_lines (l ∷ ls)))
-        by_text below (inl e) true f =
-            let blank : is_blank_line l ≡ false = rw (e, f) refl in
-            stops blank (text-none e f)
-        by_text below (inl e) false f =
+            → (x z : Bool) → is_empty (after_blanks l.text) ≡ x → l.last ≡ z → quoted_lines part q b (l ∷ ls) ≡ before (pending_given b (empty_ends (l ∷ ls))) (quoted_scalar part q (solid_lines (l ∷ ls)))
+        by_text below true true e f = stops (rw (e, f) refl) (rw (no-cells (after_blanks l.text) e, ok.none, f) refl)
+        by_text below true false e f =
             let blank : is_blank_line l ≡ true = rw (e, f) refl in
-            rw blank (lines-blank b l ls e f
+            rw blank (lines-blank b l ls (no-cells (after_blanks l.text) e) f
             ∙ ap (before ((10, l.end) ∷ [])) (below ∙ ap (λ cs. before cs (quoted_scalar part q (solid_lines ls))) (pending-none (empty_ends ls)))
             ∙ before-two ((10, l.end) ∷ []) (feeds (empty_ends ls)) (quoted_scalar part q (solid_lines ls)))
-        by_text below (inr h) z f =
-            let blank : is_blank_line l ≡ false = ap (λ t. is_empty t && not l.last) h.are in
-            stops blank (text-some h)
+        by_text below false z e f = stops (rw e refl) (rw (solid-some l.text e) refl)
 
     pub break-fold : (e : Bool) (end : ℕ) (ls : List Line) → quoted_lines part q (break_of e end) ls ≡ before (break_left e end (empty_ends ls)) (quoted_scalar part q (solid_lines ls))
     break-fold e end ls = lines-fold (break_of e end) ls ∙ ap (λ cs. before cs (quoted_scalar part q (solid_lines ls))) (pending-break e end (empty_ends ls))

@@ -19,15 +19,13 @@ joint-like lit (Some l) es r s e = ap (λ b. cond (lit || begins_blank l.text ||
 
 joint-last : (lit : Bool) (r s : BlockLine) (es : List ℕ) (x : BlockLine) → begins_blank r.text ≡ begins_blank s.text → r.break ≡ s.break → joint lit (Some r) es x ≡ joint lit (Some s) es x
 joint-last lit r s es x e f =
-    ap (λ b. cond (lit || b || begins_blank x.text) (feeds (r.break ++ es)) (between_rows r.break es)) e
-    ∙ ap (λ br. cond (lit || begins_blank s.text || begins_blank x.text) (feeds (br ++ es)) (between_rows br es)) f
+    rw (e, f) refl
 
 pub text_after-like : (lit : Bool) (k : Chomping) (r s : BlockLine) (es : List ℕ) (rs : List BlockLine) → begins_blank r.text ≡ begins_blank s.text → r.break ≡ s.break
     → text_after lit k (Some r) es rs ≡ text_after lit k (Some s) es rs
 text_after-like lit k r s es [] e f = ap (λ b. final_breaks k b es) f
 text_after-like lit k r s es (x ∷ xs) e f =
-    ap (λ w. cond (is_empty x.text) w (joint lit (Some r) es x ++ x.text ++ text_after lit k (Some x) [] xs)) (text_after-like lit k r s (es ++ x.break) xs e f)
-    ∙ ap (λ j. cond (is_empty x.text) (text_after lit k (Some s) (es ++ x.break) xs) (j ++ x.text ++ text_after lit k (Some x) [] xs)) (joint-last lit r s es x e f)
+    rw (text_after-like lit k r s (es ++ x.break) xs e f, joint-last lit r s es x e f) refl
 
 spaced-like : (b : Bool) (break : List ℕ) → begins_blank (row_like b break).text ≡ b
 spaced-like true break = refl
@@ -87,25 +85,13 @@ spaced-between bytes from stop b h e = ap begins_blank (cells_between-front byte
 
 -- ---- lines as rows
 
-abbrev pub stepped : Option (List Cell) → Line → List Line → Rows → Rows
-stepped o l ls below = elim o [
-  | None ↦ record { rows = []; left = l ∷ ls }
-  | Some text ↦ cond l.last (record { rows = record { text = text; break = [] } ∷ []; left = at_end l }) (with_row (record { text = text; break = l.end ∷ [] }) below)
-]
-
 rows_at-more : (m : Option ℕ) (found : Bool) (l : Line) (ls : List Line) (t : List Cell) → row_of m found l.text ≡ Some t → l.last ≡ false
     → rows_at m found (l ∷ ls) ≡ with_row (record { text = t; break = l.end ∷ [] }) (rows_at m (found || not (is_all_blank l.text)) ls)
-rows_at-more m found l ls t e f =
-    let below = rows_at m (found || not (is_all_blank l.text)) ls in
-    ap (λ o. stepped o l ls below) e
-    ∙ ap (λ b. cond b (record { rows = record { text = t; break = [] } ∷ []; left = at_end l }) (with_row (record { text = t; break = l.end ∷ [] }) below)) f
+rows_at-more m found l ls t e f = rw (e, f, rows_at) refl
 
 rows_at-last : (m : Option ℕ) (found : Bool) (l : Line) (ls : List Line) (t : List Cell) → row_of m found l.text ≡ Some t → l.last ≡ true
     → rows_at m found (l ∷ ls) ≡ record { rows = record { text = t; break = [] } ∷ []; left = at_end l }
-rows_at-last m found l ls t e f =
-    let below = rows_at m (found || not (is_all_blank l.text)) ls in
-    ap (λ o. stepped o l ls below) e
-    ∙ ap (λ b. cond b (record { rows = record { text = t; break = [] } ∷ []; left = at_end l }) (with_row (record { text = t; break = l.end ∷ [] }) below)) f
+rows_at-last m found l ls t e f = rw (e, f, rows_at) refl
 
 abbrev pub of_rows : Bool → Chomping → Option BlockLine → List ℕ → ℕ → Rows → Taken
 of_rows lit k last es end rs = record { text = text_after lit k last es rs.rows; end = rows_end end rs.rows; left = rs.left }
@@ -139,10 +125,7 @@ rows-last new text lit k m found last es end to bytes i from stop e r s u w z g 
     let is_last : first_last (lines_at bytes i) ≡ true = s.last ∙ u.last ∙ ap first_last at_stop in
     let row : row_of m found (first_text (lines_at bytes i)) ≡ Some (cells_between bytes from (length bytes)) = r ∙ ap Some (w ∙ ap (cells_between bytes from) z) in
     e ∙ ap (with_text text) (rest-last lit k m found last es end (lines_at bytes i) (cells_between bytes from (length bytes)) (lines_at-some bytes i) row is_last)
-    ∙ ap (λ t. record { text = t; end = rows_end end (last_line bytes from); left = record { text = []; end = first_end (lines_at bytes i); last = true } ∷ [] }) (sym g)
-    ∙ ap (λ n. record { text = new; end = n; left = record { text = []; end = first_end (lines_at bytes i); last = true } ∷ [] }) (sym h)
-    ∙ ap (λ n. record { text = new; end = to; left = record { text = []; end = n; last = true } ∷ [] }) ended
-    ∙ ap (λ ls. record { text = new; end = to; left = ls }) (sym at_stop)
+    ∙ rw (g, h, ended, at_stop) refl
 
 pub rows-more : {x : Taken} (new text : List Cell) (lit : Bool) (k : Chomping) (m : Option ℕ) (found found' b : Bool)
     (last last' : Option BlockLine) (es es' : List ℕ) (end end' : ℕ) (bytes : List ℕ) (i from stop next : ℕ)

@@ -146,14 +146,6 @@ escape-run at k (d ∷ ds) = ap (λ cs. (d, at) ∷ cs) (escape-run at (suc k) d
 
 -- ---- what a push leaves
 
-pub pushed-text : (old run : List Cell) (bs ds new : List ℕ) (ss ss' : List Segment) (n : ℕ) → n ≡ length bs → new ≡ bs ++ ds → cells_from 0 bs ss ≡ old
-    → ((xs : List ℕ) → length xs ≡ n → cells_from 0 xs ss' ≡ cells_from 0 xs ss) → cells_from n ds ss' ≡ run → cells_from 0 new ss' ≡ old ++ run
-pushed-text old run bs ds new ss ss' n e f g h r =
-    let i : 0 + length bs ≡ n = omega (arith, e) in
-    ap (λ xs. cells_from 0 xs ss') f ∙ cells_from-two 0 bs ds ss'
-    ∙ ap (λ cs. cs ++ cells_from (0 + length bs) ds ss') (h bs (sym e) ∙ g)
-    ∙ ap (λ j. old ++ cells_from j ds ss') i ∙ ap (λ cs. old ++ cs) r
-
 AreInRange-two : (xs ys : List Cell) → AreInRange xs → AreInRange ys → AreInRange (xs ++ ys)
 AreInRange-two [] ys h k = k
 AreInRange-two (x ∷ xs) ys h k = (h.0, AreInRange-two xs ys h.1 k)
@@ -169,12 +161,19 @@ pub AreInRange-escape : (ds : List ℕ) (at : ℕ) → at < 2 ^ 32 → AreInRang
 AreInRange-escape [] at h = tt
 AreInRange-escape (d ∷ ds) at h = (h, AreInRange-escape ds at h)
 
-pub pushed-kept : (old run : List Cell) (bs ds new : List ℕ) (ss ss' : List Segment) (n : ℕ) → n ≡ length bs → new ≡ bs ++ ds
-    → cells_from 0 bs ss ≡ old → AreInRange (cells_from 0 bs ss) → AreInRange run
-    → IsOrdered n ss' → cells_from 0 new ss' ≡ old ++ run → IsOrdered (length new) ss' × AreInRange (cells_from 0 new ss')
-pushed-kept old run bs ds new ss ss' n e f g p q b t =
-    let long : length bs ≤ length new = subst (λ xs. length bs ≤ length xs) (sym f) (omega (arith, length-append bs ds)) in
-    ((AreBehind-up n (length new) ss' b.0 (omega (arith, long, e)), b.1), subst AreInRange (sym t) (AreInRange-two old run (subst AreInRange g p) q))
+module _ (old : List Cell) (bs ds new : List ℕ) (ss ss' : List Segment) (n at : ℕ) (moves : Bool) (e : n ≡ length bs) (f : new ≡ bs ++ ds) (g : cells_from 0 bs ss ≡ old)
+    (h : (xs : List ℕ) → length xs ≡ n → cells_from 0 xs ss' ≡ cells_from 0 xs ss) (next : GoesOn ss' n at moves) where
+  pub pushed-text : cells_from 0 new ss' ≡ old ++ run_cells at moves 0 ds
+  pushed-text =
+      let i : 0 + length bs ≡ n = omega (arith, e) in
+      ap (λ xs. cells_from 0 xs ss') f ∙ cells_from-two 0 bs ds ss'
+      ∙ ap (λ cs. cs ++ cells_from (0 + length bs) ds ss') (h bs (sym e) ∙ g)
+      ∙ ap (λ j. old ++ cells_from j ds ss') i ∙ ap (λ cs. old ++ cs) (new-run ss' n at moves ds next)
+
+  pub pushed-kept : AreInRange (cells_from 0 bs ss) → AreInRange (run_cells at moves 0 ds) → IsOrdered n ss' → IsOrdered (length new) ss' × AreInRange (cells_from 0 new ss')
+  pushed-kept p q b =
+      let long : n ≤ length new = omega (arith, e, ap length f, length-append bs ds) in
+      ((AreBehind-up n (length new) ss' b.0 long, b.1), subst AreInRange (sym pushed-text) (AreInRange-two old (run_cells at moves 0 ds) (subst AreInRange g p) q))
 
 -- ---- the search for the last run
 
