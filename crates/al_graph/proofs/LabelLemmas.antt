@@ -41,22 +41,14 @@ labels_first label labels j found h e =
     let was : free_one (get_or labels j None) ≡ 1 = ap free_one e in
     let new : label_at (set labels j (Some label)) j ≡ Some label = get_or-set_same labels j (Some label) None h in
     let off : (k : ℕ) → (k ≡ j → ⊥) → label_at (set labels j (Some label)) k ≡ label_at labels k = λ k ne. get_or-set_other labels j k (Some label) None ne in
-    let InMore : ℕ → Type 0 = λ k. Contains (found ++ j ∷ []) k in
-    let In : ℕ → Type 0 = λ k. Contains (j ∷ []) k in
     record {
       size = length-set labels j (Some label);
       all = λ k c. (label, subst (λ n. label_at (set labels j (Some label)) n ≡ Some label) (one_is j k c) new);
       kept = λ k l s. ⊎_elim (λ same. absurd (not_both l (label_at labels j) e (subst (λ n. label_at labels n ≡ Some l) same s))) (λ ne. off k ne ∙ s) (cases_eq k j);
       only = λ k l s. ⊎_elim
-          (λ same. inr (
-            subst In (sym same) (is_one j),
-            some_is l label
-                (sym (subst (λ n. label_at (set labels j (Some label)) n ≡ Some l) same s) ∙ new),
-            subst (λ n. label_at labels n ≡ None)
-                (sym same) e,
-          ))
+          (λ same. inr (rw same (is_one j), some_is l label (sym (rw same at s) ∙ new), rw same e))
           (λ ne. inl (sym (off k ne) ∙ s)) (cases_eq k j);
-      listed = λ k l s. ⊎_elim (λ same. inr (subst InMore (sym same) (Contains-append_right found (j ∷ []) j (is_one j)))) (λ ne. inl (sym (off k ne) ∙ s)) (cases_eq k j);
+      listed = λ k l s. ⊎_elim (λ same. inr (rw same (Contains-append_right found (j ∷ []) j (is_one j)))) (λ ne. inl (sym (off k ne) ∙ s)) (cases_eq k j);
       list_kept = λ k c. Contains-append_left found (j ∷ []) k c;
       list_only = λ k c. ⊎_elim (λ old. inl old) (λ one. inr (subst (λ n. label_at (set labels j (Some label)) n ≡ Some label) (one_is j k one) new)) (Contains-append_cases found (j ∷ []) k c);
       count = (let s = sum_by-set free_one labels j (Some label) None h in omega (arith, s, was, length-append found (j ∷ [])));
@@ -141,9 +133,7 @@ module _ (graph : List (List ℕ)) (order : List ℕ) where
       let bj : ℕ = up.0 in
       let low : bj ≤ at = up.1 in
       let at_j : node_at order bj ≡ j = up.2 in
-      let From : ℕ → Type 0 = λ n. Edge graph n (node_at order b) in
-      let To : ℕ → Type 0 = λ n. Edge graph j n in
-      let places : Edge graph (node_at order bj) (node_at order b) = subst From (sym at_j) (subst To (sym is) edge) in (
+      let places : Edge graph (node_at order bj) (node_at order b) = rw (at_j, is) edge in (
         b,
         omega (arith, below),
         is,
@@ -169,8 +159,7 @@ module _ (graph : List (List ℕ)) (order : List ℕ) where
             (λ o. ⊎_elim (λ c. inl (c.0, m.kept k c.0 c.1, c.2))
             (λ w. ⊎_elim (λ c. inr (m.list_kept j c))
             (λ c. let same : node ≡ j = one_is node j c in
-            let From : ℕ → Type 0 = λ n. Edge graph n k in
-            let now = m.all k (subst From (sym same) edge) in
+            let now = m.all k (rw same edge) in
             let up : at ≤ now.0 = low k now.0 now.1 in
             let l_is : l ≡ at = some_is l at (sym o ∙ subst (λ n. label_at labels n ≡ Some at) same was) in
             inl (now.0, now.1, omega (arith, up, l_is)))
@@ -257,9 +246,7 @@ turned_inside graph back len t j k e = let below : k < length graph = from_insid
 pub node_first : (label : ℕ) (labels now : List (Option ℕ)) (j : ℕ) (found after : List ℕ) (o : Option ℕ) → j < length labels → label_at labels j ≡ o → is_none o ≡ true →
     now ≡ set labels j (Some label) → after ≡ found ++ j ∷ [] → Labels (j ∷ []) label labels now found after
 node_first label labels now j found after None h e n is more =
-    let P : List (Option ℕ) → Type 0 = λ ls. Labels (j ∷ []) label labels ls found after in
-    let Q : List ℕ → Type 0 = λ fs. Labels (j ∷ []) label labels (set labels j (Some label)) found fs in
-    subst P (sym is) (subst Q (sym more) (labels_first label labels j found h e))
+    rw (is, more) (labels_first label labels j found h e)
 node_first label labels now j found after (Some l) h e n is more = absurd (let wrong : false ≡ true = n in cc)
 
 pub node_again : (label : ℕ) (labels : List (Option ℕ)) (j : ℕ) (found : List ℕ) (o : Option ℕ) → label_at labels j ≡ o → is_none o ≡ false →

@@ -28,27 +28,15 @@ module _ (graph : List (List ℕ)) where
     where
       before : b < length order → Walk graph (node_at (order ++ w ∷ []) b) (node_at (order ++ w ∷ []) c)
       before h =
-          let ea : node_at (order ++ w ∷ []) a ≡ node_at order a = at_before order w a (omega (arith, ac, cb, h)) in
-          let eb : node_at (order ++ w ∷ []) b ≡ node_at order b = at_before order w b h in
-          let ec : node_at (order ++ w ∷ []) c ≡ node_at order c = at_before order w c (omega (arith, cb, h)) in
-          let From : ℕ → Type 0 = λ n. Edge graph n (node_at (order ++ w ∷ []) b) in
-          let To : ℕ → Type 0 = λ n. Edge graph (node_at order a) n in
-          let WFrom : ℕ → Type 0 = λ n. Walk graph n (node_at (order ++ w ∷ []) c) in
-          let WTo : ℕ → Type 0 = λ n. Walk graph (node_at order b) n in
-          subst WFrom (sym eb) (subst WTo (sym ec) (nested a b c ac cb h (subst To eb (subst From ea edge))))
+          let edge_before = rw (at_before order w a (omega (arith, ac, cb, h)), at_before order w b h) at edge in
+          rw (at_before order w b h, at_before order w c (omega (arith, cb, h))) (nested a b c ac cb h edge_before)
 
       last : b ≡ length order → Walk graph (node_at (order ++ w ∷ []) b) (node_at (order ++ w ∷ []) c)
       last h =
-          let eb : node_at (order ++ w ∷ []) b ≡ w = at_end order w b h in
-          let WFrom : ℕ → Type 0 = λ n. Walk graph n (node_at (order ++ w ∷ []) c) in
-          let WTo : ℕ → Type 0 = λ n. Walk graph w n in
-          let From : ℕ → Type 0 = λ n. Edge graph n (node_at (order ++ w ∷ []) b) in
-          let To : ℕ → Type 0 = λ n. Edge graph (node_at order a) n in
-          subst WFrom (sym eb) (⊎_elim
-          (λ below. let ec : node_at (order ++ w ∷ []) c ≡ node_at order c = at_before order w c below in
-          let ea : node_at (order ++ w ∷ []) a ≡ node_at order a = at_before order w a (omega (arith, ac, below)) in
-          subst WTo (sym ec) (pending a c w ac below (subst To eb (subst From ea edge)) there))
-          (λ past. let ec : node_at (order ++ w ∷ []) c ≡ w = at_end order w c (omega (arith, past, cb, h)) in subst WTo (sym ec) here)
+          rw (at_end order w b h) (⊎_elim
+          (λ below. rw (at_before order w c below)
+          (pending a c w ac below (rw (at_before order w a (omega (arith, ac, below)), at_end order w b h) at edge) there))
+          (λ past. rw (at_end order w c (omega (arith, past, cb, h))) here)
           (cases_lt c (length order)))
 
   -- the same of what the nodes that it is still at lead to
@@ -59,17 +47,12 @@ module _ (graph : List (List ℕ)) where
   pending_more order ns w leads pending a c k ac lt edge in_ns =
       ⊎_elim before last (last_or_before order w c lt)
     where
-      WTo : ℕ → Type 0
-      WTo n = Walk graph k n
-
       before : c < length order → Walk graph k (node_at (order ++ w ∷ []) c)
       before h =
-          let ea : node_at (order ++ w ∷ []) a ≡ node_at order a = at_before order w a (omega (arith, ac, h)) in
-          let From : ℕ → Type 0 = λ n. Edge graph n k in
-          subst WTo (sym (at_before order w c h)) (pending a c k ac h (subst From ea edge) (Contains-append_left ns (w ∷ []) k in_ns))
+          rw (at_before order w c h) (pending a c k ac h (rw (at_before order w a (omega (arith, ac, h))) at edge) (Contains-append_left ns (w ∷ []) k in_ns))
 
       last : c ≡ length order → Walk graph k (node_at (order ++ w ∷ []) c)
-      last h = subst WTo (sym (at_end order w c h)) (all_at (λ x. Walk graph x w) ns k leads in_ns)
+      last h = rw (at_end order w c h) (all_at (λ x. Walk graph x w) ns k leads in_ns)
 
   -- the search is done with its innermost node
   pub search_finish : (seen : List Bool) (frames : List (ℕ × List ℕ)) (order : List ℕ) (w : ℕ) →
@@ -256,27 +239,14 @@ cost_enter graph seen frames w next rest lt fresh =
     omega (arith, times, a, b, c, d)
 
 -- the steps of the program, by what it finds
-pub step_finish : (graph : List (List ℕ)) (seen : List Bool) (frames : List (ℕ × List ℕ)) (order new : List ℕ) (w : ℕ) (nodes : List ℕ) →
-    nodes ≡ [] → new ≡ order ++ w ∷ [] → IsSearch graph seen (frames ++ (w, nodes) ∷ []) order → IsSearch graph seen frames new
-step_finish graph seen frames order new w nodes none is s = rw is (search_finish graph seen frames order w (rw none at s))
-
-pub step_edge : (graph : List (List ℕ)) (seen : List Bool) (frames : List (ℕ × List ℕ)) (order : List ℕ) (w next : ℕ) (nodes rest : List ℕ) →
-    nodes ≡ next ∷ rest → IsSearch graph seen (frames ++ (w, nodes) ∷ []) order → Edge graph w next
-step_edge graph seen frames order w next nodes rest is s = edge_next graph seen frames order rest w next (rw is at s)
-
 -- the node that is looked at next is one of the graph, and has a mark
 pub step_inside : (graph : List (List ℕ)) (seen : List Bool) (frames : List (ℕ × List ℕ)) (order : List ℕ) (w next bound : ℕ) (nodes rest : List ℕ) →
     nodes ≡ next ∷ rest → length graph ≡ bound → ((j k : ℕ) → Edge graph j k → k < bound) → IsSearch graph seen (frames ++ (w, nodes) ∷ []) order →
     (next < length graph) × (next < length seen)
 step_inside graph seen frames order w next bound nodes rest is size edges_in s =
-    let below : next < bound = edges_in w next (step_edge graph seen frames order w next nodes rest is s) in
+    let below : next < bound = edges_in w next (edge_next graph seen frames order rest w next (rw is at s)) in
     let marks : length seen ≡ length graph = s.begun.size in
     (omega (arith, below, size), omega (arith, below, size, marks))
-
-pub step_pass : (graph : List (List ℕ)) (seen : List Bool) (frames after : List (ℕ × List ℕ)) (order : List ℕ) (w next : ℕ) (nodes rest : List ℕ) →
-    nodes ≡ next ∷ rest → after ≡ frames ++ (w, rest) ∷ [] → Marked seen next → IsSearch graph seen (frames ++ (w, nodes) ∷ []) order →
-    IsSearch graph seen after order
-step_pass graph seen frames after order w next nodes rest is e m s = rw e (search_pass graph seen frames order rest w next m (rw is at s))
 
 pub step_enter : (graph : List (List ℕ)) (seen now : List Bool) (frames mid after : List (ℕ × List ℕ)) (order : List ℕ) (w next : ℕ) (nodes rest : List ℕ) →
     nodes ≡ next ∷ rest → mid ≡ frames ++ (w, rest) ∷ [] → next < length graph → get_or seen next false ≡ false → now ≡ set seen next true →

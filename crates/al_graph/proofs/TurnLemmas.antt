@@ -19,21 +19,17 @@ In k ns = Contains ns k
 -- one edge more
 pub edge_added : (old new : List (List ℕ)) (from to : ℕ) → from < length old → new ≡ set old from (get_or old from [] ++ to ∷ []) → AddsEdges (from ∷ []) to old new
 edge_added old new from to lt e =
-    let at : get_or new from [] ≡ get_or old from [] ++ to ∷ [] = ap (λ g. get_or g from []) e ∙ get_or-set_at old from from (get_or old from [] ++ to ∷ []) [] refl lt in
+    let full : get_or new from [] ≡ get_or old from [] ++ to ∷ [] = ap (λ g. get_or g from []) e ∙ get_or-set_at old from from (get_or old from [] ++ to ∷ []) [] refl lt in
     let off : (j : ℕ) → (j ≡ from → ⊥) → get_or new j [] ≡ get_or old j [] = λ j ne. ap (λ g. get_or g j []) e ∙ get_or-set_other old from j (get_or old from [] ++ to ∷ []) [] ne in
-    let InOne : ℕ → Type 0 = λ k. Contains (from ∷ []) k in
     record {
       kept = λ j k c. ⊎_elim
-          (λ same. let Old : ℕ → Type 0 = λ i. Edge old i k in let New : ℕ → Type 0 = λ i. Edge new i k in
-          subst New (sym same) (subst (In k) (sym at) (Contains-append_left (get_or old from []) (to ∷ []) k (subst Old same c))))
-          (λ ne. subst (In k) (sym (off j ne)) c) (cases_eq j from);
-      all = λ j c. let New : ℕ → Type 0 = λ i. Edge new i to in
-          subst New (one_is from j c) (subst (In to) (sym at) (Contains-append_right (get_or old from []) (to ∷ []) to (is_one to)));
+          (λ same. rw same (rw full (Contains-append_left (get_or old from []) (to ∷ []) k (rw same at c))))
+          (λ ne. rw (off j ne) c) (cases_eq j from);
+      all = λ j c. rw (sym (one_is from j c)) (rw full (Contains-append_right (get_or old from []) (to ∷ []) to (is_one to)));
       only = λ j k c. ⊎_elim
-          (λ same. let New : ℕ → Type 0 = λ i. Edge new i k in let Old : ℕ → Type 0 = λ i. Edge old i k in
-          ⊎_elim (λ was. inl (subst Old (sym same) was)) (λ one. inr (subst InOne (sym same) (is_one from), sym (one_is to k one)))
-          (Contains-append_cases (get_or old from []) (to ∷ []) k (subst (In k) at (subst New same c))))
-          (λ ne. inl (subst (In k) (off j ne) c)) (cases_eq j from);
+          (λ same. ⊎_elim (λ was. inl (rw same was)) (λ one. inr (rw same (is_one from), sym (one_is to k one)))
+          (Contains-append_cases (get_or old from []) (to ∷ []) k (rw full at (rw same at c))))
+          (λ ne. inl (rw (off j ne) at c)) (cases_eq j from);
     }
 
 -- the same where a node's list was pushed to
@@ -71,13 +67,11 @@ pub turned_next : (graph a b : List (List ℕ)) (i : ℕ) (nodes : List ℕ) →
 turned_next graph a b i nodes is t m = record {
   all = λ j k lt e. ⊎_elim
       (λ below. m.kept k j (t.all j k below e))
-      (λ above. let same : j ≡ i = omega (arith, lt, above) in let From : ℕ → Type 0 = λ n. Edge graph n k in let To : ℕ → Type 0 = λ n. Edge b k n in
-      subst To (sym same) (m.all k (subst (In k) (sym is) (subst From same e))))
+      (λ above. let same : j ≡ i = omega (arith, lt, above) in rw same (m.all k (rw is (rw same at e))))
       (cases_lt j i);
   only = λ j k e. ⊎_elim
       (λ old. let was = t.only j k old in (let below : j < i = was.0 in omega (arith, below), was.1))
-      (λ new. let same : j ≡ i = new.1 in let From : ℕ → Type 0 = λ n. Edge graph n k in
-      (omega (arith, same), subst From (sym same) (subst (In k) is new.0)))
+      (λ new. let same : j ≡ i = new.1 in (omega (arith, same), rw (same, sym is) new.0))
       (m.only k j e);
 }
 
@@ -90,15 +84,12 @@ pub turned_write : (graph : List (List ℕ)) (items begun after : List (Vec ℕ 
     → nodes ≡ get_or graph i [] → TurnedTo i graph (edges_of items) → AddsEdges nodes i (edges_of begun) (edges_of after)
     → TurnedTo (i + 1) graph (edges_of (take len (after ++ drop (length after) items)))
 turned_write graph items begun after len i nodes b l a is t m =
-    let P : List (Vec ℕ Global) → Type 0 = λ g. TurnedTo (i + 1) graph (edges_of g) in
-    let Q : List (Vec ℕ Global) → Type 0 = λ g. TurnedTo i graph (edges_of g) in
-    subst P (sym (written after items len (a ∙ ap length b) l)) (turned_next graph (edges_of begun) (edges_of after) i nodes is (subst Q (sym b) t) m)
+    rw (written after items len (a ∙ ap length b) l) (turned_next graph (edges_of begun) (edges_of after) i nodes is (rw b t) m)
 
 pub turned_end : (graph : List (Vec ℕ Global)) (other : List (List ℕ)) (i : ℕ) → i ≡ length graph → TurnedTo i (edges_of graph) other → IsTranspose (edges_of graph) other
 turned_end graph other i e t =
     let len : length (edges_of graph) ≡ length graph = length-map graph _ in
-    let P : ℕ → Type 0 = λ n. TurnedTo n (edges_of graph) other in
-    turned_all (edges_of graph) other (subst P (e ∙ sym len) t)
+    turned_all (edges_of graph) other (rw (len, sym e) t)
 
 -- a walk the other way round, and an edge before it
 pub before : (graph : List (List ℕ)) (i j k : ℕ) → Edge graph i j → Walk graph j k → Walk graph i k

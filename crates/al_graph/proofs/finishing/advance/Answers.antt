@@ -2,15 +2,15 @@ use Rattle.std.proofs.Common.{rules, ◌≡◌, ◌∙◌, ap, ◌<◌, ◌++◌
 use Rattle.std.proofs.lemmas.List.{get_or_read, length-map, map-append}
 use Rattle.al_graph.specs.Graphs.{edges_of}
 use Rattle.al_graph.specs.Private.Finishing.{frames_of, frame_of}
-use Rattle.al_graph.proofs.SearchLemmas.{step_edge, step_enter, step_finish, step_inside, step_pass}
+use Rattle.al_graph.proofs.SearchLemmas.{edge_next, search_finish, search_pass, step_enter, step_inside}
 use Rattle.al_graph.proofs.finishing.advance.Goals as goal
 
 pub returns-in_default-clause-search : goal.returns-in_default-clause-search
 returns-in_default-clause-search c =
     let none : c.args.frame.rest.now ≡ [] = search rules in
     let items : c.push.new.self.items ≡ c.args.order.now.items ++ c.args.frame.node ∷ [] = search rules in
-    step_finish (edges_of c.args.graph.now) c.args.seen.now.items (frames_of c.args.frames.now.items) c.args.order.now.items
-    c.push.new.self.items c.args.frame.node c.args.frame.rest.now none items c.requires.search
+    rw items (search_finish (edges_of c.args.graph.now) c.args.seen.now.items (frames_of c.args.frames.now.items) c.args.order.now.items
+    c.args.frame.node (rw none at c.requires.search))
 
 pub index-requires : goal.index-requires
 index-requires c =
@@ -29,15 +29,15 @@ returns-then-index-clause-search c =
     ∷ [] = ap frames_of c.in_ok-push-2.ensures.items ∙ map-append frame_of c.args.frames.now.items _ in
     let marked : get_or c.args.seen.now.items c.in-Some.next false ≡ true =
     sym (get_or_read c.args.seen.now.items c.in-Some.next c.index.result.now inside.1 c.index.ensures false) ∙ c.if-index.true in
-    step_pass (edges_of c.args.graph.now) c.args.seen.now.items (frames_of c.args.frames.now.items) (frames_of c.push-2.new.self.items)
-    c.args.order.now.items c.args.frame.node c.in-Some.next c.args.frame.rest.now c.in-Some.rest.now is pushed marked c.requires.search
+    rw pushed (search_pass (edges_of c.args.graph.now) c.args.seen.now.items (frames_of c.args.frames.now.items) c.args.order.now.items
+    c.in-Some.rest.now c.args.frame.node c.in-Some.next marked (rw is at c.requires.search))
 
 pub enter-requires-clause-node_in : goal.enter-requires-clause-node_in
 enter-requires-clause-node_in c =
     let is : c.args.frame.rest.now ≡ c.in-Some.next ∷ c.in-Some.rest.now = search rules in
     c.requires.edges_in c.args.frame.node c.in-Some.next
-    (step_edge (edges_of c.args.graph.now) c.args.seen.now.items (frames_of c.args.frames.now.items) c.args.order.now.items
-    c.args.frame.node c.in-Some.next c.args.frame.rest.now c.in-Some.rest.now is c.requires.search)
+    (edge_next (edges_of c.args.graph.now) c.args.seen.now.items (frames_of c.args.frames.now.items) c.args.order.now.items
+    c.in-Some.rest.now c.args.frame.node c.in-Some.next (rw is at c.requires.search))
 
 pub returns : goal.returns
 returns c =
