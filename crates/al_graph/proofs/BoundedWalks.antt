@@ -1,24 +1,14 @@
 -- A walk along a graph leads somewhere exactly where one of bounded length does.
 use Rattle.std.proofs.Common.{◌≡◌, ℕ, zero, suc, ◌+◌, ◌<◌, ◌≤◌, List, [], ◌∷◌, length, refl, sym, subst, arith, Bool, true}
-use Rattle.std.proofs.Common.{false, ◌||◌, cond, nat_eq, inl, inr, ◌⊎◌}
+use Rattle.std.proofs.Common.{false, ◌||◌, cond, eq-eqb, nat_eq, inl, inr, ◌⊎◌}
 use Rattle.std.specs.Prelude.{slice_index_or, ◌↔◌}
 use Rattle.std.specs.List.{list_any}
-use Rattle.std.proofs.lemmas.Bool.{cases_lt, or_right}
+use Rattle.std.proofs.lemmas.Bool.{cases_lt, eqb-true, or_cases, or_right}
 use Rattle.std.proofs.lemmas.Bool.Decides.{nat_tests}
 use Rattle.std.proofs.lemmas.List.{get_or_past}
 use Rattle.std.proofs.lemmas.List.Folds.{Any-from_list_any, list_any-from_Any}
 use Rattle.al_graph.specs.Graphs.{Edge, Walk, here, onward}
 use Rattle.al_graph.specs.Within.{leads, leads_within}
-
-either : (a b : Bool) → (a || b) ≡ true → (a ≡ true) ⊎ (b ≡ true)
-either true b e = inl refl
-either false b e = inr e
-
-same_numbers : (j k : ℕ) → nat_eq j k ≡ true → j ≡ k
-same_numbers j k e = grind (arith, nat_tests)
-
-itself : (k : ℕ) → nat_eq k k ≡ true
-itself k = grind (arith, nat_tests)
 
 any_also : (p q : ℕ → Bool) (xs : List ℕ) → ((x : ℕ) → p x ≡ true → q x ≡ true) → list_any p xs ≡ true → list_any q xs ≡ true
 any_also p q [] f e = e
@@ -30,11 +20,11 @@ module _ (g : List (List ℕ)) where
   first_step j i e (onward a b w f) = onward a b (first_step j i e w) f
 
   no_step : (j k : ℕ) → nat_eq j k ≡ true → Walk g j k
-  no_step j k e = subst (λ x. Walk g j x) (same_numbers j k e) here
+  no_step j k e = subst (λ x. Walk g j x) (eqb-true j k e) here
 
   pub walk_of : (n j k : ℕ) → leads_within n g j k ≡ true → Walk g j k
   walk_of zero j k e = no_step j k e
-  walk_of (suc n) j k e = elim (either (nat_eq j k) (list_any (λ i. leads_within n g i k) (slice_index_or g j [])) e) [
+  walk_of (suc n) j k e = elim (or_cases (nat_eq j k) (list_any (λ i. leads_within n g i k) (slice_index_or g j [])) e) [
     | inl h ↦ no_step j k h
     | inr h ↦
         let a = Any-from_list_any (λ i. leads_within n g i k) (slice_index_or g j []) h in
@@ -136,7 +126,7 @@ module _ (g : List (List ℕ)) (k : ℕ) where
       (list_any-from_Any (λ i. leads_within (suc (length g)) g i k) (slice_index_or g a []) (f.0, b, f.1, f.2, e))))
 
   pub leads_of : (j : ℕ) → Walk g j k → leads_within (suc (length g)) g j k ≡ true
-  leads_of j w = back_along j w (there g k (suc (length g)) k (itself k))
+  leads_of j w = back_along j w (there g k (suc (length g)) k (eq-eqb k k refl))
 
 pub leads_tells : (graph : List (List ℕ)) (j k : ℕ) → (leads graph j k ≡ true) ↔ Walk graph j k
 leads_tells graph j k = (λ e. walk_of graph (suc (length graph)) j k e, λ w. leads_of graph k j w)

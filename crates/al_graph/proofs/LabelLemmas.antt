@@ -18,10 +18,7 @@ some_is : (a b : ℕ) → Some a ≡ Some b → a ≡ b
 some_is a b e = ap (λ o. unwrap_or o a) e
 
 not_both : (l : ℕ) (o : Option ℕ) → o ≡ None → o ≡ Some l → ⊥
-not_both l o n s = wrong (sym n ∙ s)
-  where
-    wrong : None ≡ Some l → ⊥
-    wrong h = cc
+not_both l o n s = cc (n, s)
 
 pub labels_again : (label : ℕ) (labels : List (Option ℕ)) (j l : ℕ) (found : List ℕ) → label_at labels j ≡ Some l → Labels (j ∷ []) label labels labels found found
 labels_again label labels j l found was = record {

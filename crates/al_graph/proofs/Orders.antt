@@ -22,10 +22,7 @@ at_end order w i e = ap (λ n. node_at (order ++ w ∷ []) n) e ∙ get_or-appen
 pub last_or_before : (order : List ℕ) (w i : ℕ) → i < length (order ++ w ∷ []) → (i < length order) ⊎ (i ≡ length order)
 last_or_before order w i h =
     let n : length (order ++ w ∷ []) ≡ length order + 1 = length-append order (w ∷ []) in
-    two i (length order) (omega (arith, n, h))
-  where
-    two : (a b : ℕ) → a < b + 1 → (a < b) ⊎ (a ≡ b)
-    two a b h = grind arith
+    grind (arith, n, h)
 
 module _ {X : Type 0} (P : X → Type 0) where
   pub all_front : (xs ys : List X) → AllByRecursion P (xs ++ ys) → AllByRecursion P xs

@@ -150,10 +150,7 @@ module _ (graph : List (List ℕ)) where
   still_seen seen j k h m = ⊎_elim (λ e. get_or-set_at seen j k true false e h) (λ ne. get_or-set_other seen j k true false ne ∙ m) (cases_eq k j)
 
   unseen : (seen : List Bool) (k : ℕ) → get_or seen k false ≡ false → Marked seen k → ⊥
-  unseen seen k f m = wrong (sym f ∙ m)
-    where
-      wrong : false ≡ true → ⊥
-      wrong h = cc
+  unseen seen k f m = cc (f, m)
 
   -- it comes to a node that was not seen, to which those lead that it is at
   pub search_enter : (seen : List Bool) (frames : List (ℕ × List ℕ)) (order : List ℕ) (w : ℕ) → w < length graph →
