@@ -1,6 +1,7 @@
 -- The order of faults is the derived one, it is total, and it tells equal faults.
 use Rattle.std.proofs.Common.{◌≡◌, ℕ, List, [], ◌∷◌, get_or, map, pred, refl, sym, ap, ◌∙◌}
 use Rattle.std.specs.Cmp.{IsTotalOrder}
+use Rattle.std.specs.Cmp.Derive.{then_next}
 use Rattle.std.specs.List.{AllByRecursion, Contains, flat_map}
 use Rattle.std.specs.List.Sorted.{IsPermutation, IsStrictlySortedBy}
 use Rattle.std.specs.FinMap.{IsAntisymmetric, nat_cmp-IsAntisymmetric, slice_cmp-IsAntisymmetric}
@@ -68,9 +69,7 @@ code_is (C.Call _ caller.Step) (C.Call _ caller.Step) = refl
 code_is _ _ = refl
 
 then_assoc : (p c l : Ordering) → ordering_then (ordering_then p c) l ≡ ordering_then p (ordering_then c l)
-then_assoc Less c l = refl
-then_assoc Equal c l = refl
-then_assoc Greater c l = refl
+then_assoc p c l = sym (then_next p c l refl refl)
 
 joined : (s e c k p a : Ordering) → c ≡ ordering_then k p → ordering_then (ordering_then s e) (ordering_then c a) ≡ ordering_then s (ordering_then e (ordering_then k (ordering_then p a)))
 joined s e c k p a is =

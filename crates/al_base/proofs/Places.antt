@@ -6,7 +6,7 @@ use Rattle.std.specs.Cmp.{tied_then}
 use Rattle.std.specs.Cmp.Lexicographic.{bytes_decides, slice_cmp}
 use Rattle.std.specs.Option.{option_eq}
 use Rattle.std.specs.Ordering.{is_eq, nat_cmp}
-use Rattle.std.proofs.lemmas.Bool.{cases_lt, lt-ltb}
+use Rattle.std.proofs.lemmas.Bool.{and_parts, cases_lt, lt-ltb}
 use Rattle.std.proofs.lemmas.List.{get_or-append_right, get_or_append_left, get_or-map, get_or_default, length-append, length-map}
 use Rattle.std.proofs.lemmas.List.Elements.{All-contains, Contains-get_or}
 use Rattle.std.proofs.lemmas.List.Sorted.{All-permutation, Contains-permutation, length_permutation}
@@ -17,16 +17,12 @@ use Rattle.al_base.specs.SortedTexts.{AreNumbered, AreOf, AreSorted, Key, StandI
 use Rattle.al_base.specs.declared.sorted_texts.Entry.{Entry}
 use Rattle.al_base.proofs.SortedTexts.{names_by_text, position_first}
 
-and_both : (a b : Bool) → (a && b) ≡ true → b ≡ true
-and_both true b e = e
-and_both false b e = absurd cc
-
 -- keys that compare equal are of one text
 same_text : (a b : Key) → is_eq (key_cmp a b) ≡ true → a.1 ≡ b.1
 same_text a b e =
     (bytes_decides a.1 b.1).0
     (sym (is_eq-slice_cmp a.1 b.1)
-    ∙ and_both (is_eq (nat_cmp a.0 b.0)) (is_eq (slice_cmp nat_cmp a.1 b.1)) (tied_then (nat_cmp a.0 b.0) (slice_cmp nat_cmp a.1 b.1) ∙ e))
+    ∙ (and_parts (is_eq (nat_cmp a.0 b.0)) (is_eq (slice_cmp nat_cmp a.1 b.1)) (tied_then (nat_cmp a.0 b.0) (slice_cmp nat_cmp a.1 b.1) ∙ e)).1)
 
 -- an element of a list with a position
 with_one : {X P : Type 0} (xs : List X) (i : ℕ) → i < length xs → (X → P) → P

@@ -12,7 +12,8 @@ use Rattle.std.specs.Str.{bytes_eq}
 use Rattle.std.specs.declared.cmp.Ordering.{Ordering}
 use Rattle.std.specs.declared.cmp.Ordering.TheVariants.{Less, Equal, Greater}
 use Rattle.std.proofs.lemmas.Bool.{cases_lt}
-use Rattle.std.proofs.lemmas.Cmp.{nat_cmp_total, on_total, then_total}
+use Rattle.std.proofs.lemmas.Bool.Decides.{nat_tests}
+use Rattle.std.proofs.lemmas.Cmp.{is_eq_index, is_lt_index, nat_cmp_total, on_total, then_total}
 use Rattle.std.proofs.lemmas.List.{get_or_default, length-map, length-take, map-append, take_more}
 use Rattle.std.proofs.lemmas.List.Folds.{find-append}
 use Rattle.std.proofs.lemmas.List.Sorted.{ranks_by, searchable_from_sorted}
@@ -148,26 +149,16 @@ module _ {T : Type 0} (bytes : T → List ℕ) where
 -- ---- behind a binary search
 
 index_of_less : (o : Ordering) → is_lt o ≡ true → ordering_index o ≡ 0
-index_of_less Less h = refl
-index_of_less Equal h = absurd cc
-index_of_less Greater h = absurd cc
+index_of_less o h = grind (arith, nat_tests, is_lt_index o)
 
 less_of_index : (o : Ordering) → ordering_index o ≤ 0 → is_lt o ≡ true
-less_of_index Less h = refl
-less_of_index Equal h = absurd (omega (arith, h))
-less_of_index Greater h = absurd (omega (arith, h))
+less_of_index o h = grind (arith, nat_tests, is_lt_index o)
 
 less_is_other : (o : Ordering) → is_lt o ≡ true → is_eq o ≡ false
-less_is_other Less h = refl
-less_is_other Equal h = absurd cc
-less_is_other Greater h = absurd cc
+less_is_other o h = grind (arith, nat_tests, is_lt_index o, is_eq_index o)
 
 greater_stays : (o p : Ordering) → is_lt o ≡ false → is_eq o ≡ false → ordering_index o ≤ ordering_index p → is_eq p ≡ false
-greater_stays Less p l e h = absurd cc
-greater_stays Equal p l e h = absurd cc
-greater_stays Greater Less l e h = refl
-greater_stays Greater Equal l e h = absurd (omega (arith, h))
-greater_stays Greater Greater l e h = refl
+greater_stays o p l e h = grind (arith, nat_tests, is_lt_index o, is_eq_index o, is_eq_index p)
 
 module _ {X : Type 0} (rank : X → Ordering) (xs : List X) (up : IsNonDecreasingBy (λ y. ordering_index (rank y)) xs) where
   pub parted : IsPartitionedBy (λ y. is_lt (rank y)) xs
@@ -221,14 +212,10 @@ module _ {T : Type 0} (bytes : T → List ℕ) (es : List (Entry T)) (text : Lis
 
   -- one behind those of other texts is the first of its text
   not_above : (o p : Ordering) → p ≡ Equal → ordering_index o ≤ ordering_index p → is_eq o ≡ false → is_lt o ≡ true
-  not_above Less p q l e = refl
-  not_above Equal p q l e = absurd cc
-  not_above Greater p q l e = let z = ap ordering_index q in absurd (omega (arith, l, z))
+  not_above o p q l e = let one = ap ordering_index q in grind (arith, nat_tests, one, is_lt_index o, is_eq_index o)
 
   not_below : (o p : Ordering) → p ≡ Equal → ordering_index p ≤ ordering_index o → is_lt o ≡ false
-  not_below Less p q l = let z = ap ordering_index q in absurd (omega (arith, l, z))
-  not_below Equal p q l = refl
-  not_below Greater p q l = refl
+  not_below o p q l = let one = ap ordering_index q in grind (arith, nat_tests, one, is_lt_index o)
 
   pub position_first : (i : ℕ) (e : Entry T) → i < length es → e ≡ get_or es i e → entry_key bytes e ≡ (number, text) →
       ((k : ℕ) → k + 1 ≡ i → is_eq (rank (get_or es k e)) ≡ false) → position_among bytes es text ≡ Some e.position

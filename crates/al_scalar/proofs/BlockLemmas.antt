@@ -11,6 +11,7 @@ use Rattle.al_scalar.specs.Private.BlockRead.{indent_from}
 use Rattle.al_scalar.proofs.LineLemmas.{cells_between-none, cells_between-more}
 use Rattle.al_scalar.proofs.LineCells.{has_line, RunBefore, run_at, run_then, cell_at, text-line_end, lines-at_end, byte_kind, IsInside}
 use Rattle.al_scalar.proofs.FoldLemmas.{after_blanks-run, after_blanks-solid}
+use Rattle.al_scalar.proofs.RestLemmas.{text_kind}
 
 pub AreSpaces-more : (cs : List Cell) (c : Cell) → AreSpaces cs → c.0 ≡ 32 → AreSpaces (cs ++ c ∷ [])
 AreSpaces-more [] c s p = (p, tt)
@@ -65,16 +66,12 @@ length-cells_between bytes i j = length-cells_at bytes i (j - i)
 indent-cell : (c : Cell) (cs : List Cell) → c.0 ≢ 32 → indent (c ∷ cs) ≡ 0
 indent-cell c cs n = grind (arith, common_steps, n)
 
-indent-cases : (bytes : List ℕ) (i : ℕ) → (i ≡ length bytes) ⊎ (i < length bytes)
-    → ((slice_index bytes i ≡ 10) ⊎ (slice_index bytes i ≡ 13)) ⊎ ((slice_index bytes i ≢ 10) × (slice_index bytes i ≢ 13))
-    → (i < length bytes → slice_index bytes i ≢ 32) → indent (first_text (lines_at bytes i)) ≡ 0
-indent-cases bytes i (inl e) k n = ap (λ ls. indent (first_text ls)) (lines-at_end bytes i e)
-indent-cases bytes i (inr l) (inl k) n = ap indent (text-line_end bytes i (le_of_lt l) (λ _. k))
-indent-cases bytes i (inr l) (inr k) n = ap indent (cell_at bytes i l k.0 k.1).text ∙ indent-cell (slice_index bytes i, i) (first_text (lines_at bytes (i + 1))) (n l)
-
 -- no space stands there
 pub indent-solid : (bytes : List ℕ) (i : ℕ) → i ≤ length bytes → (i < length bytes → slice_index bytes i ≢ 32) → indent (first_text (lines_at bytes i)) ≡ 0
-indent-solid bytes i h n = indent-cases bytes i (eq-or-lt_of_le h) (byte_kind (slice_index bytes i)) n
+indent-solid bytes i h n = elim (text_kind bytes i h) [
+  | inl e ↦ ap indent e
+  | inr k ↦ ap indent k.1 ∙ indent-cell (slice_index bytes i, i) (first_text (lines_at bytes (i + 1))) (n k.0)
+]
 
 -- the indent of a line whose spaces end at an offset
 pub indent-at : (bytes : List ℕ) (at i : ℕ) → AreSpaces (cells_between bytes at i) → RunBefore (cells_between bytes at i) (lines_at bytes at) (lines_at bytes i)

@@ -8,7 +8,7 @@ use Rattle.al_scalar.specs.declared.faults.FaultAt.{FaultAt}
 use Rattle.al_scalar.specs.Quoted.{QuotedLine, QuotedEnd, closed, broken, escaped, cut_short, line_given}
 use Rattle.al_scalar.specs.Places.{first_end, lines_at}
 use Rattle.al_scalar.specs.LineEnds.{AreBlank, IsBlankByte, IsLineEnd, SameLine, first_last}
-use Rattle.al_scalar.proofs.LineCells.{has_line, is_blank-yes, is_blank-no}
+use Rattle.al_scalar.proofs.LineCells.{broken-at, has_line, is_blank-yes, is_blank-no}
 
 pub before-two : (a b : List Cell) (r : Result Taken FaultAt) → before a (before b r) ≡ before (a ++ b) r
 before-two a b (Ok t) = ap (λ c. Ok (record { text = c; end = t.end; left = t.left })) (sym (append_assoc a b t.text))
@@ -65,20 +65,5 @@ pub end-with_return : (at : ℕ) (ls : List Line) → has_line ls ≡ true → f
 end-with_return at [] h = cc
 end-with_return at (l ∷ ls) h = refl
 
-break-feed : (at b : ℕ) (bs : List ℕ) → b ≡ 10 → (first_end (lines at (b ∷ bs)) ≡ at) × (first_last (lines at (b ∷ bs)) ≡ false)
-break-feed at b bs e = (rw e refl, rw e refl)
-
-break-return : (at b : ℕ) (bs : List ℕ) → b ≡ 13 → (first_end (lines at (b ∷ bs)) ≡ at) × (first_last (lines at (b ∷ bs)) ≡ false)
-break-return at b [] e = (rw e refl, rw e refl)
-break-return at b (c ∷ bs) e = return-cases at b c bs (c == 10) refl e
-  where
-    return-cases : (at b c : ℕ) (bs : List ℕ) (x : Bool) → (c == 10) ≡ x → b ≡ 13 → (first_end (lines at (b ∷ c ∷ bs)) ≡ at) × (first_last (lines at (b ∷ c ∷ bs)) ≡ false)
-    return-cases at b c bs true f e = (rw (e, f) refl, rw (e, f) refl)
-    return-cases at b c bs false f e = (rw (e, f) refl, rw (e, f) refl)
-
-break-kind : (at b : ℕ) (bs : List ℕ) → (b ≡ 10) ⊎ (b ≡ 13) → (first_end (lines at (b ∷ bs)) ≡ at) × (first_last (lines at (b ∷ bs)) ≡ false)
-break-kind at b bs (inl e) = break-feed at b bs e
-break-kind at b bs (inr e) = break-return at b bs e
-
 pub break-at : (bytes : List ℕ) (i : ℕ) → i < length bytes → IsLineEnd bytes i → (first_end (lines_at bytes i) ≡ i) × (first_last (lines_at bytes i) ≡ false)
-break-at bytes i l k = rw (drop-cons bytes i 0) (break-kind i (slice_index bytes i) (drop (suc i) bytes) (k l))
+break-at bytes i l k = let broken = broken-at bytes i l k in (ap first_end broken.1, ap first_last broken.1)

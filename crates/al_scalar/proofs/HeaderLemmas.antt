@@ -1,7 +1,7 @@
 -- The end of a block scalar's header.
 use Rattle.al_base.specs.declared.codes.YamlCode.TheVariants.{WrongBlockHeader}
 use Rattle.std.proofs.Common.{◌≡◌, ◌≢◌, ℕ, suc, ◌+◌, ◌<◌, ◌≤◌, List, [], ◌∷◌, ◌++◌, length, slice_index, refl, ap, subst, ◌∙◌, arith, Bool, true, false, ◌&&◌, ◌||◌, ◌==◌, cond, Ok, Err, eq-eqb}
-use Rattle.std.proofs.lemmas.Grind.{common_steps}
+use Rattle.std.proofs.lemmas.Bool.{ne_eqb}
 use Rattle.std.proofs.Math.Bool.{and-false}
 use Rattle.al_scalar.specs.Line.{Cell, place, after_blanks, is_empty, begins_blank, begins}
 use Rattle.al_scalar.specs.Taken.{fault}
@@ -13,9 +13,6 @@ use Rattle.al_scalar.proofs.LineLemmas.{cells_between-front}
 use Rattle.al_scalar.proofs.LineCells.{run_at, text-line_end, is_blank-yes, is_blank-no, IsInside}
 use Rattle.al_scalar.proofs.FoldLemmas.{after_blanks-run, after_blanks-solid}
 use Rattle.al_scalar.proofs.BlockLemmas.{begins-cell}
-
-eqb-no : (a b : ℕ) → a ≢ b → (a == b) ≡ false
-eqb-no a b n = grind (arith, common_steps, n)
 
 module _ (bytes : List ℕ) (at solid : ℕ) (inside : solid ≤ length bytes) (b : AreBlank (cells_between bytes at solid))
     (e : lines_at bytes at ≡ with_cells_before (cells_between bytes at solid) (lines_at bytes solid)) (h : Header) where
@@ -36,7 +33,7 @@ module _ (bytes : List ℕ) (at solid : ℕ) (inside : solid ≤ length bytes) (
   pub header-other : IsInside bytes solid → (IsBlankByte (slice_index bytes solid) → ⊥) → slice_index bytes solid ≢ 35
       → header_end h (first_text (lines_at bytes at)) ≡ Err (record { code = WrongBlockHeader; at = solid })
   header-other here n m =
-      rw (after-solid here n, eqb-no (slice_index bytes solid) 35 m, and-false (begins_blank (first_text (lines_at bytes at)))) refl
+      rw (after-solid here n, ne_eqb (slice_index bytes solid) 35 m, and-false (begins_blank (first_text (lines_at bytes at)))) refl
 
   pub header-close : IsInside bytes solid → (IsBlankByte (slice_index bytes solid) → ⊥) → at ≡ solid
       → header_end h (first_text (lines_at bytes at)) ≡ Err (record { code = WrongBlockHeader; at = solid })

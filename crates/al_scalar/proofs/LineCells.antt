@@ -7,7 +7,7 @@ use native.Mathlib.Decide.{ℕ_discrete}
 use Rattle.std.proofs.lemmas.Grind.{common_steps}
 use Rattle.al_scalar.specs.Line.{Cell, Line, lines, with_cell, with_return, is_break, is_blank}
 use Rattle.al_scalar.specs.Places.{first_text, lines_at}
-use Rattle.al_scalar.specs.LineEnds.{with_cells_before, IsBlankByte, IsLineEnd, SameLine}
+use Rattle.al_scalar.specs.LineEnds.{broken_line, with_cells_before, IsBlankByte, IsBreakByte, IsLineEnd, SameLine}
 use Rattle.al_scalar.proofs.LineLemmas.{lines_at-other}
 use Rattle.al_scalar.proofs.OffsetLemmas.{choose}
 
@@ -70,30 +70,24 @@ run_then p q r s = record {
   same = record { end = r.same.end ∙ s.same.end; last = r.same.last ∙ s.same.last; later = r.same.later ∙ s.same.later };
 }
 
-text-line_feed : (at b : ℕ) (bs : List ℕ) → b ≡ 10 → first_text (lines at (b ∷ bs)) ≡ []
-text-line_feed at b bs e = grind (arith, common_steps, e)
+-- at a break no text is left of the line, which isn't the last one
+broken : (at b : ℕ) (bs : List ℕ) → IsBreakByte b → (more : List Line) × (lines at (b ∷ bs) ≡ broken_line at ∷ more)
+broken at b bs (inl e) = (lines (at + 1) bs, rw e refl)
+broken at b [] (inr e) = (lines (at + 1) [], rw e refl)
+broken at b (c ∷ cs) (inr e) = by_next (c == 10) refl
+  where
+    by_next : (x : Bool) → (c == 10) ≡ x → (more : List Line) × (lines at (b ∷ c ∷ cs) ≡ broken_line at ∷ more)
+    by_next true f = (lines (at + 1 + 1) cs, rw (e, f) refl)
+    by_next false f = (lines (at + 1) (c ∷ cs), rw (e, f) refl)
 
-text-with_return : (at : ℕ) (ls : List Line) → first_text (with_return at ls) ≡ first_text ls
-text-with_return at [] = refl
-text-with_return at (l ∷ ls) = refl
-
-text-return : (at b : ℕ) (bs : List ℕ) → b ≡ 13 → first_text (lines at (b ∷ bs)) ≡ []
-text-return at b [] e = grind (arith, common_steps, e)
-text-return at b (c ∷ bs) e = grind (arith, common_steps, e, text-with_return at (lines (at + 1) (c ∷ bs)), text-line_feed (at + 1) c bs)
-
-text-break : (at b : ℕ) (bs : List ℕ) → (b ≡ 10) ⊎ (b ≡ 13) → first_text (lines at (b ∷ bs)) ≡ []
-text-break at b bs (inl e) = text-line_feed at b bs e
-text-break at b bs (inr e) = text-return at b bs e
+pub broken-at : (bytes : List ℕ) (i : ℕ) → i < length bytes → IsLineEnd bytes i → (more : List Line) × (lines_at bytes i ≡ broken_line i ∷ more)
+broken-at bytes i l k = rw (drop-cons bytes i 0) (broken i (slice_index bytes i) (drop (suc i) bytes) (k l))
 
 pub lines-at_end : (bytes : List ℕ) (i : ℕ) → i ≡ length bytes → lines_at bytes i ≡ record { text = []; end = i; last = true } ∷ []
 lines-at_end bytes i e = rw (e, drop-length) refl
 
-text-line_end-cases : (bytes : List ℕ) (i : ℕ) → (i ≡ length bytes) ⊎ (i < length bytes) → IsLineEnd bytes i → first_text (lines_at bytes i) ≡ []
-text-line_end-cases bytes i (inl e) k = ap first_text (lines-at_end bytes i e)
-text-line_end-cases bytes i (inr l) k = rw (drop-cons bytes i 0) (text-break i (slice_index bytes i) (drop (suc i) bytes) (k l))
-
 pub text-line_end : (bytes : List ℕ) (i : ℕ) → i ≤ length bytes → IsLineEnd bytes i → first_text (lines_at bytes i) ≡ []
-text-line_end bytes i h k = text-line_end-cases bytes i (eq-or-lt_of_le h) k
+text-line_end bytes i h k = elim (eq-or-lt_of_le h) [ inl e ↦ ap first_text (lines-at_end bytes i e) | inr l ↦ ap first_text (broken-at bytes i l k).1 ]
 
 pub byte_kind : (b : ℕ) → ((b ≡ 10) ⊎ (b ≡ 13)) ⊎ ((b ≢ 10) × (b ≢ 13))
 byte_kind b = elim (ℕ_discrete b 10) [ yes e ↦ inl (inl e) | no n ↦ elim (ℕ_discrete b 13) [ yes e ↦ inl (inr e) | no m ↦ inr (n, m) ] ]
@@ -107,12 +101,11 @@ pub record IsInside (bytes : List ℕ) (j : ℕ) : Type 0 where
   pub not_feed : slice_index bytes j ≢ 10
   pub not_return : slice_index bytes j ≢ 13
 
-is_inside-cases : (bytes : List ℕ) (j : ℕ) → (j ≡ length bytes) ⊎ (j < length bytes) → (IsLineEnd bytes j → ⊥) → IsInside bytes j
-is_inside-cases bytes j (inl e) h = absurd (h (λ l. absurd (omega arith)))
-is_inside-cases bytes j (inr l) h = record { inside = l; not_feed = λ e. h (λ _. inl e); not_return = λ e. h (λ _. inr e) }
-
 pub is_inside : (bytes : List ℕ) (j : ℕ) → j ≤ length bytes → (IsLineEnd bytes j → ⊥) → IsInside bytes j
-is_inside bytes j h k = is_inside-cases bytes j (eq-or-lt_of_le h) k
+is_inside bytes j h k = elim (eq-or-lt_of_le h) [
+  | inl e ↦ absurd (k (λ l. absurd (omega arith)))
+  | inr l ↦ record { inside = l; not_feed = λ e. k (λ _. inl e); not_return = λ e. k (λ _. inr e) }
+]
 
 pub never : false ≡ true → ⊥
 never e = cc

@@ -1,13 +1,13 @@
 -- What stands at an offset of a line, and what is left of the lines behind blanks and spaces and up to a line's end.
 use Rattle.std.proofs.Common.{◌≡◌, ◌≢◌, ℕ, ◌<◌, ◌≤◌, List, [], ◌∷◌, ◌++◌, length, slice_index, refl, sym, ap, ◌∙◌, arith, inl, inr, ◌⊎◌, eq-or-lt_of_le, false, ◌==◌, cond, eq-eqb}
-use Rattle.std.proofs.lemmas.Grind.{common_steps}
+use Rattle.std.proofs.lemmas.Bool.{ne_eqb}
 use Rattle.al_scalar.specs.Line.{Cell, Line, start, place, cut, after_blanks, after_spaces, begins, begins_blank, blanks_dropped, spaces_dropped}
 use Rattle.al_scalar.specs.Places.{first_text, first_end, lines_at, text_at}
 use Rattle.al_scalar.specs.LineEnds.{cells_between, with_cells_before, AreBlank, AreSpaces, IsBlankByte, IsBreakByte, IsLineEnd, SameLine}
 use Rattle.al_scalar.proofs.LineCells.{lines-at_end, text-line_end, is_blank-no, byte_kind}
 use Rattle.al_scalar.proofs.FoldLemmas.{after_blanks-run}
 use Rattle.al_scalar.proofs.PlainLemmas.{text_at-cell}
-use Rattle.al_scalar.proofs.RestLemmas.{start-at}
+use Rattle.al_scalar.proofs.RestLemmas.{text_kind, start-at}
 
 not_break : (b : ℕ) → (b ≢ 10) × (b ≢ 13) → IsBreakByte b → ⊥
 not_break b k (inl e) = k.0 e
@@ -40,10 +40,8 @@ pub blanks_dropped-stays : (ls : List Line) → begins_blank (first_text ls) ≡
 blanks_dropped-stays [] h = refl
 blanks_dropped-stays (l ∷ ls) h = ap (λ t. cut t l ls) (after_blanks-stays l.text h)
 
-begins_blank-kind : (bytes : List ℕ) (i : ℕ) → Kind bytes i → (i < length bytes → IsBlankByte (slice_index bytes i) → ⊥) → begins_blank (text_at bytes i) ≡ false
-begins_blank-kind bytes i (at_file_end e) n = ap (λ ls. begins_blank (first_text ls)) (lines-at_end bytes i e)
-begins_blank-kind bytes i (at_break l k) n = ap begins_blank (text-line_end bytes i (omega arith) (λ _. k))
-begins_blank-kind bytes i (at_byte l k) n = ap begins_blank (text_at-cell bytes i (omega arith) k) ∙ is_blank-no (slice_index bytes i, i) (n l)
+begins_blank-no : (bytes : List ℕ) (i : ℕ) → i ≤ length bytes → (i < length bytes → IsBlankByte (slice_index bytes i) → ⊥) → begins_blank (text_at bytes i) ≡ false
+begins_blank-no bytes i h n = elim (text_kind bytes i h) [ inl e ↦ ap begins_blank e | inr k ↦ ap begins_blank k.1 ∙ is_blank-no (slice_index bytes i, i) (n k.0) ]
 
 -- ---- spaces
 
@@ -63,13 +61,8 @@ spaces_dropped-stays : (ls : List Line) → begins 32 (first_text ls) ≡ false 
 spaces_dropped-stays [] h = refl
 spaces_dropped-stays (l ∷ ls) h = ap (λ t. cut t l ls) (after_spaces-stays l.text h)
 
-is_no : (a b : ℕ) → a ≢ b → (a == b) ≡ false
-is_no a b h = grind (arith, common_steps, h)
-
-begins_space-kind : (bytes : List ℕ) (i : ℕ) → Kind bytes i → (i < length bytes → slice_index bytes i ≢ 32) → begins 32 (text_at bytes i) ≡ false
-begins_space-kind bytes i (at_file_end e) n = ap (λ ls. begins 32 (first_text ls)) (lines-at_end bytes i e)
-begins_space-kind bytes i (at_break l k) n = ap (begins 32) (text-line_end bytes i (omega arith) (λ _. k))
-begins_space-kind bytes i (at_byte l k) n = ap (begins 32) (text_at-cell bytes i (omega arith) k) ∙ is_no (slice_index bytes i) 32 (n l)
+begins_space-no : (bytes : List ℕ) (i : ℕ) → i ≤ length bytes → (i < length bytes → slice_index bytes i ≢ 32) → begins 32 (text_at bytes i) ≡ false
+begins_space-no bytes i h n = elim (text_kind bytes i h) [ inl e ↦ ap (begins 32) e | inr k ↦ ap (begins 32) k.1 ∙ ne_eqb (slice_index bytes i) 32 (n k.0) ]
 
 -- ---- the lines behind a run of them
 
@@ -77,12 +70,12 @@ module _ (bytes : List ℕ) (at i : ℕ) (inside : i ≤ length bytes) (run : li
   pub behind_blanks : AreBlank (cells_between bytes at i) → (i < length bytes → IsBlankByte (slice_index bytes i) → ⊥) → blanks_dropped (lines_at bytes at) ≡ lines_at bytes i
   behind_blanks blanks none =
       ap blanks_dropped run ∙ blanks_dropped-run (cells_between bytes at i) (lines_at bytes i) blanks
-      ∙ blanks_dropped-stays (lines_at bytes i) (begins_blank-kind bytes i (kind bytes i inside) none)
+      ∙ blanks_dropped-stays (lines_at bytes i) (begins_blank-no bytes i inside none)
 
   pub behind_spaces : AreSpaces (cells_between bytes at i) → (i < length bytes → slice_index bytes i ≢ 32) → spaces_dropped (lines_at bytes at) ≡ lines_at bytes i
   behind_spaces spaces none =
       ap spaces_dropped run ∙ spaces_dropped-run (cells_between bytes at i) (lines_at bytes i) spaces
-      ∙ spaces_dropped-stays (lines_at bytes i) (begins_space-kind bytes i (kind bytes i inside) none)
+      ∙ spaces_dropped-stays (lines_at bytes i) (begins_space-no bytes i inside none)
 
 -- ---- the end of a line
 

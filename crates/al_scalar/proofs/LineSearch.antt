@@ -1,7 +1,7 @@
 -- The end of a line, as a search for a break finds it.
 use Rattle.std.proofs.Common.{◌≡◌, ℕ, zero, suc, ◌+◌, ◌-◌, ◌≤◌, List, Bool, true, false, ◌||◌, ◌==◌, ◌++◌, append-nil, drop, take, take_all, length}
 use Rattle.std.proofs.Common.{length-drop, slice_index, arith, subst, sym, ap, ◌∙◌, refl, inl, inr}
-use Rattle.std.proofs.lemmas.Bool.Decides.{nat_tests}
+use Rattle.std.proofs.lemmas.Bool.{eqb-true, or_cases}
 use Rattle.std.proofs.lemmas.List.{get_or-drop}
 use Rattle.memchr.specs.Find.{NoneBefore, Nowhere, Passes, is_byte2}
 use Rattle.al_scalar.specs.Places.{first_end, lines_at, text_at}
@@ -11,11 +11,7 @@ use Rattle.al_scalar.proofs.LineParts.{end_further}
 use Rattle.al_scalar.proofs.LineCells.{IsInside, RunBefore, text-line_end}
 
 break_byte : (b : ℕ) → is_byte2 10 13 b ≡ true → IsBreakByte b
-break_byte b passes = by (b == 10) refl passes
-  where
-    by : (e : Bool) → b == 10 ≡ e → e || b == 13 ≡ true → IsBreakByte b
-    by true e passes = inl (grind (arith, nat_tests, e))
-    by false e passes = inr (grind (arith, nat_tests, passes))
+break_byte b passes = elim (or_cases (b == 10) (b == 13) passes) [ inl e ↦ inl (eqb-true b 10 e) | inr e ↦ inr (eqb-true b 13 e) ]
 
 -- the line of an offset goes on to another one, where it ends
 pub record IsLineTo (bytes : List ℕ) (at to : ℕ) : Type 0 where

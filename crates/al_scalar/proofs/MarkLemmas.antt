@@ -193,14 +193,12 @@ module _ (bytes : List ℕ) (at : ℕ) (h : at < length bytes) (e : slice_index 
           (hex_value 0 (take count (text_at bytes (at + 1 + 1))))
           (double_part (drop count (text_at bytes (at + 1 + 1))))
       number-part =
-          letter-part None (Some count) f g ∙ digits-are at (count - 1) 0 (text_at bytes (at + 1 + 1))
-          ∙ ap (λ n. hex_escape at n (take n (text_at bytes (at + 1 + 1))) (hex_value 0 (take n (text_at bytes (at + 1 + 1))))
-          (double_part (drop n (text_at bytes (at + 1 + 1))))) (has_digits (slice_index bytes (at + 1)) count g)
+          letter-part None (Some count) f g
+          ∙ (rw (has_digits (slice_index bytes (at + 1)) count g) at (digits-are at (count - 1) 0 (text_at bytes (at + 1 + 1))))
 
       pub wrong_digit : (q : ℕ) → hex_value 0 (take count (text_at bytes (at + 1 + 1))) ≡ None → double_quoted q (lines_at bytes at) ≡ Err (record { code = yaml.WrongEscape; at = at })
       wrong_digit q e = given_at Double bytes at q (Err (record { code = yaml.WrongEscape; at = at }))
-          (number-part ∙ ap (λ o. hex_escape at count (take count (text_at bytes (at + 1 + 1))) o
-          (double_part (drop count (text_at bytes (at + 1 + 1))))) e)
+          (number-part ∙ rw e refl)
 
       -- all the digits
       module _ (b : Between bytes (at + 1 + 1) (at + 1 + 1 + count)) (code : ℕ) (v : hex_value 0 (cells_between bytes (at + 1 + 1) (at + 1 + 1 + count)) ≡ Some code) where
@@ -218,24 +216,15 @@ module _ (bytes : List ℕ) (at : ℕ) (h : at < length bytes) (e : slice_index 
             let long : nat_lt (length ds) count ≡ false = grind (arith, common_steps, size) in
             let behind : double_part (drop count (text_at bytes (at + 1 + 1))) ≡ double_part rest =
             ap (λ t. double_part (drop count t)) b.1 ∙ ap (λ n. double_part (drop n (ds ++ rest))) (sym size) ∙ ap double_part (drop-append_seam ds rest) in
-            number-part
-            ∙ ap (λ t. hex_escape at count t (hex_value 0 t) (double_part (drop count (text_at bytes (at + 1 + 1))))) digits-taken
-            ∙ ap (λ o. hex_escape at count ds o (double_part (drop count (text_at bytes (at + 1 + 1))))) v
-            ∙ ap (λ x. cond x (Ok (record { text = []; stop = cut_short at }))
-            (cond (is_scalar_value code) (part_before (character_cells at code)
-            (double_part (drop count (text_at bytes (at + 1 + 1))))) (fault yaml.WrongEscape at)))
-            long
-            ∙ ap (λ r. cond (is_scalar_value code) (part_before (character_cells at code) r) (fault yaml.WrongEscape at)) behind
+            number-part ∙ rw (digits-taken, v, long, behind) refl
 
         pub number : is_scalar_value code ≡ true → ReadsOn Double bytes at (character_cells at code) (at + 1 + 1 + count)
         number e = reads_on Double bytes at (at + 1 + 1 + count) (character_cells at code) (same_then both.same b.0.same)
-            (code-part ∙ ap (λ z. cond z (part_before (character_cells at code) (double_part (text_at bytes (at + 1 + 1 + count))))
-            (fault yaml.WrongEscape at)) e)
+            (code-part ∙ rw e refl)
 
         pub no_character : (q : ℕ) → is_scalar_value code ≡ false → double_quoted q (lines_at bytes at) ≡ Err (record { code = yaml.WrongEscape; at = at })
         no_character q e = given_at Double bytes at q (Err (record { code = yaml.WrongEscape; at = at }))
-            (code-part ∙ ap (λ z. cond z (part_before (character_cells at code) (double_part (text_at bytes (at + 1 + 1 + count))))
-            (fault yaml.WrongEscape at)) e)
+            (code-part ∙ rw e refl)
 
       -- too few digits
       module _ (end : ℕ) (b : Between bytes (at + 1 + 1) end) (k : IsLineEnd bytes end) (few : end < at + 1 + 1 + count) (value : ℕ)
@@ -248,11 +237,7 @@ module _ (bytes : List ℕ) (at : ℕ) (h : at < length bytes) (e : slice_index 
             let short : nat_lt (length ds) count ≡ true = grind (arith, common_steps, size) in
             let text : text_at bytes (at + 1 + 1) ≡ ds = b.1 ∙ ap (λ t. ds ++ t) (text-line_end bytes end b.0.inside k) ∙ append-nil ds in
             let taken : take count (text_at bytes (at + 1 + 1)) ≡ ds = ap (take count) text ∙ take_all count ds (omega (arith, size)) in
-            let more = double_part (drop count (text_at bytes (at + 1 + 1))) in
-            number-part
-            ∙ ap (λ t. hex_escape at count t (hex_value 0 t) more) taken
-            ∙ ap (λ o. hex_escape at count ds o more) v
-            ∙ ap (λ x. cond x (Ok (record { text = []; stop = cut_short at })) (cond (is_scalar_value value) (part_before (character_cells at value) more) (fault yaml.WrongEscape at))) short
+            number-part ∙ rw (taken, v, short) refl
 
         short-given : (q : ℕ) (last : Bool) → first_last (lines_at bytes end) ≡ last → double_quoted q (lines_at bytes at) ≡ cond last (fault yaml.UnclosedQuote q) (fault yaml.WrongEscape at)
         short-given q last e =

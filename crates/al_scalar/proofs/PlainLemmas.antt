@@ -9,6 +9,7 @@ use Rattle.al_scalar.specs.Plain.{Context, is_flow, is_flow_indicator, begins_fl
 use Rattle.al_scalar.specs.Places.{lines_at, text_at}
 use Rattle.al_scalar.specs.LineEnds.{cells_at, cells_between, AreBlank, IsBlankByte, IsLineEnd, SameLine}
 use Rattle.al_scalar.specs.Private.PlainLines.{IsWordAt, IsWordByte, PartTo}
+use Rattle.al_scalar.proofs.BlockLemmas.{run-none}
 use Rattle.al_scalar.proofs.LineLemmas.{cells_between-none, cells_between-front, cells_between-more}
 use Rattle.al_scalar.proofs.LineCells.{RunBefore, cell_at, text-line_end, is_blank-yes, is_blank-no, is_inside, never}
 
@@ -170,9 +171,6 @@ module _ (b : ℕ) (w : IsWordByte b) where
   word-ends : (p : Context) (f : Bool) (i : ℕ) (cs : List Cell) → ends_plain p f ((b, i) ∷ cs) ≡ false
   word-ends p f i cs = ends-other p f (b, i) cs w.no_colon w.no_hash ∙ ap (λ x. is_flow p && x) w.no_indicator ∙ and-false (is_flow p)
 
-no_run : (bytes : List ℕ) (i : ℕ) → RunBefore (cells_between bytes i i) (lines_at bytes i) (lines_at bytes i)
-no_run bytes i = record { text = ap (λ r. r ++ text_at bytes i) (sym (cells_between-none bytes i)); same = record { end = refl; last = refl; later = refl } }
-
 module _ (bytes : List ℕ) (i : ℕ) (w : IsWordAt bytes i) where
   word-no_end : IsLineEnd bytes i → ⊥
   word-no_end h = elim (h w.0) [ inl e ↦ word-feed (slice_index bytes i) w.1 e | inr e ↦ word-return (slice_index bytes i) w.1 e ]
@@ -182,7 +180,7 @@ module _ (bytes : List ℕ) (i : ℕ) (w : IsWordAt bytes i) where
       → plain_part p first (text_at bytes at) ≡ in_front (cells_between bytes at (i + 1)) (plain_part p false (text_at bytes (i + 1)))
   part_word p first f at e o =
       let within : i ≤ length bytes = omega (arith, w.0) in
-      part_more p first f bytes at i i e (no_run bytes i) (subst AreBlank (sym (cells_between-none bytes i)) tt) o (omega arith) within word-no_end
+      part_more p first f bytes at i i e (run-none bytes i) (subst AreBlank (sym (cells_between-none bytes i)) tt) o (omega arith) within word-no_end
       (word-blank (slice_index bytes i) w.1)
       (sym (ap (ends_plain p (f || nat_lt i i)) (text_at-cell bytes i within word-no_end) ∙ word-ends (slice_index bytes i) w.1 p (f || nat_lt i i) i (text_at bytes (i + 1))))
 

@@ -19,29 +19,22 @@ use Rattle.al_scalar.proofs.BlankLemmas.{after_blanks-none, no_blank_line}
 
 -- ---- the text at an offset
 
-solid-own : (t : List Cell) (bytes : List ℕ) (j : ℕ) → (t ≡ [])
-    ⊎ ((j < length bytes) × (t ≡ (slice_index bytes j, j) ∷ text_at bytes (j + 1)))
-    → (j < length bytes → IsBlankByte (slice_index bytes j) → ⊥) → after_blanks t ≡ t
-solid-own t bytes j (inl e) n = ap after_blanks e ∙ sym e
-solid-own t bytes j (inr k) n = ap after_blanks k.1 ∙ after_blanks-solid (slice_index bytes j, j) (text_at bytes (j + 1)) (n k.0) ∙ sym k.1
-
 -- what follows the blanks from i to j
 pub solid_text : (bytes : List ℕ) (i j : ℕ) → j ≤ length bytes → lines_at bytes i ≡ with_cells_before (cells_between bytes i j) (lines_at bytes j) → AreBlank (cells_between bytes i j)
     → (j < length bytes → IsBlankByte (slice_index bytes j) → ⊥) → after_blanks (text_at bytes i) ≡ text_at bytes j
 solid_text bytes i j h e b n =
-    ap after_blanks (run_at bytes i j (cells_between bytes i j) e).text ∙ after_blanks-run (cells_between bytes i j) (text_at bytes j) b ∙ solid-own (text_at bytes j) bytes j (text_kind bytes j h) n
-
-colon-kind : (p : Context) (t cs : List Cell) (c : Cell) (z : ℕ) → (t ≡ []) ⊎ (t ≡ c ∷ cs) → is_value_colon p t ≡ true → place t z ≡ c.1
-colon-kind p t cs c z (inl e) h = absurd (never (sym (ap (is_value_colon p) e) ∙ h))
-colon-kind p t cs c z (inr e) h = ap (λ t. place t z) e
-
-weaker : {A B C : Type 0} → A ⊎ (B × C) → A ⊎ C
-weaker (inl a) = inl a
-weaker (inr b) = inr b.1
+    let own : after_blanks (text_at bytes j) ≡ text_at bytes j = elim (text_kind bytes j h) [
+      | inl e ↦ ap after_blanks e ∙ sym e
+      | inr k ↦ ap after_blanks k.1 ∙ after_blanks-solid (slice_index bytes j, j) (text_at bytes (j + 1)) (n k.0) ∙ sym k.1
+    ] in
+    ap after_blanks (run_at bytes i j (cells_between bytes i j) e).text ∙ after_blanks-run (cells_between bytes i j) (text_at bytes j) b ∙ own
 
 -- a colon stands where its cell says
 place-colon : (p : Context) (bytes : List ℕ) (j z : ℕ) → j ≤ length bytes → is_value_colon p (text_at bytes j) ≡ true → place (text_at bytes j) z ≡ j
-place-colon p bytes j z h e = colon-kind p (text_at bytes j) (text_at bytes (j + 1)) (slice_index bytes j, j) z (weaker (text_kind bytes j h)) e
+place-colon p bytes j z h e = elim (text_kind bytes j h) [
+  | inl n ↦ absurd (never (sym (ap (is_value_colon p) n) ∙ e))
+  | inr k ↦ ap (λ t. place t z) k.1
+]
 
 -- ---- the last line stands alone
 
@@ -177,21 +170,15 @@ module _ (p : Context) (here : Taken) (break : ℕ) (es : List ℕ) (t cells : L
   goes-on end [] ys h k s f e g m n z = cc
   goes-on end (x ∷ xs) [] h k s f e g m n z = cc
   goes-on end (x ∷ xs) (y ∷ ys) h k s f e g m n z =
-      let new = folded_break break es ++ cells in
       goes-given x xs y.text f e g m
-      ∙ ap (λ b. cond b (fault UnexpectedCharacter (place (after_blanks y.text) x.end)) (before new (after_lines p (ended_before y.text x xs) (cut y.text x xs)))) n
-      ∙ ap (λ a. before new (after_lines p (record { text = []; end = a; left = cut y.text x xs }) (cut y.text x xs))) z
-      ∙ ap (λ ls. before new (after_lines p (record { text = []; end = end; left = ls }) ls)) (cut-same x y xs ys s)
+      ∙ rw (n, z, s.end, s.last, s.later) refl
 
 -- the first line
 begins-on : (p : Context) (cells : List Cell) (end : ℕ) (xs ys : List Line) → has_line xs ≡ true → has_line ys ≡ true → SameLine xs ys → plain_part p false (first_text xs) ≡ (cells, first_text ys)
     → place (first_text ys) (first_end xs) ≡ end → plain p xs ≡ before cells (after_lines p (record { text = []; end = end; left = ys }) ys)
 begins-on p cells end [] ys h k s m z = cc
 begins-on p cells end (x ∷ xs) [] h k s m z = cc
-begins-on p cells end (x ∷ xs) (y ∷ ys) h k s m z =
-    ap (λ (part : List Cell × List Cell). before part.0 (after_lines p (ended_before part.1 x xs) (cut part.1 x xs))) m
-    ∙ ap (λ a. before cells (after_lines p (record { text = []; end = a; left = cut y.text x xs }) (cut y.text x xs))) z
-    ∙ ap (λ ls. before cells (after_lines p (record { text = []; end = end; left = ls }) ls)) (cut-same x y xs ys s)
+begins-on p cells end (x ∷ xs) (y ∷ ys) h k s m z = rw (m, z, s.end, s.last, s.later) refl
 
 -- a part of a further line from solid to end, and the place behind the blanks after it
 module _ (p : Context) (bytes : List ℕ) (start solid end rest : ℕ) (text : after_blanks (text_at bytes start) ≡ text_at bytes solid)

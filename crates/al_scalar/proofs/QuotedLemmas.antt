@@ -158,10 +158,7 @@ module _ (part : List Cell → Result QuotedLine FaultAt) (q : ℕ) where
 
     lines-blank : (b : Option ℕ) (l : Line) (ls : List Line) → after_blanks l.text ≡ [] → l.last ≡ false
         → quoted_lines part q b (l ∷ ls) ≡ before ((10, l.end) ∷ []) (quoted_lines part q None ls)
-    lines-blank b l ls e f =
-        ap (λ t. part t >>= (λ p. cond (is_empty_line p l) (before ((10, l.end) ∷ []) (quoted_lines part q None ls)) (line_given q (folding_space b) p l ls (λ o. quoted_lines part q o ls)))) e
-        ∙ ap (λ r. r >>= (λ p. cond (is_empty_line p l) (before ((10, l.end) ∷ []) (quoted_lines part q None ls)) (line_given q (folding_space b) p l ls (λ o. quoted_lines part q o ls)))) ok.none
-        ∙ ap (λ z. cond (not z) (before ((10, l.end) ∷ []) (quoted_lines part q None ls)) (line_given q (folding_space b) (record { text = []; stop = broken }) l ls (λ o. quoted_lines part q o ls))) f
+    lines-blank b l ls e f = rw (e, ok.none, f) refl
 
     -- the text of the next line that isn't blank, behind what the break and the empty lines before it give
     pub lines-fold : (b : Option ℕ) (ls : List Line) → quoted_lines part q b ls ≡ before (pending_given b (empty_ends ls)) (quoted_scalar part q (solid_lines ls))
@@ -173,7 +170,8 @@ module _ (part : List Cell → Result QuotedLine FaultAt) (q : ℕ) where
         stops e f = rw e (lines-solid b l ls f)
 
         by_text : quoted_lines part q None ls ≡ before (pending_given None (empty_ends ls)) (quoted_scalar part q (solid_lines ls))
-            → (x z : Bool) → is_empty (after_blanks l.text) ≡ x → l.last ≡ z → quoted_lines part q b (l ∷ ls) ≡ before (pending_given b (empty_ends (l ∷ ls))) (quoted_scalar part q (solid_lines (l ∷ ls)))
+            → (x z : Bool) → is_empty (after_blanks l.text) ≡ x → l.last ≡ z
+            → quoted_lines part q b (l ∷ ls) ≡ before (pending_given b (empty_ends (l ∷ ls))) (quoted_scalar part q (solid_lines (l ∷ ls)))
         by_text below true true e f = stops (rw (e, f) refl) (rw (no-cells (after_blanks l.text) e, ok.none, f) refl)
         by_text below true false e f =
             let blank : is_blank_line l ≡ true = rw (e, f) refl in

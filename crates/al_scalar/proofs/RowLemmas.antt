@@ -40,18 +40,13 @@ pub row-text : (new mid : List Cell) (lit : Bool) (k : Chomping) (last : Option 
 row-text new mid lit k last es text break rs old b e s f g =
     let r : BlockLine = record { text = text; break = break } in
     let below = text_after lit k (Some r) [] rs in
-    let j = joint lit last es r in
     let like : begins_blank r.text ≡ begins_blank (row_like b break).text = s ∙ sym (spaced-like b break) in
     let like_none : begins_blank r.text ≡ begins_blank (row_like b []).text = s ∙ sym (spaced-like b []) in
-    let like_joint = row_like b [] in
-    let j' = joint lit last es like_joint in
-    ap (λ c. old ++ cond c (text_after lit k last (es ++ break) rs) ((j ++ text) ++ below)) e
-    ∙ ap (λ i. old ++ ((i ++ text) ++ below)) (joint-like lit last es r like_joint like_none)
-    ∙ sym (append_assoc old (j' ++ text) below)
+    let j' = joint lit last es (row_like b []) in
+    rw (e, joint-like lit last es r (row_like b []) like_none, g, f)
+    (sym (append_assoc old (j' ++ text) below)
     ∙ ap (λ x. x ++ below) (sym (append_assoc old j' text))
-    ∙ ap (λ x. (x ++ text) ++ below) (sym f)
-    ∙ ap (λ n. n ++ below) (sym g)
-    ∙ ap (λ t. new ++ t) (text_after-like lit k r (row_like b break) [] rs like refl)
+    ∙ ap (λ t. ((old ++ j') ++ text) ++ t) (text_after-like lit k r (row_like b break) [] rs like refl))
 
 pub final_breaks-none : (k : Chomping) → final_breaks k [] [] ≡ []
 final_breaks-none Strip = refl
@@ -108,10 +103,6 @@ pub rest-last : (lit : Bool) (k : Chomping) (m : Option ℕ) (found : Bool) (las
 rest-last lit k m found last es end [] t h e f = cc
 rest-last lit k m found last es end (l ∷ ls) t h e f = ap (of_rows lit k last es end) (rows_at-last m found l ls t e f)
 
-pub is_blank-of : (c : Cell) (b : Bool) → (IsTrue b ↔ IsBlankByte c.0) → is_blank c ≡ b
-is_blank-of c true h = is_blank-yes c (h.0 refl)
-is_blank-of c false h = is_blank-no c (λ k. never (h.1 k))
-
 -- ---- the steps of the loop over the lines
 
 pub rows-last : {x : Taken} (new text : List Cell) (lit : Bool) (k : Chomping) (m : Option ℕ) (found : Bool) (last : Option BlockLine) (es : List ℕ) (end to : ℕ) (bytes : List ℕ) (i from stop : ℕ)
@@ -145,8 +136,4 @@ rows-more new text lit k m found found' b last last' es es' end end' bytes i fro
     let flag : (found || not (is_all_blank (first_text ls))) ≡ found' = ap (λ a. found || not a) q ∙ sym f in
     let rs = rows_at m found' (lines_at bytes next) in
     e ∙ ap (with_text text) (rest-more lit k m found last es end ls cells (lines_at-some bytes i) row is_last)
-    ∙ ap (λ a. with_text text (of_rows lit k last es end (with_row (record { text = cells; break = first_end ls ∷ [] }) (rows_at m a (later ls))))) flag
-    ∙ ap (λ ms. with_text text (of_rows lit k last es end (with_row (record { text = cells; break = first_end ls ∷ [] }) (rows_at m found' ms)))) behind
-    ∙ ap (λ n. with_text text (of_rows lit k last es end (with_row (record { text = cells; break = n ∷ [] }) rs))) ended
-    ∙ ap (λ t. record { text = t; end = rows_end (last_end cells end) rs.rows; left = rs.left }) (g rs.rows)
-    ∙ ap (λ n. record { text = new ++ text_after lit k last' es' rs.rows; end = rows_end n rs.rows; left = rs.left }) h
+    ∙ rw (flag, behind, ended, g rs.rows, ← h) refl

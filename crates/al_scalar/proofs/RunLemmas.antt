@@ -74,9 +74,6 @@ last-offset d at i (s ∷ ss) h z = ap (λ t. offset_in t i) (last-is d s ss) �
 
 -- ---- whether the offsets go on
 
-pub equal : (a b : ℕ) → (a == b) ≡ true → a ≡ b
-equal a b h = grind (arith, common_steps, h)
-
 moving : (last : Segment) (n at k : ℕ) → last.index ≤ n → not last.moves ≡ false → last.offset ≤ at → at - last.offset ≡ n - last.index → offset_in last (n + k) ≡ at + k
 moving last n at k b m o e =
     let sum : last.offset + ((n + k) - last.index) ≡ at + k = omega (arith, b, o, e) in

@@ -2,7 +2,8 @@ use Rattle.std.proofs.Common.{◌∙◌, ◌++◌, ◌∷◌, ◌<◌, [], ap, s
 use Rattle.al_scalar.specs.Block.{joint, text_after}
 use Rattle.al_scalar.specs.LineEnds.{cells_between}
 use Rattle.al_scalar.specs.Private.BlockRead.{row_like, last_row}
-use Rattle.al_scalar.proofs.RowLemmas.{row-text, last_end-between, some-between, spaced-between, is_blank-of}
+use Rattle.al_scalar.proofs.RowLemmas.{row-text, last_end-between, some-between, spaced-between}
+use Rattle.al_scalar.proofs.PlainLemmas.{blank-value}
 use Rattle.al_scalar.proofs.block.add_row.Goals as goal
 
 pub returns-clause-text : goal.returns-clause-text
@@ -17,7 +18,7 @@ returns-clause-text c = λ k rs.
     let last = last_row c.args.state.now.last in
     let es = c.args.state.now.empties.items in
     let b = c.is_blank-spaced.result in
-    let spaced = spaced-between bytes from stop b less (is_blank-of (slice_index bytes from, from) b c.is_blank-spaced.ensures) in
+    let spaced = spaced-between bytes from stop b less (sym (blank-value b (slice_index bytes from, from) c.is_blank-spaced.ensures)) in
     row-text new c.push_joint.new.text lit k last es (cells_between bytes from stop) (stop ∷ []) rs old b (some-between bytes from stop less) spaced
     (c.in_ok-push_joint.ensures ∙ ap (λ xs. old ++ joint lit last xs (row_like b [])) c.deref.ensures.value) c.in_ok-push_run.ensures
     ∙ ap (λ xs. new ++ text_after lit k (Some (row_like b (stop ∷ []))) xs rs) (sym c.clear.ensures.items)

@@ -1,7 +1,8 @@
 use Rattle.std.proofs.Common.{◌≡◌, ◌∷◌, ◌∙◌, ◌+◌, ◌≤◌, Bool, length, ap, subst, sym, refl, arith}
+use Rattle.std.proofs.lemmas.Bool.{eqb-true}
 use Rattle.al_scalar.specs.Private.Segments.{first_run, offset_at, cells_from, IsOrdered, GoesOn}
 use Rattle.al_scalar.specs.declared.texts.Segment.{Segment}
-use Rattle.al_scalar.proofs.RunLemmas.{equal, first-goes-on, IsOrdered-more, cells_from-run, next-run}
+use Rattle.al_scalar.proofs.RunLemmas.{first-goes-on, IsOrdered-more, cells_from-run, next-run}
 use Rattle.al_scalar.proofs.texts.Runs.begin.Goals as goal
 
 pub returns-clause-order : goal.returns-clause-order
@@ -30,6 +31,6 @@ returns-then-is_empty-clause-order c = subst (IsOrdered c.args.index) (sym c.sel
 pub returns-then-is_empty-clause-next : goal.returns-then-is_empty-clause-next
 returns-then-is_empty-clause-next c =
     let rest = c.self.inside.rest in
-    let none : length rest.items ≡ 0 = omega (arith, equal _ _ (sym c.is_empty.ensures ∙ c.if-is_empty.true), rest.ok.0) in
+    let none : length rest.items ≡ 0 = omega (arith, eqb-true _ _ (sym c.is_empty.ensures ∙ c.if-is_empty.true), rest.ok.0) in
     subst (λ (b : Bool). GoesOn (first_run c.args.at ∷ rest.items) c.args.index c.args.at b) (sym c.if-moves.true)
     (λ k. subst (λ n. offset_at (first_run c.args.at ∷ rest.items) (n + k) ≡ c.args.at + k) (sym c.if-index-eq0.true) (first-goes-on rest.items c.args.at none k))
