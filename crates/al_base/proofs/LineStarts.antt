@@ -1,8 +1,8 @@
 -- What the offsets are at which lines begin.
 use Rattle.std.proofs.Common.{◌≡◌, ℕ, zero, suc, ◌+◌, ◌-◌, ◌≤◌, ◌<◌, Bool, true, false, List, [], ◌∷◌, ◌++◌, length, get_or, refl, sym, ap}
-use Rattle.std.proofs.Common.{subst, ◌∙◌, arith, add-one, add-zero, add-suc, length-append, append-nil, ◌⊎◌, inl, inr}
+use Rattle.std.proofs.Common.{subst, ◌∙◌, arith, add-one, add-zero, length-append, append-nil, inl, inr}
 use Rattle.std.proofs.Math.Nat.{eq-or-lt_of_le}
-use Rattle.std.proofs.Common.{◌||◌, ◌&&◌, ◌==◌, not, append_assoc, if◌then◌else◌}
+use Rattle.std.proofs.Common.{append_assoc, if◌then◌else◌}
 use Rattle.std.specs.List.{flat_map}
 use Rattle.std.specs.List.Sorted.{IsNonDecreasingBy}
 use Rattle.std.proofs.lemmas.Bool.{cases_Bool}
@@ -12,7 +12,7 @@ use Rattle.std.proofs.lemmas.List.Sorted.{IsNonDecreasingBy-push, IsNonDecreasin
 use Rattle.memchr.specs.Find.{is_byte2, places, places_from}
 use Rattle.al_base.specs.Positions.{ends_break, line_at, column_at}
 use Rattle.al_base.specs.LineStarts.{starts_to, line_starts}
-use Rattle.al_base.proofs.Counting.{line_at-break, line_at-later, line_at-same, line_at-small, column_at-break}
+use Rattle.al_base.proofs.Counting.{line_at-break, line_at-later, line_at-small, column_at-break}
 
 -- a line is at most that of a later offset
 pub line_at-le : (bytes : List ℕ) (j k : ℕ) → j ≤ k → line_at bytes j ≤ line_at bytes k

@@ -1,6 +1,6 @@
 -- A walk along a graph leads somewhere exactly where one of bounded length does.
 use Rattle.std.proofs.Common.{◌≡◌, ℕ, zero, suc, ◌+◌, ◌<◌, ◌≤◌, List, [], ◌∷◌, length, refl, sym, subst, arith, Bool, true}
-use Rattle.std.proofs.Common.{false, ◌||◌, cond, eq-eqb, nat_eq, inl, inr, ◌⊎◌}
+use Rattle.std.proofs.Common.{false, cond, eq-eqb, nat_eq, inl, inr, ◌⊎◌}
 use Rattle.std.specs.Prelude.{slice_index_or, ◌↔◌}
 use Rattle.std.specs.List.{list_any}
 use Rattle.std.proofs.lemmas.Bool.{cases_lt, eqb-true, or_cases, or_right}

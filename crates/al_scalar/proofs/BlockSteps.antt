@@ -1,5 +1,5 @@
 -- A block scalar from its indicator on: the header, then the rows.
-use Rattle.std.proofs.Common.{◌≡◌, ℕ, ◌+◌, List, [], ◌∷◌, length, drop, refl, sym, ap, ◌∙◌, Bool, true, false, cond, Option, None, is_some, Result, Ok, Err}
+use Rattle.std.proofs.Common.{◌≡◌, ℕ, ◌+◌, List, [], ◌∷◌, length, drop, refl, ap, ◌∙◌, Bool, true, false, cond, Option, None, is_some, Result, Ok, Err}
 use Rattle.al_scalar.specs.Line.{Cell, Line, place}
 use Rattle.al_scalar.specs.Taken.{Taken, ◌>>=◌, with_text}
 use Rattle.al_scalar.specs.declared.faults.FaultAt.{FaultAt}

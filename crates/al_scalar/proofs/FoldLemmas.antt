@@ -1,8 +1,8 @@
 -- The lines of a quoted scalar.
-use Rattle.std.proofs.Common.{◌≡◌, ℕ, suc, ◌<◌, List, [], ◌∷◌, ◌++◌, length, drop, drop-cons, slice_index, refl, sym, ap, ◌∙◌, append_assoc}
-use Rattle.std.proofs.Common.{Bool, true, false, ◌==◌, cond, inl, inr, ◌⊎◌, Option, Some, None, Result, Ok, Err}
+use Rattle.std.proofs.Common.{◌≡◌, ℕ, ◌<◌, List, [], ◌∷◌, ◌++◌, length, refl, sym, ap, ◌∙◌, append_assoc}
+use Rattle.std.proofs.Common.{Bool, true, false, cond, Option, Some, None, Result, Ok, Err}
 use Rattle.al_base.specs.declared.codes.YamlCode.TheVariants.{UnclosedQuote, WrongEscape}
-use Rattle.al_scalar.specs.Line.{Cell, Line, lines, with_return, cut, after_blanks}
+use Rattle.al_scalar.specs.Line.{Cell, Line, with_return, cut, after_blanks}
 use Rattle.al_scalar.specs.Taken.{Taken, before, fault}
 use Rattle.al_scalar.specs.declared.faults.FaultAt.{FaultAt}
 use Rattle.al_scalar.specs.Quoted.{QuotedLine, QuotedEnd, closed, broken, escaped, cut_short, line_given}

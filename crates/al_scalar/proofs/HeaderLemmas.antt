@@ -1,10 +1,9 @@
 -- The end of a block scalar's header.
 use Rattle.al_base.specs.declared.codes.YamlCode.TheVariants.{WrongBlockHeader}
-use Rattle.std.proofs.Common.{◌≡◌, ◌≢◌, ℕ, suc, ◌+◌, ◌<◌, ◌≤◌, List, [], ◌∷◌, ◌++◌, length, slice_index, refl, ap, subst, ◌∙◌, arith, Bool, true, false, ◌&&◌, ◌||◌, ◌==◌, cond, Ok, Err, eq-eqb}
+use Rattle.std.proofs.Common.{◌≡◌, ◌≢◌, ℕ, suc, ◌+◌, ◌<◌, ◌≤◌, List, [], ◌∷◌, ◌++◌, length, slice_index, refl, ap, subst, ◌∙◌, true, false, Ok, Err, eq-eqb}
 use Rattle.std.proofs.lemmas.Bool.{ne_eqb}
 use Rattle.std.proofs.Math.Bool.{and-false}
-use Rattle.al_scalar.specs.Line.{Cell, place, after_blanks, is_empty, begins_blank, begins}
-use Rattle.al_scalar.specs.Taken.{fault}
+use Rattle.al_scalar.specs.Line.{after_blanks, begins_blank}
 use Rattle.al_scalar.specs.Block.{header_end}
 use Rattle.al_scalar.specs.declared.header.Header.{Header}
 use Rattle.al_scalar.specs.Places.{first_text, lines_at}

@@ -1,6 +1,6 @@
 -- Cells of a line against offsets.
 use Rattle.std.proofs.Common.{◌≡◌, ◌≢◌, ℕ, suc, ◌+◌, ◌<◌, ◌≤◌, List, [], ◌∷◌, ◌++◌, length, drop, slice_index, refl, sym, ap, subst, ◌∙◌}
-use Rattle.std.proofs.Common.{arith, append_assoc, drop-cons, Bool, true, false, ◌==◌, cond, inl, inr, ◌⊎◌}
+use Rattle.std.proofs.Common.{arith, append_assoc, drop-cons, Bool, true, false, ◌==◌, inl, inr, ◌⊎◌}
 use Rattle.std.proofs.Math.Nat.{eq-or-lt_of_le}
 use Rattle.std.proofs.Math.Seq.{drop-length}
 use native.Mathlib.Decide.{ℕ_discrete}

@@ -1,12 +1,11 @@
 -- What stands at an offset of a line, and what is left of the lines behind blanks and spaces and up to a line's end.
-use Rattle.std.proofs.Common.{◌≡◌, ◌≢◌, ℕ, ◌<◌, ◌≤◌, List, [], ◌∷◌, ◌++◌, length, slice_index, refl, sym, ap, ◌∙◌, arith, inl, inr, ◌⊎◌, eq-or-lt_of_le, false, ◌==◌, cond, eq-eqb}
+use Rattle.std.proofs.Common.{◌≡◌, ◌≢◌, ℕ, ◌<◌, ◌≤◌, List, [], ◌∷◌, ◌++◌, length, slice_index, refl, sym, ap, ◌∙◌, inl, inr, ◌⊎◌, eq-or-lt_of_le, false, cond, eq-eqb}
 use Rattle.std.proofs.lemmas.Bool.{ne_eqb}
 use Rattle.al_scalar.specs.Line.{Cell, Line, start, place, cut, after_blanks, after_spaces, begins, begins_blank, blanks_dropped, spaces_dropped}
 use Rattle.al_scalar.specs.Places.{first_text, first_end, lines_at, text_at}
 use Rattle.al_scalar.specs.LineEnds.{cells_between, with_cells_before, AreBlank, AreSpaces, IsBlankByte, IsBreakByte, IsLineEnd, SameLine}
-use Rattle.al_scalar.proofs.LineCells.{lines-at_end, text-line_end, is_blank-no, byte_kind}
+use Rattle.al_scalar.proofs.LineCells.{text-line_end, is_blank-no, byte_kind}
 use Rattle.al_scalar.proofs.FoldLemmas.{after_blanks-run}
-use Rattle.al_scalar.proofs.PlainLemmas.{text_at-cell}
 use Rattle.al_scalar.proofs.RestLemmas.{text_kind, start-at}
 
 not_break : (b : ℕ) → (b ≢ 10) × (b ≢ 13) → IsBreakByte b → ⊥

@@ -1,6 +1,6 @@
 -- The end of a line, as a search for a break finds it.
-use Rattle.std.proofs.Common.{◌≡◌, ℕ, zero, suc, ◌+◌, ◌-◌, ◌≤◌, List, Bool, true, false, ◌||◌, ◌==◌, ◌++◌, append-nil, drop, take, take_all, length}
-use Rattle.std.proofs.Common.{length-drop, slice_index, arith, subst, sym, ap, ◌∙◌, refl, inl, inr}
+use Rattle.std.proofs.Common.{◌≡◌, ℕ, zero, suc, ◌+◌, ◌-◌, ◌≤◌, List, true, ◌==◌, ◌++◌, append-nil, drop, take, take_all, length}
+use Rattle.std.proofs.Common.{length-drop, slice_index, arith, subst, sym, ap, ◌∙◌, inl, inr}
 use Rattle.std.proofs.lemmas.Bool.{eqb-true, or_cases}
 use Rattle.std.proofs.lemmas.List.{get_or-drop}
 use Rattle.memchr.specs.Find.{NoneBefore, Nowhere, Passes, is_byte2}

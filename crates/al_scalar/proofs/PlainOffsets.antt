@@ -1,14 +1,14 @@
 -- What is taken of lines as a plain scalar, and the lines left behind it.
-use Rattle.std.proofs.Common.{◌≡◌, ℕ, ◌+◌, ◌<◌, ◌≤◌, List, [], ◌∷◌, ◌++◌, refl, sym, subst, arith, Bool, true, false, not, ◌&&◌, Ok}
+use Rattle.std.proofs.Common.{◌≡◌, ℕ, ◌+◌, ◌≤◌, List, [], ◌∷◌, ◌++◌, refl, sym, subst, arith, Bool, true, false, not, ◌&&◌, Ok}
 use Rattle.std.proofs.lemmas.Bool.Decides.{nat_tests}
-use Rattle.al_scalar.specs.Line.{Cell, Line, place, start, is_blank, after_blanks, is_empty}
+use Rattle.al_scalar.specs.Line.{Cell, Line, start, is_blank, after_blanks, is_empty}
 use Rattle.al_scalar.specs.Offsets.{IsTail}
 use Rattle.al_scalar.specs.Plain.{Context, is_flow, is_value_colon, ends_plain, plain_part, continues, ended_before, plain_lines, plain}
-use Rattle.al_scalar.specs.Taken.{Taken, feeds, folded_break}
+use Rattle.al_scalar.specs.Taken.{Taken, feeds}
 use Rattle.al_scalar.proofs.CellsRead.{Reads, reads-none, reads-here, reads-kept, reads-blanks, reads-line}
 use Rattle.al_scalar.proofs.OffsetLemmas.{choose, climbing-order, climbing-blanks}
 use Rattle.al_scalar.proofs.Standing.{place-end, EndIn}
-use Rattle.al_scalar.proofs.TakenLemmas.{IsFrom, AreLeft, AreTaken, from-none, from-ascii, from-join, from-feeds, from-folded, from-wider, left-start, taken-behind}
+use Rattle.al_scalar.proofs.TakenLemmas.{IsFrom, AreLeft, AreTaken, from-none, from-ascii, from-join, from-feeds, from-folded, left-start, taken-behind}
 use Rattle.al_scalar.proofs.Utf8Lemmas.{AreUtf8}
 
 plain-reads : (p : Context) (blank : Bool) (cs : List Cell) → Reads cs (plain_part p blank cs).0 (plain_part p blank cs).1

@@ -1,6 +1,6 @@
 -- The reader of plain scalars, one line after the other.
-use Rattle.std.proofs.Common.{◌≡◌, ◌≢◌, ℕ, ◌+◌, ◌<◌, ◌≤◌, List, [], ◌∷◌, ◌++◌, length, drop, slice_index, refl, sym, ap, ◌∙◌, append_assoc}
-use Rattle.std.proofs.Common.{append-nil, Bool, true, false, not, ◌&&◌, ◌==◌, cond, inl, inr, ◌⊎◌, eq-or-lt_of_le, Result, Ok, Err}
+use Rattle.std.proofs.Common.{◌≡◌, ℕ, ◌+◌, ◌<◌, ◌≤◌, List, [], ◌∷◌, ◌++◌, length, drop, slice_index, refl, sym, ap, ◌∙◌, append_assoc}
+use Rattle.std.proofs.Common.{append-nil, Bool, true, false, not, ◌&&◌, ◌==◌, cond, inl, inr, Result, Ok, Err}
 use Rattle.std.proofs.lemmas.Bool.{and_parts, not-false, not-true}
 use Rattle.al_base.specs.declared.codes.YamlCode.TheVariants.{UnexpectedCharacter}
 use Rattle.al_scalar.specs.Line.{Cell, Line, lines, with_cell, with_return, is_break, place, cut, after_blanks, is_empty}
@@ -10,9 +10,8 @@ use Rattle.al_scalar.specs.Plain.{Context, is_flow, is_value_colon, plain_part, 
 use Rattle.al_scalar.specs.Places.{first_text, first_end, lines_at, text_at}
 use Rattle.al_scalar.specs.LineEnds.{cells_between, with_cells_before, AreBlank, IsBlankByte, IsBreakAt, SameLine, broken_line, first_last, later}
 use Rattle.al_scalar.specs.Private.PlainLines.{is_blank_line, begins_blank_line, text_lines, empty_ends, here_at, after_part, PartTo}
-use Rattle.al_scalar.proofs.LineLemmas.{lines_at-other}
-use Rattle.al_scalar.proofs.LineCells.{has_line, lines_at-some, lines-at_end, run_at, never}
-use Rattle.al_scalar.proofs.FoldLemmas.{after_blanks-run, after_blanks-solid, before-two, cut-same}
+use Rattle.al_scalar.proofs.LineCells.{has_line, lines_at-some, run_at, never}
+use Rattle.al_scalar.proofs.FoldLemmas.{after_blanks-run, after_blanks-solid, before-two}
 use Rattle.al_scalar.proofs.OffsetLemmas.{choose}
 use Rattle.al_scalar.proofs.RestLemmas.{text_kind, place-same}
 use Rattle.al_scalar.proofs.BlankLemmas.{after_blanks-none, no_blank_line}

@@ -1,16 +1,16 @@
 -- The rows of a block scalar.
 use Rattle.std.proofs.Common.{◌≡◌, ℕ, zero, suc, ◌+◌, ◌-◌, ◌<◌, List, [], ◌∷◌, ◌++◌, length, slice_index, refl, sym, ap, ◌∙◌, arith}
-use Rattle.std.proofs.Common.{append_assoc, append-nil, Bool, true, false, not, ◌||◌, cond, IsTrue, ◌↔◌, Option, Some, None}
+use Rattle.std.proofs.Common.{append_assoc, append-nil, Bool, true, false, not, ◌||◌, cond, Option, Some, None}
 use Rattle.al_scalar.specs.Line.{Cell, Line, is_empty, is_all_blank, begins_blank, is_blank}
 use Rattle.al_scalar.specs.Taken.{Taken, feeds, with_text}
 use Rattle.al_scalar.specs.Block.{last_end, BlockLine, Rows, with_row, at_end, row_of, rows_at, rows_end, between_rows, joint, final_breaks, text_after}
 use Rattle.al_scalar.specs.declared.header.Chomping.{Chomping}
 use Rattle.al_scalar.specs.declared.header.Chomping.TheVariants.{Strip, Clip, Keep}
 use Rattle.al_scalar.specs.Places.{first_text, first_end, lines_at}
-use Rattle.al_scalar.specs.LineEnds.{cells_at, cells_between, IsBlankByte, broken_line, SameLine, first_last, later}
+use Rattle.al_scalar.specs.LineEnds.{cells_at, cells_between, broken_line, SameLine, first_last, later}
 use Rattle.al_scalar.specs.Private.BlockRead.{row_like, rest, last_line}
 use Rattle.al_scalar.proofs.LineLemmas.{cells_between-front}
-use Rattle.al_scalar.proofs.LineCells.{has_line, is_blank-yes, is_blank-no, lines-at_end, lines_at-some, never}
+use Rattle.al_scalar.proofs.LineCells.{has_line, lines-at_end, lines_at-some}
 
 -- of a row only that matters whether it begins with a blank, and its break
 pub joint-like : (lit : Bool) (last : Option BlockLine) (es : List ℕ) (r s : BlockLine) → begins_blank r.text ≡ begins_blank s.text → joint lit last es r ≡ joint lit last es s
