@@ -1,5 +1,5 @@
 -- Tokens that spell a tree are built into it.
-use Rattle.std.proofs.Common.{◌≡◌, ℕ, zero, suc, ◌<◌, List, [], ◌∷◌, ◌++◌, drop, slice_index_or, refl, sym, ap, ◌∙◌, arith, subst}
+use Rattle.std.proofs.Common.{◌≡◌, ℕ, zero, suc, ◌<◌, List, [], ◌∷◌, ◌++◌, drop, slice_index_or, append-nil, refl, sym, ap, ◌∙◌, arith, subst}
 use Rattle.std.specs.List.{fold}
 use Rattle.al_base.specs.declared.faults.Span.{Span}
 use Rattle.al_expr_grammar.specs.declared.token.Operator.{Operator}
@@ -49,9 +49,8 @@ no_operator (Infix o ∷ ts) h = tt
 no_operator (t ∷ ts) h = h
 
 no_path : (ts : List TokenKind) → NoMore ts → NoCall ts
-no_path [] h = tt
 no_path (Open ∷ ts) h = h
-no_path (t ∷ ts) h = tt
+no_path ts h = tt
 
 ends_below : (l : ℕ) (ts : List TokenKind) → NoMoreAt l ts → EndsRule (below l) ts
 ends_below zero ts h = no_operator ts h
@@ -233,19 +232,14 @@ no_step (lexeme Comma b s ∷ ts) h = no_step_left ts
 no_step (lexeme k b s ∷ ts) h = refl
 
 -- an operand with its steps
-append_none : (ss : List StepTree) → ss ++ [] ≡ ss
-append_none [] = refl
-append_none (s ∷ ss) = ap (λ l. s ∷ l) (append_none ss)
-
 stepped : (t : Tree) (ss : List StepTree) (f : Following) → f.0.steps ≡ [] → with_path t (walked ss f) ≡ (tree.path_of t ss, f)
 stepped t ss f e =
-    ap (λ l. (tree.path_of t l, (record f.0 { steps = [] }, f.1))) (ap (λ l. ss ++ l) e ∙ append_none ss)
+    ap (λ l. (tree.path_of t l, (record f.0 { steps = [] }, f.1))) (ap (λ l. ss ++ l) e ∙ append-nil ss)
     ∙ ap (λ l. (tree.path_of t ss, (record f.0 { steps = l }, f.1))) (sym e)
 
 named : (b : List ℕ) (s : Span) (ts : List Lexeme) → NoCall (kinds ts) → from_operand (lexeme Name b s ∷ ts) ≡ with_path (Named b s) (behind_operand ts)
-named b s [] h = refl
 named b s (lexeme Open c u ∷ ts) h = absurd h
-named b s (lexeme k c u ∷ ts) h = refl
+named b s ts h = refl
 
 called : (b c : List ℕ) (s u : Span) (ts : List Lexeme) → Begins (kinds ts) → from_operand (lexeme Name b s ∷ lexeme Open c u ∷ ts)
     ≡ in_bracket (λ t more e. tree.Call b s (arguments_of (t ∷ more)) e) (from_operand ts)

@@ -1,7 +1,7 @@
 -- A token that is read lies in the bytes, and its last byte is ASCII, so that a character ends with it.
 use Rattle.std.proofs.Common.{◌≡◌, ◌<◌, ◌≤◌, ◌+◌, ◌-◌, ℕ, zero, suc, List, [], ◌∷◌, length, length-drop, add-zero, inl, inr, ◌⊎◌, drop}
 use Rattle.std.proofs.Common.{refl, subst, arith, Bool, true, false, cond, nat_eq, max, Option, Some, None}
-use Rattle.std.proofs.lemmas.Bool.{and_parts}
+use Rattle.std.proofs.lemmas.Bool.{and_parts, cond_both}
 use Rattle.std.proofs.lemmas.Bool.Decides.{nat_tests}
 use Rattle.std.proofs.lemmas.List.{get_or-drop}
 use Rattle.std.proofs.lemmas.List.Sums.{prefix_len_passes, prefix_len-le-length}
@@ -65,10 +65,6 @@ with_ends bs lead (suc d) h e =
     let last : slice_index (drop lead bs) (suc d - 1) < 128 = e.last (omega arith) in
     record { within = omega (arith, length-drop lead bs); last = λ h. rw (i, ← get_or-drop lead bs (suc d - 1) 0) last }
 
-either : (bs : List ℕ) (t : Bool) (x y : ℕ) → (t ≡ true → EndsRule bs x) → EndsRule bs y → EndsRule bs (cond t x y)
-either bs true x y f g = f refl
-either bs false x y f g = g
-
 one_byte : (p : ℕ → Bool) (bs : List ℕ) → first_is p bs ≡ true → 1 ≤ length bs
 one_byte p [] h = absurd cc
 one_byte p (b ∷ bs) h = omega arith
@@ -84,7 +80,7 @@ text_within (c ∷ text) [] h = absurd cc
 text_within (c ∷ text) (b ∷ bs) h = let i = text_within text bs (and_parts (nat_eq c b) _ h).1 in omega (arith, i)
 
 fraction_ends : (bs : List ℕ) → EndsRule bs (fraction_len bs)
-fraction_ends bs = either bs _ _ _ (λ h. with_ends bs 1 _ (begun _ bs h) (run_ends is_ascii_digit (drop 1 bs) digit_ascii)) (nothing bs)
+fraction_ends bs = cond_both _ _ _ (EndsRule bs) (λ h. with_ends bs 1 _ (begun _ bs h) (run_ends is_ascii_digit (drop 1 bs) digit_ascii)) (λ h. nothing bs)
 
 signed_ends : (bs : List ℕ) (sign : Bool) → first_is is_sign (drop 1 bs) ≡ sign → 1 ≤ length bs
     → EndsRule bs (with_digits (cond sign 2 1) (prefix_len is_ascii_digit (drop (cond sign 2 1) bs)))
@@ -92,16 +88,16 @@ signed_ends bs true s h = with_ends bs 2 _ (let n = one_byte _ (drop 1 bs) s in 
 signed_ends bs false s h = with_ends bs 1 _ h (run_ends is_ascii_digit (drop 1 bs) digit_ascii)
 
 exponent_ends : (bs : List ℕ) → EndsRule bs (exponent_len bs)
-exponent_ends bs = either bs _ _ _ (λ h. signed_ends bs (first_is is_sign (drop 1 bs)) refl (one_byte _ bs h)) (nothing bs)
+exponent_ends bs = cond_both _ _ _ (EndsRule bs) (λ h. signed_ends bs (first_is is_sign (drop 1 bs)) refl (one_byte _ bs h)) (λ h. nothing bs)
 
 hex_ends : (bs : List ℕ) → EndsRule bs (hex_len bs)
-hex_ends bs = either bs _ _ _ (λ h. with_ends bs 2 _ (text_within (codes "0x") bs h) (run_ends is_ascii_hexdigit (drop 2 bs) hex_ascii)) (nothing bs)
+hex_ends bs = cond_both _ _ _ (EndsRule bs) (λ h. with_ends bs 2 _ (text_within (codes "0x") bs h) (run_ends is_ascii_hexdigit (drop 2 bs) hex_ascii)) (λ h. nothing bs)
 
 tail_ends : (bs : List ℕ) → EndsRule bs (decimal_tail bs)
 tail_ends bs = further bs (fraction_len bs) _ (fraction_ends bs) (exponent_ends (drop (fraction_len bs) bs))
 
 decimal_ends : (bs : List ℕ) → EndsRule bs (decimal_len bs)
-decimal_ends bs = either bs _ _ _ (λ h. further bs (prefix_len is_ascii_digit bs) _ (run_ends is_ascii_digit bs digit_ascii) (tail_ends (drop (prefix_len is_ascii_digit bs) bs))) (nothing bs)
+decimal_ends bs = cond_both _ _ _ (EndsRule bs) (λ h. further bs (prefix_len is_ascii_digit bs) _ (run_ends is_ascii_digit bs digit_ascii) (tail_ends (drop (prefix_len is_ascii_digit bs) bs))) (λ h. nothing bs)
 
 greater : (bs : List ℕ) (x y : ℕ) → EndsRule bs x → EndsRule bs y → EndsRule bs (max x y)
 greater bs x y a b = elim (max_is x y) [ inl e ↦ rw e a | inr e ↦ rw e b ]
@@ -110,7 +106,7 @@ unsigned_ends : (bs : List ℕ) → EndsRule bs (unsigned_len bs)
 unsigned_ends bs = greater bs (hex_len bs) (decimal_len bs) (hex_ends bs) (decimal_ends bs)
 
 number_ends : (bs : List ℕ) → EndsRule bs (number_len bs)
-number_ends bs = either bs _ _ _ (λ h. with_ends bs 1 _ (one_byte _ bs h) (unsigned_ends (drop 1 bs))) (unsigned_ends bs)
+number_ends bs = cond_both _ _ _ (EndsRule bs) (λ h. with_ends bs 1 _ (one_byte _ bs h) (unsigned_ends (drop 1 bs))) (λ h. unsigned_ends bs)
 
 number_fits_at : (bs : List ℕ) (n : ℕ) → EndsRule bs n → Fits bs (number_read n)
 number_fits_at bs zero e = tt

@@ -10,7 +10,7 @@ use Rattle.al_expr_grammar.specs.Tree as tree
 use Rattle.al_expr_grammar.specs.Grammar.{Binary, Primary}
 use Rattle.al_expr_grammar.specs.Parsed.{Parsed, Refused, StepRefused, ArgumentsPart, ArgumentsRead, ArgumentsRefused, IsStray, NoClose, NoComma}
 use Rattle.al_expr_grammar.proofs.Shape.{NoCall}
-use Rattle.al_expr_grammar.proofs.Rules.{NoStar, NoCloseIndex, EndsArguments, group_stray, index_stray, star_stray}
+use Rattle.al_expr_grammar.proofs.Rules.{NoStar, NoCloseIndex, group_stray, index_stray, star_stray}
 use Rattle.al_expr_grammar.proofs.Rules.{call_refused, call_read, call_stray, argument_refused, arguments_begin, arguments_go_on}
 
 -- No token of this kind comes first.
@@ -18,35 +18,24 @@ abbrev pub Lacks : TokenKind → List TokenKind → Type 0
 Lacks k ts = (rest : List TokenKind) → ts ≢ k ∷ rest
 
 pub no_call : (ts : List TokenKind) → Lacks Open ts → NoCall ts
-no_call [] h = tt
 no_call (Open ∷ ts) h = absurd (h ts refl)
-no_call (t ∷ ts) h = tt
+no_call ts h = tt
 
 pub no_close : (ts : List TokenKind) → Lacks Close ts → NoClose ts
-no_close [] h = tt
 no_close (Close ∷ ts) h = absurd (h ts refl)
-no_close (t ∷ ts) h = tt
+no_close ts h = tt
 
 pub no_close_index : (ts : List TokenKind) → Lacks CloseIndex ts → NoCloseIndex ts
-no_close_index [] h = tt
 no_close_index (CloseIndex ∷ ts) h = absurd (h ts refl)
-no_close_index (t ∷ ts) h = tt
+no_close_index ts h = tt
 
 pub no_star : (ts : List TokenKind) → Lacks Star ts → NoStar ts
-no_star [] h = tt
 no_star (Star ∷ ts) h = absurd (h ts refl)
-no_star (t ∷ ts) h = tt
+no_star ts h = tt
 
 pub no_comma : (ts : List TokenKind) → Lacks Comma ts → NoComma ts
-no_comma [] h = tt
 no_comma (Comma ∷ ts) h = absurd (h ts refl)
-no_comma (t ∷ ts) h = tt
-
-pub ends_arguments : (ts : List TokenKind) → NoComma ts → NoClose ts → EndsArguments ts
-ends_arguments [] c h = tt
-ends_arguments (Comma ∷ ts) c h = absurd c
-ends_arguments (Close ∷ ts) c h = absurd h
-ends_arguments (t ∷ ts) c h = tt
+no_comma ts h = tt
 
 -- arguments
 pub first_argument_refused : (room : ℕ) (ts : List Lexeme) (e : ParseError) → NoClose (kinds ts) → Refused (Binary 3) room ts e → ArgumentsRefused room ts e
@@ -82,7 +71,7 @@ module _ (room inner : ℕ) (b c : List ℕ) (s u : Span) (ts : List Lexeme) (on
   pub call_not_closed : (left : List Lexeme) (all : List Tree) (e : ParseError) → ArgumentsRead inner ts all left → IsStray left Close e →
       Refused Primary room (lexeme Name b s ∷ lexeme Open c u ∷ ts) e
   call_not_closed left all e a i =
-      let r = call_stray room inner b c s u ts one a.part.mid a.part.first n a.part.begins left a.part.more a.part.goes_on (ends_arguments (kinds left) a.ends (no_close (kinds left) i.other)) in
+      let r = call_stray room inner b c s u ts one a.part.mid a.part.first n a.part.begins left a.part.more a.part.goes_on (a.ends, no_close (kinds left) i.other) in
       rw i.fault r
 
 -- brackets

@@ -1,6 +1,8 @@
 -- A text that is never closed has a quote.
 use Rattle.std.proofs.Common.{◌≡◌, ◌≢◌, ◌+◌, ℕ, zero, suc, List, [], ◌∷◌, length, drop, refl, sym, ◌∙◌, Bool, true, false, cond, Option, Some, None}
-use Rattle.std.specs.Prelude.{find, nat_eq, option_map}
+use Rattle.std.proofs.lemmas.Bool.{cond_both}
+use Rattle.std.specs.Char.{is_ascii_digit}
+use Rattle.std.specs.Prelude.{◌||◌, find, nat_eq, option_map}
 use Rattle.std.specs.List.{starts_with}
 use Rattle.std.specs.Option.{option_map_or, option_or}
 use Rattle.al_expr_grammar.specs.declared.lexer.Read.{Read}
@@ -8,14 +10,8 @@ use Rattle.al_expr_grammar.specs.declared.lexer.Read.TheVariants.{Blank, Token, 
 use Rattle.al_expr_grammar.specs.declared.token.TokenKind.{TokenKind}
 use Rattle.al_expr_grammar.specs.Lexeme.{Lexeme}
 use Rattle.al_expr_grammar.specs.Tokens.{Lexed, AllRead, Bad, Unclosed, read, mark, marks, number_read, number_len, tokens_of}
-use Rattle.al_expr_grammar.specs.Tokens.{is_quote, last_quote, then_token, tokens_within, with_first}
-
-apart : (t : Bool) (x y : Read) → x ≢ OpenText → y ≢ OpenText → cond t x y ≢ OpenText
-apart true x y f g = f
-apart false x y f g = g
-
-token : (k : TokenKind) (n : ℕ) → Token k n ≢ OpenText
-token k n e = cc
+use Rattle.al_expr_grammar.specs.Tokens.{begins_name, is_blank_byte, is_quote, last_quote, name_read, text_read, text_tail, then_token, tokens_within, with_first}
+use Rattle.al_base.specs.Ascii.{is_sign}
 
 number_apart : (n : ℕ) → number_read n ≢ OpenText
 number_apart zero e = cc
@@ -28,20 +24,14 @@ found_apart (Some m) e = cc
 mark_apart : (bs : List ℕ) → mark bs ≢ OpenText
 mark_apart bs = found_apart (find (λ m. starts_with nat_eq bs m.0) marks)
 
-quote_or : (t : Bool) (x y : Read) → y ≢ OpenText → cond t x y ≡ OpenText → t ≡ true
-quote_or true x y f e = refl
-quote_or false x y f e = absurd (f e)
-
-other : (t : Bool) (x y : Read) → x ≢ OpenText → cond t x y ≡ OpenText → y ≡ OpenText
-other true x y f e = absurd (f e)
-other false x y f e = e
-
-blank_apart : Blank ≢ OpenText
-blank_apart e = cc
-
 begins_with_quote : (b : ℕ) (bs : List ℕ) → read (b ∷ bs) ≡ OpenText → is_quote b ≡ true
-begins_with_quote b bs e =
-    quote_or _ _ _ (apart _ _ _ (number_apart (number_len (b ∷ bs))) (mark_apart (b ∷ bs))) (other _ _ _ (token _ _) (other _ _ _ blank_apart e))
+begins_with_quote b bs =
+    let P : Read → Type 0 = λ r. r ≡ OpenText → is_quote b ≡ true in
+    cond_both (is_blank_byte b) Blank _ P (λ h e. absurd cc)
+    (λ n. cond_both (begins_name b) (name_read (b ∷ bs)) _ P (λ h e. absurd cc)
+    (λ n. cond_both (is_quote b) (text_read (text_tail bs)) _ P (λ h e. h)
+    (λ n. cond_both (is_ascii_digit b || is_sign b) (number_read (number_len (b ∷ bs))) (mark (b ∷ bs)) P
+    (λ h e. absurd (number_apart (number_len (b ∷ bs)) e)) (λ h e. absurd (mark_apart (b ∷ bs) e)))))
 
 some_second : (o : Option ℕ) (n : ℕ) → option_or o (Some n) ≢ None
 some_second None n = λ e. cc

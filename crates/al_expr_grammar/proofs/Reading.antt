@@ -1,6 +1,6 @@
 -- What is read at a place has a byte and lies in the bytes.
 use Rattle.std.proofs.Common.{◌≡◌, ◌<◌, ◌≤◌, ℕ, List, [], ◌∷◌, length, refl, sym, subst, arith, Bool, true, false, cond, nat_eq, nat_lt, ◌||◌, Option, Some}
-use Rattle.std.proofs.lemmas.Bool.{and_parts}
+use Rattle.std.proofs.lemmas.Bool.{and_parts, cond_both}
 use Rattle.std.proofs.lemmas.Bool.Decides.{nat_tests}
 use Rattle.std.specs.Char.{is_ascii_digit}
 use Rattle.std.specs.List.{list_all, starts_with}
@@ -24,14 +24,6 @@ fits_short bs (Token k n) f = (f.0, f.1)
 fits_short bs Blank f = tt
 fits_short bs BadCharacter f = tt
 fits_short bs OpenText f = tt
-
-if_short : (bs : List ℕ) (t : Bool) (x y : Read) → Short bs x → Short bs y → Short bs (cond t x y)
-if_short bs true x y a b = a
-if_short bs false x y a b = b
-
-if_given : (bs : List ℕ) (t : Bool) (x y : Read) → (t ≡ true → Short bs x) → Short bs y → Short bs (cond t x y)
-if_given bs true x y a b = a refl
-if_given bs false x y a b = b
 
 -- the token of a mark, where one is found
 abbrev mark_found : Option (List ℕ × TokenKind) → Read
@@ -60,8 +52,9 @@ text_short b bs e =
 
 pub read_short : (b : ℕ) (bs : List ℕ) → Short (b ∷ bs) (read (b ∷ bs))
 read_short b bs =
-    if_short (b ∷ bs) (is_blank_byte b) Blank _ tt
-    (if_given (b ∷ bs) (begins_name b) (name_read (b ∷ bs)) _ (λ e. fits_short (b ∷ bs) (name_read (b ∷ bs)) (name_fits b bs e))
-    (if_given (b ∷ bs) (nat_eq b 39) (text_read (text_tail bs)) _ (text_short b bs)
-    (if_short (b ∷ bs) (is_ascii_digit b || is_sign b) (number_read (number_len (b ∷ bs))) (mark (b ∷ bs))
-    (fits_short (b ∷ bs) (number_read (number_len (b ∷ bs))) (number_fits (b ∷ bs))) (mark_short (b ∷ bs)))))
+    let P : Read → Type 0 = Short (b ∷ bs) in
+    cond_both (is_blank_byte b) Blank _ P (λ e. tt)
+    (λ n. cond_both (begins_name b) (name_read (b ∷ bs)) _ P (λ e. fits_short (b ∷ bs) (name_read (b ∷ bs)) (name_fits b bs e))
+    (λ n. cond_both (nat_eq b 39) (text_read (text_tail bs)) _ P (text_short b bs)
+    (λ n. cond_both (is_ascii_digit b || is_sign b) (number_read (number_len (b ∷ bs))) (mark (b ∷ bs)) P
+    (λ e. fits_short (b ∷ bs) (number_read (number_len (b ∷ bs))) (number_fits (b ∷ bs))) (λ e. mark_short (b ∷ bs)))))

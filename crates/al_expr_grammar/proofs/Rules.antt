@@ -7,16 +7,17 @@ use Rattle.al_expr_grammar.specs.declared.token.TokenKind.{TokenKind}
 use Rattle.al_expr_grammar.specs.declared.token.TokenKind.TheVariants.{Name, Keyword, Number, Text, Open, Close, OpenIndex, CloseIndex, Dot, Comma, Star, Infix}
 use Rattle.al_expr_grammar.specs.declared.parser.ParseError.{ParseError}
 use Rattle.al_expr_grammar.specs.declared.parser.ParseError.TheVariants as error
-use Rattle.al_expr_grammar.specs.Lexeme.{Lexeme, lexeme, kinds}
+use Rattle.al_expr_grammar.specs.Lexeme.{Lexeme, lexeme, kind_of, kinds}
 use Rattle.al_expr_grammar.specs.Tree as tree
 use Rattle.al_expr_grammar.specs.Tree.{Tree, Named, Property, All, arguments_of}
 use Rattle.al_expr_grammar.specs.Grammar.{Binary, Primary, level_of}
 use Rattle.al_expr_grammar.specs.Grammar.{name, call_empty, call, group}
 use Rattle.al_expr_grammar.specs.Grammar.{to_property, to_keyword, to_all, to_each, to_index, Lists, listed, and_next}
 use Rattle.al_expr_grammar.specs.Table.{Verdict, Unexpected, TooDeep, E, A, I, S, O, N, Frame, Group, Call, Index, outside, scan}
-use Rattle.al_expr_grammar.specs.Parsed.{EndsPath, EndsLevel, IsVerdict, Parsed, Refused, PartOfCall, StepRead, StepRefused, error_at, NoClose}
+use Rattle.al_expr_grammar.specs.Parsed.{EndsPath, EndsLevel, IsVerdict, Parsed, Refused, PartOfCall, StepRead, StepRefused, error_at, NoClose, NoComma}
 use Rattle.al_expr_grammar.proofs.Shape.{NoCall}
 use Rattle.std.proofs.lemmas.Bool.Decides.{nat_tests}
+use Rattle.std.proofs.lemmas.List.{length-map}
 
 pub at_most_three : (o : Operator) → level_of o ≤ 3
 at_most_three op.Or = omega arith
@@ -33,8 +34,7 @@ pub too_deep : (n left : ℕ) (v : Verdict) → n ≡ 50 → deeper n left v ≡
 too_deep n left v h = grind (arith, nat_tests)
 
 pub same_length : (ts : List Lexeme) → length (kinds ts) ≡ length ts
-same_length [] = refl
-same_length (t ∷ ts) = ap suc (same_length ts)
+same_length ts = length-map ts kind_of
 
 -- Where no path goes on, the negations that stand open don't matter.
 pub settled : (k j : ℕ) (st : List Frame) (ts : List TokenKind) → EndsPath ts → scan O k st ts ≡ scan O j st ts
@@ -58,14 +58,12 @@ NoStar (Star ∷ ts) = ⊥
 NoStar _ = Unit {0}
 
 pub in_call : (k : ℕ) (st : List Frame) (ts : List TokenKind) → NoClose ts → scan A k st ts ≡ scan E k st ts
-in_call k st [] h = refl
 in_call k st (Close ∷ ts) h = absurd h
-in_call k st (t ∷ ts) h = refl
+in_call k st ts h = refl
 
 pub in_index : (k : ℕ) (st : List Frame) (ts : List TokenKind) → NoStar ts → scan I k st ts ≡ scan E k st ts
-in_index k st [] h = refl
 in_index k st (Star ∷ ts) h = absurd h
-in_index k st (t ∷ ts) h = refl
+in_index k st ts h = refl
 
 -- what the table comes to from other tokens as well
 pub likewise : (e : ParseError) (v w : Verdict) → v ≡ w → IsVerdict e w → IsVerdict e v
@@ -79,38 +77,25 @@ abbrev pub NoCloseIndex : List TokenKind → Type 0
 NoCloseIndex (CloseIndex ∷ ts) = ⊥
 NoCloseIndex _ = Unit {0}
 
--- neither a comma nor a closing bracket comes first
-abbrev pub EndsArguments : List TokenKind → Type 0
-EndsArguments (Close ∷ ts) = ⊥
-EndsArguments (Comma ∷ ts) = ⊥
-EndsArguments _ = Unit {0}
+-- neither a token that closes these brackets comes first nor one that goes on in them
+abbrev pub EndsInside : Frame → List TokenKind → Type 0
+EndsInside (Group k) ts = NoClose ts
+EndsInside (Call k) ts = NoComma ts × NoClose ts
+EndsInside (Index k) ts = NoCloseIndex ts
 
 -- no token that may follow a whole operand inside these brackets
-module _ (k : ℕ) (st : List Frame) where
-  stray_in_group : (us : List Lexeme) → EndsLevel 3 (kinds us) → NoClose (kinds us) → IsVerdict (error_at us) (scan O 0 (Group k ∷ st) (kinds us))
-  stray_in_group [] h c = refl
-  stray_in_group (lexeme Dot b s ∷ us) h c = absurd h
-  stray_in_group (lexeme OpenIndex b s ∷ us) h c = absurd h
-  stray_in_group (lexeme Close b s ∷ us) h c = absurd c
-  stray_in_group (lexeme (Infix o) b s ∷ us) h c = absurd (omega (arith, h, at_most_three o))
-  stray_in_group (lexeme t b s ∷ us) h c = unexpected us
-
-  stray_in_index : (us : List Lexeme) → EndsLevel 3 (kinds us) → NoCloseIndex (kinds us) → IsVerdict (error_at us) (scan O 0 (Index k ∷ st) (kinds us))
-  stray_in_index [] h c = refl
-  stray_in_index (lexeme Dot b s ∷ us) h c = absurd h
-  stray_in_index (lexeme OpenIndex b s ∷ us) h c = absurd h
-  stray_in_index (lexeme CloseIndex b s ∷ us) h c = absurd c
-  stray_in_index (lexeme (Infix o) b s ∷ us) h c = absurd (omega (arith, h, at_most_three o))
-  stray_in_index (lexeme t b s ∷ us) h c = unexpected us
-
-  stray_in_call : (us : List Lexeme) → EndsLevel 3 (kinds us) → EndsArguments (kinds us) → IsVerdict (error_at us) (scan O 0 (Call k ∷ st) (kinds us))
-  stray_in_call [] h c = refl
-  stray_in_call (lexeme Dot b s ∷ us) h c = absurd h
-  stray_in_call (lexeme OpenIndex b s ∷ us) h c = absurd h
-  stray_in_call (lexeme Close b s ∷ us) h c = absurd c
-  stray_in_call (lexeme Comma b s ∷ us) h c = absurd c
-  stray_in_call (lexeme (Infix o) b s ∷ us) h c = absurd (omega (arith, h, at_most_three o))
-  stray_in_call (lexeme t b s ∷ us) h c = unexpected us
+stray : (f : Frame) (st : List Frame) (us : List Lexeme) → EndsLevel 3 (kinds us) → EndsInside f (kinds us) → IsVerdict (error_at us) (scan O 0 (f ∷ st) (kinds us))
+stray f st [] h c = refl
+stray f st (lexeme Dot b s ∷ us) h c = absurd h
+stray f st (lexeme OpenIndex b s ∷ us) h c = absurd h
+stray f st (lexeme (Infix o) b s ∷ us) h c = absurd (omega (arith, h, at_most_three o))
+stray (Group k) st (lexeme Close b s ∷ us) h c = absurd c
+stray (Call k) st (lexeme Close b s ∷ us) h c = absurd c.1
+stray (Call k) st (lexeme Comma b s ∷ us) h c = absurd c.0
+stray (Index k) st (lexeme CloseIndex b s ∷ us) h c = absurd c
+stray (Group k) st (lexeme t b s ∷ us) h c = unexpected us
+stray (Call k) st (lexeme t b s ∷ us) h c = unexpected us
+stray (Index k) st (lexeme t b s ∷ us) h c = unexpected us
 
 -- a literal
 pub constant_read : (room : ℕ) (w : _) (b : List ℕ) (s : Span) (rest : List Lexeme) → Parsed Primary room (lexeme (Keyword w) b s ∷ rest) (tree.Constant w s) rest
@@ -142,7 +127,7 @@ module _ (room inner : ℕ) (b : List ℕ) (s : Span) (ts : List Lexeme) (one : 
   group_refused e r = λ k st a h. likewise e _ _ (in_group k st h) (r 0 (Group k ∷ st) refl (omega arith))
 
   pub group_stray : (mid : List Lexeme) (t : Tree) → Parsed (Binary 3) inner ts t mid → NoClose (kinds mid) → Refused Primary room (lexeme Open b s ∷ ts) (error_at mid)
-  group_stray mid t p never = λ k st a h. likewise (error_at mid) _ _ (in_group k st h ∙ p.goes 0 (Group k ∷ st) refl (omega arith)) (stray_in_group k st mid p.stops never)
+  group_stray mid t p never = λ k st a h. likewise (error_at mid) _ _ (in_group k st h ∙ p.goes 0 (Group k ∷ st) refl (omega arith)) (stray (Group k) st mid p.stops never)
 
   -- an index
   to_inside : (k : ℕ) (st : List Frame) → NoStar (kinds ts) → k + outside st + room ≡ 50 → scan O k st (OpenIndex ∷ kinds ts) ≡ scan E 0 (Index k ∷ st) (kinds ts)
@@ -160,7 +145,7 @@ module _ (room inner : ℕ) (b : List ℕ) (s : Span) (ts : List Lexeme) (one : 
   index_refused e n r = λ k st h. likewise e _ _ (to_inside k st n h) (r 0 (Index k ∷ st) refl (omega arith))
 
   pub index_stray : (mid : List Lexeme) (t : Tree) → NoStar (kinds ts) → Parsed (Binary 3) inner ts t mid → NoCloseIndex (kinds mid) → StepRefused room (lexeme OpenIndex b s ∷ ts) (error_at mid)
-  index_stray mid t n p never = λ k st h. likewise (error_at mid) _ _ (to_inside k st n h ∙ p.goes 0 (Index k ∷ st) refl (omega arith)) (stray_in_index k st mid p.stops never)
+  index_stray mid t n p never = λ k st h. likewise (error_at mid) _ _ (to_inside k st n h ∙ p.goes 0 (Index k ∷ st) refl (omega arith)) (stray (Index k) st mid p.stops never)
 
 -- brackets without room
 pub group_deep : (b : List ℕ) (s : Span) (ts : List Lexeme) → Refused Primary 0 (lexeme Open b s ∷ ts) (error.TooDeep (suc (length ts)))
@@ -197,9 +182,9 @@ module _ (room inner : ℕ) (b c : List ℕ) (s u : Span) (ts : List Lexeme) (on
       shorter = let x = p.shorter in let y = w.shorter in omega arith;
     }
 
-    pub call_stray : (left : List Lexeme) (more : List Tree) → PartOfCall inner mid more left → EndsArguments (kinds left) →
+    pub call_stray : (left : List Lexeme) (more : List Tree) → PartOfCall inner mid more left → NoComma (kinds left) × NoClose (kinds left) →
         Refused Primary room (lexeme Name b s ∷ lexeme Open c u ∷ ts) (error_at left)
-    call_stray left more w never = λ k st a h. likewise (error_at left) _ _ (first_argument k st h ∙ w.goes k st (omega arith)) (stray_in_call k st left w.stops never)
+    call_stray left more w never = λ k st a h. likewise (error_at left) _ _ (first_argument k st h ∙ w.goes k st (omega arith)) (stray (Call k) st left w.stops never)
 
     pub argument_refused : (d : List ℕ) (x : Span) (us : List Lexeme) (more : List Tree) (e : ParseError) → PartOfCall inner mid more (lexeme Comma d x ∷ us) →
         Refused (Binary 3) inner us e → Refused Primary room (lexeme Name b s ∷ lexeme Open c u ∷ ts) e

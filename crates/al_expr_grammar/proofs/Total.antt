@@ -1,5 +1,6 @@
 -- Every list of tokens is read or refused.
 use Rattle.std.proofs.Common.{◌≡◌, ◌≢◌, ℕ, zero, suc, ◌<◌, ◌≤◌, List, [], ◌∷◌, ◌++◌, length, refl, ap, arith, inl, inr, ◌⊎◌}
+use Rattle.std.proofs.lemmas.Bool.{cases_eq}
 use Rattle.al_base.specs.declared.faults.Span.{Span}
 use Rattle.al_expr_grammar.specs.declared.token.TokenKind.TheVariants.{Name, Keyword, Number, Text, Open, Close, OpenIndex, CloseIndex, Dot, Comma, Star, Bang, Infix}
 use Rattle.al_expr_grammar.specs.declared.parser.ParseError.{ParseError}
@@ -60,8 +61,8 @@ module _ (n room : ℕ) (b c : List ℕ) (s u : Span) (ts mid : List Lexeme) (t 
     | refused e i r ↦ refused e i (argument_refused (suc room) room b c s u ts (omega arith) mid t some p d x us more e w r)
     | read v rest q ↦ arguments fuel rest (more ++ v ∷ []) (arguments_go_on room mid us rest d x more v w q) (let y = q.shorter in omega arith)
   ]
-  arguments fuel [] more w f = refused (error_at []) tt (call_stray (suc room) room b c s u ts (omega arith) mid t some p [] more w tt)
-  arguments fuel (lexeme k d e ∷ rest) more w f = refused (error_at (lexeme k d e ∷ rest)) tt (call_stray (suc room) room b c s u ts (omega arith) mid t some p (lexeme k d e ∷ rest) more w tt)
+  arguments fuel [] more w f = refused (error_at []) tt (call_stray (suc room) room b c s u ts (omega arith) mid t some p [] more w (tt, tt))
+  arguments fuel (lexeme k d e ∷ rest) more w f = refused (error_at (lexeme k d e ∷ rest)) tt (call_stray (suc room) room b c s u ts (omega arith) mid t some p (lexeme k d e ∷ rest) more w (tt, tt))
 
 abbrev pub called : (n room : ℕ) (b c : List ℕ) (s u : Span) (ts : List Lexeme) → Inner n → length ts < n → NoClose (kinds ts)
     → Outcome (Binary 3) room ts → Outcome Primary (suc room) (lexeme Name b s ∷ lexeme Open c u ∷ ts)
@@ -147,12 +148,6 @@ unary (lexeme Bang b s ∷ ts) n (suc room) inner h = negated room b s ts (unary
 unary [] n room inner h = positive room [] (postfix n room [] inner h tt)
 unary (lexeme k b s ∷ ts) n room inner h = positive room (lexeme k b s ∷ ts) (postfix n room (lexeme k b s ∷ ts) inner h tt)
 
-abbrev pub decide : (n m : ℕ) → (n ≡ m) ⊎ (n ≢ m)
-decide zero zero = inl refl
-decide zero (suc m) = inr (λ e. absurd (omega (arith, e)))
-decide (suc n) zero = inr (λ e. absurd (omega (arith, e)))
-decide (suc n) (suc m) = elim (decide n m) [ inl e ↦ inl (ap suc e) | inr e ↦ inr (λ f. e (omega (arith, f))) ]
-
 module _ (l n room : ℕ) (operand : (us : List Lexeme) → length us ≤ n → Outcome (below l) room us) (ts mid : List Lexeme)
     (t : Tree) (h : length ts ≤ n) (p : Parsed (below l) room ts t mid) where
   abbrev pub chain_ends : (left : List Lexeme) (os : List (Sign × Tree)) → PartOfChain l room mid os left → EndsRule (below l) (kinds left) → NoOperator l (kinds left) → Outcome (Binary l) room ts
@@ -160,7 +155,7 @@ module _ (l n room : ℕ) (operand : (us : List Lexeme) → length us ≤ n → 
 
   abbrev pub chain_walk : (fuel : ℕ) (left : List Lexeme) (os : List (Sign × Tree)) → PartOfChain l room mid os left → EndsRule (below l) (kinds left) → length left ≤ fuel → Outcome (Binary l) room ts
   chain_walk zero (lexeme (Infix o) b x ∷ us) os c s f = absurd (omega (arith, f))
-  chain_walk (suc fuel) (lexeme (Infix o) b x ∷ us) os c s f = elim (decide (level_of o) l) [
+  chain_walk (suc fuel) (lexeme (Infix o) b x ∷ us) os c s f = elim (cases_eq (level_of o) l) [
     | inr other ↦ chain_ends (lexeme (Infix o) b x ∷ us) os c s other
     | inl e ↦ elim (operand us (let y = p.shorter in let z = c.shorter in omega arith)) [
       | refused w i r ↦ refused w i (later_refused l room ts mid us t os o b x w p c r)

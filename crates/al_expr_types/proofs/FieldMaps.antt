@@ -16,8 +16,8 @@ use Rattle.al_expr_types.specs.Types.{named_types, type_in}
 use Rattle.al_expr_types.specs.declared.fields.FieldMap.{FieldMap}
 use Rattle.al_expr_types.specs.declared.ty.Ty.{Ty}
 use Rattle.al_expr_types.specs.declared.types.Types.{Types}
-use Rattle.al_expr_types.proofs.Below.{types_kept}
-use Rattle.al_expr_types.proofs.Tables.{length_after}
+use Rattle.al_expr_types.proofs.Below.{types_same}
+use Rattle.al_expr_types.proofs.Keeping.{has_old}
 
 place_at : (ns : List (List ℕ)) (ts : List Type') (n : List ℕ) → length ns ≡ length ts → name_at (zip ns ts) n ≡ name_place ns n
 place_at [] ts n e = refl
@@ -54,5 +54,4 @@ old_field ms ns ts n t i e old =
 pub fields_stay : (new old : Types) (m : FieldMap) → BeginsWith (objects_of new) (objects_of old) → is_map_below (length old.objects.items) m ≡ true →
     fields_in (objects_of new) m ≡ fields_in (objects_of old) m
 fields_stay new old m b h =
-    let below = ap (λ n. is_map_below n m) (length_after [] old.objects.items) ∙ h in
-    ap (λ ms. fields_in ms m) b.is ∙ ap (zip (names_in m.names)) (types_kept (objects_of old) b.more m.types.items below)
+    ap (zip (names_in m.names)) (types_same _ _ (length old.objects.items) (length new.objects.items) (has_old new.objects.items old.objects.items b) m.types.items h).1

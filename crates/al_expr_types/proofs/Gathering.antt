@@ -1,8 +1,8 @@
 -- Parts of objects that are gathered, object after object and field after field.
-use Rattle.std.proofs.Common.{◌≡◌, ◌+◌, ◌<◌, ◌≤◌, ℕ, List, [], ◌∷◌, ◌++◌, map, take, length, get_or, false, Option, Some, None, refl, sym, ap, ◌∙◌, arith}
+use Rattle.std.proofs.Common.{◌≡◌, ◌+◌, ◌<◌, ◌≤◌, ℕ, List, [], ◌∷◌, ◌++◌, map, take, length, get_or, zero, suc, false, Option, Some, None, refl, sym, ap, ◌∙◌, arith}
 use Rattle.std.proofs.lemmas.Bool.Decides.{nat_tests}
 use Rattle.std.proofs.lemmas.List.{map-append, take_more}
-use Rattle.std.specs.Prelude.{is_some, nat_eq, nat_lt, not, option_map, zip}
+use Rattle.std.specs.Prelude.{Contains, is_some, nat_eq, nat_lt, not, option_map, zip}
 use Rattle.al_base.specs.NamePlaces.{name_place}
 use Rattle.al_types.specs.Strings.{strings}
 use Rattle.al_types.proofs.StringFields.{common_strings, string_at}
@@ -10,13 +10,14 @@ use Rattle.al_types.specs.Presence.{is_present}
 use Rattle.al_types.specs.TypeParts.{string_unless}
 use Rattle.al_types.specs.Types.{Type', String, Optional, Absent, Present, Parts, common_in, field_at, fuse_optional, option_of, optional, or_else}
 use Rattle.al_types.specs.Fused.{fuse_parts, fuse_all}
-use Rattle.al_types.proofs.FuseLaws.{fused_one_more, nothing_last, optional_assoc, optional_back}
+use Rattle.al_types.proofs.FuseLaws.{fused_both, last_turned, nothing_last, optional_assoc, optional_back, optional_same}
 use Rattle.al_expr_types.specs.Parts.{part_in}
 use Rattle.al_expr_types.specs.Types.{common_of, no_parts, object_parts, rest_in, type_in}
 use Rattle.al_expr_types.specs.declared.objects.Object.{Object}
 use Rattle.al_expr_types.specs.declared.ty.Ty.{Ty}
 use Rattle.al_expr_types.specs.declared.parts.Part.{Part}
 use Rattle.al_expr_types.specs.declared.parts.Part.TheVariants as part
+use Rattle.al_expr_types.proofs.Fusing.{fused_push}
 
 -- ---- what is found, as what may be there
 
@@ -28,21 +29,46 @@ pub asked_last : (x : Option Type') (at rest : Optional) → optional x ≡ rest
 asked_last x Absent rest e h = sym (optional_back x) ∙ ap option_of e
 asked_last x (Present t) rest e h = absurd cc
 
--- ---- fields one after another
+-- ---- what those of a list have in common, one after another
 
+module _ {X : Type 0} (all : List X → Optional) (one : X → Optional) where
+  pub taken : ((xs : List X) (x : X) → all (xs ++ x ∷ []) ≡ fuse_optional (all xs) (one x)) → (xs : List X) (i : ℕ) (x : X) → i < length xs → x ≡ get_or xs i x →
+      all (take (i + 1) xs) ≡ fuse_optional (all (take i xs)) (one x)
+  taken more xs i x lt e = ap all (take_more xs i x lt ∙ ap (λ y. take i xs ++ y ∷ []) (sym e)) ∙ more (take i xs) x
+
+  pub next : ((xs : List X) (x : X) → all (xs ++ x ∷ []) ≡ fuse_optional (all xs) (one x)) → (xs : List X) (i : ℕ) (x : X) (start sofar new : Optional) → i < length xs →
+      x ≡ get_or xs i x → sofar ≡ fuse_optional start (all (take i xs)) → new ≡ fuse_optional sofar (one x) → new ≡ fuse_optional start (all (take (i + 1) xs))
+  next more xs i x start sofar new lt e old step =
+      step ∙ ap (λ o. fuse_optional o (one x)) old ∙ optional_assoc start (all (take i xs)) (one x) ∙ ap (fuse_optional start) (sym (taken more xs i x lt e))
+
+  -- one that is among them adds nothing
+  pub held : ((x : X) (xs : List X) → all (x ∷ xs) ≡ fuse_optional (one x) (all xs)) → (xs : List X) (x : X) (k : ℕ) → k < length xs → get_or xs k x ≡ x →
+      fuse_optional (all xs) (one x) ≡ all xs
+  held first [] x k lt e = absurd (omega (arith, lt))
+  held first (y ∷ xs) x zero lt e =
+      ap (λ o. fuse_optional o (one x)) (first y xs) ∙ last_turned (one y) (all xs) (one x) ∙ ap (λ z. fuse_optional (fuse_optional (one y) (one z)) (all xs)) (sym e)
+      ∙ ap (λ o. fuse_optional o (all xs)) (optional_same (one y)) ∙ sym (first y xs)
+  held first (y ∷ xs) x (suc k) lt e =
+      ap (λ o. fuse_optional o (one x)) (first y xs) ∙ optional_assoc (one y) (all xs) (one x)
+      ∙ ap (fuse_optional (one y)) (held first xs x k (omega (arith, lt)) e) ∙ sym (first y xs)
+
+-- objects
+pub held_object : (f : ℕ → Parts) (ns : List ℕ) (n : ℕ) → Contains ns n → fuse_parts (fuse_all (map f ns)) (f n) ≡ fuse_all (map f ns)
+held_object f ns n c =
+    let first : (k : ℕ) (ks : List ℕ) → fuse_all (map f (k ∷ ks)) ≡ fuse_parts (f k) (fuse_all (map f ks)) = λ k ks. fused_both (f k ∷ []) (map f ks) in
+    λ d. (
+      λ name. held (λ ks. (fuse_all (map f ks)).0 name) (λ k. (f k).0 name) (λ k ks. ap (λ p. p.0 name) (first k ks)) ns n c.0 c.1 c.2 d,
+      held (λ ks. (fuse_all (map f ks)).1) (λ k. (f k).1) (λ k ks. ap (λ p. p.1) (first k ks)) ns n c.0 c.1 c.2 d,
+      held (λ ks. (fuse_all (map f ks)).2) (λ k. (f k).2) (λ k ks. ap (λ p. p.2) (first k ks)) ns n c.0 c.1 c.2 d,
+    )
+
+-- types
 pub common_push : (xs : List Type') (t : Type') → common_of (xs ++ t ∷ []) ≡ fuse_optional (common_of xs) (Present t)
 common_push [] t = refl
 common_push (x ∷ xs) t = ap (fuse_optional (Present x)) (common_push xs t) ∙ sym (optional_assoc (Present x) (common_of xs) (Present t))
 
-pub common_next : {X : Type 0} (g : X → Type') (xs : List X) (i : ℕ) (x : X) (start sofar new : Optional) → i < length xs → x ≡ get_or xs i x →
-    sofar ≡ fuse_optional start (common_of (map g (take i xs))) → new ≡ fuse_optional sofar (Present (g x)) →
-    new ≡ fuse_optional start (common_of (map g (take (i + 1) xs)))
-common_next g xs i x start sofar new lt e old step =
-    step ∙ ap (λ o. fuse_optional o (Present (g x))) old ∙ optional_assoc start (common_of (map g (take i xs))) (Present (g x))
-    ∙ ap (fuse_optional start) (sym (common_push (map g (take i xs)) (g x)))
-    ∙ ap (λ y. fuse_optional start (common_of (map g (take i xs) ++ g y ∷ []))) e
-    ∙ ap (λ ys. fuse_optional start (common_of ys)) (sym (map-append g (take i xs) (get_or xs i x ∷ [])))
-    ∙ ap (λ ys. fuse_optional start (common_of (map g ys))) (sym (take_more xs i x lt))
+pub types_more : {X : Type 0} (g : X → Type') (xs : List X) (x : X) → common_of (map g (xs ++ x ∷ [])) ≡ fuse_optional (common_of (map g xs)) (Present (g x))
+types_more g xs x = ap common_of (map-append g xs (x ∷ [])) ∙ common_push (map g xs) (g x)
 
 -- names count nothing there
 pub common_zipped : {X : Type 0} (g : X → Type') (ns : List (List ℕ)) (xs : List X) → length xs ≤ length ns →
@@ -72,16 +98,8 @@ part_fused part.All a b = refl
 pub gathered_none : (p : Part) (start : Optional) → start ≡ fuse_optional start (part_in p (fuse_all []))
 gathered_none p start = sym (ap (fuse_optional start) (part_nothing p) ∙ nothing_last start)
 
-pub gathered_next : (p : Part) (f : ℕ → Parts) (ns : List ℕ) (i n : ℕ) (start sofar new : Optional) → i < length ns → n ≡ get_or ns i n →
-    sofar ≡ fuse_optional start (part_in p (fuse_all (map f (take i ns)))) → new ≡ fuse_optional sofar (part_in p (f n)) →
-    new ≡ fuse_optional start (part_in p (fuse_all (map f (take (i + 1) ns))))
-gathered_next p f ns i n start sofar new lt e old step =
-    let prefix : List Parts = map f (take i ns) in
-    step ∙ ap (λ o. fuse_optional o (part_in p (f n))) old ∙ optional_assoc start (part_in p (fuse_all prefix)) (part_in p (f n))
-    ∙ ap (fuse_optional start) (sym (part_fused p (fuse_all prefix) (f n))) ∙ ap (λ q. fuse_optional start (part_in p q)) (sym (fused_one_more prefix (f n)))
-    ∙ ap (λ m. fuse_optional start (part_in p (fuse_all (prefix ++ f m ∷ [])))) e
-    ∙ ap (λ qs. fuse_optional start (part_in p (fuse_all qs))) (sym (map-append f (take i ns) (get_or ns i n ∷ [])))
-    ∙ ap (λ ms. fuse_optional start (part_in p (fuse_all (map f ms)))) (sym (take_more ns i n lt))
+pub parts_more : (p : Part) (f : ℕ → Parts) (ns : List ℕ) (n : ℕ) → part_in p (fuse_all (map f (ns ++ n ∷ []))) ≡ fuse_optional (part_in p (fuse_all (map f ns))) (part_in p (f n))
+parts_more p f ns n = ap (part_in p) (fused_push f ns n) ∙ part_fused p (fuse_all (map f ns)) (f n)
 
 -- ---- strings
 
@@ -103,15 +121,3 @@ all_strings ns n e = nothing_last (common_in (strings ns)) ∙ common_strings ns
 pub fields_then_rest : (start all new common rest : Optional) → all ≡ fuse_optional start common → new ≡ fuse_optional all rest →
     new ≡ fuse_optional start (fuse_optional common rest)
 fields_then_rest start all new common rest e f = f ∙ ap (λ o. fuse_optional o rest) e ∙ optional_assoc start common rest
-
--- the fields of a name, object after object
-pub named_next : (n : List ℕ) (f : ℕ → Parts) (ns : List ℕ) (i m : ℕ) (start sofar new : Optional) → i < length ns → m ≡ get_or ns i m →
-    sofar ≡ fuse_optional start ((fuse_all (map f (take i ns))).0 n) → new ≡ fuse_optional sofar ((f m).0 n) →
-    new ≡ fuse_optional start ((fuse_all (map f (take (i + 1) ns))).0 n)
-named_next n f ns i m start sofar new lt e old step =
-    let prefix : List Parts = map f (take i ns) in
-    step ∙ ap (λ o. fuse_optional o ((f m).0 n)) old ∙ optional_assoc start ((fuse_all prefix).0 n) ((f m).0 n)
-    ∙ ap (λ q. fuse_optional start (q.0 n)) (sym (fused_one_more prefix (f m)))
-    ∙ ap (λ k. fuse_optional start ((fuse_all (prefix ++ f k ∷ [])).0 n)) e
-    ∙ ap (λ qs. fuse_optional start ((fuse_all qs).0 n)) (sym (map-append f (take i ns) (get_or ns i m ∷ [])))
-    ∙ ap (λ ms. fuse_optional start ((fuse_all (map f ms)).0 n)) (sym (take_more ns i m lt))

@@ -1,20 +1,15 @@
 -- The index of an object: what a name finds in what was made of its fields.
-use Rattle.std.proofs.Common.{◌≡◌, ◌∙◌, ℕ, List, [], ◌∷◌, map, drop, length, get_or, zero, suc, true, Option, Some, None, refl, sym, ap, subst}
-use Rattle.std.specs.List.{list_all}
+use Rattle.std.proofs.Common.{◌≡◌, ◌∙◌, ℕ, List, [], ◌∷◌, map, drop, get_or, zero, suc, Option, Some, None, refl, ap}
 use Rattle.std.specs.Prelude.{option_and_then, slice_get}
-use Rattle.al_base.specs.Growth.{BeginsWith}
 use Rattle.al_base.specs.NamePlaces.{name_place}
 use Rattle.al_types.specs.Types.{Type', Absent, Present, Parts, field_at, optional}
 use Rattle.al_types.proofs.FieldsByName.{found_by_name}
 use Rattle.al_expr_types.specs.Joining.{join_in}
 use Rattle.al_expr_types.specs.Merging.{slot_in}
-use Rattle.al_expr_types.specs.Types.{is_below, named_types, parts_of_all, type_in}
+use Rattle.al_expr_types.specs.Types.{named_types, type_in}
 use Rattle.al_expr_types.specs.declared.joining.Join.{Join}
 use Rattle.al_expr_types.specs.declared.joining.Join.TheVariants as joined
-use Rattle.al_expr_types.specs.declared.objects.Object.{Object}
 use Rattle.al_expr_types.specs.declared.ty.Ty.{Ty}
-use Rattle.al_expr_types.proofs.Below.{same_mapped, type_kept}
-use Rattle.al_expr_types.proofs.Tables.{length_after}
 
 at_each : (ms : List Parts) (us : List Type') (js : List Join) (k : ℕ) → map Present us ≡ map (join_in ms) js →
     optional (slice_get us k) ≡ join_in ms (get_or js k joined.Nothing)
@@ -32,14 +27,6 @@ at_place ms us js (Some k) e = at_each ms us js k e
 mapped_twice : (g : Ty → Type') (ts : List Ty) → map Present (map g ts) ≡ map (λ t. Present (g t)) ts
 mapped_twice g [] = refl
 mapped_twice g (t ∷ ts) = ap (λ l. Present (g t) ∷ l) (mapped_twice g ts)
-
--- the types that were made are those of the same names in a longer table
-pub named_kept : (new old : List Object) (ts : List Ty) → BeginsWith (parts_of_all new) (parts_of_all old) → list_all (is_below (length old)) ts ≡ true →
-    map (type_in (parts_of_all new)) ts ≡ map (type_in (parts_of_all old)) ts
-named_kept new old ts b h =
-    let len = length_after [] old in
-    same_mapped (is_below (length old)) (type_in (parts_of_all new)) (type_in (parts_of_all old))
-    (λ t below. ap (λ ms. type_in ms t) b.is ∙ type_kept (parts_of_all old) b.more t (subst (λ k. is_below k t ≡ true) (sym len) below)) ts h
 
 -- what a name finds among them
 pub index_named : (ms now : List Parts) (ns : List (List ℕ)) (js : List Join) (ts : List Ty) → map (λ t. Present (type_in now t)) ts ≡ map (join_in ms) js →

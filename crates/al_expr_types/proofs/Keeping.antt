@@ -1,34 +1,30 @@
 -- What is kept of objects stays right where objects are added, and where more is kept.
 use Rattle.std.proofs.Common.{◌≡◌, ◌<◌, ◌≤◌, ◌+◌, ℕ, List, [], ◌∷◌, ◌++◌, length, map, take, get_or, cond, Bool, true, false, Option, Some, None, Result, Ok, Err, Bor}
 use Rattle.std.proofs.Common.{refl, sym, ap, subst, ◌∙◌, arith}
-use Rattle.std.proofs.lemmas.Cmp.{ranked}
-use Rattle.std.proofs.lemmas.List.{length-append, map-append, take_more}
+use Rattle.std.proofs.lemmas.Bool.{lt-ltb, ltb-true}
+use Rattle.std.proofs.lemmas.Bool.Decides.{nat_tests}
+use Rattle.std.proofs.lemmas.List.{length-append, map-append}
 use Rattle.std.specs.BTreeMap.{BTreeMap, IsUnchanged, Updates, get, is_at}
 use Rattle.std.specs.List.{list_all}
 use Rattle.std.specs.Map.{lookup}
-use Rattle.std.specs.Ordering.{MatchOrdering, is_eq, nat_cmp}
+use Rattle.std.specs.Ordering.{is_eq, nat_cmp}
 use Rattle.std.specs.Option.{option_copied}
-use Rattle.std.specs.Prelude.{IfSome, OnErr, OnOk, if◌then◌else◌, option_map}
-use Rattle.std.specs.declared.cmp.Ordering.{Ordering}
-use Rattle.std.specs.declared.cmp.Ordering.TheVariants.{Less, Equal, Greater}
-use Rattle.al_base.proofs.Growing.{begins_same}
+use Rattle.std.specs.Prelude.{IfSome, OnErr, OnOk, option_map}
 use Rattle.al_base.specs.Growth.{BeginsWith}
-use Rattle.al_types.specs.Types.{Parts, Optional, Present, object_type, option_of}
+use Rattle.al_types.specs.Types.{Optional, Present, option_of}
 use Rattle.al_types.proofs.FuseLaws.{optional_back}
-use Rattle.al_types.specs.Fused.{fuse_all}
 use Rattle.al_expr_types.specs.Joining.{is_join_below, join_in}
 use Rattle.al_expr_types.specs.declared.joining.Join.{Join}
-use Rattle.al_expr_types.specs.declared.joining.Join.TheVariants as joined
 use Rattle.al_expr_types.specs.Kept.{AreCommons, AreIndexes, IsCommon, IsFieldIndex}
 use Rattle.al_expr_types.specs.declared.objects.Fields.{Fields}
-use Rattle.al_expr_types.specs.declared.objects.Object.TheVariants as object
-use Rattle.al_expr_types.specs.Types.{arrays_of, fields_parts, is_below, is_object_below, is_rest_below, object_in, parts_of_all, rest_in, type_in}
+use Rattle.al_expr_types.specs.Types.{is_below, object_in, parts_of_all, type_in}
 use Rattle.al_expr_types.specs.declared.objects.Object.{Object}
 use Rattle.al_expr_types.specs.declared.ty.Ty.{Ty}
 use Rattle.al_expr_types.specs.declared.types.Types.{Types}
-use Rattle.al_expr_types.proofs.Below.{below_wider, is_less, numbers_wider, object_kept, object_wider, objects_kept, parts_kept, rest_kept, rest_wider, same_mapped, type_kept}
+use Rattle.al_expr_types.proofs.Below.{Has, fields_same, has_itself, has_longer, joined_same, rest_same, same_mapped, type_same}
 use Rattle.al_expr_types.proofs.Gathering.{rest_is}
-use Rattle.al_expr_types.proofs.Tables.{length_after, more_begin}
+use Rattle.al_expr_types.proofs.Scans.{mapped_more}
+use Rattle.al_expr_types.proofs.Tables.{length_after}
 
 -- a longer table
 pub longer : (new old : List Object) → BeginsWith (parts_of_all new) (parts_of_all old) → length old ≤ length new
@@ -38,31 +34,36 @@ longer new old b =
     let e = ap length b.is ∙ length-append (parts_of_all old) b.more in
     omega (arith, a, c, e)
 
+pub has_old : (new old : List Object) → BeginsWith (parts_of_all new) (parts_of_all old) → Has (parts_of_all new) (parts_of_all old) (length old) (length new)
+has_old new old b =
+    let len = length_after [] old in
+    subst (λ ms. Has ms (parts_of_all old) (length old) (length new)) (sym b.is)
+    (has_longer (parts_of_all old) b.more (length old) (length new) (omega (arith, len)) (longer new old b))
+
 pub same_there : (new old : List Object) (n : ℕ) → BeginsWith (parts_of_all new) (parts_of_all old) → n < length old →
     object_in (parts_of_all new) n ≡ object_in (parts_of_all old) n
-same_there new old n b lt =
-    let len = length_after [] old in
-    ap (λ ms. object_in ms n) b.is ∙ object_kept (parts_of_all old) b.more n (is_less n (length (parts_of_all old)) (omega (arith, len, lt)))
-
-pub common_longer : (new old : List Object) (n : ℕ) (t : Option Ty) → BeginsWith (parts_of_all new) (parts_of_all old) → IsCommon old n t → IsCommon new n t
-common_longer new old n t b h =
-    let len = length_after [] old in
-    let le = longer new old b in
-    let below = subst (λ k. is_rest_below k t ≡ true) (sym len) h.1 in (
-      omega (arith, h.0, le),
-      rest_wider (length old) (length new) le t h.1,
-      ap (λ ms. rest_in ms t) b.is ∙ rest_kept (parts_of_all old) b.more t below ∙ h.2 ∙ ap (λ p. p.2) (sym (same_there new old n b h.0)),
-    )
+same_there new old n b lt = (has_old new old b n (lt-ltb n (length old) lt)).1
 
 pub commons_longer : (new old : List Object) (kept : BTreeMap ℕ (Option Ty)) → BeginsWith (parts_of_all new) (parts_of_all old) → AreCommons old kept → AreCommons new kept
-commons_longer new old kept b h n t e = common_longer new old n t b (h n t e)
+commons_longer new old kept b h n t e =
+    let is = h n t e in
+    let rest = rest_same (parts_of_all new) (parts_of_all old) (length old) (length new) (has_old new old b) t is.1 in
+    let there = has_old new old b n (lt-ltb n (length old) is.0) in
+    (ltb-true n (length new) there.0, rest.0, rest.1 ∙ is.2 ∙ ap (λ p. p.2) (sym there.1))
+
+pub indexes_longer : (new old : List Object) (kept : BTreeMap ℕ Fields) → BeginsWith (parts_of_all new) (parts_of_all old) → AreIndexes old kept → AreIndexes new kept
+indexes_longer new old kept b h n f e =
+    let is = h n f e in
+    let fields = fields_same (parts_of_all new) (parts_of_all old) (length old) (length new) (has_old new old b) f is.0.1 in
+    let there = has_old new old b n (lt-ltb n (length old) is.0.0) in (
+      (ltb-true n (length new) there.0, fields.0),
+      (ap (λ p. p.0) fields.1 ∙ is.1.0 ∙ ap (λ p. p.0) (sym there.1), ap (λ p. p.1) fields.1 ∙ is.1.1 ∙ ap (λ p. p.1) (sym there.1)),
+    )
 
 -- ---- one more that is kept
 
-same_number : (n m : ℕ) (r : Ordering) → MatchOrdering r (n < m) (n ≡ m) (m < n) → is_eq r ≡ true → n ≡ m
-same_number n m Less h e = absurd cc
-same_number n m Equal h e = h
-same_number n m Greater h e = absurd cc
+same_number : (n m : ℕ) → is_eq (nat_cmp n m) ≡ true → n ≡ m
+same_number n m e = grind (arith, nat_tests)
 
 module _ {X : Type 0} (P : ℕ → X → Type 0) where
   -- it holds of each value at its key
@@ -76,7 +77,7 @@ module _ {X : Type 0} (P : ℕ → X → Type 0) where
   pub each_insert : {E : Type 0} (r : Result (Option X) E) (old new : BTreeMap ℕ X) (n : ℕ) (x : X) → OnOk r (Updates nat_cmp old new n (Some x)) →
       OnErr r (IsUnchanged old new) → P n x → Each old → Each new
   each_insert (Ok o) old new n x updates unchanged h each m y e =
-      insert_step (is_at (nat_cmp n) m) (get nat_cmp old m) n m x y (same_number n m (nat_cmp n m) (ranked n m (nat_cmp n m) refl)) h (each m y)
+      insert_step (is_at (nat_cmp n) m) (get nat_cmp old m) n m x y (same_number n m) h (each m y)
       (sym (updates.0 m) ∙ e)
   each_insert (Err o) old new n x updates unchanged h each m y e = each m y (ap (lookup (is_at (nat_cmp m))) (sym unchanged) ∙ e)
 
@@ -90,43 +91,19 @@ pub index_at : (types : Types) (n : ℕ) (o : Option (Bor Fields)) → option_co
 index_at types n None e = tt
 index_at types n (Some f) e = types.indexed n f.now (sym e)
 
-pub common_is : (os : List Object) (n : ℕ) (o : Option (Option Ty)) → IfSome o (IsCommon os n) →
-    IfSome o (λ t. rest_in (parts_of_all os) t ≡ (object_in (parts_of_all os) n).2)
-common_is os n None h = tt
-common_is os n (Some t) h = h.2
-
-pub common_known : (os : List Object) (n : ℕ) (o : Option (Option Ty)) → IfSome o (IsCommon os n) → IfSome o (λ t. is_rest_below (length os) t ≡ true)
-common_known os n None h = tt
-common_known os n (Some t) h = h.1
-
 -- ---- what is answered
 
 pub kept_answer : (os : List Object) (n : ℕ) (t : Option Ty) → IsCommon os n t → option_map (type_in (parts_of_all os)) t ≡ option_of (object_in (parts_of_all os) n).2
 kept_answer os n t h = sym (optional_back (option_map (type_in (parts_of_all os)) t)) ∙ ap option_of (sym (rest_is (parts_of_all os) t) ∙ h.2)
 
--- ---- where memory may be wanting
-
-pub begins_if : (ok : Bool) (new old : List Object) (o : Object) → new ≡ (if ok then old ++ o ∷ [] else old) → BeginsWith (parts_of_all new) (parts_of_all old)
-begins_if true new old o e = subst (λ os. BeginsWith (parts_of_all os) (parts_of_all old)) (sym e) (more_begin old (o ∷ []))
-begins_if false new old o e = begins_same (parts_of_all old) (parts_of_all new) (ap parts_of_all e)
-
 -- ---- what was joined so far stands for the same in a longer table
-
-joined_kept : (ms more : List Parts) (j : Join) → is_join_below (length ms) j ≡ true → join_in (ms ++ more) j ≡ join_in ms j
-joined_kept ms more joined.Nothing h = refl
-joined_kept ms more (joined.One t) h = ap Present (type_kept ms more t h)
-joined_kept ms more (joined.Objects s) h = ap (λ ps. Present (arrays_of s.arrays (object_type (fuse_all ps)))) (objects_kept ms more s.objects.items h)
 
 pub joined_longer : (new old : List Object) (j : Join) → BeginsWith (parts_of_all new) (parts_of_all old) → is_join_below (length old) j ≡ true →
     join_in (parts_of_all new) j ≡ join_in (parts_of_all old) j
-joined_longer new old j b h =
-    ap (λ ms. join_in ms j) b.is
-    ∙ joined_kept (parts_of_all old) b.more j (subst (λ k. is_join_below k j ≡ true) (sym (length_after [] old)) h)
+joined_longer new old j b h = (joined_same (parts_of_all new) (parts_of_all old) (length old) (length new) (has_old new old b) j h).1
 
 pub joined_wider : (m n : ℕ) → m ≤ n → (j : Join) → is_join_below m j ≡ true → is_join_below n j ≡ true
-joined_wider m n le joined.Nothing h = refl
-joined_wider m n le (joined.One t) h = below_wider m n le t h
-joined_wider m n le (joined.Objects s) h = numbers_wider m n le s.objects.items h
+joined_wider m n le j h = (joined_same [] [] m n (has_itself [] m n le) j h).0
 
 -- one type more that is made of what was joined, in a table that grows
 pub made_next : (entry now next : List Object) (js : List Join) (i : ℕ) (j : Join) (ts new : List Ty) (t : Ty) →
@@ -137,28 +114,10 @@ pub made_next : (entry now next : List Object) (js : List Join) (i : ℕ) (j : J
     map (λ u. Present (type_in (parts_of_all next) u)) new ≡ map (join_in (parts_of_all entry)) (take (i + 1) js)
 made_next entry now next js i j ts new t kept more lt e below known is old step =
     let all : Ty → Optional = λ u. Present (type_in (parts_of_all next) u) in
-    let len = length_after [] now in
+    let has = has_old next now more in
     let each : (u : Ty) → is_below (length now) u ≡ true → all u ≡ Present (type_in (parts_of_all now) u) =
-    λ u h. ap Present (ap (λ ms. type_in ms u) more.is ∙ type_kept (parts_of_all now) more.more u (subst (λ k. is_below k u ≡ true) (sym len) h)) in
+    λ u h. ap Present (type_same (parts_of_all next) (parts_of_all now) (length now) (length next) has u h).1 in
     let prefix = same_mapped (is_below (length now)) all (λ u. Present (type_in (parts_of_all now) u)) each ts known ∙ old in
     let last = step ∙ joined_longer now entry j kept below in
     ap (map all) is ∙ map-append all ts (t ∷ []) ∙ (λ d. prefix d ++ last d ∷ [])
-    ∙ ap (λ y. map (join_in (parts_of_all entry)) (take i js) ++ join_in (parts_of_all entry) y ∷ []) e
-    ∙ sym (map-append (join_in (parts_of_all entry)) (take i js) (get_or js i j ∷ []))
-    ∙ ap (map (join_in (parts_of_all entry))) (sym (take_more js i j lt))
-
--- ---- indexes
-
-index_longer : (new old : List Object) (n : ℕ) (f : Fields) → BeginsWith (parts_of_all new) (parts_of_all old) → IsFieldIndex old n f → IsFieldIndex new n f
-index_longer new old n f b h =
-    let len = length_after [] old in
-    let le = longer new old b in
-    let below = subst (λ k. is_object_below k (object.Fields f) ≡ true) (sym len) h.0.1 in
-    let fields = ap (λ ms. fields_parts ms f) b.is ∙ parts_kept (parts_of_all old) b.more (object.Fields f) below in
-    let same = sym (same_there new old n b h.0.0) in (
-      (omega (arith, h.0.0, le), object_wider (length old) (length new) le (object.Fields f) h.0.1),
-      (ap (λ p. p.0) fields ∙ h.1.0 ∙ ap (λ p. p.0) same, ap (λ p. p.1) fields ∙ h.1.1 ∙ ap (λ p. p.1) same),
-    )
-
-pub indexes_longer : (new old : List Object) (kept : BTreeMap ℕ Fields) → BeginsWith (parts_of_all new) (parts_of_all old) → AreIndexes old kept → AreIndexes new kept
-indexes_longer new old kept b h n f e = index_longer new old n f b (h n f e)
+    ∙ sym (mapped_more (join_in (parts_of_all entry)) js i j lt e)

@@ -1,12 +1,15 @@
 -- A type more of a name, at its place or at a new one.
-use Rattle.std.proofs.Common.{◌≡◌, ◌≢◌, ◌+◌, ◌<◌, ℕ, List, [], ◌∷◌, ◌++◌, length, map, get_or, set, zero, suc, Bool, true, false, Option, Some, None, option_map, refl, sym, ap, ◌∙◌, arith}
-use Rattle.std.proofs.lemmas.List.{get_or_default, get_or-set_same, get_or-set_other, get_or_append_left, get_or_at}
+use Rattle.std.proofs.Common.{◌≡◌, ◌≢◌, ◌+◌, ◌<◌, ◌≤◌, ℕ, List, [], ◌∷◌, ◌++◌, length, map, get_or, set, take, suc, ⊎_elim, Bool, true, false, Option, Some, None, option_map, refl, sym, ap, ◌∙◌, arith}
+use Rattle.std.proofs.lemmas.List.{get_or-set_same, get_or-set_other, get_or-take, get_or_append_left, get_or_at, length-take}
+use Rattle.std.proofs.lemmas.Option.{slice_get-get_or, slice_get_past}
 use Rattle.std.specs.Cmp.Lexicographic.{bytes_decides}
 use Rattle.std.specs.Option.{option_eq, option_or}
 use Rattle.std.specs.List.{list_all}
-use Rattle.std.proofs.lemmas.Bool.Decides.{nat_tests}
-use Rattle.std.specs.Prelude.{if◌then◌else◌, nat_eq, nat_lt, option_and_then, slice_get, zip}
-use Rattle.al_expr_types.proofs.Below.{both_are, is_less, left_of, right_of}
+use Rattle.std.proofs.lemmas.Bool.Decides.{nat_tests, same_from_decides}
+use Rattle.std.specs.Prelude.{◌&&◌, ◌⊎◌, if◌then◌else◌, nat_eq, option_and_then, slice_get, zip}
+use Rattle.std.proofs.lemmas.Bool.{and_parts}
+use Rattle.std.proofs.lemmas.List.Elements.{All-set}
+use Rattle.std.proofs.lemmas.List.Sums.{AllPass-from_list_all, list_all-from_AllPass}
 use Rattle.std.specs.Str.{bytes_eq}
 use Rattle.al_base.specs.Names.{lower_case, same_name}
 use Rattle.al_base.specs.NamePlaces.{first_at, name_place}
@@ -14,10 +17,9 @@ use Rattle.al_types.specs.Strings.{strings}
 use Rattle.al_types.specs.Types.{Type', String, Optional, Absent, Parts, Present, field_at, fuse_optional, optional}
 use Rattle.al_types.proofs.FieldsByName.{found_by_name}
 use Rattle.al_types.proofs.FuseLaws.{nothing_last}
-use Rattle.al_types.proofs.StringFields.{string_at}
 use Rattle.al_base.proofs.NamePlaces.{first_more, first_within}
 use Rattle.al_expr_types.specs.Joining.{join_in}
-use Rattle.al_expr_types.specs.Merging.{and_named, and_placed, is_placed, slot, slot_in}
+use Rattle.al_expr_types.specs.Merging.{and_named, is_placed, slot, slot_in}
 use Rattle.al_expr_types.specs.declared.joining.Join.{Join}
 use Rattle.al_expr_types.specs.declared.joining.Join.TheVariants as joined
 
@@ -103,108 +105,78 @@ pushed_behind ms ns js name x at len n =
 -- ---- in the code
 
 pub all_set : {X : Type 0} (test : X → Bool) (xs : List X) (i : ℕ) (x : X) → list_all test xs ≡ true → test x ≡ true → list_all test (set xs i x) ≡ true
-all_set test [] i x h k = refl
-all_set test (y ∷ xs) zero x h k = both_are (test x) _ k (right_of (test y) (list_all test xs) h)
-all_set test (y ∷ xs) (suc i) x h k = both_are (test y) _ (left_of (test y) _ h) (all_set test xs i x (right_of (test y) (list_all test xs) h) k)
+all_set test xs i x h k = list_all-from_AllPass test (set xs i x) (All-set (λ y. test y ≡ true) xs i x k (AllPass-from_list_all test xs h))
 
 -- ---- fields by their positions
-
-same_number : (j i : ℕ) → nat_eq j i ≡ true → j ≡ i
-same_number j i e = grind (arith, nat_tests)
-
-eq_is : (j i : ℕ) (b : Bool) → nat_eq j i ≡ b → (j ≢ i) → b ≡ false
-eq_is j i true e h = absurd (h (same_number j i e))
-eq_is j i false e h = refl
-
-eq_itself : (i : ℕ) → nat_eq i i ≡ true
-eq_itself i = grind (arith, nat_tests)
 
 pub as_placed : (o : Option ℕ) (i : ℕ) → option_eq nat_eq o (Some i) ≡ is_placed o i
 as_placed None i = refl
 as_placed (Some k) i = refl
 
-placed_other : (o : Option ℕ) (i : ℕ) → ((j : ℕ) → o ≡ Some j → j ≢ i) → is_placed o i ≡ false
-placed_other None i h = refl
-placed_other (Some j) i h = eq_is j i (nat_eq j i) refl (h j refl)
-
--- the name at a position is the first of its name: so a name stands there where it is the same
-placed_step : (ns : List (List ℕ)) (x n : List ℕ) (i : ℕ) (b : Bool) → same_name x n ≡ b → name_place ns x ≡ Some i → is_placed (name_place ns n) i ≡ b
-placed_step ns x n i true is at = ap (λ o. is_placed o i) (place_same ns x n is ∙ at) ∙ eq_itself i
-placed_step ns x n i false is at = placed_other (name_place ns n) i (λ j there. other_place ns x n i j at there is)
-
-pub placed_first : (ns : List (List ℕ)) (x : List ℕ) (i : ℕ) (at : List ℕ → Optional) (t : Optional) → name_place ns x ≡ Some i → and_named at x t ≡ and_placed at ns i t
-placed_first ns x i at t there =
-    λ d n. if (sym (placed_step ns x n i (same_name x n) refl there) d) then fuse_optional (at n) t else at n
-
--- it is not: so no name stands there
-placed_later : (ns : List (List ℕ)) (x : List ℕ) (i : ℕ) (at : List ℕ → Optional) (t : Optional) → x ≡ get_or ns i x →
-    (name_place ns x ≡ Some i → ⊥) → at ≡ and_placed at ns i t
-placed_later ns x i at t e no_first =
-    let never : (n : List ℕ) → is_placed (name_place ns n) i ≡ false = λ n. placed_other (name_place ns n) i (λ j there same.
-    let same_text : same_name x n ≡ true = ap (λ y. same_name y n) e ∙ first_passes (λ m. same_name m n) ns i x (there ∙ ap Some same) in
-    no_first (sym (place_same ns x n same_text) ∙ there ∙ ap Some same)) in
-    λ d n. if (sym (never n) d) then fuse_optional (at n) t else at n
+pub placed_yes : (o : Option ℕ) (i : ℕ) → o ≡ Some i → is_placed o i ≡ true
+placed_yes o i e = let same : nat_eq i i ≡ true = grind (arith, nat_tests) in ap (λ p. is_placed p i) e ∙ same
 
 placed_is : (o : Option ℕ) (i : ℕ) → is_placed o i ≡ true → o ≡ Some i
 placed_is None i h = absurd cc
-placed_is (Some k) i h = ap Some (same_number k i h)
+placed_is (Some k) i h = let same : k ≡ i = grind (arith, nat_tests) in ap Some same
 
--- so a field more is added where it is the first of its name
-pub and_at : (ns : List (List ℕ)) (x : List ℕ) (i : ℕ) (at : List ℕ → Optional) (t : Optional) (b : Bool) → i < length ns → x ≡ get_or ns i x →
-    b ≡ is_placed (name_place ns (get_or ns i [])) i → (if b then and_named at x t else at) ≡ and_placed at ns i t
-and_at ns x i at t true lt e is = placed_first ns x i at t (placed_is (name_place ns x) i (sym (is ∙ ap (λ y. is_placed (name_place ns y) i) (get_or_default ns i [] x lt ∙ sym e))))
-and_at ns x i at t false lt e is =
-    placed_later ns x i at t e
-    (λ there. let both : false ≡ true = is ∙ ap (λ y. is_placed (name_place ns y) i) (get_or_default ns i [] x lt ∙ sym e) ∙ ap (λ o. is_placed o i) there ∙ eq_itself i in cc)
+-- a name stands at a position where it is the one there, and that is the first of its name
+placed_both : (ns : List (List ℕ)) (x n : List ℕ) (i : ℕ) → x ≡ get_or ns i x → is_placed (name_place ns n) i ≡ (is_placed (name_place ns x) i && same_name x n)
+placed_both ns x n i e =
+    let there : name_place ns n ≡ Some i → (is_placed (name_place ns x) i && same_name x n) ≡ true = λ at.
+    let same : same_name x n ≡ true = ap (λ y. same_name y n) e ∙ first_passes (λ m. same_name m n) ns i x at in
+    (λ d. placed_yes (name_place ns x) i (sym (place_same ns x n same) ∙ at) d && same d) in
+    same_from_decides (is_placed (name_place ns n) i) (is_placed (name_place ns x) i && same_name x n) (placed_is (name_place ns n) i, placed_yes (name_place ns n) i)
+    (λ h. let both = and_parts (is_placed (name_place ns x) i) (same_name x n) h in place_same ns x n both.1 ∙ placed_is (name_place ns x) i both.0, there)
 
--- types by positions, of the first so many of them
-abbrev pub upto : (ℕ → Optional) → Option ℕ → ℕ → Optional
-upto T None i = Absent
-upto T (Some k) i = if nat_lt k i then T k else Absent
+within : (us : List Type') (n k : ℕ) (d : Type') → k < n → n ≤ length us → slice_get (take n us) k ≡ Some (get_or us k d)
+within us n k d lt le = slice_get-get_or (take n us) k d (omega (arith, length-take n us, lt, le)) ∙ ap Some (get_or-take n us k d lt)
 
-upto_step : (T : ℕ → Optional) (k i : ℕ) (sofar new start : Optional) (b : Bool) → nat_eq k i ≡ b → sofar ≡ fuse_optional start (upto T (Some k) i) →
-    new ≡ (if b then fuse_optional sofar (T i) else sofar) → new ≡ fuse_optional start (upto T (Some k) (i + 1))
-upto_step T k i sofar new start true is old step =
-    let same : k ≡ i = same_number k i is in
-    let before : nat_lt k i ≡ false = grind (arith, nat_tests) in
-    let after : nat_lt k (i + 1) ≡ true = grind (arith, nat_tests) in
-    step ∙ ap (λ o. fuse_optional o (T i)) (old ∙ ap (λ c. fuse_optional start (if c then T k else Absent)) before ∙ nothing_last start)
-    ∙ ap (λ j. fuse_optional start (T j)) (sym same) ∙ sym (ap (λ c. fuse_optional start (if c then T k else Absent)) after)
-upto_step T k i sofar new start false is old step =
-    let other : k ≢ i = λ e. let yes : true ≡ false = sym (ap (λ j. nat_eq j i) e ∙ eq_itself i) ∙ is in cc in
-    let same : nat_lt k i ≡ nat_lt k (i + 1) = grind (arith, nat_tests) in
-    step ∙ old ∙ ap (λ c. fuse_optional start (if c then T k else Absent)) same
+-- what stands at a place among so many types, and one more of them
+at_next : (us : List Type') (o : Option ℕ) (i : ℕ) (t d : Type') (start sofar new : Optional) (b : Bool) → b ≡ is_placed o i → i < length us → t ≡ get_or us i d →
+    sofar ≡ fuse_optional start (optional (option_and_then (λ k. slice_get (take i us) k) o)) → new ≡ (if b then fuse_optional sofar (Present t) else sofar) →
+    new ≡ fuse_optional start (optional (option_and_then (λ k. slice_get (take (i + 1) us) k) o))
+at_next us None i t d start sofar new true is lt e old step = absurd cc
+at_next us None i t d start sofar new false is lt e old step = step ∙ old
+at_next us (Some k) i t d start sofar new true is lt e old step =
+    let same : k ≡ i = grind (arith, nat_tests) in
+    let before = slice_get_past (take i us) k (omega (arith, length-take i us, same)) in
+    let after = within us (i + 1) k d (omega (arith, same)) (omega (arith, lt)) ∙ ap (λ j. Some (get_or us j d)) same ∙ ap Some (sym e) in
+    step ∙ ap (λ o. fuse_optional o (Present t)) (old ∙ ap (λ o. fuse_optional start (optional o)) before ∙ nothing_last start)
+    ∙ ap (λ o. fuse_optional start (optional o)) (sym after)
+at_next us (Some k) i t d start sofar new false is lt e old step =
+    let apart : (k < i) ⊎ (i < k) = grind (arith, nat_tests) in
+    let same : slice_get (take i us) k ≡ slice_get (take (i + 1) us) k =
+    ⊎_elim (λ less. within us i k d less (omega (arith, lt)) ∙ sym (within us (i + 1) k d (omega (arith, less)) (omega (arith, lt))))
+    (λ more. slice_get_past (take i us) k (omega (arith, length-take i us, more)) ∙ sym (slice_get_past (take (i + 1) us) k (omega (arith, length-take (i + 1) us, more)))) apart in
+    step ∙ old ∙ ap (λ o. fuse_optional start (optional o)) same
 
-pub upto_next : (T : ℕ → Optional) (o : Option ℕ) (i : ℕ) (sofar new start : Optional) → sofar ≡ fuse_optional start (upto T o i) →
-    new ≡ (if is_placed o i then fuse_optional sofar (T i) else sofar) → new ≡ fuse_optional start (upto T o (i + 1))
-upto_next T None i sofar new start old step = step ∙ old
-upto_next T (Some k) i sofar new start old step = upto_step T k i sofar new start (nat_eq k i) refl old step
+named_if : (first : Bool) (at : List ℕ → Optional) (x n : List ℕ) (t : Optional) →
+    (if first then and_named at x t else at) n ≡ (if first && same_name x n then fuse_optional (at n) t else at n)
+named_if true at x n t = refl
+named_if false at x n t = refl
 
--- all of them are what a name finds
-upto_all : {X : Type 0} (g : X → Type') (xs : List X) (d : X) (k m : ℕ) → m ≡ length xs → (if nat_lt k m then Present (g (get_or xs k d)) else Absent) ≡ optional (slice_get (map g xs) k)
-upto_all g [] d k m e = let less : nat_lt k m ≡ false = grind (arith, nat_tests) in ap (λ c. if c then Present (g d) else Absent) less
-upto_all g (x ∷ xs) d zero m e = let less : nat_lt zero m ≡ true = grind (arith, nat_tests) in ap (λ c. if c then Present (g x) else Absent) less
-upto_all g (x ∷ xs) d (suc k) zero e = absurd (omega (arith, e))
-upto_all g (x ∷ xs) d (suc k) (suc m) e =
-    let same : nat_lt (suc k) (suc m) ≡ nat_lt k m = grind (arith, nat_tests) in
-    ap (λ c. if c then Present (g (get_or xs k d)) else Absent) same ∙ upto_all g xs d k m (omega (arith, e))
+abbrev no_types : List Type'
+no_types = []
 
-pub fields_found : {X : Type 0} (g : X → Type') (ns : List (List ℕ)) (xs : List X) (d : X) (n : List ℕ) →
-    upto (λ k. Present (g (get_or xs k d))) (name_place ns n) (length xs) ≡ optional (field_at n (zip ns (map g xs)))
-fields_found g ns xs d n =
-    found_step (name_place ns n) ∙ sym (ap optional (found_by_name ns (map g xs) n))
-  where
-    found_step : (o : Option ℕ) → upto (λ k. Present (g (get_or xs k d))) o (length xs) ≡ optional (option_and_then (λ k. slice_get (map g xs) k) o)
-    found_step None = refl
-    found_step (Some k) = upto_all g xs d k (length xs) refl
+-- no fields
+pub merged_none : (ns : List (List ℕ)) (n : List ℕ) (start : Optional) → start ≡ fuse_optional start (optional (field_at n (zip ns no_types)))
+merged_none [] n start = sym (nothing_last start)
+merged_none (m ∷ ns) n start = sym (nothing_last start)
 
-pub strings_found : (ns : List (List ℕ)) (n : List ℕ) (m : ℕ) → m ≡ length ns → upto (λ k. Present String) (name_place ns n) m ≡ optional (field_at n (strings ns))
-strings_found ns n m len =
-    found_step (name_place ns n) (λ k there. first_within (λ x. same_name x n) ns k there) ∙ sym (ap optional (string_at ns n))
-  where
-    found_step : (o : Option ℕ) → ((k : ℕ) → o ≡ Some k → k < length ns) → upto (λ k. Present String) o m ≡ optional (option_map (λ k. String) o)
-    found_step None h = refl
-    found_step (Some k) h =
-        let lt = h k refl in
-        let less : nat_lt k m ≡ true = is_less k m (omega (arith, lt, len)) in
-        ap (λ c. if c then Present String else Absent) less
+-- the fields of some names, and one more of them, which counts where it is the first of its name
+pub merged_next : (ns : List (List ℕ)) (us : List Type') (i : ℕ) (x : List ℕ) (t d : Type') (first : Bool) (start sofar new : List ℕ → Optional) → i < length us →
+    x ≡ get_or ns i x → t ≡ get_or us i d → first ≡ is_placed (name_place ns x) i →
+    ((n : List ℕ) → sofar n ≡ fuse_optional (start n) (optional (field_at n (zip ns (take i us))))) → new ≡ (if first then and_named sofar x (Present t) else sofar) →
+    (n : List ℕ) → new n ≡ fuse_optional (start n) (optional (field_at n (zip ns (take (i + 1) us))))
+merged_next ns us i x t d first start sofar new lt name ty is old step n =
+    let found : (k : ℕ) → optional (field_at n (zip ns (take k us))) ≡ optional (option_and_then (λ j. slice_get (take k us) j) (name_place ns n)) =
+    λ k. ap optional (found_by_name ns (take k us) n) in
+    at_next us (name_place ns n) i t d (start n) (sofar n) (new n) (first && same_name x n) (ap (λ b. b && same_name x n) is ∙ sym (placed_both ns x n i name)) lt ty
+    (old n ∙ ap (fuse_optional (start n)) (found i)) (ap (λ f. f n) step ∙ named_if first sofar x n (Present t))
+    ∙ ap (fuse_optional (start n)) (sym (found (i + 1)))
+
+-- strings
+pub strings_zip : (ns : List (List ℕ)) → strings ns ≡ zip ns (map (λ n. String) ns)
+strings_zip [] = refl
+strings_zip (n ∷ ns) = ap (λ fs. (n, String) ∷ fs) (strings_zip ns)

@@ -1,5 +1,6 @@
 -- Names of which no two are the same: with one more behind them, as the names of fields, and where each stands.
 use Rattle.std.proofs.Common.{◌≡◌, ℕ, ◌+◌, ◌<◌, List, [], ◌∷◌, ◌++◌, refl, sym, ap, ◌∙◌, Bool, true, false, ◌||◌, Option, Some, None, option_map, arith, get_or, length, suc, zero}
+use Rattle.std.proofs.lemmas.Bool.{or_parts}
 use Rattle.std.proofs.lemmas.List.{map-append}
 use Rattle.std.specs.Prelude.{if◌then◌else◌, is_none, is_some, not, ◌&&◌, zip}
 use Rattle.std.specs.Cmp.Lexicographic.{nat_list_eq_equiv}
@@ -21,27 +22,17 @@ some_mapped (Some i) = refl
 has_by_name : (ns : List (List ℕ)) (n : List ℕ) → has_field n (strings ns) ≡ not (is_none (name_place ns n))
 has_by_name ns n = sym (has_field_at n (strings ns)) ∙ ap is_some (string_at ns n) ∙ some_mapped (name_place ns n)
 
-not_both : (a b : Bool) → a ≡ true → b ≡ true → a && not (not b) ≡ true
-not_both true true h k = refl
-not_both true false h k = absurd cc
-not_both false b h k = absurd cc
-
 -- names and one more that none of them is
-pub once_more : (ns : List (List ℕ)) (n : List ℕ) (b : Bool) → b ≡ is_none (name_place ns n) → b ≡ true → are_once ns ≡ true → are_once (ns ++ n ∷ []) ≡ true
-once_more ns n b is new h =
-    ap are_distinct (map-append (λ (k : List ℕ). (k, String)) ns (n ∷ []))
-    ∙ distinct_more (strings ns) n String
-    ∙ ap (λ x. are_once ns && not x) (has_by_name ns n) ∙ not_both (are_once ns) (is_none (name_place ns n)) h (sym is ∙ new)
-
-neither : (a b : Bool) → a || b ≡ false → (a ≡ false) × (b ≡ false)
-neither true b e = absurd cc
-neither false b e = (refl, e)
+pub once_more : (ns : List (List ℕ)) (n : List ℕ) → name_place ns n ≡ None → are_once ns ≡ true → are_once (ns ++ n ∷ []) ≡ true
+once_more ns n new h =
+    ap are_distinct (map-append (λ (k : List ℕ). (k, String)) ns (n ∷ [])) ∙ distinct_more (strings ns) n String
+    ∙ ap (λ x. are_once ns && not x) (has_by_name ns n) ∙ (λ d. h d && not (not (is_none (new d))))
 
 lacks_name : (n : List ℕ) (ns : List (List ℕ)) (ts : List Type') → has_field n (strings ns) ≡ false → has_field n (zip ns ts) ≡ false
 lacks_name n [] ts h = refl
 lacks_name n (m ∷ ns) [] h = refl
 lacks_name n (m ∷ ns) (t ∷ ts) h =
-    let no = neither (same_name m n) (has_field n (strings ns)) h in
+    let no = or_parts (same_name m n) (has_field n (strings ns)) h in
     λ d. no.0 d || lacks_name n ns ts no.1 d
 
 -- fields of such names are distinct

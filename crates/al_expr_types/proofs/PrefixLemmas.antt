@@ -1,11 +1,11 @@
 -- Prefixes of the fields of a map: what all have in common is what those of the base have, and the types behind them.
-use Rattle.std.proofs.Common.{◌≡◌, ◌+◌, ◌<◌, ◌≤◌, ℕ, zero, suc, List, [], ◌∷◌, ◌++◌, get_or, map, take, length, true, Option, Some, None, sym, ap, subst, ◌∙◌, arith}
-use Rattle.std.proofs.lemmas.List.{length-take, map-append, take_more}
+use Rattle.std.proofs.Common.{◌≡◌, ◌+◌, ◌<◌, ◌≤◌, ℕ, List, [], ◌∷◌, ◌++◌, get_or, map, take, length, true, Option, Some, None, refl, sym, ap, ◌∙◌, arith}
+use Rattle.std.proofs.lemmas.List.{length-take}
 use Rattle.std.specs.List.{list_all}
 use Rattle.std.specs.Prelude.{Contains, zip}
 use Rattle.al_base.specs.Growth.{BeginsWith}
 use Rattle.al_types.specs.Types.{Type', Absent, Optional, Parts, Present, common_in, fuse_optional, parts_with}
-use Rattle.al_types.proofs.FuseLaws.{last_turned, nothing_last, optional_assoc, optional_same}
+use Rattle.al_types.proofs.FuseLaws.{nothing_last, optional_assoc}
 use Rattle.al_expr_types.specs.Names.{names_in}
 use Rattle.al_expr_types.specs.Prefixes.{HasPrefix, prefix_parts}
 use Rattle.al_expr_types.specs.Types.{common_of, fields_parts, is_below, named_types, object_in, parts_by, parts_of_all, rest_in, type_in}
@@ -15,32 +15,14 @@ use Rattle.al_expr_types.specs.declared.objects.Object.{Object}
 use Rattle.al_expr_types.specs.declared.objects.Prefix.{Prefix}
 use Rattle.al_expr_types.specs.declared.ty.Ty.{Ty}
 use Rattle.al_expr_types.specs.declared.types.Types.{Types}
-use Rattle.al_expr_types.proofs.Below.{all_taken, all_weaker, below_wider, types_kept}
-use Rattle.al_expr_types.proofs.Gathering.{common_push, common_zipped}
-use Rattle.al_expr_types.proofs.Keeping.{longer, same_there}
-use Rattle.al_expr_types.proofs.Tables.{length_after}
-
--- one type more
-common_more : (g : Ty → Type') (ts : List Ty) (t : Ty) → common_of (map g (ts ++ t ∷ [])) ≡ fuse_optional (common_of (map g ts)) (Present (g t))
-common_more g ts t = ap common_of (map-append g ts (t ∷ [])) ∙ common_push (map g ts) (g t)
-
--- one that is among them
-common_held : (g : Ty → Type') (ts : List Ty) (t : Ty) (k : ℕ) → k < length ts → get_or ts k t ≡ t →
-    fuse_optional (common_of (map g ts)) (Present (g t)) ≡ common_of (map g ts)
-common_held g [] t k lt e = absurd (omega (arith, lt))
-common_held g (u ∷ ts) t zero lt e =
-    let all : Optional = common_of (map g ts) in
-    last_turned (Present (g u)) all (Present (g t)) ∙ ap (λ v. fuse_optional (fuse_optional (Present (g u)) (Present (g v))) all) (sym e)
-    ∙ ap (λ o. fuse_optional o all) (optional_same (Present (g u)))
-common_held g (u ∷ ts) t (suc k) lt e =
-    optional_assoc (Present (g u)) (common_of (map g ts)) (Present (g t)) ∙ ap (fuse_optional (Present (g u))) (common_held g ts t k (omega (arith, lt)) e)
+use Rattle.al_expr_types.proofs.Below.{all_taken, types_same}
+use Rattle.al_expr_types.proofs.Gathering.{common_zipped, held, taken, types_more}
+use Rattle.al_expr_types.proofs.Keeping.{has_old, longer, same_there}
 
 -- ---- what the first types have in common, by fewer of them and types behind these
 
-taken_more : (g : Ty → Type') (ts : List Ty) (i : ℕ) (t : Ty) → i < length ts → t ≡ get_or ts i t →
-    common_of (map g (take (i + 1) ts)) ≡ fuse_optional (common_of (map g (take i ts))) (Present (g t))
-taken_more g ts i t lt e =
-    ap (λ us. common_of (map g us)) (take_more ts i t lt) ∙ ap (λ u. common_of (map g (take i ts ++ u ∷ []))) (sym e) ∙ common_more g (take i ts) t
+abbrev common : (Ty → Type') → List Ty → Optional
+common g ts = common_of (map g ts)
 
 abbrev pub IsBehind : List Ty → ℕ → List Ty → ℕ → Type 0
 IsBehind ts j own i =
@@ -52,13 +34,15 @@ behind_none ts j = λ ms. nothing_last (common_of (map (type_in ms) (take j ts))
 pub behind_more : (ts own new : List Ty) (j i : ℕ) (t : Ty) → i < length ts → t ≡ get_or ts i t → new ≡ own ++ t ∷ [] → IsBehind ts j own i → IsBehind ts j new (i + 1)
 behind_more ts own new j i t lt e is h = λ ms.
     let g = type_in ms in
-    let first : Optional = common_of (map g (take j ts)) in
-    ap (λ us. fuse_optional first (common_of (map g us))) is ∙ ap (fuse_optional first) (common_more g own t)
-    ∙ sym (optional_assoc first (common_of (map g own)) (Present (g t))) ∙ ap (λ o. fuse_optional o (Present (g t))) (h ms) ∙ sym (taken_more g ts i t lt e)
+    let first = common g (take j ts) in
+    ap (λ us. fuse_optional first (common g us)) is ∙ ap (fuse_optional first) (types_more g own t) ∙ sym (optional_assoc first (common g own) (Present (g t)))
+    ∙ ap (λ o. fuse_optional o (Present (g t))) (h ms) ∙ sym (taken (common g) (λ u. Present (g u)) (types_more g) ts i t lt e)
 
 pub behind_same : (ts own : List Ty) (j i : ℕ) (t : Ty) → i < length ts → t ≡ get_or ts i t → Contains (take i ts) t → IsBehind ts j own i → IsBehind ts j own (i + 1)
-behind_same ts own j i t lt e held h = λ ms.
-    h ms ∙ sym (common_held (type_in ms) (take i ts) t held.0 held.1 held.2) ∙ sym (taken_more (type_in ms) ts i t lt e)
+behind_same ts own j i t lt e there h = λ ms.
+    let g = type_in ms in
+    h ms ∙ sym (held (common g) (λ u. Present (g u)) (λ u us. refl) (take i ts) t there.0 there.1 there.2)
+    ∙ sym (taken (common g) (λ u. Present (g u)) (types_more g) ts i t lt e)
 
 -- what all fields of a prefix have in common
 prefix_common : (ms : List Parts) (m : FieldMap) (k : ℕ) → (prefix_parts ms m k).2 ≡ common_of (map (type_in ms) (take k m.types.items))
@@ -85,16 +69,13 @@ same_by ms f b own m k at n r behind base =
 
 pub types_wider : (new old : List Object) (m : FieldMap) → BeginsWith (parts_of_all new) (parts_of_all old) →
     list_all (is_below (length old)) m.types.items ≡ true → list_all (is_below (length new)) m.types.items ≡ true
-types_wider new old m b h =
-    all_weaker (is_below (length old)) (is_below (length new)) (below_wider (length old) (length new) (longer new old b)) m.types.items h
+types_wider new old m b h = (types_same _ _ (length old) (length new) (has_old new old b) m.types.items h).0
 
 pub prefix_kept : (new old : List Object) (m : FieldMap) (k : ℕ) → BeginsWith (parts_of_all new) (parts_of_all old) →
     list_all (is_below (length old)) m.types.items ≡ true → prefix_parts (parts_of_all new) m k ≡ prefix_parts (parts_of_all old) m k
 prefix_kept new old m k b h =
-    let ms : List Parts = parts_of_all old in
-    let below = subst (λ n. list_all (is_below n) (take k m.types.items) ≡ true) (sym (length_after [] old)) (all_taken (is_below (length old)) k m.types.items h) in
-    ap (λ l. prefix_parts l m k) b.is
-    ∙ (λ d. parts_with (zip (names_in m.names) (types_kept ms b.more (take k m.types.items) below d)) Absent)
+    let same = types_same _ _ (length old) (length new) (has_old new old b) (take k m.types.items) (all_taken (is_below (length old)) k m.types.items h) in
+    λ d. parts_with (zip (names_in m.names) (same.1 d)) Absent
 
 pub prefix_longer : (new old : Types) (m : FieldMap) (o : Option Prefix) → BeginsWith (parts_of_all new.objects.items) (parts_of_all old.objects.items) →
     list_all (is_below (length old.objects.items)) m.types.items ≡ true → HasPrefix old m o → HasPrefix new m o

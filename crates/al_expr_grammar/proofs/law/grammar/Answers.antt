@@ -3,6 +3,7 @@ use Rattle.al_expr_grammar.specs.Lexeme.{Lexeme, kinds, kind_of}
 use Rattle.al_expr_grammar.specs.Table.{Verdict, Fine, Early, Unexpected, E, verdict_of}
 use Rattle.al_expr_grammar.proofs.Shape.{Agrees, shape, scan_shape, derives_shape, same_fault}
 use Rattle.al_expr_grammar.proofs.Built.{builds_tree}
+use Rattle.al_expr_grammar.proofs.Rules.{same_length}
 use Rattle.al_expr_grammar.proofs.Spelled.{found, only_spelled, spelled}
 use Rattle.al_expr_grammar.proofs.law.grammar.Goals as goal
 
@@ -28,15 +29,11 @@ split_kinds : (front back : List Lexeme) (x : Lexeme) → kinds (front ++ x ∷ 
 split_kinds [] back x = refl
 split_kinds (y ∷ front) back x = ap (λ ks. kind_of y ∷ ks) (split_kinds front back x)
 
-same_length : (ts : List Lexeme) → length ts ≡ length (kinds ts)
-same_length [] = refl
-same_length (t ∷ ts) = ap suc (same_length ts)
-
 pub returns-clause-nothing : goal.returns-clause-nothing
 returns-clause-nothing c front back other x t h d =
     let e = split_kinds front back x in
     let f = split_kinds front other x in
-    let n = same_length back in
+    let n = sym (same_length back) in
     let v = agreed _ _ _ (scan_shape E 0 [] (kinds (front ++ x ∷ back))) h in
     let w : shape E [] (kinds front ++ kind_of x ∷ kinds back) ≡ Unexpected (suc (length (kinds back))) = ap (shape E []) (sym e) ∙ v ∙ ap (λ m. Unexpected (suc m)) n in
     let a = same_fault (kinds front) (kinds back) (kinds other) (kind_of x) E [] w in

@@ -30,7 +30,7 @@ loop-i-preserved c =
           record {
             part = behind_more ts c.loop-i.own.items c.if-not-stands_before.own.items c.args.from i ty lt is items c.loop-i.invariant.part;
             below = λ k h. ap (list_all (is_below k)) items
-                ∙ all_more (is_below k) c.loop-i.own.items ty (c.loop-i.invariant.below k h) (all_at (is_below k) ts i ty lt is h);
+                ∙ all_more (is_below k) c.loop-i.own.items ty (c.loop-i.invariant.below k h) (all_at (is_below k) ts i any lt h);
           }
       | else-not-stands_before w ↦
           let items = ap (λ v. v.items) w.own-is in

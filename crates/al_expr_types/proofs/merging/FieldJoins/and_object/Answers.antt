@@ -1,10 +1,11 @@
 use Rattle.std.proofs.Common.{◌∙◌, ap, take}
+use Rattle.std.proofs.lemmas.Bool.{and_parts}
 use Rattle.std.specs.List.{list_all}
 use Rattle.al_types.specs.Types.{field_at, fuse_optional, optional}
 use Rattle.al_expr_types.specs.Merging.{found_in}
 use Rattle.al_expr_types.specs.Names.{names_in}
-use Rattle.al_expr_types.specs.Types.{is_below, named_types}
-use Rattle.al_expr_types.proofs.Below.{all_taken, left_of}
+use Rattle.al_expr_types.specs.Types.{is_below, is_rest_below, named_types}
+use Rattle.al_expr_types.proofs.Below.{all_taken}
 use Rattle.al_expr_types.proofs.merging.FieldJoins.and_object.Goals as goal
 
 pub returns-clause-found : goal.returns-clause-found
@@ -20,5 +21,5 @@ returns-clause-below c = λ k h g.
     let f = c.args.fields.now in
     let types = c.as_slice.ensures.value ∙ ap (λ m. m.types.items) c.deref-map.ensures in
     let first = ap (λ xs. list_all (is_below k) (take f.count xs)) types
-    ∙ all_taken (is_below k) f.count f.map.value.types.items (left_of (list_all (is_below k) f.map.value.types.items) _ h) in
+    ∙ all_taken (is_below k) f.count f.map.value.types.items (and_parts (list_all (is_below k) f.map.value.types.items) (is_rest_below k f.rest) h).0 in
     c.in_ok-merged.ensures.below k first g

@@ -1,13 +1,12 @@
-use Rattle.std.proofs.Common.{◌≡◌, ℕ, List, true}
-use Rattle.al_base.specs.NamePlaces.{name_place}
-use Rattle.al_types.specs.Types.{Parts, Present, String, fuse_optional}
+use Rattle.std.proofs.Common.{◌≡◌, ℕ, List, map, take, true}
+use Rattle.std.specs.Prelude.{zip}
+use Rattle.al_types.specs.Types.{Parts, String, field_at, fuse_optional, optional}
 use Rattle.al_expr_types.specs.Merging.{are_joins_below, found_in}
-use Rattle.al_expr_types.proofs.Merges.{upto}
 use Rattle.al_expr_types.proofs.merging.FieldJoins.and_strings.Given as goal
 
 abbrev pub invariant-loop-i : goal.invariant-loop-i
 invariant-loop-i l = record {
-  found : (ms : List Parts) (n : List ℕ) → found_in ms l.all n ≡ fuse_optional (found_in ms l.fn.self n)
-      (upto (λ k. Present String) (name_place l.names n) l.i);
+  found : (ms : List Parts) (n : List ℕ) → found_in ms l.all n
+      ≡ fuse_optional (found_in ms l.fn.self n) (optional (field_at n (zip l.names (take l.i (map (λ k. String) l.names)))));
   below : (k : ℕ) → are_joins_below k l.fn.self ≡ true → are_joins_below k l.all ≡ true;
 }

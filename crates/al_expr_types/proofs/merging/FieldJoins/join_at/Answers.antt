@@ -37,5 +37,5 @@ returns-clause-below c = λ k h g.
     let i = c.args.i in
     let within = first_within (λ m. same_name m c.args.name.now) ns i c.requires in
     let lt : i < length js = omega (arith, within, c.args.self.even) in
-    let old = all_at (is_join_below k) js i c.index_mut.result.now lt c.index_mut.ensures.value h in
+    let old = ap (is_join_below k) c.index_mut.ensures.value ∙ all_at (is_join_below k) js i c.index_mut.result.now lt h in
     all_set (is_join_below k) js i c.join_into.new.slot h (c.in_ok-join_into.ensures.below k old g)

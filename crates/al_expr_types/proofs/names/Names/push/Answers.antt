@@ -1,6 +1,5 @@
 use Rattle.std.proofs.Common.{◌≡◌, ◌∷◌, ◌++◌, ◌∙◌, [], ap, refl, sym, map, length, arith}
 use Rattle.std.proofs.lemmas.List.{length-map, map-append}
-use Rattle.std.specs.Prelude.{is_none}
 use Rattle.al_base.specs.NamePlaces.{name_place}
 use Rattle.al_expr_types.proofs.NameIndexes.{placed_new}
 use Rattle.al_expr_types.specs.Once.{are_once}
@@ -22,7 +21,7 @@ invariant_of-result c =
     ∙ c.in_ok-found.ensures ∙ ap (λ xs. name_place (map (λ n. n.now) xs)) c.as_slice.ensures.value in
     record {
       indexed = placed_new c.in-Some.sofar c.insert.new.self ns n c.len.result indexed long c.in_ok-insert-in-Some.ensures ∙ ap name_place (sym all);
-      once = ap are_once all ∙ once_more ns n _ refl (ap is_none c.requires) c.args.self.once;
+      once = ap are_once all ∙ once_more ns n c.requires c.args.self.once;
     }
 
 pub invariant_of-result-in-None : goal.invariant_of-result-in-None
@@ -33,5 +32,5 @@ invariant_of-result-in-None c =
     ap (map (λ n. n.now)) c.in_ok-push-in-None.ensures.items ∙ map-append (λ n. n.now) c.args.self.names.items (c.args.name ∷ []) in
     record {
       indexed = refl;
-      once = ap are_once all ∙ once_more ns n _ refl (ap is_none c.requires) c.args.self.once;
+      once = ap are_once all ∙ once_more ns n c.requires c.args.self.once;
     }

@@ -1,4 +1,5 @@
 use Rattle.std.proofs.Common.{◌≤◌, ◌∙◌, ap, arith, length, map, sym, take}
+use Rattle.std.proofs.lemmas.Bool.{and_parts}
 use Rattle.std.proofs.lemmas.List.{length-take}
 use Rattle.std.specs.List.{list_all}
 use Rattle.al_types.specs.Types.{fuse_optional}
@@ -6,14 +7,14 @@ use Rattle.al_expr_types.specs.Joining.{join_in}
 use Rattle.al_expr_types.specs.Parts.{part_in}
 use Rattle.al_expr_types.specs.Names.{names_in}
 use Rattle.al_expr_types.specs.Types.{common_of, fields_parts, is_below, is_rest_below, rest_in, type_in}
-use Rattle.al_expr_types.proofs.Below.{all_taken, left_of, right_of}
+use Rattle.al_expr_types.proofs.Below.{all_taken}
 use Rattle.al_expr_types.proofs.Gathering.{common_zipped, fields_then_rest}
 use Rattle.al_expr_types.proofs.objects.Fields.gather.Goals as goal
 
 pub returns-in_ok-named-in-Named-clause-below : goal.returns-in_ok-named-in-Named-clause-below
 returns-in_ok-named-in-Named-clause-below c = λ n h k.
     let ts = c.args.self.now.map.value.types.items in
-    let types = ap (λ f. list_all (is_below n) f.types.items) c.deref.ensures ∙ left_of (list_all (is_below n) ts) _ h in
+    let types = ap (λ f. list_all (is_below n) f.types.items) c.deref.ensures ∙ (and_parts (list_all (is_below n) ts) (is_rest_below n c.args.self.now.rest) h).0 in
     c.in_ok-named-in-Named.ensures.below n (c.in_ok-found-in-Named.ensures.below n types) k
 
 pub returns-in_ok-more-in-All-clause-part : goal.returns-in_ok-more-in-All-clause-part
@@ -35,5 +36,5 @@ returns-in_ok-more-in-All-clause-below c = λ n h k.
     let f = c.args.self.now in
     let ts = f.map.value.types.items in
     let types = ap (λ xs. list_all (is_below n) (take f.count xs)) (c.as_slice.ensures.value ∙ ap (λ m. m.types.items) c.deref-in-All.ensures)
-    ∙ all_taken (is_below n) f.count ts (left_of (list_all (is_below n) ts) _ h) in
-    c.in_ok-more-in-All.ensures.below n (right_of (list_all (is_below n) ts) (is_rest_below n f.rest) h) (c.in_ok-all-in-All.ensures.below n types k)
+    ∙ all_taken (is_below n) f.count ts ((and_parts (list_all (is_below n) ts) (is_rest_below n c.args.self.now.rest) h).0) in
+    c.in_ok-more-in-All.ensures.below n ((and_parts (list_all (is_below n) ts) (is_rest_below n f.rest) h).1) (c.in_ok-all-in-All.ensures.below n types k)

@@ -1,12 +1,11 @@
-use Rattle.std.proofs.Common.{◌≡◌, ◌<◌, ◌∙◌, ap, arith, get_or, length, refl, subst, sym, true}
-use Rattle.std.proofs.lemmas.List.{get_or_default}
-use Rattle.std.specs.Prelude.{IfSome, nat_lt, option_map}
+use Rattle.std.proofs.Common.{◌≡◌, ◌<◌, ◌∙◌, ap, arith, length, refl, subst, sym, true}
+use Rattle.std.specs.Prelude.{IfSome, option_map}
 use Rattle.al_base.proofs.Growing.{begins_trans}
 use Rattle.al_types.specs.Types.{option_of}
 use Rattle.al_types.proofs.FuseLaws.{optional_back}
 use Rattle.al_expr_types.specs.Kept.{IsCommon}
 use Rattle.al_expr_types.specs.Types.{are_below, parts_of_all, type_in}
-use Rattle.al_expr_types.proofs.Below.{all_at, less}
+use Rattle.al_expr_types.proofs.Below.{number_at}
 use Rattle.al_expr_types.proofs.Gathering.{rest_is}
 use Rattle.al_expr_types.proofs.Keeping.{kept_answer, longer, same_there}
 use Rattle.al_expr_types.proofs.types.Types.+commons.Goals as goal
@@ -56,10 +55,8 @@ make_commons-common-requires-in-loop-m t c =
     let os = c.args.self.now.objects.items in
     let n = c.args.n in
     let ns = c.as_slice-m-items.result.now in
-    let i = c.loop-m.m-index in
-    let m = get_or ns i 0 in
     let below = ap (are_below n) c.as_slice-m-items.ensures.value ∙ subst (λ o. IfSome o (λ v. are_below n v.items ≡ true)) c.in-Some-2.is c.in_ok-of.ensures in
-    let lt : m < n = less m n (all_at (λ k. nat_lt k n) ns i m c.loop-m-test.true (get_or_default ns i 0 m c.loop-m-test.true) below) in
+    let lt = number_at n ns c.loop-m.m-index c.loop-m-test.true below in
     let le = longer c.loop-m.self.objects.items os c.loop-m.invariant in
     (omega (arith, lt, c.decreases), omega (arith, lt, c.requires, le))
 

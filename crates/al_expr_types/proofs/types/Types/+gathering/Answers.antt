@@ -1,4 +1,5 @@
-use Rattle.std.proofs.Common.{◌<◌, ◌∙◌, ap, arith, get_or, length, map, sym}
+use Rattle.std.proofs.Common.{◌∙◌, ap, arith, get_or, length, map, sym}
+use Rattle.std.proofs.lemmas.Bool.{and_parts}
 use Rattle.std.proofs.lemmas.List.{get_or_default, take_all}
 use Rattle.std.specs.List.{list_all}
 use Rattle.std.specs.Prelude.{nat_lt}
@@ -9,8 +10,8 @@ use Rattle.al_expr_types.specs.Parts.{part_in}
 use Rattle.al_expr_types.specs.Tables.{objects_of}
 use Rattle.al_expr_types.specs.Types.{common_of, are_below, are_fields_below, extension_parts, is_below, is_extended_below, is_object_below, object_in, type_in}
 use Rattle.al_expr_types.specs.declared.objects.Object.TheVariants as object
-use Rattle.al_expr_types.proofs.Below.{all_at, left_of, less, object_wider, right_of}
-use Rattle.al_expr_types.proofs.Gathering.{fields_then_rest, gathered_next, gathered_none, of_object}
+use Rattle.al_expr_types.proofs.Below.{base_below, number_at, object_wider}
+use Rattle.al_expr_types.proofs.Gathering.{fields_then_rest, gathered_none, next, of_object, parts_more}
 use Rattle.al_expr_types.proofs.types.Types.+gathering.Goals as goal
 
 pub gather-loop-m-init : goal.gather-loop-m-init
@@ -22,11 +23,8 @@ gather-loop-m-init t c = record {
 pub gather-gather-requires-in-loop-m : goal.gather-gather-requires-in-loop-m
 gather-gather-requires-in-loop-m t c =
     let n = c.args.n in
-    let ns = c.as_slice-m-items.result.now in
-    let i = c.loop-m.m-index in
-    let m = get_or ns i 0 in
     let all = ap (are_below n) c.as_slice-m-items.ensures.value ∙ sym (ap (is_object_below n) c.in-Common.is) ∙ c.object.ensures.below in
-    let lt : m < n = less m n (all_at (λ k. nat_lt k n) ns i m c.loop-m-test.true (get_or_default ns i 0 m c.loop-m-test.true) all) in
+    let lt = number_at n c.as_slice-m-items.result.now c.loop-m.m-index c.loop-m-test.true all in
     (omega (arith, lt, c.decreases), omega (arith, lt, c.requires))
 
 pub gather-loop-m-preserved : goal.gather-loop-m-preserved
@@ -36,7 +34,7 @@ gather-loop-m-preserved t c =
     let m = get_or ns i 0 in
     let ms = objects_of c.args.self.now in
     record {
-      part = gathered_next c.args.part (object_in ms) ns i m (join_in ms c.args.sofar) (join_in ms c.loop-m.all) (join_in ms c.in_ok-all-in-Common.all)
+      part = next (λ ks. part_in c.args.part (fuse_all (map (object_in ms) ks))) (λ k. part_in c.args.part (object_in ms k)) (parts_more c.args.part (object_in ms)) ns i m (join_in ms c.args.sofar) (join_in ms c.loop-m.all) (join_in ms c.in_ok-all-in-Common.all)
           c.loop-m-test.true (get_or_default ns i 0 m c.loop-m-test.true) c.loop-m.invariant.part c.in_ok-all-in-Common.ensures.part;
       below = λ h. c.in_ok-all-in-Common.ensures.below (c.loop-m.invariant.below h);
     }
@@ -72,8 +70,7 @@ gather-gather_extension-requires t c =
     let n = c.args.n in
     let e = c.in-Extension.extension in
     let below = sym (ap (is_object_below n) c.in-Extension.is) ∙ c.object.ensures.below in
-    let behind = right_of (are_fields_below n e.fields) (is_extended_below n e) below in
-    let lt : e.base.object < n = less e.base.object n (left_of (nat_lt e.base.object n) _ behind) in
+    let lt = base_below n e below in
     (omega (arith, lt, c.decreases), object_wider n (length os) (omega (arith, c.requires)) (object.Extension e) below)
 
 pub gather-returns-in_ok-gathered-in-Extension-clause-part : goal.gather-returns-in_ok-gathered-in-Extension-clause-part
@@ -82,12 +79,7 @@ gather-returns-in_ok-gathered-in-Extension-clause-part t c =
     of_object ms c.args.part (join_in ms c.args.sofar) _ _ c.object.result.now _ c.object.ensures.object c.in-Extension.is c.in_ok-gathered-in-Extension.ensures.part
 
 pub gather_extension-gather-requires : goal.gather_extension-gather-requires
-gather_extension-gather-requires t c =
-    let e = c.args.extension.now in
-    let len = length c.args.self.now.objects.items in
-    let behind = right_of (are_fields_below len e.fields) (is_extended_below len e) c.requires in
-    let lt : e.base.object < len = less e.base.object len (left_of (nat_lt e.base.object len) _ behind) in
-    (omega (arith, c.decreases), lt)
+gather_extension-gather-requires t c = (omega (arith, c.decreases), base_below (length c.args.self.now.objects.items) c.args.extension.now c.requires)
 
 pub gather_extension-returns-in_ok-all-in-All-clause-part : goal.gather_extension-returns-in_ok-all-in-All-clause-part
 gather_extension-returns-in_ok-all-in-All-clause-part t c =
@@ -105,6 +97,7 @@ pub gather_extension-returns-in_ok-all-in-All-clause-below : goal.gather_extensi
 gather_extension-returns-in_ok-all-in-All-clause-below t c = λ h.
     let e = c.args.extension.now in
     let len = length c.args.self.now.objects.items in
-    let behind = right_of (are_fields_below len e.fields) (is_extended_below len e) c.requires in
-    c.in_ok-all-in-All.ensures.below len (ap (list_all (is_below len)) c.as_slice.ensures.value ∙ right_of (nat_lt e.base.object len) _ behind)
+    let behind = (and_parts (are_fields_below len e.fields) (is_extended_below len e) c.requires).1 in
+    let own = (and_parts (nat_lt e.base.object len) (list_all (is_below len) e.own.items) behind).1 in
+    c.in_ok-all-in-All.ensures.below len (ap (list_all (is_below len)) c.as_slice.ensures.value ∙ own)
     (c.in_ok-of_base-in-All.ensures.below h)

@@ -1,23 +1,21 @@
-use Rattle.std.proofs.Common.{◌<◌, ◌∙◌, ap, arith, get_or, length, map, sym}
+use Rattle.std.proofs.Common.{◌∙◌, ap, arith, get_or, length, map, sym}
+use Rattle.std.proofs.lemmas.Bool.{and_parts}
 use Rattle.std.proofs.lemmas.List.{get_or_default, take_all}
-use Rattle.std.specs.Prelude.{nat_lt}
 use Rattle.al_types.specs.Types.{Optional, fuse_optional}
 use Rattle.al_types.specs.Fused.{fuse_all}
 use Rattle.al_expr_types.specs.Merging.{found_in}
 use Rattle.al_expr_types.specs.Tables.{objects_of}
-use Rattle.al_expr_types.specs.Types.{are_below, are_fields_below, is_object_below, object_in, object_parts}
-use Rattle.al_expr_types.proofs.Below.{all_at, left_of, less, object_wider}
-use Rattle.al_expr_types.proofs.Gathering.{named_next}
+use Rattle.al_expr_types.specs.Types.{are_below, are_fields_below, is_extended_below, is_object_below, object_in, object_parts}
+use Rattle.al_expr_types.proofs.Below.{number_at, object_wider}
+use Rattle.al_expr_types.proofs.Fusing.{fused_push}
+use Rattle.al_expr_types.proofs.Gathering.{next}
 use Rattle.al_expr_types.proofs.types.Types.+merging.Goals as goal
 
 pub merge-requires : goal.merge-requires
 merge-requires t c =
     let n = c.args.n in
-    let ns = c.as_slice-m-items.result.now in
-    let i = c.loop-m.m-index in
-    let m = get_or ns i 0 in
     let all = ap (are_below n) c.as_slice-m-items.ensures.value ∙ sym (ap (is_object_below n) c.in-Common.is) ∙ c.object.ensures.below in
-    let lt : m < n = less m n (all_at (λ k. nat_lt k n) ns i m c.loop-m-test.true (get_or_default ns i 0 m c.loop-m-test.true) all) in
+    let lt = number_at n c.as_slice-m-items.result.now c.loop-m.m-index c.loop-m-test.true all in
     (omega (arith, lt, c.decreases), omega (arith, lt, c.requires))
 
 pub loop-m-preserved : goal.loop-m-preserved
@@ -27,9 +25,9 @@ loop-m-preserved t c =
     let m = get_or ns i 0 in
     let ms = objects_of c.args.self.now in
     record {
-      found = λ name. named_next name (object_in ms) ns i m (found_in ms c.args.sofar name) (found_in ms c.loop-m.all name)
-          (found_in ms c.in_ok-more-in-Common.more name) c.loop-m-test.true (get_or_default ns i 0 m c.loop-m-test.true) (c.loop-m.invariant.found name)
-          (ap (λ f. f name) c.in_ok-more-in-Common.ensures.found);
+      found = λ name. next (λ ks. (fuse_all (map (object_in ms) ks)).0 name) (λ k. (object_in ms k).0 name) (λ ks k. ap (λ p. p.0 name) (fused_push (object_in ms) ks k)) ns i m
+          (found_in ms c.args.sofar name) (found_in ms c.loop-m.all name) (found_in ms c.in_ok-more-in-Common.more name) c.loop-m-test.true
+          (get_or_default ns i 0 m c.loop-m-test.true) (c.loop-m.invariant.found name) (ap (λ f. f name) c.in_ok-more-in-Common.ensures.found);
       below = λ h. c.in_ok-more-in-Common.ensures.below (c.loop-m.invariant.below h);
     }
 
@@ -78,6 +76,7 @@ returns-in_ok-merged-in-Extension-clause-found t c =
 pub returns-in_ok-merged-in-Extension-clause-below : goal.returns-in_ok-merged-in-Extension-clause-below
 returns-in_ok-merged-in-Extension-clause-below t c =
     let os = c.args.self.now.objects.items in
+    let e = c.in-Extension.extension in
     let wide = object_wider c.args.n (length os) (omega (arith, c.requires)) c.object.result.now c.object.ensures.below in
     c.in_ok-merged-in-Extension.ensures.below (length os)
-    (left_of (are_fields_below (length os) c.in-Extension.extension.fields) _ (ap (is_object_below (length os)) (sym c.in-Extension.is) ∙ wide))
+    (and_parts (are_fields_below (length os) e.fields) (is_extended_below (length os) e) (ap (is_object_below (length os)) (sym c.in-Extension.is) ∙ wide)).0

@@ -6,10 +6,10 @@ use Rattle.al_types.specs.Types.{Present, field_at, fuse_optional, optional}
 use Rattle.al_expr_types.specs.Joining.{join_in}
 use Rattle.al_expr_types.specs.Names.{names_in}
 use Rattle.al_expr_types.specs.Types.{is_below, named_types, object_in, parts_of_all, type_in}
-use Rattle.al_expr_types.proofs.Below.{all_weaker, below_wider}
+use Rattle.al_expr_types.proofs.Below.{types_same}
 use Rattle.al_expr_types.proofs.Gathering.{rest_is}
-use Rattle.al_expr_types.proofs.Indexes.{index_named, named_kept}
-use Rattle.al_expr_types.proofs.Keeping.{joined_longer, joined_wider, longer, same_there}
+use Rattle.al_expr_types.proofs.Indexes.{index_named}
+use Rattle.al_expr_types.proofs.Keeping.{has_old, joined_longer, joined_wider, longer, same_there}
 use Rattle.al_expr_types.proofs.types.Types.index.Goals as goal
 
 pub types_of-requires : goal.types_of-requires
@@ -46,13 +46,13 @@ returns-clause-index c =
     let both = begins_trans (parts_of_all entry) (parts_of_all one) (parts_of_all two) types.kept rest.kept in
     let le = longer two entry both in
     let there = sym (same_there two entry c.args.n both c.requires) in
-    let wide = all_weaker (is_below (length one)) (is_below (length two)) (below_wider (length one) (length two) (longer two one rest.kept)) ts types.known in (
-      (omega (arith, c.requires, le), c.in_ok-fields.ensures.below (length two) wide rest.known),
+    let later = types_same _ _ (length one) (length two) (has_old two one rest.kept) ts types.known in (
+      (omega (arith, c.requires, le), c.in_ok-fields.ensures.below (length two) later.0 rest.known),
       (
         ap (λ p. p.0) (c.in_ok-fields.ensures.parts (parts_of_all two))
             ∙ (λ d n.
             (ap (λ l. optional (field_at n (named_types (parts_of_all two) l ts))) c.into_names-names.ensures
-            ∙ ap (λ us. optional (field_at n (zip ns us))) (named_kept two one ts rest.kept types.known)
+            ∙ ap (λ us. optional (field_at n (zip ns us))) later.1
             ∙ index_named (parts_of_all entry) (parts_of_all one) ns merging.joins.items ts types.types n
             ∙ ap (λ f. f n) c.in_ok-merging.ensures.found
             ∙ ap (λ f. fuse_optional (f n) ((object_in (parts_of_all entry) c.args.n).0 n)) (c.new.ensures.found (parts_of_all entry))

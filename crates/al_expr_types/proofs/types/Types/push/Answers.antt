@@ -1,8 +1,8 @@
 use Rattle.std.proofs.Common.{◌≡◌, ◌∙◌, [], ap, arith, length}
 use Rattle.al_expr_types.specs.Types.{object_in, object_parts, parts_of_all}
 use Rattle.al_base.proofs.Growing.{begins_by}
-use Rattle.al_expr_types.proofs.Tables.{length_after, number_of_more, one_more, order_if}
-use Rattle.al_expr_types.proofs.Keeping.{begins_if, commons_longer, indexes_longer}
+use Rattle.al_expr_types.proofs.Tables.{length_after, number_of_more, one_more, grown_if}
+use Rattle.al_expr_types.proofs.Keeping.{commons_longer, indexes_longer}
 use Rattle.al_expr_types.proofs.types.Types.push.Goals as goal
 
 pub returns-clause-objects : goal.returns-clause-objects
@@ -25,9 +25,9 @@ returns-clause-kept c =
 pub invariant_of-self : goal.invariant_of-self
 invariant_of-self c =
     let was = c.args.self.now in
-    let longer = begins_if _ c.push.new.self.items was.objects.items c.args.object c.push.ensures.items in
+    let grown = grown_if _ c.push.new.self.items was.objects.items c.args.object c.push.ensures.items was.ordered c.requires in
     record {
-      ordered = order_if _ c.push.new.self.items was.objects.items c.args.object c.push.ensures.items was.ordered c.requires;
-      common = commons_longer c.push.new.self.items was.objects.items was.commons longer was.common;
-      indexed = indexes_longer c.push.new.self.items was.objects.items was.indexes longer was.indexed;
+      ordered = grown.0;
+      common = commons_longer c.push.new.self.items was.objects.items was.commons grown.1 was.common;
+      indexed = indexes_longer c.push.new.self.items was.objects.items was.indexes grown.1 was.indexed;
     }
