@@ -1,6 +1,8 @@
 -- Negations, paths and chains of operators beside the table.
 use Rattle.std.proofs.Common.{◌≡◌, ℕ, zero, suc, ◌+◌, List, [], ◌∷◌, ◌++◌, length, refl, sym, ap, ◌∙◌, arith, subst, Result, Ok, Err}
+use Rattle.std.proofs.lemmas.Result.{err_from_is_err_and}
 use Rattle.std.specs.Prelude.{MatchResult}
+use Rattle.std.specs.Result.{IsErrAnd}
 use Rattle.al_expr_grammar.specs.declared.token.Operator.{Operator}
 use Rattle.al_base.specs.declared.faults.Span.{Span}
 use Rattle.al_expr_grammar.specs.declared.token.TokenKind.{TokenKind}
@@ -69,11 +71,7 @@ path_goes_on room ts mid rest ss s w r = record {
 
 walks_none : {ts rest : List Lexeme} {ss : List StepTree} → Walks ts ss rest → ss ≡ [] → ts ≡ rest
 walks_none arrived e = refl
-walks_none (to_property w) e = cc
-walks_none (to_keyword w) e = cc
-walks_none (to_all w) e = cc
-walks_none (to_each w) e = cc
-walks_none (to_index d w) e = cc
+walks_none _ e = cc
 
 pub steps_read : (room : ℕ) (ts mid rest : List Lexeme) (t : Tree) (ss : List StepTree) → Parsed Primary room ts t mid
     → PartOfPath room mid ss rest → EndsPath (kinds rest) → Parsed Postfix room ts (path_of t ss) rest
@@ -167,3 +165,7 @@ later_refused l room ts mid inner t os o b s e p c r = from_start l room ts (λ 
 pub either_way : {A F : Type 0} (P P' : A → Type 0) (Q Q' : F → Type 0) (r : Result A F) → ((a : A) → P a → P' a) → ((e : F) → Q e → Q' e) → MatchResult r P Q → MatchResult r P' Q'
 either_way P P' Q Q' (Ok a) f g h = f a h
 either_way P P' Q Q' (Err e) f g h = g e h
+
+-- what an exit of a `?` answers
+pub refusal : {A F : Type 0} (P : A → Type 0) (Q : F → Type 0) (r : Result A F) (e : F) → IsErrAnd r (λ y. y ≡ e) → Q e → MatchResult r P Q
+refusal P Q r e h q = let p = err_from_is_err_and r h in rw (p.1, p.2) q

@@ -56,15 +56,9 @@ operands_start NoOperand x = refl
 operands_start (OperandThen o t os) x = operands_start os (across x (extent t))
 
 extent_start : (t : Tree) → (extent t).start ≡ start_of t
-extent_start (Constant w s) = refl
-extent_start (tree.Number b s) = refl
-extent_start (tree.Text b s) = refl
-extent_start (Named b s) = refl
-extent_start (Call b s as' e) = refl
-extent_start (Group t s e) = refl
-extent_start (Negated s t) = refl
 extent_start (Path t ss) = steps_start ss (extent t) ∙ extent_start t
 extent_start (Chain t os) = operands_start os (extent t) ∙ extent_start t
+extent_start _ = refl
 
 -- ---- tokens lie in their content, one behind another
 

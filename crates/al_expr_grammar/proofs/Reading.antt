@@ -21,9 +21,7 @@ Short bs _ = Unit {0}
 
 fits_short : (bs : List ℕ) (r : Read) → Fits bs r → Short bs r
 fits_short bs (Token k n) f = (f.0, f.1)
-fits_short bs Blank f = tt
-fits_short bs BadCharacter f = tt
-fits_short bs OpenText f = tt
+fits_short bs _ f = tt
 
 -- the token of a mark, where one is found
 abbrev mark_found : Option (List ℕ × TokenKind) → Read

@@ -122,16 +122,9 @@ pub begins : {p : Nonterminal} {ts rest : List Lexeme} {t : Tree} → Derives p 
 begins (single d) = begins d
 begins (chain d w) = begins d
 begins (positive d) = begins d
-begins (negated d) = tt
 begins (bare d) = begins d
 begins (path d w) = begins d
-begins constant = tt
-begins number = tt
-begins text = tt
-begins name = tt
-begins call_empty = tt
-begins (call d w) = tt
-begins (group d) = tt
+begins _ = tt
 
 in_call : (st : List Frame) (ts : List TokenKind) → Begins ts → shape A st ts ≡ shape E st ts
 in_call st [] h = absurd h
@@ -149,11 +142,7 @@ before_operators (one_more e d w) h = tt
 
 pub before_walks : {ts rest : List Lexeme} {ss : List StepTree} → Walks ts ss rest → NoCall (kinds rest) → NoCall (kinds ts)
 before_walks arrived h = h
-before_walks (to_property w) h = tt
-before_walks (to_keyword w) h = tt
-before_walks (to_all w) h = tt
-before_walks (to_each w) h = tt
-before_walks (to_index d w) h = tt
+before_walks _ h = tt
 
 pub before_lists : {ts rest : List Lexeme} {more : List Tree} → Lists ts more rest → NoCall (kinds rest) → NoCall (kinds ts)
 before_lists listed h = h

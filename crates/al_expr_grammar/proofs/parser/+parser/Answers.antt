@@ -1,10 +1,9 @@
 use Rattle.std.proofs.Common.{map, refl}
 use Rattle.std.proofs.lemmas.List.{map-append}
-use Rattle.std.proofs.lemmas.Result.{err_from_is_err_and}
 use Rattle.al_expr_grammar.specs.Lexeme.{seen}
 use Rattle.al_expr_grammar.proofs.Trees.{tree_of-Keyword, tree_of-Number, tree_of-Text, tree_of-Name, tree_of-Call, tree_of-Group, tree_of-Not, step_of-All, step_of-Index, operand_of-made}
 use Rattle.al_expr_grammar.proofs.Rules.{constant_read, number_read, text_read, name_read, group_read, group_refused, call_empty_read, each_read, index_read, index_refused}
-use Rattle.al_expr_grammar.proofs.Chains.{not_read, positive_read, steps_read, path_begins, path_goes_on, chain_begins, chain_goes_on, operands_read, either_way}
+use Rattle.al_expr_grammar.proofs.Chains.{not_read, positive_read, steps_read, path_begins, path_goes_on, chain_begins, chain_goes_on, operands_read, either_way, refusal}
 use Rattle.al_expr_grammar.proofs.Chains.{not_refused, path_refused, first_refused, later_refused}
 use Rattle.al_expr_grammar.proofs.Front.{no_call, no_close, no_comma, no_star, group_not_closed, star_not_closed, first_argument_refused, first_argument_read, later_argument_refused}
 use Rattle.al_expr_grammar.proofs.Front.{later_argument_read, call_closed, call_not_closed, index_not_closed}
@@ -39,16 +38,14 @@ primary-returns-in-None t c =
 
 pub group-returns-in_err-expr : goal.group-returns-in_err-expr
 group-returns-in_err-expr t c =
-    let p = err_from_is_err_and c.from_residual-in_err-expr.result c.from_residual-in_err-expr.ensures.1 in
-    rw (p.1, p.2, c.requires)
-    (group_refused c.args.room c.in_ok-inner.inner c.args.bracket.text.now c.args.bracket.span (map seen c.args.tokens.now) c.in_ok-inner.ensures _ c.in_err-expr.ensures)
+    rw c.requires (refusal _ _ c.from_residual-in_err-expr.result _ c.from_residual-in_err-expr.ensures.1
+    (group_refused c.args.room c.in_ok-inner.inner c.args.bracket.text.now c.args.bracket.span (map seen c.args.tokens.now) c.in_ok-inner.ensures _ c.in_err-expr.ensures))
 
 pub group-returns-in_err-close : goal.group-returns-in_err-close
 group-returns-in_err-close t c =
-    let p = err_from_is_err_and c.from_residual-in_err-close.result c.from_residual-in_err-close.ensures.1 in
-    rw (p.1, p.2, c.requires)
+    rw c.requires (refusal _ _ c.from_residual-in_err-close.result _ c.from_residual-in_err-close.ensures.1
     (group_not_closed c.args.room c.in_ok-inner.inner c.args.bracket.text.now c.args.bracket.span (map seen c.args.tokens.now) c.in_ok-inner.ensures
-    _ _ _ c.in_ok-expr.ensures c.in_err-close.ensures)
+    _ _ _ c.in_ok-expr.ensures c.in_err-close.ensures))
 
 pub group-returns : goal.group-returns
 group-returns t c =
@@ -64,16 +61,15 @@ call-returns-in-Some t c =
 
 pub call-returns-in_err-given : goal.call-returns-in_err-given
 call-returns-in_err-given t c =
-    let p = err_from_is_err_and c.from_residual-in_err-given.result c.from_residual-in_err-given.ensures.1 in
-    rw (p.1, p.2, c.requires.name, c.requires.bracket) (c.in_err-given.ensures c.args.room c.args.name.text.now c.args.bracket.text.now c.args.name.span c.args.bracket.span c.in_ok-inner.ensures)
+    rw (c.requires.name, c.requires.bracket) (refusal _ _ c.from_residual-in_err-given.result _ c.from_residual-in_err-given.ensures.1
+    (c.in_err-given.ensures c.args.room c.args.name.text.now c.args.bracket.text.now c.args.name.span c.args.bracket.span c.in_ok-inner.ensures))
 
 pub call-returns-in_err-close : goal.call-returns-in_err-close
 call-returns-in_err-close t c =
-    let p = err_from_is_err_and c.from_residual-in_err-close.result c.from_residual-in_err-close.ensures.1 in
-    rw (p.1, p.2, c.requires.name, c.requires.bracket)
+    rw (c.requires.name, c.requires.bracket) (refusal _ _ c.from_residual-in_err-close.result _ c.from_residual-in_err-close.ensures.1
     (call_not_closed c.args.room c.in_ok-inner.inner c.args.name.text.now c.args.bracket.text.now c.args.name.span c.args.bracket.span
     (map seen c.args.tokens.now) c.in_ok-inner.ensures (no_close _ c.in_default.ensures) _ _ _ c.in_ok-given.ensures
-    c.in_err-close.ensures)
+    c.in_err-close.ensures))
 
 pub call-returns : goal.call-returns
 call-returns t c =
@@ -88,18 +84,16 @@ arguments-returns t c = record { part = c.list.invariant; ends = no_comma _ c.in
 
 pub arguments-returns-in_err-first : goal.arguments-returns-in_err-first
 arguments-returns-in_err-first t c =
-    let p = err_from_is_err_and c.from_residual.result c.from_residual.ensures.1 in
-    rw (p.1, p.2) (first_argument_refused _ _ _ c.requires c.in_err-first.ensures)
+    refusal _ _ c.from_residual.result _ c.from_residual.ensures.1 (first_argument_refused _ _ _ c.requires c.in_err-first.ensures)
 
 pub arguments-list-init : goal.arguments-list-init
 arguments-list-init t c = rw (c.in_ok-push.ensures.items, c.new-given.ensures.items) (first_argument_read _ _ _ _ c.in_ok-first.ensures)
 
 pub arguments-returns-in_err-argument : goal.arguments-returns-in_err-argument
 arguments-returns-in_err-argument t c =
-    let p = err_from_is_err_and c.from_residual-in_err-argument.result c.from_residual-in_err-argument.ensures.1 in
     let g = c.in-Some.ensures in
     let h = rw (g.0, g.1) at c.list.invariant in
-    rw (p.1, p.2) (later_argument_refused _ _ _ _ _ _ _ c.requires h c.in_err-argument.ensures)
+    refusal _ _ c.from_residual-in_err-argument.result _ c.from_residual-in_err-argument.ensures.1 (later_argument_refused _ _ _ _ _ _ _ c.requires h c.in_err-argument.ensures)
 
 pub arguments-list-preserved : goal.arguments-list-preserved
 arguments-list-preserved t c =
@@ -109,13 +103,11 @@ arguments-list-preserved t c =
 
 pub postfix-returns-in_err-base : goal.postfix-returns-in_err-base
 postfix-returns-in_err-base t c =
-    let p = err_from_is_err_and c.from_residual.result c.from_residual.ensures.1 in
-    rw (p.1, p.2) c.in_err-base.ensures
+    refusal _ _ c.from_residual.result _ c.from_residual.ensures.1 c.in_err-base.ensures
 
 pub postfix-returns-in_err-taken : goal.postfix-returns-in_err-taken
 postfix-returns-in_err-taken t c =
-    let p = err_from_is_err_and c.from_residual-in_err-taken.result c.from_residual-in_err-taken.ensures.1 in
-    rw (p.1, p.2)
+    refusal _ _ c.from_residual-in_err-taken.result _ c.from_residual-in_err-taken.ensures.1
     (path_refused c.args.room (map seen c.args.tokens.now) _ (map seen c.walk.left.now) _ _ _ c.in_ok-base.ensures c.walk.invariant.so_far c.in_err-taken.ensures)
 
 pub postfix-walk-init : goal.postfix-walk-init
@@ -138,13 +130,11 @@ step-returns-in_default t c = rw c.in_default.ensures tt
 
 pub step-returns-in_err-property-in-Dot : goal.step-returns-in_err-property-in-Dot
 step-returns-in_err-property-in-Dot t c =
-    let p = err_from_is_err_and c.from_residual.result c.from_residual.ensures.1 in
-    rw (p.1, p.2, c.in-Some.ensures) c.in_err-property-in-Dot.ensures
+    rw c.in-Some.ensures (refusal _ _ c.from_residual.result _ c.from_residual.ensures.1 c.in_err-property-in-Dot.ensures)
 
 pub step-returns-in_err-index-in-OpenIndex : goal.step-returns-in_err-index-in-OpenIndex
 step-returns-in_err-index-in-OpenIndex t c =
-    let p = err_from_is_err_and c.from_residual-in_err-index-in-OpenIndex.result c.from_residual-in_err-index-in-OpenIndex.ensures.1 in
-    rw (p.1, p.2, c.in-Some.ensures) c.in_err-index-in-OpenIndex.ensures
+    rw c.in-Some.ensures (refusal _ _ c.from_residual-in_err-index-in-OpenIndex.result _ c.from_residual-in_err-index-in-OpenIndex.ensures.1 c.in_err-index-in-OpenIndex.ensures)
 
 pub step-returns-in_ok-property-in-Dot : goal.step-returns-in_ok-property-in-Dot
 step-returns-in_ok-property-in-Dot t c = rw c.in-Some.ensures c.in_ok-property-in-Dot.ensures
@@ -154,11 +144,10 @@ step-returns-in_ok-index-in-OpenIndex t c = rw c.in-Some.ensures c.in_ok-index-i
 
 pub index-returns-in_err-close : goal.index-returns-in_err-close
 index-returns-in_err-close t c =
-    let p = err_from_is_err_and c.from_residual-in_err-close.result c.from_residual-in_err-close.ensures.1 in
     let g = c.in-Some.ensures in
-    rw (p.1, p.2, c.requires, g.0, g.1)
+    rw (c.requires, g.0, g.1) (refusal _ _ c.from_residual-in_err-close.result _ c.from_residual-in_err-close.ensures.1
     (star_not_closed c.args.room c.in_ok-inner.inner c.in-Some.field-0-0.text.now c.args.bracket.text.now c.in-Some.field-0-0.span
-    c.args.bracket.span (map seen c.in-Some.left.now) _ c.in_ok-inner.ensures c.in_err-close.ensures)
+    c.args.bracket.span (map seen c.in-Some.left.now) _ c.in_ok-inner.ensures c.in_err-close.ensures))
 
 pub index-returns-in-Some : goal.index-returns-in-Some
 index-returns-in-Some t c =
@@ -168,16 +157,14 @@ index-returns-in-Some t c =
 
 pub index-returns-in_err-expr : goal.index-returns-in_err-expr
 index-returns-in_err-expr t c =
-    let p = err_from_is_err_and c.from_residual-in_err-expr.result c.from_residual-in_err-expr.ensures.1 in
-    rw (p.1, p.2, c.requires) (index_refused c.args.room c.in_ok-inner.inner c.args.bracket.text.now c.args.bracket.span
-    (map seen c.args.tokens.now) c.in_ok-inner.ensures _ (no_star _ c.in_default.ensures) c.in_err-expr.ensures)
+    rw c.requires (refusal _ _ c.from_residual-in_err-expr.result _ c.from_residual-in_err-expr.ensures.1
+    (index_refused c.args.room c.in_ok-inner.inner c.args.bracket.text.now c.args.bracket.span (map seen c.args.tokens.now) c.in_ok-inner.ensures _ (no_star _ c.in_default.ensures) c.in_err-expr.ensures))
 
 pub index-returns-in_err-close-2 : goal.index-returns-in_err-close-2
 index-returns-in_err-close-2 t c =
-    let p = err_from_is_err_and c.from_residual-in_err-close-2.result c.from_residual-in_err-close-2.ensures.1 in
-    rw (p.1, p.2, c.requires)
+    rw c.requires (refusal _ _ c.from_residual-in_err-close-2.result _ c.from_residual-in_err-close-2.ensures.1
     (index_not_closed c.args.room c.in_ok-inner.inner c.args.bracket.text.now c.args.bracket.span (map seen c.args.tokens.now)
-    c.in_ok-inner.ensures _ _ _ c.in_ok-expr.ensures (no_star _ c.in_default.ensures) c.in_err-close-2.ensures)
+    c.in_ok-inner.ensures _ _ _ c.in_ok-expr.ensures (no_star _ c.in_default.ensures) c.in_err-close-2.ensures))
 
 pub index-returns : goal.index-returns
 index-returns t c =
@@ -187,11 +174,10 @@ index-returns t c =
 
 pub unary-returns-in_err-expr : goal.unary-returns-in_err-expr
 unary-returns-in_err-expr t c =
-    let p = err_from_is_err_and c.from_residual-in_err-expr.result c.from_residual-in_err-expr.ensures.1 in
     let g = c.in-Some.ensures in
-    rw (p.1, p.2, g.0, g.1)
+    rw (g.0, g.1) (refusal _ _ c.from_residual-in_err-expr.result _ c.from_residual-in_err-expr.ensures.1
     (not_refused c.args.room c.in_ok-within.within c.in-Some.bang.text.now c.in-Some.bang.span (map seen c.in-Some.inner.now) _
-    c.in_ok-within.ensures c.in_err-expr.ensures)
+    c.in_ok-within.ensures c.in_err-expr.ensures))
 
 pub unary-returns-in_default : goal.unary-returns-in_default
 unary-returns-in_default t c =
@@ -204,15 +190,13 @@ unary-returns t c =
 
 pub binary-returns-in_err-first : goal.binary-returns-in_err-first
 binary-returns-in_err-first t c =
-    let p = err_from_is_err_and c.from_residual.result c.from_residual.ensures.1 in
-    rw (p.1, p.2) (first_refused c.args.level c.args.room (map seen c.args.tokens.now) _ c.in_err-first.ensures)
+    refusal _ _ c.from_residual.result _ c.from_residual.ensures.1 (first_refused c.args.level c.args.room (map seen c.args.tokens.now) _ c.in_err-first.ensures)
 
 pub binary-returns-in_err-expr : goal.binary-returns-in_err-expr
 binary-returns-in_err-expr t c =
-    let p = err_from_is_err_and c.from_residual-in_err-expr.result c.from_residual-in_err-expr.ensures.1 in
     let g = c.in-Some.ensures in
     let h = rw (g.0, g.1) at c.chain.invariant.so_far in
-    rw (p.1, p.2)
+    refusal _ _ c.from_residual-in_err-expr.result _ c.from_residual-in_err-expr.ensures.1
     (later_refused c.args.level c.args.room (map seen c.args.tokens.now) _ (map seen c.in-Some.inner.now) _ _ _ _ _ _ c.in_ok-first.ensures h c.in_err-expr.ensures)
 
 pub binary-chain-init : goal.binary-chain-init
