@@ -113,8 +113,8 @@ module _ (new old : List Parts) (m n : ℕ) (has : Has new old m n) where
 
 -- ---- what an object is made of
 
-pub object_wider : (m n : ℕ) → m ≤ n → (o : Object) → is_object_below m o ≡ true → is_object_below n o ≡ true
-object_wider m n le o h = (object_same [] [] m n (has_itself [] m n le) o h).0
+pub object_wider : (m n : ℕ) (o x : Object) → m < n → o ≡ x → is_object_below m o ≡ true → is_object_below n x ≡ true
+object_wider m n o x lt is h = ap (is_object_below n) (sym is) ∙ (object_same [] [] m n (has_itself [] m n (omega (arith, lt))) o h).0
 
 pub base_below : (n : ℕ) (e : Extension) → is_object_below n (object.Extension e) ≡ true → e.base.object < n
 base_below n e h =

@@ -12,10 +12,7 @@ use Rattle.al_expr_types.specs.declared.ty.Base.TheVariants as base
 
 pub scalar_object : (a : Scalar) (p : Parts) → fuse_type (scalar_type a) (object_type p) ≡ Any
 scalar_object scalar.Any p = refl
-scalar_object scalar.Null p = refl
-scalar_object scalar.Number p = refl
-scalar_object scalar.Bool p = refl
-scalar_object scalar.String p = refl
+scalar_object _ p = refl
 
 pub object_scalar : (p : Parts) (a : Scalar) → fuse_type (object_type p) (scalar_type a) ≡ Any
 object_scalar p a = fuse_turned (object_type p) (scalar_type a) ∙ scalar_object a p
@@ -24,10 +21,7 @@ object_scalar p a = fuse_turned (object_type p) (scalar_type a) ∙ scalar_objec
 pub beside_array : (ms : List Parts) (b : Base) (a : Type') →
     (fuse_type (base_type ms b) (ArrayOf a) ≡ Any) × (assignable_type (base_type ms b) (ArrayOf a) ≡ is_any b) × (assignable_type (ArrayOf a) (base_type ms b) ≡ is_any b)
 beside_array ms (base.Scalar scalar.Any) a = (refl, refl, refl)
-beside_array ms (base.Scalar scalar.Null) a = (refl, refl, refl)
-beside_array ms (base.Scalar scalar.Number) a = (refl, refl, refl)
-beside_array ms (base.Scalar scalar.Bool) a = (refl, refl, refl)
-beside_array ms (base.Scalar scalar.String) a = (refl, refl, refl)
+beside_array ms (base.Scalar _) a = (refl, refl, refl)
 beside_array ms (base.Object n) a = (refl, refl, refl)
 
 -- ---- arrays

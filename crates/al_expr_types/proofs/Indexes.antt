@@ -1,5 +1,6 @@
 -- The index of an object: what a name finds in what was made of its fields.
-use Rattle.std.proofs.Common.{◌≡◌, ◌∙◌, ℕ, List, [], ◌∷◌, map, drop, get_or, zero, suc, Option, Some, None, refl, ap}
+use Rattle.std.proofs.Common.{◌≡◌, ◌∙◌, ℕ, List, [], ◌∷◌, map, get_or, zero, suc, Option, Some, None, refl, ap}
+use Rattle.std.proofs.Math.ListN.{get_or-map}
 use Rattle.std.specs.Prelude.{option_and_then, slice_get}
 use Rattle.al_base.specs.NamePlaces.{name_place}
 use Rattle.al_types.specs.Types.{Type', Absent, Present, Parts, field_at, optional}
@@ -11,18 +12,15 @@ use Rattle.al_expr_types.specs.declared.joining.Join.{Join}
 use Rattle.al_expr_types.specs.declared.joining.Join.TheVariants as joined
 use Rattle.al_expr_types.specs.declared.ty.Ty.{Ty}
 
-at_each : (ms : List Parts) (us : List Type') (js : List Join) (k : ℕ) → map Present us ≡ map (join_in ms) js →
-    optional (slice_get us k) ≡ join_in ms (get_or js k joined.Nothing)
-at_each ms [] [] k e = refl
-at_each ms [] (j ∷ js) k e = absurd cc
-at_each ms (u ∷ us) [] k e = absurd cc
-at_each ms (u ∷ us) (j ∷ js) zero e = ap (λ l. get_or l 0 Absent) e
-at_each ms (u ∷ us) (j ∷ js) (suc k) e = at_each ms us js k (ap (drop 1) e)
+present_at : (us : List Type') (k : ℕ) → optional (slice_get us k) ≡ get_or (map Present us) k Absent
+present_at [] k = refl
+present_at (u ∷ us) zero = refl
+present_at (u ∷ us) (suc k) = present_at us k
 
 at_place : (ms : List Parts) (us : List Type') (js : List Join) (o : Option ℕ) → map Present us ≡ map (join_in ms) js →
     optional (option_and_then (λ k. slice_get us k) o) ≡ slot_in ms js o
 at_place ms us js None e = refl
-at_place ms us js (Some k) e = at_each ms us js k e
+at_place ms us js (Some k) e = present_at us k ∙ ap (λ l. get_or l k Absent) e ∙ get_or-map (join_in ms) js k joined.Nothing
 
 mapped_twice : (g : Ty → Type') (ts : List Ty) → map Present (map g ts) ≡ map (λ t. Present (g t)) ts
 mapped_twice g [] = refl

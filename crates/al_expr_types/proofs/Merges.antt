@@ -20,7 +20,9 @@ use Rattle.al_types.proofs.FuseLaws.{nothing_last}
 use Rattle.al_base.proofs.NamePlaces.{first_more, first_within}
 use Rattle.al_expr_types.specs.Joining.{join_in}
 use Rattle.al_expr_types.specs.Merging.{and_named, is_placed, slot, slot_in}
+use Rattle.al_expr_types.specs.Names.{names_in}
 use Rattle.al_expr_types.specs.declared.joining.Join.{Join}
+use Rattle.al_expr_types.specs.declared.merging.FieldJoins.{FieldJoins}
 use Rattle.al_expr_types.specs.declared.joining.Join.TheVariants as joined
 
 -- names that are the same stand at one place
@@ -103,6 +105,9 @@ pushed_behind ms ns js name x at len n =
     ap (slot_in ms (js ++ x ∷ [])) (first_more (λ m. same_name m n) ns name) ∙ pushed_step ms ns js name n x (same_name name n) refl at len
 
 -- ---- in the code
+
+pub joined_within : (m : FieldJoins) (name : List ℕ) (i : ℕ) → name_place (names_in m.names) name ≡ Some i → i < length m.joins.items
+joined_within m name i at = let lt = first_within (λ n. same_name n name) (names_in m.names) i at in omega (arith, lt, m.even)
 
 pub all_set : {X : Type 0} (test : X → Bool) (xs : List X) (i : ℕ) (x : X) → list_all test xs ≡ true → test x ≡ true → list_all test (set xs i x) ≡ true
 all_set test xs i x h k = list_all-from_AllPass test (set xs i x) (All-set (λ y. test y ≡ true) xs i x k (AllPass-from_list_all test xs h))

@@ -1,21 +1,16 @@
-use Rattle.std.proofs.Common.{◌<◌, ◌∙◌, ap, arith, length}
+use Rattle.std.proofs.Common.{◌∙◌, ap, arith}
 use Rattle.std.proofs.lemmas.List.{get_or_default}
-use Rattle.al_base.specs.Names.{same_name}
-use Rattle.al_base.proofs.NamePlaces.{first_within}
 use Rattle.al_types.specs.Types.{Present, fuse_optional}
 use Rattle.al_expr_types.specs.Joining.{is_join_below, join_in}
 use Rattle.al_expr_types.specs.Names.{names_in}
 use Rattle.al_expr_types.specs.Types.{type_in}
 use Rattle.al_expr_types.specs.declared.joining.Join.TheVariants as joined
 use Rattle.al_expr_types.proofs.Below.{all_at}
-use Rattle.al_expr_types.proofs.Merges.{all_set, joined_at}
+use Rattle.al_expr_types.proofs.Merges.{all_set, joined_at, joined_within}
 use Rattle.al_expr_types.proofs.merging.FieldJoins.join_at.Goals as goal
 
 pub index_mut-requires : goal.index_mut-requires
-index_mut-requires c =
-    let ns = names_in c.args.self.names in
-    let lt = first_within (λ m. same_name m c.args.name.now) ns c.args.i c.requires in
-    omega (arith, lt, c.args.self.even, c.args.self.joins.ok.0)
+index_mut-requires c = let lt = joined_within c.args.self c.args.name.now c.args.i c.requires in omega (arith, lt, c.args.self.joins.ok.0)
 
 pub returns-clause-found : goal.returns-clause-found
 returns-clause-found c = λ ms d n.
@@ -25,17 +20,14 @@ returns-clause-found c = λ ms d n.
     let x = c.join_into.new.slot in
     let old = c.index_mut.result.now in
     let more = Present (type_in ms c.args.ty) in
-    let within = first_within (λ m. same_name m c.args.name.now) ns i c.requires in
-    let lt : i < length js = omega (arith, within, c.args.self.even) in
+    let lt = joined_within c.args.self c.args.name.now i c.requires in
     let was = c.index_mut.ensures.value ∙ get_or_default js i old joined.Nothing lt in
     joined_at ms ns js c.args.name.now i x more c.requires lt (c.in_ok-join_into.ensures.ty ms ∙ ap (λ j. fuse_optional (join_in ms j) more) was) n d
 
 pub returns-clause-below : goal.returns-clause-below
 returns-clause-below c = λ k h g.
-    let ns = names_in c.args.self.names in
     let js = c.args.self.joins.items in
     let i = c.args.i in
-    let within = first_within (λ m. same_name m c.args.name.now) ns i c.requires in
-    let lt : i < length js = omega (arith, within, c.args.self.even) in
+    let lt = joined_within c.args.self c.args.name.now i c.requires in
     let old = ap (is_join_below k) c.index_mut.ensures.value ∙ all_at (is_join_below k) js i c.index_mut.result.now lt h in
     all_set (is_join_below k) js i c.join_into.new.slot h (c.in_ok-join_into.ensures.below k old g)

@@ -12,9 +12,4 @@ returns-clause-result c =
     )
 
 pub returns-clause-base : goal.returns-clause-base
-returns-clause-base c =
-    let n = c.args.count in
-    let made = c.in_ok-object.ensures in (
-      made.there,
-      made.object ∙ sym (prefix_kept c.object.new.types.objects.items c.args.types.now.objects.items (map_in c.args.self.now) (n - n % 64) made.kept c.requires.below),
-    )
+returns-clause-base c = returns-clause-result c

@@ -9,7 +9,6 @@ use Rattle.al_expr_types.specs.Joining.{join_in}
 use Rattle.al_expr_types.specs.Parts.{part_in}
 use Rattle.al_expr_types.specs.Tables.{objects_of}
 use Rattle.al_expr_types.specs.Types.{common_of, are_below, are_fields_below, extension_parts, is_below, is_extended_below, is_object_below, object_in, type_in}
-use Rattle.al_expr_types.specs.declared.objects.Object.TheVariants as object
 use Rattle.al_expr_types.proofs.Below.{base_below, number_at, object_wider}
 use Rattle.al_expr_types.proofs.Gathering.{fields_then_rest, gathered_none, next, of_object, parts_more}
 use Rattle.al_expr_types.proofs.types.Types.+gathering.Goals as goal
@@ -47,8 +46,7 @@ gather-returns-in_ok-gathered-in-Fields-clause-part t c =
 pub gather-returns-in_ok-gathered-in-Fields-clause-below : goal.gather-returns-in_ok-gathered-in-Fields-clause-below
 gather-returns-in_ok-gathered-in-Fields-clause-below t c =
     let os = c.args.self.now.objects.items in
-    let wide = object_wider c.args.n (length os) (omega (arith, c.requires)) c.object.result.now c.object.ensures.below in
-    c.in_ok-gathered-in-Fields.ensures.below (length os) (ap (is_object_below (length os)) (sym c.in-Fields.is) ∙ wide)
+    c.in_ok-gathered-in-Fields.ensures.below (length os) (object_wider c.args.n (length os) c.object.result.now _ c.requires c.in-Fields.is c.object.ensures.below)
 
 pub gather-returns-in_ok-gathered-in-Strings-clause-part : goal.gather-returns-in_ok-gathered-in-Strings-clause-part
 gather-returns-in_ok-gathered-in-Strings-clause-part t c =
@@ -68,10 +66,8 @@ pub gather-gather_extension-requires : goal.gather-gather_extension-requires
 gather-gather_extension-requires t c =
     let os = c.args.self.now.objects.items in
     let n = c.args.n in
-    let e = c.in-Extension.extension in
-    let below = sym (ap (is_object_below n) c.in-Extension.is) ∙ c.object.ensures.below in
-    let lt = base_below n e below in
-    (omega (arith, lt, c.decreases), object_wider n (length os) (omega (arith, c.requires)) (object.Extension e) below)
+    let lt = base_below n c.in-Extension.extension (sym (ap (is_object_below n) c.in-Extension.is) ∙ c.object.ensures.below) in
+    (omega (arith, lt, c.decreases), object_wider n (length os) c.object.result.now _ c.requires c.in-Extension.is c.object.ensures.below)
 
 pub gather-returns-in_ok-gathered-in-Extension-clause-part : goal.gather-returns-in_ok-gathered-in-Extension-clause-part
 gather-returns-in_ok-gathered-in-Extension-clause-part t c =

@@ -40,8 +40,7 @@ returns-in_ok-merged-in-Fields-clause-found t c =
 pub returns-in_ok-merged-in-Fields-clause-below : goal.returns-in_ok-merged-in-Fields-clause-below
 returns-in_ok-merged-in-Fields-clause-below t c =
     let os = c.args.self.now.objects.items in
-    let wide = object_wider c.args.n (length os) (omega (arith, c.requires)) c.object.result.now c.object.ensures.below in
-    c.in_ok-merged-in-Fields.ensures.below (length os) (ap (is_object_below (length os)) (sym c.in-Fields.is) ∙ wide)
+    c.in_ok-merged-in-Fields.ensures.below (length os) (object_wider c.args.n (length os) c.object.result.now _ c.requires c.in-Fields.is c.object.ensures.below)
 
 pub returns-in_ok-merged-in-Strings-clause-found : goal.returns-in_ok-merged-in-Strings-clause-found
 returns-in_ok-merged-in-Strings-clause-found t c =
@@ -77,6 +76,5 @@ pub returns-in_ok-merged-in-Extension-clause-below : goal.returns-in_ok-merged-i
 returns-in_ok-merged-in-Extension-clause-below t c =
     let os = c.args.self.now.objects.items in
     let e = c.in-Extension.extension in
-    let wide = object_wider c.args.n (length os) (omega (arith, c.requires)) c.object.result.now c.object.ensures.below in
-    c.in_ok-merged-in-Extension.ensures.below (length os)
-    (and_parts (are_fields_below (length os) e.fields) (is_extended_below (length os) e) (ap (is_object_below (length os)) (sym c.in-Extension.is) ∙ wide)).0
+    let below = object_wider c.args.n (length os) c.object.result.now _ c.requires c.in-Extension.is c.object.ensures.below in
+    c.in_ok-merged-in-Extension.ensures.below (length os) (and_parts (are_fields_below (length os) e.fields) (is_extended_below (length os) e) below).0
