@@ -269,15 +269,12 @@ mutual
   built (path {ts = ts} {mid = mid} {rest = rest} {t = t} {s = s} {ss = ss} d w) h =
       alone (from_operand ts) (tree.Path t (tree.steps_of (s ∷ ss))) (behind_operand rest)
       (built d (before_walks w (no_path (kinds rest) h)) ∙ ap (with_path t) (built_walks w h) ∙ stepped t (s ∷ ss) (behind_operand rest) (no_step rest h))
-  built constant h = refl
-  built number h = refl
-  built text h = refl
   built (name {b = b} {s = s} {rest = rest}) h = named b s rest h
-  built call_empty h = refl
   built (call {b = b} {c = c} {d = d} {s = s} {u = u} {e = e} {ts = ts} {mid = mid} {rest = rest} {t = t} {more = more} x w) h =
       called b c s u ts (begins x)
       ∙ bracketed (from_operand ts) t more e (around rest) (subst (Reaches 4 (from_operand ts) t) (built_lists w) (built x (before_args w))) (λ t more e. tree.Call b s (arguments_of (t ∷ more)) e)
   built (group {s = s} {e = e} {ts = ts} {rest = rest} {t = t} d) h = bracketed (from_operand ts) t [] e (around rest) (built d tt) (λ t more e. tree.Group t s e)
+  built _ h = refl
 
   built_operators : {l : ℕ} {ts rest : List Lexeme} {os : List (Sign × Tree)} → Operators l ts os rest → NoMoreAt l (kinds rest) → behind_operand ts ≡ operated l os (behind_operand rest)
   built_operators no_more h = refl

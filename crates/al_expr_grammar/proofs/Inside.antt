@@ -186,10 +186,6 @@ module _ (size : ℕ) where
         ((l.0, l.1, x.0), weaker s.start (start_of t) rest there.from x.1)
     derives_lie (bare d) low l = derives_lie d low l
     derives_lie (path d w) low l = let x = derives_lie d low l in let y = walks_lie w _ x.1 in ((x.0, y.0), y.1)
-    derives_lie constant low l = ((l.0, l.1), l.2)
-    derives_lie number low l = ((l.0, l.1), l.2)
-    derives_lie text low l = ((l.0, l.1), l.2)
-    derives_lie name low l = ((l.0, l.1), l.2)
     derives_lie (call_empty {s = s} {u = u} {e = e} {rest = rest}) low l =
         let o = l.2 in
         let c = o.2 in
@@ -208,6 +204,7 @@ module _ (size : ℕ) where
         let c = x.1 in
         let before : s.start ≤ e.start = let a = there.from in let b = c.0 in omega (arith, a, b) in
         ((l.0, l.1, x.0, before, c.1), weaker s.start e.start rest before c.2)
+    derives_lie _ low l = ((l.0, l.1), l.2)
 
     operators_lie : {n : ℕ} {ts rest : List Lexeme} {os : List (Sign × Tree)} → Operators n ts os rest → (low : ℕ) → TokensLie low ts → OperandsLie low (operands_of os) × TokensLie low rest
     operators_lie no_more low l = (tt, l)

@@ -156,13 +156,10 @@ mutual
   derives_shape (negated d) h st = derives_shape d h st
   derives_shape (bare d) h st = derives_shape d h st
   derives_shape (path d w) h st = derives_shape d (before_walks w h) st ∙ walks_shape w h st
-  derives_shape constant h st = refl
-  derives_shape number h st = refl
-  derives_shape text h st = refl
   derives_shape name h st = uncalled st _ h
-  derives_shape call_empty h st = refl
   derives_shape (call d w) h st = in_call (Call 0 ∷ st) _ (begins d) ∙ derives_shape d (before_lists w tt) (Call 0 ∷ st) ∙ lists_shape w tt st
   derives_shape (group d) h st = derives_shape d tt (Group 0 ∷ st)
+  derives_shape _ h st = refl
 
   operators_shape : {l : ℕ} {ts rest : List Lexeme} {os : List (Sign × Tree)} → Operators l ts os rest → NoCall (kinds rest) → (st : List Frame) → shape O st (kinds ts) ≡ shape O st (kinds rest)
   operators_shape no_more h st = refl

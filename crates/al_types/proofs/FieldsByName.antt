@@ -1,6 +1,7 @@
 -- Fields that are found by their names: the type at the place of a name.
-use Rattle.std.proofs.Common.{◌≡◌, ◌+◌, ℕ, List, [], ◌∷◌, map, zero, suc, arith, refl, sym, ap, ◌∙◌, Bool, true, false, Option, Some, None, option_map}
+use Rattle.std.proofs.Common.{◌≡◌, ◌+◌, ℕ, List, [], ◌∷◌, map, arith, refl, sym, ap, ◌∙◌, Bool, true, false, Option, Some, None, option_map}
 use Rattle.std.proofs.lemmas.Grind.{common_steps}
+use Rattle.std.proofs.lemmas.Option.{slice_get-map}
 use Rattle.std.specs.Prelude.{if◌then◌else◌, option_and_then, slice_get, zip}
 use Rattle.al_base.specs.Names.{same_name}
 use Rattle.al_base.specs.NamePlaces.{name_place}
@@ -27,16 +28,11 @@ found_by_name [] ts n = refl
 found_by_name (m ∷ ns) [] n = none_left (name_place (m ∷ ns) n)
 found_by_name (m ∷ ns) (t ∷ ts) n = found_step (same_name m n) t ts _ (name_place ns n) (found_by_name ns ts n)
 
-got_mapped : {X : Type 0} (g : X → Type') (xs : List X) (i : ℕ) → slice_get (map g xs) i ≡ option_map g (slice_get xs i)
-got_mapped g [] i = refl
-got_mapped g (x ∷ xs) zero = refl
-got_mapped g (x ∷ xs) (suc i) = got_mapped g xs i
-
 -- a name finds the type that stands at its place
 pub found_there : {X : Type 0} (g : X → Type') (ns : List (List ℕ)) (xs : List X) (n : List ℕ) (i : ℕ) → name_place ns n ≡ Some i →
     option_map g (slice_get xs i) ≡ field_at n (zip ns (map g xs))
 found_there g ns xs n i e =
-    sym (found_by_name ns (map g xs) n ∙ ap (option_and_then (λ k. slice_get (map g xs) k)) e ∙ got_mapped g xs i)
+    sym (found_by_name ns (map g xs) n ∙ ap (option_and_then (λ k. slice_get (map g xs) k)) e ∙ slice_get-map g xs i)
 
 pub found_nowhere : (ns : List (List ℕ)) (ts : List Type') (n : List ℕ) → name_place ns n ≡ None → None ≡ field_at n (zip ns ts)
 found_nowhere ns ts n e = sym (found_by_name ns ts n ∙ ap (option_and_then (λ k. slice_get ts k)) e)

@@ -42,13 +42,9 @@ mutual
 mutual
   -- nor whether one stands twice
   pub fuse_same : (a : Type') → fuse_type a a ≡ a
-  fuse_same Any = refl
-  fuse_same Null = refl
-  fuse_same Number = refl
-  fuse_same Bool' = refl
-  fuse_same String = refl
   fuse_same (ArrayOf a) = ap ArrayOf (fuse_same a)
   fuse_same (ObjectOf f r x) = λ d. ObjectOf (λ n. optional_same (f n) d) (optional_same r d) (optional_same x d)
+  fuse_same _ = refl
 
   pub optional_same : (a : Optional) → fuse_optional a a ≡ a
   optional_same Absent = refl

@@ -1,6 +1,7 @@
 -- The fields of two objects as those of one: of each name, and what all have in common.
-use Rattle.std.proofs.Common.{◌≡◌, ℕ, List, [], ◌∷◌, ◌++◌, refl, sym, ap, ◌∙◌, Bool, true, false, ◌||◌, Option, Some, None}
-use Rattle.std.proofs.lemmas.Bool.Decides.{Decides-like, same_from_decides}
+use Rattle.std.proofs.Common.{◌≡◌, ℕ, List, [], ◌∷◌, ◌++◌, refl, sym, ap, ◌∙◌, Bool, true, false, ◌||◌, Option, Some, None, arith}
+use Rattle.std.proofs.Math.Bool.{or_assoc}
+use Rattle.std.proofs.lemmas.Bool.Decides.{Decides-like, nat_tests, same_from_decides}
 use Rattle.std.proofs.lemmas.Slice.Eq.{bytes_eq-Decides}
 use Rattle.std.specs.Prelude.{if◌then◌else◌, is_some, not, ◌&&◌, option_map}
 use Rattle.std.specs.Option.{option_or}
@@ -185,24 +186,15 @@ joined_parts fs gs r s d =
 
 -- ---- whether names are distinct, one after the other
 
-or_none : (a : Bool) → a || false ≡ false || a
-or_none true = refl
-or_none false = refl
-
-or_assoc : (a b c : Bool) → a || (b || c) ≡ (a || b) || c
-or_assoc true b c = refl
-or_assoc false b c = refl
+or_false : (a : Bool) → a || false ≡ a
+or_false a = grind (arith, nat_tests)
 
 has_more : (n m : List ℕ) (t : Type') (fs : Fields) → has_field n (fs ++ (m, t) ∷ []) ≡ has_field n fs || same_name m n
-has_more n m t [] = or_none (same_name m n)
-has_more n m t (f ∷ fs) = ap (λ b. same_name f.0 n || b) (has_more n m t fs) ∙ or_assoc (same_name f.0 n) (has_field n fs) (same_name m n)
+has_more n m t [] = or_false (same_name m n)
+has_more n m t (f ∷ fs) = ap (λ b. same_name f.0 n || b) (has_more n m t fs) ∙ sym (or_assoc (same_name f.0 n) (has_field n fs) (same_name m n))
 
 four_ands : (a b c d : Bool) → not (a || b) && (c && not d) ≡ (not a && c) && not (b || d)
-four_ands true b c d = refl
-four_ands false true true d = refl
-four_ands false true false d = refl
-four_ands false false true d = refl
-four_ands false false false d = refl
+four_ands a b c d = grind (arith, nat_tests)
 
 -- fields and one more are distinct where these are and none of them has its name
 pub distinct_more : (fs : Fields) (n : List ℕ) (t : Type') →

@@ -1,5 +1,6 @@
 -- Fields put to others: behind them, at the one that has the name, or not at all.
 use Rattle.std.proofs.Common.{◌≡◌, ℕ, ◌+◌, List, [], ◌∷◌, ◌++◌, refl, sym, ap, ◌∙◌, Bool, true, false, Option, Some, None, option_map, set, get_or, suc, arith}
+use Rattle.std.proofs.lemmas.Bool.{cond-false, cond-true}
 use Rattle.std.specs.Prelude.{if◌then◌else◌, is_none}
 use Rattle.al_base.specs.Names.{same_name}
 use Rattle.al_types.specs.Types.{fuse_type}
@@ -13,25 +14,17 @@ step false None q qs more = refl
 step false (Some i) q qs more = refl
 
 -- where no field has its name it is put behind them
-put_new_any : (ts : List TypedName) (p : TypedName) → put_new ts p ≡ (if is_none (name_at ts p.0) then ts ++ p ∷ [] else ts)
+pub put_new_any : (ts : List TypedName) (p : TypedName) → put_new ts p ≡ (if is_none (name_at ts p.0) then ts ++ p ∷ [] else ts)
 put_new_any [] p = refl
 put_new_any (q ∷ qs) p =
     ap (λ ms. if same_name q.0 p.0 then q ∷ qs else q ∷ ms) (put_new_any qs p)
     ∙ step (same_name q.0 p.0) (name_at qs p.0) q qs (qs ++ p ∷ [])
 
-pub when : {b : Bool} {A : Type 0} (x y : A) → b ≡ true → (if b then x else y) ≡ x
-when {b = true} x y e = refl
-when {b = false} x y e = absurd cc
-
-pub unless : {b : Bool} {A : Type 0} (x y : A) → b ≡ false → (if b then x else y) ≡ y
-unless {b = false} x y e = refl
-unless {b = true} x y e = absurd cc
-
 pub put_new_old : (ts : List TypedName) (p : TypedName) → is_none (name_at ts p.0) ≡ false → put_new ts p ≡ ts
-put_new_old ts p e = put_new_any ts p ∙ unless (ts ++ p ∷ []) ts e
+put_new_old ts p e = put_new_any ts p ∙ cond-false (is_none (name_at ts p.0)) (ts ++ p ∷ []) ts e
 
 pub put_new_behind : (ts : List TypedName) (p : TypedName) → is_none (name_at ts p.0) ≡ true → put_new ts p ≡ ts ++ p ∷ []
-put_new_behind ts p e = put_new_any ts p ∙ when (ts ++ p ∷ []) ts e
+put_new_behind ts p e = put_new_any ts p ∙ cond-true (is_none (name_at ts p.0)) (ts ++ p ∷ []) ts e
 
 abbrev fused_at : List TypedName → TypedName → ℕ → TypedName → List TypedName
 fused_at ts p i d = set ts i ((get_or ts i d).0, fuse_type (get_or ts i d).1 p.1)
