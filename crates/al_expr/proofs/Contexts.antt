@@ -7,7 +7,7 @@ use Rattle.al_types.specs.declared.names.Context.TheVariants as context
 use Rattle.al_expr_types.specs.Tables.{is_known, objects_of, type_at}
 use Rattle.al_expr_types.specs.declared.ty.Ty.{Ty}
 use Rattle.al_expr_types.specs.declared.types.Types.{Types}
-use Rattle.al_expr_types.proofs.Stays.{type_stays}
+use Rattle.al_expr_types.proofs.Stays.{known_stays, type_stays}
 
 pub each_context : (P : Context → Type 0) → P context.Github → P context.Env → P context.Vars → P context.Secrets → P context.Runner → P context.Job →
     P context.Strategy → P context.Needs → P context.Jobs → P context.Steps → P context.Matrix → P context.Inputs → (x : Context) → P x
@@ -25,5 +25,6 @@ each_context P a b c d e f g h i j k l context.Matrix = k
 each_context P a b c d e f g h i j k l context.Inputs = l
 
 -- what a number stood for it stands for in a longer table
-pub stands_still : (new old : Types) (t : Ty) (u : Type') → BeginsWith (objects_of new) (objects_of old) → is_known old t ≡ true → type_at old t ≡ u → type_at new t ≡ u
-stands_still new old t u b h e = type_stays new old t b h ∙ e
+pub stands_still : (new old : Types) (t : Ty) (u : Type') → BeginsWith (objects_of new) (objects_of old) → is_known old t ≡ true → type_at old t ≡ u →
+    (is_known new t ≡ true) × (type_at new t ≡ u)
+stands_still new old t u b h e = (known_stays new old t b h, type_stays new old t b h ∙ e)

@@ -1,5 +1,7 @@
 -- Of fields the first of each name: of distinct ones all, and with one more behind them.
 use Rattle.std.proofs.Common.{◌≡◌, ◌+◌, ℕ, List, [], ◌∷◌, ◌++◌, append_assoc, append-nil, refl, sym, ap, ◌∙◌, Bool, true, false, ◌||◌, Option, Some, None, option_map}
+use Rattle.std.proofs.Math.Bool.{or_assoc}
+use Rattle.std.proofs.lemmas.Bool.{or_parts}
 use Rattle.std.specs.Prelude.{if◌then◌else◌, is_none, is_some, not}
 use Rattle.al_base.specs.Names.{same_name}
 use Rattle.al_types.specs.FusedFields.{are_distinct}
@@ -59,26 +61,18 @@ firsts_old ts p e = firsts_more ts p ∙ put_new_old (firsts ts) p (none_first t
 
 -- ---- distinct ones
 
-neither : (a b : Bool) → a || b ≡ false → (a ≡ false) × (b ≡ false)
-neither true b e = absurd cc
-neither false b e = (refl, e)
-
 -- of distinct fields one has none of the names before it
 has_behind : (n : List ℕ) (ts us : List TypedName) → has_field n (ts ++ us) ≡ has_field n ts || has_field n us
 has_behind n [] us = refl
-has_behind n (q ∷ ts) us = ap (λ b. same_name q.0 n || b) (has_behind n ts us) ∙ or_assoc (same_name q.0 n) (has_field n ts) (has_field n us)
-  where
-    or_assoc : (a b c : Bool) → a || (b || c) ≡ (a || b) || c
-    or_assoc true b c = refl
-    or_assoc false b c = refl
+has_behind n (q ∷ ts) us = ap (λ b. same_name q.0 n || b) (has_behind n ts us) ∙ sym (or_assoc (same_name q.0 n) (has_field n ts) (has_field n us))
 
 last_apart : (ts us : List TypedName) (p : TypedName) → are_distinct (ts ++ p ∷ us) ≡ true → has_field p.0 ts ≡ false
 last_apart [] us p d = refl
 last_apart (q ∷ ts) us p d =
     let whole = (ts ++ p ∷ us) in
     let none = sym (has_behind q.0 ts (p ∷ us)) ∙ first_apart (has_field q.0 whole) (are_distinct whole) d in
-    let behind = (neither (has_field q.0 ts) (has_field q.0 (p ∷ us)) none).1 in
-    let other = (neither (same_name p.0 q.0) (has_field q.0 us) behind).0 in
+    let behind = (or_parts (has_field q.0 ts) (has_field q.0 (p ∷ us)) none).1 in
+    let other = (or_parts (same_name p.0 q.0) (has_field q.0 us) behind).0 in
     let more = last_apart ts us p (others_apart (has_field q.0 whole) (are_distinct whole) d) in
     λ i. (same_turned q.0 p.0 ∙ other) i || more i
 

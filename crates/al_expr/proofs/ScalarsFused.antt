@@ -7,16 +7,10 @@ use Rattle.al_expr_types.specs.declared.ty.Scalar.TheVariants as scalar
 
 pub scalar_array : (s : Scalar) (a : Type') → fuse_type (scalar_type s) (ArrayOf a) ≡ Any
 scalar_array scalar.Any a = refl
-scalar_array scalar.Null a = refl
-scalar_array scalar.Number a = refl
-scalar_array scalar.Bool a = refl
-scalar_array scalar.String a = refl
+scalar_array _ a = refl
 
 pub scalar_object : (s : Scalar) (at : List ℕ → Optional) (rest all : Optional) → fuse_type (scalar_type s) (ObjectOf at rest all) ≡ Any
 scalar_object scalar.Any at rest all = refl
-scalar_object scalar.Null at rest all = refl
-scalar_object scalar.Number at rest all = refl
-scalar_object scalar.Bool at rest all = refl
-scalar_object scalar.String at rest all = refl
+scalar_object _ at rest all = refl
 
 pub ruleset with_part = (scalar_array, scalar_object)

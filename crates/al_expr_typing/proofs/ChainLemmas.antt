@@ -1,5 +1,5 @@
 -- An operand more of a chain, and what was joined so far in a table that has grown.
-use Rattle.std.proofs.Common.{◌≡◌, List, [], ◌++◌, true, false, sym, ap, ◌∙◌}
+use Rattle.std.proofs.Common.{◌≡◌, List, [], ◌++◌, true, false, refl, ap, ◌∙◌}
 use Rattle.std.specs.Prelude.{if◌then◌else◌, not}
 use Rattle.al_base.specs.Growth.{BeginsWith}
 use Rattle.al_base.specs.declared.codes.ExpressionCode.TheVariants as code
@@ -29,15 +29,11 @@ more_present Absent new t h e = absurd cc
 more_present (Present u) new t h e = ap is_present e
 
 pub chosen : (o : Operator) (s : Span) (t u v : Type') (old : List Fault) → is_logic o ≡ true → v ≡ fuse_type t u → typed v old ≡ faults_then old (operation o s t u)
-chosen o s t u v old h e =
-    ap (λ x. typed x old) e ∙ unchanged (fuse_type t u) old
-    ∙ ap (λ b. faults_then old (if b then typed (fuse_type t u) [] else typed Bool' (give (not (comparable_types o t u)) (expression_fault code.NotComparable s [])))) (sym h)
+chosen o s t u v old h e = rw (e, h) (unchanged (fuse_type t u) old)
 
 pub compared : (o : Operator) (s : Span) (t u : Type') (old new : List Fault) → is_logic o ≡ false →
     new ≡ old ++ give (not (comparable_types o t u)) (expression_fault code.NotComparable s []) → typed Bool' new ≡ faults_then old (operation o s t u)
-compared o s t u old new h e =
-    ap (typed Bool') e
-    ∙ ap (λ b. faults_then old (if b then typed (fuse_type t u) [] else typed Bool' (give (not (comparable_types o t u)) (expression_fault code.NotComparable s [])))) (sym h)
+compared o s t u old new h e = rw (e, h) refl
 
 -- ---- in a longer table
 

@@ -29,16 +29,10 @@ property_arrays (suc k) n at whole t = ap in_array (property_arrays k n at whole
 
 pub scalar_property : (n : List ℕ) (at whole : Span) (s : Scalar) → property_of n at whole (scalar_type s) ≡ all_of whole (scalar_type s)
 scalar_property n at whole scalar.Any = refl
-scalar_property n at whole scalar.Null = refl
-scalar_property n at whole scalar.Number = refl
-scalar_property n at whole scalar.Bool = refl
-scalar_property n at whole scalar.String = refl
+scalar_property n at whole _ = refl
 
 pub scalar_index : (whole : Span) (s : Scalar) (i : Type') → index_of whole (scalar_type s) i ≡ all_of whole (scalar_type s)
 scalar_index whole scalar.Any i = refl
-scalar_index whole scalar.Null i = refl
-scalar_index whole scalar.Number i = refl
-scalar_index whole scalar.Bool i = refl
-scalar_index whole scalar.String i = refl
+scalar_index whole _ i = refl
 
 pub ruleset scalar_steps = (scalar_property, scalar_index)

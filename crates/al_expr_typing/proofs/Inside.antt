@@ -1,5 +1,6 @@
 -- Each fault of a meaning lies in the content that its tree lies in.
 use Rattle.std.proofs.Common.{◌≤◌, ◌+◌, ℕ, List, [], ◌∷◌, ◌++◌, length, drop, arith, Bool, true, false, cond, ◌||◌, ◌&&◌, not, Option, Some, None}
+use Rattle.std.proofs.lemmas.Bool.{cond_both}
 use Rattle.std.specs.List.{AllByRecursion}
 use Rattle.std.specs.Option.{option_map_or}
 use Rattle.std.specs.Fmt.{decimal}
@@ -51,14 +52,6 @@ module _ (size : ℕ) where
   both_lie [] ys a b = b
   both_lie (x ∷ xs) ys a b = (a.0, both_lie xs ys a.1 b)
 
-  if_lie : (t : Bool) (xs ys : List Fault) → AllLie size xs → AllLie size ys → AllLie size (cond t xs ys)
-  if_lie true xs ys a b = a
-  if_lie false xs ys a b = b
-
-  if_typed : (t : Bool) (x y : Typed) → TypedLies x → TypedLies y → TypedLies (cond t x y)
-  if_typed true x y a b = a
-  if_typed false x y a b = b
-
   behind_lies : (fs : List Fault) (x : Typed) → AllLie size fs → TypedLies x → TypedLies (faults_then fs x)
   behind_lies fs (typed t gs) a b = both_lie fs gs a b
 
@@ -71,7 +64,7 @@ module _ (size : ℕ) where
 
   named_lies : (sc : Scope) (b : List ℕ) (s : Span) (o : Option Context) → LiesIn size s → TypedLies (name_type sc b s o)
   named_lies sc b s None i = (i, tt)
-  named_lies sc b s (Some c) i = if_typed (sc.available.contexts c) (typed (sc.types c) []) (typed Any (expression_fault code.UnavailableContext s (b ∷ []) ∷ [])) tt (i, tt)
+  named_lies sc b s (Some c) i = cond_both (sc.available.contexts c) (typed (sc.types c) []) (typed Any (expression_fault code.UnavailableContext s (b ∷ []) ∷ [])) TypedLies (λ e. tt) (λ e. (i, tt))
 
   or_lies : (f : Fault) (o : Option Type') → LiesIn size f.span → TypedLies (or_fault f o)
   or_lies f None i = (i, tt)
@@ -103,13 +96,7 @@ module _ (size : ℕ) where
   literal_lies : (t : Tree) (low : ℕ) → TreeLies size low t → LiteralLies (literal_text t)
   literal_lies (tree.Text b s) low l = l.1
   literal_lies (Group t s e) low l = literal_lies t s.start l.2
-  literal_lies (Constant w s) low l = tt
-  literal_lies (tree.Number b s) low l = tt
-  literal_lies (Named b s) low l = tt
-  literal_lies (Call b s as' e) low l = tt
-  literal_lies (Negated s t) low l = tt
-  literal_lies (Path t ss) low l = tt
-  literal_lies (Chain t os) low l = tt
+  literal_lies _ low l = tt
 
   across_lies : (a b : Span) → a.start ≤ b.start → LiesIn size b → LiesIn size (across a b)
   across_lies a b h i = let o : b.start ≤ b.end = i.ordered in record { ordered = omega (arith, h, o); inside = i.inside }
@@ -124,8 +111,8 @@ module _ (size : ℕ) where
 
   operated_lies : (o : Operator) (s : Span) (t u : Type') → LiesIn size s → TypedLies (operation o s t u)
   operated_lies o s t u i =
-      if_typed (is_logic o) _ (typed Bool' (give (not (comparable_types o t u)) (expression_fault code.NotComparable s []))) tt
-      (give_lies (not (comparable_types o t u)) (expression_fault code.NotComparable s []) i)
+      cond_both (is_logic o) _ (typed Bool' (give (not (comparable_types o t u)) (expression_fault code.NotComparable s []))) TypedLies (λ e. tt)
+      (λ e. give_lies (not (comparable_types o t u)) (expression_fault code.NotComparable s []) i)
 
   -- ---- calls
 
@@ -136,7 +123,8 @@ module _ (size : ℕ) where
       (give_lies (not (accepts (parameter_at ps n) a.0)) (expression_fault code.ArgumentType a.1 (decimal (n + 1) ∷ name ∷ [])) l.0) (wrong_lie name ps (n + 1) as' l.1)
 
   arguments_lie : (name : List ℕ) (at : Span) (ps : Parameters) (as' : List (Type' × Span)) → LiesIn size at → ArgsLie as' → AllLie size (argument_faults name at ps as')
-  arguments_lie name at ps as' i l = if_lie (takes_count ps (length as')) (wrong_arguments name ps 0 as') (expression_fault code.ArgumentCount at (name ∷ []) ∷ []) (wrong_lie name ps 0 as' l) (i, tt)
+  arguments_lie name at ps as' i l =
+      cond_both (takes_count ps (length as')) (wrong_arguments name ps 0 as') (expression_fault code.ArgumentCount at (name ∷ []) ∷ []) (AllLie size) (λ e. wrong_lie name ps 0 as' l) (λ e. (i, tt))
 
   unused_lie : (n : ℕ) (us : List Bool) (as' : List (Type' × Span)) → ArgsLie as' → AllLie size (unused_arguments n us as')
   unused_lie n [] as' l = tt

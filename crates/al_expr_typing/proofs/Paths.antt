@@ -79,7 +79,7 @@ path_on old m1 m2 new gs u v x go e f h =
     ap (typed v) h ∙ follows old m2 v (and_then x go) (λ w. typed w gs) (f ∙ follows old m1 u x go e)
 
 -- the fault of a chain, where there is one
-abbrev chain_faults : Span → Option (List ℕ) → List Fault
+abbrev pub chain_faults : Span → Option (List ℕ) → List Fault
 chain_faults whole o = option_map_or (λ c. expression_fault code.Untrusted whole (c ∷ []) ∷ []) o []
 
 -- of a path that begins with a name
@@ -88,17 +88,9 @@ chain_of : (name : List ℕ) (t : Tree) (ss : PathSteps) → Some name ≡ base_
 chain_of name (Named b s) ss h = cc
 chain_of name t ss h = absurd cc
 
-pub untrusted_none : (name : List ℕ) (t : Tree) (ss : List StepTree) → Some name ≡ base_name t → None
-    ≡ untrusted_chain (name ∷ map chain_part ss) → untrusted_faults true t (steps_of ss) ≡ []
-untrusted_none name t ss h k =
-    chain_of name t (steps_of ss) h
-    ∙ ap (λ ps. chain_faults (extent (Path t (steps_of ss))) (untrusted_chain (name ∷ ps))) (parts_of-steps ss)
-    ∙ ap (chain_faults (extent (Path t (steps_of ss)))) (sym k)
-
-pub untrusted_some : (name : List ℕ) (t : Tree) (ss : List StepTree) (text : List ℕ) → Some name ≡ base_name t → Some text
-    ≡ untrusted_chain (name ∷ map chain_part ss) → untrusted_faults true t (steps_of ss)
-    ≡ expression_fault code.Untrusted (extent (Path t (steps_of ss))) (text ∷ []) ∷ []
-untrusted_some name t ss text h k =
+pub untrusted_is : (name : List ℕ) (t : Tree) (ss : List StepTree) (chain : Option (List ℕ)) → Some name ≡ base_name t → chain
+    ≡ untrusted_chain (name ∷ map chain_part ss) → untrusted_faults true t (steps_of ss) ≡ chain_faults (extent (Path t (steps_of ss))) chain
+untrusted_is name t ss chain h k =
     chain_of name t (steps_of ss) h
     ∙ ap (λ ps. chain_faults (extent (Path t (steps_of ss))) (untrusted_chain (name ∷ ps))) (parts_of-steps ss)
     ∙ ap (chain_faults (extent (Path t (steps_of ss)))) (sym k)

@@ -1,6 +1,7 @@
 -- The states of the code that reads a format text tell which arguments it names.
 use Rattle.std.proofs.Common.{◌≡◌, ◌≤◌, ℕ, zero, suc, ◌+◌, ◌*◌, ◌-◌, List, [], ◌∷◌, length, take, drop, refl, sym, ap, ◌∙◌, arith, Bool, true, false, cond, nat_lt, ◌==◌, Option, None}
 use Rattle.std.specs.List.{prefix_len}
+use Rattle.std.proofs.lemmas.Bool.{cond_both}
 use Rattle.std.proofs.lemmas.List.{length-drop}
 use Rattle.std.specs.Int.Digits.{number_from_digits_after}
 use Rattle.std.specs.Prelude.{map, slice_set}
@@ -13,38 +14,6 @@ use Rattle.al_expr_typing.specs.declared.placeholders.Turn.{Turn}
 use Rattle.al_expr_typing.specs.declared.placeholders.Turn.TheVariants.{To, Names, Wrong}
 use Rattle.al_expr_typing.specs.Placeholders.{Piece, Plain, Argument, NoPiece, argument_piece, piece_of, used_with, used_within}
 use Rattle.al_expr_typing.specs.Private.PlaceholderStates.{after_turn, used_from}
-
--- ---- the digits at the start, byte by byte
-
-abbrev digits_of : List ℕ → List ℕ
-digits_of [] = []
-digits_of (b ∷ bs) = cond (is_ascii_digit b) (b ∷ digits_of bs) []
-
-abbrev behind_digits : List ℕ → List ℕ
-behind_digits [] = []
-behind_digits (b ∷ bs) = cond (is_ascii_digit b) (behind_digits bs) (b ∷ bs)
-
-taken_if : (digit : Bool) (b n : ℕ) (bs ds : List ℕ) → ds ≡ take n bs → cond digit (b ∷ ds) [] ≡ take (cond digit (1 + n) 0) (b ∷ bs)
-taken_if true b n bs ds e = let same : suc n ≡ 1 + n = omega arith in ap (λ l. b ∷ l) e ∙ ap (λ m. take m (b ∷ bs)) same
-taken_if false b n bs ds e = refl
-
-dropped_if : (digit : Bool) (b n : ℕ) (bs rest : List ℕ) → rest ≡ drop n bs → cond digit rest (b ∷ bs) ≡ drop (cond digit (1 + n) 0) (b ∷ bs)
-dropped_if true b n bs rest e = let same : suc n ≡ 1 + n = omega arith in e ∙ ap (λ m. drop m (b ∷ bs)) same
-dropped_if false b n bs rest e = refl
-
-digits_taken : (bs : List ℕ) → digits_of bs ≡ take (prefix_len is_ascii_digit bs) bs
-digits_taken [] = refl
-digits_taken (b ∷ bs) = taken_if (is_ascii_digit b) b (prefix_len is_ascii_digit bs) bs (digits_of bs) (digits_taken bs)
-
-digits_dropped : (bs : List ℕ) → behind_digits bs ≡ drop (prefix_len is_ascii_digit bs) bs
-digits_dropped [] = refl
-digits_dropped (b ∷ bs) = dropped_if (is_ascii_digit b) b (prefix_len is_ascii_digit bs) bs (behind_digits bs) (digits_dropped bs)
-
-abbrev index_front : List ℕ → Piece
-index_front bs = argument_piece (take (prefix_len is_ascii_digit bs) bs) (drop (prefix_len is_ascii_digit bs) bs)
-
-index_is : (bs : List ℕ) → argument_piece (digits_of bs) (behind_digits bs) ≡ index_front bs
-index_is bs = ap (λ ds. argument_piece ds (behind_digits bs)) (digits_taken bs) ∙ ap (argument_piece (take (prefix_len is_ascii_digit bs) bs)) (digits_dropped bs)
 
 -- ---- states
 
@@ -60,40 +29,44 @@ goes used bs t = after_turn t used (λ p now. used_from p now bs)
 abbrev number_on : ℕ → List ℕ → ℕ
 number_on n ds = number_from_digits_after 10 n (map digit_of ds)
 
--- an index that has digits already
-abbrev index_behind : ℕ → List ℕ → List ℕ → Piece
-index_behind n ds rest = cond (begins_with (ascii "}") rest) (Argument (number_on n ds) (drop 1 rest)) NoPiece
+-- an index that has digits already, of which so many stand at the front
+abbrev index_behind : ℕ → ℕ → List ℕ → Piece
+index_behind n len bs = cond (begins_with (ascii "}") (drop len bs)) (Argument (number_on n (take len bs)) (drop 1 (drop len bs))) NoPiece
 
-index_at : (used : List Bool) (n b : ℕ) (bs : List ℕ) (digit closing : Bool) → (b == ascii "}") ≡ closing
-    → used_from (InIndex (10 * n + (b - ascii "0"))) used bs ≡ behind used (index_behind (10 * n + (b - ascii "0")) (digits_of bs) (behind_digits bs))
+abbrev index_front : ℕ → List ℕ → Piece
+index_front len bs = argument_piece (take len bs) (drop len bs)
+
+index_at : (used : List Bool) (n b len : ℕ) (bs : List ℕ) (digit closing : Bool) → (b == ascii "}") ≡ closing
+    → used_from (InIndex (10 * n + (b - ascii "0"))) used bs ≡ behind used (index_behind (10 * n + (b - ascii "0")) len bs)
     → goes used bs (cond digit (To (InIndex (10 * n + (b - ascii "0")))) (cond closing (Names n) Wrong))
-    ≡ behind used (index_behind n (cond digit (b ∷ digits_of bs) []) (cond digit (behind_digits bs) (b ∷ bs)))
-index_at used n b bs true closing e f =
+    ≡ behind used (index_behind n (cond digit (1 + len) 0) (b ∷ bs))
+index_at used n b len bs true closing e f =
     let same : 10 * n + (b - ascii "0") ≡ n * 10 + (b - ascii "0") = omega arith in
-    f ∙ ap (λ m. behind used (index_behind m (digits_of bs) (behind_digits bs))) same
-index_at used n b bs false true e f = sym (ap (λ t. behind used (cond t (Argument n bs) NoPiece)) e)
-index_at used n b bs false false e f = sym (ap (λ t. behind used (cond t (Argument n bs) NoPiece)) e)
+    let more : suc len ≡ 1 + len = omega arith in
+    f ∙ ap (λ m. behind used (index_behind m len bs)) same ∙ ap (λ l. behind used (index_behind n l (b ∷ bs))) more
+index_at used n b len bs false true e f = sym (ap (λ t. behind used (cond t (Argument n bs) NoPiece)) e)
+index_at used n b len bs false false e f = sym (ap (λ t. behind used (cond t (Argument n bs) NoPiece)) e)
 
-index : (used : List Bool) (n : ℕ) (bs : List ℕ) → used_from (InIndex n) used bs ≡ behind used (index_behind n (digits_of bs) (behind_digits bs))
+index : (used : List Bool) (n : ℕ) (bs : List ℕ) → used_from (InIndex n) used bs ≡ behind used (index_behind n (prefix_len is_ascii_digit bs) bs)
 index used n [] = refl
-index used n (b ∷ bs) = index_at used n b bs (is_ascii_digit b) (b == ascii "}") refl (index used (10 * n + (b - ascii "0")) bs)
+index used n (b ∷ bs) =
+    index_at used n b (prefix_len is_ascii_digit bs) bs (is_ascii_digit b) (b == ascii "}") refl (index used (10 * n + (b - ascii "0")) bs)
 
-opening_at : (used : List Bool) (b : ℕ) (bs : List ℕ) (opens digit : Bool)
+opening_at : (used : List Bool) (b len : ℕ) (bs : List ℕ) (opens digit : Bool) → used_from (InIndex (b - ascii "0")) used bs ≡ behind used (index_behind (b - ascii "0") len bs)
     → goes used bs (cond opens (To Outside) (cond digit (To (InIndex (b - ascii "0"))) Wrong))
-    ≡ behind used (cond opens (Plain bs) (argument_piece (cond digit (b ∷ digits_of bs) []) (cond digit (behind_digits bs) (b ∷ bs))))
-opening_at used b bs true digit = refl
-opening_at used b bs false true =
+    ≡ behind used (cond opens (Plain bs) (index_front (cond digit (1 + len) 0) (b ∷ bs)))
+opening_at used b len bs true digit f = refl
+opening_at used b len bs false true f =
     let e : b - ascii "0" ≡ 0 * 10 + (b - ascii "0") = omega arith in
-    index used (b - ascii "0") bs ∙ ap (λ n. behind used (index_behind n (digits_of bs) (behind_digits bs))) e
-opening_at used b bs false false = refl
+    let more : suc len ≡ 1 + len = omega arith in
+    f ∙ ap (λ n. behind used (index_behind n len bs)) e ∙ ap (λ l. behind used (index_front l (b ∷ bs))) more
+opening_at used b len bs false false f = refl
 
 -- behind a `{`
 opening : (used : List Bool) (bs : List ℕ) → used_from BehindOpening used bs
-    ≡ behind used (cond (begins_with (ascii "{") bs) (Plain (drop 1 bs)) (index_front bs))
+    ≡ behind used (cond (begins_with (ascii "{") bs) (Plain (drop 1 bs)) (index_front (prefix_len is_ascii_digit bs) bs))
 opening used [] = refl
-opening used (b ∷ bs) =
-    opening_at used b bs (b == ascii "{") (is_ascii_digit b)
-    ∙ ap (λ p. behind used (cond (b == ascii "{") (Plain bs) p)) (index_is (b ∷ bs))
+opening used (b ∷ bs) = opening_at used b (prefix_len is_ascii_digit bs) bs (b == ascii "{") (is_ascii_digit b) (index used (b - ascii "0") bs)
 
 closing_at : (used : List Bool) (bs : List ℕ) (closes : Bool) → goes used bs (cond closes (To Outside) Wrong) ≡ behind used (cond closes (Plain bs) NoPiece)
 closing_at used bs true = refl
@@ -106,7 +79,7 @@ closing used (b ∷ bs) = closing_at used bs (b == ascii "}")
 
 piece_at : (used : List Bool) (bs : List ℕ) (opens closes : Bool)
     → goes used bs (cond opens (To BehindOpening) (cond closes (To BehindClosing) (To Outside)))
-    ≡ behind used (cond opens (cond (begins_with (ascii "{") bs) (Plain (drop 1 bs)) (index_front bs))
+    ≡ behind used (cond opens (cond (begins_with (ascii "{") bs) (Plain (drop 1 bs)) (index_front (prefix_len is_ascii_digit bs) bs))
     (cond closes (cond (begins_with (ascii "}") bs) (Plain (drop 1 bs)) NoPiece) (Plain bs)))
 piece_at used bs true closes = opening used bs
 piece_at used bs false true = closing used bs
@@ -122,24 +95,21 @@ IsWithin n NoPiece = Unit {0}
 IsWithin n (Plain rest) = length rest ≤ n
 IsWithin n (Argument k rest) = length rest ≤ n
 
-within_cond : (t : Bool) (p q : Piece) (n : ℕ) → IsWithin n p → IsWithin n q → IsWithin n (cond t p q)
-within_cond true p q n f g = f
-within_cond false p q n f g = g
-
 drop_within : (bs : List ℕ) (n : ℕ) → length bs ≤ n → length (drop 1 bs) ≤ n
 drop_within [] n h = h
 drop_within (b ∷ bs) n h = omega arith
 
 index_within : (ds rest : List ℕ) (n : ℕ) → length rest ≤ n → IsWithin n (argument_piece ds rest)
 index_within [] rest n h = tt
-index_within (d ∷ ds) rest n h = within_cond (begins_with (ascii "}") rest) (Argument (decimal (d ∷ ds)) (drop 1 rest)) NoPiece n (drop_within rest n h) tt
+index_within (d ∷ ds) rest n h =
+    cond_both (begins_with (ascii "}") rest) (Argument (decimal (d ∷ ds)) (drop 1 rest)) NoPiece (IsWithin n) (λ e. drop_within rest n h) (λ e. tt)
 
 piece_within : (b : ℕ) (bs : List ℕ) (n : ℕ) → length bs ≤ n → IsWithin n (piece_of (b ∷ bs))
 piece_within b bs n h =
-    within_cond (b == ascii "{") _ _ n
-    (within_cond (begins_with (ascii "{") bs) _ _ n (drop_within bs n h)
-    (index_within _ (drop (prefix_len is_ascii_digit bs) bs) n (omega (arith, h, length-drop (prefix_len is_ascii_digit bs) bs))))
-    (within_cond (b == ascii "}") _ _ n (within_cond (begins_with (ascii "}") bs) _ _ n (drop_within bs n h) tt) h)
+    cond_both (b == ascii "{") _ _ (IsWithin n)
+    (λ e. cond_both (begins_with (ascii "{") bs) _ _ (IsWithin n) (λ e. drop_within bs n h)
+    (λ e. index_within _ (drop (prefix_len is_ascii_digit bs) bs) n (omega (arith, h, length-drop (prefix_len is_ascii_digit bs) bs))))
+    (λ e. cond_both (b == ascii "}") _ _ (IsWithin n) (λ e. cond_both (begins_with (ascii "}") bs) _ _ (IsWithin n) (λ e. drop_within bs n h) (λ e. tt)) (λ e. h))
 
 -- ---- piece after piece
 

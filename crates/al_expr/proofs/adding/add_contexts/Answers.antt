@@ -4,7 +4,6 @@ use Rattle.al_types.specs.declared.names.Context.{Context}
 use Rattle.al_expr_types.specs.Tables.{is_known, type_at}
 use Rattle.al_expr_typing.specs.Scopes.{context_number}
 use Rattle.al_expr_typing.specs.declared.scope.ContextTypes as numbers
-use Rattle.al_expr_types.proofs.Stays.{known_stays}
 use Rattle.al_expr.specs.Scopes.{type_of_context}
 use Rattle.al_expr.proofs.Contexts.{each_context, stands_still}
 use Rattle.al_expr.proofs.adding.add_contexts.Goals as goal
@@ -37,31 +36,17 @@ returns c =
     let b2 = begins_trans _ _ _ c.in_ok-secrets.ensures.kept b3 in
     let b1 = begins_trans _ _ _ c.in_ok-vars.ensures.kept b2 in
     let b0 = begins_trans _ _ _ c.in_ok-env.ensures.kept b1 in
-    record {
-      known = each_context (λ (x : Context). is_known new (context_number ns x) ≡ true)
-          (known_stays new c.add.new.types c.in_ok-github.github b0 c.in_ok-github.ensures.known)
-          (known_stays new c.add-2.new.types c.in_ok-env.env b1 c.in_ok-env.ensures.known)
-          (known_stays new c.add-3.new.types c.in_ok-vars.vars b2 c.in_ok-vars.ensures.known)
-          (known_stays new c.add-4.new.types c.in_ok-secrets.secrets b3 c.in_ok-secrets.ensures.known)
-          (known_stays new c.add-5.new.types c.in_ok-runner.runner b4 c.in_ok-runner.ensures.known)
-          (known_stays new c.add-6.new.types c.in_ok-job.job b5 c.in_ok-job.ensures.known)
-          (known_stays new c.add-7.new.types c.in_ok-strategy.strategy b6 c.in_ok-strategy.ensures.known)
-          (known_stays new c.add-8.new.types c.in_ok-needs.needs b7 c.in_ok-needs.ensures.known)
-          (known_stays new c.add-9.new.types c.in_ok-jobs.jobs b8 c.in_ok-jobs.ensures.known)
-          (known_stays new c.add-10.new.types c.in_ok-steps.steps b9 c.in_ok-steps.ensures.known)
-          (known_stays new c.add-11.new.types c.in_ok-matrix.matrix b10 c.in_ok-matrix.ensures.known)
-          (c.in_ok-inputs.ensures.known);
-      are = each_context (λ (x : Context). type_at new (context_number ns x) ≡ type_of_context c.args.contexts.now x)
-          (stands_still new c.add.new.types c.in_ok-github.github _ b0 c.in_ok-github.ensures.known c.in_ok-github.ensures.ty)
-          (stands_still new c.add-2.new.types c.in_ok-env.env _ b1 c.in_ok-env.ensures.known c.in_ok-env.ensures.ty)
-          (stands_still new c.add-3.new.types c.in_ok-vars.vars _ b2 c.in_ok-vars.ensures.known c.in_ok-vars.ensures.ty)
-          (stands_still new c.add-4.new.types c.in_ok-secrets.secrets _ b3 c.in_ok-secrets.ensures.known c.in_ok-secrets.ensures.ty)
-          (stands_still new c.add-5.new.types c.in_ok-runner.runner _ b4 c.in_ok-runner.ensures.known c.in_ok-runner.ensures.ty)
-          (stands_still new c.add-6.new.types c.in_ok-job.job _ b5 c.in_ok-job.ensures.known c.in_ok-job.ensures.ty)
-          (stands_still new c.add-7.new.types c.in_ok-strategy.strategy _ b6 c.in_ok-strategy.ensures.known c.in_ok-strategy.ensures.ty)
-          (stands_still new c.add-8.new.types c.in_ok-needs.needs _ b7 c.in_ok-needs.ensures.known c.in_ok-needs.ensures.ty)
-          (stands_still new c.add-9.new.types c.in_ok-jobs.jobs _ b8 c.in_ok-jobs.ensures.known c.in_ok-jobs.ensures.ty)
-          (stands_still new c.add-10.new.types c.in_ok-steps.steps _ b9 c.in_ok-steps.ensures.known c.in_ok-steps.ensures.ty)
-          (stands_still new c.add-11.new.types c.in_ok-matrix.matrix _ b10 c.in_ok-matrix.ensures.known c.in_ok-matrix.ensures.ty)
-          (c.in_ok-inputs.ensures.ty);
-    }
+    let each = each_context (λ (x : Context). (is_known new (context_number ns x) ≡ true) × (type_at new (context_number ns x) ≡ type_of_context c.args.contexts.now x))
+    (stands_still new c.add.new.types c.in_ok-github.github _ b0 c.in_ok-github.ensures.known c.in_ok-github.ensures.ty)
+    (stands_still new c.add-2.new.types c.in_ok-env.env _ b1 c.in_ok-env.ensures.known c.in_ok-env.ensures.ty)
+    (stands_still new c.add-3.new.types c.in_ok-vars.vars _ b2 c.in_ok-vars.ensures.known c.in_ok-vars.ensures.ty)
+    (stands_still new c.add-4.new.types c.in_ok-secrets.secrets _ b3 c.in_ok-secrets.ensures.known c.in_ok-secrets.ensures.ty)
+    (stands_still new c.add-5.new.types c.in_ok-runner.runner _ b4 c.in_ok-runner.ensures.known c.in_ok-runner.ensures.ty)
+    (stands_still new c.add-6.new.types c.in_ok-job.job _ b5 c.in_ok-job.ensures.known c.in_ok-job.ensures.ty)
+    (stands_still new c.add-7.new.types c.in_ok-strategy.strategy _ b6 c.in_ok-strategy.ensures.known c.in_ok-strategy.ensures.ty)
+    (stands_still new c.add-8.new.types c.in_ok-needs.needs _ b7 c.in_ok-needs.ensures.known c.in_ok-needs.ensures.ty)
+    (stands_still new c.add-9.new.types c.in_ok-jobs.jobs _ b8 c.in_ok-jobs.ensures.known c.in_ok-jobs.ensures.ty)
+    (stands_still new c.add-10.new.types c.in_ok-steps.steps _ b9 c.in_ok-steps.ensures.known c.in_ok-steps.ensures.ty)
+    (stands_still new c.add-11.new.types c.in_ok-matrix.matrix _ b10 c.in_ok-matrix.ensures.known c.in_ok-matrix.ensures.ty)
+    (c.in_ok-inputs.ensures.known, c.in_ok-inputs.ensures.ty) in
+    record { known = λ x. (each x).0; are = λ x. (each x).1 }

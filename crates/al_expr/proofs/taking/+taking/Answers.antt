@@ -1,6 +1,10 @@
 use Rattle.std.proofs.Common.{◌≡◌, ◌<◌, ◌∷◌, ◌++◌, [], ℕ, ◌∙◌, ap, arith, get_or, length, map, sym, take}
-use Rattle.std.proofs.lemmas.List.{get_or_default, map-append}
+use Rattle.std.proofs.Math.ListN.{get_or-map}
+use Rattle.std.proofs.lemmas.List.{get_or_default, get_or-take, length-map, length-take, map-append, take_all, take_more}
+use Rattle.std.proofs.lemmas.Slice.Zip.{get_or-zip, length-zip}
+use Rattle.std.specs.Prelude.{zip}
 use Rattle.al_types.specs.FusedFields.{are_distinct}
+use Rattle.al_types.specs.Puts.{TypedName}
 use Rattle.al_types.specs.Fused.{fuse_parts, fuse_all}
 use Rattle.al_types.specs.Types.{Parts, parts_with}
 use Rattle.al_types.proofs.FuseLaws.{fused_one_more}
@@ -11,29 +15,38 @@ use Rattle.al_expr_types.proofs.OnceLemmas.{once_distinct}
 use Rattle.al_expr.specs.Trees.{field_of, listed_parts, rest_of}
 use Rattle.al_expr_types.proofs.Scans.{mapped_more}
 use Rattle.al_expr.proofs.Firsts.{firsts_same}
-use Rattle.al_expr.proofs.TableFields.{taken_all, taken_next}
 use Rattle.al_expr.proofs.taking.+taking.Goals as goal
 
 pub field_trees-loop-i-preserved : goal.field_trees-loop-i-preserved
 field_trees-loop-i-preserved t c =
-    let m = c.args.fields.now.map.value in
+    let f = c.args.fields.now in
+    let m = f.map.value in
+    let g = type_in (objects_of c.args.types.now) in
     let ns = names_in m.names in
+    let ts = take f.count m.types.items in
     let i = c.loop-i.i in
     let n = c.at.result.0.now in
     let ty = c.at.result.1 in
-    let within : i < length m.types.items = omega (arith, c.loop-i-test.true, c.args.fields.now.inside) in
-    let named : i < length ns = omega (arith, within, m.even) in
+    let one : TypedName = (n, g ty) in
+    let few = length-take f.count m.types.items in
+    let within : i < length (map g ts) = omega (arith, c.loop-i-test.true, f.inside, few, length-map ts g) in
+    let named : i < length ns = omega (arith, c.loop-i-test.true, f.inside, m.even) in
+    let lt : i < length (zip ns (map g ts)) = omega (arith, within, named, length-zip ns (map g ts)) in
     let name = c.at.ensures.name ∙ ap (λ k. get_or (names_in k.names) i n) c.deref.ensures in
-    let typed = c.at.ensures.ty ∙ ap (λ k. get_or k.types.items i ty) c.deref.ensures in
+    let typed = c.at.ensures.ty ∙ ap (λ k. get_or k.types.items i ty) c.deref.ensures ∙ sym (get_or-take f.count m.types.items i ty c.loop-i-test.true) in
+    let is = get_or-zip ns (map g ts) i one named within ∙ (λ d. (sym name d, (get_or-map g ts i ty ∙ sym (ap g typed)) d)) in
     ap (map field_of) c.in_ok-push.ensures.items ∙ map-append field_of c.loop-i.trees.items (c.in_ok-field.field ∷ [])
     ∙ (λ d. c.loop-i.invariant d ++ (c.in_ok-field.ensures ∙ ap (λ u. (n, u)) c.in_ok-tree.ensures) d ∷ [])
-    ∙ sym (taken_next (type_in (objects_of c.args.types.now)) ns m.types.items i n ty named within name typed)
+    ∙ sym (take_more (zip ns (map g ts)) i one lt ∙ ap (λ p. take i (zip ns (map g ts)) ++ p ∷ []) is)
 
 pub field_trees-returns : goal.field_trees-returns
 field_trees-returns t c =
-    let m = c.args.fields.now.map.value in
-    let end : c.loop-i.i ≡ c.args.fields.now.count = omega (arith, c.loop-i-test.false, c.loop-i.auto.i-end) in
-    c.loop-i.invariant ∙ taken_all (type_in (objects_of c.args.types.now)) (names_in m.names) m.types.items c.args.fields.now.count c.loop-i.i end
+    let f = c.args.fields.now in
+    let ns = names_in f.map.value.names in
+    let ts = take f.count f.map.value.types.items in
+    let us = map (type_in (objects_of c.args.types.now)) ts in
+    let long = length-map ts (type_in (objects_of c.args.types.now)) in
+    c.loop-i.invariant ∙ take_all c.loop-i.i (zip ns us) (omega (arith, c.loop-i-test.false, length-zip ns us, long, length-take f.count f.map.value.types.items))
 
 pub fields_listing-invariant_of-result : goal.fields_listing-invariant_of-result
 fields_listing-invariant_of-result t c =

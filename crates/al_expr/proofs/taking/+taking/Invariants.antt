@@ -28,4 +28,4 @@ invariant-object_listing-loop-m l = parts_in l.all ≡ fuse_all (map (object_in 
 abbrev pub invariant-field_trees-loop-i : goal.invariant-field_trees-loop-i
 invariant-field_trees-loop-i l =
     map field_of l.trees.items
-    ≡ named_types (objects_of l.types) (take l.i (names_in l.fields.map.value.names)) (take l.i l.fields.map.value.types.items)
+    ≡ take l.i (named_types (objects_of l.types) (names_in l.fields.map.value.names) (take l.fields.count l.fields.map.value.types.items))

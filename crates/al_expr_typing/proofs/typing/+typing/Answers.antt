@@ -2,7 +2,6 @@ use Rattle.std.proofs.Common.{◌≡◌, ◌+◌, ◌∷◌, ◌++◌, [], map, 
 use Rattle.std.specs.Prelude.{not, ◌||◌}
 use Rattle.std.proofs.lemmas.List.{map-append, at_drop_all}
 use Rattle.al_types.specs.Names.{function_of}
-use Rattle.al_types.specs.Types.{String}
 use Rattle.al_expr_grammar.specs.Extents.{extent}
 use Rattle.al_expr_grammar.specs.Tree.{sign, steps_of, operands_of, arguments_of}
 use Rattle.al_expr_grammar.specs.View.{expr_view, step_of, operand_of}
@@ -11,7 +10,7 @@ use Rattle.al_expr_grammar.proofs.Trees.{step_of-Property, step_of-All, step_of-
 use Rattle.al_expr_grammar.proofs.TreeViews.{operand_view}
 use Rattle.al_expr_grammar.proofs.RestItems.{rest_item}
 use Rattle.al_base.proofs.Growing.{begins_trans}
-use Rattle.al_types.specs.Types.{Bool'}
+use Rattle.al_types.specs.Types.{Bool', String}
 use Rattle.al_expr_types.specs.Tables.{is_known, objects_of, type_at}
 use Rattle.al_expr_types.proofs.Below.{all_more}
 use Rattle.al_expr_typing.specs.Arguments.{are_known, argument_at}
@@ -28,73 +27,62 @@ use Rattle.al_expr_typing.proofs.typing.+typing.Goals as goal
 pub expression-returns-in-Keyword-clause-ok : goal.expression-returns-in-Keyword-clause-ok
 expression-returns-in-Keyword-clause-ok t c =
     let old = c.args.faults.now in
-    let e = ap expr_view c.in-Keyword.is ∙ tree_of-Keyword c.in-Keyword.keyword c.in-Keyword.field-1 in
-    rw e (ap (λ u. typed u old) (c.scalar.ensures.ty (objects_of c.args.types.now) ∙ c.type_of_keyword.ensures) ∙ unchanged _ old)
+    rw (c.in-Keyword.is, tree_of-Keyword) (ap (λ u. typed u old) (c.scalar.ensures.ty (objects_of c.args.types.now) ∙ c.type_of_keyword.ensures) ∙ unchanged _ old)
 
 pub expression-returns-in-Number-clause-ok : goal.expression-returns-in-Number-clause-ok
 expression-returns-in-Number-clause-ok t c =
     let old = c.args.faults.now in
-    let e = ap expr_view c.in-Number.is ∙ tree_of-Number c.in-Number.field-0 in
-    rw e (ap (λ u. typed u old) (c.scalar-in-Number.ensures.ty (objects_of c.args.types.now)) ∙ unchanged _ old)
+    rw (c.in-Number.is, tree_of-Number) (ap (λ u. typed u old) (c.scalar-in-Number.ensures.ty (objects_of c.args.types.now)) ∙ unchanged _ old)
 
 pub expression-returns-in-Text-clause-ok : goal.expression-returns-in-Text-clause-ok
 expression-returns-in-Text-clause-ok t c =
-    let e = ap expr_view c.in-Text.is ∙ tree_of-Text c.in-Text.field-0 in
-    rw e (unchanged String c.args.faults.now)
+    rw (c.in-Text.is, tree_of-Text) (unchanged String c.args.faults.now)
 
 pub expression-returns-in_ok-ty-in-Name-clause-ok : goal.expression-returns-in_ok-ty-in-Name-clause-ok
 expression-returns-in_ok-ty-in-Name-clause-ok t c =
-    let e = ap expr_view c.in-Name.is ∙ tree_of-Name c.in-Name.word in
-    rw e (c.in_ok-ty-in-Name.ensures.ok (objects_of c.args.types.now))
+    rw (c.in-Name.is, tree_of-Name) (c.in_ok-ty-in-Name.ensures.ok (objects_of c.args.types.now))
 
 pub expression-returns-in_ok-ty-in-Name-clause-known : goal.expression-returns-in_ok-ty-in-Name-clause-known
 expression-returns-in_ok-ty-in-Name-clause-known t c = c.in_ok-ty-in-Name.ensures.known c.args.types.now c.requires.shown
 
 pub expression-returns-in-Group-clause-ok : goal.expression-returns-in-Group-clause-ok
 expression-returns-in-Group-clause-ok t c =
-    let e = ap expr_view c.in-Group.is ∙ tree_of-Group c.in-Group.inner c.in-Group.field-1 c.in-Group.field-2 in
     let f = rw c.deref.ensures at c.expression.ensures.ok in
-    rw e f
+    rw (c.in-Group.is, tree_of-Group) f
 
 pub expression-returns-in_ok-_ty-in-Not-clause-ok : goal.expression-returns-in_ok-_ty-in-Not-clause-ok
 expression-returns-in_ok-_ty-in-Not-clause-ok t c =
-    let e = ap expr_view c.in-Not.is ∙ tree_of-Not c.in-Not.field-0 c.in-Not.operand in
     let f = rw c.deref-in-Not.ensures at c.in_ok-_ty-in-Not.ensures.ok in
     let new = c.expression-in-Not.new.faults in
-    rw e (ap (λ u. typed u new) (c.scalar-in-Not.ensures.ty (objects_of c.expression-in-Not.new.types)) ∙ unchanged Bool' new
+    rw (c.in-Not.is, tree_of-Not) (ap (λ u. typed u new) (c.scalar-in-Not.ensures.ty (objects_of c.expression-in-Not.new.types)) ∙ unchanged Bool' new
     ∙ follows _ _ _ _ (λ u. typed Bool' []) f)
 
 pub expression-returns-in-Call-clause-ok : goal.expression-returns-in-Call-clause-ok
 expression-returns-in-Call-clause-ok t c =
-    let e = ap expr_view c.in-Call.is ∙ tree_of-Call c.in-Call.name c.in-Call.arguments c.in-Call.field-2 in
     let f = rw c.deref-in-Call.ensures.value at c.call.ensures.ok in
-    rw e f
+    rw (c.in-Call.is, tree_of-Call) f
 
 pub expression-returns-in_ok-check_untrusted-in-Path-clause-ok : goal.expression-returns-in_ok-check_untrusted-in-Path-clause-ok
 expression-returns-in_ok-check_untrusted-in-Path-clause-ok t c =
     let before = c.args.types.now in
     let mid = c.expression-in-Path.new.types in
     let ss = steps_of (map step_of c.in-Path.steps.items) in
-    let e = ap expr_view c.in-Path.is ∙ tree_of-Path c.in-Path.base c.in-Path.steps in
     let f = rw c.deref-in-Path.ensures at c.in_ok-start-in-Path.ensures.ok in
-    let g = rw c.deref-in-Path-2.ensures.value at c.in_ok-ty-in-Path.ensures.ok in
-    let s = ap (λ sc. faults_then c.expression-in-Path.new.faults (walk sc c.args.around.safe ss (type_at mid c.in_ok-start-in-Path.start)))
-    (scope_stays mid before c.args.around.scope.now c.in_ok-start-in-Path.ensures.kept c.requires.shown) in
+    let same = scope_stays mid before c.args.around.scope.now c.in_ok-start-in-Path.ensures.kept c.requires.shown in
+    let g = rw (c.deref-in-Path-2.ensures.value, same) at c.in_ok-ty-in-Path.ensures.ok in
     let h = rw (c.is_exposed.ensures, c.deref-in-Path-3.ensures, c.deref-in-Path-4.ensures.value) at c.in_ok-check_untrusted-in-Path.ensures in
-    rw e (path_on _ _ _ _ _ _ _ _ (λ u. walk (scope_view before c.args.around.scope.now) c.args.around.safe ss u) f (g ∙ s) h)
+    rw (c.in-Path.is, tree_of-Path) (path_on _ _ _ _ _ _ _ _ (λ u. walk (scope_view before c.args.around.scope.now) c.args.around.safe ss u) f g h)
 
 pub expression-returns-in_ok-ty-in-Chain-clause-ok : goal.expression-returns-in_ok-ty-in-Chain-clause-ok
 expression-returns-in_ok-ty-in-Chain-clause-ok t c =
     let before = c.args.types.now in
     let mid = c.expression-in-Chain.new.types in
-    let e = ap expr_view c.in-Chain.is ∙ tree_of-Chain c.in-Chain.first c.in-Chain.operands in
     let os = operands_of (map operand_of c.in-Chain.operands.items) in
     let safe = c.args.around.safe || not (begins_logic os) in
     let f = rw (c.is_compared.ensures, c.deref-in-Chain.ensures.value, c.deref-in-Chain-2.ensures) at c.in_ok-start-in-Chain.ensures.ok in
-    let g = rw (c.is_compared.ensures, c.deref-in-Chain.ensures.value, c.deref-in-Chain-3.ensures.value) at c.in_ok-ty-in-Chain.ensures.ok in
-    let s = ap (λ sc. faults_then c.expression-in-Chain.new.faults (operations sc safe os (type_at mid c.in_ok-start-in-Chain.start)))
-    (scope_stays mid before c.args.around.scope.now c.in_ok-start-in-Chain.ensures.kept c.requires.shown) in
-    rw e (g ∙ s ∙ follows _ _ _ _ (λ u. operations (scope_view before c.args.around.scope.now) safe os u) f)
+    let same = scope_stays mid before c.args.around.scope.now c.in_ok-start-in-Chain.ensures.kept c.requires.shown in
+    let g = rw (c.is_compared.ensures, c.deref-in-Chain.ensures.value, c.deref-in-Chain-3.ensures.value, same) at c.in_ok-ty-in-Chain.ensures.ok in
+    rw (c.in-Chain.is, tree_of-Chain) (g ∙ follows _ _ _ _ (λ u. operations (scope_view before c.args.around.scope.now) safe os u) f)
 
 pub call-returns-clause-ok : goal.call-returns-clause-ok
 call-returns-clause-ok t c =
@@ -128,10 +116,8 @@ operations-loop-operand-preserved t c =
     let u = type_at mid c.in_ok-other.other in
     let r = rest_item c.args.operands.now c.loop-operand.operand-index x c.loop-operand-test.true c.operand-item.is in
     let i = rw (r, operand_view x) at c.loop-operand.invariant.so_far in
-    let e = c.in_ok-other.ensures.ok ∙ ap (λ sc. faults_then c.loop-operand.faults (meaning sc safe (expr_view x.expr)))
-    (scope_stays now before c.args.left.around.scope.now c.loop-operand.invariant.kept c.requires.shown) in
-    let f = c.in_ok-more.ensures.ok ∙ ap (λ v. faults_then c.expression.new.faults (operation x.operator x.at v u))
-    (so_far_stays mid now c.loop-operand.all c.in_ok-other.ensures.kept c.loop-operand.invariant.below) in
+    let e = rw (scope_stays now before c.args.left.around.scope.now c.loop-operand.invariant.kept c.requires.shown) at c.in_ok-other.ensures.ok in
+    let f = rw (so_far_stays mid now c.loop-operand.all c.in_ok-other.ensures.kept c.loop-operand.invariant.below) at c.in_ok-more.ensures.ok in
     record {
       kept = begins_trans _ _ _ c.loop-operand.invariant.kept (begins_trans _ _ _ c.in_ok-other.ensures.kept c.in_ok-more.ensures.kept);
       shown = shown_stays c.operation.new.types mid c.args.left.around.scope.now c.in_ok-other.ensures.shown c.in_ok-more.ensures.kept;
@@ -161,21 +147,18 @@ operations-returns-clause-kept t c = begins_trans _ _ _ c.loop-operand.invariant
 
 pub step_from-returns-in-Property-clause-ok : goal.step_from-returns-in-Property-clause-ok
 step_from-returns-in-Property-clause-ok t c =
-    let e = ap step_of c.in-Property.is ∙ step_of-Property c.in-Property.dot c.in-Property.name in
     let f = rw c.across.ensures at c.property.ensures.ok in
-    rw e f
+    rw (c.in-Property.is, step_of-Property) f
 
 pub step_from-returns-in-All-clause-ok : goal.step_from-returns-in-All-clause-ok
 step_from-returns-in-All-clause-ok t c =
-    let e = ap step_of c.in-All.is ∙ step_of-All c.in-All.first c.in-All.last in
     let f = rw c.across-in-All.ensures at c.all.ensures.ok in
-    rw e f
+    rw (c.in-All.is, step_of-All) f
 
 pub step_from-returns-in-Index-clause-ok : goal.step_from-returns-in-Index-clause-ok
 step_from-returns-in-Index-clause-ok t c =
-    let e = ap step_of c.in-Index.is ∙ step_of-Index c.in-Index.open c.in-Index.index c.in-Index.close in
     let f = rw c.across-whole.ensures at c.index_from.ensures.ok in
-    rw e f
+    rw (c.in-Index.is, step_of-Index) f
 
 pub index_from-returns-in_ok-of-in-None-clause-ok : goal.index_from-returns-in_ok-of-in-None-clause-ok
 index_from-returns-in_ok-of-in-None-clause-ok t c =
@@ -204,8 +187,7 @@ typed_arguments-loop-expr-preserved t c =
     let xs = map expr_view (drop (c.loop-expr.expr-index + 1) c.args.exprs.now) in
     let r = rest_item c.args.exprs.now c.loop-expr.expr-index x c.loop-expr-test.true c.expr-item.is in
     let i = rw r at c.loop-expr.invariant.so_far in
-    let e = c.in_ok-ty.ensures.ok ∙ ap (λ s. faults_then c.loop-expr.faults (meaning s c.args.around.safe (expr_view x)))
-    (scope_stays now before c.args.around.scope.now c.loop-expr.invariant.kept c.requires.shown) in
+    let e = rw (scope_stays now before c.args.around.scope.now c.loop-expr.invariant.kept c.requires.shown) at c.in_ok-ty.ensures.ok in
     let m = meanings_on sc c.args.around.safe (expr_view x) xs ty (map (argument_at now) as') _ _ e in
     let a = ap (λ l. all_behind (l ++ (ty, extent (expr_view x)) ∷ []) out (meanings sc c.args.around.safe (arguments_of xs)))
     (arguments_stay next now as' c.in_ok-ty.ensures.kept c.loop-expr.invariant.known) in
@@ -225,8 +207,7 @@ walk-loop-step-preserved t c =
     let here = type_at now c.loop-step.ty in
     let r = rest_item c.args.steps.now c.loop-step.step-index x c.loop-step-test.true c.step-item.is in
     let i = rw r at c.loop-step.invariant.so_far in
-    let e = c.in_ok-next.ensures.ok ∙ ap (λ sc. faults_then c.loop-step.faults (step_from sc c.args.left.around.safe (step_of x) here))
-    (scope_stays now before c.args.left.around.scope.now c.loop-step.invariant.kept c.requires.shown) in
+    let e = rw (scope_stays now before c.args.left.around.scope.now c.loop-step.invariant.kept c.requires.shown) at c.in_ok-next.ensures.ok in
     record {
       kept = begins_trans _ _ _ c.loop-step.invariant.kept c.in_ok-next.ensures.kept;
       shown = c.in_ok-next.ensures.shown;

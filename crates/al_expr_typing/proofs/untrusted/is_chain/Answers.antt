@@ -1,4 +1,5 @@
 use Rattle.std.proofs.Common.{◌≡◌, ◌≢◌, ◌≤◌, ℕ, List, [], ◌∷◌, Bool, true, false, ◌&&◌, length, take, drop, ◌-◌, map, refl, sym, ap, ◌∙◌, arith, length-drop}
+use Rattle.std.proofs.lemmas.Bool.{and_right}
 use Rattle.std.proofs.lemmas.List.{length-map}
 use Rattle.std.proofs.lemmas.Grind.{common_steps}
 use Rattle.std.specs.Cmp.Lexicographic.{pointwise}
@@ -7,22 +8,18 @@ use Rattle.al_expr_typing.specs.Untrusted.{chain_part}
 use Rattle.al_expr_grammar.specs.View.{step_of}
 use Rattle.al_expr_typing.proofs.untrusted.is_chain.Goals as goal
 
-and_false : (x : Bool) → x && false ≡ false
-and_false true = refl
-and_false false = refl
-
 different_lengths : (ps qs : List (List ℕ)) → length ps ≢ length qs → pointwise same_name ps qs ≡ false
 different_lengths [] [] h = absurd (h refl)
 different_lengths [] (q ∷ qs) h = refl
 different_lengths (p ∷ ps) [] h = refl
-different_lengths (p ∷ ps) (q ∷ qs) h = ap (λ r. same_name p q && r) (different_lengths ps qs (λ e. h (omega arith))) ∙ and_false (same_name p q)
+different_lengths (p ∷ ps) (q ∷ qs) h = and_right (same_name p q) _ (different_lengths ps qs (λ e. h (omega arith)))
 
 one_longer : {X : Type 0} (f : X → List ℕ) (xs : List X) (name : List ℕ) (qs : List (List ℕ)) → 1 ≤ length xs → length (drop 1 xs) ≢ length qs → pointwise same_name (map f xs) (name ∷ qs) ≡ false
 one_longer f [] name qs h k = absurd (omega (arith, h))
 one_longer f (x ∷ xs) name qs h k =
     let d = length-drop 1 (x ∷ xs) in
     let m : length (map f xs) ≡ length xs = simp length-map in
-    ap (λ r. same_name (f x) name && r) (different_lengths (map f xs) qs (λ e. k (omega arith))) ∙ and_false (same_name (f x) name)
+    and_right (same_name (f x) name) _ (different_lengths (map f xs) qs (λ e. k (omega arith)))
 
 pub returns-then-rest-steps : goal.returns-then-rest-steps
 returns-then-rest-steps c =
