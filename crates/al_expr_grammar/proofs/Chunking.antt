@@ -73,9 +73,7 @@ closing_later bs i h e =
     ap (λ n. find (closes_at bs) (range_with_len i n)) more ∙ ap (λ t. cond t (Some i) (find (closes_at bs) (range_with_len (i + 1) (length bs - (i + 1))))) e
 
 turned : (s t x y : Bool) → x ≡ cond t (not y) y → cond s (not x) x ≡ cond t (not (cond s (not y) y)) (cond s (not y) y)
-turned true true x y e = ap not e
-turned false true x y e = e
-turned s false x y e = ap (λ z. cond s (not z) z) e
+turned s t x y e = grind (arith, nat_tests)
 
 quotes_more : (front : List ℕ) (b : ℕ) → is_outside_quotes (front ++ b ∷ []) ≡ cond (is_quote b) (not (is_outside_quotes front)) (is_outside_quotes front)
 quotes_more [] b = refl

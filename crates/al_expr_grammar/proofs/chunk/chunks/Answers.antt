@@ -5,28 +5,19 @@ use Rattle.al_expr_grammar.specs.Chunks.{IsCutFrom}
 use Rattle.al_expr_grammar.proofs.Chunking.{closing_begins, cut_off, none_left, one_more, opening_ends}
 use Rattle.al_expr_grammar.proofs.chunk.chunks.Goals as goal
 
-pub returns-clause-spans : goal.returns-clause-spans
-returns-clause-spans c =
+pub returns : goal.returns
+returns c =
     let none = rw (c.as_bytes-bytes.ensures.value, take_rest) at c.in_default.ensures.value in
-    (none_left c.args.text.now _ c.text.at c.text.invariant.so_far none).0
+    let all = none_left c.args.text.now _ c.text.at c.text.invariant.so_far none in
+    record { spans = all.0; contents = c.text.invariant.contents; fault = all.1 }
 
-pub returns-clause-fault : goal.returns-clause-fault
-returns-clause-fault c =
-    let none = rw (c.as_bytes-bytes.ensures.value, take_rest) at c.in_default.ensures.value in
-    (none_left c.args.text.now _ c.text.at c.text.invariant.so_far none).1
-
-pub returns-in_default-closing_position-clause-spans : goal.returns-in_default-closing_position-clause-spans
-returns-in_default-closing_position-clause-spans c =
-    let before = rw (c.as_bytes-bytes.ensures.value, take_rest) at c.in-Some.ensures.value in
-    let none = rw (c.as_bytes-bytes.ensures.value, take_rest) at c.in_default-closing_position.ensures.value in
-    (cut_off c.args.text.now _ c.text.at c.text.invariant.so_far c.in-Some.before c.text.invariant.few before none).0
-
-pub returns-in_default-closing_position-clause-fault : goal.returns-in_default-closing_position-clause-fault
-returns-in_default-closing_position-clause-fault c =
+pub returns-in_default-closing_position : goal.returns-in_default-closing_position
+returns-in_default-closing_position c =
     let before = rw (c.as_bytes-bytes.ensures.value, take_rest) at c.in-Some.ensures.value in
     let none = rw (c.as_bytes-bytes.ensures.value, take_rest) at c.in_default-closing_position.ensures.value in
     let fault = rw (c.as_bytes-bytes.ensures.value, take_rest) at c.open_fault.ensures in
-    fault ∙ (cut_off c.args.text.now _ c.text.at c.text.invariant.so_far c.in-Some.before c.text.invariant.few before none).1
+    let all = cut_off c.args.text.now _ c.text.at c.text.invariant.so_far c.in-Some.before c.text.invariant.few before none in
+    record { spans = all.0; contents = c.text.invariant.contents; fault = fault ∙ all.1 }
 
 pub cut-requires-clause-start : goal.cut-requires-clause-start
 cut-requires-clause-start c =

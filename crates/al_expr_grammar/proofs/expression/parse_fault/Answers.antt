@@ -13,17 +13,13 @@ use Rattle.al_expr_grammar.proofs.expression.parse_fault.Goals as goal
 given : {F : Type 0} (r : Result Fault F) (x : Fault) (o : Option Fault) → o ≡ Some x → IfOk r (λ f. f ≡ x) → IfOk r (λ f. o ≡ Some f)
 given r x o e h = IfOk-weaker r (λ f. f ≡ x) (λ f. o ≡ Some f) (λ f g. e ∙ ap Some (sym g)) h
 
-pub token_at-token-requires-clause-some : goal.token_at-token-requires-clause-some
-token_at-token-requires-clause-some c = let v = rw c.in-Unexpected.is at c.requires in (verdict_lies c.args.tokens.now _ v).0
+pub token_at-token-requires : goal.token_at-token-requires
+token_at-token-requires c =
+    let v = verdict_lies c.args.tokens.now _ (rw c.in-Unexpected.is at c.requires) in record { some = v.0; within = v.1 }
 
-pub token_at-token-requires-clause-within : goal.token_at-token-requires-clause-within
-token_at-token-requires-clause-within c = let v = rw c.in-Unexpected.is at c.requires in (verdict_lies c.args.tokens.now _ v).1
-
-pub token_at-token-requires-in-TooDeep-clause-some : goal.token_at-token-requires-in-TooDeep-clause-some
-token_at-token-requires-in-TooDeep-clause-some c = let v = rw c.in-TooDeep.is at c.requires in (verdict_lies c.args.tokens.now _ v).0
-
-pub token_at-token-requires-in-TooDeep-clause-within : goal.token_at-token-requires-in-TooDeep-clause-within
-token_at-token-requires-in-TooDeep-clause-within c = let v = rw c.in-TooDeep.is at c.requires in (verdict_lies c.args.tokens.now _ v).1
+pub token_at-token-requires-in-TooDeep : goal.token_at-token-requires-in-TooDeep
+token_at-token-requires-in-TooDeep c =
+    let v = verdict_lies c.args.tokens.now _ (rw c.in-TooDeep.is at c.requires) in record { some = v.0; within = v.1 }
 
 pub returns-in-Unexpected : goal.returns-in-Unexpected
 returns-in-Unexpected c =
