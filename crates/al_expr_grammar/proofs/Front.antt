@@ -1,5 +1,5 @@
 -- What follows where the parser looked for a token and found it, or found another.
-use Rattle.std.proofs.Common.{◌≡◌, ◌≢◌, ℕ, ◌+◌, List, [], ◌∷◌, ◌++◌, refl, ap}
+use Rattle.std.proofs.Common.{◌≡◌, ℕ, ◌+◌, List, [], ◌∷◌, ◌++◌, refl, ap}
 use Rattle.al_base.specs.declared.faults.Span.{Span}
 use Rattle.al_expr_grammar.specs.declared.token.TokenKind.{TokenKind}
 use Rattle.al_expr_grammar.specs.declared.token.TokenKind.TheVariants.{Name, Open, Close, OpenIndex, CloseIndex, Comma, Star}
@@ -10,12 +10,8 @@ use Rattle.al_expr_grammar.specs.Tree as tree
 use Rattle.al_expr_grammar.specs.Grammar.{Binary, Primary}
 use Rattle.al_expr_grammar.specs.Parsed.{Parsed, Refused, StepRefused, ArgumentsPart, ArgumentsRead, ArgumentsRefused, IsStray, NoClose, NoComma}
 use Rattle.al_expr_grammar.proofs.Shape.{NoCall}
-use Rattle.al_expr_grammar.proofs.Rules.{NoStar, NoCloseIndex, group_stray, index_stray, star_stray}
+use Rattle.al_expr_grammar.proofs.Rules.{Lacks, group_stray, index_stray, star_stray}
 use Rattle.al_expr_grammar.proofs.Rules.{call_refused, call_read, call_stray, argument_refused, arguments_begin, arguments_go_on}
-
--- No token of this kind comes first.
-abbrev pub Lacks : TokenKind → List TokenKind → Type 0
-Lacks k ts = (rest : List TokenKind) → ts ≢ k ∷ rest
 
 pub no_call : (ts : List TokenKind) → Lacks Open ts → NoCall ts
 no_call (Open ∷ ts) h = absurd (h ts refl)
@@ -24,14 +20,6 @@ no_call ts h = tt
 pub no_close : (ts : List TokenKind) → Lacks Close ts → NoClose ts
 no_close (Close ∷ ts) h = absurd (h ts refl)
 no_close ts h = tt
-
-pub no_close_index : (ts : List TokenKind) → Lacks CloseIndex ts → NoCloseIndex ts
-no_close_index (CloseIndex ∷ ts) h = absurd (h ts refl)
-no_close_index ts h = tt
-
-pub no_star : (ts : List TokenKind) → Lacks Star ts → NoStar ts
-no_star (Star ∷ ts) h = absurd (h ts refl)
-no_star ts h = tt
 
 pub no_comma : (ts : List TokenKind) → Lacks Comma ts → NoComma ts
 no_comma (Comma ∷ ts) h = absurd (h ts refl)
@@ -79,10 +67,10 @@ module _ (room inner : ℕ) (b : List ℕ) (s : Span) (ts : List Lexeme) (one : 
   pub group_not_closed : (left : List Lexeme) (t : Tree) (e : ParseError) → Parsed (Binary 3) inner ts t left → IsStray left Close e → Refused Primary room (lexeme Open b s ∷ ts) e
   group_not_closed left t e p i = rw i.fault (group_stray room inner b s ts one left t p (no_close (kinds left) i.other))
 
-  pub index_not_closed : (left : List Lexeme) (t : Tree) (e : ParseError) → Parsed (Binary 3) inner ts t left → NoStar (kinds ts)
+  pub index_not_closed : (left : List Lexeme) (t : Tree) (e : ParseError) → Parsed (Binary 3) inner ts t left → Lacks Star (kinds ts)
       → IsStray left CloseIndex e → StepRefused room (lexeme OpenIndex b s ∷ ts) e
-  index_not_closed left t e p n i = rw i.fault (index_stray room inner b s ts one left t n p (no_close_index (kinds left) i.other))
+  index_not_closed left t e p n i = rw i.fault (index_stray room inner b s ts one left t n p i.other)
 
 pub star_not_closed : (room inner : ℕ) (b c : List ℕ) (s u : Span) (left : List Lexeme) (e : ParseError) → inner + 1 ≡ room
     → IsStray left CloseIndex e → StepRefused room (lexeme OpenIndex c u ∷ lexeme Star b s ∷ left) e
-star_not_closed room inner b c s u left e one i = rw i.fault (star_stray room inner b c s u left one (no_close_index (kinds left) i.other))
+star_not_closed room inner b c s u left e one i = rw i.fault (star_stray room inner b c s u left one i.other)

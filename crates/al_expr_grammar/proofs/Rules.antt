@@ -1,5 +1,5 @@
 -- Each rule of the grammar, and each fault, beside the table.
-use Rattle.std.proofs.Common.{◌≡◌, ℕ, suc, ◌+◌, ◌<◌, ◌≤◌, List, [], ◌∷◌, ◌++◌, length, refl, sym, ap, ◌∙◌, arith, nat_lt, cond, subst}
+use Rattle.std.proofs.Common.{◌≡◌, ◌≢◌, ℕ, suc, ◌+◌, ◌<◌, ◌≤◌, List, [], ◌∷◌, ◌++◌, length, refl, sym, ap, ◌∙◌, arith, nat_lt, cond, subst}
 use Rattle.al_base.specs.declared.faults.Span.{Span}
 use Rattle.al_expr_grammar.specs.declared.token.Operator.{Operator}
 use Rattle.al_expr_grammar.specs.declared.token.Operator.TheVariants as op
@@ -52,17 +52,16 @@ uncalled k (f ∷ st) [] h = refl
 uncalled k st (Open ∷ ts) h = absurd h
 uncalled k st (t ∷ ts) h = refl
 
--- No star comes first.
-abbrev pub NoStar : List TokenKind → Type 0
-NoStar (Star ∷ ts) = ⊥
-NoStar _ = Unit {0}
+-- no token of this kind comes first
+abbrev pub Lacks : TokenKind → List TokenKind → Type 0
+Lacks k ts = (rest : List TokenKind) → ts ≢ k ∷ rest
 
 pub in_call : (k : ℕ) (st : List Frame) (ts : List TokenKind) → NoClose ts → scan A k st ts ≡ scan E k st ts
 in_call k st (Close ∷ ts) h = absurd h
 in_call k st ts h = refl
 
-pub in_index : (k : ℕ) (st : List Frame) (ts : List TokenKind) → NoStar ts → scan I k st ts ≡ scan E k st ts
-in_index k st (Star ∷ ts) h = absurd h
+pub in_index : (k : ℕ) (st : List Frame) (ts : List TokenKind) → Lacks Star ts → scan I k st ts ≡ scan E k st ts
+in_index k st (Star ∷ ts) h = absurd (h ts refl)
 in_index k st ts h = refl
 
 -- what the table comes to from other tokens as well
@@ -72,16 +71,11 @@ likewise e v w same h = subst (IsVerdict e) (sym same) h
 pub unexpected : (ts : List Lexeme) → Unexpected (suc (length (kinds ts))) ≡ Unexpected (suc (length ts))
 unexpected ts = ap (λ n. Unexpected (suc n)) (same_length ts)
 
--- no closing bracket of an index comes first
-abbrev pub NoCloseIndex : List TokenKind → Type 0
-NoCloseIndex (CloseIndex ∷ ts) = ⊥
-NoCloseIndex _ = Unit {0}
-
 -- neither a token that closes these brackets comes first nor one that goes on in them
 abbrev pub EndsInside : Frame → List TokenKind → Type 0
 EndsInside (Group k) ts = NoClose ts
 EndsInside (Call k) ts = NoComma ts × NoClose ts
-EndsInside (Index k) ts = NoCloseIndex ts
+EndsInside (Index k) ts = Lacks CloseIndex ts
 
 -- no token that may follow a whole operand inside these brackets
 stray : (f : Frame) (st : List Frame) (us : List Lexeme) → EndsLevel 3 (kinds us) → EndsInside f (kinds us) → IsVerdict (error_at us) (scan O 0 (f ∷ st) (kinds us))
@@ -92,7 +86,7 @@ stray f st (lexeme (Infix o) b s ∷ us) h c = absurd (omega (arith, h, at_most_
 stray (Group k) st (lexeme Close b s ∷ us) h c = absurd c
 stray (Call k) st (lexeme Close b s ∷ us) h c = absurd c.1
 stray (Call k) st (lexeme Comma b s ∷ us) h c = absurd c.0
-stray (Index k) st (lexeme CloseIndex b s ∷ us) h c = absurd c
+stray (Index k) st (lexeme CloseIndex b s ∷ us) h c = absurd (c (kinds us) refl)
 stray (Group k) st (lexeme t b s ∷ us) h c = unexpected us
 stray (Call k) st (lexeme t b s ∷ us) h c = unexpected us
 stray (Index k) st (lexeme t b s ∷ us) h c = unexpected us
@@ -130,10 +124,10 @@ module _ (room inner : ℕ) (b : List ℕ) (s : Span) (ts : List Lexeme) (one : 
   group_stray mid t p never = λ k st a h. likewise (error_at mid) _ _ (in_group k st h ∙ p.goes 0 (Group k ∷ st) refl (omega arith)) (stray (Group k) st mid p.stops never)
 
   -- an index
-  to_inside : (k : ℕ) (st : List Frame) → NoStar (kinds ts) → k + outside st + room ≡ 50 → scan O k st (OpenIndex ∷ kinds ts) ≡ scan E 0 (Index k ∷ st) (kinds ts)
+  to_inside : (k : ℕ) (st : List Frame) → Lacks Star (kinds ts) → k + outside st + room ≡ 50 → scan O k st (OpenIndex ∷ kinds ts) ≡ scan E 0 (Index k ∷ st) (kinds ts)
   to_inside k st n h = not_deeper (k + outside st) _ _ (omega arith) ∙ in_index 0 (Index k ∷ st) (kinds ts) n
 
-  pub index_read : (c : List ℕ) (e : Span) (rest : List Lexeme) (t : Tree) → NoStar (kinds ts)
+  pub index_read : (c : List ℕ) (e : Span) (rest : List Lexeme) (t : Tree) → Lacks Star (kinds ts)
       → Parsed (Binary 3) inner ts t (lexeme CloseIndex c e ∷ rest) → StepRead room (lexeme OpenIndex b s ∷ ts) (tree.Index s t e) rest
   index_read c e rest t n p = record {
     derives = λ ss after w. to_index p.derives w;
@@ -141,10 +135,10 @@ module _ (room inner : ℕ) (b : List ℕ) (s : Span) (ts : List Lexeme) (one : 
     shorter = let short = p.shorter in omega arith;
   }
 
-  pub index_refused : (e : ParseError) → NoStar (kinds ts) → Refused (Binary 3) inner ts e → StepRefused room (lexeme OpenIndex b s ∷ ts) e
+  pub index_refused : (e : ParseError) → Lacks Star (kinds ts) → Refused (Binary 3) inner ts e → StepRefused room (lexeme OpenIndex b s ∷ ts) e
   index_refused e n r = λ k st h. likewise e _ _ (to_inside k st n h) (r 0 (Index k ∷ st) refl (omega arith))
 
-  pub index_stray : (mid : List Lexeme) (t : Tree) → NoStar (kinds ts) → Parsed (Binary 3) inner ts t mid → NoCloseIndex (kinds mid) → StepRefused room (lexeme OpenIndex b s ∷ ts) (error_at mid)
+  pub index_stray : (mid : List Lexeme) (t : Tree) → Lacks Star (kinds ts) → Parsed (Binary 3) inner ts t mid → Lacks CloseIndex (kinds mid) → StepRefused room (lexeme OpenIndex b s ∷ ts) (error_at mid)
   index_stray mid t n p never = λ k st h. likewise (error_at mid) _ _ (to_inside k st n h ∙ p.goes 0 (Index k ∷ st) refl (omega arith)) (stray (Index k) st mid p.stops never)
 
 -- brackets without room
@@ -239,11 +233,11 @@ dot_stray room c d (lexeme (Keyword w) b s ∷ us) n = absurd n
 dot_stray room c d (lexeme Star b s ∷ us) n = absurd n
 dot_stray room c d (lexeme t b s ∷ us) n = λ k st h. unexpected us
 
-after_star : (k : ℕ) (st : List Frame) (us : List Lexeme) → NoCloseIndex (kinds us) → IsVerdict (error_at us) (scan S 0 (Index k ∷ st) (kinds us))
+after_star : (k : ℕ) (st : List Frame) (us : List Lexeme) → Lacks CloseIndex (kinds us) → IsVerdict (error_at us) (scan S 0 (Index k ∷ st) (kinds us))
 after_star k st [] n = refl
-after_star k st (lexeme CloseIndex b s ∷ us) n = absurd n
+after_star k st (lexeme CloseIndex b s ∷ us) n = absurd (n (kinds us) refl)
 after_star k st (lexeme t b s ∷ us) n = unexpected us
 
-pub star_stray : (room inner : ℕ) (b c : List ℕ) (s d : Span) (us : List Lexeme) → inner + 1 ≡ room → NoCloseIndex (kinds us)
+pub star_stray : (room inner : ℕ) (b c : List ℕ) (s d : Span) (us : List Lexeme) → inner + 1 ≡ room → Lacks CloseIndex (kinds us)
     → StepRefused room (lexeme OpenIndex c d ∷ lexeme Star b s ∷ us) (error_at us)
 star_stray room inner b c s d us one n = λ k st h. likewise (error_at us) _ _ (not_deeper (k + outside st) _ _ (omega arith)) (after_star k st us n)

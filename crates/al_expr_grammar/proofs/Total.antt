@@ -12,7 +12,7 @@ use Rattle.al_expr_grammar.specs.Parsed.{Parsed, Refused, NoBang, EndsPath, Ends
 use Rattle.al_expr_grammar.proofs.Rules.{constant_read, number_read, text_read, name_read, group_read, group_refused, group_stray, group_deep}
 use Rattle.al_expr_grammar.proofs.Rules.{call_empty_read, call_read, call_refused, call_stray, call_deep, argument_refused, arguments_begin}
 use Rattle.al_expr_grammar.proofs.Rules.{arguments_go_on, index_read, index_refused, index_stray, index_deep, each_read, star_stray}
-use Rattle.al_expr_grammar.proofs.Rules.{property_read, keyword_read, all_read, dot_stray, unexpected, NoStar}
+use Rattle.al_expr_grammar.proofs.Rules.{property_read, keyword_read, all_read, dot_stray, unexpected, Lacks}
 use Rattle.al_expr_grammar.proofs.Chains.{not_read, not_refused, not_deep, positive_read, steps_read, path_refused}
 use Rattle.al_expr_grammar.proofs.Chains.{path_begins, path_goes_on, chain_begins, chain_goes_on, operands_read, first_refused, later_refused}
 
@@ -43,12 +43,12 @@ module _ (room : ℕ) (b : List ℕ) (s : Span) (ts : List Lexeme) where
   grouped (refused e i r) = refused e i (group_refused (suc room) room b s ts (omega arith) e r)
   grouped (read t mid p) = group_ends t mid p
 
-  abbrev pub index_ends : NoStar (kinds ts) → (t : Tree) (mid : List Lexeme) → Parsed (Binary 3) room ts t mid → StepOutcome (suc room) (lexeme OpenIndex b s ∷ ts)
+  abbrev pub index_ends : Lacks Star (kinds ts) → (t : Tree) (mid : List Lexeme) → Parsed (Binary 3) room ts t mid → StepOutcome (suc room) (lexeme OpenIndex b s ∷ ts)
   index_ends n t (lexeme CloseIndex c e ∷ rest) p = step_read _ rest (index_read (suc room) room b s ts (omega arith) c e rest t n p)
-  index_ends n t [] p = step_refused (error_at []) tt (index_stray (suc room) room b s ts (omega arith) [] t n p tt)
-  index_ends n t (lexeme k c e ∷ rest) p = step_refused (error_at (lexeme k c e ∷ rest)) tt (index_stray (suc room) room b s ts (omega arith) (lexeme k c e ∷ rest) t n p tt)
+  index_ends n t [] p = step_refused (error_at []) tt (index_stray (suc room) room b s ts (omega arith) [] t n p (λ r e. cc))
+  index_ends n t (lexeme k c e ∷ rest) p = step_refused (error_at (lexeme k c e ∷ rest)) tt (index_stray (suc room) room b s ts (omega arith) (lexeme k c e ∷ rest) t n p (λ r e. cc))
 
-  abbrev pub indexed : NoStar (kinds ts) → Outcome (Binary 3) room ts → StepOutcome (suc room) (lexeme OpenIndex b s ∷ ts)
+  abbrev pub indexed : Lacks Star (kinds ts) → Outcome (Binary 3) room ts → StepOutcome (suc room) (lexeme OpenIndex b s ∷ ts)
   indexed n (refused e i r) = step_refused e i (index_refused (suc room) room b s ts (omega arith) e n r)
   indexed n (read t mid p) = index_ends n t mid p
 
@@ -95,12 +95,12 @@ step n room (lexeme Dot c d ∷ lexeme (Keyword w) b s ∷ ts) inner h g = step_
 step n room (lexeme Dot c d ∷ lexeme Star b s ∷ ts) inner h g = step_read _ ts (all_read room b c s d ts)
 step n room (lexeme Dot c d ∷ lexeme k b s ∷ ts) inner h g = step_refused (error_at (lexeme k b s ∷ ts)) tt (dot_stray room c d (lexeme k b s ∷ ts) tt)
 step n zero (lexeme OpenIndex c d ∷ ts) inner h g = step_refused (error.TooDeep (suc (length ts))) tt (index_deep c d ts)
-step n (suc room) (lexeme OpenIndex c d ∷ lexeme Star b s ∷ []) inner h g = step_refused error.Early tt (star_stray (suc room) room b c s d [] (omega arith) tt)
+step n (suc room) (lexeme OpenIndex c d ∷ lexeme Star b s ∷ []) inner h g = step_refused error.Early tt (star_stray (suc room) room b c s d [] (omega arith) (λ r e. cc))
 step n (suc room) (lexeme OpenIndex c d ∷ lexeme Star b s ∷ lexeme CloseIndex a e ∷ ts) inner h g = step_read _ ts (each_read (suc room) room a b c s d e ts (omega arith))
 step n (suc room) (lexeme OpenIndex c d ∷ lexeme Star b s ∷ lexeme k a e ∷ ts) inner h g = step_refused (error_at (lexeme k a e ∷ ts)) tt
-    (star_stray (suc room) room b c s d (lexeme k a e ∷ ts) (omega arith) tt)
-step n (suc room) (lexeme OpenIndex c d ∷ []) inner h g = indexed room c d [] tt (inner room [] (omega arith))
-step n (suc room) (lexeme OpenIndex c d ∷ lexeme k b s ∷ ts) inner h g = indexed room c d (lexeme k b s ∷ ts) tt (inner room (lexeme k b s ∷ ts) (omega arith))
+    (star_stray (suc room) room b c s d (lexeme k a e ∷ ts) (omega arith) (λ r f. cc))
+step n (suc room) (lexeme OpenIndex c d ∷ []) inner h g = indexed room c d [] (λ r e. cc) (inner room [] (omega arith))
+step n (suc room) (lexeme OpenIndex c d ∷ lexeme k b s ∷ ts) inner h g = indexed room c d (lexeme k b s ∷ ts) (λ r e. cc) (inner room (lexeme k b s ∷ ts) (omega arith))
 step n room [] inner h g = absurd g
 step n room (lexeme k b s ∷ ts) inner h g = absurd g
 

@@ -21,8 +21,10 @@ use Rattle.al_base.proofs.NamePlaces.{first_more, first_within}
 use Rattle.al_expr_types.specs.Joining.{join_in}
 use Rattle.al_expr_types.specs.Merging.{and_named, is_placed, slot, slot_in}
 use Rattle.al_expr_types.specs.Names.{names_in}
+use Rattle.al_expr_types.specs.Types.{object_parts}
 use Rattle.al_expr_types.specs.declared.joining.Join.{Join}
 use Rattle.al_expr_types.specs.declared.merging.FieldJoins.{FieldJoins}
+use Rattle.al_expr_types.specs.declared.objects.Object.{Object}
 use Rattle.al_expr_types.specs.declared.joining.Join.TheVariants as joined
 
 -- names that are the same stand at one place
@@ -111,6 +113,11 @@ joined_within m name i at = let lt = first_within (λ n. same_name n name) (name
 
 pub all_set : {X : Type 0} (test : X → Bool) (xs : List X) (i : ℕ) (x : X) → list_all test xs ≡ true → test x ≡ true → list_all test (set xs i x) ≡ true
 all_set test xs i x h k = list_all-from_AllPass test (set xs i x) (All-set (λ y. test y ≡ true) xs i x k (AllPass-from_list_all test xs h))
+
+-- the fields of an object are those of what it is made of
+pub of_object : (ms : List Parts) (start new : List ℕ → Optional) (p : Parts) (o x : Object) → p ≡ object_parts ms o → o ≡ x →
+    new ≡ (λ n. fuse_optional (start n) ((object_parts ms x).0 n)) → new ≡ (λ n. fuse_optional (start n) (p.0 n))
+of_object ms start new p o x is made e = e ∙ ap (λ q n. fuse_optional (start n) (q.0 n)) (sym (is ∙ ap (object_parts ms) made))
 
 -- ---- fields by their positions
 

@@ -13,12 +13,6 @@ fine_enough Early h = absurd cc
 fine_enough (Unexpected n) h = absurd cc
 fine_enough _ h = ((λ e. cc), (λ n e. cc))
 
-pub returns-clause-refused : goal.returns-clause-refused
-returns-clause-refused c ts t d = fine_enough (verdict_of (kinds ts)) (subst (λ w. Agrees (verdict_of (kinds ts)) w) (derives_shape d tt []) (scan_shape E 0 [] (kinds ts)))
-
-pub returns-clause-one : goal.returns-clause-one
-returns-clause-one c ts t u d d' = sym (builds_tree ts t d) ∙ builds_tree ts u d'
-
 agreed : (v : Verdict) (w : Verdict) (n : ℕ) → Agrees v w → v ≡ Unexpected n → w ≡ Unexpected n
 agreed (Unexpected k) w n h e = sym h ∙ e
 agreed Fine w n h e = absurd cc
@@ -29,19 +23,19 @@ split_kinds : (front back : List Lexeme) (x : Lexeme) → kinds (front ++ x ∷ 
 split_kinds [] back x = refl
 split_kinds (y ∷ front) back x = ap (λ ks. kind_of y ∷ ks) (split_kinds front back x)
 
-pub returns-clause-nothing : goal.returns-clause-nothing
-returns-clause-nothing c front back other x t h d =
-    let e = split_kinds front back x in
-    let f = split_kinds front other x in
-    let n = sym (same_length back) in
-    let v = agreed _ _ _ (scan_shape E 0 [] (kinds (front ++ x ∷ back))) h in
-    let w : shape E [] (kinds front ++ kind_of x ∷ kinds back) ≡ Unexpected (suc (length (kinds back))) = ap (shape E []) (sym e) ∙ v ∙ ap (λ m. Unexpected (suc m)) n in
-    let a = same_fault (kinds front) (kinds back) (kinds other) (kind_of x) E [] w in
-    let b = ap (shape E []) (sym f) ∙ derives_shape d tt [] in
-    cc
-
-pub returns-clause-some : goal.returns-clause-some
-returns-clause-some c ts e = found ts e
-
-pub returns-clause-tree : goal.returns-clause-tree
-returns-clause-tree c content t none = (only_spelled content t none, spelled content t)
+pub returns : goal.returns
+returns c = record {
+  refused = λ ts t d. fine_enough (verdict_of (kinds ts)) (subst (λ w. Agrees (verdict_of (kinds ts)) w) (derives_shape d tt []) (scan_shape E 0 [] (kinds ts)));
+  nothing = λ front back other x t h d.
+      let e = split_kinds front back x in
+      let f = split_kinds front other x in
+      let n = sym (same_length back) in
+      let v = agreed _ _ _ (scan_shape E 0 [] (kinds (front ++ x ∷ back))) h in
+      let w : shape E [] (kinds front ++ kind_of x ∷ kinds back) ≡ Unexpected (suc (length (kinds back))) = ap (shape E []) (sym e) ∙ v ∙ ap (λ m. Unexpected (suc m)) n in
+      let a = same_fault (kinds front) (kinds back) (kinds other) (kind_of x) E [] w in
+      let b = ap (shape E []) (sym f) ∙ derives_shape d tt [] in
+      cc;
+  one = λ ts t u d d'. sym (builds_tree ts t d) ∙ builds_tree ts u d';
+  some = found;
+  tree = λ content t none. (only_spelled content t none, spelled content t);
+}

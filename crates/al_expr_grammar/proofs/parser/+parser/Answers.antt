@@ -5,7 +5,7 @@ use Rattle.al_expr_grammar.proofs.Trees.{tree_of-Keyword, tree_of-Number, tree_o
 use Rattle.al_expr_grammar.proofs.Rules.{constant_read, number_read, text_read, name_read, group_read, group_refused, call_empty_read, each_read, index_read, index_refused}
 use Rattle.al_expr_grammar.proofs.Chains.{not_read, positive_read, steps_read, path_begins, path_goes_on, chain_begins, chain_goes_on, operands_read, either_way, refusal}
 use Rattle.al_expr_grammar.proofs.Chains.{not_refused, path_refused, first_refused, later_refused}
-use Rattle.al_expr_grammar.proofs.Front.{no_call, no_close, no_comma, no_star, group_not_closed, star_not_closed, first_argument_refused, first_argument_read, later_argument_refused}
+use Rattle.al_expr_grammar.proofs.Front.{no_call, no_close, no_comma, group_not_closed, star_not_closed, first_argument_refused, first_argument_read, later_argument_refused}
 use Rattle.al_expr_grammar.proofs.Front.{later_argument_read, call_closed, call_not_closed, index_not_closed}
 use Rattle.al_expr_grammar.proofs.parser.+parser.Goals as goal
 
@@ -158,19 +158,19 @@ index-returns-in-Some t c =
 pub index-returns-in_err-expr : goal.index-returns-in_err-expr
 index-returns-in_err-expr t c =
     rw c.requires (refusal _ _ c.from_residual-in_err-expr.result _ c.from_residual-in_err-expr.ensures.1
-    (index_refused c.args.room c.in_ok-inner.inner c.args.bracket.text.now c.args.bracket.span (map seen c.args.tokens.now) c.in_ok-inner.ensures _ (no_star _ c.in_default.ensures) c.in_err-expr.ensures))
+    (index_refused c.args.room c.in_ok-inner.inner c.args.bracket.text.now c.args.bracket.span (map seen c.args.tokens.now) c.in_ok-inner.ensures _ c.in_default.ensures c.in_err-expr.ensures))
 
 pub index-returns-in_err-close-2 : goal.index-returns-in_err-close-2
 index-returns-in_err-close-2 t c =
     rw c.requires (refusal _ _ c.from_residual-in_err-close-2.result _ c.from_residual-in_err-close-2.ensures.1
     (index_not_closed c.args.room c.in_ok-inner.inner c.args.bracket.text.now c.args.bracket.span (map seen c.args.tokens.now)
-    c.in_ok-inner.ensures _ _ _ c.in_ok-expr.ensures (no_star _ c.in_default.ensures) c.in_err-close-2.ensures))
+    c.in_ok-inner.ensures _ _ _ c.in_ok-expr.ensures c.in_default.ensures c.in_err-close-2.ensures))
 
 pub index-returns : goal.index-returns
 index-returns t c =
     let g = c.in_ok-close-2.ensures in
     let h = rw (g.0, g.1) at c.in_ok-expr.ensures in
-    rw (c.requires, step_of-Index) (index_read _ c.in_ok-inner.inner _ _ _ c.in_ok-inner.ensures _ _ _ _ (no_star _ c.in_default.ensures) h)
+    rw (c.requires, step_of-Index) (index_read _ c.in_ok-inner.inner _ _ _ c.in_ok-inner.ensures _ _ _ _ c.in_default.ensures h)
 
 pub unary-returns-in_err-expr : goal.unary-returns-in_err-expr
 unary-returns-in_err-expr t c =

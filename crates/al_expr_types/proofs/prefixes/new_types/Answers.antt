@@ -41,10 +41,7 @@ loop-i-preserved c =
           }
     ]
 
-pub returns-clause-part : goal.returns-clause-part
-returns-clause-part c =
+pub returns : goal.returns
+returns c =
     let end : c.loop-i.i ≡ c.args.to = omega (arith, c.loop-i-test.false, c.loop-i.auto.i-end c.requires.from) in
-    subst (λ n. IsBehind c.args.types.now c.args.from c.loop-i.own.items n) end c.loop-i.invariant.part
-
-pub returns-clause-below : goal.returns-clause-below
-returns-clause-below c = c.loop-i.invariant.below
+    record { part = subst (λ n. IsBehind c.args.types.now c.args.from c.loop-i.own.items n) end c.loop-i.invariant.part; below = c.loop-i.invariant.below }

@@ -6,11 +6,9 @@ use Rattle.al_expr_types.proofs.Below.{all_more}
 use Rattle.al_expr_types.proofs.FieldMaps.{new_field}
 use Rattle.al_expr_types.proofs.fields.FieldMap.push.Goals as goal
 
-pub returns-clause-fields : goal.returns-clause-fields
-returns-clause-fields c = λ ms.
-    (λ d. named_types ms (c.in_ok-names.ensures d) (c.in_ok-push.ensures.items d))
-    ∙ new_field ms (names_in c.args.self.names) c.args.self.types.items c.args.name.now c.args.ty c.args.self.even c.requires
-
-pub returns-clause-below : goal.returns-clause-below
-returns-clause-below c = λ k h g.
-    ap (list_all (is_below k)) c.in_ok-push.ensures.items ∙ all_more (is_below k) c.args.self.types.items c.args.ty h g
+pub returns : goal.returns
+returns c = record {
+  fields = λ ms. (λ d. named_types ms (c.in_ok-names.ensures d) (c.in_ok-push.ensures.items d))
+      ∙ new_field ms (names_in c.args.self.names) c.args.self.types.items c.args.name.now c.args.ty c.args.self.even c.requires;
+  below = λ k h g. ap (list_all (is_below k)) c.in_ok-push.ensures.items ∙ all_more (is_below k) c.args.self.types.items c.args.ty h g;
+}

@@ -8,18 +8,15 @@ use Rattle.al_expr_types.specs.Types.{is_below, is_rest_below, named_types}
 use Rattle.al_expr_types.proofs.Below.{all_taken}
 use Rattle.al_expr_types.proofs.merging.FieldJoins.and_object.Goals as goal
 
-pub returns-clause-found : goal.returns-clause-found
-returns-clause-found c = λ ms.
+pub returns : goal.returns
+returns c =
     let f = c.args.fields.now in
+    let ts = f.map.value.types.items in
     let types = c.as_slice.ensures.value ∙ ap (λ m. m.types.items) c.deref-map.ensures in
-    c.in_ok-merged.ensures.found ms
-    ∙ (λ d n. fuse_optional (found_in ms c.args.self n)
-    (optional (field_at n (named_types ms (names_in (c.deref-map.ensures d).names) (take f.count (types d))))))
-
-pub returns-clause-below : goal.returns-clause-below
-returns-clause-below c = λ k h g.
-    let f = c.args.fields.now in
-    let types = c.as_slice.ensures.value ∙ ap (λ m. m.types.items) c.deref-map.ensures in
-    let first = ap (λ xs. list_all (is_below k) (take f.count xs)) types
-    ∙ all_taken (is_below k) f.count f.map.value.types.items (and_parts (list_all (is_below k) f.map.value.types.items) (is_rest_below k f.rest) h).0 in
-    c.in_ok-merged.ensures.below k first g
+    record {
+      found = λ ms. c.in_ok-merged.ensures.found ms
+          ∙ (λ d n. fuse_optional (found_in ms c.args.self n)
+          (optional (field_at n (named_types ms (names_in (c.deref-map.ensures d).names) (take f.count (types d))))));
+      below = λ k h. c.in_ok-merged.ensures.below k (ap (λ xs. list_all (is_below k) (take f.count xs)) types
+          ∙ all_taken (is_below k) f.count ts (and_parts (list_all (is_below k) ts) (is_rest_below k f.rest) h).0);
+    }

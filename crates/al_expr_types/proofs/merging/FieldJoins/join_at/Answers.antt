@@ -12,22 +12,20 @@ use Rattle.al_expr_types.proofs.merging.FieldJoins.join_at.Goals as goal
 pub index_mut-requires : goal.index_mut-requires
 index_mut-requires c = let lt = joined_within c.args.self c.args.name.now c.args.i c.requires in omega (arith, lt, c.args.self.joins.ok.0)
 
-pub returns-clause-found : goal.returns-clause-found
-returns-clause-found c = λ ms d n.
+pub returns : goal.returns
+returns c =
     let ns = names_in c.args.self.names in
     let js = c.args.self.joins.items in
     let i = c.args.i in
     let x = c.join_into.new.slot in
     let old = c.index_mut.result.now in
-    let more = Present (type_in ms c.args.ty) in
     let lt = joined_within c.args.self c.args.name.now i c.requires in
     let was = c.index_mut.ensures.value ∙ get_or_default js i old joined.Nothing lt in
-    joined_at ms ns js c.args.name.now i x more c.requires lt (c.in_ok-join_into.ensures.ty ms ∙ ap (λ j. fuse_optional (join_in ms j) more) was) n d
-
-pub returns-clause-below : goal.returns-clause-below
-returns-clause-below c = λ k h g.
-    let js = c.args.self.joins.items in
-    let i = c.args.i in
-    let lt = joined_within c.args.self c.args.name.now i c.requires in
-    let old = ap (is_join_below k) c.index_mut.ensures.value ∙ all_at (is_join_below k) js i c.index_mut.result.now lt h in
-    all_set (is_join_below k) js i c.join_into.new.slot h (c.in_ok-join_into.ensures.below k old g)
+    record {
+      found = λ ms d n.
+          let more = Present (type_in ms c.args.ty) in
+          joined_at ms ns js c.args.name.now i x more c.requires lt (c.in_ok-join_into.ensures.ty ms ∙ ap (λ j. fuse_optional (join_in ms j) more) was) n d;
+      below = λ k h g.
+          let there = ap (is_join_below k) c.index_mut.ensures.value ∙ all_at (is_join_below k) js i old lt h in
+          all_set (is_join_below k) js i x h (c.in_ok-join_into.ensures.below k there g);
+    }

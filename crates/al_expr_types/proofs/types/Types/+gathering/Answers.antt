@@ -38,15 +38,15 @@ gather-loop-m-preserved t c =
       below = λ h. c.in_ok-all-in-Common.ensures.below (c.loop-m.invariant.below h);
     }
 
-pub gather-returns-in_ok-gathered-in-Fields-clause-part : goal.gather-returns-in_ok-gathered-in-Fields-clause-part
-gather-returns-in_ok-gathered-in-Fields-clause-part t c =
-    let ms = objects_of c.args.self.now in
-    of_object ms c.args.part (join_in ms c.args.sofar) _ _ c.object.result.now _ c.object.ensures.object c.in-Fields.is (c.in_ok-gathered-in-Fields.ensures.part ms)
-
-pub gather-returns-in_ok-gathered-in-Fields-clause-below : goal.gather-returns-in_ok-gathered-in-Fields-clause-below
-gather-returns-in_ok-gathered-in-Fields-clause-below t c =
+pub gather-returns-in_ok-gathered-in-Fields : goal.gather-returns-in_ok-gathered-in-Fields
+gather-returns-in_ok-gathered-in-Fields t c =
     let os = c.args.self.now.objects.items in
-    c.in_ok-gathered-in-Fields.ensures.below (length os) (object_wider c.args.n (length os) c.object.result.now _ c.requires c.in-Fields.is c.object.ensures.below)
+    let ms = objects_of c.args.self.now in
+    let gathered = c.in_ok-gathered-in-Fields.ensures in
+    record {
+      part = of_object ms c.args.part (join_in ms c.args.sofar) _ _ c.object.result.now _ c.object.ensures.object c.in-Fields.is (gathered.part ms);
+      below = gathered.below (length os) (object_wider c.args.n (length os) c.object.result.now _ c.requires c.in-Fields.is c.object.ensures.below);
+    }
 
 pub gather-returns-in_ok-gathered-in-Strings-clause-part : goal.gather-returns-in_ok-gathered-in-Strings-clause-part
 gather-returns-in_ok-gathered-in-Strings-clause-part t c =
@@ -77,23 +77,20 @@ gather-returns-in_ok-gathered-in-Extension-clause-part t c =
 pub gather_extension-gather-requires : goal.gather_extension-gather-requires
 gather_extension-gather-requires t c = (omega (arith, c.decreases), base_below (length c.args.self.now.objects.items) c.args.extension.now c.requires)
 
-pub gather_extension-returns-in_ok-all-in-All-clause-part : goal.gather_extension-returns-in_ok-all-in-All-clause-part
-gather_extension-returns-in_ok-all-in-All-clause-part t c =
+pub gather_extension-returns-in_ok-all-in-All : goal.gather_extension-returns-in_ok-all-in-All
+gather_extension-returns-in_ok-all-in-All t c =
     let e = c.args.extension.now in
     let ms = objects_of c.args.self.now in
+    let len = length c.args.self.now.objects.items in
     let start = join_in ms c.args.sofar in
+    let of_base = join_in ms c.in_ok-of_base-in-All.of_base in
     let own = common_of (map (type_in ms) e.own.items) in
     let base = c.in_ok-of_base-in-All.ensures.part ∙ ap (λ p. fuse_optional start (part_in p (object_in ms e.base.object))) c.in-All.is in
-    let of_base = join_in ms c.in_ok-of_base-in-All.of_base in
     let all = c.in_ok-all-in-All.ensures.part ms ∙ ap (λ ts. fuse_optional of_base (common_of (map (type_in ms) ts))) c.as_slice.ensures.value in
-    fields_then_rest start of_base (join_in ms c.in_ok-all-in-All.all) (object_in ms e.base.object).2 own base all
-    ∙ ap (λ p. fuse_optional start (part_in p (extension_parts ms e))) (sym c.in-All.is)
-
-pub gather_extension-returns-in_ok-all-in-All-clause-below : goal.gather_extension-returns-in_ok-all-in-All-clause-below
-gather_extension-returns-in_ok-all-in-All-clause-below t c = λ h.
-    let e = c.args.extension.now in
-    let len = length c.args.self.now.objects.items in
     let behind = (and_parts (are_fields_below len e.fields) (is_extended_below len e) c.requires).1 in
-    let own = (and_parts (nat_lt e.base.object len) (list_all (is_below len) e.own.items) behind).1 in
-    c.in_ok-all-in-All.ensures.below len (ap (list_all (is_below len)) c.as_slice.ensures.value ∙ own)
-    (c.in_ok-of_base-in-All.ensures.below h)
+    let there = ap (list_all (is_below len)) c.as_slice.ensures.value ∙ (and_parts (nat_lt e.base.object len) (list_all (is_below len) e.own.items) behind).1 in
+    record {
+      part = fields_then_rest start of_base (join_in ms c.in_ok-all-in-All.all) (object_in ms e.base.object).2 own base all
+          ∙ ap (λ p. fuse_optional start (part_in p (extension_parts ms e))) (sym c.in-All.is);
+      below = λ h. c.in_ok-all-in-All.ensures.below len there (c.in_ok-of_base-in-All.ensures.below h);
+    }

@@ -9,6 +9,7 @@ use Rattle.al_expr_types.specs.Types.{are_below, are_fields_below, is_extended_b
 use Rattle.al_expr_types.proofs.Below.{number_at, object_wider}
 use Rattle.al_expr_types.proofs.Fusing.{fused_push}
 use Rattle.al_expr_types.proofs.Gathering.{next}
+use Rattle.al_expr_types.proofs.Merges.{of_object}
 use Rattle.al_expr_types.proofs.types.Types.+merging.Goals as goal
 
 pub merge-requires : goal.merge-requires
@@ -31,25 +32,24 @@ loop-m-preserved t c =
       below = λ h. c.in_ok-more-in-Common.ensures.below (c.loop-m.invariant.below h);
     }
 
-pub returns-in_ok-merged-in-Fields-clause-found : goal.returns-in_ok-merged-in-Fields-clause-found
-returns-in_ok-merged-in-Fields-clause-found t c =
-    let ms = objects_of c.args.self.now in
-    c.in_ok-merged-in-Fields.ensures.found ms
-    ∙ ap (λ p name. fuse_optional (found_in ms c.args.sofar name) (p.0 name)) (sym (c.object.ensures.object ∙ ap (object_parts ms) c.in-Fields.is))
-
-pub returns-in_ok-merged-in-Fields-clause-below : goal.returns-in_ok-merged-in-Fields-clause-below
-returns-in_ok-merged-in-Fields-clause-below t c =
+pub returns-in_ok-merged-in-Fields : goal.returns-in_ok-merged-in-Fields
+returns-in_ok-merged-in-Fields t c =
     let os = c.args.self.now.objects.items in
-    c.in_ok-merged-in-Fields.ensures.below (length os) (object_wider c.args.n (length os) c.object.result.now _ c.requires c.in-Fields.is c.object.ensures.below)
-
-pub returns-in_ok-merged-in-Strings-clause-found : goal.returns-in_ok-merged-in-Strings-clause-found
-returns-in_ok-merged-in-Strings-clause-found t c =
     let ms = objects_of c.args.self.now in
-    c.in_ok-merged-in-Strings.ensures.found ms
-    ∙ ap (λ p name. fuse_optional (found_in ms c.args.sofar name) (p.0 name)) (sym (c.object.ensures.object ∙ ap (object_parts ms) c.in-Strings.is))
+    let merged = c.in_ok-merged-in-Fields.ensures in
+    record {
+      found = of_object ms (found_in ms c.args.sofar) _ _ c.object.result.now _ c.object.ensures.object c.in-Fields.is (merged.found ms);
+      below = merged.below (length os) (object_wider c.args.n (length os) c.object.result.now _ c.requires c.in-Fields.is c.object.ensures.below);
+    }
 
-pub returns-in_ok-merged-in-Strings-clause-below : goal.returns-in_ok-merged-in-Strings-clause-below
-returns-in_ok-merged-in-Strings-clause-below t c = c.in_ok-merged-in-Strings.ensures.below (length c.args.self.now.objects.items)
+pub returns-in_ok-merged-in-Strings : goal.returns-in_ok-merged-in-Strings
+returns-in_ok-merged-in-Strings t c =
+    let ms = objects_of c.args.self.now in
+    let merged = c.in_ok-merged-in-Strings.ensures in
+    record {
+      found = of_object ms (found_in ms c.args.sofar) _ _ c.object.result.now _ c.object.ensures.object c.in-Strings.is (merged.found ms);
+      below = merged.below (length c.args.self.now.objects.items);
+    }
 
 pub returns-after-loop-m-clause-found : goal.returns-after-loop-m-clause-found
 returns-after-loop-m-clause-found t c = λ d name.
@@ -66,15 +66,14 @@ returns-in-Some-clause-found t c =
     let ms = objects_of c.args.self.now in
     c.in_ok-indexed.ensures.found ms ∙ ap (λ f name. fuse_optional (found_in ms c.args.sofar name) (f name)) c.in-Some.ensures.1.0
 
-pub returns-in_ok-merged-in-Extension-clause-found : goal.returns-in_ok-merged-in-Extension-clause-found
-returns-in_ok-merged-in-Extension-clause-found t c =
-    let ms = objects_of c.args.self.now in
-    c.in_ok-merged-in-Extension.ensures.found ms
-    ∙ ap (λ p name. fuse_optional (found_in ms c.args.sofar name) (p.0 name)) (sym (c.object.ensures.object ∙ ap (object_parts ms) c.in-Extension.is))
-
-pub returns-in_ok-merged-in-Extension-clause-below : goal.returns-in_ok-merged-in-Extension-clause-below
-returns-in_ok-merged-in-Extension-clause-below t c =
+pub returns-in_ok-merged-in-Extension : goal.returns-in_ok-merged-in-Extension
+returns-in_ok-merged-in-Extension t c =
     let os = c.args.self.now.objects.items in
+    let ms = objects_of c.args.self.now in
     let e = c.in-Extension.extension in
+    let merged = c.in_ok-merged-in-Extension.ensures in
     let below = object_wider c.args.n (length os) c.object.result.now _ c.requires c.in-Extension.is c.object.ensures.below in
-    c.in_ok-merged-in-Extension.ensures.below (length os) (and_parts (are_fields_below (length os) e.fields) (is_extended_below (length os) e) below).0
+    record {
+      found = of_object ms (found_in ms c.args.sofar) _ _ c.object.result.now _ c.object.ensures.object c.in-Extension.is (merged.found ms);
+      below = merged.below (length os) (and_parts (are_fields_below (length os) e.fields) (is_extended_below (length os) e) below).0;
+    }
