@@ -4,24 +4,14 @@ use Rattle.std.proofs.lemmas.List.{map_push, map_more}
 use Rattle.al_base.specs.declared.faults.Fault.{Fault}
 use Rattle.al_session_folder.specs.Meaning.{Meaning}
 use Rattle.al_base.specs.Counted.{count_after}
-use Rattle.al_session_folder.specs.Folder.{Folder, interface_in, answer, faults_in, bytes_at}
+use Rattle.al_session_folder.specs.Folder.{Folder, answer, faults_in, bytes_at}
 use Rattle.al_session_folder.specs.Kept.{faults_of}
 use Rattle.std.specs.Option.{option_map_or, option_or}
 use Rattle.al_session_folder.specs.declared.lint.Target.{Target}
-use Rattle.al_session_folder.specs.declared.lint.Target.TheVariants.{Only, FirstOf}
 
-or_none : {T : Type 0} (o : Option T) → option_or o None ≡ o
+pub or_none : {T : Type 0} (o : Option T) → option_or o None ≡ o
 or_none None = refl
 or_none (Some x) = refl
-
-module _ {I : Type 0} (m : Meaning I) (f : Folder) where
-  pub answer-Only : (t : Target) (p : List ℕ) → t ≡ Only p → interface_in m f p ≡ answer m f t
-  unfolding answer
-  answer-Only t p h = rw h (sym (or_none (interface_in m f p)))
-
-  pub answer-FirstOf : (t : Target) (p q : List ℕ) → t ≡ FirstOf p q → option_or (interface_in m f p) (interface_in m f q) ≡ answer m f t
-  unfolding answer
-  answer-FirstOf t p q h = rw h (ap (option_or (interface_in m f p)) (sym (or_none (interface_in m f q))))
 
 -- what a check answers are the file's faults, where it was given the answers of its calls
 pub check_is : {I : Type 0} (m : Meaning I) (f : Folder) (p b b1 : List ℕ) (targets : List Target) (given : List (Option I)) (faults : List Fault)
@@ -33,7 +23,7 @@ check_is m f p b b1 targets given faults bytes calls answered checked =
 -- one more of each of two lists
 pub map_both : {A B C : Type 0} (f : A → C) (g : B → C) (xs : List A) (ys : List B) (i : ℕ) (d : B) (x : A) → i < length ys → map f xs
     ≡ map g (take i ys) → f x ≡ g (get_or ys i d) → map f (xs ++ x ∷ []) ≡ map g (take (i + 1) ys)
-map_both f g xs ys i d x within so_far here = map_push f xs x ∙ ap (λ l. l ++ f x ∷ []) so_far ∙ ap (λ y. map g (take i ys) ++ y ∷ []) here ∙ sym (map_more g ys i d within)
+map_both f g xs ys i d x within so_far here = rw (map_push f xs x, so_far, here, map_more g ys i d within)
 
 pub raised_more : (n k a b : ℕ) → a ≡ count_after n k → b ≡ count_after a 1 → b ≡ count_after n (k + 1)
 raised_more n k a b h e = omega arith

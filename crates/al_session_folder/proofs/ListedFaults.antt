@@ -1,6 +1,6 @@
 -- The faults that a report lists: each file's own, and those of its calls on a call cycle.
-use Rattle.al_session_folder.proofs.Places.{each_at}
-use Rattle.std.proofs.Common.{◌≤◌, ◌≡◌, ◌<◌, ℕ, zero, suc, ◌+◌, Bool, true, false, cond, not, List, [], ◌∷◌, ◌++◌, length}
+use Rattle.al_session_folder.proofs.Places.{by_ordering, each_at}
+use Rattle.std.proofs.Common.{◌≤◌, ◌≡◌, ◌<◌, ℕ, ◌+◌, Bool, true, false, cond, not, List, [], ◌∷◌, ◌++◌, length}
 use Rattle.std.proofs.Common.{get_or, Option, Some, String, slice_get, refl, sym, ◌∙◌, ap, subst, ◌||◌, arith, length-append, ⊎_elim}
 use Rattle.std.specs.Prelude.{string_bytes}
 use Rattle.std.specs.Bool.{◌==◌}
@@ -8,13 +8,13 @@ use Rattle.std.specs.Borrow.{Bor}
 use Rattle.std.specs.Global.{Global}
 use Rattle.std.specs.List.{AllByRecursion, dedup, enumerate_from, flat_map, list_any}
 use Rattle.std.specs.List.Sorted.{IsPermutation, IsSorted, IsStrictlySortedBy}
-use Rattle.std.specs.Ordering.{match_ordering}
 use Rattle.std.specs.declared.cmp.Ordering.{Ordering}
-use Rattle.std.specs.declared.cmp.Ordering.TheVariants.{Less, Equal, Greater}
 use Rattle.std.proofs.lemmas.Bool.Decides.{nat_tests}
 use Rattle.std.proofs.lemmas.Bool.{cases_lt}
 use Rattle.std.proofs.lemmas.List.{get_or-append-add, get_or_append_left, length-map, nil_from_length}
-use Rattle.al_base.proofs.Elements.{each_both}
+use Rattle.std.proofs.lemmas.List.Elements.{All-from_recursion}
+use Rattle.std.proofs.Math.ListN.{get_or-map}
+use Rattle.al_base.proofs.Elements.{each_both, each_either}
 use Rattle.std.proofs.lemmas.List.Sorted.{IsPermutation-append_comm}
 use Rattle.al_base.proofs.FaultLists.{AllByRecursion-fault_list, derived_is, derived_ties, fault_cmp_same, fault_cmp_total, fault_list-permutation, fault_list-sorted}
 use Rattle.al_session_folder.proofs.Referring.{ordered_referred}
@@ -35,7 +35,6 @@ use Rattle.al_session_folder.proofs.Looping.{fault_if, kept_number, looping}
 use Rattle.al_session_folder.specs.Report.{status_of, report_of}
 use Rattle.al_session_folder.specs.Checked.{AllChecked}
 use Rattle.al_session_folder.specs.Printing.{AreNumbered, ArePrintable, joined_faults, joined_or_own, numbered_lines}
-use Rattle.al_session_folder.proofs.Reports.{any_fault}
 
 -- ---- faults that are joined
 
@@ -48,23 +47,18 @@ module _ {I : Type 0} (m : Meaning I) (ordered : (p b : List ℕ) (given : List 
   -- where no call is on a cycle, a file's own faults are listed
   pub own_reported : (i : ℕ) (p b : List ℕ) (faults : List Fault) → faults ≡ faults_in m f p b → loop_faults m f i p b ≡ [] → faults ≡ report_faults m f i p b
   unfolding report_faults faults_in
-  own_reported i p b faults is none =
-      is ∙ sym (ap (λ l. fault_list (l ++ m.faults p b (answers m f p b))) none ∙ fault_list-sorted (m.faults p b (answers m f p b)) (ordered p b (answers m f p b)))
+  own_reported i p b faults is none = is ∙ sym (rw none (fault_list-sorted (m.faults p b (answers m f p b)) (ordered p b (answers m f p b))))
 
 -- ---- they lie in the file
 
 module _ {I : Type 0} (m : Meaning I) (f : Folder) (i : ℕ) (size : ℕ) where
-  one_inside : (t : Bool) (s : Fault) → LiesIn size s.span → AllByRecursion (λ (fault : Fault). LiesIn size fault.span) (fault_if t s)
-  one_inside true s h = (h, tt)
-  one_inside false s h = tt
-
   looping_inside : (ts : List Target) (ss : List Fault) → AllByRecursion (λ (s : Fault). LiesIn size s.span) ss →
       AllByRecursion (λ (fault : Fault). LiesIn size fault.span) (looping (calls_graph m f) f i ts ss)
   looping_inside [] ss h = tt
   looping_inside (t ∷ ts) [] h = tt
   looping_inside (t ∷ ts) (s ∷ ss) h =
       each_both _ (fault_if (leads_back (calls_graph m f) i (callee f t)) s) (looping (calls_graph m f) f i ts ss)
-      (one_inside (leads_back (calls_graph m f) i (callee f t)) s h.0) (looping_inside ts ss h.1)
+      (each_either _ (leads_back (calls_graph m f) i (callee f t)) (s ∷ []) [] (h.0, tt) tt) (looping_inside ts ss h.1)
 
 module _ {I : Type 0} (m : Meaning I)
     (inside : (p b : List ℕ) (given : List (Option I)) → length b ≤ 1048576 → AllByRecursion (λ (fault : Fault). LiesIn (length b) fault.span) (m.faults p b given))
@@ -86,8 +80,7 @@ lines_from : {U I : Type 0} (m : Meaning I) (f : Folder) (oneline : Bool) (n : �
     flat_map (numbered_lines oneline m f) (enumerate_from n es)
     ≡ flat_map (λ x. flat_map (fault_text oneline x.1.0 x.1.1) (report_faults m f x.0 x.1.0 x.1.1)) (enumerate_from n (folder_of es))
 lines_from m f oneline n [] = refl
-lines_from m f oneline n (e ∷ es) =
-    ap (λ l. flat_map (fault_text oneline (string_bytes e.0) e.1.bytes.items) (report_faults m f n (string_bytes e.0) e.1.bytes.items) ++ l) (lines_from m f oneline (n + 1) es)
+lines_from m f oneline n (e ∷ es) = rw (lines_from m f oneline (n + 1) es)
 
 pub report_is : {U I : Type 0} (m : Meaning I) (files : Files U I) (oneline : Bool) →
     flat_map (numbered_lines oneline m (folder_of files)) (enumerate_from 0 files) ≡ report_of oneline m (folder_of files)
@@ -102,52 +95,41 @@ some_list x xs = grind (arith, nat_tests)
 none_of : {X : Type 0} (xs : List X) → (length xs == 0) ≡ true → xs ≡ []
 none_of xs e = nil_from_length xs (grind (arith, nat_tests))
 
-put_some : (x : Fault) (ys : List Fault) → not (length (with_one fault_cmp x ys) == 0) ≡ true
-put_some x [] = some_list x []
-put_some x (y ∷ ys) = by (fault_cmp x y)
-  where
-    by : (o : Ordering) → not (length (match_ordering o (x ∷ y ∷ ys) (y ∷ ys) (y ∷ with_one fault_cmp x ys)) == 0) ≡ true
-    by Less = some_list x (y ∷ ys)
-    by Equal = some_list y ys
-    by Greater = some_list y (with_one fault_cmp x ys)
-
 some_in_order : (xs : List Fault) → not (length (in_order fault_cmp xs) == 0) ≡ not (length xs == 0)
 some_in_order [] = refl
-some_in_order (x ∷ xs) = put_some x (in_order fault_cmp xs) ∙ sym (some_list x xs)
+some_in_order (x ∷ xs) = by (in_order fault_cmp xs) ∙ sym (some_list x xs)
+  where
+    by : (ys : List Fault) → not (length (with_one fault_cmp x ys) == 0) ≡ true
+    by [] = some_list x []
+    by (y ∷ ys) = by_ordering (fault_cmp x y) (λ a. rw a (some_list x (y ∷ ys))) (λ a. rw a (some_list y ys)) (λ a. rw a (some_list y (with_one fault_cmp x ys)))
 
 some_of_both : (a b : List Fault) → not (length (a ++ b) == 0) ≡ (not (length a == 0) || not (length b == 0))
 some_of_both a b = let all = length-append a b in grind (arith, nat_tests, all)
 
-either_any : {X : Type 0} (P Q R : X → Bool) (xs : List X) → ((x : X) → R x ≡ (P x || Q x)) → list_any R xs ≡ (list_any P xs || list_any Q xs)
-either_any P Q R [] h = refl
-either_any P Q R (x ∷ xs) h = let here = h x in let rest = either_any P Q R xs h in grind (arith, nat_tests, here, rest)
+module _ {I : Type 0} (m : Meaning I) (f : Folder) where
+  abbrev LoopAt : ℕ × (List ℕ × List ℕ) → Bool
+  LoopAt x = not (length (loop_faults m f x.0 x.1.0 x.1.1) == 0)
 
-any_numbered : {X : Type 0} (P : X → Bool) (n : ℕ) (xs : List X) → list_any (λ (x : ℕ × X). P x.1) (enumerate_from n xs) ≡ list_any P xs
-any_numbered P n [] = refl
-any_numbered P n (x ∷ xs) = ap (λ b. P x || b) (any_numbered P (n + 1) xs)
+  -- a file has something to report just where a call of it is on a call cycle, or it has faults of its own
+  any_reported : {U : Type 0} (n : ℕ) (es : Files U I) → AllChecked m f es → list_any (λ (x : ℕ × (List ℕ × List ℕ)). not (length (report_faults m f x.0 x.1.0 x.1.1) == 0)) (enumerate_from n (folder_of es))
+      ≡ (list_any LoopAt (enumerate_from n (folder_of es)) || list_any (λ (e : String Global × KeptFile U I). not (length e.1.faults.items == 0)) es)
+  unfolding report_faults
+  any_reported n [] checked = refl
+  any_reported n (e ∷ es) checked =
+      let loops = loop_faults m f n (string_bytes e.0) e.1.bytes.items in
+      let own = faults_in m f (string_bytes e.0) e.1.bytes.items in
+      let rest = any_reported (n + 1) es checked.1 in
+      rw (checked.0, some_in_order (loops ++ own), some_of_both loops own, rest) (grind (arith, nat_tests))
 
 module _ {U I : Type 0} (m : Meaning I) (files : Files U I) (checked : AllChecked m (folder_of files) files) where
-  abbrev LoopAt : ℕ × (List ℕ × List ℕ) → Bool
-  LoopAt x = not (length (loop_faults m (folder_of files) x.0 x.1.0 x.1.1) == 0)
-
-  any_reported : list_any (λ (x : ℕ × (List ℕ × List ℕ)). not (length (report_faults m (folder_of files) x.0 x.1.0 x.1.1) == 0)) (enumerate_from 0 (folder_of files))
-      ≡ (list_any LoopAt (enumerate_from 0 (folder_of files)) || list_any (λ (e : String Global × KeptFile U I). not (length e.1.faults.items == 0)) files)
-  unfolding report_faults
-  any_reported =
-      either_any LoopAt (λ x. not (length (faults_in m (folder_of files) x.1.0 x.1.1) == 0)) _ (enumerate_from 0 (folder_of files))
-      (λ x. some_in_order (loop_faults m (folder_of files) x.0 x.1.0 x.1.1 ++ faults_in m (folder_of files) x.1.0 x.1.1)
-      ∙ some_of_both (loop_faults m (folder_of files) x.0 x.1.0 x.1.1) (faults_in m (folder_of files) x.1.0 x.1.1))
-      ∙ ap (λ b. list_any LoopAt (enumerate_from 0 (folder_of files)) || b)
-      (any_numbered (λ (e : List ℕ × List ℕ). not (length (faults_in m (folder_of files) e.0 e.1) == 0)) 0 (folder_of files) ∙ sym (any_fault m (folder_of files) files checked))
-
   pub status_faults : list_any (λ (e : String Global × KeptFile U I). not (length e.1.faults.items == 0)) files ≡ true → 1 ≡ status_of m (folder_of files)
   unfolding status_of
-  status_faults h = rw (any_reported, h) (grind (arith, nat_tests))
+  status_faults h = rw (any_reported m (folder_of files) 0 files checked, h) (grind (arith, nat_tests))
 
-  pub status_loops : (some : Bool) → list_any (λ (e : String Global × KeptFile U I). not (length e.1.faults.items == 0)) files ≡ false → some ≡ list_any LoopAt (enumerate_from 0 (folder_of files)) →
-      cond some 1 0 ≡ status_of m (folder_of files)
+  pub status_loops : (some : Bool) → list_any (λ (e : String Global × KeptFile U I). not (length e.1.faults.items == 0)) files ≡ false
+      → some ≡ list_any (LoopAt m (folder_of files)) (enumerate_from 0 (folder_of files)) → cond some 1 0 ≡ status_of m (folder_of files)
   unfolding status_of
-  status_loops some h s = rw (any_reported, h, s) (grind (arith, nat_tests))
+  status_loops some h s = rw (any_reported m (folder_of files) 0 files checked, h, s) (grind (arith, nat_tests))
 
 -- ---- faults in order by references to them
 
@@ -158,9 +140,8 @@ ordered_faults xs sorted out moved by_cmp is =
     (subst (λ (cmp : Fault → Fault → Ordering). IsSorted (λ (x y : Bor Fault). cmp x.now y.now) sorted) (λ i x y. derived_is x y i) by_cmp) is
 
 pub all-referred : (P : Fault → Type 0) (xs : List (Bor Fault)) (i : ℕ) (r : Bor Fault) → AllByRecursion P (referents xs) → i < length xs → r ≡ get_or xs i r → P r.now
-all-referred P [] i r all lt is = absurd (omega (arith, lt))
-all-referred P (x ∷ xs) zero r all lt is = subst (λ (y : Bor Fault). P y.now) (sym is) all.0
-all-referred P (x ∷ xs) (suc i) r all lt is = all-referred P xs i r all.1 (omega (arith, lt)) is
+all-referred P xs i r all lt is =
+    rw (get_or-map (λ (x : Bor Fault). x.now) xs i r, ← is) at (All-from_recursion P (referents xs) all i r.now (rw length-map lt))
 
 -- a list of the program joins the file's own faults to those of its loops
 pub listed_both : {U I : Type 0} (m : Meaning I) (files : Files U I) (i : ℕ) (e : String Global × KeptFile U I) (all : List Fault)
@@ -178,31 +159,22 @@ listed_both m files i e all list checked at a o =
 module _ {U I : Type 0} (m : Meaning I) (ordered : (p b : List ℕ) (given : List (Option I)) → IsStrictlySortedBy fault_cmp (m.faults p b given)) (files : Files U I) (i : ℕ)
     (e : String Global × KeptFile U I) (own loops : List Fault) (joined : List (Bor Fault)) (checked : AllChecked m (folder_of files) files) (at : slice_get files i ≡ Some e)
     (is : own ≡ e.1.faults.items) (all : loops ≡ loop_faults m (folder_of files) i (string_bytes e.0) e.1.bytes.items) (now : referents joined ≡ joined_faults own loops) where
-  none_listed : loops ≡ [] → joined_or_own e.1 joined ≡ report_faults m (folder_of files) i (string_bytes e.0) e.1.bytes.items
-  none_listed none =
-      let empty : referents joined ≡ [] = now ∙ ap (joined_faults own) none in
-      let n : length (referents joined) ≡ length joined = length-map joined (λ (r : Bor Fault). r.now) in
-      let no : (length joined == 0) ≡ true = ap (λ k. k == 0) (sym n ∙ ap length empty) in
-      ap (λ b. cond b e.1.faults.items (referents joined)) no
-      ∙ own_reported m ordered (folder_of files) i (string_bytes e.0) e.1.bytes.items e.1.faults.items (checked_number m (folder_of files) files i e checked at) (sym all ∙ none)
-
-  some_listed : (length loops == 0) ≡ false → joined_or_own e.1 joined ≡ report_faults m (folder_of files) i (string_bytes e.0) e.1.bytes.items
-  some_listed some =
-      let put : referents joined ≡ fault_list (own ++ loops) = now ∙ ap (λ b. cond b [] (fault_list (own ++ loops))) some in
-      let n : length (referents joined) ≡ length joined = length-map joined (λ (r : Bor Fault). r.now) in
-      let length_is = ap length put in
-      let in_order_too = some_in_order (own ++ loops) in
-      let both = some_of_both own loops in
-      let no : (length joined == 0) ≡ false = grind (arith, nat_tests, n, length_is, in_order_too, both, some) in
-      ap (λ b. cond b e.1.faults.items (referents joined)) no
-      ∙ listed_both m files i e (own ++ loops) joined checked at (ap (λ l. l ++ loops) is ∙ ap (λ l. e.1.faults.items ++ l) all) put
-
   pub listed_is : joined_or_own e.1 joined ≡ report_faults m (folder_of files) i (string_bytes e.0) e.1.bytes.items
   listed_is = by (length loops == 0) refl
     where
+      long : length (referents joined) ≡ length joined
+      long = length-map joined (λ (r : Bor Fault). r.now)
+
       by : (b : Bool) → (length loops == 0) ≡ b → joined_or_own e.1 joined ≡ report_faults m (folder_of files) i (string_bytes e.0) e.1.bytes.items
-      by true none = none_listed (none_of loops none)
-      by false some = some_listed some
+      by true none =
+          let empty : length joined ≡ 0 = sym long ∙ ap length (rw none at now) in
+          rw empty (own_reported m ordered (folder_of files) i (string_bytes e.0) e.1.bytes.items e.1.faults.items (checked_number m (folder_of files) files i e checked at) (sym all ∙ none_of loops none))
+      by false some =
+          let put : referents joined ≡ fault_list (own ++ loops) = rw some at now in
+          let in_order_too = some_in_order (own ++ loops) in
+          let both = some_of_both own loops in
+          let no : (length joined == 0) ≡ false = let length_is = ap length put in grind (arith, nat_tests, long, length_is, in_order_too, both, some) in
+          rw no (listed_both m files i e (own ++ loops) joined checked at (rw (is, all)) put)
 
 -- ---- elements by their numbers
 

@@ -1,5 +1,5 @@
 -- What is missing of a folder: a path is among it just where it isn't there and a call has it as a candidate.
-use Rattle.std.proofs.Common.{◌≡◌, ℕ, ◌&&◌, ◌||◌, List, [], ◌∷◌, refl, sym, ◌∙◌, ap, arith}
+use Rattle.std.proofs.Common.{◌≡◌, ℕ, ◌&&◌, List, [], ◌∷◌, refl, sym, ◌∙◌, ap, arith}
 use Rattle.std.proofs.lemmas.Bool.Decides.{nat_tests}
 use Rattle.std.specs.Prelude.{bytes_eq}
 use Rattle.std.specs.List.{flat_map, list_any}
@@ -16,8 +16,7 @@ use Rattle.al_session_folder.proofs.Views.{bytes_same}
 module _ (p : List ℕ) where
   among_candidates : (ts : List Target) → is_among p (flat_map candidates ts) ≡ is_candidate ts p
   among_candidates [] = refl
-  among_candidates (t ∷ ts) =
-      list_any-append (bytes_eq p) (candidates t) (flat_map candidates ts) ∙ ap (λ r. list_any (bytes_eq p) (candidates t) || r) (among_candidates ts)
+  among_candidates (t ∷ ts) = rw (list_any-append (bytes_eq p) (candidates t) (flat_map candidates ts), among_candidates ts)
 
   among_absent : (f : Folder) (ts : List Target) → is_among p (absent_candidates f ts) ≡ (is_absent f p && is_candidate ts p)
   among_absent f ts =
@@ -28,9 +27,8 @@ module _ (p : List ℕ) where
     among_all : (es : Folder) → is_among p (flat_map (λ e. absent_candidates f (m.calls e.0 e.1)) es) ≡ (is_absent f p && list_any (λ e. is_candidate (m.calls e.0 e.1) p) es)
     among_all [] = grind (arith, nat_tests)
     among_all (e ∷ es) =
-        let first = among_absent f (m.calls e.0 e.1) in
-        let rest = among_all es in
-        list_any-append (bytes_eq p) (absent_candidates f (m.calls e.0 e.1)) (flat_map (λ e. absent_candidates f (m.calls e.0 e.1)) es) ∙ grind (arith, nat_tests, first, rest)
+        rw (list_any-append (bytes_eq p) (absent_candidates f (m.calls e.0 e.1)) (flat_map (λ e. absent_candidates f (m.calls e.0 e.1)) es), among_absent f (m.calls e.0 e.1), among_all es)
+        (grind (arith, nat_tests))
 
 pub missing_members : {I : Type 0} (m : Meaning I) (f : Folder) (p : List ℕ) → is_among p (missing_in m f) ≡ is_missing m f p
 unfolding missing_in

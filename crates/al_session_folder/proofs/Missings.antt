@@ -1,16 +1,15 @@
 -- The candidates that are missing, and paths that are put in order.
 use Rattle.std.proofs.lemmas.Map.Lookups.{exact_bytes}
-use Rattle.std.proofs.Common.{◌≡◌, ℕ, ◌+◌, ◌<◌, Bool, cond, List, [], ◌∷◌, ◌++◌, length, get_or, take}
-use Rattle.std.proofs.Common.{filter, Option, Some, None, is_some, String, refl, sym, ◌∙◌, ap}
+use Rattle.std.proofs.Common.{◌≡◌, ℕ, ◌+◌, ◌<◌, Bool, List, [], ◌∷◌, ◌++◌, length, get_or, take}
+use Rattle.std.proofs.Common.{filter, String, refl, sym, ◌∙◌, ap}
 use Rattle.std.proofs.Common.{append-nil, append_assoc}
 use Rattle.std.specs.List.{dedup, flat_map}
 use Rattle.std.specs.List.Sorted.{IsPermutation, IsSortedBy, IsStrictlySortedBy}
 use Rattle.std.specs.Borrow.{Bor}
 use Rattle.std.specs.Cmp.{IsStrictWeakOrder}
 use Rattle.std.specs.Fn.{Called, ComparesAs, Mut}
-use Rattle.std.specs.Prelude.{bytes_eq, string_bytes}
+use Rattle.std.specs.Prelude.{bytes_eq}
 use Rattle.std.specs.Global.{Global}
-use Rattle.std.specs.Option.{option_map}
 use Rattle.std.specs.Ordering.{is_lt, nat_cmp}
 use Rattle.std.specs.declared.cmp.Ordering.{Ordering}
 use Rattle.std.specs.Cmp.Lexicographic.{slice_cmp}
@@ -22,55 +21,33 @@ use Rattle.std.proofs.lemmas.List.MinMax.{ranks_by}
 use Rattle.std.proofs.lemmas.Fn.{always_returns_same}
 use Rattle.std.proofs.lemmas.Map.Text.{is_eq-slice_cmp}
 use Rattle.al_session_folder.specs.Meaning.{Meaning, candidates}
-use Rattle.al_session_folder.specs.Kept.{Files, folder_of, file_at, referents, AllKept}
+use Rattle.al_session_folder.specs.Kept.{Files, folder_of, referents, AllKept}
 use Rattle.al_session_folder.specs.declared.kept.KeptFile.{KeptFile}
-use Rattle.al_session_folder.specs.Folder.{Folder, bytes_at}
+use Rattle.al_session_folder.specs.Folder.{Folder}
 use Rattle.al_session_folder.specs.Missing.{is_absent, absent_candidates, missing_in}
 use Rattle.al_base.specs.InOrder.{in_order}
 use Rattle.al_base.proofs.InOrder.{IsStrictlySortedBy-in_order, dedup-in_order}
 use Rattle.al_session_folder.specs.declared.lint.Target.{Target}
-use Rattle.al_session_folder.proofs.Views.{bytes_kept}
 use Rattle.al_session_folder.proofs.Referring.{ordered_referred}
 
-module _ (f : Folder) where
-  -- a path that is in the folder isn't put, and one that is not in it is
-  pub absent_present : (p b : List ℕ) → bytes_at f p ≡ Some b → filter (is_absent f) (p ∷ []) ≡ []
-  absent_present p b h = rw h refl
-
-  pub absent_absent : (p : List ℕ) → bytes_at f p ≡ None → filter (is_absent f) (p ∷ []) ≡ p ∷ []
-  absent_absent p h = rw h refl
-
-  -- one call more
-  pub absent_more : (ts : List Target) (i : ℕ) (t : Target) → i < length ts → t ≡ get_or ts i t
-      → absent_candidates f (take (i + 1) ts) ≡ absent_candidates f (take i ts) ++ filter (is_absent f) (candidates t)
-  absent_more ts i t within read =
-      ap (absent_candidates f) (take_more ts i t within ∙ ap (λ x. take i ts ++ x ∷ []) (sym read))
-      ∙ ap (filter (is_absent f)) (flat_map-append candidates (take i ts) (t ∷ []) ∙ ap (λ l. flat_map candidates (take i ts) ++ l) (append-nil (candidates t)))
-      ∙ filter-append (is_absent f) (flat_map candidates (take i ts)) (candidates t)
-
-  -- those of one call more
-  pub next_absent : (ps so_far more : List (List ℕ)) (ts : List Target) (i : ℕ) (t : Target) → i < length ts → t ≡ get_or ts i t
-      → so_far ≡ ps ++ absent_candidates f (take i ts) → more ≡ so_far ++ filter (is_absent f) (candidates t)
-      → more ≡ ps ++ absent_candidates f (take (i + 1) ts)
-  next_absent ps so_far more ts i t within read before now =
-      now ∙ ap (λ l. l ++ filter (is_absent f) (candidates t)) before
-      ∙ append_assoc ps (absent_candidates f (take i ts)) (filter (is_absent f) (candidates t))
-      ∙ sym (ap (λ l. ps ++ l) (absent_more ts i t within read))
+-- those of one call more
+pub next_absent : (f : Folder) (ps so_far more : List (List ℕ)) (ts : List Target) (i : ℕ) (t : Target) → i < length ts → t ≡ get_or ts i t
+    → so_far ≡ ps ++ absent_candidates f (take i ts) → more ≡ so_far ++ filter (is_absent f) (candidates t)
+    → more ≡ ps ++ absent_candidates f (take (i + 1) ts)
+next_absent f ps so_far more ts i t within read before now =
+    rw (now, before, append_assoc, take_more ts i t within, ← read, flat_map-append candidates (take i ts) (t ∷ []), append-nil (candidates t),
+    filter-append (is_absent f) (flat_map candidates (take i ts)) (candidates t))
 
 -- those of one file more
 pub next_missing : {X : Type 0} (part : X → List (List ℕ)) (so_far more : List (List ℕ)) (xs : List X) (i : ℕ) (x : X) → i < length xs → x ≡ get_or xs i x
     → so_far ≡ flat_map part (take i xs) → more ≡ so_far ++ part x → more ≡ flat_map part (take (i + 1) xs)
-next_missing part so_far more xs i x within read before now =
-    now ∙ ap (λ l. l ++ part x) before ∙ ap (λ l. flat_map part (take i xs) ++ l) (sym (append-nil (part x)))
-    ∙ sym (ap (flat_map part) (take_more xs i x within ∙ ap (λ y. take i xs ++ y ∷ []) (sym read)) ∙ flat_map-append part (take i xs) (x ∷ []))
+next_missing part so_far more xs i x within read before now = rw (now, before, take_more xs i x within, ← read, flat_map-append part (take i xs) (x ∷ []), append-nil (part x))
 
 -- over kept files, and over the folder that they make
 pub missing_is : {U I : Type 0} (m : Meaning I) (is_unit : U → List ℕ → List ℕ → Type 0) (f : Folder) (files : Files U I) → AllKept m is_unit files
     → flat_map (λ (e : String Global × KeptFile U I). absent_candidates f e.1.calls.targets.items) files ≡ flat_map (λ e. absent_candidates f (m.calls e.0 e.1)) (folder_of files)
 missing_is m is_unit f [] kept = refl
-missing_is m is_unit f (e ∷ es) kept =
-    ap (λ ts. absent_candidates f ts ++ flat_map (λ (e : String Global × KeptFile _ _). absent_candidates f e.1.calls.targets.items) es) kept.0.calls.targets
-    ∙ ap (λ l. absent_candidates f (m.calls (string_bytes e.0) e.1.bytes.items) ++ l) (missing_is m is_unit f es kept.1)
+missing_is m is_unit f (e ∷ es) kept = rw (kept.0.calls.targets, missing_is m is_unit f es kept.1)
 
 pub nothing_sorted : IsStrictlySortedBy (slice_cmp nat_cmp) []
 unfolding IsStrictlySortedBy
@@ -106,11 +83,3 @@ ordered_paths {g = g} {f = f} xs sorted out moved up h is =
     is ∙ dedup-in_order nat_list_cmp_total exact_bytes bytes_eq (λ x y. sym (is_eq-slice_cmp x y)) xs sorted moved
     (up (λ x y. is_lt (slice_cmp nat_cmp x y)) (ranks_by nat_list_cmp_total (λ (x : List ℕ). x))
     (always_returns_same g (λ a r. is_lt r ≡ is_lt (slice_cmp nat_cmp a.0.now a.1.0.now)) f (λ a r f' k. (ap is_lt (h a r f' k).0, (h a r f' k).1))))
-
--- whether the kept files have a path, and whether it is put among the absent ones
-pub absent_by : {U I : Type 0} (files : Files U I) (p : List ℕ) (t : Bool) → is_some (file_at files p) ≡ t → filter (is_absent (folder_of files)) (p ∷ []) ≡ cond t [] (p ∷ [])
-absent_by {U} {I} files p t h = by (file_at files p) refl
-  where
-    by : (o : Option (KeptFile U I)) → file_at files p ≡ o → filter (is_absent (folder_of files)) (p ∷ []) ≡ cond t [] (p ∷ [])
-    by None a = absent_absent (folder_of files) p (bytes_kept files p ∙ ap (option_map (λ file. file.bytes.items)) a) ∙ ap (λ b. cond b [] (p ∷ [])) (sym (ap is_some a) ∙ h)
-    by (Some file) a = absent_present (folder_of files) p file.bytes.items (bytes_kept files p ∙ ap (option_map (λ file. file.bytes.items)) a) ∙ ap (λ b. cond b [] (p ∷ [])) (sym (ap is_some a) ∙ h)

@@ -1,5 +1,5 @@
 -- Lists of references that are put in order, each value once.
-use Rattle.std.proofs.Common.{◌≡◌, ℕ, ◌+◌, Bool, true, false, cond, List, [], ◌∷◌, ◌++◌, ◌<◌, length, get_or, take, refl, sym, ◌∙◌, ap, arith}
+use Rattle.std.proofs.Common.{◌≡◌, ℕ, ◌+◌, Bool, List, [], ◌∷◌, ◌++◌, ◌<◌, length, get_or, take, refl, ◌∙◌, ap, arith}
 use Rattle.std.specs.Borrow.{Bor}
 use Rattle.std.specs.Cmp.{IsTotalOrder}
 use Rattle.std.specs.FinMap.{IsAntisymmetric}
@@ -11,19 +11,14 @@ use Rattle.std.proofs.lemmas.List.{get_or-map, length-map, take_more}
 use Rattle.std.proofs.lemmas.List.Sorted.{IsPermutation-map}
 use Rattle.al_base.proofs.InOrder.{dedup-in_order}
 use Rattle.al_base.specs.InOrder.{in_order}
+use Rattle.std.proofs.Math.ListN as at
+use Rattle.std.proofs.lemmas.Bool.Decides.{nat_tests}
 use Rattle.al_session_folder.specs.Kept.{referents}
 
 module _ {X : Type 0} (E : X → X → Bool) where
   dedup_from_referred : (k : Bor X) (xs : List (Bor X)) → referents (dedup_from (λ (x y : Bor X). E x.now y.now) k xs) ≡ dedup_from E k.now (referents xs)
   dedup_from_referred k [] = refl
-  dedup_from_referred k (x ∷ xs) = by (E x.now k.now) (dedup_from_referred k xs) (dedup_from_referred x xs)
-    where
-      by : (b : Bool) → referents (dedup_from (λ (x y : Bor X). E x.now y.now) k xs) ≡ dedup_from E k.now (referents xs)
-          → referents (dedup_from (λ (x y : Bor X). E x.now y.now) x xs) ≡ dedup_from E x.now (referents xs)
-          → referents (cond b (dedup_from (λ (x y : Bor X). E x.now y.now) k xs) (k ∷ dedup_from (λ (x y : Bor X). E x.now y.now) x xs))
-          ≡ cond b (dedup_from E k.now (referents xs)) (k.now ∷ dedup_from E x.now (referents xs))
-      by true left right = left
-      by false left right = ap (λ l. k.now ∷ l) right
+  dedup_from_referred k (x ∷ xs) = rw (← dedup_from_referred k xs, ← dedup_from_referred x xs) (grind (arith, nat_tests))
 
   dedup_referred : (xs : List (Bor X)) → referents (dedup (λ (x y : Bor X). E x.now y.now) xs) ≡ dedup E (referents xs)
   dedup_referred [] = refl
@@ -49,6 +44,5 @@ ordered_referred {X} {cmp} total same E ties xs sorted out moved s is =
 pub next_referred : {X : Type 0} (xs : List (Bor X)) (i : ℕ) (x : Bor X) (old new : List X) (y : X) → i < length xs → x ≡ get_or xs i x → y ≡ x.now →
     old ≡ take i (referents xs) → new ≡ old ++ y ∷ [] → new ≡ take (i + 1) (referents xs)
 next_referred {X} xs i x old new y within read is before now =
-    let at : x.now ≡ get_or (referents xs) i x.now = ap (λ (r : Bor X). r.now) read ∙ sym (get_or-map (λ (r : Bor X). r.now) xs i x x.now within) in
-    let n : length (referents xs) ≡ length xs = length-map xs (λ (r : Bor X). r.now) in
-    now ∙ ap (λ l. l ++ y ∷ []) before ∙ ap (λ z. take i (referents xs) ++ z ∷ []) (is ∙ at) ∙ sym (take_more (referents xs) i x.now (omega (arith, n, within)))
+    let front = take_more (referents xs) i x.now (rw length-map within) in
+    rw (now, before, is, front, at.get_or-map (λ (r : Bor X). r.now) xs i x, ← read)

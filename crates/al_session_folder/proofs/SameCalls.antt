@@ -5,17 +5,18 @@ use Rattle.std.proofs.Common.{Vec, refl, sym, ◌∙◌, ap, subst, ◌&&◌, tr
 use Rattle.std.specs.Prelude.{bytes_eq}
 use Rattle.std.specs.Bool.{Decides}
 use Rattle.std.specs.Global.{Global}
-use Rattle.std.specs.List.{cons_option, filter_map, position}
+use Rattle.std.specs.List.{filter_map, position}
 use Rattle.std.specs.List.Sorted.{IsStrictlySortedBy}
-use Rattle.std.specs.Option.{option_map, unwrap_or, option_or}
+use Rattle.std.specs.Option.{option_map, unwrap_or}
 use Rattle.std.specs.Ordering.{nat_cmp}
 use Rattle.std.specs.Cmp.Lexicographic.{slice_cmp}
 use Rattle.std.proofs.lemmas.List.{get_or_read, take_more_same}
+use Rattle.std.proofs.lemmas.Option.{none-some, same_Some}
 use Rattle.std.proofs.lemmas.Simd.{map-map}
 use Rattle.al_session_folder.specs.Meaning.{Meaning, candidates}
 use Rattle.al_session_folder.specs.Folder.{Folder, bytes_at, find_map, paths_of, with_file}
 use Rattle.al_session_folder.specs.Kept.{AreKept, Files, IsKept, file_at, folder_of}
-use Rattle.al_session_folder.specs.Loops.{callee, calls_graph, number_of_path}
+use Rattle.al_session_folder.specs.Loops.{callee, calls_graph}
 use Rattle.al_session_folder.specs.CallGraphs.{HasSameCalls, IsCallGraph, TellLoops, is_same_target}
 use Rattle.al_session_folder.specs.declared.kept.KeptFile.{KeptFile}
 use Rattle.al_session_folder.specs.declared.lint.Target.{Target}
@@ -38,13 +39,6 @@ same_itself : (t : Target) → is_same_target t t ≡ true
 same_itself (Only p) = bytes_self p
 same_itself (FirstOf p q) = ap (λ b. b && bytes_eq q q) (bytes_self p) ∙ bytes_self q
 
-pub none_taken : {X : Type 0} (xs ys : List X) → take 0 xs ≡ take 0 ys
-none_taken xs ys = none xs ∙ sym (none ys)
-  where
-    none : {X : Type 0} (zs : List X) → take 0 zs ≡ []
-    none [] = refl
-    none (z ∷ zs) = refl
-
 -- fronts that are the same, one element further
 pub take_same : {X : Type 0} (xs ys : List X) (i : ℕ) (x y : X) → i < length xs → i < length ys → x ≡ get_or xs i x → y ≡ get_or ys i y → x ≡ y →
     take i xs ≡ take i ys → take (i + 1) xs ≡ take (i + 1) ys
@@ -60,22 +54,11 @@ apart xs ys i x y lt is at other e =
 -- ---- the graph of such a folder
 
 module _ {I : Type 0} (m : Meaning I) (f g : Folder) (same : HasSameCalls m f g) where
-  among_same : (ps : List (List ℕ)) → find_map (number_of_path g) ps ≡ find_map (number_of_path f) ps
-  among_same [] = refl
-  among_same (p ∷ ps) = ap (λ l. option_or (position (bytes_eq p) l) (find_map (number_of_path g) ps)) same.paths ∙ ap (option_or (number_of_path f p)) (among_same ps)
-
-  row_same : (ts : List Target) → filter_map (callee g) ts ≡ filter_map (callee f) ts
-  row_same [] = refl
-  row_same (t ∷ ts) = ap (λ o. cons_option o (filter_map (callee g) ts)) (among_same (candidates t)) ∙ ap (cons_option (callee f t)) (row_same ts)
-
-  same_rows : (ls : List (List Target)) → map (filter_map (callee g)) ls ≡ map (filter_map (callee f)) ls
-  same_rows [] = refl
-  same_rows (ts ∷ ls) = ap (λ l. l ∷ map (filter_map (callee g)) ls) (row_same ts) ∙ ap (λ l. filter_map (callee f) ts ∷ l) (same_rows ls)
-
   pub graph_same : calls_graph m g ≡ calls_graph m f
   graph_same =
       let calls : List ℕ × List ℕ → List Target = λ e. m.calls e.0 e.1 in
-      sym (map-map (filter_map (callee g)) calls g) ∙ same_rows (map calls g) ∙ ap (map (filter_map (callee f))) same.calls
+      sym (map-map (filter_map (callee g)) calls g)
+      ∙ (λ i. map (filter_map (λ t. find_map (λ p. position (bytes_eq p) (same.paths i)) (candidates t))) (same.calls i))
       ∙ map-map (filter_map (callee f)) calls f
 
   -- what is the graph of the one is that of the other
@@ -108,13 +91,12 @@ module _ {I : Type 0} (m : Meaning I) where
   pub put_same_calls : {U : Type 0} (is_unit : U → List ℕ → List ℕ → Type 0) (files : Files U I) (p : List ℕ) (file : KeptFile U I) → AreKept m is_unit files → IsKept m is_unit p file →
       option_map (λ (kept : KeptFile U I). kept.calls.targets.items) (file_at files p) ≡ Some file.calls.targets.items →
       HasSameCalls m (folder_of files) (with_file (folder_of files) p file.bytes.items)
-  put_same_calls {U} is_unit files p file kept one same = by (file_at files p) refl
+  put_same_calls {U} is_unit files p file kept one same = by (file_at files p) refl same
     where
-      by : (o : Option (KeptFile U I)) → file_at files p ≡ o → HasSameCalls m (folder_of files) (with_file (folder_of files) p file.bytes.items)
-      by None a = let none : None ≡ Some file.calls.targets.items = sym (ap (option_map (λ (kept : KeptFile U I). kept.calls.targets.items)) a) ∙ same in absurd cc
-      by (Some old) a =
-          let before : IsKept m is_unit p old = kept_at m is_unit files p old kept.kept a in
-          let there : bytes_at (folder_of files) p ≡ Some old.bytes.items = bytes_kept files p ∙ ap (option_map (λ (kept : KeptFile U I). kept.bytes.items)) a in
-          let some : Some old.calls.targets.items ≡ Some file.calls.targets.items = sym (ap (option_map (λ (kept : KeptFile U I). kept.calls.targets.items)) a) ∙ same in
-          let calls : old.calls.targets.items ≡ file.calls.targets.items = ap (λ o. unwrap_or o []) some in
-          put_calls (folder_of files) p old.bytes.items file.bytes.items kept.ordered there (sym one.calls.targets ∙ sym calls ∙ before.calls.targets)
+      by : (o : Option (KeptFile U I)) → file_at files p ≡ o → option_map (λ (kept : KeptFile U I). kept.calls.targets.items) o ≡ Some file.calls.targets.items
+          → HasSameCalls m (folder_of files) (with_file (folder_of files) p file.bytes.items)
+      by None a same = absurd (none-some file.calls.targets.items same)
+      by (Some old) a same =
+          let before = kept_at m is_unit files p old kept.kept a in
+          let calls = same_Some old.calls.targets.items file.calls.targets.items same in
+          put_calls (folder_of files) p old.bytes.items file.bytes.items kept.ordered (rw (bytes_kept files p, a)) (sym one.calls.targets ∙ sym calls ∙ before.calls.targets)

@@ -1,15 +1,13 @@
-use Rattle.std.proofs.Common.{sym, arith, ◌∙◌, String, subst}
+use Rattle.std.proofs.Common.{arith, ◌∙◌, String}
 use Rattle.std.specs.Global.{Global}
-use Rattle.std.specs.List.{enumerate_from, flat_map}
-use Rattle.std.specs.Io.KnownBytes.{Appends}
+use Rattle.std.specs.List.{enumerate_from}
 use Rattle.std.proofs.lemmas.List.{take_all}
 use Rattle.std.proofs.lemmas.Result.{err_from_is_err_and}
 use Rattle.std.proofs.lemmas.List.FromFn.{length-enumerate_from}
 use Rattle.al_base.proofs.Bytes.{Appends-next, AppendsPrefix-next}
 use Rattle.al_session_folder.specs.Kept.{folder_of}
 use Rattle.al_session_folder.specs.declared.kept.KeptFile.{KeptFile}
-use Rattle.al_session_folder.proofs.Looping.{numbered}
-use Rattle.std.proofs.lemmas.Option.{get_or_from_slice_get}
+use Rattle.al_session_folder.proofs.Looping.{numbered_read}
 use Rattle.al_session_folder.specs.Printing.{numbered_lines}
 use Rattle.al_session_folder.proofs.report.write_files.Goals as goal
 
@@ -27,8 +25,7 @@ returns-in_err-write_file-clause-prefix g c =
     let is = c.requires.listed.each c.loop-index.index _ (omega (arith, c.len-index-end.ensures.len, c.loop-index-test.true)) c.index-joined-index.is e c.file_number.ensures in
     rw p.1 (AppendsPrefix-next (numbered_lines c.args.oneline g.L.Lint.meaning (folder_of files)) (enumerate_from 0 files) c.loop-index.index (c.loop-index.index, e)
     (omega (arith, length-enumerate_from 0 files, c.len-index-end.ensures.len, c.loop-index-test.true))
-    (sym (get_or_from_slice_get (enumerate_from 0 files) c.loop-index.index (c.loop-index.index, e) _ (numbered files c.loop-index.index e c.file_number.ensures)))
-    _ _ _ c.loop-index.invariant.appended (rw (c.as_str.ensures.value, c.deref.ensures.value, is) at c.in_err-write_file.ensures.prefix))
+    (numbered_read files c.loop-index.index e c.file_number.ensures) _ _ _ c.loop-index.invariant.appended (rw (c.as_str.ensures.value, c.deref.ensures.value, is) at c.in_err-write_file.ensures.prefix))
 
 pub loop-index-preserved : goal.loop-index-preserved
 loop-index-preserved g c =
@@ -38,8 +35,7 @@ loop-index-preserved g c =
     record {
       appended = Appends-next (numbered_lines c.args.oneline g.L.Lint.meaning (folder_of files)) (enumerate_from 0 files) c.loop-index.index (c.loop-index.index, e)
           (omega (arith, length-enumerate_from 0 files, c.len-index-end.ensures.len, c.loop-index-test.true))
-          (sym (get_or_from_slice_get (enumerate_from 0 files) c.loop-index.index (c.loop-index.index, e) _ (numbered files c.loop-index.index e c.file_number.ensures)))
-          _ _ _ c.loop-index.invariant.appended (rw (c.as_str.ensures.value, c.deref.ensures.value, is) at c.in_ok-write_file.ensures.all);
+          (numbered_read files c.loop-index.index e c.file_number.ensures) _ _ _ c.loop-index.invariant.appended (rw (c.as_str.ensures.value, c.deref.ensures.value, is) at c.in_ok-write_file.ensures.all);
       unfailed = c.in_ok-write_file.ensures.failures ∙ c.loop-index.invariant.unfailed;
     }
 
@@ -47,5 +43,4 @@ pub returns-clause-all : goal.returns-clause-all
 returns-clause-all g c =
     let files = c.args.files.now.entries in
     let whole = take_all c.loop-index.index (enumerate_from 0 files) (omega (arith, length-enumerate_from 0 files, c.len-index-end.ensures.len, c.loop-index-test.false)) in
-    subst (λ l. Appends (g.W.Write.contents c.args.writer.now.inner) (g.W.Write.contents c.loop-index.writer.inner)
-    (flat_map (numbered_lines c.args.oneline g.L.Lint.meaning (folder_of files)) l)) whole c.loop-index.invariant.appended
+    rw whole at c.loop-index.invariant.appended

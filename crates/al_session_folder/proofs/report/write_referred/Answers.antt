@@ -1,10 +1,7 @@
-use Rattle.std.proofs.Common.{sym, arith, ◌∙◌, ap, length, subst, List, ℕ}
-use Rattle.std.specs.Io.KnownBytes.{Appends}
-use Rattle.std.specs.List.{flat_map}
+use Rattle.std.proofs.Common.{arith, ◌∙◌, length}
 use Rattle.std.proofs.lemmas.List.{take_all}
 use Rattle.std.proofs.lemmas.List.Folds.{flat_map-map}
 use Rattle.std.proofs.lemmas.Result.{err_from_is_err_and}
-use Rattle.al_base.specs.Counted.{AppendsPrefix}
 use Rattle.al_base.specs.declared.faults.Fault.{Fault}
 use Rattle.al_base.specs.Spans.{LiesIn}
 use Rattle.al_base.proofs.Bytes.{Appends-next, AppendsPrefix-next}
@@ -31,8 +28,7 @@ returns-in_err-write_fault_at-clause-prefix g c =
     let so_far = AppendsPrefix-next (λ r. fault_text c.args.listing.now.oneline c.args.listing.now.path.now c.as_slice-bytes.result.now r.now) c.args.faults.now c.loop-fault.fault-index
     c.fault-item.result (omega (arith, c.loop-fault-test.true)) c.fault-item.is _ _ _ c.loop-fault.invariant.appended
     c.in_err-write_fault_at.ensures.prefix in
-    rw (p.1, ← c.as_slice-bytes.ensures.value) (subst (λ (l : List ℕ). AppendsPrefix (g.W.Write.contents c.args.writer.now.inner) (g.W.Write.contents c.write_fault_at.new.writer.inner) l)
-    (sym (flat_map-map (fault_text c.args.listing.now.oneline c.args.listing.now.path.now c.as_slice-bytes.result.now) _ c.args.faults.now)) so_far)
+    rw (p.1, ← c.as_slice-bytes.ensures.value, flat_map-map (fault_text c.args.listing.now.oneline c.args.listing.now.path.now c.as_slice-bytes.result.now) _ c.args.faults.now) so_far
 
 pub loop-fault-preserved : goal.loop-fault-preserved
 loop-fault-preserved g c = record {
@@ -47,8 +43,6 @@ loop-fault-preserved g c = record {
 
 pub returns-clause-all : goal.returns-clause-all
 returns-clause-all g c =
-    let whole = ap (flat_map (λ r. fault_text c.args.listing.now.oneline c.args.listing.now.path.now c.as_slice-bytes.result.now r.now))
-    (take_all c.loop-fault.fault-index c.args.faults.now (omega (arith, c.loop-fault-test.false)))
-    ∙ sym (flat_map-map (fault_text c.args.listing.now.oneline c.args.listing.now.path.now c.as_slice-bytes.result.now) _ c.args.faults.now) in
-    rw (← c.as_slice-bytes.ensures.value)
-    (subst (λ (l : List ℕ). Appends (g.W.Write.contents c.args.writer.now.inner) (g.W.Write.contents c.loop-fault.writer.inner) l) whole c.loop-fault.invariant.appended)
+    let whole = take_all c.loop-fault.fault-index c.args.faults.now (omega (arith, c.loop-fault-test.false)) in
+    rw (← c.as_slice-bytes.ensures.value, flat_map-map (fault_text c.args.listing.now.oneline c.args.listing.now.path.now c.as_slice-bytes.result.now) _ c.args.faults.now)
+    (rw whole at c.loop-fault.invariant.appended)

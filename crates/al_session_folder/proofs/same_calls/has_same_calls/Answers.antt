@@ -1,14 +1,11 @@
 use Rattle.std.proofs.Common.{◌≡◌, ◌∙◌, ap, arith, length, refl, sym}
 use Rattle.std.proofs.lemmas.List.{take_all}
-use Rattle.al_session_folder.proofs.SameCalls.{apart, differ, none_taken, same_target, take_same}
+use Rattle.al_session_folder.proofs.SameCalls.{apart, differ, same_target, take_same}
 use Rattle.al_session_folder.proofs.same_calls.has_same_calls.Goals as goal
 
 pub returns-then-one-other : goal.returns-then-one-other
 returns-then-one-other c =
     differ (λ e. let n : length c.args.one.now ≡ length c.args.other.now = ap length e in omega (arith, n, c.if-one-other.true))
-
-pub loop-index-init : goal.loop-index-init
-loop-index-init c = none_taken c.args.one.now c.args.other.now
 
 pub returns-then-not-is_same_target : goal.returns-then-not-is_same_target
 returns-then-not-is_same_target c =

@@ -1,9 +1,4 @@
-use Rattle.std.proofs.Common.{sym, subst}
-use Rattle.std.specs.List.Sorted.{IsStrictlySortedBy}
-use Rattle.std.specs.Ordering.{nat_cmp}
-use Rattle.std.specs.Cmp.Lexicographic.{slice_cmp}
 use Rattle.std.specs.Option.{option_copied, option_map}
-use Rattle.al_session_folder.specs.Folder.{Folder, paths_of}
 use Rattle.al_session_folder.specs.Kept.{folder_of}
 use Rattle.al_session_folder.proofs.Affecting.{changed_sorted}
 use Rattle.al_session_folder.proofs.affected.PlannedChange.after.Goals as goal
@@ -11,6 +6,5 @@ use Rattle.al_session_folder.proofs.affected.PlannedChange.after.Goals as goal
 pub returns-clause-ordered : goal.returns-clause-ordered
 returns-clause-ordered g c =
     let v = c.self.inside in
-    let S : Folder → Type 0 = λ f. IsStrictlySortedBy (slice_cmp nat_cmp) (paths_of f) in
-    subst S (sym c.with.ensures)
+    rw c.with.ensures
     (changed_sorted v.path.now (folder_of v.files.now.entries) (option_map (λ file. file.bytes.items) (option_copied v.next)) c.self.invariant.view.kept.ordered)

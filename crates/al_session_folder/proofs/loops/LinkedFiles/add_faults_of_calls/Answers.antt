@@ -1,14 +1,13 @@
-use Rattle.std.proofs.Common.{◌≡◌, ◌∙◌, ◌<◌, ◌++◌, length, get_or, ap, arith, refl, subst, sym, List, ℕ, String}
-use Rattle.std.proofs.lemmas.List.{get_or_read, length-map}
-use Rattle.std.proofs.lemmas.Option.{get_or_from_slice_get}
+use Rattle.std.proofs.Common.{◌≡◌, ◌∙◌, ◌<◌, length, ap, arith, refl, subst, ℕ, String}
+use Rattle.std.proofs.lemmas.List.{length-map}
 use Rattle.std.specs.Prelude.{string_bytes, IfSome}
 use Rattle.std.specs.Global.{Global}
 use Rattle.al_session_folder.specs.declared.kept.KeptFile.{KeptFile}
 use Rattle.al_session_folder.specs.Kept.{folder_of}
-use Rattle.al_session_folder.specs.Loops.{callee, calls_graph, leads_back}
-use Rattle.al_session_folder.specs.CallGraphs.{IsCalledBy, TellLoops}
+use Rattle.al_session_folder.specs.Loops.{calls_graph}
+use Rattle.al_session_folder.specs.CallGraphs.{IsCalledBy}
 use Rattle.al_session_folder.specs.Sites.{site_fault}
-use Rattle.al_session_folder.proofs.Looping.{call_edge, entry_number, entry_there, fault_if, kept_number, looping_end, looping_next, one_entry}
+use Rattle.al_session_folder.proofs.Looping.{call_edge, entry_calls, kept_number, looping_end, looping_next}
 use Rattle.al_session_folder.proofs.loops.LinkedFiles.add_faults_of_calls.Goals as goal
 
 pub leads_back-leads_back-requires-clause-index : goal.leads_back-leads_back-requires-clause-index
@@ -41,38 +40,24 @@ loop-call-init g c p b at = refl
 pub loop-call-preserved : goal.loop-call-preserved
 loop-call-preserved g c p b at =
     let m = g.L.Lint.meaning in
-    let v = c.self.inside in
-    let F = folder_of v.files.now.entries in
+    let F = folder_of c.self.inside.files.now.entries in
     let G = calls_graph m F in
     let e : String Global × KeptFile _ _ = (c.file_number.result.0.now, c.file_number.result.1.now) in
-    let kept = kept_number m g.L.Lint.is_unit v.files.now.entries c.args.index e c.self.invariant.kept.kept c.file_number.ensures in
-    let same = one_entry F c.args.index (string_bytes e.0, e.1.bytes.items) (p, b) (entry_number v.files.now.entries c.args.index e c.file_number.ensures) at in
-    let items = c.as_slice-targets.ensures.value ∙ kept.calls.targets ∙ ap (λ (x : List ℕ × List ℕ). m.calls x.0 x.1) same in
+    let file = entry_calls m g.L.Lint.is_unit c.self.inside.files.now.entries c.args.index e c.self.invariant.kept.kept c.file_number.ensures p b at in
+    let items = c.as_slice-targets.ensures.value ∙ file.0 in
     let within : c.loop-call.call < length (m.calls p b) = omega (arith, c.loop-call-test.true, ap length items) in
-    let t = entry_there (m.calls p b) c.loop-call.call within in
-    let read = sym (get_or_from_slice_get (m.calls p b) c.loop-call.call t.0 t.0 t.1) in
-    let target : c.index-targets-call.result ≡ t.0 =
-    get_or_read c.as_slice-targets.result.now c.loop-call.call _ (omega (arith, c.loop-call-test.true)) c.index-targets-call.is t.0
-    ∙ ap (λ l. get_or l c.loop-call.call t.0) items ∙ sym read in
-    let to = c.callee-to.ensures.number ∙ ap (callee F) target in
-    let tells = subst (TellLoops G) (sym c.deref.ensures.value) c.self.invariant.calls.tell in
-    let edge : IsCalledBy G c.args.index c.callee-to.result =
-    subst (IsCalledBy G c.args.index) (sym to) (call_edge m F c.args.index c.loop-call.call p b t.0 at within read) in
-    let back = c.leads_back-leads_back.ensures G tells edge ∙ ap (leads_back G c.args.index) to in
-    let added = c.in_ok-add_fault_if.ensures ∙ ap (λ back. c.loop-call.faults ++ fault_if back (site_fault c.site.result)) back in
-    let unit = subst (λ (x : List ℕ × List ℕ). g.L.Lint.is_unit e.1.unit x.0 x.1) same kept.unit in
-    looping_next G F c.args.index (m.calls p b) (m.sites p b) c.loop-call.call c.loop-call.faults _
-    (c.loop-call.invariant p b at) c.add_fault_if.new.faults t.0 (site_fault c.site.result) within read (c.site.ensures p b unit) added
+    let read = rw items at c.index-targets-call.is in
+    let edge : IsCalledBy G c.args.index c.callee-to.result = rw c.callee-to.ensures.number (call_edge m F c.args.index c.loop-call.call p b c.index-targets-call.result at within read) in
+    let back = rw c.callee-to.ensures.number at (c.leads_back-leads_back.ensures G (rw c.deref.ensures.value c.self.invariant.calls.tell) edge) in
+    looping_next G F c.args.index (m.calls p b) (m.sites p b) c.loop-call.call c.loop-call.faults _ (c.loop-call.invariant p b at) c.add_fault_if.new.faults
+    c.index-targets-call.result (site_fault c.site.result) within read (c.site.ensures p b file.1) (rw back at c.in_ok-add_fault_if.ensures)
 
 pub returns : goal.returns
 returns g c =
     let m = g.L.Lint.meaning in
-    let v = c.self.inside in
-    let F = folder_of v.files.now.entries in
+    let F = folder_of c.self.inside.files.now.entries in
     let e : String Global × KeptFile _ _ = (c.file_number.result.0.now, c.file_number.result.1.now) in
-    let kept = kept_number m g.L.Lint.is_unit v.files.now.entries c.args.index e c.self.invariant.kept.kept c.file_number.ensures in
     rw (← c.self.view_is) (λ p b at.
-    let same = one_entry F c.args.index (string_bytes e.0, e.1.bytes.items) (p, b) (entry_number v.files.now.entries c.args.index e c.file_number.ensures) at in
-    let items = c.as_slice-targets.ensures.value ∙ kept.calls.targets ∙ ap (λ (x : List ℕ × List ℕ). m.calls x.0 x.1) same in
+    let file = entry_calls m g.L.Lint.is_unit c.self.inside.files.now.entries c.args.index e c.self.invariant.kept.kept c.file_number.ensures p b at in
     looping_end (calls_graph m F) F c.args.index (m.calls p b) (m.sites p b) c.loop-call.call c.loop-call.faults _ (c.loop-call.invariant p b at)
-    (omega (arith, c.loop-call-test.false, ap length items)))
+    (omega (arith, c.loop-call-test.false, ap length (c.as_slice-targets.ensures.value ∙ file.0))))

@@ -1,26 +1,18 @@
-use Rattle.std.proofs.Common.{◌∙◌, ap}
-use Rattle.al_session_folder.specs.Folder.{interface_in}
-use Rattle.al_session_folder.proofs.Answering.{answer-Only, answer-FirstOf}
-use Rattle.std.specs.Option.{option_or}
+use Rattle.std.proofs.Common.{sym}
+use Rattle.al_session_folder.specs.Folder.{answer, interface_in}
+use Rattle.al_session_folder.proofs.Answering.{or_none}
 use Rattle.al_session_folder.proofs.view.FolderView.answer.Goals as goal
 
 pub returns-in-Only : goal.returns-in-Only
-returns-in-Only g c =
-    let m = g.L.Lint.meaning in
-    let f = c.args.self.now in
-    c.interface.ensures ∙ ap (interface_in m f) c.as_str.ensures.text ∙ answer-Only m f _ c.in-Only.only c.in-Only.is
+unfolding answer
+returns-in-Only g c = rw (c.in-Only.is, or_none (interface_in g.L.Lint.meaning c.args.self.now c.in-Only.only)) (rw c.as_str.ensures.text at c.interface.ensures)
 
 pub returns-in-Some : goal.returns-in-Some
-returns-in-Some g c =
-    let m = g.L.Lint.meaning in
-    let f = c.args.self.now in
-    let found = c.in-Some.ensures ∙ ap (interface_in m f) c.as_str-in-FirstOf.ensures.text in
-    ap (λ o. option_or o (interface_in m f c.in-FirstOf.second)) found ∙ answer-FirstOf m f _ c.in-FirstOf.first c.in-FirstOf.second c.in-FirstOf.is
+unfolding answer
+returns-in-Some g c = rw (c.in-FirstOf.is, sym (rw c.as_str-in-FirstOf.ensures.text at c.in-Some.ensures))
 
 pub returns-in-None : goal.returns-in-None
+unfolding answer
 returns-in-None g c =
-    let m = g.L.Lint.meaning in
-    let f = c.args.self.now in
-    let none = c.in-None.ensures ∙ ap (interface_in m f) c.as_str-in-FirstOf.ensures.text in
-    let second = c.interface-in-None.ensures ∙ ap (interface_in m f) c.as_str-in-None.ensures.text in
-    second ∙ ap (λ o. option_or o (interface_in m f c.in-FirstOf.second)) none ∙ answer-FirstOf m f _ c.in-FirstOf.first c.in-FirstOf.second c.in-FirstOf.is
+    rw (c.in-FirstOf.is, sym (rw c.as_str-in-FirstOf.ensures.text at c.in-None.ensures), or_none (interface_in g.L.Lint.meaning c.args.self.now c.in-FirstOf.second))
+    (rw c.as_str-in-None.ensures.text at c.interface-in-None.ensures)

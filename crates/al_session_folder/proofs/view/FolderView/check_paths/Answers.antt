@@ -1,4 +1,4 @@
-use Rattle.std.proofs.Common.{arith, sym, ◌∙◌, ap, ℕ, List, map, subst}
+use Rattle.std.proofs.Common.{arith, ◌∙◌, ap, ℕ, List, map}
 use Rattle.std.specs.Prelude.{IsSome}
 use Rattle.std.proofs.lemmas.List.Elements.{All-from_recursion}
 use Rattle.al_session_folder.specs.Folder.{bytes_at}
@@ -10,7 +10,7 @@ pub check_path-requires : goal.check_path-requires
 check_path-requires g c =
     let f = c.args.self.now in
     let P : List ℕ → Type 0 = λ q. IsSome (bytes_at f q) in
-    subst P (sym (c.as_str.ensures.text ∙ c.at-item.is)) (All-from_recursion P c.args.paths.now c.requires c.loop-at.at-index c.at-item.result (omega arith))
+    rw (c.as_str.ensures.text ∙ c.at-item.is) (All-from_recursion P c.args.paths.now c.requires c.loop-at.at-index c.at-item.result (omega arith))
 
 pub loop-at-preserved : goal.loop-at-preserved
 loop-at-preserved g c = record {
