@@ -1,6 +1,6 @@
 -- Files that are kept without a check, and checked once all of them are there.
 use Rattle.std.proofs.Common.{◌≡◌, ℕ, ◌+◌, true, false, true≢false, List, [], ◌∷◌, ◌++◌, length, map, take, get_or}
-use Rattle.std.proofs.Common.{slice_get, Option, Some, None, String, Vec, refl, sym, ◌∙◌, ap, subst, arith}
+use Rattle.std.proofs.Common.{slice_get, Some, String, Vec, refl, sym, ◌∙◌, ap, arith}
 use Rattle.std.specs.Prelude.{string_bytes, bytes_eq, IsSome}
 use Rattle.std.specs.Global.{Global}
 use Rattle.std.specs.Option.{option_map, option_map_or}
@@ -15,13 +15,12 @@ use Rattle.indexmap.specs.IndexSet.{contains_text}
 use Rattle.al_base.specs.declared.faults.Fault.{Fault}
 use Rattle.al_session_folder.specs.Meaning.{Meaning}
 use Rattle.al_session_folder.specs.declared.kept.KeptFile.{KeptFile}
-use Rattle.al_session_folder.specs.Folder.{Folder, bytes_at, faults_in, paths_of}
+use Rattle.al_session_folder.specs.Folder.{bytes_at, faults_in, paths_of}
 use Rattle.al_session_folder.specs.Affected.{is_among}
-use Rattle.al_session_folder.specs.Kept.{Files, folder_of, file_at, faults_of, AllKept, Callers, IsCallerIndex}
+use Rattle.al_session_folder.specs.Kept.{Files, folder_of, file_at, faults_of, AllKept, Callers}
 use Rattle.al_session_folder.proofs.Looping.{entry_number}
-use Rattle.al_session_folder.proofs.Views.{bytes_kept, bytes_self, kept_at}
+use Rattle.al_session_folder.proofs.Views.{bytes_self, kept_at, part_at}
 use Rattle.al_session.specs.Builder.{AreLoaded}
-use Rattle.al_session_folder.specs.Checked.{AllChecked}
 use Rattle.al_session.specs.Session.{AreLinted}
 use Rattle.al_session.specs.Private.Lists.{with_lists}
 use Rattle.al_session.proofs.Giving.{all_checked, folder_of-with_lists, given_kept}
@@ -31,9 +30,7 @@ use Rattle.al_session.proofs.Linted.{all_there}
 module _ {U I S R : Type 0} (m : Meaning I) (is_unit : U → List ℕ → List ℕ → Type 0) (es : Files U I) (callers : Callers S R) (paths : List (List ℕ)) (loaded : AreLoaded m is_unit es callers)
     (are : paths ≡ paths_of (folder_of es)) where
   pub each_there : AllByRecursion (λ q. IsSome (bytes_at (folder_of es) q)) paths
-  each_there =
-      let P : List (List ℕ) → Type 0 = λ l. AllByRecursion (λ q. IsSome (bytes_at (folder_of es) q)) l in
-      subst P (sym are) (all_there (folder_of es) loaded.kept.ordered)
+  each_there = rw are (all_there (folder_of es) loaded.kept.ordered)
 
   pub as_many_paths : length paths ≡ length (folder_of es)
   as_many_paths = ap length are ∙ length-map (folder_of es) (λ (e : List ℕ × List ℕ). e.0)
@@ -41,15 +38,11 @@ module _ {U I S R : Type 0} (m : Meaning I) (is_unit : U → List ℕ → List �
   pub all_linted : (lists : List (Vec Fault Global)) (es2 : Files U I) → es2 ≡ with_lists es paths lists
       → map (λ (l : Vec Fault Global). l.items) lists ≡ map (faults_of m (folder_of es)) paths → AreLinted m is_unit es2 callers
   all_linted lists es2 put given =
-      let same : folder_of (with_lists es paths lists) ≡ folder_of es = folder_of-with_lists es paths lists in
-      let C : Folder → Type 0 = λ f. AllChecked m f (with_lists es paths lists) in
-      let N : Folder → Type 0 = λ f. IsCallerIndex m f callers in
-      let P : Files U I → Type 0 = λ l. AreLinted m is_unit l callers in
-      subst P (sym put) (record {
+      let same = folder_of-with_lists es paths lists in
+      rw put (record {
         kept = given_kept m is_unit es paths lists loaded.kept;
-        faults = subst C (sym same) (all_checked m (folder_of es) es paths lists loaded.kept.ordered refl given
-            (others es (subst (AllByRecursion (λ q. is_among q paths ≡ true)) are (each paths))));
-        index = subst N (sym same) loaded.index;
+        faults = rw same (all_checked m (folder_of es) es paths lists loaded.kept.ordered refl given (others es (rw (← are) (each paths))));
+        index = rw same loaded.index;
       })
     where
       each : (qs : List (List ℕ)) → AllByRecursion (λ q. is_among q qs ≡ true) qs
@@ -72,27 +65,21 @@ paths_more es i e h =
 -- the calls that are kept at a path
 pub calls_kept : {U I : Type 0} (m : Meaning I) (is_unit : U → List ℕ → List ℕ → Type 0) (files : Files U I) (q : List ℕ) → AllKept m is_unit files
     → option_map (λ (file : KeptFile U I). file.calls.targets.items) (file_at files q) ≡ option_map (m.calls q) (bytes_at (folder_of files) q)
-calls_kept {U} {I} m is_unit files q kept = by (file_at files q) refl ∙ ap (option_map (m.calls q)) (sym (bytes_kept files q))
-  where
-    by : (o : Option (KeptFile U I)) → file_at files q ≡ o
-        → option_map (λ (file : KeptFile U I). file.calls.targets.items) (file_at files q) ≡ option_map (m.calls q) (option_map (λ (file : KeptFile U I). file.bytes.items) (file_at files q))
-    by None h = rw h refl
-    by (Some file) h = rw h (ap Some (kept_at m is_unit files q file kept h).calls.targets)
+calls_kept m is_unit files q kept =
+    part_at (λ file. file.calls.targets.items) (m.calls q) files q (λ file found. (kept_at m is_unit files q file kept found).calls.targets)
 
 -- what is kept of no file
 pub empty_loaded : {U I S R : Type 0} (m : Meaning I) (is_unit : U → List ℕ → List ℕ → Type 0) (es : Files U I) (callers : Callers S R)
     → es ≡ [] → callers.entries ≡ [] → AreLoaded m is_unit es callers
 unfolding IsStrictlySortedBy
-empty_loaded {U} {I} m is_unit es callers none lacks =
-    let P : Files U I → Type 0 = λ l. AreLoaded m is_unit l callers in
-    subst P (sym none) (record {
-      kept = record { ordered = tt; few = omega arith; kept = tt };
-      index = λ c q. ap (λ l. option_map_or (λ known. contains_text known q) (lookup (λ k. bytes_eq c (string_bytes k)) l) false) lacks;
-    })
+empty_loaded m is_unit es callers none lacks = rw none (record {
+  kept = record { ordered = tt; few = omega arith; kept = tt };
+  index = λ c q. ap (λ l. option_map_or (λ known. contains_text known q) (lookup (λ k. bytes_eq c (string_bytes k)) l) false) lacks;
+})
 
 -- no file has its faults to be told
 pub empty_linted : {U I S R : Type 0} (m : Meaning I) (is_unit : U → List ℕ → List ℕ → Type 0) (es : Files U I) (callers : Callers S R)
     → es ≡ [] → callers.entries ≡ [] → AreLinted m is_unit es callers
 empty_linted m is_unit es callers none lacks =
     let loaded = empty_loaded m is_unit es callers none lacks in
-    record { kept = loaded.kept; faults = subst (AllChecked m (folder_of es)) (sym none) tt; index = loaded.index }
+    record { kept = loaded.kept; faults = rw none tt; index = loaded.index }

@@ -10,6 +10,7 @@ use al_base::path_fault;
 use al_session_folder::{Files, Lint, Refused};
 
 /// Why a file with this path and these bytes is refused, given the files that are there, other than for lack of memory.
+#[tactic(auto, using(std::proofs::lemmas::Bool::Decides::nat_tests), unfolding(al_session_folder::specs::Folder::put_refusal))]
 pub(crate) fn put_refused<L: Lint>(
     lint: &L,
     files: &Files<L::Unit, L::Iface>,

@@ -191,6 +191,7 @@ impl<L: Lint> Session<L> {
     }
 
     // Why a delete is refused, other than for lack of memory.
+    #[tactic(auto, using(std::proofs::lemmas::Bool::Decides::nat_tests), unfolding(al_session_folder::specs::Folder::delete_refusal))]
     fn delete_refused(&self, path: &str) -> Option<Refused>
         ensures { result ≡ delete_refusal L.meaning self.now.folder path.now }
     {

@@ -30,17 +30,17 @@ module _ {S R : Type 0} (old new : Callers S R) (p : List ℕ) where
           ≡ cond s (option_map_or (λ known. contains_text known q) w false) (is_caller old c q)
       at_path t s same = grind (arith, nat_tests)
 
--- one text is added to those of a path
-pub added_to : (c p q x : List ℕ) (new old here there : Bool) → new ≡ cond (bytes_eq c p) here old → here ≡ bytes_eq q x || there
-    → (bytes_eq c p ≡ true → there ≡ old) → new ≡ (bytes_eq c p && bytes_eq q x) || old
-added_to c p q x new old here there set is before = grind (arith, nat_tests)
+-- the texts of one path were set, of which these were there
+module _ (old new : List ℕ → List ℕ → Bool) (p : List ℕ) (now there : List ℕ → Bool) (set : (c q : List ℕ) → new c q ≡ cond (bytes_eq c p) (now q) (old c q))
+    (before : (c q : List ℕ) → bytes_eq c p ≡ true → there q ≡ old c q) where
+  pub added_to : (x : List ℕ) → ((q : List ℕ) → now q ≡ bytes_eq q x || there q) → (c q : List ℕ) → new c q ≡ (bytes_eq c p && bytes_eq q x) || old c q
+  added_to x is c q = let a = set c q in let b = before c q in let d = is q in grind (arith, nat_tests, a, b, d)
 
-pub dropped_from : (c p q x : List ℕ) (new old here there : Bool) → new ≡ cond (bytes_eq c p) here old → here ≡ not (bytes_eq q x) && there
-    → (bytes_eq c p ≡ true → there ≡ old) → new ≡ not (bytes_eq c p && bytes_eq q x) && old
-dropped_from c p q x new old here there set is before = grind (arith, nat_tests)
+  pub dropped_from : (x : List ℕ) → ((q : List ℕ) → now q ≡ not (bytes_eq q x) && there q) → (c q : List ℕ) → new c q ≡ not (bytes_eq c p && bytes_eq q x) && old c q
+  dropped_from x is c q = let a = set c q in let b = before c q in let d = is q in grind (arith, nat_tests, a, b, d)
 
-pub stays : (t new old here there : Bool) → new ≡ cond t here old → here ≡ there → (t ≡ true → there ≡ old) → new ≡ old
-stays t new old here there set is before = grind (arith, nat_tests)
+  pub stays : ((q : List ℕ) → now q ≡ there q) → (c q : List ℕ) → new c q ≡ old c q
+  stays is c q = let a = set c q in let b = before c q in let d = is q in grind (arith, nat_tests, a, b, d)
 
 -- what is known of the path at which a set of callers stands
 pub known_at : {S R : Type 0} (callers : Callers S R) (p : List ℕ) (known : IndexSet (String Global) S) → get_by_text callers p ≡ Some known

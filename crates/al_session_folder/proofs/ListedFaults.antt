@@ -11,7 +11,7 @@ use Rattle.std.specs.List.Sorted.{IsPermutation, IsSorted, IsStrictlySortedBy}
 use Rattle.std.specs.declared.cmp.Ordering.{Ordering}
 use Rattle.std.proofs.lemmas.Bool.Decides.{nat_tests}
 use Rattle.std.proofs.lemmas.Bool.{cases_lt}
-use Rattle.std.proofs.lemmas.List.{get_or-append-add, get_or_append_left, length-map, nil_from_length}
+use Rattle.std.proofs.lemmas.List.{get_or_append_left, get_or_push, length-map, length_push, nil_from_length}
 use Rattle.std.proofs.lemmas.List.Elements.{All-from_recursion}
 use Rattle.std.proofs.Math.ListN.{get_or-map}
 use Rattle.al_base.proofs.Elements.{each_both, each_either}
@@ -184,15 +184,12 @@ module _ {X : Type 0} (P : ℕ → X → Type 0) where
 
   pub numbered_more : (n : ℕ) (old new : List X) (x : X) → AreNumbered P n old → P n x → new ≡ old ++ x ∷ [] → AreNumbered P (n + 1) new
   numbered_more n old new x are one more = record {
-    number = let all = length-append old (x ∷ []) in let before = are.number in omega (arith, ap length more, all, before);
-    each = λ i y below is.
-        ⊎_elim
-        (λ lt. let inside : i < length old = let before = are.number in omega (arith, lt, before) in
-        are.each i y lt (is ∙ ap (λ l. get_or l i y) more ∙ get_or_append_left old (x ∷ []) y i inside))
-        (λ past. let before = are.number in
-        let same : n ≡ i = omega (arith, past, below) in
-        let at : i ≡ length old + 0 = omega (arith, same, before) in
-        let last : y ≡ x = is ∙ ap (λ l. get_or l i y) more ∙ ap (λ k. get_or (old ++ x ∷ []) k y) at ∙ get_or-append-add old (x ∷ []) 0 y in
-        subst (λ k. P k y) same (subst (P n) (sym last) one))
+    number = rw (more, length_push old x, are.number);
+    each = λ i y below is. ⊎_elim
+        (λ lt. are.each i y lt (is ∙ rw more (get_or_append_left old (x ∷ []) y i (rw are.number lt))))
+        (λ past.
+        let here : n ≡ i = omega (arith, past, below) in
+        let last : y ≡ x = is ∙ rw (more, ← here) (get_or_push old x y n are.number) in
+        rw (← here, last) one)
         (cases_lt i n);
   }

@@ -40,7 +40,7 @@ with_is : (f : Folder) (p b : List ℕ) → with_file f p b ≡ put (slice_cmp n
 with_is [] p b = refl
 with_is (e ∷ es) p b = by_ordering (slice_cmp nat_cmp p e.0) (λ a. rw a) (λ a. rw a) (λ a. rw (a, with_is es p b))
 
-at_is : (f : Folder) (q : List ℕ) → bytes_at f q ≡ find (slice_cmp nat_cmp) q f
+pub at_is : (f : Folder) (q : List ℕ) → bytes_at f q ≡ find (slice_cmp nat_cmp) q f
 at_is [] q = refl
 at_is (e ∷ es) q = ap (cond (is_eq (slice_cmp nat_cmp q e.0)) (Some e.1)) (at_is es q)
 

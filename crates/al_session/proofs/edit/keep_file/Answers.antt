@@ -1,11 +1,13 @@
-use Rattle.std.proofs.Common.{sym, ap, arith, ◌∙◌, is_some, length, inl, inr}
+use Rattle.std.proofs.Common.{sym, ap, arith, ◌∙◌, is_some, length, inl, inr, Some}
+use Rattle.indexmap.specs.IndexSet.{contains_text}
 use Rattle.std.specs.Prelude.{bytes_eq, string_bytes}
 use Rattle.std.specs.List.{insert}
 use Rattle.std.specs.Map.{set_value}
 use Rattle.indexmap.specs.IndexMap.{spare}
 use Rattle.al_session_folder.specs.Kept.{file_at, folder_of}
 use Rattle.al_session_folder.proofs.Places.{absent, found, gap, length-folder_of}
-use Rattle.al_session.proofs.Puts.{has_file, index_put, lacks_file}
+use Rattle.al_session_folder.proofs.Views.{has_file}
+use Rattle.al_session.proofs.Puts.{index_changed, lacks_file}
 use Rattle.al_session.proofs.edit.keep_file.Goals as goal
 
 pub put_in_place-requires : goal.put_in_place-requires
@@ -41,9 +43,9 @@ returns-in_ok-index_file-in-Ok-clause-files g c =
     )
 
 pub returns-in_ok-index_file-in-Ok-clause-index : goal.returns-in_ok-index_file-in-Ok-clause-index
-returns-in_ok-index_file-in-Ok-clause-index g c = index_put g.L.Lint.meaning (folder_of c.args.kept.now.files.entries) c.args.path.now c.args.kept.now.callers
-    c.index_file.new.kept.callers c.requires.index c.args.file.bytes.items c.args.file.calls.candidates c.requires.view.next.calls.candidates
-    c.in_ok-index_file-in-Ok.ensures.moved
+returns-in_ok-index_file-in-Ok-clause-index g c = index_changed g.L.Lint.meaning (folder_of c.args.kept.now.files.entries) c.args.path.now c.args.kept.now.callers
+    c.index_file.new.kept.callers c.requires.index (Some c.args.file.bytes.items) (contains_text c.args.file.calls.candidates) c.requires.view.kept.ordered
+    c.requires.view.next.calls.candidates c.in_ok-index_file-in-Ok.ensures.moved
 
 pub returns-in_ok-index_file-in-Err-clause-files : goal.returns-in_ok-index_file-in-Err-clause-files
 returns-in_ok-index_file-in-Err-clause-files g c =
@@ -61,6 +63,6 @@ returns-in_ok-index_file-in-Err-clause-files g c =
     )
 
 pub returns-in_ok-index_file-in-Err-clause-index : goal.returns-in_ok-index_file-in-Err-clause-index
-returns-in_ok-index_file-in-Err-clause-index g c = index_put g.L.Lint.meaning (folder_of c.args.kept.now.files.entries) c.args.path.now c.args.kept.now.callers
-    c.index_file-in-Err.new.kept.callers c.requires.index c.args.file.bytes.items c.args.file.calls.candidates c.requires.view.next.calls.candidates
-    c.in_ok-index_file-in-Err.ensures.moved
+returns-in_ok-index_file-in-Err-clause-index g c = index_changed g.L.Lint.meaning (folder_of c.args.kept.now.files.entries) c.args.path.now c.args.kept.now.callers
+    c.index_file-in-Err.new.kept.callers c.requires.index (Some c.args.file.bytes.items) (contains_text c.args.file.calls.candidates) c.requires.view.kept.ordered
+    c.requires.view.next.calls.candidates c.in_ok-index_file-in-Err.ensures.moved

@@ -1,5 +1,5 @@
 use Rattle.std.proofs.Common.{◌∙◌}
-use Rattle.al_session.proofs.Puts.{has_file}
+use Rattle.al_session_folder.proofs.Views.{has_file}
 use Rattle.al_session.proofs.refused.has_file.Goals as goal
 
 pub returns : goal.returns

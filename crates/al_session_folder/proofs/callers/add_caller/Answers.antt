@@ -9,13 +9,10 @@ pub returns-in-Some-clause-added : goal.returns-in-Some-clause-added
 returns-in-Some-clause-added c =
     let w = c.add_name.new.names in
     let p = c.args.candidate.now in
-    let x = c.args.path.now in
     let old = c.args.callers.now in
-    let known = c.in-Some.known.now in
     let here = sym c.in-Some.ensures.value in
-    let up = (c.get_mut.follows.holds w).3 (ap is_some here) in
-    on_ok_weaker c.add_name.result (λ added c' q. added_to c' p q x _ (is_caller old c' q) (contains_text w q) (contains_text known q)
-    (callers_set old (c.get_mut.follows.lender w) p (Some w) up c' q) (added q) (known_at old p known here c' q))
+    let set = callers_set old (c.get_mut.follows.lender w) p (Some w) ((c.get_mut.follows.holds w).3 (ap is_some here)) in
+    on_ok_weaker c.add_name.result (added_to (is_caller old) _ p (contains_text w) (contains_text c.in-Some.known.now) set (known_at old p c.in-Some.known.now here) c.args.path.now)
     c.add_name.ensures.added
 
 pub returns-in-Some-clause-as_before : goal.returns-in-Some-clause-as_before
@@ -23,9 +20,7 @@ returns-in-Some-clause-as_before c =
     let w = c.add_name.new.names in
     let p = c.args.candidate.now in
     let old = c.args.callers.now in
-    let known = c.in-Some.known.now in
     let here = sym c.in-Some.ensures.value in
-    let up = (c.get_mut.follows.holds w).3 (ap is_some here) in
-    on_err_weaker c.add_name.result (λ kept c' q. stays _ _ (is_caller old c' q) (contains_text w q) (contains_text known q)
-    (callers_set old (c.get_mut.follows.lender w) p (Some w) up c' q) (kept q) (known_at old p known here c' q))
+    let set = callers_set old (c.get_mut.follows.lender w) p (Some w) ((c.get_mut.follows.holds w).3 (ap is_some here)) in
+    on_err_weaker c.add_name.result (stays (is_caller old) _ p (contains_text w) (contains_text c.in-Some.known.now) set (known_at old p c.in-Some.known.now here))
     c.add_name.ensures.as_before

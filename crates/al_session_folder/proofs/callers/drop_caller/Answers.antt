@@ -6,29 +6,26 @@ use Rattle.al_session_folder.proofs.Indexing.{callers_set, dropped_from, gone_tw
 use Rattle.al_session_folder.proofs.callers.drop_caller.Goals as goal
 
 pub returns-else-drop_name : goal.returns-else-drop_name
-returns-else-drop_name c = λ c' q.
+returns-else-drop_name c =
     let w = c.drop_name.new.names in
     let p = c.args.candidate.now in
     let old = c.args.callers.now in
-    let known = c.in-Some.known.now in
     let here = sym c.in-Some.ensures.value in
-    let up = (c.get_mut.follows.holds w).3 (ap is_some here) in
-    dropped_from c' p q c.args.path.now _ (is_caller old c' q) (contains_text w q) (contains_text known q)
-    (callers_set old (c.get_mut.follows.lender w) p (Some w) up c' q) (c.drop_name.ensures.names q) (known_at old p known here c' q)
+    let set = callers_set old (c.get_mut.follows.lender w) p (Some w) ((c.get_mut.follows.holds w).3 (ap is_some here)) in
+    dropped_from (is_caller old) _ p (contains_text w) (contains_text c.in-Some.known.now) set (known_at old p c.in-Some.known.now here) c.args.path.now c.drop_name.ensures.names
 
 pub returns-then-drop_name : goal.returns-then-drop_name
-returns-then-drop_name c = λ c' q.
+returns-then-drop_name c =
     let w = c.drop_name.new.names in
     let p = c.args.candidate.now in
     let old = c.args.callers.now in
-    let known = c.in-Some.known.now in
     let here = sym c.in-Some.ensures.value in
-    let up = (c.get_mut.follows.holds w).3 (ap is_some here) in
     let mid = c.get_mut.follows.lender w in
-    let twice = gone_twice (bytes_eq c' p) _ (is_caller mid c' q) (contains_text w q) (is_caller old c' q)
-    (callers_set mid c.swap_remove.new.self p None c.swap_remove.ensures.updates c' q) (callers_set old mid p (Some w) up c' q)
-    (c.drop_name.ensures.empty c.if-drop_name.true q) in
-    dropped_from c' p q c.args.path.now _ (is_caller old c' q) (contains_text w q) (contains_text known q) twice (c.drop_name.ensures.names q) (known_at old p known here c' q)
+    let set = callers_set old mid p (Some w) ((c.get_mut.follows.holds w).3 (ap is_some here)) in
+    let gone = callers_set mid c.swap_remove.new.self p None c.swap_remove.ensures.updates in
+    dropped_from (is_caller old) _ p (contains_text w) (contains_text c.in-Some.known.now)
+    (λ c' q. gone_twice (bytes_eq c' p) _ (is_caller mid c' q) (contains_text w q) (is_caller old c' q) (gone c' q) (set c' q) (c.drop_name.ensures.empty c.if-drop_name.true q))
+    (known_at old p c.in-Some.known.now here) c.args.path.now c.drop_name.ensures.names
 
 pub returns-in-None : goal.returns-in-None
 returns-in-None c = λ c' q. ap (λ m. is_caller m c' q) c.get_mut.follows.holds-at-none
