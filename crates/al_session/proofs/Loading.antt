@@ -1,16 +1,15 @@
 -- Files that are kept without a check, and checked once all of them are there.
-use Rattle.std.proofs.Common.{◌≡◌, ℕ, ◌+◌, true, false, true≢false, List, [], ◌∷◌, ◌++◌, length, map, take, get_or}
-use Rattle.std.proofs.Common.{slice_get, Some, String, Vec, refl, sym, ◌∙◌, ap, arith}
+use Rattle.std.proofs.Common.{◌≡◌, ℕ, true, false, true≢false, List, [], ◌∷◌, length, map, get_or}
+use Rattle.std.proofs.Common.{String, Vec, refl, sym, ◌∙◌, ap, arith}
 use Rattle.std.specs.Prelude.{string_bytes, bytes_eq, IsSome}
 use Rattle.std.specs.Global.{Global}
 use Rattle.std.specs.Option.{option_map, option_map_or}
 use Rattle.std.specs.List.{AllByRecursion}
 use Rattle.std.specs.List.Sorted.{IsStrictlySortedBy}
 use Rattle.std.specs.Map.{lookup}
-use Rattle.std.proofs.lemmas.List.{length-map, take_more}
+use Rattle.std.proofs.lemmas.List.{length-map}
 use Rattle.std.proofs.lemmas.List.Elements.{recursion_from_All}
 use Rattle.std.proofs.lemmas.List.Folds.{list_any_at}
-use Rattle.std.proofs.lemmas.Option.{get_or_from_slice_get, slice_get-map, slice_get_within}
 use Rattle.indexmap.specs.IndexSet.{contains_text}
 use Rattle.al_base.specs.declared.faults.Fault.{Fault}
 use Rattle.al_session_folder.specs.Meaning.{Meaning}
@@ -18,7 +17,6 @@ use Rattle.al_session_folder.specs.declared.kept.KeptFile.{KeptFile}
 use Rattle.al_session_folder.specs.Folder.{bytes_at, faults_in, paths_of}
 use Rattle.al_session_folder.specs.Affected.{is_among}
 use Rattle.al_session_folder.specs.Kept.{Files, folder_of, file_at, faults_of, AllKept, Callers}
-use Rattle.al_session_folder.proofs.Looping.{entry_number}
 use Rattle.al_session_folder.proofs.Views.{bytes_self, kept_at, part_at}
 use Rattle.al_session.specs.Builder.{AreLoaded}
 use Rattle.al_session.specs.Session.{AreLinted}
@@ -53,14 +51,6 @@ module _ {U I S R : Type 0} (m : Meaning I) (is_unit : U → List ℕ → List �
           → e.1.faults.items ≡ faults_in m (folder_of es) (string_bytes e.0) e.1.bytes.items) l
       others [] all = tt
       others (e ∷ l) all = (λ none. absurd (true≢false (sym all.0 ∙ none)), others l all.1)
-
--- the paths of one more file
-pub paths_more : {U I : Type 0} (es : Files U I) (i : ℕ) (e : String Global × KeptFile U I) → slice_get es i ≡ Some e
-    → take (i + 1) (paths_of (folder_of es)) ≡ take i (paths_of (folder_of es)) ++ string_bytes e.0 ∷ []
-paths_more es i e h =
-    let ps = paths_of (folder_of es) in
-    let at : slice_get ps i ≡ Some (string_bytes e.0) = slice_get-map (λ (x : List ℕ × List ℕ). x.0) (folder_of es) i ∙ ap (option_map (λ (x : List ℕ × List ℕ). x.0)) (entry_number es i e h) in
-    take_more ps i (string_bytes e.0) (slice_get_within ps i (string_bytes e.0) at) ∙ ap (λ x. take i ps ++ x ∷ []) (get_or_from_slice_get ps i (string_bytes e.0) (string_bytes e.0) at)
 
 -- the calls that are kept at a path
 pub calls_kept : {U I : Type 0} (m : Meaning I) (is_unit : U → List ℕ → List ℕ → Type 0) (files : Files U I) (q : List ℕ) → AllKept m is_unit files

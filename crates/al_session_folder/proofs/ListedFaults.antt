@@ -17,7 +17,7 @@ use Rattle.std.proofs.Math.ListN.{get_or-map}
 use Rattle.al_base.proofs.Elements.{each_both, each_either}
 use Rattle.std.proofs.lemmas.List.Sorted.{IsPermutation-append_comm}
 use Rattle.al_base.proofs.FaultLists.{AllByRecursion-fault_list, derived_is, derived_ties, fault_cmp_same, fault_cmp_total, fault_list-permutation, fault_list-sorted}
-use Rattle.al_session_folder.proofs.Referring.{ordered_referred}
+use Rattle.al_session_folder.proofs.Referring.{ordered_mapped}
 use Rattle.al_base.specs.contracts.faults.FaultOrd.TheImpl as derived
 use Rattle.al_base.specs.contracts.faults.FaultPartialEq.TheImpl as derived_eq
 use Rattle.al_base.specs.FaultLists.{fault_cmp, fault_list}
@@ -136,7 +136,7 @@ module _ {U I : Type 0} (m : Meaning I) (files : Files U I) (checked : AllChecke
 pub ordered_faults : (xs sorted out : List (Bor Fault)) → IsPermutation xs sorted → IsSorted (λ x y. derived.ghosts.cmp x.now y.now) sorted →
     out ≡ dedup (λ (x y : Bor Fault). derived_eq.ghosts.eq x.now y.now) sorted → referents out ≡ fault_list (referents xs)
 ordered_faults xs sorted out moved by_cmp is =
-    ordered_referred fault_cmp_total fault_cmp_same derived_eq.ghosts.eq derived_ties xs sorted out moved
+    ordered_mapped (λ (r : Bor Fault). r.now) fault_cmp_total fault_cmp_same derived_eq.ghosts.eq derived_ties xs sorted out moved
     (subst (λ (cmp : Fault → Fault → Ordering). IsSorted (λ (x y : Bor Fault). cmp x.now y.now) sorted) (λ i x y. derived_is x y i) by_cmp) is
 
 pub all-referred : (P : Fault → Type 0) (xs : List (Bor Fault)) (i : ℕ) (r : Bor Fault) → AllByRecursion P (referents xs) → i < length xs → r ≡ get_or xs i r → P r.now

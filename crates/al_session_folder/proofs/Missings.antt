@@ -1,6 +1,6 @@
 -- The candidates that are missing, and paths that are put in order.
 use Rattle.std.proofs.lemmas.Map.Lookups.{exact_bytes}
-use Rattle.std.proofs.Common.{◌≡◌, ℕ, ◌+◌, ◌<◌, Bool, List, [], ◌∷◌, ◌++◌, length, get_or, take}
+use Rattle.std.proofs.Common.{map, ◌≡◌, ℕ, ◌+◌, ◌<◌, Bool, List, [], ◌∷◌, ◌++◌, length, get_or, take}
 use Rattle.std.proofs.Common.{filter, String, refl, sym, ◌∙◌, ap}
 use Rattle.std.proofs.Common.{append-nil, append_assoc}
 use Rattle.std.specs.List.{dedup, flat_map}
@@ -21,14 +21,14 @@ use Rattle.std.proofs.lemmas.List.MinMax.{ranks_by}
 use Rattle.std.proofs.lemmas.Fn.{always_returns_same}
 use Rattle.std.proofs.lemmas.Map.Text.{is_eq-slice_cmp}
 use Rattle.al_session_folder.specs.Meaning.{Meaning, candidates}
-use Rattle.al_session_folder.specs.Kept.{Files, folder_of, referents, AllKept}
+use Rattle.al_session_folder.specs.Kept.{Files, folder_of, AllKept}
 use Rattle.al_session_folder.specs.declared.kept.KeptFile.{KeptFile}
 use Rattle.al_session_folder.specs.Folder.{Folder}
 use Rattle.al_session_folder.specs.Missing.{is_absent, absent_candidates, missing_in}
 use Rattle.al_base.specs.InOrder.{in_order}
-use Rattle.al_base.proofs.InOrder.{IsStrictlySortedBy-in_order, dedup-in_order}
+use Rattle.al_base.proofs.InOrder.{IsStrictlySortedBy-in_order}
 use Rattle.al_session_folder.specs.declared.lint.Target.{Target}
-use Rattle.al_session_folder.proofs.Referring.{ordered_referred}
+use Rattle.al_session_folder.proofs.Referring.{ordered_mapped}
 
 -- those of one call more
 pub next_absent : (f : Folder) (ps so_far more : List (List ℕ)) (ts : List Target) (i : ℕ) (t : Target) → i < length ts → t ≡ get_or ts i t
@@ -64,22 +64,12 @@ pub missing_sorted : {I : Type 0} (m : Meaning I) (f : Folder) → IsStrictlySor
 unfolding missing_in
 missing_sorted m f = IsStrictlySortedBy-in_order nat_list_cmp_total exact_bytes (flat_map (λ e. absent_candidates f (m.calls e.0 e.1)) f)
 
--- what a sort by the order of paths and then a `dedup` leave of references
-pub ordered_references : {F : Type 0} {g : Mut F (Bor (Bor (List ℕ)) × (Bor (Bor (List ℕ)) × Unit {0})) Ordering} {f : F} (xs sorted out : List (Bor (List ℕ)))
-    → IsPermutation xs sorted → ((lt : Bor (List ℕ) → Bor (List ℕ) → Bool) → IsStrictWeakOrder lt → ComparesAs g lt f → IsSortedBy lt sorted)
-    → ((a : Bor (Bor (List ℕ)) × (Bor (Bor (List ℕ)) × Unit {0})) (r : Ordering) (f' : F) → Called g f a r f' → (r ≡ slice_cmp nat_cmp a.0.now.now a.1.0.now.now) × (f' ≡ f))
-    → out ≡ dedup (λ (p q : Bor (List ℕ)). bytes_eq p.now q.now) sorted → referents out ≡ in_order (slice_cmp nat_cmp) (referents xs)
-ordered_references {g = g} {f = f} xs sorted out moved up h is =
-    ordered_referred nat_list_cmp_total exact_bytes bytes_eq (λ x y. sym (is_eq-slice_cmp x y)) xs sorted out moved
-    (up (λ x y. is_lt (slice_cmp nat_cmp x.now y.now)) (ranks_by nat_list_cmp_total (λ (x : Bor (List ℕ)). x.now))
-    (always_returns_same g (λ a r. is_lt r ≡ is_lt (slice_cmp nat_cmp a.0.now.now a.1.0.now.now)) f (λ a r f' k. (ap is_lt (h a r f' k).0, (h a r f' k).1)))) is
-
--- likewise of paths
-pub ordered_paths : {F : Type 0} {g : Mut F (Bor (List ℕ) × (Bor (List ℕ) × Unit {0})) Ordering} {f : F} (xs sorted out : List (List ℕ))
-    → IsPermutation xs sorted → ((lt : List ℕ → List ℕ → Bool) → IsStrictWeakOrder lt → ComparesAs g lt f → IsSortedBy lt sorted)
-    → ((a : Bor (List ℕ) × (Bor (List ℕ) × Unit {0})) (r : Ordering) (f' : F) → Called g f a r f' → (r ≡ slice_cmp nat_cmp a.0.now a.1.0.now) × (f' ≡ f))
-    → out ≡ dedup bytes_eq sorted → out ≡ in_order (slice_cmp nat_cmp) xs
-ordered_paths {g = g} {f = f} xs sorted out moved up h is =
-    is ∙ dedup-in_order nat_list_cmp_total exact_bytes bytes_eq (λ x y. sym (is_eq-slice_cmp x y)) xs sorted moved
-    (up (λ x y. is_lt (slice_cmp nat_cmp x y)) (ranks_by nat_list_cmp_total (λ (x : List ℕ). x))
-    (always_returns_same g (λ a r. is_lt r ≡ is_lt (slice_cmp nat_cmp a.0.now a.1.0.now)) f (λ a r f' k. (ap is_lt (h a r f' k).0, (h a r f' k).1))))
+-- what a sort by the order of paths and then a `dedup` leave, of paths or of references to them
+pub ordered_by : {Y F : Type 0} (v : Y → List ℕ) {g : Mut F (Bor Y × (Bor Y × Unit {0})) Ordering} {f : F} (ys sorted out : List Y)
+    → IsPermutation ys sorted → ((lt : Y → Y → Bool) → IsStrictWeakOrder lt → ComparesAs g lt f → IsSortedBy lt sorted)
+    → ((a : Bor Y × (Bor Y × Unit {0})) (r : Ordering) (f' : F) → Called g f a r f' → (r ≡ slice_cmp nat_cmp (v a.0.now) (v a.1.0.now)) × (f' ≡ f))
+    → out ≡ dedup (λ p q. bytes_eq (v p) (v q)) sorted → map v out ≡ in_order (slice_cmp nat_cmp) (map v ys)
+ordered_by v {g = g} {f = f} ys sorted out moved up h is =
+    ordered_mapped v nat_list_cmp_total exact_bytes bytes_eq (λ x y. sym (is_eq-slice_cmp x y)) ys sorted out moved
+    (up (λ x y. is_lt (slice_cmp nat_cmp (v x) (v y))) (ranks_by nat_list_cmp_total v)
+    (always_returns_same g (λ a r. is_lt r ≡ is_lt (slice_cmp nat_cmp (v a.0.now) (v a.1.0.now))) f (λ a r f' k. (ap is_lt (h a r f' k).0, (h a r f' k).1)))) is

@@ -1,11 +1,13 @@
-use Rattle.std.proofs.Common.{◌∙◌, ◌++◌, ◌∷◌, [], ap, sym, arith, take, List, ℕ}
+use Rattle.std.proofs.Common.{◌∙◌, ap, arith}
 use Rattle.al_base.specs.Paths.{path_fault_of}
-use Rattle.std.proofs.lemmas.List.{length-map, take_all}
-use Rattle.al_session_folder.specs.Folder.{paths_of}
-use Rattle.al_session_folder.specs.Kept.{folder_of}
-use Rattle.al_session_folder.proofs.Places.{length-folder_of}
+use Rattle.std.proofs.Common.{String}
+use Rattle.std.specs.Prelude.{string_bytes}
+use Rattle.std.specs.Global.{Global}
+use Rattle.std.proofs.lemmas.List.{map_more, take_all}
+use Rattle.std.proofs.lemmas.Option.{get_or_from_slice_get, slice_get_within}
+use Rattle.al_session_folder.specs.declared.kept.KeptFile.{KeptFile}
+use Rattle.al_session_folder.proofs.Places.{paths_of-folder_of}
 use Rattle.al_session_folder.proofs.Looping.{kept_number}
-use Rattle.al_session.proofs.Loading.{paths_more}
 use Rattle.al_session.proofs.builder.paths_in.Goals as goal
 
 pub owned_path-requires : goal.owned_path-requires
@@ -16,12 +18,12 @@ owned_path-requires g c =
 pub loop-index-preserved : goal.loop-index-preserved
 loop-index-preserved g c =
     let es = c.args.files.now.entries in
-    let whole = paths_more es c.loop-index.index (c.file_number.result.0.now, c.file_number.result.1.now) c.file_number.ensures in
-    c.in_ok-push.ensures.items ∙ ap (λ l. l ++ c.in_ok-owned_path.field-0 ∷ []) c.loop-index.invariant
-    ∙ ap (λ x. take c.loop-index.index (paths_of (folder_of es)) ++ x ∷ []) (c.in_ok-owned_path.ensures ∙ c.as_str.ensures.value) ∙ sym whole
+    let e : String Global × KeptFile _ _ = (c.file_number.result.0.now, c.file_number.result.1.now) in
+    rw (c.in_ok-push.ensures.items, c.loop-index.invariant, c.in_ok-owned_path.ensures, c.as_str.ensures.value,
+    map_more (λ x. string_bytes x.0) es c.loop-index.index e (slice_get_within es c.loop-index.index e c.file_number.ensures), get_or_from_slice_get es c.loop-index.index e e c.file_number.ensures)
 
 pub returns : goal.returns
 returns g c =
     let es = c.args.files.now.entries in
-    let long = length-map (folder_of es) (λ (e : List ℕ × List ℕ). e.0) in
-    c.loop-index.invariant ∙ take_all c.loop-index.index (paths_of (folder_of es)) (omega (arith, long, length-folder_of es, c.len-index-end.ensures.len, c.loop-index-test.false))
+    let whole = take_all c.loop-index.index es (omega (arith, c.len-index-end.ensures.len, c.loop-index-test.false)) in
+    (rw whole at c.loop-index.invariant) ∙ paths_of-folder_of es

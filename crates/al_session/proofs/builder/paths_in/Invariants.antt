@@ -1,7 +1,6 @@
-use Rattle.std.proofs.Common.{◌≡◌, take}
-use Rattle.al_session_folder.specs.Folder.{paths_of}
-use Rattle.al_session_folder.specs.Kept.{folder_of}
+use Rattle.std.proofs.Common.{◌≡◌, map, take}
+use Rattle.std.specs.Prelude.{string_bytes}
 use Rattle.al_session.proofs.builder.paths_in.Given as goal
 
 abbrev pub invariant-loop-index : goal.invariant-loop-index
-invariant-loop-index g l = l.paths.items ≡ take l.index (paths_of (folder_of l.files.entries))
+invariant-loop-index g l = l.paths.items ≡ map (λ e. string_bytes e.0) (take l.index l.files.entries)
