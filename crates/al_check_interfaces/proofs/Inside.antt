@@ -6,32 +6,22 @@ use Rattle.al_base.specs.Spans.{LiesIn}
 use Rattle.al_base.specs.declared.faults.Fault.{Fault}
 use Rattle.al_base.specs.declared.faults.Span.{Span}
 use Rattle.al_scalar.specs.Scalar.{Scalar}
-use Rattle.al_yaml_tree.specs.Access.{entries, nodes}
-use Rattle.al_yaml_tree.specs.Node.{Nodes, Entries, no_nodes, item, no_entries, entry}
-use Rattle.al_yaml_tree.specs.Spans.{IsInside, AreInside, EntriesInside}
+use Rattle.al_yaml_tree.specs.Spans.{IsInside, LiesAround}
+use Rattle.al_tree.proofs.Kept.{AreKept, each_kept}
 use Rattle.al_check_interfaces.specs.Laws.{CallsLie}
-use Rattle.al_check_interfaces.specs.Uses.{Call, wrong_uses}
+use Rattle.al_check_interfaces.specs.Uses.{Call, wrong_by, wrong_uses}
 use Rattle.al_check_interfaces.specs.declared.forms.Form.{Form}
 use Rattle.al_check_interfaces.specs.declared.forms.Form.TheVariants.{Local, Other, Wrong}
-use Rattle.al_check_interfaces.proofs.Parts.{IsKept, calls_kept}
-use Rattle.al_check_interfaces.specs.Uses.{wrong_by}
-
-items_inside : (size : ℕ) (ns : Nodes) → AreInside size ns → AllByRecursion (IsInside size) (nodes ns)
-items_inside size no_nodes i = tt
-items_inside size (item n ns) i = (i.0, items_inside size ns i.1)
-
-pairs_inside : (size : ℕ) (es : Entries) → EntriesInside size es → AllByRecursion (λ e. IsInside size e.0 × IsInside size e.1) (entries es)
-pairs_inside size no_entries i = tt
-pairs_inside size (entry k v es) i = ((i.0, i.1), pairs_inside size es i.2)
-
-pub inside_kept : (size : ℕ) → IsKept (IsInside size)
-inside_kept size = record { items = λ ns at i. items_inside size ns i.1; pairs = λ es at i. pairs_inside size es i.1 }
+use Rattle.al_check_interfaces.proofs.Parts.{calls_kept}
 
 abbrev pub AtLies : ℕ → Scalar × Span → Type 0
 AtLies size t = LiesIn size t.1
 
+pub inside_kept : (size : ℕ) → AreKept (IsInside size) (AtLies size)
+inside_kept size = each_kept (λ s at. LiesIn size at) (LiesAround size) (AtLies size) (λ X at h. h.1) (λ s at h. h)
+
 pub calls_lie : CallsLie
-calls_lie size kind root i = calls_kept (IsInside size) (AtLies size) (inside_kept size) (λ s at p. p) (LiesIn size) (λ t p. p) kind root i
+calls_lie size kind root i = calls_kept (inside_kept size) (LiesIn size) (λ t p. p) kind root i
 
 -- what is said of a `uses` that names nothing lies where it stands
 

@@ -21,8 +21,8 @@ use Rattle.al_rules_settings.specs.Settings.{permission_value_faults, shell_faul
 use Rattle.al_rules_settings.specs.Words.{Named, of_key, of_scalar, unless, unless_among}
 use Rattle.al_rules_settings.proofs.Places.{commands_lie}
 use Rattle.al_base.proofs.Elements.{each_as, each_of, map_or}
-use Rattle.al_rules_settings.proofs.Inside.{Are, Fine, Lies, NameLies, Pair, Text, below_fine, both, entries_at_fine, entries_in_fine}
-use Rattle.al_rules_settings.proofs.Inside.{items_at_fine, one_lies, or_lies, span_lies, text_fine, unless_lies, value_fine}
+use Rattle.al_tree.proofs.Kept.{Pair, below_kept, entries_in_kept, entries_kept, items_kept, text_in_kept, value_kept}
+use Rattle.al_rules_settings.proofs.Inside.{Are, Fine, Lies, NameLies, Text, both, laid, one_lies, or_lies, span_lies, unless_lies}
 
 module _ (size : ℕ) where
   -- ---- ids
@@ -43,13 +43,13 @@ module _ (size : ℕ) where
   shape_lies : (right : Bool) (at : Span) (name : List ℕ) → LiesIn size at → Are size (shape_faults right at name)
   shape_lies right at name p = or_lies size right [] _ tt (one_lies size WrongMatrix at (name ∷ []) p)
 
-  row_lies : (m : Node × Node) → Pair size m → Are size (row_faults m)
+  row_lies : (m : Node × Node) → Pair (Fine size) m → Are size (row_faults m)
   row_lies m p = shape_lies (is_row_value (of_key m.0).text m.1) (span_of m.1) (of_key m.0).text (span_lies size m.1 p.1)
 
   exclude_place : (items : List Node) → AllByRecursion (Fine size) items → AllByRecursion (NameLies size) (exclude_keys items)
   exclude_place items h =
       each_of (Fine size) (NameLies size) (λ item. map (λ m. of_key m.0) (entries_in item))
-      (λ item f. each_as (Pair size) (NameLies size) (λ m. of_key m.0) (λ m q. span_lies size m.0 q.0) (entries_in item) (entries_in_fine size item f)) items h
+      (λ item f. each_as (Pair (Fine size)) (NameLies size) (λ m. of_key m.0) (λ m q. span_lies size m.0 q.0) (entries_in item) (entries_in_kept (laid size) item f)) items h
 
   excludes_lie : (place : List ℕ → Option ℕ) (names : List Named) → AllByRecursion (NameLies size) names
       → Are size (flat_map (exclude_faults place) names)
@@ -58,8 +58,8 @@ module _ (size : ℕ) where
 
   pub matrix_lies : (n : Node) → Fine size n → Are size (matrix_faults n)
   matrix_lies n f =
-      let rows = each_of (Pair size) (Lies size) row_faults row_lies (entries_in n) (entries_in_fine size n f) in
-      let keys = exclude_place (items_at (codes "exclude") n) (items_at_fine size (codes "exclude") n f) in
+      let rows = each_of (Pair (Fine size)) (Lies size) row_faults row_lies (entries_in n) (entries_in_kept (laid size) n f) in
+      let keys = exclude_place (items_at (codes "exclude") n) (items_kept (laid size) (codes "exclude") n f) in
       search (or_lies size, both size, rows, excludes_lie, keys, shape_lies, span_lies size) depth 7
 
   -- ---- settings
@@ -71,30 +71,31 @@ module _ (size : ℕ) where
   value_lies : (values : List (List ℕ)) (n : Node) → Fine size n → Are size (permission_value_faults values n)
   value_lies values n f =
       map_or (Text size) (Lies size) (λ s. unless_among WrongPermission values (of_scalar s))
-      (λ s t. unless_lies size (among values (text_of s.0)) WrongPermission (of_scalar s) t.place) (text_in n) (text_fine size n f)
+      (λ s t. unless_lies size (among values (text_of s.0)) WrongPermission (of_scalar s) t.place) (text_in n) (text_in_kept (laid size) n f)
 
-  permission_lies : (m : Node × Node) → Pair size m → Are size (permission_faults m)
+  permission_lies : (m : Node × Node) → Pair (Fine size) m → Are size (permission_faults m)
   permission_lies m p =
       let name = unless_lies size (among permissions (of_key m.0).text) UnknownPermission (of_key m.0) (span_lies size m.0 p.0) in
       search (both size, name, value_lies scope_values m.1 p.1)
 
   all_permissions_lie : (n : Node) → Fine size n → Are size (all_permissions_faults n)
-  all_permissions_lie n f = search (both size, value_lies, each_of (Pair size) (Lies size) permission_faults permission_lies, entries_in_fine size)
+  all_permissions_lie n f = search (both size, value_lies, each_of (Pair (Fine size)) (Lies size) permission_faults permission_lies, entries_in_kept (laid size))
 
   pub permissions_lie : (n : Node) → Fine size n → Are size (permissions_faults n)
-  permissions_lie n f = map_or (Fine size) (Lies size) all_permissions_faults all_permissions_lie (value_at (codes "permissions") n) (value_fine size (codes "permissions") n f)
+  permissions_lie n f = map_or (Fine size) (Lies size) all_permissions_faults all_permissions_lie (value_at (codes "permissions") n) (value_kept (laid size) (codes "permissions") n f)
 
   pub env_lies : (n : Node) → Fine size n → Are size (env_faults n)
   env_lies n f =
-      each_of (Pair size) (Lies size) variable_faults (λ m p. unless_lies size (is_variable (of_key m.0).text) WrongVariable (of_key m.0) (span_lies size m.0 p.0))
-      (entries_at (codes "env") n) (entries_at_fine size (codes "env") n f)
+      each_of (Pair (Fine size)) (Lies size) variable_faults (λ m p. unless_lies size (is_variable (of_key m.0).text) WrongVariable (of_key m.0) (span_lies size m.0 p.0))
+      (entries_at (codes "env") n) (entries_kept (laid size) (codes "env") n f)
 
   password_lies : (n : Node) → Fine size n → Are size (password_faults n)
   password_lies n f = or_lies size (is_password n) [] _ tt (one_lies size PasswordNotExpression (span_of n) [] (span_lies size n f))
 
   pub credentials_lie : (n : Node) → Fine size n → Are size (credentials_faults n)
   credentials_lie n f =
-      map_or (Fine size) (Lies size) password_faults password_lies (value_below (codes "credentials" ∷ codes "password" ∷ []) n) (below_fine size (codes "credentials" ∷ codes "password" ∷ []) n f)
+      map_or (Fine size) (Lies size) password_faults password_lies (value_below (codes "credentials" ∷ codes "password" ∷ []) n)
+      (below_kept (laid size) (codes "credentials" ∷ codes "password" ∷ []) n f)
 
   pub script_lies : (o : Option (Scalar × Span)) → IfSome o (Text size) → Are size (script_faults o)
   script_lies None h = tt
