@@ -1,7 +1,5 @@
-use Rattle.std.proofs.Common.{◌∙◌, [], ap, map}
-use Rattle.al_types.specs.Strings.{named_strings}
+use Rattle.std.proofs.Common.{[]}
 use Rattle.al_check_objects.proofs.FieldLists.{strings_once}
-use Rattle.al_check_objects.proofs.Numbers.{means_as}
 use Rattle.al_check_objects.proofs.objects.declared_strings.Goals as goal
 
 pub into_type-requires-clause-fields : goal.into_type-requires-clause-fields
@@ -12,6 +10,4 @@ into_type-requires-clause-fields c =
 pub returns-clause-ty : goal.returns-clause-ty
 returns-clause-ty c =
     let types = c.args.types.now in
-    let made = c.in_ok-ty.ensures.ty _ (c.in_ok-fields.ensures types [] (c.new.ensures types)) in
-    means_as c.into_type.new.types c.in_ok-ty.ty _ _
-    (strings_once _ ∙ ap named_strings (ap (map (λ n. n.now)) c.as_slice.ensures.value ∙ c.in_ok-keys.ensures)) made
+    rw (strings_once _, c.as_slice.ensures.value, c.in_ok-keys.ensures) at (c.in_ok-ty.ensures.ty _ (c.in_ok-fields.ensures types [] (c.new.ensures types)))
