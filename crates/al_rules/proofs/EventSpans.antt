@@ -17,8 +17,8 @@ use Rattle.al_rules.specs.Events.{activity_type_faults, event_name_faults, named
 use Rattle.al_rules.specs.Names.{activities_of}
 use Rattle.al_rules_settings.specs.Words.{Named, of_scalar, unless, unless_among}
 use Rattle.al_base.proofs.Elements.{each_of, map_or}
-use Rattle.al_rules_settings.proofs.Inside.{Are, Fine, Lies, NameLies, Pair, Text, about_lies, both, entries_at_fine, entries_in_fine}
-use Rattle.al_rules_settings.proofs.Inside.{items_in_fine, or_lies, span_lies, text_at_fine, texts_at_fine, texts_in_fine, unless_lies}
+use Rattle.al_tree.proofs.Kept.{Pair, entries_in_kept, entries_kept, items_in_kept, text_kept, texts_in_kept, texts_kept}
+use Rattle.al_rules_settings.proofs.Inside.{Are, Fine, Lies, NameLies, Text, about_lies, both, laid, or_lies, span_lies, unless_lies}
 
 module _ (size : ℕ) where
   types_of : (o : Option (List (List ℕ))) (event : Node) → Fine size event →
@@ -27,7 +27,7 @@ module _ (size : ℕ) where
   types_of (Some types) event f =
       each_of (Text size) (Lies size) (λ s. unless_among UnknownActivity types (of_scalar s))
       (λ s t. unless_lies size (among types (text_of s.0)) UnknownActivity (of_scalar s) t.place) (texts_at (codes "types") event)
-      (texts_at_fine size (codes "types") event f)
+      (texts_kept (laid size) (codes "types") event f)
 
   types_lie : (name : List ℕ) (event : Node) → Fine size event → Are size (activity_type_faults name event)
   types_lie name event f = types_of (activities_of name) event f
@@ -35,7 +35,7 @@ module _ (size : ℕ) where
   filter_lies : (filter : Filter) (event : Node) (key : List ℕ) → Fine size event → Are size (filter_faults filter event key)
   filter_lies filter event key f =
       each_of (Text size) (Lies size) (λ s. unless (is_pattern filter (text_of s.0)) WrongPattern (of_scalar s))
-      (λ s t. unless_lies size (is_pattern filter (text_of s.0)) WrongPattern (of_scalar s) t.place) (texts_at key event) (texts_at_fine size key event f)
+      (λ s t. unless_lies size (is_pattern filter (text_of s.0)) WrongPattern (of_scalar s) t.place) (texts_at key event) (texts_kept (laid size) key event f)
 
   keys_lie : (filter : Filter) (event : Node) → Fine size event → (keys : List (List ℕ)) → Are size (flat_map (filter_faults filter event) keys)
   keys_lie filter event f [] = tt
@@ -51,26 +51,26 @@ module _ (size : ℕ) where
   cron_lies : (entry : Node) → Fine size entry → Are size (cron_faults entry)
   cron_lies entry f =
       map_or (Text size) (Lies size) (λ s. schedule_faults (schedule_of (of_scalar s).text) (of_scalar s)) (λ s t. schedule_lies (schedule_of (text_of s.0)) (of_scalar s) t.place)
-      (text_at_key (codes "cron") entry) (text_at_fine size (codes "cron") entry f)
+      (text_at_key (codes "cron") entry) (text_kept (laid size) (codes "cron") entry f)
 
-  input_lies : (types : List (List ℕ)) (m : Node × Node) → Pair size m → Are size (input_faults types m)
+  input_lies : (types : List (List ℕ)) (m : Node × Node) → Pair (Fine size) m → Are size (input_faults types m)
   input_lies types m p =
       map_or (Text size) (Lies size) (λ s. unless_among UnknownInputType types (of_scalar s)) (λ s t. unless_lies size (among types (text_of s.0)) UnknownInputType (of_scalar s) t.place)
-      (text_at_key (codes "type") m.1) (text_at_fine size (codes "type") m.1 p.1)
+      (text_at_key (codes "type") m.1) (text_kept (laid size) (codes "type") m.1 p.1)
 
   inputs_lie : (types : List (List ℕ)) (event : Node) → Fine size event → Are size (inputs_faults types event)
-  inputs_lie types event f = each_of (Pair size) (Lies size) (input_faults types) (input_lies types) (entries_at (codes "inputs") event) (entries_at_fine size (codes "inputs") event f)
+  inputs_lie types event f = each_of (Pair (Fine size)) (Lies size) (input_faults types) (input_lies types) (entries_at (codes "inputs") event) (entries_kept (laid size) (codes "inputs") event f)
 
   event_lies : (name : List ℕ) (event : Node) → Fine size event → Are size (event_faults name event)
   event_lies name event f =
-      let crons = each_of (Fine size) (Lies size) cron_faults cron_lies (items_in event) (items_in_fine size event f) in
+      let crons = each_of (Fine size) (Lies size) cron_faults cron_lies (items_in event) (items_in_kept (laid size) event f) in
       search (or_lies size, crons, inputs_lie, both size, types_lie, filters_lie) depth 9
 
-  named_lies : (m : Node × Node) → Pair size m → Are size (named_faults m)
+  named_lies : (m : Node × Node) → Pair (Fine size) m → Are size (named_faults m)
   named_lies m p = search (or_lies size, event_lies, about_lies size, span_lies size)
 
   pub on_lies : (on : Node) → Fine size on → Are size (on_faults on)
   on_lies on f =
       let names = each_of (Text size) (Lies size) (λ s. event_name_faults (of_scalar s))
-      (λ s t. unless_lies size (is_event (text_of s.0)) UnknownEvent (of_scalar s) t.place) (texts_in on) (texts_in_fine size on f) in
-      search (both size, names, each_of (Pair size) (Lies size) named_faults named_lies, entries_in_fine size)
+      (λ s t. unless_lies size (is_event (text_of s.0)) UnknownEvent (of_scalar s) t.place) (texts_in on) (texts_in_kept (laid size) on f) in
+      search (both size, names, each_of (Pair (Fine size)) (Lies size) named_faults named_lies, entries_in_kept (laid size))

@@ -1,9 +1,9 @@
 -- What entries of `needs` give, by labels of the jobs, and where the positions of jobs lie.
-use Rattle.std.proofs.Common.{◌≡◌, ℕ, ◌+◌, ◌<◌, ◌≤◌, take_all, Bool, true, false, cond, List, [], ◌∷◌, ◌++◌, All, length, map, take, Vec}
-use Rattle.std.proofs.Common.{get_or, subst, sym, ap, ◌∙◌, append_assoc, append-nil, arith, refl, suc, Option, Some, None, ⊎_elim}
+use Rattle.std.proofs.Common.{◌≡◌, ℕ, ◌+◌, ◌<◌, Bool, true, false, cond, List, [], ◌∷◌, ◌++◌, All, drop, length, map, Vec}
+use Rattle.std.proofs.Common.{get_or, subst, sym, ap, ◌∙◌, append_assoc, arith, refl, suc, Option, Some, None, ⊎_elim}
 use Rattle.std.proofs.lemmas.Bool.{cases_lt}
 use Rattle.std.proofs.lemmas.Grind.{flat_map-append}
-use Rattle.std.proofs.lemmas.List.{get_or_past, get_or-map, length-map, length-take, map-append, take_more}
+use Rattle.std.proofs.lemmas.List.{get_or_past, get_or-map, length-map}
 use Rattle.std.specs.declared.alloc.Global.{Global}
 use Rattle.std.proofs.lemmas.List.Elements.{All-nil, All-cons, All-get_or, All-contains}
 use Rattle.std.specs.List.{AllByRecursion, cons_option, enumerate_from, filter_map, flat_map}
@@ -15,6 +15,7 @@ use Rattle.al_graph.proofs.FilterMaps.{put_behind, put_first}
 use Rattle.al_graph.proofs.Labels.{labels_same}
 use Rattle.al_scalar.specs.Scalar.{Scalar}
 use Rattle.al_base.specs.declared.faults.Span.{Span}
+use Rattle.al_tree.proofs.Lists.{left_next}
 use Rattle.al_tree.specs.Values.{texts_at}
 use Rattle.al_rules.specs.Private.Components.{has_label_of, labelled_fault, labelled_faults, named_by}
 use Rattle.al_rules.specs.Needs.{AddsAllNeeds, AddsNeeds, AreNeedsFaults, undefined_job, leads_back, leads_on, no_needs, and_need}
@@ -24,22 +25,6 @@ use Rattle.al_tree.specs.Keys.{keys_in}
 use Rattle.al_base.specs.Names.{same_name}
 use Rattle.al_base.proofs.NamePlaces.{first_within}
 use Rattle.al_rules_settings.specs.Words.{Named, of_key, of_scalar}
-
-enumerated : {X : Type 0} (i : ℕ) (xs : List X) (y : X) → enumerate_from i (xs ++ y ∷ []) ≡ enumerate_from i xs ++ (i + length xs, y) ∷ []
-enumerated i [] y = ap (λ k. (k, y) ∷ []) (omega arith)
-enumerated i (x ∷ xs) y = ap (λ l. (i, x) ∷ l) (enumerated (i + 1) xs y ∙ ap (λ k. enumerate_from (i + 1) xs ++ (k, y) ∷ []) (omega arith))
-
-needs_and : (jobs : List (Node × Node)) (j : Node × Node) → all_needs (jobs ++ j ∷ []) ≡ all_needs jobs ++ needs_in (length jobs, j)
-needs_and jobs j =
-    ap (flat_map needs_in) (enumerated 0 jobs j) ∙ flat_map-append needs_in (enumerate_from 0 jobs) ((0 + length jobs, j) ∷ [])
-    ∙ ap (λ l. all_needs jobs ++ l) (append-nil (needs_in (0 + length jobs, j))) ∙ ap (λ k. all_needs jobs ++ needs_in (k, j)) (omega arith)
-
-needs_to : {X : Type 0} (seen : X → Node × Node) (jobs : List X) (i : ℕ) (d : X) → i < length jobs
-    → all_needs (map seen (take (i + 1) jobs)) ≡ all_needs (map seen (take i jobs)) ++ needs_in (i, seen (get_or jobs i d))
-needs_to seen jobs i d h =
-    let len : length (map seen (take i jobs)) ≡ i = length-map (take i jobs) seen ∙ omega (arith, length-take i jobs, h) in
-    ap (λ xs. all_needs (map seen xs)) (take_more jobs i d h) ∙ ap all_needs (map-append seen (take i jobs) (get_or jobs i d ∷ []))
-    ∙ needs_and (map seen (take i jobs)) (seen (get_or jobs i d)) ∙ ap (λ k. all_needs (map seen (take i jobs)) ++ needs_in (k, seen (get_or jobs i d))) len
 
 module _ (position : List ℕ → Option ℕ) (Leads : ℕ → ℕ → Type 0) where
   more : (ns ms : List NeedEntry) (fs gs : List Fault) → AreNeedsFaults position Leads ns fs → AreNeedsFaults position Leads ms gs → AreNeedsFaults position Leads (ns ++ ms) (fs ++ gs)
@@ -118,21 +103,17 @@ module _ (position : List ℕ → Option ℕ) (graph : List (List ℕ)) (labels 
 -- ---- what is added for one job after another
 
 module _ (position : List ℕ → Option ℕ) (labels : List (Option ℕ)) {X : Type 0} (seen : X → Node × Node) (jobs : List X) where
-  pub found_next : (i : ℕ) (x : X) (old mid new : List Fault) → i < length jobs → x ≡ get_or jobs i x
-      → mid ≡ old ++ labelled_faults position labels (all_needs (map seen (take i jobs)))
-      → new ≡ mid ++ labelled_faults position labels (needs_in (i, seen x))
-      → new ≡ old ++ labelled_faults position labels (all_needs (map seen (take (i + 1) jobs)))
-  found_next i x old mid new h e o n =
+  pub found_next : (i : ℕ) (x : X) (old new all : List Fault) → i < length jobs → x ≡ get_or jobs i x
+      → new ≡ old ++ labelled_faults position labels (needs_in (i, seen x))
+      → old ++ labelled_faults position labels (flat_map needs_in (enumerate_from i (map seen (drop i jobs)))) ≡ all
+      → new ++ labelled_faults position labels (flat_map needs_in (enumerate_from (i + 1) (map seen (drop (i + 1) jobs)))) ≡ all
+  found_next i x old new all h e n so_far =
       let found : List NeedEntry → List Fault = labelled_faults position labels in
-      let before = all_needs (map seen (take i jobs)) in
-      n ∙ ap (λ fs. fs ++ found (needs_in (i, seen x))) o ∙ append_assoc old (found before) (found (needs_in (i, seen x)))
-      ∙ ap (λ fs. old ++ fs) (sym (flat_map-append (λ n. labelled_fault labels n (named_by position n.text)) before (needs_in (i, seen x)))
-      ∙ ap found (ap (λ (y : X). before ++ needs_in (i, seen y)) e ∙ sym (needs_to seen jobs i x h)))
-
-  pub found_end : (i : ℕ) (old new : List Fault) → length jobs ≤ i
-      → new ≡ old ++ labelled_faults position labels (all_needs (map seen (take i jobs)))
-      → new ≡ old ++ labelled_faults position labels (all_needs (map seen jobs))
-  found_end i old new h o = o ∙ ap (λ (js : List X). old ++ labelled_faults position labels (all_needs (map seen js))) (take_all i jobs h)
+      let own = needs_in (i, seen x) in
+      let rest = flat_map needs_in (enumerate_from (i + 1) (map seen (drop (i + 1) jobs))) in
+      ap (λ fs. fs ++ found rest) n ∙ append_assoc old (found own) (found rest)
+      ∙ ap (λ fs. old ++ fs) (sym (flat_map-append (λ n. labelled_fault labels n (named_by position n.text)) own rest))
+      ∙ ap (λ js. old ++ found (flat_map needs_in (enumerate_from i js))) (sym (left_next seen jobs i x h e)) ∙ so_far
 
 abbrev Below : ℕ → ℕ → Type 0
 Below m k = k < m
