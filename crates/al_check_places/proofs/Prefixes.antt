@@ -1,7 +1,7 @@
 -- Whether a path begins some keys, from its last key on; and the keys of ways that are one step longer or shorter.
 use Rattle.std.proofs.Common.{◌≡◌, ◌<◌, ◌≤◌, ◌+◌, ◌-◌, ◌∙◌, ℕ, List, [], ◌∷◌, ◌++◌, length, map, take, get_or, ap, append-nil, refl, sym, arith, Bool, true, false, ◌&&◌}
 use Rattle.std.proofs.Common.{Option, Some, Bor}
-use Rattle.std.proofs.Math.Bool.{and_assoc}
+use Rattle.std.proofs.Math.Bool.{and-false, and-true, and_assoc}
 use Rattle.std.proofs.Math.Seq.{take-append_seam}
 use Rattle.std.proofs.lemmas.List.{get_or-map, length-append, length-map, length-take, map-append, map_more, take-map}
 use Rattle.std.proofs.lemmas.List.Elements.{filter_map-append}
@@ -20,25 +20,17 @@ texts ks = map (λ k. k.now) ks
 abbrev fits : Option (List ℕ) → List ℕ → Bool
 fits p k = option_map_or (λ name. bytes_eq name k) p true
 
-pub and_false : (b : Bool) → (b && false) ≡ false
-and_false true = refl
-and_false false = refl
-
-pub and_true : (b : Bool) → (b && true) ≡ b
-and_true true = refl
-and_true false = refl
-
 -- a path that is longer than the keys doesn't begin them
 pub too_long : (ps : Path) (ks : List (List ℕ)) → length ks < length ps → is_path_prefix ps ks ≡ false
 too_long [] ks h = absurd (omega (arith, h))
 too_long (p ∷ ps) [] h = refl
-too_long (p ∷ ps) (k ∷ ks) h = ap (λ b. fits p k && b) (too_long ps ks (omega (arith, h))) ∙ and_false (fits p k)
+too_long (p ∷ ps) (k ∷ ks) h = ap (λ b. fits p k && b) (too_long ps ks (omega (arith, h))) ∙ and-false (fits p k)
 
 -- a path that is one key longer
 longer : (ps : Path) (p : Option (List ℕ)) (ks : List (List ℕ)) → length ps < length ks →
     is_path_prefix (ps ++ p ∷ []) ks ≡ (is_path_prefix ps ks && fits p (get_or ks (length ps) []))
 longer [] p [] h = absurd (omega (arith, h))
-longer [] p (k ∷ ks) h = and_true (fits p k)
+longer [] p (k ∷ ks) h = and-true (fits p k)
 longer (q ∷ ps) p [] h = absurd (omega (arith, h))
 longer (q ∷ ps) p (k ∷ ks) h =
     ap (λ b. fits q k && b) (longer ps p ks (omega (arith, h))) ∙ sym (and_assoc (fits q k) (is_path_prefix ps ks) (fits p (get_or ks (length ps) [])))
