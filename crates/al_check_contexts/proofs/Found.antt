@@ -1,6 +1,7 @@
 -- What is known of outputs, found by place: answers put one in front of another.
 use Rattle.std.proofs.Common.{◌≡◌, ◌<◌, ◌+◌, ℕ, List, [], refl, sym, ap, ◌∙◌, Bool, true, false, ◌&&◌, cond, Option, Some, None, option_map, Bor, arith}
 use Rattle.std.proofs.Common.{drop, get_or, length, map}
+use Rattle.std.proofs.Math.Bool.{and-false, and-true}
 use Rattle.std.proofs.lemmas.Bool.Decides.{nat_tests}
 use Rattle.std.proofs.lemmas.List.{drop_more, length-map}
 use Rattle.std.proofs.lemmas.Map.Text.{is_eq-slice_cmp}
@@ -14,7 +15,7 @@ use Rattle.std.specs.Prelude.{◌==◌, find, if◌then◌else◌, option_and_th
 use Rattle.std.specs.Slice.{IsItemAt}
 use Rattle.std.specs.Str.{bytes_eq}
 use Rattle.std.specs.declared.cmp.Ordering.{Ordering}
-use Rattle.std.specs.declared.cmp.Ordering.TheVariants.{Less, Equal, Greater}
+use Rattle.std.specs.declared.cmp.Ordering.TheVariants.{Equal}
 use Rattle.al_check_contexts.specs.Answered.{Behind, is_at, behind_of}
 use Rattle.al_expr_types.specs.declared.name_list.NameList.{NameList}
 use Rattle.al_check_contexts.specs.Lookups.{Found, and_found, found_at, known_by, list_at}
@@ -46,9 +47,8 @@ copied_job (Some t) = refl
 
 jobs_compared : (a b : Option (Bor (List ℕ))) → job_cmp a b ≡ option_cmp (slice_cmp nat_cmp) (option_copied a) (option_copied b)
 jobs_compared None None = refl
-jobs_compared None (Some b) = refl
-jobs_compared (Some a) None = refl
 jobs_compared (Some a) (Some b) = refl
+jobs_compared _ _ = refl
 
 compared : (job : Option (List ℕ)) (step : Option ℕ) (k : Key) → key_cmp (to_job job, step) k ≡ place_cmp job step k
 compared job step k =
@@ -61,38 +61,25 @@ got m job step = λ d. get_by (λ k. compared job step k d) m
 -- ---- whether a key is at a place
 
 then_eq : (o p : Ordering) → is_eq (ordering_then o p) ≡ (is_eq p && is_eq o)
-then_eq Less Less = refl
-then_eq Less Equal = refl
-then_eq Less Greater = refl
-then_eq Equal Less = refl
-then_eq Equal Equal = refl
-then_eq Equal Greater = refl
-then_eq Greater Less = refl
-then_eq Greater Equal = refl
-then_eq Greater Greater = refl
+then_eq Equal p = sym (and-true (is_eq p))
+then_eq _ p = sym (and-false (is_eq p))
 
 same_number : (i k : ℕ) → is_eq (nat_cmp i k) ≡ (i == k)
 same_number i k = grind (arith, nat_tests)
 
-pub same_step : (a b : Option ℕ) → is_eq (option_cmp nat_cmp a b) ≡ option_eq (λ i k. i == k) a b
-same_step None None = refl
-same_step None (Some k) = refl
-same_step (Some i) None = refl
-same_step (Some i) (Some k) = same_number i k
-
-same_job : (a b : Option (List ℕ)) → is_eq (option_cmp (slice_cmp nat_cmp) a b) ≡ option_eq bytes_eq a b
-same_job None None = refl
-same_job None (Some b) = refl
-same_job (Some a) None = refl
-same_job (Some a) (Some b) = is_eq-slice_cmp a b
+same_option : {A : Type 0} (cmp : A → A → Ordering) (eq : A → A → Bool) → ((x y : A) → is_eq (cmp x y) ≡ eq x y) →
+    (a b : Option A) → is_eq (option_cmp cmp a b) ≡ option_eq eq a b
+same_option cmp eq same None None = refl
+same_option cmp eq same (Some x) (Some y) = same x y
+same_option cmp eq same _ _ = refl
 
 at_place : (key : Key) (names : Option (List (List ℕ))) (job : Option (List ℕ)) (step : Option ℕ) →
     is_at_key (key_cmp key) (to_job job, step) ≡ is_at job step (record { job = option_copied key.0; step = key.1; names = names })
 at_place key names job step =
     then_eq (job_cmp key.0 (to_job job)) (option_cmp nat_cmp key.1 step)
-    ∙ ap (λ b. b && is_eq (job_cmp key.0 (to_job job))) (same_step key.1 step)
+    ∙ ap (λ b. b && is_eq (job_cmp key.0 (to_job job))) (same_option nat_cmp (λ i k. i == k) same_number key.1 step)
     ∙ ap (λ b. option_eq (λ i k. i == k) key.1 step && b)
-    (ap is_eq (jobs_compared key.0 (to_job job) ∙ ap (option_cmp (slice_cmp nat_cmp) (option_copied key.0)) (copied_job job)) ∙ same_job (option_copied key.0) job)
+    (ap is_eq (jobs_compared key.0 (to_job job) ∙ ap (option_cmp (slice_cmp nat_cmp) (option_copied key.0)) (copied_job job)) ∙ same_option (slice_cmp nat_cmp) bytes_eq is_eq-slice_cmp (option_copied key.0) job)
 
 -- what is found at a key is what is known there
 pub names_found : (o : Outputs) (job : Option (Bor (List ℕ))) (step : Option ℕ) (r : Option (Option ℕ)) → r ≡ get_by (key_cmp (job, step)) o.positions →

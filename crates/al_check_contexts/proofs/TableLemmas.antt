@@ -37,18 +37,8 @@ pub steps_changed : (new old : Types) (ts : ContextTypes) (t : Ty) (k : FileKind
 steps_changed new old ts t k known root s seen now b m h = record { each = each }
   where
     each : (c : Context) → Means new (context_number (record ts { steps = t }) c) (context_type_at k known root (position s now) c)
-    each context.Github = means_stays new old _ _ b (h.each context.Github)
-    each context.Env = means_stays new old _ _ b (h.each context.Env)
-    each context.Vars = means_stays new old _ _ b (h.each context.Vars)
-    each context.Secrets = means_stays new old _ _ b (h.each context.Secrets)
-    each context.Runner = means_stays new old _ _ b (h.each context.Runner)
-    each context.Job = means_stays new old _ _ b (h.each context.Job)
-    each context.Strategy = means_stays new old _ _ b (h.each context.Strategy)
-    each context.Needs = means_stays new old _ _ b (h.each context.Needs)
-    each context.Jobs = means_stays new old _ _ b (h.each context.Jobs)
     each context.Steps = m
-    each context.Matrix = means_stays new old _ _ b (h.each context.Matrix)
-    each context.Inputs = means_stays new old _ _ b (h.each context.Inputs)
+    each c = means_stays new old _ _ b (h.each c)
 
 -- where the same is seen all stay
 pub same_seen : (types : Types) (ts : ContextTypes) (k : FileKind) (known : OutputNames) (root : Node) (s : Section) (seen now : Seen) →
@@ -72,18 +62,12 @@ section_changed new old ts st t k known root s now seen b a m h = record { each 
     all = record ts { strategy = st.strategy; needs = st.needs; jobs = st.jobs; matrix = st.matrix; steps = t }
 
     each : (c : Context) → Means new (context_number all c) (context_type_at k known root (position now (before 0)) c)
-    each context.Github = means_stays new old _ _ b (h.each context.Github)
-    each context.Env = means_stays new old _ _ b (h.each context.Env)
-    each context.Vars = means_stays new old _ _ b (h.each context.Vars)
-    each context.Secrets = means_stays new old _ _ b (h.each context.Secrets)
-    each context.Runner = means_stays new old _ _ b (h.each context.Runner)
-    each context.Job = means_stays new old _ _ b (h.each context.Job)
     each context.Strategy = a.strategy
     each context.Needs = a.needs
     each context.Jobs = a.jobs
     each context.Steps = m
     each context.Matrix = a.matrix
-    each context.Inputs = means_stays new old _ _ b (h.each context.Inputs)
+    each c = means_stays new old _ _ b (h.each c)
 
 -- ---- the start of a file
 
@@ -115,12 +99,9 @@ shows_first types f inputs steps k known root fixed i s = record { each = each }
     each context.Secrets = fixed.strings
     each context.Runner = fixed.runner
     each context.Job = fixed.job
-    each context.Strategy = any_means types
-    each context.Needs = any_means types
-    each context.Jobs = any_means types
     each context.Steps = s
-    each context.Matrix = any_means types
     each context.Inputs = i
+    each _ = any_means types
 
 pub fixed_stay : (new old : Types) (f : FixedTypes) → BeginsWith (objects_of new) (objects_of old) → AreFixed old f → AreFixed new f
 fixed_stay new old f b h = record {

@@ -1,4 +1,4 @@
-use Rattle.std.proofs.Common.{◌≡◌, ◌∙◌, ap, map, option_map, subst}
+use Rattle.std.proofs.Common.{map}
 use Rattle.al_base.proofs.Growing.{begins_trans}
 use Rattle.al_check_places.specs.Positions.{section_view}
 use Rattle.al_check_places.specs.declared.positions.Seen.TheVariants.{Before as before}
@@ -9,9 +9,6 @@ use Rattle.al_tree.specs.Values.{member_of}
 use Rattle.al_yaml_tree.specs.View.{view}
 use Rattle.al_expr_types.specs.Tables.{objects_of}
 use Rattle.al_check_contexts.specs.Lookups.{known_by, step_at}
-use Rattle.al_check_contexts.specs.Private.Owners.{owner_view}
-use Rattle.al_check_contexts.specs.Steps.{AreStepsOf}
-use Rattle.al_check_contexts.specs.Table.{AreOfSection}
 use Rattle.al_check_contexts.proofs.JobLemmas.{keeps_jobs_stay}
 use Rattle.al_check_contexts.proofs.Kept.{keeps_stays}
 use Rattle.al_check_objects.proofs.Numbers.{means_stays}
@@ -40,13 +37,8 @@ returns-clause-stands c =
     let seen = c.in_ok-none_seen.ensures in
     let from_one = begins_trans (objects_of one) (objects_of two) (objects_of now) steps.kept seen.kept in
     let kept = begins_trans (objects_of env.types) (objects_of one) (objects_of now) made.kept from_one in
-    let job : option_map member_of c.job_of-job.result ≡ job_in (jobs_of root) there =
-    c.job_of-job.ensures ∙ ap (λ us. job_in us there) was.members in
-    let owner : option_map owner_view c.owner_at-owner.result ≡ owner_of kind root (job_in (jobs_of root) there) =
-    c.owner_at-owner.ensures ∙ ap (owner_of kind root) job in
-    let of_owner = subst (λ o. AreStepsOf two known o c.in_ok-steps.steps) owner steps.steps in
-    let types = subst (λ us. AreOfSection now known us there (job_in (jobs_of root) there) c.in_ok-made.made) was.members
-    (subst (λ j. AreOfSection now known js there j c.in_ok-made.made) job (section_stays now one known js there _ c.in_ok-made.made from_one made.types)) in
+    let of_owner = rw (c.owner_at-owner.ensures, c.job_of-job.ensures, was.members) at steps.steps in
+    let types = rw (c.job_of-job.ensures, was.members) at (section_stays now one known js there _ c.in_ok-made.made from_one made.types) in
     let at = owner_of kind root (job_in (jobs_of root) there) in
     record {
       members = was.members;

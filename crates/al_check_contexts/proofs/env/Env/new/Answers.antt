@@ -1,4 +1,4 @@
-use Rattle.std.proofs.Common.{None, map, subst}
+use Rattle.std.proofs.Common.{None, map}
 use Rattle.al_base.proofs.Growing.{begins_trans}
 use Rattle.al_check_objects.specs.Fixed.{strategy_type}
 use Rattle.al_check_contexts.specs.Contexts.{owner_of}
@@ -6,7 +6,6 @@ use Rattle.al_tree.specs.Values.{member_of}
 use Rattle.al_yaml_tree.specs.View.{view}
 use Rattle.al_expr_types.specs.Tables.{objects_of}
 use Rattle.al_check_contexts.specs.Lookups.{known_by, step_at}
-use Rattle.al_check_contexts.specs.Steps.{AreStepsOf}
 use Rattle.al_check_contexts.proofs.Kept.{keeps_stays}
 use Rattle.al_check_objects.proofs.Numbers.{means_stays}
 use Rattle.al_check_contexts.proofs.StepLemmas.{prefixes_stay, steps_stay}
@@ -27,7 +26,7 @@ returns c =
     let two = c.first.new.types in
     let now = c.first_types.new.types in
     let first = c.in_ok-none_seen.ensures in
-    let of_owner = subst (λ o. AreStepsOf one known o c.in_ok-steps.steps) c.owner_at-owner.ensures c.in_ok-steps.ensures.steps in
+    let of_owner = rw c.owner_at-owner.ensures at c.in_ok-steps.ensures.steps in
     let from_two = c.in_ok-contexts.ensures.kept in
     let from_one = begins_trans (objects_of one) (objects_of two) (objects_of now) first.kept from_two in
     let from_zero = begins_trans (objects_of zero) (objects_of one) (objects_of now) c.in_ok-steps.ensures.kept from_one in

@@ -1,14 +1,9 @@
-use Rattle.std.proofs.Common.{◌∙◌, subst, sym}
-use Rattle.std.specs.Option.{option_to_list}
+use Rattle.std.proofs.Common.{◌∙◌, sym}
 use Rattle.al_base.specs.Names.{same_name}
 use Rattle.al_base.proofs.NamePlaces.{found_within}
 use Rattle.al_tree.specs.Keys.{key_of}
 use Rattle.al_tree.specs.Values.{member_of}
-use Rattle.al_types.specs.Puts.{put_all, put_new}
-use Rattle.al_check_contexts.specs.Contexts.{job_field}
-use Rattle.al_check_contexts.specs.Lookups.{known_by}
 use Rattle.al_check_contexts.specs.Made.{jobs_from, known_from}
-use Rattle.al_check_objects.specs.Numbers.{Lists}
 use Rattle.al_check_contexts.proofs.JobLemmas.{dependency_at, no_dependency, shown_there}
 use Rattle.al_check_objects.proofs.Numbers.{lists_stay, means_as}
 use Rattle.al_check_contexts.proofs.jobs.JobTypes.and_dependency.Goals as goal
@@ -23,19 +18,14 @@ job_at-requires c =
 
 pub returns-in-None-clause-fields : goal.returns-in-None-clause-fields
 returns-in-None-clause-fields c = λ ts h.
-    subst (λ o. Lists c.args.types.now c.args.fields (put_all put_new ts (option_to_list o)))
-    (sym (no_dependency (known_from c.args.basis.now) (jobs_from c.args.basis.now) c.args.name.now (sym c.in_ok-position_of.ensures ∙ c.in-None.is))) h
+    rw (no_dependency (known_from c.args.basis.now) (jobs_from c.args.basis.now) c.args.name.now (sym c.in_ok-position_of.ensures ∙ c.in-None.is)) h
 
 pub returns-in_ok-more-in-Some-clause-fields : goal.returns-in_ok-more-in-Some-clause-fields
 returns-in_ok-more-in-Some-clause-fields c = λ ts h.
-    let entry = c.args.types.now in
     let now = c.get.new.types in
-    let known = c.args.basis.now.outputs.now in
-    let k = known_by known in
     let js = jobs_from c.args.basis.now in
     let j = member_of c.job_at.result in
-    let more = c.in_ok-more-in-Some.more in
-    let means = means_as now c.in_ok-ty-in-Some.ty _ _ (sym (shown_there known js c.in-Some.i j c.job_at.ensures)) c.in_ok-ty-in-Some.ensures.ty in
-    let lists = lists_stay now entry c.args.fields ts c.in_ok-ty-in-Some.ensures.kept h in
-    subst (λ o. Lists now more (put_all put_new ts (option_to_list o))) (sym (dependency_at k js c.args.name.now c.in-Some.i j (sym c.in_ok-position_of.ensures ∙ c.in-Some.is) c.job_at.ensures))
-    (subst (λ n. Lists now more (put_new ts (n, (job_field k j).1))) c.key_text.ensures (c.in_ok-more-in-Some.ensures now ts _ lists means))
+    let means = means_as now c.in_ok-ty-in-Some.ty _ _ (sym (shown_there c.args.basis.now.outputs.now js c.in-Some.i j c.job_at.ensures)) c.in_ok-ty-in-Some.ensures.ty in
+    let lists = lists_stay now c.args.types.now c.args.fields ts c.in_ok-ty-in-Some.ensures.kept h in
+    rw (dependency_at (known_from c.args.basis.now) js c.args.name.now c.in-Some.i j (sym c.in_ok-position_of.ensures ∙ c.in-Some.is) c.job_at.ensures)
+    (rw c.key_text.ensures at (c.in_ok-more-in-Some.ensures now ts _ lists means))

@@ -1,14 +1,11 @@
-use Rattle.std.proofs.Common.{◌∙◌, [], ap, arith, map, subst, sym, take}
+use Rattle.std.proofs.Common.{[], arith, map, sym, take}
 use Rattle.std.proofs.lemmas.List.{take_all}
 use Rattle.al_base.proofs.Growing.{begins_trans}
 use Rattle.al_tree.specs.Values.{member_of}
-use Rattle.al_types.specs.Puts.{firsts, put_all, put_new}
+use Rattle.al_types.specs.Puts.{put_all, put_new}
 use Rattle.al_check_contexts.specs.Contexts.{job_field}
-use Rattle.al_check_objects.specs.Objects.{strictly}
 use Rattle.al_expr_types.specs.Tables.{objects_of}
-use Rattle.al_check_contexts.specs.Lookups.{known_by}
 use Rattle.al_check_contexts.specs.Made.{jobs_from, known_from}
-use Rattle.al_check_objects.specs.Numbers.{Lists}
 use Rattle.al_check_objects.proofs.FieldLists.{put_next}
 use Rattle.al_check_contexts.proofs.JobLemmas.{keeps_jobs_stay, same_there, shown_there}
 use Rattle.al_check_objects.proofs.Numbers.{lists_stay, means_as}
@@ -16,34 +13,27 @@ use Rattle.al_check_contexts.proofs.jobs.JobTypes.object_of_jobs.Goals as goal
 
 pub loop-i-preserved : goal.loop-i-preserved
 loop-i-preserved c =
-    let known = c.args.basis.now.outputs.now in
-    let k = known_by known in
+    let field = job_field (known_from c.args.basis.now) in
     let js = jobs_from c.args.basis.now in
     let members = c.as_slice-members.result.now in
     let i = c.loop-i.i in
     let x = c.index-members-i.result in
     let before = c.loop-i.types in
     let now = c.get.new.types in
-    let more = c.in_ok-more.more in
-    let sofar = put_all put_new [] (map (job_field k) (map member_of (take i members))) in
+    let sofar = put_all put_new [] (map field (map member_of (take i members))) in
     let there = same_there member_of members js i x c.as_slice-members.ensures c.loop-i-test.true c.index-members-i.is in
-    let means = means_as now c.in_ok-ty.ty _ _ (sym (shown_there known js i (member_of x) there)) c.in_ok-ty.ensures.ty in
+    let means = means_as now c.in_ok-ty.ty _ _ (sym (shown_there c.args.basis.now.outputs.now js i (member_of x) there)) c.in_ok-ty.ensures.ty in
     let lists = lists_stay now before c.loop-i.fields sofar c.in_ok-ty.ensures.kept c.loop-i.invariant.fields in
     record {
-      fields = subst (Lists now more) (sym (put_next member_of (job_field k) [] members i x c.loop-i-test.true c.index-members-i.is))
-          (subst (λ n. Lists now more (put_new sofar (n, (job_field k (member_of x)).1))) c.key_text.ensures (c.in_ok-more.ensures now sofar _ lists means));
+      fields = rw (put_next member_of field [] members i x c.loop-i-test.true c.index-members-i.is)
+          (rw c.key_text.ensures at (c.in_ok-more.ensures now sofar _ lists means));
       keeps = c.in_ok-ty.ensures.keeps;
       kept = begins_trans (objects_of c.args.types.now) (objects_of before) (objects_of now) c.loop-i.invariant.kept c.in_ok-ty.ensures.kept;
     }
 
 pub returns-clause-ty : goal.returns-clause-ty
 returns-clause-ty c =
-    let k = known_from c.args.basis.now in
-    let members = c.as_slice-members.result.now in
-    means_as c.into_type.new.types c.in_ok-ty-2.ty _ _
-    (ap (λ ms. strictly (firsts (map (job_field k) (map member_of ms)))) (take_all c.loop-i.i members (omega (arith, c.loop-i-test.false)))
-    ∙ ap (λ ms. strictly (firsts (map (job_field k) ms))) c.as_slice-members.ensures)
-    (c.in_ok-ty-2.ensures.ty _ c.loop-i.invariant.fields)
+    rw (take_all c.loop-i.i c.as_slice-members.result.now (omega (arith, c.loop-i-test.false)), c.as_slice-members.ensures) at (c.in_ok-ty-2.ensures.ty _ c.loop-i.invariant.fields)
 
 pub returns-clause-keeps : goal.returns-clause-keeps
 returns-clause-keeps c =
