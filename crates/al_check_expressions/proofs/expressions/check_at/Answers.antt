@@ -1,6 +1,3 @@
-use Rattle.std.proofs.Common.{◌++◌, ap, ◌∙◌}
-use Rattle.al_check_expressions.specs.Contents.{place_faults}
-use Rattle.al_check_places.specs.Places.{place_of}
 use Rattle.al_check_contexts.proofs.Standing.{stands_stays}
 use Rattle.al_check_expressions.proofs.expressions.check_at.Goals as goal
 
@@ -9,6 +6,4 @@ returns-clause-stands c =
     stands_stays c.args.file c.go_to.new.self c.check_place.new.types c.in_ok-go_to.ensures.stands c.in_ok-check_place.ensures.kept
 
 pub returns-clause-faults : goal.returns-clause-faults
-returns-clause-faults c =
-    c.in_ok-check_place.ensures.ok
-    ∙ ap (λ sc. c.args.faults.now ++ place_faults sc (place_of c.args.place)) c.in_ok-go_to.ensures.scope
+returns-clause-faults c = rw c.in_ok-go_to.ensures.scope at c.in_ok-check_place.ensures.ok

@@ -1,9 +1,9 @@
-use Rattle.std.proofs.Common.{◌≡◌, ◌<◌, ◌+◌, ◌++◌, ℕ, List, ◌∷◌, ap, sym, ◌∙◌, append_assoc, drop, get_or, length, map}
-use Rattle.std.proofs.lemmas.List.{drop_more}
+use Rattle.std.proofs.Common.{◌≡◌, ◌<◌, ◌+◌, ◌++◌, ℕ, List, ap, sym, ◌∙◌, append_assoc, drop, get_or, length, map}
 use Rattle.std.specs.List.{flat_map}
 use Rattle.al_base.proofs.Growing.{begins_trans}
 use Rattle.al_base.specs.declared.faults.Fault.{Fault}
 use Rattle.al_yaml_tree.specs.View.{view}
+use Rattle.al_tree.proofs.Lists.{left_next}
 use Rattle.al_check_places.specs.Places.{Place, place_of}
 use Rattle.al_check_contexts.specs.Answered.{known_of}
 use Rattle.al_check_expressions.specs.FileExpressions.{expression_faults_at}
@@ -14,8 +14,7 @@ faults_next : {X : Type 0} (f : Place → List Fault) (g : X → Place) (xs : Li
     now ≡ old ++ f (g x) → now ++ flat_map f (map g (drop (i + 1) xs)) ≡ old ++ flat_map f (map g (drop i xs))
 faults_next f g xs i x old now lt e step =
     let rest : List Fault = flat_map f (map g (drop (i + 1) xs)) in
-    ap (λ l. l ++ rest) step ∙ append_assoc old (f (g x)) rest
-    ∙ ap (λ ys. old ++ flat_map f (map g ys)) (ap (λ y. y ∷ drop (i + 1) xs) e ∙ sym (drop_more xs i x lt))
+    ap (λ l. l ++ rest) step ∙ append_assoc old (f (g x)) rest ∙ ap (λ ys. old ++ flat_map f ys) (sym (left_next g xs i x lt e))
 
 pub loop-place-preserved : goal.loop-place-preserved
 loop-place-preserved c =
