@@ -26,9 +26,8 @@ both {a} {b} f g h = let parts = and_parts a b h in (f parts.0, g parts.1)
 
 lists_exact : {A : Type 0} (eq : A → A → Bool) → ((x y : A) → eq x y ≡ true → x ≡ y) → (xs ys : List A) → pointwise eq xs ys ≡ true → xs ≡ ys
 lists_exact eq same [] [] h = refl
-lists_exact eq same [] (y ∷ ys) h = absurd cc
-lists_exact eq same (x ∷ xs) [] h = absurd cc
 lists_exact eq same (x ∷ xs) (y ∷ ys) h = let e = both (same x y) (lists_exact eq same xs ys) h in λ i. e.0 i ∷ e.1 i
+lists_exact eq same _ _ h = absurd cc
 
 bool_exact : (a b : Bool) → beq a b ≡ true → a ≡ b
 bool_exact a b = (booleans_Decides a b).0
@@ -51,9 +50,8 @@ name_exact a b = (bytes_eq-Decides a b).0
 
 option_exact : (a b : Option (List ℕ)) → option_eq bytes_eq a b ≡ true → a ≡ b
 option_exact None None h = refl
-option_exact None (Some b) h = absurd cc
-option_exact (Some a) None h = absurd cc
 option_exact (Some a) (Some b) h = ap Some (name_exact a b h)
+option_exact _ _ h = absurd cc
 
 one_exact : (a b : Parameter) → one.ghosts.eq a b ≡ true → a ≡ b
 one_exact a b h =
@@ -69,6 +67,5 @@ shown_exact a b h =
 
 pub exact : (a b : Interface) → iface.ghosts.eq a b ≡ true → a ≡ b
 exact Unreadable Unreadable h = refl
-exact Unreadable (Readable b) h = absurd cc
-exact (Readable a) Unreadable h = absurd cc
 exact (Readable a) (Readable b) h = ap Readable (shown_exact a b h)
+exact _ _ h = absurd cc
