@@ -1,4 +1,4 @@
--- The table of fault codes: where each stands in the order of faults, and what a report says of it.
+-- The table of fault codes: the position of each in the order of faults, and what a report says of it.
 use Rattle.std.specs.Prelude.{ℕ, List, ◌+◌, ◌*◌, codes}
 use Prim.Native.String.{String as Text}
 use Rattle.al_base.specs.declared.codes.Code.{Code}
@@ -23,8 +23,8 @@ use Rattle.al_base.specs.declared.codes.ExpressionCode.TheVariants.{UnavailableF
 use Rattle.al_base.specs.declared.codes.ExpressionCode.TheVariants.{NotIndexable, NotComparable, WrongPlaceholder, UnusedArgument, NotText}
 use Rattle.al_base.specs.declared.codes.ExpressionCode.TheVariants.{Untrusted, UnclosedChunk}
 
--- where a code stands among those of its group, by the number of its identifier, the kind that a report names, and the words of its
--- message before, between and after its arguments
+-- the position of a code in its group, by the number in its identifier; the kind that a report names; and the words of its message
+-- before, between and after its arguments
 pub record CodeRow : Type 0 where
   pub place : ℕ
   pub kind : List ℕ
@@ -41,7 +41,7 @@ syntax number = row number "syntax-check"
 abbrev pub expression : ℕ → Text → Text → Text → CodeRow
 expression number = row number "expression"
 
--- of faults of one number, a job's stand before a step's
+-- of faults with one number, a job's come before a step's
 abbrev pub turn : Caller → ℕ
 turn caller.Job = 0
 turn caller.Step = 1
@@ -81,7 +81,7 @@ code_row (C.Key WrongKind) = syntax 4 "wrong kind of value for \"" "\"" ""
 code_row (C.Key WrongType) = syntax 5 "wrong type of value for \"" "\"" ""
 code_row (C.Key NotBeside) = syntax 6 "\"" "\" cannot stand beside \"" "\""
 code_row (C.Key EmptyFile) = syntax 7 "file is empty" "" ""
--- G, rules of a file by itself
+-- G, rules of a single file
 code_row (C.Rule UnknownEvent) = row 1 "events" "unknown event \"" "\"" ""
 code_row (C.Rule UnknownActivity) = row 2 "events" "unknown activity type \"" "\"" ""
 code_row (C.Rule WrongPattern) = row 3 "glob" "wrong filter pattern \"" "\"" ""

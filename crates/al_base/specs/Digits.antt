@@ -1,4 +1,4 @@
--- The number that decimal digits write.
+-- The number that decimal digits are.
 use Rattle.std.specs.Prelude.{ℕ, ◌-◌, List, map}
 use Rattle.std.specs.Int.Digits.{number_from_digits}
 use Rattle.al_base.specs.Ascii.{ascii}

@@ -9,7 +9,7 @@ use Rattle.al_base.specs.declared.codes.Code.{Code}
 use Rattle.al_base.specs.declared.codes.Code.TheVariants as C
 use Rattle.al_base.specs.declared.faults.Fault.{Fault}
 
--- where a code stands among those of its kind
+-- the position of a code among those of its kind
 abbrev pub place_in_kind : Code → ℕ
 place_in_kind code = (code_row code).place
 

@@ -1,54 +1,54 @@
 -- The limits of the product: each number once, with what it counts.
 use Rattle.std.specs.Prelude.{ℕ}
 
--- A file of a folder has at most so many bytes.
+-- The most bytes of a file.
 abbrev pub largest_file : ℕ
 largest_file = 1048576
 
--- A folder has at most so many files.
+-- The most files of a folder.
 abbrev pub most_files : ℕ
 most_files = 4096
 
--- A path has at most so many bytes.
+-- The most bytes of a path.
 abbrev pub longest_path : ℕ
 longest_path = 1024
 
--- A file of YAML has at most so many nodes, those behind aliases counted at each alias.
+-- The most nodes of a file, those behind aliases counted at each alias.
 abbrev pub most_nodes : ℕ
 most_nodes = 100000
 
--- It has at most so many bytes of texts behind aliases.
+-- The most bytes of a file's texts behind aliases.
 abbrev pub most_alias_text : ℕ
 most_alias_text = 1048576
 
--- At most so many of its collections stand inside one another.
+-- The greatest depth of nested collections in a file.
 abbrev pub deepest_collection : ℕ
 deepest_collection = 64
 
--- A key that no `?` begins has at most so many characters as it is written (YAML 1.2.2, 7.4.2 and 8.2.2).
+-- The most characters of an implicit key (one without `?`), as written (YAML 1.2.2, 7.4.2 and 8.2.2).
 abbrev pub longest_key : ℕ
 longest_key = 1024
 
--- A text that may have expressions has at most so many bytes; no file gives a longer one.
+-- The most bytes of a text that may have expressions; no file gives a longer one.
 abbrev pub longest_text : ℕ
 longest_text = 4194304
 
--- An expression has at most so many bytes.
+-- The most bytes of an expression.
 abbrev pub longest_expression : ℕ
 longest_expression = 21000
 
--- Its brackets and negations are nested at most so deep.
+-- The greatest depth of nested brackets and negations in an expression.
 abbrev pub deepest_expression : ℕ
 deepest_expression = 50
 
--- The line of a script's command has at most so many bytes, without its end.
+-- The most bytes of a command's line in a script, without the line feed.
 abbrev pub longest_line : ℕ
 longest_line = 2048
 
--- A run of a script reads at most so often.
+-- The most reads in a run of a script.
 abbrev pub most_reads : ℕ
 most_reads = 1048576
 
--- Each of its reads asks for at most so many bytes.
+-- The most bytes that each of these reads asks for.
 abbrev pub largest_read : ℕ
 largest_read = 65536

@@ -1,4 +1,4 @@
--- Texts among others, and names and texts in which ASCII case does not count.
+-- Membership of texts in lists, and comparison of names that ignores ASCII case.
 use Rattle.std.specs.Prelude.{ℕ, List, Bool, map}
 use Rattle.std.specs.Char.{to_ascii_lowercase}
 use Rattle.std.specs.List.{list_any}
@@ -12,6 +12,6 @@ among texts text = list_any (bytes_eq text) texts
 abbrev pub lower_case : List ℕ → List ℕ
 lower_case = map to_ascii_lowercase
 
--- the same text, but for ASCII case
+-- equality of names or texts, ignoring ASCII case
 abbrev pub same_name : List ℕ → List ℕ → Bool
 same_name a b = bytes_eq (lower_case a) (lower_case b)

@@ -8,7 +8,8 @@ abbrev pub count_below : (ℕ → Bool) → ℕ → ℕ
 count_below p zero = 0
 count_below p (suc n) = count_below p n + (if p n then 1 else 0)
 
--- whether a break ends right after the byte at k: LF, or CR with no LF behind it (past the end `slice_index` is 0)
+-- whether a break ends right after the byte at k: an LF, or a CR without an LF after it (past the end `slice_index`
+-- is 0)
 abbrev pub ends_break : List ℕ → ℕ → Bool
 ends_break bytes k =
     (slice_index bytes k == ascii "\n") || ((slice_index bytes k == ascii "\r") && not (slice_index bytes (k + 1) == ascii "\n"))

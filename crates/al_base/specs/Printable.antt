@@ -1,4 +1,4 @@
--- Texts of arguments and paths as they are printed, where no control byte stands.
+-- Arguments and paths as they are printed, without control bytes.
 use Rattle.std.specs.Prelude.{ℕ, List, map, if◌then◌else◌}
 use Rattle.std.specs.Char.{is_ascii_control}
 use Rattle.al_base.specs.Ascii.{ascii}

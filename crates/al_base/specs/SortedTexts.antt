@@ -1,4 +1,4 @@
--- Texts with where they stand, in the order of their last bytes and then of all.
+-- Texts with their positions, sorted by their last bytes and then by all bytes.
 use Rattle.std.specs.Prelude.{◌≡◌, ◌<◌, ℕ, ◌+◌, ◌*◌, ◌%◌, ◌^◌, ◌&&◌, Bool, List, [], Option, Some, length, nat_eq, nat_lt}
 use Rattle.std.specs.Prelude.{option_map, slice_index, slice_index_or, All}
 use Rattle.std.specs.Cmp.Lexicographic.{slice_cmp}
@@ -12,7 +12,7 @@ use Rattle.al_base.specs.declared.sorted_texts.Entry.{Entry}
 abbrev pub tail_number : List ℕ → ℕ
 tail_number = fold (λ n b. ((n * 256) % 2 ^ 64 + b) % 2 ^ 64) 0
 
--- what a text is compared by
+-- the sort key of a text
 abbrev pub Key : Type 0
 Key = ℕ × List ℕ
 
@@ -22,7 +22,7 @@ sort_key text = (tail_number text, text)
 abbrev pub key_cmp : Key → Key → Ordering
 key_cmp a b = ordering_then (nat_cmp a.0 b.0) (slice_cmp nat_cmp a.1 b.1)
 
--- whether a position is among those of a list of places, and is its own
+-- whether a list of first positions has a position at that position itself
 abbrev pub is_own : List ℕ → ℕ → Bool
 is_own places i = nat_lt i (length places) && nat_eq (slice_index places i) i
 
@@ -33,26 +33,26 @@ module _ {T : Type 0} (bytes : T → List ℕ) where
   abbrev pub AreSorted : List (Entry T) → Type 0
   AreSorted = IsSortedByKey entry_key key_cmp
 
-  -- the position that the first entry of a text has
+  -- the position in the first entry with a text
   abbrev pub position_among : List (Entry T) → List ℕ → Option ℕ
   position_among es text = option_map (λ e. e.position) (find (λ e. is_eq (key_cmp (entry_key e) (sort_key text))) es)
 
-  -- the position that the first entry with the text of one has
+  -- the position in the first entry with the text of an entry
   abbrev pub place_of : List (Entry T) → Entry T → Option ℕ
   place_of es e = position_among es (bytes e.text)
 
-  -- each has the number of its text
+  -- each entry has the number of its text
   abbrev pub AreNumbered : List (Entry T) → Type 0
   AreNumbered = All (λ e. entry_key e ≡ sort_key (bytes e.text))
 
-  -- each has the text that stands at its position in a list
+  -- each entry has the text at its position in a list
   abbrev pub AreOf : List (List ℕ) → List (Entry T) → Type 0
   AreOf ts = All (λ e. (e.position < length ts) × (entry_key e ≡ sort_key (slice_index_or ts e.position [])))
 
-  -- they are those of a list of as many texts
+  -- they are the entries of a list of as many texts
   abbrev pub StandIn : List (Entry T) → Type 0
   StandIn es = (ts : List (List ℕ)) × (length ts ≡ length es) × AreOf ts es
 
-  -- numbers that tell where the text at each position first stands
+  -- numbers that tell the first position of the text at each position
   abbrev pub TellPlaces : List (Entry T) → List ℕ → Type 0
   TellPlaces es places = (length places ≡ length es) × All (λ e. place_of es e ≡ Some (slice_index places e.position)) es

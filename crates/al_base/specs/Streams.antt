@@ -1,11 +1,11 @@
--- What a clause sees of an input and an output: the inner reader or writer, and the counts.
+-- What contracts see of an input and an output: the inner reader or writer, and the counts.
 use Rattle.std.specs.Prelude.{ℕ, List, Option}
 use Rattle.std.specs.Io.KnownBytes.{Appends}
 use Rattle.al_base.specs.Counted.{AppendsPrefix}
 use Rattle.al_base.specs.declared.streams.Input.{Input}
 use Rattle.al_base.specs.declared.streams.Output.{Output}
 
--- the bytes that reads will give from here on, where the reader tells them
+-- the bytes that reads will give from here on, if the reader tells them
 abbrev pub bytes_left : {R : Type 0} → (R → Option (List ℕ)) → Input R → Option (List ℕ)
 bytes_left remaining input = remaining input.inner
 
@@ -17,11 +17,11 @@ turns_of input = input.turns
 abbrev pub read_failures : {R : Type 0} → Input R → ℕ
 read_failures input = input.failures
 
--- the most bytes that one read asked for so far
+-- the length of the largest buffer that a read was given so far
 abbrev pub largest_ask : {R : Type 0} → Input R → ℕ
 largest_ask input = input.largest_ask
 
--- the bytes written so far, where the writer tells them
+-- the bytes written so far, if the writer tells them
 abbrev pub bytes_written : {W : Type 0} → (W → Option (List ℕ)) → Output W → Option (List ℕ)
 bytes_written contents output = contents output.inner
 
@@ -29,7 +29,7 @@ bytes_written contents output = contents output.inner
 abbrev pub write_failures : {W : Type 0} → Output W → ℕ
 write_failures output = output.failures
 
--- a call that left this output wrote these bytes
+-- a call that changed an output wrote these bytes
 abbrev pub Writes : {W : Type 0} → (W → Option (List ℕ)) → Output W → Output W → List ℕ → Type 0
 Writes contents old new bytes = Appends (bytes_written contents old) (bytes_written contents new) bytes
 

@@ -19,7 +19,7 @@ pub struct Args {
     texts: Texts,
 }
 
-/// The texts as they are kept. Two stand in one string, and the second begins at that byte of it.
+/// How the texts are stored. Two share one string; the number is the byte at which the second begins.
 #[derive(Drop)]
 enum Texts {
     None,
@@ -39,14 +39,14 @@ impl Model for Args {
 }
 
 impl Args {
-    /// No text. Takes no memory.
+    /// No texts. Doesn't allocate.
     pub fn none() -> Args
         ensures { result ≡ [] }
     {
         Args { texts: Texts::None }
     }
 
-    /// One text. Takes no memory but the text's own.
+    /// One text. Doesn't allocate.
     pub fn one(text: String) -> Args
         ensures { result ≡ string_bytes text ∷ [] }
     {
@@ -59,7 +59,7 @@ impl Args {
     ///
     /// # Errors
     ///
-    /// [`AllocError`] where memory ran out.
+    /// [`AllocError`] if memory runs out.
     pub fn two(alloc: Global, first: &str, second: &str) -> Result<Args, AllocError>
         ensures { IfOk result (λ args. args ≡ first.now ∷ second.now ∷ []) }
     {
@@ -75,7 +75,7 @@ impl Args {
     ///
     /// # Errors
     ///
-    /// [`AllocError`] where memory ran out.
+    /// [`AllocError`] if memory runs out.
     pub fn one_lossy(alloc: Global, text: &[u8]) -> Result<Args, AllocError>
         ensures { IfOk result (λ args. args ≡ utf8_lossy text.now ∷ []) }
     {
@@ -86,7 +86,7 @@ impl Args {
     ///
     /// # Errors
     ///
-    /// [`AllocError`] where memory ran out.
+    /// [`AllocError`] if memory runs out.
     pub fn two_lossy(alloc: Global, first: &[u8], second: &[u8]) -> Result<Args, AllocError>
         ensures { IfOk result (λ args. args ≡ utf8_lossy first.now ∷ utf8_lossy second.now ∷ []) }
     {
@@ -99,7 +99,7 @@ impl Args {
         Args::two(alloc, first_text, second_text)
     }
 
-    /// The first text, if there is one, of at most two. Takes no memory.
+    /// The first text, if there is one. Doesn't allocate.
     pub fn first(&self) -> Option<&str>
         ensures is { option_copied result ≡ slice_get self.now 0 }
         ensures few { slice_get self.now 2 ≡ None }
@@ -111,7 +111,7 @@ impl Args {
         }
     }
 
-    /// The second text, if there is one. Takes no memory.
+    /// The second text, if there is one. Doesn't allocate.
     pub fn second(&self) -> Option<&str>
         ensures { option_copied result ≡ slice_get self.now 1 }
     {
@@ -126,7 +126,7 @@ impl Args {
     ///
     /// # Errors
     ///
-    /// [`AllocError`] where memory ran out.
+    /// [`AllocError`] if memory runs out.
     pub fn copy(&self, alloc: Global) -> Result<Args, AllocError>
         ensures { IfOk result (λ args. args ≡ self.now) }
     {
@@ -139,7 +139,7 @@ impl Args {
         }
     }
 
-    /// Whether each text is printed as it is. Where one isn't, nothing is said. Takes no memory.
+    /// `true` only if each text is printed unchanged; `false` promises nothing. Doesn't allocate.
     pub fn is_plain(&self) -> bool
         ensures { IsTrue result → map printable self.now ≡ self.now }
     {
@@ -154,7 +154,7 @@ impl Args {
     ///
     /// # Errors
     ///
-    /// [`AllocError`] where memory ran out.
+    /// [`AllocError`] if memory runs out.
     pub fn printable(&self, alloc: Global) -> Result<Args, AllocError>
         ensures { IfOk result (λ args. args ≡ map printable self.now) }
     {
@@ -169,7 +169,7 @@ impl Args {
     }
 }
 
-// Two texts of which bytes may not be UTF-8.
+// Copies of two texts in which bytes that aren't UTF-8 are replaced.
 fn two_replaced(alloc: Global, first: &[u8], second: &[u8]) -> Result<Args, AllocError>
     ensures { IfOk result (λ args. args ≡ utf8_lossy first.now ∷ utf8_lossy second.now ∷ []) }
 {
@@ -187,7 +187,7 @@ fn two_printable(alloc: Global, first: &str, second: &str) -> Result<Args, Alloc
     Args::two(alloc, first.as_str(), second.as_str())
 }
 
-// Whether a text is printed as it is. Where it isn't, nothing is said.
+// `true` only if a text is printed unchanged; `false` promises nothing.
 #[tactic(auto, using(crate::proofs::PrintableTexts::printable_plain))]
 fn is_plain(text: &str) -> bool
     ensures { IsTrue result → printable text.now ≡ text.now }
@@ -195,7 +195,7 @@ fn is_plain(text: &str) -> bool
     first_control(text.as_bytes()).is_none()
 }
 
-// The order of two texts, of which one that isn't there comes first.
+// The order of two texts; a missing one comes first.
 fn compare_texts(one: Option<&str>, other: Option<&str>) -> Ordering
     ensures { result ≡ option_cmp (slice_cmp nat_cmp) (option_copied one.entry)
         (option_copied other.entry) }

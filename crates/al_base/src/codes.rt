@@ -1,6 +1,6 @@
 //! The codes of faults, in the order of reports.
 
-/// What reading a file as YAML can find wrong (YAML 1.2.2, in the profile that `docs/` describes).
+/// What can be wrong with a file as YAML (YAML 1.2.2, the subset that `docs/YAML.md` describes).
 #[derive(Clone, Copy, PartialEq, Eq, PartialOrd, Ord, Debug)]
 pub enum YamlCode {
     /// Y1: the file is not UTF-8.
@@ -27,40 +27,40 @@ pub enum YamlCode {
     SecondDocument,
     /// Y12: an escape that double quotes do not have.
     WrongEscape,
-    /// Y13: a character that cannot stand there.
+    /// Y13: a character that is not allowed there.
     UnexpectedCharacter,
     /// Y14: collections nested more than 64 deep.
     NestingTooDeep,
     /// Y15: more than 100,000 nodes.
     TooManyNodes,
-    /// Y16: a block scalar's header that is none.
+    /// Y16: an invalid block scalar header.
     WrongBlockHeader,
-    /// Y17: a key that is no scalar on one line.
+    /// Y17: a key that is not a scalar on one line.
     WrongKey,
-    /// Y18: an alias of no complete anchor.
+    /// Y18: an alias whose anchor is unknown, or names a node that is not complete.
     UnknownAlias,
 }
 
-/// What the keys and values of a workflow or action can break of GitHub's syntax.
+/// How the keys and values of a workflow or action can violate GitHub's syntax.
 #[derive(Clone, Copy, PartialEq, Eq, PartialOrd, Ord, Debug)]
 pub enum KeyCode {
     /// K1: a key that is not known there.
     Unexpected,
     /// K2: a required key that is missing.
     Missing,
-    /// K3: a key that stands there already.
+    /// K3: a key that the mapping already has.
     Repeated,
     /// K4: a node of the wrong kind.
     WrongKind,
     /// K5: a scalar of the wrong type.
     WrongType,
-    /// K6: a key that cannot stand beside another.
+    /// K6: a key that is not allowed beside another.
     NotBeside,
     /// K7: an empty file.
     EmptyFile,
 }
 
-/// What the rules of workflows and actions find wrong in a file by itself.
+/// What can be wrong in a single file by the rules of workflows and actions.
 #[derive(Clone, Copy, PartialEq, Eq, PartialOrd, Ord, Debug)]
 pub enum RuleCode {
     /// G1: an event that GitHub does not have.
@@ -73,17 +73,17 @@ pub enum RuleCode {
     WrongSchedule,
     /// G5: a schedule that runs more often than every 5 minutes.
     ScheduleTooOften,
-    /// G6: an id of other characters than names have.
+    /// G6: an id with a character that ids cannot have.
     WrongId,
     /// G7: an id that another job or step has.
     RepeatedId,
-    /// G8: a job in `needs` that is not there.
+    /// G8: a job in `needs` that is not defined.
     UndefinedJob,
     /// G9: a job that waits for itself.
     NeedsCycle,
     /// G10: a matrix, row, `include` or `exclude` of the wrong shape.
     WrongMatrix,
-    /// G11: a key in `exclude` that is no row.
+    /// G11: a key in `exclude` that is not a row of the matrix.
     UnknownMatrixRow,
     /// G12: a shell that is not known.
     UnknownShell,
@@ -109,26 +109,26 @@ pub enum RuleCode {
     MissingOutputValue,
 }
 
-/// What an expression, `${{ .. }}`, can have wrong: its tokens, its grammar, then its meaning.
+/// What can be wrong with an expression, `${{ .. }}`: its tokens, its grammar, then its meaning.
 #[derive(Clone, Copy, PartialEq, Eq, PartialOrd, Ord, Debug)]
 pub enum ExpressionCode {
     /// X1: a character that begins no token.
     BadCharacter,
-    /// X2: a text that is not closed.
+    /// X2: a string that is not closed.
     UnclosedText,
-    /// X3: a token that cannot stand there.
+    /// X3: an unexpected token.
     UnexpectedToken,
-    /// X4: tokens that end too early.
+    /// X4: an expression that ends too early.
     EndsEarly,
     /// X5: more than 21,000 bytes.
     TooLong,
     /// X6: nested more than 50 deep.
     TooDeep,
-    /// X7: a name that is no context.
+    /// X7: a context that is not defined.
     UndefinedContext,
     /// X8: a context that is not available there.
     UnavailableContext,
-    /// X9: a name that is no function.
+    /// X9: a function that is not defined.
     UndefinedFunction,
     /// X10: a function that is not available there.
     UnavailableFunction,
@@ -138,7 +138,7 @@ pub enum ExpressionCode {
     ArgumentType,
     /// X13: a property that the type does not have.
     UndefinedProperty,
-    /// X14: an index into what has none.
+    /// X14: an index into a value that cannot be indexed.
     NotIndexable,
     /// X15: operands that cannot be compared.
     NotComparable,
@@ -148,13 +148,13 @@ pub enum ExpressionCode {
     UnusedArgument,
     /// X18: an object or array in a text.
     NotText,
-    /// X19: text from outside in a script.
+    /// X19: untrusted text in a script.
     Untrusted,
     /// X20: `${{` without `}}`.
     UnclosedChunk,
 }
 
-/// What a call of a file of the folder can have wrong.
+/// What can be wrong with a call of a file in the folder.
 #[derive(Clone, Copy, PartialEq, Eq, PartialOrd, Ord, Debug)]
 pub enum CallCode {
     /// C1: a workflow that is not in the folder.
@@ -169,7 +169,7 @@ pub enum CallCode {
     UndefinedSecret,
     /// C6: a required secret that is missing.
     MissingSecret,
-    /// C7: a `uses` that is none.
+    /// C7: an invalid `uses`.
     WrongUses,
     /// C8: a file that cannot be called there.
     NotCallable,
@@ -177,7 +177,7 @@ pub enum CallCode {
     LeadsBack,
 }
 
-/// Who calls. Of equal faults a job's stands before a step's.
+/// Who calls. Between faults that are otherwise equal, a job's comes before a step's.
 #[derive(Clone, Copy, PartialEq, Eq, PartialOrd, Ord, Debug)]
 pub enum Caller {
     Job,

@@ -16,11 +16,11 @@ fn copy_of(alloc: Global, fault: &Fault) -> Result<Fault, AllocError>
     })
 }
 
-/// Adds copies of faults, with memory of their own.
+/// Appends copies of faults.
 ///
 /// # Errors
 ///
-/// [`AllocError`] where memory ran out; the list then begins with what it held.
+/// [`AllocError`] if memory runs out; the list then still begins with what it held.
 pub fn add_copies(alloc: Global, faults: &[Fault], out: &mut Vec<Fault>) -> Result<(), AllocError>
     ensures all { OnOk result (out.new.items ≡ out.old.items ++ faults.now) }
     ensures begins { BeginsWith out.new.items out.old.items }

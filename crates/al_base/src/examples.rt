@@ -10,7 +10,7 @@ ghost use Rattle.al_base.specs.declared.codes.CallCode.TheVariants.{NotCallable,
 ghost use Rattle.al_base.specs.declared.codes.Caller.TheVariants.{Job, Step};
 ghost use Rattle.al_base.specs.declared.codes.ExpressionCode.TheVariants.{BadCharacter, UnclosedChunk};
 
-/// The lists of some small sets of faults, as the definitions give them. Does nothing.
+/// The lists of some small sets of faults, as the definitions give them. Does nothing at run time.
 pub fn rows()
     // one of three is given twice
     ensures repeated { fault_list (at 9 12 (code.Key Repeated) (codes "on" ∷ []) ∷ at 0 3 (code.Key Unexpected) (codes "oh" ∷ [])

@@ -4,7 +4,7 @@ ghost use Rattle.al_base.specs.Limits.{largest_file, most_files, longest_path, m
 ghost use Rattle.al_base.specs.Limits.{longest_key, longest_text, longest_expression, deepest_expression, longest_line};
 ghost use Rattle.al_base.specs.Limits.{most_reads, largest_read};
 
-/// The most bytes of a file of a folder.
+/// The most bytes of a file.
 pub const LARGEST_FILE: usize = 1_048_576;
 
 /// The most files of a folder.
@@ -19,10 +19,10 @@ pub const MOST_NODES: u32 = 100_000;
 /// The most bytes of a file's texts behind aliases.
 pub const MOST_ALIAS_TEXT: u32 = 1_048_576;
 
-/// The most collections of a file inside one another.
+/// The greatest depth of nested collections in a file.
 pub const DEEPEST_COLLECTION: u32 = 64;
 
-/// The most characters of a key, as it is written, that no `?` begins.
+/// The most characters of an implicit key (one without `?`), as written.
 pub const LONGEST_KEY: usize = 1_024;
 
 /// The most bytes of a text that may have expressions; no file gives a longer one.
@@ -31,19 +31,19 @@ pub const LONGEST_TEXT: usize = 4_194_304;
 /// The most bytes of an expression.
 pub const LONGEST_EXPRESSION: usize = 21_000;
 
-/// The most brackets and negations of an expression inside one another.
+/// The greatest depth of nested brackets and negations in an expression.
 pub const DEEPEST_EXPRESSION: u32 = 50;
 
-/// The most bytes of the line of a script's command, without its end.
+/// The most bytes of a command's line in a script, without the line feed.
 pub const LONGEST_LINE: usize = 2_048;
 
-/// The most reads of a run of a script.
+/// The most reads in a run of a script.
 pub const MOST_READS: u32 = 1_048_576;
 
 /// The most bytes that each of these reads asks for.
 pub const LARGEST_READ: usize = 65_536;
 
-/// These limits are those of the definitions. Does nothing.
+/// The limits equal those of the definitions. Does nothing at run time.
 pub fn match_definitions()
     ensures file { LARGEST_FILE ≡ largest_file }
     ensures files { MOST_FILES ≡ most_files }

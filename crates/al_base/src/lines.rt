@@ -12,7 +12,7 @@ use std::marker::Model;
 
 /// A table of the byte offsets at which a file's lines begin, so that a position needs no walk from the file's start.
 ///
-/// It belongs to the bytes that it was made of. Contracts see the list of offsets, in their order.
+/// It belongs to the bytes that it was made from. Contracts see the list of offsets, in their order.
 #[derive(Drop)]
 pub struct Lines {
     starts: Vec<u32>,
@@ -31,7 +31,7 @@ impl Lines {
     ///
     /// # Errors
     ///
-    /// [`AllocError`] where there is no room for it.
+    /// [`AllocError`] if memory runs out.
     pub fn of(alloc: Global, bytes: &[u8]) -> Result<Lines, AllocError>
         requires { length bytes.now ≤ largest_file }
         ensures { IfOk result (λ lines. lines ≡ line_starts bytes.now) }
@@ -49,7 +49,7 @@ impl Lines {
 
     /// The line and the column of a byte offset, both from 1, as [`position`](crate::position) counts them.
     ///
-    /// Takes no memory. The bytes are those that the table was made of, and the offset is at most their number.
+    /// Doesn't allocate. The table must have been made from `bytes`, and the offset is at most their number.
     pub fn position(&self, bytes: &[u8], offset: u32) -> (u32, u32)
         requires made { self.now ≡ line_starts bytes.now }
         requires within { offset ≤ length bytes.now }
@@ -63,7 +63,7 @@ impl Lines {
 
     /// The location of a byte offset.
     ///
-    /// Takes no memory. The bytes are those that the table was made of, and the offset is at most their number.
+    /// Doesn't allocate. The table must have been made from `bytes`, and the offset is at most their number.
     pub fn location(&self, bytes: &[u8], offset: u32) -> Location
         requires made { self.now ≡ line_starts bytes.now }
         requires within { offset ≤ length bytes.now }
@@ -82,10 +82,10 @@ impl Lines {
         }
     }
 
-    /// The location of a byte offset, counted on from another offset and its location where it stands at or behind it on the same
-    /// line.
+    /// The location of a byte offset. If the offset `from`, whose location is `known`, is at or before it on the same line, the column is
+    /// counted on from there.
     ///
-    /// Takes no memory. The bytes are those that the table was made of, and both offsets are at most their number.
+    /// Doesn't allocate. The table must have been made from `bytes`, and both offsets are at most their number.
     pub fn location_after(&self, bytes: &[u8], from: u32, known: Location, offset: u32) -> Location
         requires made { self.now ≡ line_starts bytes.now }
         requires within { offset ≤ length bytes.now }

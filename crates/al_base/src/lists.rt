@@ -5,9 +5,9 @@ ghost use Rattle.al_base.specs.FaultLaws.{OrderTells, ListIsSorted, ListHasEachO
 
 use super::faults::Fault;
 
-/// These faults in the order of reports, each once: a file's list of faults, however they were found.
+/// A file's list of faults: these faults in the order of reports, each once, in whatever order they were found.
 ///
-/// Takes no memory: the answer keeps that of the list given.
+/// Doesn't allocate: the result reuses the memory of the given list.
 pub fn fault_list(faults: Vec<Fault>) -> Vec<Fault>
     ensures { result.items ≡ fault_list faults.items }
 {
@@ -17,10 +17,10 @@ pub fn fault_list(faults: Vec<Fault>) -> Vec<Fault>
     list
 }
 
-/// The laws of lists of faults. Does nothing.
+/// The laws of lists of faults. Does nothing at run time.
 ///
 /// The order of reports is total and tells different faults apart. A list of faults is sorted by it, has no fault
-/// twice, and has the faults that it was made of and no others; so it depends on nothing but which they are.
+/// twice, and has exactly the faults that it was made from, so it depends only on which they are.
 pub fn fault_lists()
     ensures order { OrderTells }
     ensures sorted { ListIsSorted }

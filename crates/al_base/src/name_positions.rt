@@ -1,4 +1,4 @@
-//! Where texts and names first stand in a list.
+//! Where texts and names first occur in a list.
 ghost use Rattle.std.specs.Prelude.{◌≡◌, IfOk};
 ghost use Rattle.al_base.specs.Names.{lower_case};
 ghost use Rattle.al_base.specs.SortedTexts.{AreSorted};
@@ -6,18 +6,18 @@ ghost use Rattle.al_base.specs.SortedTexts.{AreSorted};
 use super::sorted_texts::{Entry, is_own, places_by, position_by, sort_entries};
 use std::alloc::{AllocError, Global};
 
-/// A name in lower case, by which names that are the same but for ASCII case are found. Fails with `AllocError` when out of memory.
+/// A name in lower case: the same for names that differ only in ASCII case. Fails with `AllocError` when out of memory.
 pub fn in_lower_case(alloc: Global, name: &[u8]) -> Result<Vec<u8>, AllocError>
     ensures { IfOk result (λ v. v.items ≡ lower_case name.now) }
 {
     name.to_ascii_lowercase(alloc)
 }
 
-/// Where each text of a list first stands. Making it sorts the list, and a look-up takes time that grows with the logarithm of its length.
+/// Where each text of a list first occurs. Building it sorts the texts; a lookup takes time logarithmic in their number.
 #[derive(Drop)]
 pub struct TextPositions<'a> {
     entries: Vec<Entry<&'a [u8]>>,
-    /// Where the text at each position first stands.
+    /// Where the text at each position first occurs.
     places: Vec<usize>,
     ghost sorted: { AreSorted (λ t. t.now) entries.items },
 }
@@ -45,14 +45,14 @@ impl<'a> TextPositions<'a> {
         })
     }
 
-    /// Whether the text at a position is the first of its text.
+    /// Whether no earlier position has the text at a position.
     pub fn is_first(&self, i: usize) -> bool
         ensures { result ≡ is_first_text self.now i }
     {
         is_own(self.places.as_slice(), i)
     }
 
-    /// Where a text first stands.
+    /// Where a text first occurs.
     pub fn get(&self, text: &[u8]) -> Option<usize>
         ensures { result ≡ text_position self.now text.now }
     {
@@ -60,12 +60,12 @@ impl<'a> TextPositions<'a> {
     }
 }
 
-/// Where each name of a list first stands, without regard to ASCII case. Making it and looking up take time as of `TextPositions`.
+/// Where each name of a list first occurs, ignoring ASCII case. Building it and lookups take as long as those of `TextPositions`.
 #[derive(Drop)]
 pub struct NamePositions {
-    /// Of the names in lower case.
+    /// The names in lower case.
     entries: Vec<Entry<Vec<u8>>>,
-    /// Where the name at each position first stands.
+    /// Where the name at each position first occurs.
     places: Vec<usize>,
     ghost sorted: { AreSorted (λ n. n.items) entries.items },
 }
@@ -93,14 +93,14 @@ impl NamePositions {
         })
     }
 
-    /// Whether the name at a position is the first of its name.
+    /// Whether no earlier position has the name at a position.
     pub fn is_first(&self, i: usize) -> bool
         ensures { result ≡ is_first_name self.now i }
     {
         is_own(self.places.as_slice(), i)
     }
 
-    /// Where a name first stands. Fails with `AllocError` when out of memory.
+    /// Where a name first occurs. Fails with `AllocError` when out of memory.
     pub fn get(&self, alloc: Global, name: &[u8]) -> Result<Option<usize>, AllocError>
         ensures { IfOk result (λ i. i ≡ name_position self.now name.now) }
     {

@@ -1,4 +1,4 @@
-//! Texts among others, and names and texts in which ASCII case does not count.
+//! Membership of texts in lists, and comparison of names that ignores ASCII case.
 ghost use Rattle.std.specs.Prelude.{◌≡◌, IsTrue, map};
 ghost use Rattle.al_base.specs.Names.{among, same_name};
 
@@ -15,14 +15,14 @@ pub fn is_among(text: &[u8], others: &[&str]) -> bool
     false
 }
 
-/// Whether two names, or two texts, are the same, but for ASCII case.
+/// Whether two names or texts are equal, ignoring ASCII case.
 pub fn is_same_name(a: &[u8], b: &[u8]) -> bool
     ensures { result ≡ same_name a.now b.now }
 {
     end_alike(a, b) && a.eq_ignore_ascii_case(b)
 }
 
-/// Whether two texts are of one length and end alike, as the same ones do. Most others are told apart by that.
+/// Whether two texts have the same length and last bytes, as equal ones do. This rules out most others.
 fn end_alike(a: &[u8], b: &[u8]) -> bool
     ensures { IsTrue (same_name a.now b.now) → IsTrue result }
 {

@@ -9,23 +9,23 @@ use std::alloc::{AllocError, Global};
 use std::marker::Model;
 use thiserror::Error;
 
-/// Why a text is no path of a folder, in the order in which the reasons are looked for (P1 to P5), or that memory
-/// ran out while one was made.
+/// Why a text isn't the path of a file in a folder (P1 to P5, in the order in which they are checked), or that memory
+/// ran out.
 #[derive(Clone, Copy, PartialEq, Eq, Debug, Error)]
 pub enum PathFault {
-    /// P1: there is no byte.
+    /// P1: the text is empty.
     #[error("empty path")]
     Empty,
     /// P2: the first byte is a slash.
     #[error("leading slash")]
     Absolute,
-    /// P3: between slashes stands nothing, `.` or `..`.
+    /// P3: a part between slashes is empty, `.` or `..`.
     #[error("empty, `.` or `..` part")]
     BadPart,
-    /// P4: a byte is below 32, 127 or a backslash.
+    /// P4: a byte is a control byte (below 32, or 127) or a backslash.
     #[error("control byte or backslash")]
     BadByte,
-    /// P5: there are more than 1,024 bytes.
+    /// P5: the text has more than 1,024 bytes.
     #[error("too long")]
     TooLong,
     #[error("out of memory")]
@@ -62,8 +62,8 @@ impl Path {
     ///
     /// # Errors
     ///
-    /// The first of [`path_fault`]'s reasons where the text is no path, and [`PathFault::Memory`], only where it is
-    /// one, where there is no room for its bytes.
+    /// The reason that [`path_fault`] gives if the text isn't a path; [`PathFault::Memory`] if it is one, but memory
+    /// runs out.
     pub fn new(alloc: Global, text: &str) -> Result<Path, PathFault>
         ensures path { IfOk result (λ path. path ≡ text.now) }
         ensures accepted { OnOk result (path_fault_of text.now ≡ None) }
@@ -87,7 +87,8 @@ impl Path {
     }
 }
 
-/// The first reason, P1 to P5, for which a text is no path of a folder; `None` where it is one. Takes no memory.
+/// The first reason, P1 to P5, why a text isn't the path of a file in a folder; `None` if it is one. Doesn't
+/// allocate.
 pub fn path_fault(path: &str) -> Option<PathFault>
     ensures { result ≡ path_fault_of path.now }
 {

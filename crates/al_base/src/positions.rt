@@ -4,7 +4,7 @@ ghost use Rattle.al_base.specs.Limits.{largest_file};
 ghost use Rattle.al_base.specs.Positions.{line_at, column_at, ends_break, begins_char};
 ghost use Rattle.al_base.specs.Positions.{BeginsLine};
 
-/// Where an offset stands: its line and column, both from 1, and the offset at which that line begins.
+/// The location of an offset: its line and column, both from 1, and the offset at which that line begins.
 #[derive(Clone, Copy)]
 pub struct Location {
     pub line: u32,
@@ -14,8 +14,8 @@ pub struct Location {
 
 /// The line and the column of a byte offset, both from 1.
 ///
-/// The line is 1 plus the number of breaks (LF, CRLF or CR) that end at or before the offset; the column is 1 plus the
-/// number of characters of that line before it. Takes no memory. The offset is at most the number of bytes.
+/// The line is 1 plus the number of breaks (LF, CRLF or CR) that end at or before the offset; the column is 1 plus
+/// the number of characters of that line before it. Doesn't allocate. The offset is at most the number of bytes.
 pub fn position(bytes: &[u8], offset: u32) -> (u32, u32)
     requires within { offset ≤ length bytes.now }
     requires small { length bytes.now ≤ largest_file }
@@ -28,7 +28,7 @@ pub fn position(bytes: &[u8], offset: u32) -> (u32, u32)
 
 /// The location of a byte offset.
 ///
-/// Takes no memory. The offset is at most the number of bytes.
+/// Doesn't allocate. The offset is at most the number of bytes.
 pub fn location_of(bytes: &[u8], offset: u32) -> Location
     requires within { offset ≤ length bytes.now }
     requires small { length bytes.now ≤ largest_file }

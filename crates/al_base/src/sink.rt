@@ -10,10 +10,10 @@ use crate::faults::{Fault, Span};
 use std::alloc::{AllocError, Global};
 use std::marker::Model;
 
-/// The faults that were found, in the order in which they were, and the memory that more of them take. Contracts see the list.
+/// The faults found so far, in the order in which they were found, with the allocator for more. Contracts see the list.
 ///
-/// Each report fails with `AllocError` when out of memory. What a sink then holds isn't said: who made it drops it, and the list that its
-/// faults were to go to is as it was.
+/// Each report fails with `AllocError` when out of memory. What the sink holds then is unspecified: its maker drops it, and the list that
+/// the faults were meant for is unchanged.
 #[derive(Drop)]
 pub struct FaultSink {
     alloc: Global,
@@ -30,7 +30,7 @@ impl Model for FaultSink {
 }
 
 impl FaultSink {
-    /// A sink without faults. Takes no memory; what faults take comes from `alloc`.
+    /// An empty sink, which allocates its faults by `alloc`. Doesn't allocate.
     pub fn new(alloc: Global) -> FaultSink
         ensures { result ≡ [] }
     {
@@ -40,7 +40,7 @@ impl FaultSink {
         }
     }
 
-    /// The memory that faults take, for what is found beside them.
+    /// The allocator of the faults, for whatever else a check allocates.
     pub fn alloc(&self) -> Global {
         self.alloc
     }
@@ -93,14 +93,14 @@ impl FaultSink {
         self.report(span, code, args)
     }
 
-    /// The faults. Takes no memory.
+    /// The faults. Doesn't allocate.
     pub fn into_faults(self) -> Vec<Fault>
         ensures { result.items ≡ self }
     {
         self.faults
     }
 
-    /// Moves the faults behind those of a list: all of them, or none where it fails with `AllocError`.
+    /// Appends the faults to a list. Fails with `AllocError` when out of memory; the list is then unchanged.
     pub fn append_to(self, out: &mut Vec<Fault>) -> Result<(), AllocError>
         ensures { out.new.items ≡ (if is_ok result then out.old.items ++ self else out.old.items) }
     {

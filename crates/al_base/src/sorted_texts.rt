@@ -1,4 +1,4 @@
-//! Texts in order, each with where it stands in the list that it comes from.
+//! Sorted texts, each with its position in the original list.
 
 ghost use Rattle.std.specs.Prelude.{◌≡◌, ◌+◌, ◌<◌, ℕ, IfOk, IsPermutation, Some, length, slice_index_or};
 ghost use Rattle.std.specs.Ordering.{is_eq};
@@ -9,7 +9,7 @@ use std::alloc::{AllocError, Global};
 use std::cmp::Ordering;
 use std::convert::AsSlice;
 
-/// The last eight bytes of a text as one number, which tells most texts apart at once.
+/// The last eight bytes of a text as one number, in which most different texts differ.
 pub fn last_bytes(text: &[u8]) -> u64
     ensures { result ≡ tail_number text.now }
 {
@@ -20,7 +20,7 @@ pub fn last_bytes(text: &[u8]) -> u64
     number
 }
 
-/// A text and where it stands, with its last bytes in front.
+/// A text and its position, after the text's last bytes as a number.
 #[derive(Drop)]
 pub(crate) struct Entry<T> {
     number: u64,
@@ -42,7 +42,7 @@ impl<T: AsSlice<u8> + Drop> Entry<T> {
         }
     }
 
-    /// How it compares with a text that has this number.
+    /// The order of this entry and a text with this number.
     fn compare(&self, number: u64, text: &[u8]) -> Ordering
         ensures { result ≡ key_cmp (entry_key T.items self.now) (number, text.now) }
     {
@@ -74,7 +74,7 @@ pub(crate) fn sort_entries<T: AsSlice<u8> + Drop>(
     Ok(sorted)
 }
 
-/// Where a text first stands, by entries in order.
+/// The first position of a text, by sorted entries.
 pub(crate) fn position_by<T: AsSlice<u8> + Drop>(entries: &[Entry<T>], text: &[u8]) -> Option<usize>
     requires { AreSorted T.items entries.now }
     ensures { result ≡ position_among T.items entries.now text.now }
@@ -91,7 +91,7 @@ pub(crate) fn position_by<T: AsSlice<u8> + Drop>(entries: &[Entry<T>], text: &[u
     None
 }
 
-/// Where the text of an entry first stands, by entries in order and where that of the entry before it does.
+/// The first position of an entry's text, by sorted entries and the first position of the text before it.
 fn place_after<T: AsSlice<u8> + Drop>(entries: &[Entry<T>], i: usize, before: usize) -> usize
     requires order { AreSorted T.items entries.now }
     requires numbers { AreNumbered T.items entries.now }
@@ -110,7 +110,7 @@ fn place_after<T: AsSlice<u8> + Drop>(entries: &[Entry<T>], i: usize, before: us
     entry.position
 }
 
-/// Where the text at each position first stands, by entries in order. Fails with `AllocError` when out of memory.
+/// The first position of the text at each position, by sorted entries. Fails with `AllocError` when out of memory.
 pub(crate) fn places_by<T: AsSlice<u8> + Drop>(
     alloc: Global,
     entries: &[Entry<T>],
@@ -128,7 +128,7 @@ pub(crate) fn places_by<T: AsSlice<u8> + Drop>(
     Ok(places)
 }
 
-/// Whether a position is among those of a list of places, and is its own.
+/// Whether a list of first positions has a position at that position itself.
 pub(crate) fn is_own(places: &[usize], i: usize) -> bool
     ensures { result ≡ is_own places.now i }
 {

@@ -9,8 +9,8 @@ ghost use Rattle.al_base.specs.Streams.{WritesPrefix};
 use super::stops::Stop;
 use std::io::{Read, Write};
 
-/// A reader that counts its reads, and those that failed, and keeps the most bytes that one of them asked for. Both
-/// counts stay at their greatest value.
+/// A reader that counts its reads and those that failed, and remembers the length of the largest buffer. Both counts
+/// saturate.
 #[derive(Drop)]
 pub struct Input<R> {
     inner: R,
@@ -19,8 +19,8 @@ pub struct Input<R> {
     largest_ask: usize,
 }
 
-/// A writer that counts the writes that failed: those that answered an error, and those of some bytes that took none.
-/// The count stays at its greatest value.
+/// A writer that counts the writes that failed: those that returned an error, and those that took none of some bytes.
+/// The count saturates.
 #[derive(Drop)]
 pub struct Output<W> {
     inner: W,
@@ -28,7 +28,7 @@ pub struct Output<W> {
 }
 
 impl<R: Read> Input<R> {
-    /// A reader of what the inner one gives, with both counts at 0 and nothing asked for.
+    /// Wraps a reader, with both counts and the length at 0.
     pub fn new(inner: R) -> Input<R>
         ensures bytes { bytes_left R.remaining result ≡ R.remaining inner }
         ensures turns { turns_of result ≡ 0 }
@@ -43,32 +43,32 @@ impl<R: Read> Input<R> {
         }
     }
 
-    /// The reads so far, those that failed too.
+    /// How many reads were made, failed ones included.
     pub fn turns(&self) -> u64
         ensures { result ≡ turns_of self.now }
     {
         self.turns
     }
 
-    /// The reads so far that failed.
+    /// How many reads failed.
     pub fn failures(&self) -> u64
         ensures { result ≡ read_failures self.now }
     {
         self.failures
     }
 
-    /// The most bytes that one read so far asked for: the length of its buffer.
+    /// The length in bytes of the largest buffer that was given to a read.
     pub fn largest_ask(&self) -> usize
         ensures { result ≡ largest_ask self.now }
     {
         self.largest_ask
     }
 
-    /// Makes one read, and answers how many bytes it gave; 0 is the end, where the buffer has room.
+    /// Makes one read, and returns how many bytes it gave: 0 at the end, or if the buffer is empty.
     ///
     /// # Errors
     ///
-    /// [`Stop::ReadFault`] where the inner read answers an error, an interrupt by a signal too.
+    /// [`Stop::ReadFault`] if the inner read returns an error, interruption by a signal included.
     pub fn read(&mut self, buf: &mut [u8]) -> Result<usize, Stop>
         ensures bound { ReadsAtMost result buf.new }
         ensures bytes { ReadConsumes (bytes_left R.remaining self.old)
@@ -92,7 +92,7 @@ impl<R: Read> Input<R> {
 }
 
 impl<W: Write> Output<W> {
-    /// A writer to the inner one, with the count at 0.
+    /// Wraps a writer, with the count at 0.
     pub fn new(inner: W) -> Output<W>
         ensures bytes { bytes_written W.contents result ≡ W.contents inner }
         ensures failures { write_failures result ≡ 0 }
@@ -100,7 +100,7 @@ impl<W: Write> Output<W> {
         Output { inner, failures: 0 }
     }
 
-    /// The writes so far that failed.
+    /// How many writes failed.
     pub fn failures(&self) -> u64
         ensures { result ≡ write_failures self.now }
     {
@@ -111,7 +111,7 @@ impl<W: Write> Output<W> {
     ///
     /// # Errors
     ///
-    /// [`Stop::WriteFault`] where a write failed; a prefix of the bytes is written then.
+    /// [`Stop::WriteFault`] if a write failed; a prefix of the bytes has then been written.
     pub fn write_all(&mut self, bytes: &[u8]) -> Result<(), Stop>
         ensures all { OnOk result (Writes W.contents self.old self.new bytes.now) }
         ensures prefix { OnErr result (WritesPrefix W.contents self.old self.new bytes.now) }
@@ -148,11 +148,11 @@ impl<W: Write> Output<W> {
         }
     }
 
-    /// Hands on what the inner writer holds back.
+    /// Flushes the inner writer.
     ///
     /// # Errors
     ///
-    /// [`Stop::WriteFault`] where that failed, which counts as a write that failed.
+    /// [`Stop::WriteFault`] if that failed, which counts as a failed write.
     pub fn flush(&mut self) -> Result<(), Stop>
         ensures bytes { Keeps (bytes_written W.contents self.old)
             (bytes_written W.contents self.new) }

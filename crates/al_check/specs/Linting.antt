@@ -6,7 +6,7 @@ use Rattle.al_check.specs.Calling.{file_interface, file_targets}
 use Rattle.al_check.specs.FileFaults.{file_faults}
 use Rattle.al_check.specs.Sites.{file_sites}
 
--- Of a file's path only its kind counts: a workflow's or an action's.
+-- Only the kind of a file's path matters: a workflow's or an action's.
 abbrev pub linting : Meaning Interface
 linting = record {
   accepts = is_accepted;

@@ -1,4 +1,4 @@
--- What reading a file gave.
+-- The results of reading a file.
 use Rattle.std.specs.Prelude.{◌≡◌, ℕ, List, [], length, Result, Ok, Err}
 use Rattle.al_scalar.specs.declared.faults.YamlFault.{YamlFault}
 use Rattle.al_base.specs.Growth.{SameSet}
@@ -17,7 +17,7 @@ use Rattle.al_check_interfaces.specs.declared.calls.FolderCall.{FolderCall}
 use Rattle.al_check.specs.FileFaults.{own_faults}
 use Rattle.al_check.specs.declared.files.ReadFile.{ReadFile}
 
--- the document of these bytes, which lies in them, as a file of this kind
+-- the document of these bytes, as a file of this kind; it lies in them
 pub record IsTree (file : FileKind) (bytes : List ℕ) (t : Tree) : Type 0 where
   pub kind_is : kind_in t ≡ file
   pub root_is : tree_of bytes ≡ Ok (root_of t)
@@ -26,7 +26,7 @@ pub record IsTree (file : FileKind) (bytes : List ℕ) (t : Tree) : Type 0 where
   pub texts : HasTexts (root_of t)
   pub from : AreFrom (length bytes) (root_of t)
 
--- their fault as YAML, which lies in them
+-- the YAML fault of these bytes; it lies in them
 pub record IsFault (bytes : List ℕ) (f : YamlFault) : Type 0 where
   pub fault_is : tree_of bytes ≡ Err (record { code = f.code; at = f.span.start })
   pub span_is : f.span ≡ fault_span bytes f.span.start
@@ -36,12 +36,12 @@ abbrev pub IsGiven : FileKind → List ℕ → Result Tree YamlFault → Type 0
 IsGiven file bytes (Ok t) = IsTree file bytes t
 IsGiven file bytes (Err f) = IsFault bytes f
 
--- likewise of a file that was read; one that is no YAML has none
+-- the same for a file that was read; one that isn't YAML has none
 abbrev pub own_given : Result Tree YamlFault → List Fault
 own_given (Ok t) = own_faults (kind_in t) (root_of t)
 own_given (Err f) = []
 
--- its calls of files of the folder, of which a file that is no YAML has none
+-- its calls of files in the folder; a file that isn't YAML has none
 abbrev pub CallsGiven : Result Tree YamlFault → List FolderCall → Type 0
 CallsGiven (Ok t) calls = AreCallsOf (kind_in t) (root_of t) calls
 CallsGiven (Err f) calls = calls ≡ []

@@ -1,4 +1,4 @@
--- What is said of a file's calls of files of the folder where they are on a call cycle.
+-- The faults of a file's calls of files in the folder, to be reported if they are on a call cycle.
 use Rattle.std.specs.Prelude.{ℕ, List, []}
 use Rattle.std.specs.Option.{option_map_or}
 use Rattle.std.specs.Result.{result_ok}

@@ -1,4 +1,4 @@
--- What is kept of a file that was read.
+-- What a session keeps of a file that was read.
 use Rattle.std.specs.Prelude.{◌≡◌, ℕ, List, map}
 use Rattle.al_tree.specs.declared.files.FileKind.{FileKind}
 use Rattle.al_check_interfaces.specs.declared.calls.FolderCall.{FolderCall}
@@ -10,7 +10,7 @@ use Rattle.al_check.specs.declared.units.Brief.{Brief}
 use Rattle.al_check.specs.declared.units.Unit.{Unit}
 use Rattle.al_check.specs.declared.units.Unit.TheVariants as unit
 
--- these are the calls of files of the folder that a file of this kind with these bytes has
+-- these are the calls of files in the folder of a file of this kind with these bytes
 pub record HasCalls (calls : List FolderCall) (kind : FileKind) (bytes : List ℕ) : Type 0 where
   pub targets : map (λ c. c.target) calls ≡ file_targets kind bytes
   pub sites : map (λ c. c.fault) calls ≡ file_sites kind bytes

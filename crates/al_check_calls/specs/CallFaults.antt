@@ -1,4 +1,4 @@
--- The faults of calls of files of the folder, given the answers.
+-- The faults of calls of files in the folder, given the answers.
 use Rattle.std.specs.Prelude.{ℕ, List, [], ◌∷◌, ◌++◌, Bool, true, false, ◌||◌, not, codes}
 use Rattle.std.specs.Prelude.{map, Option, Some, None, find, if◌then◌else◌}
 use Rattle.std.specs.List.{flat_map}
@@ -37,34 +37,35 @@ use Rattle.al_check_interfaces.specs.Uses.{Call, site_caller, that_uses}
 abbrev pub call_fault : CallCode → Call → Span → List (List ℕ) → Fault
 call_fault f c at texts = record { span = at; code = kind_of_code.Call f (site_caller c.site); args = map utf8_lossy texts }
 
--- which files a step may call, and which a job
+-- which files a step can call, and which a job
 abbrev pub is_callable : Caller → Role → Bool
 is_callable caller.Step role.Composite = true
 is_callable caller.Step role.Action = true
 is_callable caller.Job role.Callable = true
 is_callable by r = false
 
--- a step may call an action that isn't there, a job no workflow
+-- a step can call an action that doesn't exist, but a job can't call such a workflow
 abbrev pub absent_faults : Call → Caller → List Fault
 absent_faults c caller.Step = []
 absent_faults c caller.Job = that_uses code.NoWorkflow c ∷ []
 
--- of `uses`: C1 where no file answers, C8 where the one that does can't be called
+-- the faults of `uses`: C1 if no file answers, C8 if the one that does can't be called
 abbrev pub uses_faults : Call → Option Interface → List Fault
 uses_faults c None = absent_faults c (site_caller c.site)
 uses_faults c (Some Unreadable) = []
 uses_faults c (Some (Readable s)) = if is_callable (site_caller c.site) s.role then [] else that_uses code.NotCallable c ∷ []
 
--- what a file shows to a step, or a job, that may call it: none where the call has C1 or C8, or the file can't be read
+-- the signature of a file for a step or a job that can call it; None if the call has C1 or C8, or the file can't be
+-- read
 abbrev pub callable_signature : Caller → Option Interface → Option Signature
 callable_signature by (Some (Readable s)) = if is_callable by s.role then Some s else None
 callable_signature by answer = None
 
--- how the called file is named: by its `name`, else by the text of `uses`
+-- how faults name the called file: by its `name`, otherwise by the text of `uses`
 abbrev pub called_name : Call → Signature → List ℕ
 called_name c s = option_map_or (λ n. n) s.name c.text
 
--- what is given of each kind, and what is said of it: a name that isn't declared is C2 or C5, one that is missing C3 or C6
+-- the parameters of each kind that a call gives, and their faults: a name that isn't declared is C2 or C5, one that is missing C3 or C6
 abbrev pub given_by : ParameterKind → Node → List (Node × Node)
 given_by kind.Input n = entries_at (codes "with") n
 given_by kind.Secret n = entries_at (codes "secrets") n
@@ -102,7 +103,7 @@ names_against k c s =
 abbrev pub is_inherit : Node → Bool
 is_inherit job = option_map_or (λ t. bytes_eq (text_of t.0) (codes "inherit")) (text_at_key (codes "secrets") job) false
 
--- what is compared by name: of a step no secrets, and of a job none that it inherits
+-- whether names of a kind are compared: not the secrets of a step, nor those that a job passes on
 abbrev pub is_compared : ParameterKind → Caller → Node → Bool
 is_compared kind.Input by n = true
 is_compared kind.Secret caller.Step n = false
@@ -115,7 +116,7 @@ signature_for k c answer =
 abbrev pub names_of_kind : ParameterKind → Call → Option Interface → List Fault
 names_of_kind k c answer = option_map_or (names_against k c) (signature_for k c answer) []
 
--- of names: C2 and C3 of inputs, C5 and C6 of secrets
+-- the faults of names: C2 and C3 of inputs, C5 and C6 of secrets
 abbrev pub name_faults : Call → Option Interface → List Fault
 name_faults c answer = names_of_kind kind.Input c answer ++ names_of_kind kind.Secret c answer
 
@@ -129,7 +130,7 @@ type_faults c e t i =
     if assignable_type t (input_type i.takes) then []
     else call_fault code.WrongInput c (span_of e.1) (i.name ∷ type_name i.takes ∷ []) ∷ []
 
--- a value that is given, with its type; what is no scalar is any
+-- a given value with its type, which is any if the value isn't a scalar
 abbrev pub Given : Type 0
 Given = (Node × Node) × Type'
 
@@ -139,11 +140,11 @@ given_type type_of e = option_map_or (type_of e.0) (scalar_in e.1) Any
 abbrev pub values_of : (Node → Scalar → Type') → List (Node × Node) → List Given
 values_of type_of = map (λ e. (e, given_type type_of e))
 
--- C4: a value of a wrong type
+-- C4: a value of the wrong type
 abbrev pub wrong_input : Call → List Parameter → Given → List Fault
 wrong_input c inputs v = option_map_or (type_faults c v.0 v.1) (find (is_parameter (key_of v.0)) inputs) []
 
--- of the types of values: a step's aren't compared
+-- the faults of the types of values; a step's aren't compared
 abbrev pub values_against : Caller → Call → List Given → Option Signature → List Fault
 values_against caller.Step c values o = []
 values_against caller.Job c values o = option_map_or (λ s. flat_map (wrong_input c s.inputs) values) o []
@@ -151,6 +152,6 @@ values_against caller.Job c values o = option_map_or (λ s. flat_map (wrong_inpu
 abbrev pub value_faults : Call → List Given → Option Interface → List Fault
 value_faults c values answer = values_against (site_caller c.site) c values (callable_signature (site_caller c.site) answer)
 
--- The faults of a call of a file of the folder, given the values under `with` with their types, and its answer.
+-- The faults of a call of a file in the folder, given the values under `with` with their types, and its answer.
 abbrev pub call_faults : Call → List Given → Option Interface → List Fault
 call_faults c values answer = uses_faults c answer ++ value_faults c values answer ++ name_faults c answer

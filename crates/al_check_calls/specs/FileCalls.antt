@@ -28,21 +28,21 @@ known_of_call a = record { job = a.call.site.job; step = a.call.site.step; names
 abbrev pub known_from_calls : List Answered → OutputNames
 known_from_calls found = known_in (map known_of_call found)
 
--- the place of what a job gives under a key of `with`
+-- the place of the value under a key of `with` of a job
 abbrev pub place_of_value : List ℕ → Node → Scalar → Place
 place_of_value job key s =
     let way = under (codes "jobs") ∷ under job ∷ under (codes "with") ∷ under (key_text key) ∷ [] in
     place_at kind.Workflow way true s (span_of key)
 
--- its type, under what can be referred to there
+-- its type, given what expressions can refer to there
 abbrev pub value_type_in_job : FileKind → OutputNames → Node → List ℕ → Node → Scalar → Type'
 value_type_in_job kind known root job key s = type_of_given (scope_at kind known root (place_of_value job key s)) s
 
--- the types of what calls give; those of steps' calls aren't looked at
+-- the types of the values that calls give; those of steps aren't used
 abbrev pub typing : FileKind → OutputNames → Node → Typing
 typing kind known root site = value_type_in_job kind known root (unwrap_or site.job [])
 
--- The faults that depend on what answers a file's calls: those of its expressions, which see the outputs that answers make known, and
+-- The faults that depend on the answers of a file's calls: those of its expressions, which see the outputs known from the answers, and
 -- those of its calls.
 abbrev pub faults_by : FileKind → Node → List Answered → List Fault
 faults_by kind root found =
@@ -53,7 +53,7 @@ abbrev pub behind_faults : FileKind → Node → List (Option Interface) → Lis
 behind_faults kind root answers =
     faults_by kind root (calls_with_answers (calls_in kind root) answers)
 
--- each text of a node, of keys too, is UTF-8 and short enough to look for expressions in it
+-- each text of a node, keys included, is UTF-8 and short enough to have expressions
 abbrev pub IsShort : Scalar → Type 0
 IsShort s = IsUtf8 (text_of s) × (length (text_of s) ≤ longest_text)
 

@@ -1,4 +1,4 @@
--- What holds of the faults of calls of any file: they lie in it.
+-- The faults of any file's calls lie in the file.
 use Rattle.std.specs.Prelude.{ℕ, List, Option}
 use Rattle.std.specs.List.{AllByRecursion}
 use Rattle.al_base.specs.Spans.{LiesIn}

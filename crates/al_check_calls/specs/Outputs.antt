@@ -1,4 +1,4 @@
--- The outputs that answers make known: those of a composite action to a step, those of a callable workflow to a job.
+-- The outputs known from answers: those of a composite action for a step, those of a callable workflow for a job.
 use Rattle.std.specs.Prelude.{ℕ, List, Bool, true, false, Option, option_and_then}
 use Rattle.std.specs.Bool.{then_some}
 use Rattle.al_check_interfaces.specs.Uses.{site_caller}
@@ -7,11 +7,11 @@ use Rattle.al_check_interfaces.specs.declared.interfaces.Role.TheVariants as rol
 use Rattle.al_check_calls.specs.Answers.{Answered}
 use Rattle.al_check_calls.specs.CallFaults.{callable_signature}
 
--- what an action of another kind sets is told by its code alone
+-- only the code of an action of another kind tells what it sets
 abbrev pub shows_outputs : Role → Bool
 shows_outputs role.Action = false
 shows_outputs r = true
 
--- behind a call
+-- the outputs behind a call
 abbrev pub outputs_behind : Answered → Option (List (List ℕ))
 outputs_behind a = option_and_then (λ s. then_some (shows_outputs s.role) s.outputs) (callable_signature (site_caller a.call.site) a.answer)

@@ -1,2 +1,2 @@
--- What worked rows are written with: small files and their trees, by hand. No definition stands on them.
+-- Terms for worked rows: small files and their trees, by hand. No definition uses them.
 pub mod Folders

@@ -11,12 +11,12 @@ use Rattle.al_tree.specs.Faults.{has_chunk}
 use Rattle.al_check_objects.specs.Matrix.{class_type}
 use Rattle.al_check_expressions.specs.Contents.{is_one_chunk}
 
--- of the content of an expression: any where it has a fault of its own
+-- the type of an expression: any if it has a fault
 abbrev pub content_type : Scope → List ℕ → Type'
 content_type sc content =
     option_map_or (λ f. Any) (fault_of_content content) (type_found (meaning_of sc (tree_of_content content)))
 
--- of any other text: with expressions in it a string, else by its class
+-- the type of any other text: a string if it has expressions, otherwise by its class
 abbrev pub text_type : Scalar → Type'
 text_type s = if has_chunk (text_of s) then String else class_type s.class
 

@@ -1,4 +1,4 @@
-//! The calls of a file, each with what answers it.
+//! The calls of a file, each with its answer.
 ghost use Rattle.std.specs.Prelude.{◌≡◌, ◌++◌, [], None, drop, map, option_map, slice_get, slice_index_or, IfOk, OnOk};
 ghost use Rattle.std.specs.List.{cons_option};
 ghost use Rattle.std.specs.Option.{option_copied};
@@ -14,7 +14,7 @@ ghost use Rattle.al_yaml_tree.specs.Node.{Node};
 use al_check_interfaces::{Call, FolderCall, Interface};
 use std::alloc::{AllocError, Global};
 
-/// A call of a file of the folder and what answers it: the interface of the first of the files that it names which is there, or none.
+/// A call of a file in the folder with its answer: the interface of its first candidate that exists, or `None`.
 #[derive(Clone, Copy)]
 pub(crate) struct Answered<'a> {
     pub(crate) call: Call<'a>,
@@ -32,7 +32,7 @@ fn first<'a>(answers: &[Option<&'a Interface>]) -> Option<&'a Interface>
     }
 }
 
-/// The answers behind the first.
+/// The answers after the first.
 fn rest<'s, 'a>(answers: &'s [Option<&'a Interface>]) -> &'s [Option<&'a Interface>]
     ensures { map (λ a. option_copied a) result.now
         ≡ drop 1 (map (λ a. option_copied a) answers.now) }
@@ -70,7 +70,7 @@ fn add_answered<'a>(
     }
 }
 
-/// The calls with the numbers of those that are kept, with their answers.
+/// The calls with the numbers of the kept ones, with their answers.
 fn answered_at<'a>(
     alloc: Global,
     calls: &[Call<'a>],
@@ -90,7 +90,7 @@ fn answered_at<'a>(
     Ok(found)
 }
 
-/// The calls of files of the folder that a file has, as reading kept them, with their answers in order. `calls` are all calls of the file.
+/// The kept calls of files in the folder, with their answers in order. `calls` are all calls of the file.
 ///
 /// Fails with `AllocError` when out of memory.
 pub(crate) fn with_answers<'a>(

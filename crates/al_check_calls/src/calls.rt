@@ -1,4 +1,4 @@
-//! The faults of one call, but for those of names.
+//! The faults of one call, except those of names.
 ghost use Rattle.std.specs.Prelude.{◌≡◌, ◌++◌, List, map, OnOk};
 ghost use Rattle.std.specs.Option.{option_copied};
 ghost use Rattle.al_check_calls.specs.CallFaults as meant;
@@ -14,7 +14,7 @@ use al_base::{CallCode, Caller, FaultSink};
 use al_check_interfaces::{Call, Interface, Role, Signature, caller_of};
 use std::alloc::AllocError;
 
-/// Whether a step, or a job, may call a file that is this.
+/// Whether a step or a job can call a file with this role.
 fn is_callable(caller: Caller, role: Role) -> bool
     ensures { result ≡ meant.is_callable caller role }
 {
@@ -24,7 +24,7 @@ fn is_callable(caller: Caller, role: Role) -> bool
     }
 }
 
-/// What a file shows to a step, or a job, that may call it.
+/// The signature of a file, if a step or a job can call it.
 fn callable_signature<'a>(caller: Caller, answer: Option<&'a Interface>) -> Option<&'a Signature>
     ensures { option_copied result ≡ meant.callable_signature caller (option_copied answer.entry) }
 {
@@ -41,7 +41,7 @@ fn callable_signature<'a>(caller: Caller, answer: Option<&'a Interface>) -> Opti
     }
 }
 
-/// What a call is compared with, if the file that answers it may be called.
+/// The signature that a call is compared with, if it can call the file that answers it.
 pub(crate) fn called_signature<'a>(
     call: Call<'_>,
     answer: Option<&'a Interface>,
@@ -53,7 +53,7 @@ pub(crate) fn called_signature<'a>(
     callable_signature(caller_of(call.site), answer)
 }
 
-/// C1: a job's call that no file of the folder answers.
+/// C1: a job's call that no file in the folder answers.
 fn check_absent(call: Call<'_>, faults: &mut FaultSink) -> Result<(), AllocError>
     ensures { OnOk result (faults.new ≡ faults.old
         ++ meant.absent_faults (call_of call.entry) (site_caller (call_of call.entry).site)) }
@@ -86,8 +86,8 @@ fn check_uses(
     }
 }
 
-/// Adds the faults of a call but for those of names: C1, C4 and C8, given what a job gives under `with`, each value with its type. Of a
-/// step no values are looked at.
+/// Adds the faults of a call, except those of names: C1, C4 and C8, given the values under `with` of a job, each with its type. The
+/// values of a step aren't checked.
 ///
 /// Fails with `AllocError` when out of memory.
 pub(crate) fn check_call(

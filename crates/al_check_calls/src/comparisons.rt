@@ -1,4 +1,4 @@
-//! Calls whose names are compared with those that a file shows.
+//! Calls whose names are compared with those of a signature.
 ghost use Rattle.std.specs.Prelude.{◌≡◌, ◌++◌, [], map, option_map, IfOk, OnOk};
 ghost use Rattle.std.specs.List.{cons_option, flat_map};
 ghost use Rattle.std.specs.Option.{option_copied};
@@ -19,7 +19,7 @@ use al_tree::{Member, members_under, text_under};
 use al_yaml_tree::Node;
 use std::alloc::{AllocError, Global};
 
-/// A call whose names of a kind are compared with those that a file shows.
+/// A call whose names of a kind are compared with those of a signature.
 #[derive(Clone, Copy)]
 pub(crate) struct Comparison<'a> {
     pub(crate) kind: ParameterKind,
@@ -27,7 +27,7 @@ pub(crate) struct Comparison<'a> {
     pub(crate) signature: &'a Signature,
 }
 
-/// What a step or a job gives of a kind.
+/// The parameters of a kind that a step or a job gives.
 pub(crate) fn given_by<'a>(
     alloc: Global,
     kind: ParameterKind,
@@ -41,7 +41,7 @@ pub(crate) fn given_by<'a>(
     }
 }
 
-/// Whether a job gives the called workflow all its secrets, by `secrets: inherit`.
+/// Whether a job passes all its secrets on to the called workflow, by `secrets: inherit`.
 fn is_inherit(job: &Node) -> bool
     ensures { result ≡ faults.is_inherit (view job.now) }
 {
@@ -51,7 +51,7 @@ fn is_inherit(job: &Node) -> bool
     }
 }
 
-/// Whether names of a kind are compared: of a step no secrets, and of a job none that it inherits.
+/// Whether names of a kind are compared: not the secrets of a step, nor those that a job passes on.
 fn is_compared(kind: ParameterKind, call: Call<'_>) -> bool
     ensures { result
         ≡ faults.is_compared kind (site_caller (call_of call.entry).site)
@@ -66,7 +66,7 @@ fn is_compared(kind: ParameterKind, call: Call<'_>) -> bool
     }
 }
 
-/// With what names of a kind are compared.
+/// The signature with which the names of a kind are compared, if they are.
 fn signature_for<'a>(kind: ParameterKind, answered: Answered<'a>) -> Option<&'a Signature>
     ensures { let a = answered_of answered.entry in option_copied result
         ≡ faults.signature_for kind a.call a.answer }
@@ -119,7 +119,7 @@ fn add_comparisons<'a>(
     add_comparison(ParameterKind::Secret, answered, found)
 }
 
-/// The calls whose names are compared: those of inputs, those of secrets.
+/// The calls whose names are compared: by inputs, then by secrets.
 pub(crate) fn all_comparisons<'a>(
     alloc: Global,
     answered: &[Answered<'a>],
@@ -134,7 +134,7 @@ pub(crate) fn all_comparisons<'a>(
     Ok(found)
 }
 
-/// Whether two steps, or two jobs, call by one text, and names of one kind are compared.
+/// Whether two steps, or two jobs, call by the same text, and names of the same kind are compared.
 pub(crate) fn call_alike(one: Comparison<'_>, other: Comparison<'_>) -> bool
     ensures { result ≡ comparing.call_alike (compared_of one.entry) (compared_of other.entry) }
 {

@@ -9,7 +9,7 @@ ghost use Rattle.al_tree.specs.declared.files.FileKind.TheVariants as kind;
 ghost use Rattle.al_types.specs.Types.{Number};
 ghost use Rattle.std.specs.Prelude.{◌≡◌, [], ◌∷◌, codes, None, Some};
 
-/// The faults of the calls of some small files, as the definitions give them. Does nothing.
+/// The faults of the calls of some small files, by the definitions. Does nothing at run time.
 pub fn rows()
     ensures absent_action { faults_of file.step_calls_a (None ∷ []) ≡ [] }
     ensures unreadable_action { faults_of file.step_calls_a (Some Unreadable ∷ []) ≡ [] }

@@ -17,7 +17,7 @@ use al_base::FaultSink;
 use al_check_contexts::{Env, File};
 use std::alloc::AllocError;
 
-/// Adds the faults of a job's call, but for those of names.
+/// Adds the faults of a job's call, except those of names.
 fn check_job<'a>(
     file: File<'a>,
     env: &mut Env<'a>,
@@ -35,7 +35,7 @@ fn check_job<'a>(
     Ok(())
 }
 
-/// Adds the faults of a step's call, whose values have no types, but for those of names.
+/// Adds the faults of a step's call, whose values have no types, except those of names.
 fn check_step(answered: Answered<'_>, faults: &mut FaultSink) -> Result<(), AllocError>
     requires { is_some answered.call.site.step ≡ true }
     ensures { (types : Typing)
@@ -45,7 +45,7 @@ fn check_step(answered: Answered<'_>, faults: &mut FaultSink) -> Result<(), Allo
     check_call(answered, &[], faults)
 }
 
-/// Adds the faults of a call, but for those of names.
+/// Adds the faults of a call, except those of names.
 fn check_one<'a>(
     file: File<'a>,
     env: &mut Env<'a>,
@@ -64,7 +64,7 @@ fn check_one<'a>(
     }
 }
 
-/// Adds the faults of some calls, but for those of names; the environment goes on to them.
+/// Adds the faults of some calls, except those of names. Moves the environment to them.
 fn check_each<'a>(
     file: File<'a>,
     env: &mut Env<'a>,
@@ -82,7 +82,8 @@ fn check_each<'a>(
     Ok(())
 }
 
-/// Adds the faults of some calls of a file, to which the environment goes on; of equal faults, as calls behind aliases have, at least one.
+/// Adds the faults of some calls of a file, and moves the environment to them. Of equal faults, as of calls behind aliases, at least one
+/// is added.
 pub(crate) fn check_calls<'a>(
     file: File<'a>,
     env: &mut Env<'a>,

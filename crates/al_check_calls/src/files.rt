@@ -1,4 +1,4 @@
-//! The faults of a file that depend on what answers its calls.
+//! The faults of a file that depend on the answers of its calls.
 ghost use Rattle.std.specs.Prelude.{◌++◌, map, All, OnOk};
 ghost use Rattle.std.specs.List.{flat_map};
 ghost use Rattle.std.specs.Option.{option_copied};
@@ -29,7 +29,7 @@ use al_tree::FileKind;
 use al_yaml_tree::Node;
 use std::alloc::AllocError;
 
-/// Adds the faults of a file's expressions and of these calls of it, by what is known of the outputs behind them.
+/// Adds the faults of a file's expressions and calls, given what is known of the outputs behind the calls.
 fn check_file<'a>(
     file: File<'a>,
     answered: &[Answered<'a>],
@@ -49,7 +49,7 @@ fn check_file<'a>(
     Ok(())
 }
 
-/// Adds the faults of a file's expressions and of these calls of it, with their answers.
+/// Adds the faults of a file's expressions and calls, given the calls with their answers.
 fn check_with_answers<'a>(
     kind: FileKind,
     root: &'a Node,
@@ -69,7 +69,7 @@ fn check_with_answers<'a>(
     Ok(())
 }
 
-/// A file that calls: what it is, its tree, and its calls of files of the folder, as reading found them.
+/// A file that calls: its kind, its tree, and its kept calls of files in the folder.
 #[derive(Clone, Copy)]
 pub struct Calling<'a> {
     pub kind: FileKind,
@@ -77,10 +77,10 @@ pub struct Calling<'a> {
     pub calls: &'a [FolderCall],
 }
 
-/// Adds the faults of a file that depend on what answers its calls, X1 to X20 and C1 to C6 and C8: those of its expressions, which see the
-/// outputs that answers make known, and those of its calls. The answers are those of the calls of files of the folder, in order: what
-/// the file that answers shows, or none where none of the files that a call names, its candidates, is there. Calls with the same
-/// candidates have the same answer. Of equal faults, as calls behind aliases have, at least one is added.
+/// Adds the faults of a file that depend on the answers of its calls, X1 to X20, C1 to C6 and C8: those of its expressions, which see the
+/// outputs known from the answers, and those of its calls. The answers are those of the calls of files in the folder, in order: the
+/// interface of the file that answers, or `None` if no candidate of the call exists. Calls with the same candidates have the same answer.
+/// Of equal faults, as of calls behind aliases, at least one is added.
 ///
 /// Offsets of the file's nodes are at most 1,048,576, and its texts are UTF-8. Fails with `AllocError` when out of memory.
 pub fn behind_faults<'a>(

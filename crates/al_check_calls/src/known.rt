@@ -1,4 +1,4 @@
-//! What answers make known.
+//! What is known of outputs from the answers of calls.
 ghost use Rattle.std.specs.Prelude.{◌≡◌, map, is_some, IfOk, Some};
 ghost use Rattle.al_check_calls.specs.Outputs.{outputs_behind};
 ghost use Rattle.al_check_calls.specs.Private.AnswerViews.{answered_of};
@@ -18,10 +18,10 @@ use al_yaml_tree::Node;
 use std::alloc::{AllocError, Global};
 use std::collections::BTreeMap;
 
-/// The lists of names of the outputs behind calls. Steps that call by one text share a list, and so do jobs.
+/// The lists of names of the outputs behind calls. Steps that call by the same text share a list, and so do jobs.
 #[derive(Drop)]
 struct Lists<'a> {
-    /// The positions among the lists by whether a step calls, and by which text.
+    /// The positions of the lists, by whether a step calls, and by which text.
     positions: BTreeMap<(bool, &'a [u8]), usize>,
     lists: Vec<&'a NameList>,
 }
@@ -43,8 +43,8 @@ impl<'a> Lists<'a> {
         self.positions.get(&(of_step, text)).copied()
     }
 
-    /// Adds the names of the outputs behind the calls by a text that has no position, and answers it. Fails with `AllocError` when out of
-    /// memory, as all here.
+    /// Adds the list of the outputs behind the calls by a text that has no position yet, and returns its position. Fails with
+    /// `AllocError` when out of memory, as everything here does.
     fn add(
         &mut self,
         of_step: bool,
@@ -61,7 +61,7 @@ impl<'a> Lists<'a> {
         Ok(position)
     }
 
-    /// The position of the names of the outputs behind the calls by a text.
+    /// The position of the list of the outputs behind the calls by a text.
     fn position_by(
         &mut self,
         of_step: bool,
@@ -81,7 +81,7 @@ impl<'a> Lists<'a> {
         }
     }
 
-    /// The position of the outputs behind a call; none where nothing is known of them.
+    /// The position of the outputs behind a call; `None` if nothing is known of them.
     fn position(&mut self, answered: Answered<'a>) -> Result<Option<usize>, AllocError>
         ensures { let a = answered_of answered.entry in IfOk result
             (λ position. Takes self.old self.new (is_some a.call.site.step) a.call.text
@@ -106,7 +106,7 @@ pub(crate) struct KnownOutputs<'a> {
 }
 
 impl KnownOutputs<'_> {
-    /// The file of the calls: what it is, its tree, and what is known.
+    /// The file of the calls, with what is known.
     pub(crate) fn file<'k>(&'k self, kind: FileKind, root: &'k Node) -> File<'k>
         ensures kind { result.kind ≡ kind }
         ensures root { view result.root.now ≡ view root.now }
@@ -119,8 +119,8 @@ impl KnownOutputs<'_> {
     }
 }
 
-/// What is known of the outputs behind some calls, in their order. Steps, or jobs, that call by one text have one answer, so they
-/// have one position.
+/// What is known of the outputs behind some calls, in order. Steps, or jobs, that call by the same text have the same answer, and so the
+/// same position.
 pub(crate) fn known_behind<'a>(
     alloc: Global,
     answered: &[Answered<'a>],

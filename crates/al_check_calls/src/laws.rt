@@ -1,7 +1,7 @@
-//! A law on the faults of calls.
+//! A law of the faults of calls.
 ghost use Rattle.al_check_calls.specs.Laws.{CallFaultsLie};
 
-/// Each fault of a file's calls lies in the file that its tree lies in. Does nothing.
+/// Each fault of a file's calls lies in the file if the tree does. Does nothing at run time.
 pub fn faults_lie()
     ensures { CallFaultsLie }
 {}

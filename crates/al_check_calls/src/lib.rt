@@ -1,5 +1,5 @@
-//! The faults of a file that depend on what it calls: those of its calls, given what the called files show, with the types of what jobs
-//! give, and those of its expressions, which see the outputs that answers make known.
+//! The faults of a file that depend on the files that it calls: those of its calls, given the interfaces of the called files and the
+//! types of the values that jobs give, and those of its expressions, which see the outputs known from the answers.
 #![tactic(auto)]
 
 mod answers;

@@ -1,5 +1,5 @@
-//! Names that calls have to give and don't: C3 and C6. They are said at `uses`, in words that name the parameter alone; so of calls alike
-//! by one `uses` a parameter is looked up as long as all of them so far have given it, and is said where the first doesn't.
+//! Mandatory parameters that calls don't give: C3 and C6. The fault is at `uses` and names only the parameter. So for calls behind
+//! aliases of one `uses`, a parameter is looked up until one of them doesn't give it, and reported once.
 ghost use Rattle.std.specs.Prelude.{◌≡◌, ◌++◌, ◌∷◌, [], map, IfOk, IfSome, OnOk};
 ghost use Rattle.al_base.specs.NamePlaces.{name_place, name_position};
 ghost use Rattle.std.specs.List.{flat_map};
@@ -45,7 +45,7 @@ fn missing_code(kind: ParameterKind) -> CallCode
     }
 }
 
-/// C3 or C6 of a parameter.
+/// Adds C3 or C6 of a parameter.
 fn report_missing(
     call: Comparison<'_>,
     parameter: &Parameter,
@@ -71,7 +71,7 @@ fn is_given(alloc: Global, giver: &Giver<'_>, parameter: &Parameter) -> Result<b
     Ok(position.is_some())
 }
 
-/// C3 or C6 of a parameter, which is left if the call gives it.
+/// Adds C3 or C6 of a parameter, or keeps the parameter if the call gives it.
 fn check_parameter<'a>(
     giver: &Giver<'_>,
     parameter: &'a Parameter,
@@ -93,7 +93,8 @@ fn check_parameter<'a>(
     report_missing(giver.call, parameter, faults)
 }
 
-/// Adds C3 and C6 of these parameters, and answers those that the call gives. Where there are none, what the call gives isn't looked at.
+/// Adds C3 and C6 of these parameters, and returns those that the call gives. If there are no parameters, what the call gives isn't
+/// looked at.
 fn check_parameters<'a>(
     call: Comparison<'_>,
     parameters: &[&'a Parameter],
@@ -117,15 +118,15 @@ fn check_parameters<'a>(
     Ok(left)
 }
 
-/// Whether calls alike are by one `uses`.
+/// Whether two calls with the same text are by one `uses`.
 fn is_by_same_uses(one: Comparison<'_>, other: Comparison<'_>) -> bool
     ensures { result ≡ comparing.is_by_same_uses (compared_of one.entry) (compared_of other.entry) }
 {
     call_alike(one, other) && uses_span(one.call) == uses_span(other.call)
 }
 
-/// C3 and C6 of a call. Behind one alike by the same `uses` only the parameters that are left are looked up; answers those that are left
-/// then.
+/// Adds C3 and C6 of a call. After a call by the same `uses`, only the parameters that are left are looked up. Returns those that are
+/// left now.
 fn check_next<'a>(
     previous: Option<Comparison<'a>>,
     left: &[&'a Parameter],
@@ -152,7 +153,7 @@ fn check_next<'a>(
     Ok(found)
 }
 
-/// C3 and C6 of calls, one after another.
+/// Adds C3 and C6 of calls, one after another.
 fn check_in_turn<'a>(calls: &[Comparison<'a>], faults: &mut FaultSink) -> Result<(), AllocError>
     requires { TellSignatures (map compared_of calls.now) }
     ensures { OnOk result (SameSet faults.new (faults.old
@@ -168,7 +169,7 @@ fn check_in_turn<'a>(calls: &[Comparison<'a>], faults: &mut FaultSink) -> Result
     Ok(())
 }
 
-/// What puts calls in order: where `uses` stands, and then who calls, and the kind.
+/// The key by which calls are sorted: the place of `uses`, then who calls, then the kind.
 fn order_of(call: &Comparison<'_>) -> (u32, Caller, ParameterKind) {
     (
         uses_span(call.call).start,
@@ -177,7 +178,7 @@ fn order_of(call: &Comparison<'_>) -> (u32, Caller, ParameterKind) {
     )
 }
 
-/// Puts calls in order, so that those alike by one `uses` stand together.
+/// Sorts calls, so that those by one `uses` are adjacent.
 fn in_order<'a>(comparisons: Vec<Comparison<'a>>) -> Vec<Comparison<'a>>
     ensures { IsPermutation comparisons.entry.items result.items }
 {
@@ -186,8 +187,8 @@ fn in_order<'a>(comparisons: Vec<Comparison<'a>>) -> Vec<Comparison<'a>>
     calls
 }
 
-/// Adds C3 and C6 of calls, of equal faults at least one. Takes time by what the calls give, and by what has to be given once for each
-/// `uses`.
+/// Adds C3 and C6 of calls, of equal faults at least one. Takes time proportional to what the calls give, and to the mandatory parameters
+/// once for each `uses`.
 pub(crate) fn check_missing(
     comparisons: Vec<Comparison<'_>>,
     faults: &mut FaultSink,

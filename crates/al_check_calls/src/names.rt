@@ -1,4 +1,4 @@
-//! The faults of the names that calls give, and of those that they have to give: C2, C3, C5 and C6.
+//! The faults of the names that calls give or lack: C2, C3, C5 and C6.
 ghost use Rattle.std.specs.Prelude.{◌++◌, map, OnOk};
 ghost use Rattle.std.specs.List.{flat_map};
 ghost use Rattle.al_base.specs.Growth.{SameSet};
@@ -12,8 +12,8 @@ use crate::undefined::check_undefined;
 use al_base::FaultSink;
 use std::alloc::AllocError;
 
-/// Adds the faults of the names of calls, of equal faults at least one. Takes time by what the calls give, and by what has to be given once
-/// for each `uses`.
+/// Adds the faults of the names of calls, of equal faults at least one. Takes time proportional to what the calls give, and to the
+/// mandatory parameters once for each `uses`.
 ///
 /// Fails with `AllocError` when out of memory.
 pub(crate) fn check_names(

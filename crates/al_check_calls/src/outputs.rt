@@ -1,4 +1,4 @@
-//! The outputs that answers make known.
+//! The outputs that are known from answers.
 ghost use Rattle.std.specs.Prelude.{◌≡◌};
 ghost use Rattle.std.specs.Option.{option_copied};
 ghost use Rattle.al_check_calls.specs.Private.AnswerViews.{answered_of};
@@ -8,7 +8,7 @@ use crate::answers::Answered;
 use crate::calls::called_signature;
 use al_check_interfaces::{NameList, Role};
 
-/// Whether a file shows its outputs: an action that isn't composite doesn't show all that its code sets.
+/// Whether all outputs of a file are declared: the code of an action that isn't composite can set others.
 fn has_outputs(role: Role) -> bool
     ensures { result ≡ shows_outputs role }
 {
@@ -20,8 +20,8 @@ fn has_outputs(role: Role) -> bool
     }
 }
 
-/// The names of the outputs of the step or the job that calls, as its answer shows them: those of a composite action to a step, those
-/// of a callable workflow to a job. None where nothing is known of them.
+/// The names of the outputs of the step or job that calls, by its answer: those of a composite action for a step, those of a callable
+/// workflow for a job. `None` if nothing is known of them.
 pub(crate) fn outputs_of<'a>(answered: Answered<'a>) -> Option<&'a NameList>
     ensures { option_copied result ≡ outputs_behind (answered_of answered.entry) }
 {

@@ -15,14 +15,14 @@ pub(crate) fn uses_text<'a>(call: Call<'a>) -> &'a [u8]
     call.uses.scalar.text()
 }
 
-/// Where the value of `uses` stands.
+/// The span of the value of `uses`.
 pub(crate) fn uses_span(call: Call<'_>) -> Span
     ensures { result ≡ (call_of call.entry).at }
 {
     call.uses.span
 }
 
-/// How the called file is named.
+/// How faults name the called file.
 pub(crate) fn called_name<'a>(call: Call<'a>, signature: &'a Signature) -> &'a [u8]
     ensures { result.now ≡ meant.called_name (call_of call.entry) signature.now }
 {
@@ -39,7 +39,7 @@ pub(crate) fn code_at(call: Call<'_>, code: CallCode) -> Code
     Code::Call(code, caller_of(call.site))
 }
 
-/// Adds a fault of a call at its `uses`, whose text it names.
+/// Adds a fault at the `uses` of a call that names its text.
 pub(crate) fn report_uses(
     call: Call<'_>,
     code: CallCode,

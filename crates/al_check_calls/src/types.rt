@@ -1,4 +1,4 @@
-//! The type of a scalar that is given to an input: that of its expression where it is one, else by its class.
+//! The type of a scalar that is given to an input: that of its expression if it is one, otherwise by its class.
 ghost use Rattle.std.specs.Prelude.{◌≡◌, ◌≤◌, ◌∷◌, [], List, length, map, true, All, IfOk, IsUtf8, ℕ};
 ghost use Rattle.std.specs.Option.{option_copied};
 ghost use Rattle.al_base.specs.Growth.{BeginsWith};
@@ -21,7 +21,7 @@ use al_scalar::Scalar;
 use al_tree::contains_chunk;
 use std::alloc::{AllocError, Global};
 
-/// The type of the content of an expression: any where it has a fault of its own, which is told where the expression stands.
+/// The type of an expression: any type if the expression has a fault, which is reported at the expression.
 #[tactic(auto, using(al_base::proofs::Growing::growth))]
 fn content_type(
     alloc: Global,
@@ -45,7 +45,7 @@ fn content_type(
     }
 }
 
-/// The type of a text that isn't one expression: a string where it has expressions, else what its class says.
+/// The type of a text that isn't one expression: a string if it has expressions, otherwise by its class.
 fn text_type(scalar: &Scalar) -> Ty
     ensures ty { (ms : List Parts) → type_in ms result ≡ meant.text_type scalar.now }
     ensures known { (k : ℕ) → is_below k result ≡ true }
@@ -59,7 +59,7 @@ fn text_type(scalar: &Scalar) -> Ty
     }
 }
 
-/// The content of a scalar whose text has this chunk alone, if the text is nothing else.
+/// The content of the only chunk of a scalar, if the chunk is all of its text.
 fn content_of_only<'a>(scalar: &Scalar, chunk: &Chunk<'a>) -> Option<&'a str>
     requires cut { IsCutFrom (text_of scalar.now) chunk.now }
     requires only { (chunks_of (text_of scalar.now)).chunks ≡ span_of_chunk chunk.now ∷ [] }
@@ -71,7 +71,7 @@ fn content_of_only<'a>(scalar: &Scalar, chunk: &Chunk<'a>) -> Option<&'a str>
     None
 }
 
-/// The content of a scalar whose text has these chunks, if the text is one expression.
+/// The content of a scalar with these chunks, if its text is one expression.
 #[tactic(auto, using(crate::proofs::Lone::no_content))]
 fn content_of<'a>(scalar: &Scalar, chunks: &[Chunk<'a>]) -> Option<&'a str>
     requires cut { All (IsCutFrom (text_of scalar.now)) chunks.now }

@@ -1,5 +1,5 @@
-//! Names that calls give and the called files don't declare: C2 and C5. They are said where the names stand; so calls alike that give one
-//! name at one place, as behind an alias, say the same, and it is said once.
+//! Names that calls give but the called files don't declare: C2 and C5. The fault is at the name. So calls that give one name at one
+//! place, as behind an alias, have the same fault, and it is reported once.
 ghost use Rattle.std.specs.Prelude.{◌≡◌, ◌++◌, map, IfOk, IfSome, OnOk};
 ghost use Rattle.std.specs.List.{flat_map};
 ghost use Rattle.std.specs.List.Sorted.{IsPermutation};
@@ -24,7 +24,7 @@ struct GivenName<'a> {
     member: Member<'a>,
 }
 
-/// Whether a name needs no parameter of the called file: what a step gives to a container.
+/// Whether a name needs no parameter of the called file, as what a step gives to a container.
 fn is_free_for(kind: ParameterKind, caller: Caller, name: &[u8]) -> bool
     ensures { result ≡ meant.is_free_for kind caller name.now }
 {
@@ -37,7 +37,7 @@ fn is_free_for(kind: ParameterKind, caller: Caller, name: &[u8]) -> bool
     }
 }
 
-/// Whether a call may give a name.
+/// Whether a call can give a name.
 fn is_taken(alloc: Global, by: Comparison<'_>, name: &[u8]) -> Result<bool, AllocError>
     ensures { let q = compared_of by.entry in IfOk result (λ b. b
         ≡ meant.is_taken q.kind q.call q.signature name.now) }
@@ -57,7 +57,7 @@ fn undefined_code(kind: ParameterKind) -> CallCode
     }
 }
 
-/// C2 or C5 of a name.
+/// Adds C2 or C5 of a name.
 fn check_name(name: GivenName<'_>, faults: &mut FaultSink) -> Result<(), AllocError>
     ensures { OnOk result (faults.new ≡ faults.old ++ comparing.undefined_at (name_of name.entry)) }
 {
@@ -70,7 +70,7 @@ fn check_name(name: GivenName<'_>, faults: &mut FaultSink) -> Result<(), AllocEr
     faults.report_two(name.member.key.span(), code, text, called)
 }
 
-/// Whether calls alike give one name at one place.
+/// Whether calls by the same text give one name at one place.
 fn is_same_name_given(one: GivenName<'_>, other: GivenName<'_>) -> bool
     ensures { result ≡ comparing.is_same_name_given (name_of one.entry) (name_of other.entry) }
 {
@@ -79,7 +79,7 @@ fn is_same_name_given(one: GivenName<'_>, other: GivenName<'_>) -> bool
         && one.member.key.span() == other.member.key.span()
 }
 
-/// C2 or C5 of a name, unless the one before it is the same.
+/// Adds C2 or C5 of a name, unless the one before it is the same.
 fn check_next_name(
     previous: Option<GivenName<'_>>,
     name: GivenName<'_>,
@@ -99,7 +99,7 @@ fn check_next_name(
     check_name(name, faults)
 }
 
-/// C2 and C5 of names, one after another.
+/// Adds C2 and C5 of names, one after another.
 fn check_in_turn<'a>(given: &[GivenName<'a>], faults: &mut FaultSink) -> Result<(), AllocError>
     requires { TellSignaturesBy (map name_of given.now) }
     ensures { OnOk result (SameSet faults.new (faults.old
@@ -132,7 +132,7 @@ fn add_members<'a>(
     Ok(())
 }
 
-/// Adds what a call gives of a kind.
+/// Adds the names that a call gives.
 fn add_names_by<'a>(
     alloc: Global,
     by: Comparison<'a>,
@@ -160,7 +160,7 @@ fn names_given<'a>(
     Ok(found)
 }
 
-/// What puts names in order: where they stand, and then by whom and by which text the file is called.
+/// The key by which names are sorted: their place, then who calls, and by which text.
 fn order_of<'a>(name: &GivenName<'a>) -> (u32, ParameterKind, Caller, &'a [u8]) {
     let call = name.by.call;
     (
@@ -171,7 +171,7 @@ fn order_of<'a>(name: &GivenName<'a>) -> (u32, ParameterKind, Caller, &'a [u8]) 
     )
 }
 
-/// Puts names in order, so that those which are the same stand together.
+/// Sorts names, so that equal ones are adjacent.
 fn in_order<'a>(given: Vec<GivenName<'a>>) -> Vec<GivenName<'a>>
     ensures { IsPermutation given.entry.items result.items }
 {
@@ -180,7 +180,7 @@ fn in_order<'a>(given: Vec<GivenName<'a>>) -> Vec<GivenName<'a>>
     names
 }
 
-/// Adds C2 and C5 of what calls give, of equal faults at least one.
+/// Adds C2 and C5 of the names that calls give, of equal faults at least one.
 pub(crate) fn check_undefined(
     calls: &[Comparison<'_>],
     faults: &mut FaultSink,

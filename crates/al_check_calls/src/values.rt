@@ -1,4 +1,4 @@
-//! What a job gives under `with`, each value with its type.
+//! The values under `with` of a job, each with its type.
 ghost use Rattle.std.specs.Prelude.{◌≡◌, [], map, true, unwrap_or, IfOk, OnOk};
 ghost use Rattle.std.specs.Option.{option_copied};
 ghost use Rattle.al_base.specs.Growth.{BeginsWith};
@@ -26,7 +26,7 @@ use al_tree::{Member, key_text, members_under};
 use al_yaml_tree::Node;
 use std::alloc::{AllocError, Global};
 
-/// What a job gives under a key of its `with`.
+/// A value under `with` of a job, with its key.
 #[derive(Clone, Copy)]
 struct JobInput<'a> {
     /// The text of the job's key.
@@ -34,7 +34,7 @@ struct JobInput<'a> {
     member: Member<'a>,
 }
 
-/// Where the value of a key of a job's `with` stands.
+/// The place of the value of a key under `with` of a job.
 fn place_of_value<'a>(job: &'a [u8], key: &'a Node, scalar: &'a Scalar) -> Place<'a>
     ensures { place_of result ≡ file_calls.place_of_value job.now (view key.now) scalar.now }
 {
@@ -52,7 +52,7 @@ fn place_of_value<'a>(job: &'a [u8], key: &'a Node, scalar: &'a Scalar) -> Place
     }
 }
 
-/// The type of what is given under a key: of what is no scalar any.
+/// The type of a value under a key: any type if it isn't a scalar.
 #[tactic(auto, using(al_base::proofs::Growing::growth, al_check_contexts::proofs::Standing::standing))]
 fn value_type<'a>(
     alloc: Global,
@@ -82,7 +82,7 @@ fn value_type<'a>(
     }
 }
 
-/// The text of a job's key; empty where there is none.
+/// The text of a job's key; empty if there is none.
 fn text_or_empty<'a>(text: Option<&'a [u8]>) -> &'a [u8]
     ensures { result.now ≡ unwrap_or (option_copied text.entry) [] }
 {
@@ -92,7 +92,7 @@ fn text_or_empty<'a>(text: Option<&'a [u8]>) -> &'a [u8]
     }
 }
 
-/// What a job's call gives, each value with its type. The environment goes to where the values stand.
+/// The values that a job's call gives, each with its type. Moves the environment to the values.
 pub(crate) fn job_values<'a>(
     alloc: Global,
     file: File<'a>,

@@ -1,4 +1,4 @@
-//! The types of what a job gives to the workflow that it calls: C4.
+//! The types of the values that a job gives to the workflow that it calls: C4.
 ghost use Rattle.std.specs.Prelude.{◌≡◌, ◌++◌, List, map, OnOk};
 ghost use Rattle.std.specs.List.{flat_map};
 ghost use Rattle.std.specs.Option.{option_copied};
@@ -19,7 +19,7 @@ use al_expr_types::{Base, Ty};
 use al_tree::{InputType, Member, key_text};
 use std::alloc::AllocError;
 
-/// What is given under a name, and its type, of the file's table.
+/// A value with its name and its type, which refers to the file's table.
 #[derive(Clone, Copy)]
 pub(crate) struct Value<'a> {
     pub(crate) member: Member<'a>,
@@ -82,7 +82,7 @@ fn check_value(
     }
 }
 
-/// C4 of all values, against what a file shows.
+/// Adds C4 of all values, against a signature.
 fn check_all(
     call: Call<'_>,
     values: &[Value<'_>],
@@ -99,7 +99,7 @@ fn check_all(
     Ok(())
 }
 
-/// C4 of what a job gives, against what the called file shows, if it may be called.
+/// Adds C4 of the values that a job gives, against the signature of the called file, if the job can call it.
 pub(crate) fn check_values(
     call: Call<'_>,
     values: &[Value<'_>],

@@ -6,7 +6,7 @@ use Rattle.al_check_contexts.specs.Contexts.{OutputNames}
 use Rattle.al_check_contexts.specs.declared.known.Answer.{Answer}
 use Rattle.al_check_contexts.specs.declared.known.Answers.{Answers}
 
--- the names of the outputs of a job or, with its index, of a step of a job or of an action; None where nothing is known of them
+-- the names of the outputs of a job or, with its index, of a step of a job or of an action; None if nothing is known of them
 pub record Behind : Type 0 where
   pub job : Option (List ℕ)
   pub step : Option ℕ
@@ -16,11 +16,11 @@ pub record Behind : Type 0 where
 abbrev pub is_at : Option (List ℕ) → Option ℕ → Behind → Bool
 is_at job step b = option_eq (λ i k. i == k) b.step step && option_eq bytes_eq b.job job
 
--- the names that the first at a place has
+-- the names of the first answer at a place
 abbrev pub known_in : List Behind → OutputNames
 known_in bs job step = option_and_then (λ b. b.names) (find (is_at job step) bs)
 
--- how an answer of the code is seen, by the lists of names that it has a position in
+-- the meaning of the program's answer, given the lists of names that its position refers to
 abbrev pub behind_of : List (List (List ℕ)) → Answer → Behind
 behind_of lists a = record { job = option_copied a.job; step = a.step; names = option_and_then (slice_get lists) a.names }
 

@@ -25,15 +25,15 @@ use Rattle.al_types.specs.Strings.{named_strings}
 use Rattle.al_check_objects.specs.Objects.{strictly, loose_strings, loose_any}
 use Rattle.al_types.specs.Puts.{TypedName, firsts}
 
--- What is known of the names of outputs behind calls: of a job by its key, and with an index of a step of a job or, without a key, of
--- an action. None where nothing is.
+-- What is known of the names of outputs behind calls: of a job by its key, of a step by its index and the key of its job, or without a
+-- key in an action. None if nothing is known.
 abbrev pub OutputNames : Type 0
 OutputNames = Option (List ℕ) → Option ℕ → Option (List (List ℕ))
 
 abbrev pub nothing_known : OutputNames
 nothing_known job step = None
 
--- `steps`: each step with an id, of those that are seen; of equal ids the first
+-- `steps`: each step with an id, among those that are seen; the first of those with equal ids
 abbrev pub step_type : Type' → Type'
 step_type outputs = strictly ((codes "conclusion", String) ∷ (codes "outcome", String) ∷ (codes "outputs", outputs) ∷ [])
 
@@ -47,7 +47,7 @@ seen_of no_step steps = []
 seen_of (before n) steps = take n steps
 seen_of every_step steps = steps
 
--- steps, with the key of the job that they are of; an action's without one
+-- steps, with the key of the job that they belong to, or none for an action
 abbrev pub Owner : Type 0
 Owner = Option (List ℕ) × List Node
 
@@ -55,7 +55,7 @@ abbrev pub steps_type : OutputNames → Option Owner → Seen → Type'
 steps_type known owner seen =
     option_map_or (λ o. strictly (firsts (filter_map (step_field known o.0) (enumerate_from 0 (seen_of seen o.1))))) owner Any
 
--- what a job shows to others: its result, and its outputs, those of the called workflow where it calls one
+-- a job as others see it: its result, and its outputs, which are those of the called workflow if it calls one
 abbrev pub job_outputs : OutputNames → Node × Node → Type'
 job_outputs known j =
     if has_value (codes "uses") j.1 then option_map_or named_strings (known (Some (key_of j)) None) loose_any
@@ -68,7 +68,7 @@ job_field known j =
 abbrev pub jobs_type : OutputNames → List (Node × Node) → Type'
 jobs_type known jobs = strictly (firsts (map (job_field known) jobs))
 
--- `needs`: the direct dependencies that exist; a name means the first such job, in any ASCII case
+-- `needs`: the direct dependencies that exist; a name refers to the first job with it, ignoring ASCII case
 abbrev pub dependency : OutputNames → List (Node × Node) → List ℕ → Option TypedName
 dependency known jobs name = option_map (job_field known) (find (λ j. same_name (key_of j) name) jobs)
 
@@ -76,7 +76,7 @@ abbrev pub needs_type : OutputNames → List (Node × Node) → Node → Type'
 needs_type known jobs job =
     strictly (firsts (filter_map (λ t. dependency known jobs (text_of t.0)) (texts_at (codes "needs") job)))
 
--- the job of a section, with its key; none where there is none
+-- the job of a section, with its key, if there is one
 abbrev pub job_in : List (Node × Node) → Section → Option (Node × Node)
 job_in jobs (in_job k) = find (λ j. bytes_eq (key_of j) k) jobs
 job_in jobs _ = None
@@ -91,7 +91,8 @@ abbrev pub jobs_in : OutputNames → List (Node × Node) → Section → Type'
 jobs_in known jobs apart = Any
 jobs_in known jobs _ = jobs_type known jobs
 
--- The table of contexts. Some are the same in every file; the others are any where they aren't there. An action has no section but `apart`.
+-- The table of contexts. Some are the same in every file; the others are any where they aren't available. An action has only the section
+-- `apart`.
 abbrev pub context_type_at : FileKind → OutputNames → Node → Position → Context → Type'
 context_type_at k known root p context.Github = github_type
 context_type_at k known root p context.Env = loose_strings

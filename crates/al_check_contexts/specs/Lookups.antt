@@ -1,4 +1,4 @@
--- What is found in maps that are made once for a file.
+-- Lookups in maps that are made once per file.
 use Rattle.std.specs.Prelude.{ℕ, List, [], ◌∷◌, Option, Some, codes, map, option_map, option_and_then, slice_get, if◌then◌else◌}
 use Rattle.std.specs.BTreeMap.{get_by}
 use Rattle.std.specs.Cmp.Lexicographic.{slice_cmp}
@@ -12,11 +12,11 @@ use Rattle.al_check_contexts.specs.Contexts.{OutputNames, job_field, step_type}
 use Rattle.al_check_objects.specs.Objects.{loose_any, loose_strings, strictly}
 use Rattle.al_check_contexts.specs.declared.known.Outputs.{Outputs}
 
--- the names at a place, None where nothing is known of them; None where nothing was answered there
+-- the names at a place, if there is an answer there; Some None if nothing is known of them
 abbrev pub Found : Type 0
 Found = Option (List ℕ) → Option ℕ → Option (Option (List (List ℕ)))
 
--- the lists of names, and the one at a position among them
+-- the lists of names, and the one at a position
 abbrev pub lists_of : Outputs → List (List (List ℕ))
 lists_of o = map (λ l. l.now) o.lists.now
 
@@ -28,25 +28,25 @@ found_at o job step =
     option_map (option_and_then (list_at o)) (get_by
     (λ k. ordering_then (option_cmp (slice_cmp nat_cmp) job (option_copied k.0)) (option_cmp nat_cmp step k.1)) o.positions)
 
--- with an answer in front
+-- with one more answer at the front
 abbrev pub and_found : Behind → Found → Found
 and_found b found job step = if is_at job step b then Some b.names else found job step
 
 abbrev pub known_by : Outputs → OutputNames
 known_by o job step = option_and_then (λ names. names) (found_at o job step)
 
--- the type of a step by the position of the names of its outputs
+-- the type of a step, by the position of its list of outputs
 abbrev pub step_at : Outputs → ℕ → Type'
 step_at o i = step_type (option_map_or named_strings (list_at o i) loose_strings)
 
--- what a job shows to others that has outputs of a type
+-- the type of a job whose outputs have a type
 abbrev pub shown_with : Type' → Type'
 shown_with outputs = strictly ((codes "result", String) ∷ (codes "outputs", outputs) ∷ [])
 
--- what a job that calls a workflow shows, likewise by a position
+-- the type of a job that calls a workflow, by the position of its list of outputs
 abbrev pub called_at : Outputs → ℕ → Type'
 called_at o i = shown_with (option_map_or named_strings (list_at o i) loose_any)
 
--- what the job at a position shows
+-- the type of the job at a position
 abbrev pub shown_at : Outputs → List (Node × Node) → ℕ → Type'
 shown_at o js i = option_map_or (λ j. (job_field (known_by o) j).1) (slice_get js i) Any

@@ -1,4 +1,4 @@
--- What is made once a file.
+-- The types that are made once per file.
 use Rattle.std.specs.Prelude.{◌≡◌, List, [], Option, Some, map}
 use Rattle.al_yaml_tree.specs.Node.{Node}
 use Rattle.al_tree.specs.Values.{member_of}
@@ -13,18 +13,18 @@ use Rattle.al_check_contexts.specs.declared.basis.Basis.{Basis}
 use Rattle.al_check_contexts.specs.declared.jobs.JobTypes.{JobTypes}
 use Rattle.al_check_contexts.specs.declared.known.Outputs.{Outputs}
 
--- the type that is kept of jobs without outputs is what these show
+-- the kept type of jobs without outputs is right
 pub record KeepsBare (types : Types) (made : Option Ty) : Type 0 where
   pub each : (t : Ty) → made ≡ Some t → Means types t (shown_with (named_strings []))
 
--- each type that is kept of jobs is that of its position
+-- each kept type of a job is that of its position
 pub record KeepsJobs (types : Types) (known : Outputs) (js : List (Node × Node)) (m : JobTypes) : Type 0 where
   pub calls : Keeps types (called_at known) m.calls
   pub shown : Keeps types (shown_at known js) m.shown
   pub bare : KeepsBare types m.bare
   pub all : (t : Ty) → m.all ≡ Some t → Means types t (jobs_type (known_by known) js)
 
--- the jobs of a basis, and what it knows
+-- the jobs of a basis, and what is known in it
 abbrev pub jobs_from : Basis → List (Node × Node)
 jobs_from b = map member_of b.jobs.now.members.items
 

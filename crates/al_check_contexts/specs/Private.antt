@@ -1,2 +1,2 @@
--- Words that only contracts of private functions need: no definition of what the product means stands on them.
+-- Terms that only contracts of private functions need. No definition of what the product means uses them.
 pub mod Owners

@@ -18,11 +18,11 @@ use Rattle.al_check_contexts.specs.Contexts.{OutputNames, context_type_at}
 abbrev pub of_action : List Context
 of_action = Github ∷ Env ∷ Vars ∷ Runner ∷ Job ∷ Strategy ∷ Needs ∷ Jobs ∷ Steps ∷ Matrix ∷ Inputs ∷ []
 
--- the status functions in conditions alone
+-- the status functions only in conditions
 abbrev pub special_in_action : Bool → List Function
 special_in_action is_condition = if is_condition then special else HashFiles ∷ []
 
--- In a workflow the row of the place decides, and without one every context is there.
+-- In a workflow the row of the place decides; without one, every context is available.
 abbrev pub available_at : FileKind → Option Row → Bool → Available
 available_at kind.Workflow row is_condition = option_map_or (λ r. available r.contexts r.special) row (available contexts [])
 available_at kind.Action row is_condition = available of_action (special_in_action is_condition)

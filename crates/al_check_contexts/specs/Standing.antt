@@ -1,4 +1,4 @@
--- What holds of an environment that stands at a position of a file.
+-- The invariant of an environment at a position of a file.
 use Rattle.std.specs.Prelude.{◌≡◌, map}
 use Rattle.al_yaml_tree.specs.View.{view}
 use Rattle.al_tree.specs.Values.{member_of}
@@ -17,8 +17,8 @@ use Rattle.al_check_contexts.specs.Table.{Shows, position}
 use Rattle.al_check_contexts.specs.declared.env.Env.{Env}
 use Rattle.al_check_contexts.specs.declared.env.File.{File}
 
--- its jobs are the file's, as is what is known; the numbers of its contexts stand for the types of its section, of which as many steps are
--- seen as it has counted; and what it has made and keeps is right
+-- its jobs and what is known are the file's; its contexts have the types of its section, where as many steps are seen as it has counted;
+-- and the types that it keeps are right
 pub record Stands (f : File) (e : Env) : Type 0 where
   pub members : map member_of e.jobs.members.items ≡ jobs_of (view f.root.now)
   pub known : known_by e.outputs ≡ known_of f.known

@@ -1,4 +1,4 @@
--- Numbers of a table of types that stand for the types of contexts: for all of a position, those that a file fixes, those of a section.
+-- The types of contexts in a table of types: all at a position, those that are the same in a file, those of a section.
 use Rattle.std.specs.Prelude.{List, Option}
 use Rattle.std.specs.Option.{option_map_or}
 use Rattle.al_types.specs.Types.{Any, Type'}
@@ -20,7 +20,7 @@ use Rattle.al_check_contexts.specs.declared.start.FixedTypes.{FixedTypes}
 abbrev pub position : Section → Seen → Position
 position s seen = record { section = s; seen = seen }
 
--- each context's number stands for its type
+-- each context has its type
 pub record Shows (types : Types) (ts : ContextTypes) (m : Context → Type') : Type 0 where
   pub each : (c : Context) → Means types (context_number ts c) (m c)
 
@@ -31,7 +31,7 @@ pub record AreFixed (types : Types) (ts : FixedTypes) : Type 0 where
   pub runner : Means types ts.runner runner_type
   pub job : Means types ts.job job_type
 
--- the types of a section of a workflow with these jobs, of which this is the section's
+-- the types of a section of a workflow with these jobs, one of which is the section's
 pub record AreOfSection (types : Types) (known : OutputNames) (js : List (Node × Node)) (s : Section)
     (job : Option (Node × Node)) (st : SectionTypes) : Type 0 where
   pub strategy : Means types st.strategy (option_map_or (λ j. strategy_type) job Any)

@@ -1,14 +1,14 @@
-//! What types are made from.
+//! What the types of contexts are made from.
 
 use crate::job_lists::JobList;
 use crate::known::Outputs;
 use al_expr_types::Ty;
 use std::alloc::Global;
 
-/// What the types of a file are made from, which is the same at each of its places.
+/// What the types of contexts are made from, as far as it is the same everywhere in a file.
 #[derive(Clone, Copy)]
 pub(crate) struct Basis<'s, 'a> {
-    /// The memory for what isn't kept in the table of types.
+    /// The allocator for what isn't kept in the table of types.
     pub(crate) alloc: Global,
     pub(crate) jobs: &'s JobList<'a>,
     /// What is known of the outputs behind calls.

@@ -1,9 +1,9 @@
-//! Types that are made once.
+//! A cache of types.
 
 use al_expr_types::Ty;
 use std::alloc::{AllocError, Global};
 
-/// Types by positions, as far as they were made: who asks again is given the same number.
+/// Types by position, as far as they were made, so that each is made once.
 #[derive(Drop)]
 pub(crate) struct TypeCache {
     pub(crate) made: Vec<Option<Ty>>,
@@ -16,7 +16,7 @@ impl TypeCache {
     ghost use Rattle.al_check_objects.specs.Numbers.{Means};
     ghost use Rattle.al_expr_types.specs.declared.types.Types as declared;
 
-    /// None of so many types. Fails with `AllocError` when out of memory.
+    /// An empty cache for this many positions. Fails with `AllocError` when out of memory.
     pub(crate) fn new(alloc: Global, len: usize) -> Result<TypeCache, AllocError>
         ensures { IfOk result (λ c. (types : declared.Types) (at : ℕ → Type') → Keeps types at c) }
     {
@@ -27,7 +27,7 @@ impl TypeCache {
         Ok(TypeCache { made })
     }
 
-    /// The type at a position, where it was made.
+    /// The type at a position, if it was made.
     pub(crate) fn get(&self, i: usize) -> Option<Ty>
         ensures { IfSome result
             (λ t. (types : declared.Types) (at : ℕ → Type') → Keeps types at self.now
@@ -39,7 +39,7 @@ impl TypeCache {
         self.made[i]
     }
 
-    /// Keeps the type of a position.
+    /// Stores the type at a position.
     pub(crate) fn set(&mut self, i: usize, ty: Ty)
         ensures { (types : declared.Types) (at : ℕ → Type') → Keeps types at self.old
             → Means types ty (at i) → Keeps types at self.new }

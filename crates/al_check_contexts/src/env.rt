@@ -1,4 +1,4 @@
-//! The types of contexts, as the walk through a file goes on.
+//! The types of contexts along a walk through a file.
 ghost use Rattle.std.specs.Prelude.{◌≡◌, IfOk, OnOk, IsTrue};
 ghost use Rattle.al_base.specs.Growth.{BeginsWith};
 ghost use Rattle.al_check_contexts.specs.Scopes as scopes;
@@ -31,7 +31,7 @@ use al_types::Available;
 use al_yaml_tree::Node;
 use std::alloc::{AllocError, Global};
 
-/// A file: what it is, its tree, and what is known of the outputs behind its calls.
+/// A file: its kind, its tree, and what is known of the outputs behind its calls.
 #[derive(Clone, Copy)]
 pub struct File<'a> {
     pub kind: FileKind,
@@ -39,7 +39,7 @@ pub struct File<'a> {
     pub known: Answers<'a>,
 }
 
-/// The types of contexts at a position, and the table that they are of. From one position to the next only those are made anew that change.
+/// The types of contexts at a position, and the table that they refer to. From one position to the next, only what changes is made anew.
 #[derive(Drop)]
 pub struct Env<'a> {
     section: Section<'a>,
@@ -52,11 +52,11 @@ pub struct Env<'a> {
     /// The type of `strategy` in jobs.
     strategy: Ty,
     job_types: JobTypes,
-    /// The types of steps, by the position of the names of their outputs.
+    /// The types of steps, by the position of their lists of outputs.
     step_types: TypeCache,
     /// The file's types. Expressions may add objects.
     pub types: Types<'a>,
-    /// What an expression can refer to at the place that `go_to` went to last.
+    /// What an expression can refer to at the place of the last `go_to`.
     pub scope: Scope,
 }
 
@@ -80,7 +80,7 @@ fn is_same_section(a: Section<'_>, b: Section<'_>) -> bool
     }
 }
 
-/// Goes on to another section, where no step is seen.
+/// Moves to another section, to where no step is seen.
 #[tactic(auto, using(al_base::proofs::Growing::growth))]
 fn enter_section<'a>(
     alloc: Global,
@@ -116,7 +116,7 @@ fn enter_section<'a>(
     Ok(())
 }
 
-/// Goes on to a section.
+/// Moves to a section.
 fn enter<'a>(
     alloc: Global,
     file: File<'a>,
@@ -135,7 +135,7 @@ fn enter<'a>(
     enter_section(alloc, file, env, section)
 }
 
-/// Goes on to what is seen in the same section.
+/// Moves to where these steps are seen, in the same section.
 fn see<'a>(file: File<'a>, env: &mut Env<'a>, seen: Seen) -> Result<(), AllocError>
     requires { Stands file env.old }
     ensures stands { OnOk result (Stands file.entry env.new) }
@@ -157,7 +157,7 @@ fn see<'a>(file: File<'a>, env: &mut Env<'a>, seen: Seen) -> Result<(), AllocErr
     Ok(())
 }
 
-/// Goes on to a position of the file.
+/// Moves to a position of the file.
 #[tactic(auto, using(al_base::proofs::Growing::growth))]
 fn go<'a>(
     alloc: Global,
@@ -188,7 +188,7 @@ impl<'a> Env<'a> {
     {
         let jobs = JobList::of(alloc, file.root)?;
         let outputs = Outputs::of(alloc, file.known)?;
-        // The last position is that of outputs that aren't known.
+        // The last position stands for unknown outputs.
         let positions = outputs.unknown_position().saturating_add(1);
         let job_types = JobTypes::new(alloc, positions, jobs.as_slice().len())?;
         let mut step_types = TypeCache::new(alloc, positions)?;
@@ -225,10 +225,10 @@ impl<'a> Env<'a> {
         })
     }
 
-    /// Goes on to a place of the file: `scope` is then what an expression can refer to there. From one place to the next one of
-    /// the file only what changes is made anew; places can come in any order. Types of before stay what they are.
+    /// Moves to a place of the file: `scope` is then what an expression can refer to there. Only what changes is made anew, which is
+    /// least if places come in the order of the file. Types made before stay valid.
     ///
-    /// Fails with `AllocError` when out of memory; the environment isn't to be used any more then.
+    /// Fails with `AllocError` when out of memory; the environment can't be used any more then.
     pub fn go_to(
         &mut self,
         alloc: Global,

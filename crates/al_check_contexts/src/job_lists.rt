@@ -1,4 +1,4 @@
-//! The jobs of a workflow, found by their keys.
+//! The jobs of a workflow, by key.
 ghost use Rattle.std.specs.Prelude.{◌≡◌, ◌<◌, IfOk, length, map, option_map, slice_get};
 ghost use Rattle.al_base.specs.NamePlaces.{first_at, name_place, name_position, text_place, text_position};
 ghost use Rattle.al_base.specs.Names.{same_name};
@@ -15,13 +15,13 @@ use al_tree::{Member, key_texts, members_under};
 use al_yaml_tree::Node;
 use std::alloc::{AllocError, Global};
 
-/// The jobs of a workflow. Finding one takes time that grows with the logarithm of their number.
+/// The jobs of a workflow. Finding one takes time logarithmic in their number.
 #[derive(Drop)]
 pub(crate) struct JobList<'a> {
     members: Vec<Member<'a>>,
-    /// Where each key first stands. Two jobs may have keys that are the same but for ASCII case.
+    /// The first position of each key. Two jobs can have keys that differ only in ASCII case.
     keys: TextPositions<'a>,
-    /// Where each key first stands, without regard to ASCII case.
+    /// The first position of each key, ignoring ASCII case.
     names: NamePositions,
     ghost by_key: { text_position keys ≡ text_place (keys_in (map member_of members.items)) },
     ghost by_name: { name_position names ≡ name_place (keys_in (map member_of members.items)) },
@@ -73,7 +73,7 @@ impl<'a> JobList<'a> {
         }
     }
 
-    /// Where the first job of a name stands, in any ASCII case. Fails with `AllocError` when out of memory.
+    /// The position of the first job with a name, ignoring ASCII case. Fails with `AllocError` when out of memory.
     pub(crate) fn position_of(
         &self,
         alloc: Global,

@@ -1,4 +1,4 @@
-//! What a job shows to others, made once a file, and the types of `jobs` and `needs`.
+//! The types of jobs as others see them, each made once per file, and the types of `jobs` and `needs`.
 ghost use Rattle.std.specs.Prelude.{◌≡◌, ◌<◌, [], IfOk, OnOk, List, codes, length, true};
 ghost use Rattle.std.specs.Option.{option_to_list};
 ghost use Rattle.al_base.specs.Growth.{BeginsWith};
@@ -26,10 +26,10 @@ use al_tree::{Member, has_value, key_text, members_under, texts_under};
 use al_yaml_tree::Node;
 use std::alloc::{AllocError, Global};
 
-/// What jobs show to others, as far as it was asked for.
+/// The types of jobs as others see them, as far as they were made.
 #[derive(Drop)]
 pub(crate) struct JobTypes {
-    /// By the position of the names of outputs, of jobs that call a workflow.
+    /// Of jobs that call a workflow, by the position of their lists of outputs.
     pub(crate) calls: TypeCache,
     /// By the job's position.
     pub(crate) shown: TypeCache,
@@ -39,7 +39,7 @@ pub(crate) struct JobTypes {
     pub(crate) all: Option<Ty>,
 }
 
-/// What a job shows that has these outputs. Fails with `AllocError` when out of memory, as all here.
+/// The type of a job with these outputs. Fails with `AllocError` when out of memory, as everything here does.
 fn shown_with(alloc: Global, types: &mut Types<'_>, outputs: Ty) -> Result<Ty, AllocError>
     requires { is_known types.old outputs ≡ true }
     ensures ty { IfOk result (λ t. Means types.new t (shown_with (type_at types.old outputs))) }
@@ -54,7 +54,7 @@ fn shown_with(alloc: Global, types: &mut Types<'_>, outputs: Ty) -> Result<Ty, A
     Ok(ty)
 }
 
-/// What a job that calls a workflow shows, by the position of the names of its outputs.
+/// The type of a job that calls a workflow, by the position of its list of outputs.
 #[tactic(auto, using(al_base::proofs::Growing::growth))]
 fn called_type<'a>(
     types: &mut Types<'a>,
@@ -76,7 +76,7 @@ fn called_type<'a>(
     Ok(ty)
 }
 
-/// What a job shows that has no outputs. It is made once.
+/// The type of a job without outputs, which is made once.
 #[tactic(auto, using(al_base::proofs::Growing::growth))]
 fn bare_type(alloc: Global, types: &mut Types<'_>, made: &mut Option<Ty>) -> Result<Ty, AllocError>
     requires { KeepsBare types.old made.old }
@@ -93,7 +93,7 @@ fn bare_type(alloc: Global, types: &mut Types<'_>, made: &mut Option<Ty>) -> Res
     Ok(ty)
 }
 
-/// What a job shows that calls no workflow.
+/// The type of a job that doesn't call a workflow.
 #[tactic(auto, using(al_base::proofs::Growing::growth))]
 fn own_type<'a>(
     alloc: Global,
@@ -119,7 +119,7 @@ fn own_type<'a>(
 }
 
 impl JobTypes {
-    /// Nothing of so many calls and jobs.
+    /// No types yet, for this many lists of outputs and jobs.
     pub(crate) fn new(alloc: Global, calls: usize, jobs: usize) -> Result<JobTypes, AllocError>
         ensures { IfOk result
             (λ m. (types : declared.Types) (known : outputs.Outputs) (js : List (tree.Node
@@ -136,7 +136,7 @@ impl JobTypes {
         })
     }
 
-    /// What a job shows.
+    /// The type of a job.
     fn type_of<'a>(
         &mut self,
         types: &mut Types<'a>,
@@ -163,7 +163,7 @@ impl JobTypes {
         Ok(ty)
     }
 
-    /// What the job at a position shows.
+    /// The type of the job at a position, which is made once.
     fn get<'a>(
         &mut self,
         types: &mut Types<'a>,
@@ -185,7 +185,7 @@ impl JobTypes {
         Ok(ty)
     }
 
-    /// An object of what all jobs show.
+    /// The object of the types of all jobs.
     fn object_of_jobs<'a>(
         &mut self,
         types: &mut Types<'a>,
@@ -228,7 +228,7 @@ impl JobTypes {
         Ok(ty)
     }
 
-    /// Fields, and what the first job of a name shows, where there is one, unless a field has its name.
+    /// Appends the type of the first job with a name as a field, if there is such a job and no field with its name.
     fn and_dependency<'a>(
         &mut self,
         types: &mut Types<'a>,

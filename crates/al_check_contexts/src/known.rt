@@ -8,30 +8,30 @@ use al_expr_types::NameList;
 use std::alloc::{AllocError, Global};
 use std::collections::BTreeMap;
 
-/// What is known of the outputs behind a call: of a job by its key, of a step of a job by the job's key and the step's index, and of
-/// a step of an action by its index alone. Of the answers at one place the first counts.
+/// What is known of the outputs behind a call: of a job, by its key; of a step of a job, by the job's key and the step's index; of a step
+/// of an action, by its index. Of several answers at one place the first counts.
 #[derive(Clone, Copy)]
 pub struct Answer<'a> {
-    /// The key of the job; none of an action's step.
+    /// The key of the job; `None` for a step of an action.
     pub job: Option<&'a [u8]>,
-    /// The index of the step, counted from 0; none where the job itself calls.
+    /// The index of the step, from 0; `None` if the job itself calls.
     pub step: Option<usize>,
-    /// The position of the names of the outputs in `Answers::lists`, counted from 0; none where nothing is known of them. A position at
-    /// which no list stands says the same.
+    /// The position of the names of the outputs in `Answers::lists`, from 0; `None` if nothing is known of them. A position without a
+    /// list means the same.
     pub names: Option<usize>,
 }
 
-/// What is known of the outputs behind the calls of a file. Calls with one position in `lists` have the same outputs, of which the type
-/// is made once.
+/// What is known of the outputs behind the calls of a file. Calls with the same position in `lists` have the same outputs, whose type is
+/// made once.
 #[derive(Clone, Copy)]
 pub struct Answers<'a> {
-    /// The answers, in any order but for those at one place of a file.
+    /// The answers; only the order of those at the same place matters.
     pub answers: &'a [Answer<'a>],
-    /// The lists of names that answers have positions in.
+    /// The lists of names to which the positions in answers refer.
     pub lists: &'a [&'a NameList],
 }
 
-/// What answers make known, found by the place of the call.
+/// What is known from answers, by the place of the call.
 #[derive(Drop)]
 pub(crate) struct Outputs<'a> {
     /// The positions of the names in `lists`.
@@ -40,7 +40,7 @@ pub(crate) struct Outputs<'a> {
 }
 
 impl<'a> Outputs<'a> {
-    /// What these answers make known. Fails with `AllocError` when out of memory.
+    /// What is known from these answers. Fails with `AllocError` when out of memory.
     pub(crate) fn of(alloc: Global, known: Answers<'a>) -> Result<Outputs<'a>, AllocError>
         ensures { IfOk result (λ o. known_by o ≡ known_of known.entry) }
     {
@@ -56,7 +56,7 @@ impl<'a> Outputs<'a> {
         Ok(outputs)
     }
 
-    /// Adds an answer in front of the others.
+    /// Adds an answer before the others.
     fn push_front(&mut self, answer: Answer<'a>) -> Result<(), AllocError>
         ensures found { OnOk result
             (found_at self.new ≡ and_found (behind_of (lists_of self.old) answer.entry)
@@ -68,7 +68,7 @@ impl<'a> Outputs<'a> {
         Ok(())
     }
 
-    /// How many lists of names there are, which is the position of those that aren't known.
+    /// The number of lists, which serves as the position of unknown outputs.
     pub(crate) fn unknown_position(&self) -> usize
         ensures { result ≡ length (lists_of self.now) }
     {
@@ -85,7 +85,7 @@ impl<'a> Outputs<'a> {
         }
     }
 
-    /// The position of the names of the outputs behind a call, or `unknown`. Calls with one position have the same outputs.
+    /// The position of the list of the outputs behind a call, or `unknown`. Calls with the same position have the same outputs.
     pub(crate) fn position(&self, job: Option<&'a [u8]>, step: Option<usize>) -> usize
         ensures { list_at self.now result ≡ known_by self.now (option_copied job.entry) step }
     {
@@ -95,7 +95,7 @@ impl<'a> Outputs<'a> {
         }
     }
 
-    /// The names at a position.
+    /// The list of names at a position.
     pub(crate) fn list(&self, position: usize) -> Option<&'a NameList>
         ensures { option_map (λ l. l.now) result ≡ list_at self.now position }
     {

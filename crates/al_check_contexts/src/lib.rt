@@ -1,5 +1,5 @@
-//! What an expression can refer to at each place of a workflow or an action: the types of contexts, by the table of a file's types, and
-//! which contexts and special functions stand there.
+//! What an expression can refer to at each place of a workflow or an action: the types of contexts, which refer to the file's table of
+//! types, and which contexts and special functions are available.
 #![tactic(auto)]
 
 mod basis;

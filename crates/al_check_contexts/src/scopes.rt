@@ -23,7 +23,7 @@ const OF_ACTION: &[Context] = &[
     Context::Inputs,
 ];
 
-/// The special functions of an action: those that tell how a job went so far stand in conditions alone.
+/// The special functions of an action: those that tell the status of the job so far are available only in conditions.
 fn special_in_action(is_condition: bool) -> &'static [Function]
     ensures { result.now ≡ scopes.special_in_action is_condition }
 {

@@ -1,4 +1,4 @@
-//! The types of contexts that change with the section, and whose steps are seen there.
+//! The types of contexts that depend on the section, and the steps that are seen there.
 ghost use Rattle.std.specs.Prelude.{◌≡◌, IfOk, OnOk, option_map};
 ghost use Rattle.std.specs.Option.{option_map_or};
 ghost use Rattle.al_types.specs.Types.{Any};
@@ -26,7 +26,7 @@ use al_tree::{FileKind, Member, action_steps, is_composite, items_under, key_tex
 use al_yaml_tree::Node;
 use std::alloc::{AllocError, Global};
 
-/// The types of contexts that change with the section alone.
+/// The types of contexts that depend only on the section.
 #[derive(Clone, Copy)]
 pub(crate) struct SectionTypes {
     pub(crate) strategy: Ty,
@@ -35,7 +35,7 @@ pub(crate) struct SectionTypes {
     pub(crate) matrix: Ty,
 }
 
-/// The type of `strategy` in a job or outside of jobs, from that in jobs.
+/// The type of `strategy` in a job, or outside of jobs, given that in jobs.
 fn strategy_at(in_job: Ty, job: Option<Member<'_>>) -> Ty
     ensures { (types : declared.Types) → Means types in_job strategy_type
         → Means types result (option_map_or (λ j. strategy_type) (option_map member_of job.entry) Any) }
@@ -106,7 +106,7 @@ fn jobs_at<'a>(
     }
 }
 
-/// The types in a section, which is that of a job. Fails with `AllocError` when out of memory.
+/// The types in a section, given its job. Fails with `AllocError` when out of memory.
 #[tactic(auto, using(al_base::proofs::Growing::growth))]
 pub(crate) fn section_types<'a>(
     types: &mut Types<'a>,
@@ -134,7 +134,7 @@ pub(crate) fn section_types<'a>(
     })
 }
 
-/// The steps that are seen in a section: in a workflow those of its job, in an action its own where it is composite.
+/// The steps of a section: in a workflow those of its job, in a composite action the action's own.
 pub(crate) fn owner_at<'a>(
     kind: FileKind,
     root: &'a Node,

@@ -1,4 +1,4 @@
-//! The type of `steps`: its fields are made once for all steps of a job or an action, and each step sees the first of them.
+//! The type of `steps`: its fields are made once for all steps of a job or an action, and each step sees some first of them.
 ghost use Rattle.std.specs.Prelude.{◌≡◌, ◌-◌, ◌≤◌, [], IfOk, List, None, Option, OnOk, length, option_map, true};
 ghost use Rattle.std.specs.Option.{option_copied, option_map_or, option_to_list};
 ghost use Rattle.al_base.specs.Growth.{BeginsWith};
@@ -27,15 +27,15 @@ use al_expr_types::{FieldMap, NameList, Prefixes, Ty, Types};
 use al_tree::text_under;
 use std::alloc::{AllocError, Global};
 
-/// The fields of `steps` where all steps of a job or an action are seen, and how many of them are seen where fewer steps are.
+/// The fields of `steps` if all steps of a job or an action are seen, and how many of them are if fewer steps are.
 #[derive(Drop)]
 pub(crate) struct StepFields<'a> {
     prefixes: Prefixes<'a>,
-    /// By the number of steps that are seen, from none to all. Where `steps` is nobody's there are no counts.
+    /// How many fields there are, by the number of steps seen. Empty if there are no steps to see.
     counts: Vec<usize>,
 }
 
-/// The type of a step that has these outputs. Fails with `AllocError` when out of memory, as all here.
+/// The type of a step with these outputs. Fails with `AllocError` when out of memory, as everything here does.
 fn step_with(alloc: Global, types: &mut Types<'_>, outputs: Ty) -> Result<Ty, AllocError>
     requires { is_known types.old outputs ≡ true }
     ensures ty { IfOk result
@@ -55,7 +55,8 @@ fn step_with(alloc: Global, types: &mut Types<'_>, outputs: Ty) -> Result<Ty, Al
     Ok(ty)
 }
 
-/// The type of the outputs of a step or a job, by what is known of them: others are of this type where nothing is.
+/// The type of the outputs of a step or a job, by what is known of them. If nothing is, it is an object whose fields
+/// have this type.
 pub(crate) fn outputs_type<'a>(
     alloc: Global,
     types: &mut Types<'a>,
@@ -77,7 +78,7 @@ pub(crate) fn outputs_type<'a>(
     }
 }
 
-/// The type of a step, by the position of the names of its outputs. It is made once.
+/// The type of a step, by the position of its list of outputs, which is made once.
 #[tactic(auto, using(al_base::proofs::Growing::growth))]
 fn step_type<'a>(
     types: &mut Types<'a>,
@@ -99,7 +100,7 @@ fn step_type<'a>(
     Ok(ty)
 }
 
-/// Fields, and that of a step, where it has an id that no field has.
+/// Appends the field of a step, if the step has an id and no field has it.
 fn and_step<'a>(
     types: &mut Types<'a>,
     basis: &Basis<'_, 'a>,
@@ -128,7 +129,7 @@ fn and_step<'a>(
 }
 
 impl<'a> StepFields<'a> {
-    /// Where `steps` is nobody's.
+    /// For a section without steps.
     fn none(alloc: Global) -> Result<StepFields<'a>, AllocError>
         ensures steps { IfOk result
             (λ s. (types : declared.Types) (known : OutputNames) → AreStepsOf types known None s) }
@@ -139,7 +140,7 @@ impl<'a> StepFields<'a> {
         Ok(StepFields { prefixes, counts })
     }
 
-    /// Those of an owner, or of nobody.
+    /// The fields for the steps of an owner, if there is one.
     pub(crate) fn of(
         types: &mut Types<'a>,
         basis: &Basis<'_, 'a>,
@@ -165,7 +166,7 @@ impl<'a> StepFields<'a> {
         }
     }
 
-    /// Those of an owner's steps.
+    /// The fields for the steps of an owner.
     fn of_owner(
         types: &mut Types<'a>,
         basis: &Basis<'_, 'a>,
@@ -212,7 +213,7 @@ impl<'a> StepFields<'a> {
         }
     }
 
-    /// The type of `steps` where so many are seen.
+    /// The type of `steps` if this many steps are seen.
     pub(crate) fn first(&mut self, types: &mut Types<'a>, count: usize) -> Result<Ty, AllocError>
         requires prefixes { ArePrefixes types.old self.old }
         requires inside { count ≤ length (self.old).counts.items - 1 }

@@ -7,7 +7,8 @@ ghost use Rattle.al_check_contexts.specs.Rows.Workflows as workflows;
 ghost use Rattle.al_tree.specs.declared.files.FileKind.TheVariants as kind;
 ghost use Rattle.std.specs.Prelude.{◌≡◌, [], ◌∷◌, codes, true};
 
-/// The types of contexts at places of small files: where the place starts, the context, and its type. Does nothing.
+/// The types of contexts at places of small files: the start of the place, the context, and its type. Does nothing at
+/// run time.
 pub fn rows()
     ensures file_0 { holds kind.Workflow matrices.file_0 ((76, codes "needs", (ObjectOf NoField Strict)) ∷ (
       76,

@@ -1,4 +1,4 @@
--- The faults of the expressions in a scalar, with their places in the file.
+-- The faults of the expressions in a scalar, with their spans in the file.
 use Rattle.std.specs.Prelude.{ℕ, List, [], ◌∷◌, ◌++◌, ◌+◌, ◌-◌, ◌==◌, ◌<◌, ◌^◌, Bool, true, false, ◌||◌, ◌&&◌, not, length, map}
 use Rattle.std.specs.Prelude.{slice_range, if◌then◌else◌}
 use Rattle.std.specs.List.{flat_map}
@@ -18,7 +18,7 @@ use Rattle.al_expr_typing.specs.Meaning.{faults_found, meaning_of, type_found}
 use Rattle.al_tree.specs.Faults.{has_chunk}
 use Rattle.al_check_places.specs.Places.{Place}
 
--- the chunks of a text of so many bytes are one, from its start to its end
+-- the chunks of a text with this many bytes are a single one, from its start to its end
 abbrev pub is_whole_span : ℕ → List Span → Bool
 is_whole_span len (s ∷ []) = (s.start == 3) && (s.end + 2 == len)
 is_whole_span len _ = false
@@ -26,21 +26,21 @@ is_whole_span len _ = false
 abbrev pub is_one_chunk : List ℕ → Bool
 is_one_chunk bytes = is_whole_span (length bytes) (chunks_of bytes).chunks
 
--- there is a place behind each byte of the text, and behind the scalar
+-- there is an offset after each byte of the text, and after the scalar
 abbrev pub HasRoom : Scalar → Type 0
 HasRoom s = (i : ℕ) → offset_of s i + 1 < 2 ^ 32
 
--- the span in the file of the bytes of a scalar's text from one index up to another; an empty one is at the first
+-- the span in the file of the bytes of a scalar's text between two indexes; an empty one is at the first
 abbrev pub span_in_file : Scalar → ℕ → ℕ → Span
 span_in_file s i j =
     if i == j then record { start = offset_of s i; end = offset_of s i }
     else record { start = offset_of s i; end = offset_of s (j - 1) + 1 }
 
--- a fault of a content that begins at an index
+-- a fault of an expression that begins at an index
 abbrev pub fault_in_file : Scalar → ℕ → Fault → Fault
 fault_in_file s by f = record f { span = span_in_file s (by + f.span.start) (by + f.span.end) }
 
--- X18: an object or array, beside other text or where only a scalar is taken
+-- X18: an object or array beside other text, or where only a scalar is accepted
 abbrev pub collection_faults : Bool → Bool → Type' → Tree → List Fault
 collection_faults is_alone is_scalar_only t tree =
     if is_collection t && (not is_alone || is_scalar_only) then expression_fault code.NotText (extent tree) [] ∷ [] else []
@@ -49,7 +49,7 @@ abbrev pub tree_faults : Scope → Bool → Bool → Tree → List Fault
 tree_faults sc is_alone is_scalar_only tree =
     faults_found (meaning_of sc tree) ++ collection_faults is_alone is_scalar_only (type_found (meaning_of sc tree)) tree
 
--- X1 to X6 stand alone
+-- an expression with X1 to X6 has no other fault
 abbrev pub content_faults : Scope → Bool → Bool → List ℕ → List Fault
 content_faults sc is_alone is_scalar_only bytes =
     option_map_or (λ f. f ∷ []) (fault_of_content bytes) (tree_faults sc is_alone is_scalar_only (tree_of_content bytes))

@@ -14,18 +14,18 @@ use Rattle.al_check_contexts.specs.Scopes.{scope_at}
 use Rattle.al_check_expressions.specs.Contents.{place_faults}
 use Rattle.al_expr_grammar.specs.Inside.{AllLie}
 
--- at a place of the file, under what can be referred to there
+-- the faults at a place of the file, given what expressions can refer to there
 abbrev pub expression_faults_at : FileKind → OutputNames → Node → Place → List Fault
 expression_faults_at kind known root p = place_faults (scope_at kind known root p) p
 
 abbrev pub expression_faults : FileKind → OutputNames → Node → List Fault
 expression_faults kind known root = flat_map (expression_faults_at kind known root) (places_of kind root)
 
--- where the tree's nodes lie in a file of so many bytes, and each byte of its texts comes from there
+-- the faults lie in the file if the tree's nodes do, and each byte of its texts comes from there
 abbrev pub ExpressionFaultsLie : Type 0
 ExpressionFaultsLie = (size : ℕ) (kind : FileKind) (known : OutputNames) (root : Node) → IsLaid size root → AreFrom size root →
     AllLie size (expression_faults kind known root)
 
--- a text without `${{` that is no condition has no fault, wherever it stands: so it is right that it has no place
+-- a text without `${{` that isn't a condition has no fault, wherever it is, so it needs no place
 abbrev pub PlainTextsAreRight : Type 0
 PlainTextsAreRight = (scope : Scope) (p : Place) → p.is_condition ≡ false → has_chunk (text_of p.word) ≡ false → place_faults scope p ≡ []

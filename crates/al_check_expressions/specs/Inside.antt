@@ -1,4 +1,4 @@
--- What holds of each scalar that is checked, and so of the places of its faults.
+-- Properties of each scalar that is checked, from which those of its faults follow.
 use Rattle.std.specs.Prelude.{ℕ, ◌≤◌, length, IsUtf8}
 use Rattle.al_base.specs.Spans.{LiesIn}
 use Rattle.al_base.specs.Limits.{largest_file, longest_text}
@@ -7,13 +7,13 @@ use Rattle.al_scalar.specs.Scalar.{text_of}
 use Rattle.al_check_places.specs.Places.{Place}
 use Rattle.al_check_expressions.specs.Contents.{HasRoom}
 
--- its text is UTF-8, of at most 4,194,304 bytes, and each offset has room behind it
+-- its text is UTF-8 with at most 4,194,304 bytes, and there is an offset after each byte
 pub record IsReadable (p : Place) : Type 0 where
   pub utf8 : IsUtf8 (text_of p.word)
   pub small : length (text_of p.word) ≤ longest_text
   pub room : HasRoom p.word
 
--- a place whose scalar lies in a file of so many bytes, and each byte of its text comes from there
+-- the scalar of a place lies in a file with this many bytes, and each byte of its text comes from there
 pub record IsThere (size : ℕ) (p : Place) : Type 0 where
   pub span : LiesIn size p.at
   pub placed : IsPlaced largest_file p.word p.at

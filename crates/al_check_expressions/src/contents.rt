@@ -1,4 +1,4 @@
-//! The expressions of one scalar: their faults, with their places in the file.
+//! The faults of the expressions in one scalar, with their spans in the file.
 #![tactic(auto, using(al_base::proofs::Growing::growth, al_expr_typing::proofs::Shown::shown))]
 
 ghost use Rattle.std.specs.List.{flat_map};
@@ -24,7 +24,7 @@ use al_scalar::Scalar;
 use al_tree::contains_chunk;
 use std::alloc::AllocError;
 
-/// The offset in the file of a place in a scalar's text; behind the text the end of the scalar.
+/// The offset in the file of an index of a scalar's text; at the text's end, the end of the scalar.
 #[tactic(auto, using(crate::proofs::EndLemmas::same_end))]
 fn offset(scalar: &Scalar, i: usize) -> u32
     ensures { result ≡ offset_of scalar.now i }
@@ -37,7 +37,7 @@ fn offset(scalar: &Scalar, i: usize) -> u32
     }
 }
 
-/// The span in the file of the bytes of a scalar's text from one index up to another.
+/// The span in the file of the bytes of a scalar's text between two indexes.
 fn span_in_file(scalar: &Scalar, i: usize, j: usize) -> Span
     requires { HasRoom scalar.now }
     ensures { result ≡ contents.span_in_file scalar.now i j }
@@ -52,18 +52,19 @@ fn span_in_file(scalar: &Scalar, i: usize, j: usize) -> Span
     }
 }
 
-/// The text of a scalar, as its contents are checked.
+/// A scalar, and what the check of an expression in it depends on.
 #[derive(Clone, Copy)]
 struct Text<'s> {
     scope: &'s Scope,
     scalar: &'s Scalar,
-    /// Whether a content of it is all of it.
+    /// Whether the expression is all of its text.
     is_alone: bool,
-    /// Whether nothing but a scalar is taken where it stands.
+    /// Whether only a scalar is accepted at its place.
     is_scalar_only: bool,
 }
 
-/// Adds the faults of a tree: those of its meaning, and behind them that it is an object or array where none may stand.
+/// Adds the faults of an expression's tree: those of its meaning, then that it is an object or array where neither is
+/// allowed.
 fn check_tree(
     types: &mut Types<'_>,
     text: &Text<'_>,
@@ -83,7 +84,7 @@ fn check_tree(
     Ok(())
 }
 
-/// Adds the faults of a content. Spans are places in it.
+/// Adds the faults of an expression, with spans relative to its start.
 fn check_content(
     types: &mut Types<'_>,
     text: &Text<'_>,
@@ -102,7 +103,7 @@ fn check_content(
     }
 }
 
-/// A fault of a content that begins at an index, at its place in the file.
+/// A fault of an expression that begins at an index, with its span in the file.
 fn move_fault(scalar: &Scalar, by: usize, fault: Fault) -> Fault
     requires room { HasRoom scalar.now }
     requires fits { by < 2 ^ 32 }
@@ -119,7 +120,7 @@ fn move_fault(scalar: &Scalar, by: usize, fault: Fault) -> Fault
     }
 }
 
-/// Adds the faults of a content that begins at an index, at their places in the file.
+/// Adds the faults of an expression that begins at an index, with their spans in the file.
 fn move_faults(
     scalar: &Scalar,
     by: usize,
@@ -136,7 +137,7 @@ fn move_faults(
     Ok(())
 }
 
-/// Whether the chunks of a text of so many bytes are one, from its start to its end.
+/// Whether these chunks are a single one that extends over all bytes of a text.
 fn is_one(len: usize, chunks: &[Chunk<'_>]) -> bool
     ensures { result ≡ is_whole_span len (map span_of_chunk chunks.now) }
 {
@@ -194,7 +195,7 @@ fn check_each(
     Ok(())
 }
 
-/// Adds the faults of the text at a place as chunks.
+/// Adds the faults of the chunks of the text at a place.
 fn check_chunks(
     types: &mut Types<'_>,
     scope: &Scope,
@@ -249,7 +250,7 @@ fn check_whole(
     move_faults(place.scalar, 0, found.into_faults(), faults)
 }
 
-/// Whether the text at a place is one expression as it stands: that of a condition without a chunk.
+/// Whether the whole text at a place is one expression: the place is a condition, and the text has no chunk.
 pub(crate) fn is_whole(place: &Place<'_>) -> bool
     ensures { result ≡ contents.is_whole (place_of place.now) }
 {

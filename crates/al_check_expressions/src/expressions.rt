@@ -22,7 +22,7 @@ use al_check_contexts::{Env, File};
 use al_check_places::{Place, places};
 use std::alloc::AllocError;
 
-/// Adds the faults of the expressions at a place, to which the environment goes on.
+/// Moves the environment to a place, and adds the faults of the expressions there.
 fn check_at<'a>(
     file: File<'a>,
     env: &mut Env<'a>,
@@ -66,11 +66,11 @@ fn check_each<'a>(
     Ok(())
 }
 
-/// Adds the faults of all expressions of a file, X1 to X20, each at its place in the file, given what is known of the outputs
-/// behind its calls. The environment goes on to the last place of an expression.
+/// Adds the faults of all expressions of a file, X1 to X20, with spans in the file, given what is known of the outputs behind its calls.
+/// Moves the environment to the last place with an expression.
 ///
 /// Offsets of the file's nodes are at most 1,048,576, and its texts are UTF-8. Fails with `AllocError` when out of memory; what the sink
-/// then holds isn't said.
+/// holds then is unspecified.
 pub fn expression_faults<'a>(
     file: File<'a>,
     env: &mut Env<'a>,

@@ -1,4 +1,4 @@
-//! The expressions of workflows and actions: their faults, at their places in the file. Types go by the table of the file.
+//! The faults of the expressions in workflows and actions. Types refer to the file's table of types.
 #![tactic(auto)]
 
 mod contents;

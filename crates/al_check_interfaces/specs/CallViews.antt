@@ -1,4 +1,4 @@
--- What the program's sites and calls stand for.
+-- The meaning of the program's sites and calls.
 use Rattle.std.specs.Prelude.{ℕ, List, Option, option_map}
 use Rattle.std.specs.Borrow.{Bor}
 use Rattle.al_tree.specs.Values.{scalar_node_of}

@@ -17,7 +17,7 @@ use Rattle.al_check_interfaces.specs.declared.forms.Form.TheVariants.{Local, Oth
 abbrev pub is_some_text : List ℕ → Bool
 is_some_text bs = nat_lt 0 (length bs)
 
--- a byte that cuts a REF off from the parts before it, which have to pass a test: an `@` with something behind it
+-- a byte that separates a REF from the parts before it, which have to pass a test: an `@` with something after it
 abbrev pub is_cut : (List (List ℕ) → Bool) → List (List ℕ) → ℕ → List ℕ → Bool
 is_cut test before b ref = b == ascii "@" && is_some_text ref && test before
 
@@ -33,16 +33,16 @@ is_workflow_parts (a ∷ b ∷ f ∷ []) =
     bytes_eq a (codes ".github") && bytes_eq b (codes "workflows") && is_workflow_name f
 is_workflow_parts _ = false
 
--- which parts before a REF a step may name, and which a job
+-- which parts before a REF a step can name, and which a job
 abbrev pub is_remote : Caller → List (List ℕ) → Bool
 is_remote caller.Step ps = nat_lt 1 (length ps) && list_all is_some_text ps
 is_remote caller.Job ps = list_all is_some_text ps && is_workflow_parts (drop 2 ps)
 
--- bytes that aren't UTF-8 are no path; no text of a file is so
+-- bytes that aren't UTF-8 aren't a path; no text of a file has such bytes
 abbrev pub path_in : List ℕ → Option (List ℕ)
 path_in bs = if is_utf8 bs && is_none (path_fault_of bs) then Some bs else None
 
--- `./DIR`, a trailing slash dropped
+-- `./DIR` without a trailing slash
 abbrev pub without_slash : List ℕ → List ℕ
 without_slash rest = if ends_with nat_eq rest (codes "/") then take (length rest - 1) rest else rest
 

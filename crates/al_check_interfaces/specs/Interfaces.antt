@@ -1,5 +1,5 @@
--- What a file shows to its callers (GitHub, "Workflow syntax", `on.workflow_call`; "Metadata syntax", `inputs`, `outputs`, `runs`):
--- no spans, no descriptions.
+-- The interface of a file, which its callers see (GitHub, "Workflow syntax", `on.workflow_call`; "Metadata syntax", `inputs`, `outputs`,
+-- `runs`). It has no spans and no descriptions.
 use Rattle.std.specs.Prelude.{ℕ, List, [], ◌∷◌, Bool, false, ◌||◌, codes, map, Option, option_map, if◌then◌else◌}
 use Rattle.std.specs.List.{list_any}
 use Rattle.std.specs.Option.{option_map_or}
@@ -25,7 +25,7 @@ use Rattle.al_check_interfaces.specs.declared.interfaces.Signature.{Signature}
 use Rattle.al_check_interfaces.specs.declared.signatures.Declaring.{Declaring}
 use Rattle.al_check_interfaces.specs.declared.signatures.Declaring.TheVariants as declared
 
--- `true` in any ASCII case and any style
+-- `true`, ignoring ASCII case, in any style
 abbrev pub is_true : Node → Bool
 is_true n = option_map_or (λ s. same_name (text_of s) (codes "true")) (scalar_in n) false
 
@@ -79,7 +79,7 @@ signature_of kind.Action n = record {
   outputs = keys_in (declared_below (codes "outputs" ∷ []) n);
 }
 
--- of a file with this root
+-- the interface of a file with this root
 abbrev pub interface_of : FileKind → Node → Interface
 interface_of k (mapping es at) = Readable (signature_of k (mapping es at))
 interface_of k n = Unreadable

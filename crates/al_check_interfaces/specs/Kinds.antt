@@ -1,4 +1,4 @@
--- The parameters of a kind that a file shows.
+-- The parameters of a kind in a signature.
 use Rattle.std.specs.Prelude.{List}
 use Rattle.al_check_interfaces.specs.declared.interfaces.Parameter.{Parameter}
 use Rattle.al_check_interfaces.specs.declared.interfaces.ParameterKind.{ParameterKind}

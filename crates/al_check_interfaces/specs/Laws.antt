@@ -1,4 +1,4 @@
--- What holds of the steps and jobs of any file: they lie in it, and so do their calls.
+-- The steps and jobs of any file lie in it, and so do their calls.
 use Rattle.std.specs.Prelude.{ℕ}
 use Rattle.std.specs.List.{AllByRecursion}
 use Rattle.al_base.specs.Spans.{LiesIn}

@@ -1,4 +1,4 @@
--- The parameters of a file: which of them have a name, in any ASCII case, and which each call has to give.
+-- The parameters of a file: which of them have a name, ignoring ASCII case, and which are mandatory.
 use Rattle.std.specs.Prelude.{ℕ, List, Bool, ◌&&◌, not, map}
 use Rattle.std.specs.List.{filter}
 use Rattle.al_base.specs.Names.{same_name}
@@ -12,7 +12,7 @@ is_parameter name p = same_name p.name name
 abbrev pub has_parameter : List Parameter → List ℕ → Bool
 has_parameter ps = named_among (map (λ p. p.name) ps)
 
--- each call has to give it
+-- a parameter is mandatory: each call has to give it
 abbrev pub is_mandatory : Parameter → Bool
 is_mandatory p = p.required && not p.has_default
 

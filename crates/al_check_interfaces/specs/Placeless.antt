@@ -1,4 +1,4 @@
--- Trees without their places, and that an interface has none: neither spans nor, under an input, anything but what calls see.
+-- Trees without spans, and the laws that an interface depends neither on spans nor, under an input, on what calls don't see.
 use Rattle.std.specs.Prelude.{◌≡◌, codes, map}
 use Rattle.al_scalar.specs.Line.{Cell}
 use Rattle.al_scalar.specs.Scalar.{Scalar}
@@ -13,7 +13,7 @@ use Rattle.al_check_interfaces.specs.declared.signatures.Declaring.{Declaring}
 abbrev pub placeless_scalar : Scalar → Scalar
 placeless_scalar s = record { style = s.style; class = s.class; cells = map (λ (c : Cell). (c.0, 0)) s.cells; end = 0 }
 
--- a tree whose nodes and texts all lie at the offset 0
+-- a tree with all nodes and texts moved to the offset 0
 abbrev mutual
   pub placeless : Node → Node
   placeless (scalar s at) = scalar (placeless_scalar s) (span 0 0)
@@ -28,11 +28,11 @@ abbrev mutual
   placeless_entries no_entries = no_entries
   placeless_entries (entry k v es) = entry (placeless k) (placeless v) (placeless_entries es)
 
--- trees that differ in their places alone show the same
+-- trees that differ only in spans have the same interface
 abbrev pub ShowsNoPlaces : Type 0
 ShowsNoPlaces = (kind : FileKind) (root : Node) → interface_of kind (placeless root) ≡ interface_of kind root
 
--- entries that differ in other keys alone, as in a description, declare the same
+-- entries that differ only in other keys, such as a description, declare the same parameter
 abbrev pub ShowsNothingElse : Type 0
 ShowsNothingElse = (by : Declaring) (e f : Node × Node) → key_of e ≡ key_of f
     → value_at (codes "required") e.1 ≡ value_at (codes "required") f.1

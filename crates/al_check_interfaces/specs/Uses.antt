@@ -1,4 +1,4 @@
--- The calls of a file: the steps and the jobs that may call, what the text of their `uses` names, and which name a file of the folder.
+-- The calls of a file: the steps and jobs that call, what the text of their `uses` names, and which name a file in the folder.
 use Rattle.std.specs.Prelude.{ℕ, List, [], ◌∷◌, codes, map, Option, Some, None, is_some, option_map, if◌then◌else◌}
 use Rattle.std.specs.List.{flat_map, filter_map, enumerate_from}
 use Rattle.std.specs.Str.Lossy.{utf8_lossy}
@@ -22,7 +22,7 @@ use Rattle.al_check_interfaces.specs.Forms.{form_by}
 use Rattle.al_check_interfaces.specs.declared.forms.Form.{Form}
 use Rattle.al_check_interfaces.specs.declared.forms.Form.TheVariants.{Local, Wrong}
 
--- a job, by the text of its key, or a step, by its number and by its job, none in an action
+-- a job, by the text of its key, or a step, by its index and its job, which an action doesn't have
 pub record Site : Type 0 where
   pub job : Option (List ℕ)
   pub step : Option ℕ
@@ -45,7 +45,7 @@ abbrev pub sites_in : FileKind → Node → List Site
 sites_in kind.Workflow root = flat_map job_sites (jobs_of root)
 sites_in kind.Action root = if is_composite root then step_sites None (action_steps root) else []
 
--- a call: who calls, the text of `uses` with its span, and what that names
+-- a call: who calls, the text of `uses` with its span, and what the text names
 pub record Call : Type 0 where
   pub site : Site
   pub at : Span
@@ -77,10 +77,10 @@ abbrev pub target_in : Form → Option Target
 target_in (Local t) = Some t
 target_in form = None
 
--- the targets of the calls of files of the folder, in order
+-- the targets of the calls of files in the folder, in order
 abbrev pub targets_of : List Call → List Target
 targets_of = filter_map (λ c. target_in c.form)
 
--- what is said of each such call where it is on a call cycle, C9
+-- C9 of each such call, to be reported if the call is on a call cycle
 abbrev pub cycle_faults : List Call → List Fault
 cycle_faults = filter_map (λ c. option_map (λ t. that_uses code.LeadsBack c) (target_in c.form))

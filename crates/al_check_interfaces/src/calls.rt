@@ -1,4 +1,4 @@
-//! The calls of files of the folder, as reading a file keeps them.
+//! The calls of files in the folder, as kept with a file that was read.
 ghost use Rattle.std.specs.Prelude.{◌≡◌, ◌++◌, [], map, slice_get, IfOk, List, OnOk, Some};
 ghost use Rattle.std.specs.List.{cons_option, filter_map, flat_map};
 ghost use Rattle.al_check_interfaces.specs.Forms as forms;
@@ -12,18 +12,18 @@ use al_base::{Args, CallCode, Caller, Code, Fault, FaultSink};
 use al_session_folder::Target;
 use std::alloc::{AllocError, Global};
 
-/// A call of a file of the folder.
+/// A call of a file in the folder.
 #[derive(Drop)]
 pub struct FolderCall {
     /// Its number among all calls of its file, from 0.
     pub number: usize,
     /// What it calls.
     pub target: Target,
-    /// What is said of it where it is on a call cycle: C9, at its `uses`, with its text.
+    /// The fault to report if it is on a call cycle: C9, at its `uses`, with its text.
     pub fault: Fault,
 }
 
-/// What a `uses` is.
+/// What the text of a `uses` names.
 fn form(alloc: Global, caller: Caller, text: &[u8]) -> Result<Form, AllocError>
     ensures { IfOk result (λ f. f ≡ forms.form_by caller text.now) }
 {
@@ -33,7 +33,7 @@ fn form(alloc: Global, caller: Caller, text: &[u8]) -> Result<Form, AllocError>
     }
 }
 
-/// A fault at a `uses` that names its text.
+/// A fault at the `uses` of a call that names its text.
 fn that_uses(alloc: Global, code: CallCode, call: Call<'_>) -> Result<Fault, AllocError>
     ensures { IfOk result (λ f. f ≡ calling.that_uses code (call_of call.entry)) }
 {
@@ -44,7 +44,7 @@ fn that_uses(alloc: Global, code: CallCode, call: Call<'_>) -> Result<Fault, All
     })
 }
 
-/// Adds a call to those that are kept, if it names a file of the folder, or the fault of a `uses` that is wrong.
+/// Adds a call to those that are kept, if it names a file in the folder, or the fault of an invalid `uses`.
 fn add_call(
     number: usize,
     call: Call<'_>,
@@ -76,8 +76,7 @@ fn add_call(
     }
 }
 
-/// The calls of files of the folder, of all calls of a file, in order. Adds the faults of a `uses` that names nothing, C7, which depend on
-/// no other file.
+/// Of all calls of a file, those of files in the folder, in order. Adds the faults of invalid `uses`, C7, which depend on no other file.
 ///
 /// Fails with `AllocError` when out of memory.
 pub fn folder_calls(

@@ -1,4 +1,4 @@
-//! Copies of interfaces, with memory of their own.
+//! Copies of interfaces.
 ghost use Rattle.std.specs.Prelude.{◌≡◌, IfOk};
 
 use crate::interfaces::{Interface, Parameter, Signature};
@@ -6,7 +6,7 @@ use crate::lists::Parameters;
 use al_expr_types::Name;
 use std::alloc::{AllocError, Global};
 
-/// The name of an interface, where it has one.
+/// A copy of the name of an interface, if it has one.
 fn copy_of_title(alloc: Global, name: &Option<Name>) -> Result<Option<Name>, AllocError>
     ensures { IfOk result (λ copy. copy ≡ name.now) }
 {
@@ -59,11 +59,11 @@ fn copy_of_signature(alloc: Global, signature: &Signature) -> Result<Signature, 
 }
 
 impl Interface {
-    /// A copy, with memory of its own.
+    /// A copy.
     ///
     /// # Errors
     ///
-    /// [`AllocError`] where memory ran out.
+    /// [`AllocError`] if memory runs out.
     pub fn copy(&self, alloc: Global) -> Result<Interface, AllocError>
         ensures { IfOk result (λ copy. copy ≡ self.now) }
     {

@@ -5,7 +5,7 @@ ghost use Rattle.al_check_interfaces.specs.Forms.{form_by};
 ghost use Rattle.al_check_interfaces.specs.declared.forms.Form.TheVariants.{Local, Other, Wrong};
 ghost use Rattle.std.specs.Prelude.{◌≡◌, codes};
 
-/// What some texts of `uses` name, as the definitions give it. Does nothing.
+/// What some texts of `uses` name, by the definition. Does nothing at run time.
 pub fn rows()
     ensures folder { form_by Step (codes "./a") ≡ Local (FirstOf (codes "a/action.yml") (codes "a/action.yaml")) }
     ensures slash_behind { form_by Step (codes "./a/") ≡ Local (FirstOf (codes "a/action.yml") (codes "a/action.yaml")) }

@@ -13,11 +13,12 @@ use std::alloc::{AllocError, Global};
 /// What the text of a `uses` names.
 #[derive(Drop)]
 pub(crate) enum Form {
-    /// A file of the folder, by the paths of which the first that is there answers.
+    /// A file in the folder, by candidate paths, of which the first that exists answers.
     Local(Target),
-    /// Something else: an image, an action or a workflow of another repository, a folder that can't hold a file.
+    /// Something else: an image, an action or a workflow of another repository, or a folder that can't contain a
+    /// file.
     Other,
-    /// Nothing: it is no right `uses`.
+    /// Nothing: the `uses` is invalid.
     Wrong,
 }
 
@@ -44,7 +45,7 @@ fn is_workflow_parts(parts: &[&[u8]]) -> bool
     }
 }
 
-/// Whether the parts behind the first two, of which one is apart, are those of a workflow's path.
+/// Whether the parts after the first two, the last of which is given apart, are those of a workflow's path.
 fn is_workflow_behind(done: &[&[u8]], last: &[u8]) -> bool
     ensures { result
         ≡ forms.is_workflow_parts (drop 2 (map (λ p. p.now) done.now ++ last.now ∷ [])) }
@@ -55,7 +56,7 @@ fn is_workflow_behind(done: &[&[u8]], last: &[u8]) -> bool
     }
 }
 
-/// What stands before a byte of a text: the parts that slashes end, whether all of these are texts, and the part behind the last slash.
+/// What is before a byte of a text: the parts that slashes end, whether all of these are non-empty, and the part after the last slash.
 #[derive(Clone, Copy)]
 struct Before<'d, 'a> {
     done: &'d [&'a [u8]],
@@ -64,7 +65,7 @@ struct Before<'d, 'a> {
     ghost known: { whole ≡ list_all forms.is_some_text (map (λ p. p.now) done.now) },
 }
 
-/// Whether a workflow of another repository is named before a byte.
+/// Whether the text before a byte names a workflow of another repository.
 #[tactic(auto, using(crate::proofs::Cuts::all_more))]
 fn is_remote_workflow(before: Before<'_, '_>) -> bool
     ensures { result
@@ -93,7 +94,7 @@ fn is_remote(caller: Caller, before: Before<'_, '_>) -> bool
     }
 }
 
-/// Whether this byte cuts a REF off, and what stands before it may be named.
+/// Whether this byte separates a REF, and the text before it names something that can be called.
 fn is_cut(caller: Caller, before: Before<'_, '_>, byte: u8, rest: &[u8]) -> bool
     ensures { result
         ≡ forms.is_cut (forms.is_remote caller) (map (λ p. p.now) (before.entry).done.now
@@ -108,14 +109,14 @@ fn is_cut(caller: Caller, before: Before<'_, '_>, byte: u8, rest: &[u8]) -> bool
     is_remote(caller, before)
 }
 
-/// Whether parts, of which it is known whether all are texts, and one more are texts.
+/// Whether some parts, of which it is known, and one more are all non-empty.
 fn are_texts(whole: bool, part: &[u8]) -> bool
     ensures { result ≡ (whole && forms.is_some_text part.now) }
 {
     whole && !part.is_empty()
 }
 
-/// Whether some byte of a text does. Goes forward once, with the parts that are complete.
+/// Whether some byte of a text does. Goes over the text once, collecting its parts.
 fn is_some_cut(alloc: Global, caller: Caller, text: &[u8]) -> Result<bool, AllocError>
     ensures { IfOk result (λ b. b ≡ forms.is_some_cut (forms.is_remote caller) text.now) }
 {
@@ -151,8 +152,8 @@ fn remote(alloc: Global, caller: Caller, text: &[u8]) -> Result<Form, AllocError
     }
 }
 
-/// The path with these bytes, if they are one; bytes that aren't UTF-8, as no text of a file is, are none. Fails with `AllocError` when
-/// out of memory.
+/// The path with these bytes, if they are a path; bytes that aren't UTF-8, which no text of a file has, aren't. Fails with `AllocError`
+/// when out of memory.
 #[tactic(auto, using(crate::proofs::Paths::no_text, crate::proofs::Paths::as_text))]
 fn path_in(alloc: Global, bytes: &[u8]) -> Result<Option<Path>, AllocError>
     ensures { IfOk result (λ p. p ≡ forms.path_in bytes.now) }
@@ -167,7 +168,7 @@ fn path_in(alloc: Global, bytes: &[u8]) -> Result<Option<Path>, AllocError>
     }
 }
 
-/// A folder without the slash that ends it.
+/// A folder without its trailing slash.
 fn folder_of(rest: &[u8]) -> &[u8]
     ensures { result.now ≡ forms.without_slash rest.now }
 {
@@ -178,7 +179,7 @@ fn folder_of(rest: &[u8]) -> &[u8]
     }
 }
 
-/// The text of a file's path: below a folder, or in the root.
+/// The text of a file's path, in a folder or at the root.
 fn in_folder(alloc: Global, folder: &[u8], file: &[u8]) -> Result<Vec<u8>, AllocError>
     ensures { IfOk result (λ v. v.items ≡ forms.in_folder folder.now file.now) }
 {
@@ -190,7 +191,7 @@ fn in_folder(alloc: Global, folder: &[u8], file: &[u8]) -> Result<Vec<u8>, Alloc
     Ok(path)
 }
 
-/// The path of a file in a folder, if it is one.
+/// The path of a file in a folder, if it is a path.
 fn file_in(alloc: Global, folder: &[u8], file: &[u8]) -> Result<Option<Path>, AllocError>
     ensures { IfOk result (λ p. p ≡ forms.file_in folder.now file.now) }
 {
@@ -198,7 +199,7 @@ fn file_in(alloc: Global, folder: &[u8], file: &[u8]) -> Result<Option<Path>, Al
     path_in(alloc, path.as_slice())
 }
 
-/// Both candidates, if they are paths.
+/// A call of these two candidates, if both are paths.
 fn first_of(first: Option<Path>, second: Option<Path>) -> Form
     ensures { result ≡ forms.local_form first second }
 {
@@ -225,7 +226,7 @@ fn is_image(text: &[u8]) -> bool
     text.starts_with(b"docker://") && text.len() > 9
 }
 
-/// What a step's `uses` is.
+/// What the `uses` of a step names.
 pub(crate) fn step_form(alloc: Global, text: &[u8]) -> Result<Form, AllocError>
     ensures { IfOk result (λ f. f ≡ forms.form_by by.Step text.now) }
 {
@@ -254,7 +255,7 @@ fn local_job(alloc: Global, rest: &[u8]) -> Result<Form, AllocError>
     }
 }
 
-/// What a job's `uses` is.
+/// What the `uses` of a job names.
 pub(crate) fn job_form(alloc: Global, text: &[u8]) -> Result<Form, AllocError>
     ensures { IfOk result (λ f. f ≡ forms.form_by by.Job text.now) }
 {

@@ -1,5 +1,4 @@
-//! Interfaces as data. They hold no spans and no descriptions, so that an edit of a file which callers can't see leaves its
-//! interface the same.
+//! The interfaces of files. They have no spans and no descriptions, so an edit that callers can't see leaves the interface the same.
 ghost use Rattle.std.specs.Prelude.{◌≡◌};
 ghost use Rattle.al_check_interfaces.specs.Kinds.{parameters_of};
 
@@ -20,34 +19,35 @@ pub enum Role {
     Action,
 }
 
-/// An input or a secret that a file takes.
+/// An input or a secret that a file declares.
 #[derive(Drop, PartialEq, Eq)]
 pub struct Parameter {
-    /// As the file spells it.
+    /// Its name, as the file spells it.
     pub name: Name,
-    /// Whether the text of `required` is `true`, in any ASCII case and any style.
+    /// Whether the text of `required` is `true`, ignoring ASCII case, in any style.
     pub required: bool,
-    /// Whether there is a key `default`; a secret has none.
+    /// Whether there is a key `default`; `false` for a secret.
     pub has_default: bool,
-    /// Those of actions are strings, and so are secrets.
+    /// Its type; inputs of actions and secrets are strings.
     pub takes: InputType,
 }
 
-/// Which parameters: inputs, which stand under `with` of a call, or secrets, which stand under `secrets`.
+/// The kind of a parameter: inputs, which a call gives under `with`, or secrets, which it gives under `secrets`.
 #[derive(Clone, Copy, PartialEq, Eq, PartialOrd, Ord)]
 pub enum ParameterKind {
     Input,
     Secret,
 }
 
-/// What a file shows whose root is a mapping. Of names that are equal but for ASCII case each list has the first alone.
+/// The interface of a file whose root is a mapping. Of names that differ only in ASCII case, each list has only the
+/// first.
 #[derive(Drop, PartialEq, Eq)]
 pub struct Signature {
-    /// The text of `name`, where that is a scalar and not null.
+    /// The text of `name`, if it is a scalar and not null.
     pub name: Option<Name>,
     pub role: Role,
     pub inputs: Parameters,
-    /// None of an action.
+    /// Empty for an action.
     pub secrets: Parameters,
     /// The names of the outputs.
     pub outputs: NameList,
@@ -65,10 +65,10 @@ impl Signature {
     }
 }
 
-/// What a file shows to its callers.
+/// What callers see of a file.
 #[derive(Drop, PartialEq, Eq)]
 pub enum Interface {
-    /// The file is no YAML, or its root is no mapping.
+    /// The file isn't YAML, or its root isn't a mapping.
     Unreadable,
     Readable(Signature),
 }

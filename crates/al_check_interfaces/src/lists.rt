@@ -1,4 +1,4 @@
-//! The parameters of an interface. Where their names stand, and which of them each call has to give, is found once for all calls.
+//! The parameters of an interface. The positions of their names, and which of them are mandatory, are found once for all calls.
 ghost use Rattle.std.specs.Prelude.{◌≡◌, find, map, IfOk};
 ghost use Rattle.std.specs.Option.{option_copied};
 ghost use Rattle.al_base.specs.NamePlaces.{name_place, name_position};
@@ -10,8 +10,8 @@ use al_base::NamePositions;
 use std::alloc::{AllocError, Global};
 use std::marker::Model;
 
-/// Parameters in order whose names differ, where each name stands among them, and those that each call has to give. Contracts see their
-/// list. Finding one by its name takes time that grows with the logarithm of their number, and with the name's length.
+/// Parameters in order, with different names; the position of each name; and those that are mandatory. Contracts see the list. Finding
+/// one by name takes time logarithmic in their number, and linear in the name's length.
 #[derive(Drop)]
 pub struct Parameters {
     parameters: Vec<Parameter>,
@@ -43,7 +43,7 @@ fn names_of(alloc: Global, parameters: &[Parameter]) -> Result<Vec<&[u8]>, Alloc
     Ok(names)
 }
 
-/// Where the first parameter with each name stands.
+/// The position of the first parameter with each name.
 fn positions_of(alloc: Global, parameters: &[Parameter]) -> Result<NamePositions, AllocError>
     ensures { IfOk result
         (λ p. name_position p ≡ name_place (map (λ x. x.name) parameters.now)) }
@@ -53,14 +53,14 @@ fn positions_of(alloc: Global, parameters: &[Parameter]) -> Result<NamePositions
     Ok(positions)
 }
 
-/// Whether each call has to give a parameter.
+/// Whether a parameter is mandatory: each call has to give it.
 fn is_mandatory(parameter: &Parameter) -> bool
     ensures { result ≡ is_mandatory parameter.now }
 {
     parameter.required && !parameter.has_default
 }
 
-/// Copies of the parameters that each call has to give.
+/// Copies of the mandatory parameters.
 fn mandatory_in(alloc: Global, parameters: &[Parameter]) -> Result<Vec<Parameter>, AllocError>
     ensures { IfOk result (λ found. found.items ≡ mandatory_of parameters.now) }
 {
@@ -94,7 +94,7 @@ impl Parameters {
         self.parameters.as_slice()
     }
 
-    /// Those that each call has to give. Fails with `AllocError` when out of memory.
+    /// The mandatory ones. Fails with `AllocError` when out of memory.
     pub fn mandatory(&self, alloc: Global) -> Result<Vec<&Parameter>, AllocError>
         ensures { IfOk result (λ v. map (λ p. p.now) v.items ≡ mandatory_of self.now) }
     {
@@ -105,7 +105,7 @@ impl Parameters {
         Ok(found)
     }
 
-    /// The first parameter with a name, in any ASCII case. Fails with `AllocError` when out of memory.
+    /// The first parameter with a name, ignoring ASCII case. Fails with `AllocError` when out of memory.
     pub fn find(&self, alloc: Global, name: &[u8]) -> Result<Option<&Parameter>, AllocError>
         ensures { IfOk result (λ p. option_copied p ≡ find (is_parameter name.now) self.now) }
     {
@@ -115,7 +115,7 @@ impl Parameters {
         }
     }
 
-    /// Whether a parameter has a name, in any ASCII case. Fails with `AllocError` when out of memory.
+    /// Whether a parameter has a name, ignoring ASCII case. Fails with `AllocError` when out of memory.
     pub fn has(&self, alloc: Global, name: &[u8]) -> Result<bool, AllocError>
         ensures { IfOk result (λ b. b ≡ has_parameter self.now name.now) }
     {

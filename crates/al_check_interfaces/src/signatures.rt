@@ -25,15 +25,15 @@ use std::alloc::{AllocError, Global};
 /// How parameters are declared.
 #[derive(Clone, Copy)]
 enum Declaring {
-    /// As inputs of a workflow that can be called.
+    /// As inputs of a callable workflow.
     CallInputs,
     /// As inputs of an action.
     ActionInputs,
-    /// As secrets of a workflow that can be called.
+    /// As secrets of a callable workflow.
     Secrets,
 }
 
-/// Whether a node is `true`, in any ASCII case.
+/// Whether a node is `true`, ignoring ASCII case.
 fn is_true(node: &Node) -> bool
     ensures { result ≡ interfaces.is_true (view node.now) }
 {
@@ -43,7 +43,7 @@ fn is_true(node: &Node) -> bool
     }
 }
 
-/// Whether what a node declares is required.
+/// Whether the parameter that a node declares is required.
 fn is_required(node: &Node) -> bool
     ensures { result ≡ interfaces.is_required (view node.now) }
 {
@@ -53,7 +53,7 @@ fn is_required(node: &Node) -> bool
     }
 }
 
-/// Whether what is declared so has a default.
+/// Whether the parameter that a node declares has a default.
 fn has_default(by: Declaring, node: &Node) -> bool
     ensures { result ≡ interfaces.has_default by (view node.now) }
 {
@@ -64,7 +64,7 @@ fn has_default(by: Declaring, node: &Node) -> bool
     }
 }
 
-/// What a parameter that is declared so takes.
+/// The type of the parameter that a node declares.
 fn type_taken(by: Declaring, node: &Node) -> InputType
     ensures { result ≡ interfaces.type_taken by (view node.now) }
 {
@@ -103,7 +103,7 @@ fn parameters_in(
     Ok(list)
 }
 
-/// The parameters that a mapping declares, where there is one.
+/// The parameters that a node declares, if there is one.
 fn parameters(alloc: Global, by: Declaring, node: Option<&Node>) -> Result<Parameters, AllocError>
     ensures { IfOk result (λ ps. ps
         ≡ map (interfaces.parameter by)
@@ -125,7 +125,7 @@ fn names(alloc: Global, members: &[Member<'_>]) -> Result<NameList, AllocError>
     Ok(list)
 }
 
-/// The names of what a mapping declares, where there is one.
+/// The names that a node declares, if there is one.
 fn declared_names(alloc: Global, node: Option<&Node>) -> Result<NameList, AllocError>
     ensures { IfOk result (λ ns. ns
         ≡ keys_in (option_map_or declared_in (option_map (λ n. view n.now) node.entry) [])) }
@@ -134,7 +134,7 @@ fn declared_names(alloc: Global, node: Option<&Node>) -> Result<NameList, AllocE
     names(alloc, declared.as_slice())
 }
 
-/// The text of a scalar as a name, where there is one.
+/// The text of a scalar as a name, if there is one.
 fn text_name(alloc: Global, text: Option<ScalarNode<'_>>) -> Result<Option<Name>, AllocError>
     ensures { IfOk result (λ n. n
         ≡ option_map (λ t. text_of t.0) (option_map scalar_node_of text.entry)) }
@@ -159,7 +159,7 @@ fn says_call(text: ScalarNode<'_>) -> bool
     text.scalar.text() == b"workflow_call".as_slice()
 }
 
-/// Whether one of some scalars is `workflow_call`.
+/// Whether one of these scalars is `workflow_call`.
 fn has_call(texts: &[ScalarNode<'_>]) -> bool
     ensures { result ≡ list_any says_call (map scalar_node_of texts.now) }
 {
@@ -171,7 +171,7 @@ fn has_call(texts: &[ScalarNode<'_>]) -> bool
     false
 }
 
-/// Whether what stands under `on` names `workflow_call`.
+/// Whether the value of `on` names `workflow_call`.
 fn names_call(alloc: Global, on: &Node) -> Result<bool, AllocError>
     ensures { IfOk result (λ b. b ≡ interfaces.names_call (view on.now)) }
 {
@@ -196,7 +196,7 @@ fn workflow_role(alloc: Global, root: &Node) -> Result<Role, AllocError>
     }
 }
 
-/// What a workflow shows.
+/// The signature of a workflow.
 fn workflow_signature(alloc: Global, root: &Node) -> Result<Signature, AllocError>
     ensures { IfOk result (λ s. s ≡ interfaces.signature_of kind.Workflow (view root.now)) }
 {
@@ -236,7 +236,7 @@ fn action_role(root: &Node) -> Role
     }
 }
 
-/// What an action shows.
+/// The signature of an action.
 fn action_signature(alloc: Global, root: &Node) -> Result<Signature, AllocError>
     ensures { IfOk result (λ s. s ≡ interfaces.signature_of kind.Action (view root.now)) }
 {
@@ -252,7 +252,7 @@ fn action_signature(alloc: Global, root: &Node) -> Result<Signature, AllocError>
     })
 }
 
-/// What a file shows.
+/// The signature of a file.
 fn signature(alloc: Global, kind: FileKind, root: &Node) -> Result<Signature, AllocError>
     ensures { IfOk result (λ s. s ≡ interfaces.signature_of kind (view root.now)) }
 {
@@ -262,7 +262,7 @@ fn signature(alloc: Global, kind: FileKind, root: &Node) -> Result<Signature, Al
     }
 }
 
-/// What a file with this root shows to its callers. A file that is no YAML has no root, and is unreadable.
+/// The interface of a file with this root. (A file that isn't YAML has no root, and is unreadable.)
 ///
 /// Fails with `AllocError` when out of memory.
 pub fn interface_of(alloc: Global, kind: FileKind, root: &Node) -> Result<Interface, AllocError>

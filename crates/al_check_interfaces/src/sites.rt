@@ -1,4 +1,4 @@
-//! The steps and the jobs of a file that call.
+//! The steps and jobs of a file that call.
 ghost use Rattle.std.specs.Prelude.{◌≡◌, ◌++◌, [], map, option_map, IfOk, OnOk};
 ghost use Rattle.std.specs.List.{cons_option, filter_map, flat_map};
 ghost use Rattle.al_tree.specs.Values.{member_of};
@@ -18,9 +18,9 @@ use std::alloc::{AllocError, Global};
 /// A step or a job.
 #[derive(Clone, Copy)]
 pub struct Site<'a> {
-    /// The text of the job's key; none in an action.
+    /// The text of the job's key; `None` in an action.
     pub job: Option<&'a [u8]>,
-    /// The number of the step, from 0; none of a job itself.
+    /// The index of the step, from 0; `None` for the job itself.
     pub step: Option<usize>,
     pub node: &'a Node,
 }
@@ -32,7 +32,7 @@ pub struct Call<'a> {
     pub uses: ScalarNode<'a>,
 }
 
-/// Whether a step or a job stands there.
+/// Whether the site is a step or a job.
 pub fn caller_of(site: Site<'_>) -> Caller
     ensures { result ≡ calling.site_caller (site_of site.entry) }
 {
@@ -42,7 +42,7 @@ pub fn caller_of(site: Site<'_>) -> Caller
     }
 }
 
-/// The call of a step or a job, where a scalar that is not null stands under `uses`.
+/// The call of a step or a job, if the value of its `uses` is a scalar and not null.
 fn call_at(site: Site<'_>) -> Option<Call<'_>>
     ensures { option_map call_of result ≡ calling.call_at (site_of site.entry) }
 {
@@ -64,7 +64,7 @@ fn add_call<'a>(site: Site<'a>, out: &mut Vec<Call<'a>>) -> Result<(), AllocErro
     }
 }
 
-/// Adds the calls of steps, which are those of a job or of an action.
+/// Adds the calls of the steps of a job or an action.
 fn add_steps<'a>(
     job: Option<&'a [u8]>,
     steps: &'a [Node],
@@ -116,7 +116,7 @@ fn workflow_calls(alloc: Global, root: &Node) -> Result<Vec<Call<'_>>, AllocErro
     calls_of_jobs(alloc, jobs.as_slice())
 }
 
-/// The calls of the jobs of a workflow, each before those of its steps, or of the steps of a composite action.
+/// The calls of the jobs of a workflow, each before those of its steps, or those of the steps of a composite action.
 ///
 /// Fails with `AllocError` when out of memory.
 pub fn calls_in(alloc: Global, kind: FileKind, root: &Node) -> Result<Vec<Call<'_>>, AllocError>

@@ -13,7 +13,7 @@ use Rattle.al_types.specs.Strings.{named_strings}
 use Rattle.al_check_objects.specs.Objects.{strictly}
 use Rattle.al_types.specs.Puts.{TypedName, put_or_fuse, put_all}
 
--- the type of expressions that an input has
+-- the type that an input has in expressions
 abbrev pub input_type : InputType → Type'
 input_type input.Boolean = Bool'
 input_type input.Number = Number
@@ -26,7 +26,7 @@ input_field e = (key_of e, input_type (input_of e.1))
 abbrev pub event_inputs : List ℕ → Node → List TypedName
 event_inputs event root = map input_field (declared_below (codes "on" ∷ event ∷ codes "inputs" ∷ []) root)
 
--- of a workflow those of a call, and those of a dispatch fused in; of an action strings
+-- in a workflow those of its call, fused with those of its dispatch; in an action strings
 abbrev pub inputs_type : FileKind → Node → Type'
 inputs_type kind.Workflow root =
     strictly (put_all put_or_fuse (event_inputs (codes "workflow_call") root) (event_inputs (codes "workflow_dispatch") root))

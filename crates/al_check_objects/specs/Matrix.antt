@@ -19,7 +19,7 @@ use Rattle.al_tree.specs.Values.{entries_in, items_in, value_at, value_below}
 use Rattle.al_check_objects.specs.Objects.{loose_any, strictly}
 use Rattle.al_types.specs.Puts.{TypedName, firsts, put_or_fuse, put_all}
 
--- a scalar by its class; one with `${{` is any where it is one expression, else a string
+-- the type of a scalar, by its class; one with `${{` is any if it is one expression, otherwise a string
 abbrev pub class_type : Class → Type'
 class_type class.Null = Null
 class_type class.Bool = Bool'
@@ -30,14 +30,15 @@ class_type class.Str = String
 abbrev pub matrix_scalar_type : Scalar → Type'
 matrix_scalar_type s = if has_chunk (text_of s) then (if is_lone_chunk Nothing (text_of s) then Any else String) else class_type s.class
 
--- The type of a value: of a list an array of what its items have in common, of a mapping a strict object, of equal names the first.
+-- The type of a value: a sequence is an array of what its items have in common, a mapping a strict object, where the first of equal names
+-- counts.
 abbrev mutual
   pub node_type : Node → Type'
   node_type (scalar s at) = matrix_scalar_type s
   node_type (sequence ns at) = ArrayOf (or_any (option_of (items_type Absent ns)))
   node_type (mapping es at) = strictly (firsts (fields_of es))
 
-  -- what some types and those of these items have in common
+  -- what a type, if there is one, and those of these items have in common
   pub items_type : Optional → Nodes → Optional
   items_type sofar no_nodes = sofar
   items_type sofar (item n ns) = items_type (fuse_optional sofar (Present (node_type n))) ns
@@ -46,11 +47,11 @@ abbrev mutual
   fields_of no_entries = []
   fields_of (entry k v es) = (key_text k, node_type v) ∷ fields_of es
 
--- of a row: what its items have in common, any of none
+-- the type of a row: what its items have in common, or any if it has none
 abbrev pub row_type : Node → Type'
 row_type n = or_any (option_of (items_type Absent (nodes_of (items_in n))))
 
--- the rows of a matrix, of which each has a name
+-- the rows of a matrix, each of which has a name
 abbrev pub row_field : Node × Node → Option TypedName
 row_field e = if is_combination_key (key_of e) then None else Some (key_of e, row_type e.1)
 
@@ -64,7 +65,7 @@ combination n = option_map_or (λ es. firsts (fields_of (entries_of es))) (mappi
 abbrev pub include_all : List TypedName → List Node → List TypedName
 include_all = fold (λ ts n. put_all put_or_fuse ts (combination n))
 
--- an `include` that isn't known before the workflow runs
+-- an `include` that is known only when the workflow runs
 abbrev pub is_open_include : Node → Bool
 is_open_include n = is_some (scalar_in n) || list_any (λ i. is_some (scalar_in i)) (items_in n)
 
@@ -73,10 +74,10 @@ abbrev pub with_combinations : List TypedName → Option Node → Type'
 with_combinations rows None = strictly rows
 with_combinations rows (Some n) = if is_open_include n then loose_any else strictly (include_all rows (items_in n))
 
--- of a scalar, as an expression is, any field
+-- the type of a matrix; one given by a scalar, such as an expression, can have any field
 abbrev pub matrix_of : Node → Type'
 matrix_of n = if is_some (scalar_in n) then loose_any else with_combinations (rows_of n) (value_at (codes "include") n)
 
--- of a job; without a matrix it has no properties
+-- the type of `matrix` in a job; without a matrix it has no properties
 abbrev pub matrix_type : Node → Type'
 matrix_type job = option_map_or matrix_of (value_below (codes "strategy" ∷ codes "matrix" ∷ []) job) (strictly [])

@@ -1,9 +1,9 @@
-//! Lists of fields, of which objects are made.
+//! Lists of fields, from which objects are made.
 
 use al_expr_types::{FieldMap, Ty, Types};
 use std::alloc::{AllocError, Global};
 
-/// Fields in order, of equal names the first.
+/// Fields in order, only the first of those with equal names.
 #[derive(Drop)]
 pub struct FieldList<'a> {
     pub(crate) map: FieldMap<'a>,
@@ -21,7 +21,7 @@ impl<'a> FieldList<'a> {
     ghost use Rattle.al_expr_types.specs.Types.{is_rest_below, rest_in};
     ghost use Rattle.al_expr_types.specs.declared.types.Types as declared;
 
-    /// No fields. Takes no memory.
+    /// No fields. Doesn't allocate.
     pub fn new(alloc: Global) -> FieldList<'a>
         ensures { (types : declared.Types) → Lists types result [] }
     {
@@ -30,7 +30,7 @@ impl<'a> FieldList<'a> {
         }
     }
 
-    /// The fields, and one more behind them unless one has its name.
+    /// Appends a field, unless there is one with its name.
     pub fn and(self, alloc: Global, name: &'a [u8], ty: Ty) -> Result<FieldList<'a>, AllocError>
         ensures { IfOk result
             (λ l. (types : declared.Types) (ts : List TypedName) (m : Type') → Lists types self.entry ts
@@ -41,7 +41,7 @@ impl<'a> FieldList<'a> {
         Ok(FieldList { map })
     }
 
-    /// The fields, and strings of some names.
+    /// Appends string fields with these names.
     pub(crate) fn and_strings(
         self,
         alloc: Global,
@@ -66,14 +66,14 @@ impl<'a> FieldList<'a> {
         self.map.len()
     }
 
-    /// The fields, found by their names.
+    /// The fields, as a map by name.
     pub fn into_map(self) -> FieldMap<'a>
         ensures { result ≡ (self.entry).map }
     {
         self.map
     }
 
-    /// The type of an object of these fields, and of others of a type where there may be others.
+    /// The type of an object with these fields, and with others of the type `rest`, if given.
     pub fn into_type(self, types: &mut Types<'a>, rest: Option<Ty>) -> Result<Ty, AllocError>
         requires fields { is_map_below (length types.old.objects.items) self.map ≡ true }
         requires rest { is_rest_below (length types.old.objects.items) rest ≡ true }

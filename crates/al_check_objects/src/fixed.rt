@@ -85,7 +85,7 @@ const STRATEGY: &[(&[u8], Ty)] = &[
     (b"max-parallel", NUMBER),
 ];
 
-/// The type of `github`. Fails with `AllocError` when out of memory, as all here.
+/// The type of `github`. Fails with `AllocError` when out of memory, as everything here does.
 pub fn github_type(alloc: Global, types: &mut Types<'_>) -> Result<Ty, AllocError>
     ensures ty { IfOk result (λ t. Means types.new t fixed.github_type) }
     ensures kept { OnOk result (BeginsWith (objects_of types.new) (objects_of types.old)) }

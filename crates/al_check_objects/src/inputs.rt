@@ -19,7 +19,7 @@ use al_tree::{FileKind, Member, declared_at, input_of, key_text, value, value_be
 use al_yaml_tree::Node;
 use std::alloc::{AllocError, Global};
 
-/// The fields that inputs are. Fails with `AllocError` when out of memory, as all here.
+/// Inputs as fields. Fails with `AllocError` when out of memory, as everything here does.
 fn input_fields<'a>(alloc: Global, entries: &[Member<'a>]) -> Result<FieldList<'a>, AllocError>
     ensures { IfOk result
         (λ l. (types : declared.Types)
@@ -34,7 +34,7 @@ fn input_fields<'a>(alloc: Global, entries: &[Member<'a>]) -> Result<FieldList<'
     Ok(fields)
 }
 
-/// The inputs that an event of a workflow declares, as an object.
+/// The object of the inputs that an event of a workflow declares.
 fn event_inputs<'a>(
     alloc: Global,
     types: &mut Types<'a>,
@@ -52,7 +52,7 @@ fn event_inputs<'a>(
     Ok(ty)
 }
 
-/// The type of `inputs` in a workflow: what an object of the inputs of a call and one of those of a dispatch have in common.
+/// The type of `inputs` in a workflow: what the object of its call inputs and that of its dispatch inputs have in common.
 #[tactic(auto, using(al_base::proofs::Growing::growth))]
 fn workflow_inputs<'a>(
     alloc: Global,

@@ -1,5 +1,5 @@
-//! The types of objects that need no file around them: of a matrix and of inputs, which a node alone gives, and of the contexts that are
-//! the same in every file; and lists of fields, of which objects are made.
+//! The types of objects that don't depend on the rest of a file: those of a matrix and of inputs, which depend on one node, and of the
+//! contexts that are the same in every file. Also lists of fields, from which objects are made.
 #![tactic(auto)]
 
 mod field_lists;

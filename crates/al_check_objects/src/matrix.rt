@@ -28,7 +28,7 @@ use al_tree::{
 use al_yaml_tree::{Entry, Kind, Node};
 use std::alloc::{AllocError, Global};
 
-/// The type of a scalar. Fails with `AllocError` when out of memory, as all here.
+/// The type of a scalar. Fails with `AllocError` when out of memory, as everything here does.
 fn scalar_type(alloc: Global, scalar: &Scalar) -> Result<Ty, AllocError>
     ensures { IfOk result
         (λ t. (types : declared.Types) → Means types t (matrix.matrix_scalar_type scalar.now)) }
@@ -67,7 +67,7 @@ fn node_type<'a>(alloc: Global, types: &mut Types<'a>, node: &'a Node) -> Result
     }
 }
 
-/// What values have in common; any of no values.
+/// What the types of some values have in common; any type if there are no values.
 #[cycle(values)]
 fn items_type<'a>(alloc: Global, types: &mut Types<'a>, nodes: &'a [Node]) -> Result<Ty, AllocError>
     ensures ty { IfOk result
@@ -85,7 +85,7 @@ fn items_type<'a>(alloc: Global, types: &mut Types<'a>, nodes: &'a [Node]) -> Re
     Ok(ty)
 }
 
-/// The type of a mapping of these entries, of equal names the first.
+/// The type of a mapping with these entries; of equal names the first counts.
 #[cycle(values)]
 fn entries_type<'a>(
     alloc: Global,
@@ -107,7 +107,7 @@ fn entries_type<'a>(
     Ok(ty)
 }
 
-/// Rows, and that of an entry, where it is one.
+/// Rows, and the row that an entry is, if it is one.
 fn and_row<'a>(
     alloc: Global,
     types: &mut Types<'a>,
@@ -127,7 +127,7 @@ fn and_row<'a>(
     Ok(more)
 }
 
-/// An object of the rows of a matrix.
+/// The object of a matrix's rows.
 fn rows_type<'a>(alloc: Global, types: &mut Types<'a>, node: &'a Node) -> Result<Ty, AllocError>
     ensures ty { IfOk result (λ t. Means types.new t (strictly (rows_of (view node.entry.now)))) }
     ensures kept { OnOk result (BeginsWith (objects_of types.new) (objects_of types.old)) }
@@ -142,7 +142,7 @@ fn rows_type<'a>(alloc: Global, types: &mut Types<'a>, node: &'a Node) -> Result
     Ok(ty)
 }
 
-/// An object of the entries of one combination; none where it has none.
+/// The object of a combination's entries; one without fields if it isn't a mapping.
 fn combination<'a>(alloc: Global, types: &mut Types<'a>, node: &'a Node) -> Result<Ty, AllocError>
     ensures ty { IfOk result
         (λ t. Means types.new t (strictly (matrix.combination (view node.entry.now)))) }
@@ -155,7 +155,7 @@ fn combination<'a>(alloc: Global, types: &mut Types<'a>, node: &'a Node) -> Resu
     Ok(ty)
 }
 
-/// What an object of rows and one of each combination have in common: to combinations a matrix is an object as to its rows.
+/// What the object of the rows and those of the combinations have in common.
 fn include<'a>(
     alloc: Global,
     types: &mut Types<'a>,
@@ -194,14 +194,14 @@ fn has_scalar(nodes: &[Node]) -> bool
     false
 }
 
-/// Whether an `include` isn't known before the workflow runs.
+/// Whether `include` is known only when the workflow runs.
 fn is_open_include(node: &Node) -> bool
     ensures { result ≡ matrix.is_open_include (view node.now) }
 {
     is_scalar(node) || has_scalar(items(node))
 }
 
-/// The type of a matrix of these rows.
+/// The type of a matrix with these rows and its combinations.
 fn with_combinations<'a>(
     alloc: Global,
     types: &mut Types<'a>,
@@ -239,7 +239,7 @@ fn matrix_of<'a>(alloc: Global, types: &mut Types<'a>, node: &'a Node) -> Result
     Ok(ty)
 }
 
-/// The type of `matrix` in a job: of a job without one an object without fields.
+/// The type of `matrix` in a job; without a matrix an object without fields.
 pub fn matrix_type<'a>(
     alloc: Global,
     types: &mut Types<'a>,

@@ -1,4 +1,4 @@
-//! Objects of fields that are given at once.
+//! Objects with given fields.
 
 ghost use Rattle.std.specs.List.{list_all};
 ghost use Rattle.std.specs.Prelude.{◌≡◌, IfOk, OnOk, length, map, true};
@@ -17,8 +17,8 @@ use al_expr_types::{FieldMap, Ty, Types};
 use al_tree::{Member, key_texts};
 use std::alloc::{AllocError, Global};
 
-/// An object of these fields, of which no two have the same name, and of others of a type where there may be others. Fails with
-/// `AllocError` when out of memory, as all here.
+/// The object with these fields, which must have different names, and with others of the type `rest`, if given. Fails with `AllocError`
+/// when out of memory, as everything here does.
 pub fn object_of<'a>(
     alloc: Global,
     types: &mut Types<'a>,
@@ -38,7 +38,7 @@ pub fn object_of<'a>(
     Ok(ty)
 }
 
-/// An object whose fields are strings of the keys of entries, and no others.
+/// The object with a string field for the key of each entry, and no other fields.
 pub fn declared_strings<'a>(
     alloc: Global,
     types: &mut Types<'a>,

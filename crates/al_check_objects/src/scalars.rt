@@ -1,4 +1,4 @@
-//! Types without parts.
+//! The types of scalars and inputs.
 ghost use Rattle.std.specs.Prelude.{◌≡◌};
 ghost use Rattle.al_check_objects.specs.Matrix.{class_type};
 ghost use Rattle.al_expr_types.specs.Types.{scalar_type};
@@ -20,7 +20,7 @@ pub fn class_type_of(class: Class) -> Scalar
     }
 }
 
-/// The type of expressions that an input has.
+/// The type that an input has in expressions.
 pub fn type_of_input(input: InputType) -> Scalar
     ensures { scalar_type result ≡ input_type input }
 {

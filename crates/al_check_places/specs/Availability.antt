@@ -1,5 +1,5 @@
--- Which contexts and special functions stand at a place of a workflow (GitHub, "Contexts reference", context availability):
--- the table, and its longest path.
+-- Which contexts and special functions are available at a place of a workflow (GitHub, "Contexts reference", context availability): the
+-- table, and its row with the longest path.
 use Prim.Native.String.{String}
 use Rattle.std.specs.Prelude.{ℕ, List, [], ◌∷◌, ◌++◌, map, filter, Option, Some, None, length, nat_lt, if◌then◌else◌}
 use Rattle.std.specs.List.{fold}
@@ -63,10 +63,10 @@ abbrev pub longer : Option Row → Row → Option Row
 longer None r = Some r
 longer (Some q) r = if nat_lt (length q.path) (length r.path) then Some r else Some q
 
--- the longest of the rows whose path begins the keys; None where everything is available
+-- the row with the longest path that begins the keys; None if everything is available
 abbrev pub availability : List (List ℕ) → Option Row
 availability ks = fold longer None (filter (λ r. is_path_prefix r.path ks) table)
 
--- what the program's rows stand for
+-- the meaning of the program's rows
 abbrev pub row_view : rust.Row → Row
 row_view r = record { path = map key_view r.path.now; contexts = r.contexts.now; special = r.special.now }

@@ -1,4 +1,4 @@
--- What holds of the places of any file: their scalars are scalars of its tree.
+-- The scalars of any file's places are scalars of its tree.
 use Rattle.std.specs.Prelude.{ℕ, All, IsUtf8}
 use Rattle.al_scalar.specs.Offsets.{IsPlaced}
 use Rattle.al_scalar.specs.Scalar.{Scalar, text_of}

@@ -7,7 +7,7 @@ use Rattle.std.specs.Str.{bytes_eq}
 use Rattle.al_check_places.specs.declared.table.Key.{Key}
 use Rattle.al_check_places.specs.declared.table.Key.TheVariants.{Named, Id}
 
--- keys, where None stands for any
+-- keys, where None is any key
 abbrev pub Path : Type 0
 Path = List (Option (List ℕ))
 
@@ -16,13 +16,13 @@ abbrev pub path : String → Path
 path text =
     map (λ k. if bytes_eq k (codes "*") then None else Some k) (slice_split (nat_eq 46) (codes text))
 
--- the path begins the keys
+-- the keys begin with the path
 abbrev pub is_path_prefix : Path → List (List ℕ) → Bool
 is_path_prefix [] ks = true
 is_path_prefix (p ∷ ps) [] = false
 is_path_prefix (p ∷ ps) (k ∷ ks) = option_map_or (λ name. bytes_eq name k) p true && is_path_prefix ps ks
 
--- what the program's keys stand for
+-- the meaning of the program's keys
 abbrev pub key_view : Key → Option (List ℕ)
 key_view Id = None
 key_view (Named k) = Some k.now

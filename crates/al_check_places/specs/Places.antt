@@ -1,5 +1,5 @@
--- The scalars that have expressions, each with its place: found by the table of sections, so a value that doesn't fit, a value under a
--- wrong key and one under a repeated key have no place.
+-- The scalars that have expressions, each with its place. They are found by the table of sections, so a value of the wrong shape and a
+-- value under an unexpected or repeated key have no place.
 use Rattle.std.specs.Prelude.{ℕ, List, [], ◌∷◌, ◌++◌, ◌+◌, Bool, true, false, ◌&&◌, ◌||◌, not}
 use Rattle.std.specs.Prelude.{Option, Some, None, is_none, option_map, unwrap_or, if◌then◌else◌}
 use Rattle.std.specs.Option.{option_map_or}
@@ -22,8 +22,8 @@ use Rattle.al_check_places.specs.Ways.{WayStep, under, nth, keys_of, is_checked,
 use Rattle.al_check_places.specs.Positions.{Position, position_of, position_view}
 use Rattle.al_check_places.specs.declared.walk.Place as rust
 
--- A scalar with the span of its written form; whether its key takes nothing but a scalar; which contexts and special functions stand
--- there (of an action None: all); whether it is a condition, or a step's script; and where it lies.
+-- A scalar with the span of its written form; whether only a scalar is accepted there; which contexts and special functions are available
+-- (None: all, or in an action); whether it is a condition, or a step's script; and its position.
 pub record Place : Type 0 where
   pub word : Scalar
   pub at : Span
@@ -33,11 +33,11 @@ pub record Place : Type 0 where
   pub is_script : Bool
   pub position : Position
 
--- what isn't checked takes everything below it
+-- what isn't checked accepts anything
 abbrev pub rule_or_any : Option Rule → Rule
 rule_or_any r = unwrap_or r (record { scalars = AnyScalar; items = Some Any; keys_of = free Any })
 
--- no lists, and no mappings
+-- neither sequences nor mappings are accepted
 abbrev pub takes_scalars_only : Rule → Bool
 takes_scalars_only r = elim r.keys_of [ no_keys ↦ is_none r.items | _ ↦ false ]
 
@@ -56,7 +56,7 @@ place_at k way only s at = record {
   position = position_of k way;
 }
 
--- a scalar that isn't null and that the rule takes
+-- a scalar that isn't null and that the rule accepts
 abbrev pub fits : Rule → Scalar → Bool
 fits r s = not (is_null s) && is_none (scalar_fault r.scalars s)
 
@@ -64,18 +64,18 @@ fits r s = not (is_null s) && is_none (scalar_fault r.scalars s)
 abbrev pub has_expression : List WayStep → Scalar → Bool
 has_expression way s = is_one conditions (keys_of way) || has_chunk (text_of s)
 
--- one on a way that is checked
+-- the place of a scalar, if its way is checked
 abbrev pub scalar_places : FileKind → Rule → Bool → List WayStep → Scalar → Span → List Place
 scalar_places k r is_item way s at =
     if has_expression way s && fits r s && is_checked k way then place_at k way (takes_scalars_only r && not is_item) s at ∷ [] else []
 
--- of an entry, given the places of its value as a node of a shape
+-- the places of an entry, given those of its value as a node of a shape
 abbrev pub entry_places : Standing → (Shape → List Place) → List Place
 entry_places (expected s other) value = value s
 entry_places _ value = []
 
 abbrev mutual
-  -- the places of a node at the end of a way, where it should have a shape and may be an item of a list
+  -- the places of a node at the end of a way, which should have a shape and may be an item of a sequence
   pub places_of_node : FileKind → Shape → Bool → List WayStep → Node → List Place
   places_of_node k shape is_item way (scalar s at) = scalar_places k (rule_or_any (rule shape)) is_item way s at
   places_of_node k shape is_item way (sequence ns at) =
@@ -83,12 +83,12 @@ abbrev mutual
   places_of_node k shape is_item way (mapping es at) =
       places_of_entries k (rule_or_any (rule (mapping_shape shape (entries es)))).keys_of [] (among (keys_in (entries es))) way es
 
-  -- of the items of a list from the nth on
+  -- the places of the items of a sequence, from the nth on
   pub places_of_items : FileKind → Shape → List WayStep → ℕ → Nodes → List Place
   places_of_items k s way i no_nodes = []
   places_of_items k s way i (item n ns) = places_of_node k s true (way ++ nth i ∷ []) n ++ places_of_items k s way (i + 1) ns
 
-  -- of entries behind others with the keys that were seen, in a mapping with all these
+  -- the places of entries after others with the keys seen, in a mapping with all these
   pub places_of_entries : FileKind → Keys → List (List ℕ) → (List ℕ → Bool) → List WayStep → Entries → List Place
   places_of_entries k ks seen all way no_entries = []
   places_of_entries k ks seen all way (entry key v es) =
@@ -99,7 +99,7 @@ abbrev mutual
 abbrev pub places_of : FileKind → Node → List Place
 places_of k root = places_of_node k (shape_of k) false [] root
 
--- what the program's places stand for
+-- the meaning of the program's places
 abbrev pub place_of : rust.Place → Place
 place_of p = record {
   word = p.scalar.now;

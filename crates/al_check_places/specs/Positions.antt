@@ -1,4 +1,4 @@
--- Where a way leads, as far as the types of contexts depend on it.
+-- Positions in a file, as far as the types of contexts depend on them.
 use Rattle.std.specs.Prelude.{ℕ, List, ◌∷◌, ◌&&◌, ◌||◌, codes, if◌then◌else◌}
 use Rattle.std.specs.Str.{bytes_eq}
 use Rattle.al_tree.specs.declared.files.FileKind.{FileKind}
@@ -22,7 +22,7 @@ abbrev pub section_of : List WayStep → Section
 section_of (under a ∷ under b ∷ more) = if bytes_eq a (codes "on") then in_on else if bytes_eq a (codes "jobs") then in_job b else apart
 section_of _ = apart
 
--- In a step those before it are seen; in a job's `outputs` and its `environment.url`, and in an action's `outputs`, all.
+-- A step sees those before it; a job's `outputs` and `environment.url`, and an action's `outputs`, see all.
 abbrev pub seen_in_item : List ℕ → ℕ → Seen
 seen_in_item k i = if bytes_eq k (codes "steps") then steps.Before i else steps.Nothing
 
@@ -41,7 +41,7 @@ seen_at _ _ = steps.Nothing
 abbrev pub position_of : FileKind → List WayStep → Position
 position_of k way = record { section = section_of way; seen = seen_at k way }
 
--- what the program's positions stand for
+-- the meaning of the program's positions
 abbrev pub section_view : rust_section.Section → Section
 section_view rust_section.TheVariants.Apart = apart
 section_view rust_section.TheVariants.On = in_on

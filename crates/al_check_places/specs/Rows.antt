@@ -1,4 +1,4 @@
--- What worked rows are written with: small files and their trees, by hand. No definition stands on them.
+-- Terms for worked rows: small files and their trees, by hand. No definition uses them.
 pub mod Actions
 pub mod Containers
 pub mod Words

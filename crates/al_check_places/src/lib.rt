@@ -1,5 +1,5 @@
-//! The scalars of workflows and actions that have expressions, each with its place: which contexts and functions stand
-//! there, and where it lies.
+//! The scalars of workflows and actions that have expressions, each with its place: which contexts and functions are
+//! available there, and where it is.
 #![tactic(auto)]
 
 mod laws;

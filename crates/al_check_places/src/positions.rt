@@ -1,4 +1,4 @@
-//! Where a way leads, as far as the types of contexts depend on it.
+//! Positions in a file, as far as the types of contexts depend on them.
 ghost use Rattle.std.specs.Prelude.{◌≡◌, map};
 ghost use Rattle.al_check_places.specs.Positions as positions;
 ghost use Rattle.al_check_places.specs.Positions.{position_view, section_view};
@@ -15,7 +15,7 @@ pub enum Section<'a> {
     Job(&'a [u8]),
 }
 
-/// The steps that are seen: none, those before one, all.
+/// The steps that an expression sees: none, those before a step, or all.
 #[derive(Clone, Copy)]
 pub enum Seen {
     Nothing,
@@ -46,7 +46,7 @@ fn section_at<'a>(way: &[WayStep<'a>]) -> Section<'a>
     }
 }
 
-/// The steps that are seen from an item of the list under a key: of `steps` those before it.
+/// The steps seen from an item of the sequence under a key: those before it, if the key is `steps`.
 fn seen_in_item(key: &[u8], i: usize) -> Seen
     ensures { result ≡ positions.seen_in_item key.now i }
 {
@@ -57,7 +57,7 @@ fn seen_in_item(key: &[u8], i: usize) -> Seen
     }
 }
 
-/// The steps that are seen below two keys: in `outputs` and `environment.url` all.
+/// The steps seen below two keys: all in `outputs` and `environment.url`.
 fn seen_below(first: &[u8], second: &[u8]) -> Seen
     ensures { result ≡ positions.seen_below first.now second.now }
 {
@@ -70,7 +70,7 @@ fn seen_below(first: &[u8], second: &[u8]) -> Seen
     }
 }
 
-/// The steps that are seen where a way leads in a file of a kind.
+/// The steps seen at the end of a way in a file of a kind.
 fn seen_at(kind: FileKind, way: &[WayStep<'_>]) -> Seen
     ensures { result ≡ positions.seen_at kind (map way_step_view way.now) }
 {
@@ -93,7 +93,7 @@ fn seen_at(kind: FileKind, way: &[WayStep<'_>]) -> Seen
     }
 }
 
-/// Where a way leads in a file of a kind.
+/// The position at the end of a way in a file of a kind.
 pub(crate) fn position_at<'a>(kind: FileKind, way: &[WayStep<'a>]) -> Position<'a>
     ensures { position_view result ≡ positions.position_of kind (map way_step_view way.now) }
 {

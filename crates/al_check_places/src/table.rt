@@ -1,4 +1,4 @@
-//! Availability of contexts and special functions: the table, and its longest path.
+//! Which contexts and special functions are available where: the table, and finding a row.
 ghost use Rattle.std.specs.Prelude.{◌≡◌, map, option_map, true};
 ghost use Rattle.al_check_places.specs.Availability.{availability, longer, row_view, table};
 ghost use Rattle.al_check_places.specs.Paths.{is_path_prefix, key_view};
@@ -7,14 +7,14 @@ ghost use Rattle.std.specs.Str.{bytes_eq};
 
 use al_types::{Context, Function};
 
-/// A key of a path: one by its name, or any.
+/// A key of a path: a name, or any key.
 #[derive(Clone, Copy)]
 pub enum Key {
     Named(&'static str),
     Id,
 }
 
-/// What stands at the places whose way begins with a path.
+/// What is available at the places whose keys begin with a path.
 #[derive(Clone, Copy)]
 pub struct Row {
     pub path: &'static [Key],
@@ -260,14 +260,14 @@ fn key_fits(key: &Key, name: &[u8]) -> bool
     }
 }
 
-/// Whether a path begins the keys.
+/// Whether the keys begin with a path.
 pub(crate) fn begins_keys(path: &[Key], keys: &[&[u8]]) -> bool
     ensures { result ≡ is_path_prefix (map key_view path.now) (map (λ k. k.now) keys.now) }
 {
     if path.len() > keys.len() {
         return false;
     }
-    // From the last key on, since that is where most paths differ.
+    // From the last key, since most paths differ there.
     let mut count = path.len();
     'keys: while count > 0 {
         count -= 1;
@@ -292,7 +292,7 @@ fn better(best: Option<&'static Row>, row: &'static Row) -> Option<&'static Row>
     }
 }
 
-/// The row of a place, by the keys on the way to it; None where everything is available.
+/// The row of a place, by the keys on the way to it; `None` if everything is available.
 pub fn available(keys: &[&[u8]]) -> Option<&'static Row>
     ensures { option_map (λ r. row_view r.now) result ≡ availability (map (λ k. k.now) keys.now) }
 {

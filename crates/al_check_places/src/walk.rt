@@ -1,4 +1,4 @@
-//! The walk that finds the scalars that have expressions.
+//! The walk that finds the scalars with expressions.
 ghost use Rattle.std.specs.Prelude.{◌≡◌, ◌++◌, ◌∷◌, [], false, map, option_map, IfOk, OnOk};
 ghost use Rattle.al_tree.specs.Faults.{standing_view};
 ghost use Rattle.al_tree.specs.Keys.{key_of as key_in, keys_in};
@@ -25,21 +25,21 @@ use al_tree::{
 use al_yaml_tree::{Entry, Kind, Node};
 use std::alloc::{AllocError, Global};
 
-/// A scalar that has expressions, and what decides there.
+/// A scalar with expressions, and what their checks depend on.
 #[derive(Clone, Copy)]
 pub struct Place<'a> {
     pub scalar: &'a Scalar,
     pub span: Span,
-    /// Whether its key takes nothing but a scalar.
+    /// Whether only a scalar is accepted there.
     pub is_scalar_only: bool,
-    /// Which contexts and special functions stand there. None: all, or in an action.
+    /// Which contexts and special functions are available; `None` if all are, or in an action.
     pub available: Option<&'static Row>,
     pub is_condition: bool,
     pub is_script: bool,
     pub position: Position<'a>,
 }
 
-/// A walk through a file of a kind: the way from its root to where the walk is, and the places found so far, in the order of the file.
+/// A walk through a file of a kind: the way from the root to the current node, and the places found so far, in the order of the file.
 #[derive(Drop)]
 struct Walk<'a> {
     alloc: Global,
@@ -48,15 +48,15 @@ struct Walk<'a> {
     found: Vec<Place<'a>>,
 }
 
-/// What the place of a node asks for.
+/// What the place of a node requires.
 #[derive(Clone, Copy)]
 struct Asked {
     shape: Shape,
-    /// Whether the node is an item of a list.
+    /// Whether the node is an item of a sequence.
     is_item: bool,
 }
 
-/// The rule of a shape; what isn't checked takes everything.
+/// The rule of a shape; one that isn't checked accepts anything.
 fn rule_at(shape: Shape) -> Rule
     ensures { rule_view result ≡ rule_or_any (table_rule shape) }
 {
@@ -80,7 +80,7 @@ fn takes_scalars_only(rule: Rule) -> bool
     }
 }
 
-/// What stands at the end of a way.
+/// What is available at the end of a way.
 fn available_in(kind: FileKind, way: &Way<'_>) -> Option<&'static Row>
     ensures { option_map (λ r. row_view r.now) result
         ≡ row_of_way kind (map way_step_view way.now.steps.items) }
@@ -91,7 +91,7 @@ fn available_in(kind: FileKind, way: &Way<'_>) -> Option<&'static Row>
     }
 }
 
-/// The place where a walk is.
+/// The place of a scalar at which a walk is.
 fn place_at<'a>(walk: &Walk<'a>, is_scalar_only: bool, scalar: ScalarNode<'a>) -> Place<'a>
     ensures { place_of result ≡ places.place_at walk.now.kind (way_in walk.now)
         is_scalar_only (scalar.entry).scalar.now (scalar.entry).span }
@@ -107,14 +107,14 @@ fn place_at<'a>(walk: &Walk<'a>, is_scalar_only: bool, scalar: ScalarNode<'a>) -
     }
 }
 
-/// Whether a scalar isn't null and fits.
+/// Whether a scalar is accepted and isn't null.
 fn fits(rule: Rule, scalar: &Scalar) -> bool
     ensures { result ≡ places.fits (rule_view rule) scalar.now }
 {
     !is_null_scalar(scalar) && scalar_fault(rule.scalars, scalar).is_none()
 }
 
-/// Whether a scalar at the end of a way has an expression. Most have none, and nothing more is asked of those.
+/// Whether a scalar at the end of a way has an expression. Most don't, and need no further tests.
 fn has_expression(way: &Way<'_>, scalar: &Scalar) -> bool
     ensures { result
         ≡ places.has_expression (map way_step_view way.now.steps.items) scalar.now }
@@ -122,7 +122,7 @@ fn has_expression(way: &Way<'_>, scalar: &Scalar) -> bool
     is_condition(way) || contains_chunk(scalar.text())
 }
 
-/// Adds the place of a scalar, where it is checked and has an expression.
+/// Adds the place of a scalar, if it is checked and has an expression.
 fn find_scalar<'a>(
     asked: Asked,
     scalar: ScalarNode<'a>,
@@ -147,7 +147,7 @@ fn find_scalar<'a>(
     Ok(())
 }
 
-/// Adds the places of a node, where it should have a shape and may be an item of a list.
+/// Adds the places of a node, given what its place requires.
 #[tactic(auto, using(crate::proofs::Nodes::places_of_sequence, crate::proofs::Nodes::places_of_mapping))]
 #[cycle(finds)]
 fn find<'a>(asked: Asked, node: &'a Node, walk: &mut Walk<'a>) -> Result<(), AllocError>
@@ -177,7 +177,7 @@ fn find<'a>(asked: Asked, node: &'a Node, walk: &mut Walk<'a>) -> Result<(), All
     }
 }
 
-/// Adds the places of the items of a list.
+/// Adds the places of the items of a sequence.
 #[cycle(finds)]
 fn find_items<'a>(shape: Shape, nodes: &'a [Node], walk: &mut Walk<'a>) -> Result<(), AllocError>
     ensures found { OnOk result (places_in walk.new ≡ places_in walk.old
@@ -199,7 +199,7 @@ fn find_items<'a>(shape: Shape, nodes: &'a [Node], walk: &mut Walk<'a>) -> Resul
     Ok(())
 }
 
-/// Adds the places of the entries of a mapping that takes these keys.
+/// Adds the places of the entries of a mapping that accepts these keys.
 #[cycle(finds)]
 fn find_entries<'a>(
     takes: Keys,
@@ -222,7 +222,7 @@ fn find_entries<'a>(
     Ok(())
 }
 
-/// Adds the places of an entry that stands so in its mapping.
+/// Adds the places of an entry with this standing in its mapping.
 #[tactic(auto, using(al_yaml_tree::proofs::ViewLemmas::entry_parts))]
 #[cycle(finds)]
 fn find_entry<'a>(

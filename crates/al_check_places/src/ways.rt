@@ -1,4 +1,4 @@
-//! Ways from the root of a file to a scalar, and which of them lead to an expression.
+//! Ways from the root of a file to a scalar, and which of them lead to expressions.
 ghost use Rattle.std.specs.Prelude.{◌≡◌, [], ◌∷◌, map};
 ghost use Rattle.al_check_places.specs.Paths.{key_view, path};
 ghost use Rattle.al_check_places.specs.Ways as ways;
@@ -9,7 +9,7 @@ use crate::table::{Key, begins_keys};
 use al_tree::FileKind;
 use std::alloc::{AllocError, Global};
 
-/// A step of a way: to the value under a key, or to an item of a list.
+/// A step of a way: to the value under a key, or to an item of a sequence.
 #[derive(Clone, Copy)]
 pub enum WayStep<'a> {
     Under(&'a [u8]),
@@ -20,7 +20,7 @@ pub enum WayStep<'a> {
 #[derive(Drop)]
 pub(crate) struct Way<'a> {
     pub(crate) steps: Vec<WayStep<'a>>,
-    /// The keys of its steps; positions in lists have none.
+    /// The keys of its steps; steps to items have none.
     keys: Vec<&'a [u8]>,
     ghost keyed: { map (λ k. k.now) keys.items ≡ keys_of (map way_step_view steps.items) },
 }
@@ -49,7 +49,7 @@ impl<'a> Way<'a> {
         Ok(())
     }
 
-    /// Goes on to an item of a list.
+    /// Goes on to an item of a sequence.
     pub(crate) fn enter_item(&mut self, i: usize) -> Result<(), AllocError>
         ensures { OnOk result (self.new.steps.items ≡ self.old.steps.items ++ Nth i ∷ []) }
     {
@@ -167,7 +167,7 @@ fn scripts() -> &'static [&'static [Key]]
     SCRIPTS
 }
 
-/// Whether one of these paths begins the keys.
+/// Whether the keys begin with one of these paths.
 fn begins_any(paths: &[&[Key]], keys: &[&[u8]]) -> bool
     ensures { result
         ≡ begins_one (map (λ p. map key_view p.now) paths.now) (map (λ k. k.now) keys.now) }

@@ -6,8 +6,8 @@ ghost use Rattle.al_check_places.specs.Rows.Workflows as workflows;
 ghost use Rattle.al_tree.specs.declared.files.FileKind.TheVariants as kind;
 ghost use Rattle.std.specs.Prelude.{◌≡◌, [], ◌∷◌, true, false};
 
-/// The places of expressions in small files: the start, whether only a scalar is taken, whether it is a condition, whether it is a
-/// script, the number of contexts (99: all) and of special functions. Does nothing.
+/// The places of expressions in small files: the start, whether only a scalar is accepted, whether it is a condition, whether it is a
+/// script, the number of contexts (99: all) and of special functions. Does nothing at run time.
 pub fn rows()
     ensures file_0 { holds kind.Workflow workflows.file_0 (
         (58, false, false, false, 4, 0) ∷ (195, true, false, false, 6, 0) ∷

@@ -11,7 +11,7 @@ use Rattle.al_session.specs.Meaning.{candidates}
 use Rattle.al_check.specs.Linting.{linting}
 use Rattle.al_cli.specs.Linted.{AreTaken, folder_with}
 
--- no file that was put before has the path of one of these at its turn
+-- at its turn, none of these has the path of a file put before
 abbrev pub AreNew : Folder → List (List ℕ × List ℕ) → Type 0
 AreNew folder [] = Unit {0}
 AreNew folder (e ∷ es) = (bytes_at folder e.0 ≡ None) × AreNew (with_file folder e.0 e.1) es
@@ -23,19 +23,19 @@ pub record AreGathered (files : List (List ℕ × List ℕ)) : Type 0 where
 
 -- Which files are taken, and in which order
 
--- a path behind these, unless it stands among them
+-- these with a path at the end, unless it is among them
 abbrev pub with_path : List (List ℕ) → List ℕ → List (List ℕ)
 with_path paths p = if is_among p paths then paths else paths ++ p ∷ []
 
--- these in their order, each once
+-- these in order, each once
 abbrev pub each_once : List (List ℕ) → List (List ℕ)
 each_once paths = fold with_path [] paths
 
--- the path that a FILE names: a leading `./` isn't of it
+-- the path that a FILE names, which is without a leading `./`
 abbrev pub path_named : List ℕ → List ℕ
 path_named file = if starts_with nat_eq file (codes "./") then drop 2 file else file
 
--- the paths that FILEs ask for: their own, in their order, each once; where there are no FILEs, ascending ones
+-- the paths that FILEs ask for: their own, in order, each once; if there are no FILEs, ascending ones
 abbrev pub AreAsked : List (List ℕ) → List (List ℕ) → Type 0
 AreAsked [] paths = IsStrictlySortedBy (slice_cmp nat_cmp) paths
 AreAsked (file ∷ files) paths = paths ≡ each_once (map path_named (file ∷ files))
@@ -44,12 +44,12 @@ AreAsked (file ∷ files) paths = paths ≡ each_once (map path_named (file ∷ 
 abbrev pub called_by : List (List ℕ × List ℕ) → List (List ℕ)
 called_by files = flat_map (λ e. flat_map candidates (linting.calls e.0 e.1)) files
 
--- each of these files is called by one that stands before it; the first files stand before all of them
+-- each of these files is called by one before it, or by one of the first files
 abbrev pub AreCalled : List (List ℕ × List ℕ) → List (List ℕ × List ℕ) → Type 0
 AreCalled first [] = Unit {0}
 AreCalled first (e ∷ es) = (is_among e.0 (called_by first) ≡ true) × AreCalled (first ++ e ∷ []) es
 
--- Files in order: first those that these FILEs ask for, and then others, each called by a file that stands before it.
+-- Files in order: first those that these FILEs ask for, then others, each called by a file before it.
 pub record AreInOrder (words : List (List ℕ)) (files : List (List ℕ × List ℕ)) : Type 0 where
   pub first : List (List ℕ × List ℕ)
   pub behind : List (List ℕ × List ℕ)
@@ -57,7 +57,7 @@ pub record AreInOrder (words : List (List ℕ)) (files : List (List ℕ × List 
   pub asked : AreAsked words (paths_of first)
   pub called : AreCalled first behind
 
--- the folder that the files make which these FILEs ask for, and those that they call
+-- the folder of the files that these FILEs ask for, and of those that they call
 pub record IsGathered (words : List (List ℕ)) (folder : Folder) : Type 0 where
   pub files : List (List ℕ × List ℕ)
   pub gathered : AreGathered files

@@ -1,4 +1,4 @@
-//! The files that a run without a script lints: those that are asked for, and those that they call.
+//! The files that a run without a script lints: those that it is given, and those that they call.
 
 ghost use Rattle.std.specs.Prelude.{◌≡◌, ◌≤◌, ◌∷◌, ◌++◌, [], IfOk, OnOk, None, length, map, string_bytes, true};
 ghost use Rattle.std.specs.List.{AllByRecursion};
@@ -25,13 +25,13 @@ use std::collections::BTreeSet;
 use std::rt::Files;
 use thiserror::Error;
 
-/// Files that were read, and not checked yet.
+/// Files that were read but not yet checked.
 pub type Loaded = SessionBuilder<Actions>;
 
-/// What a run without a script lints, and what it passed over.
+/// What a run without a script lints, and what it skipped.
 #[derive(Drop)]
 pub struct Gathered {
-    /// The files, read and not checked yet.
+    /// The files, read but not yet checked.
     pub files: Loaded,
     /// The paths at which links lead out of the folder, in the order in which they were tried, as a line of standard error has
     /// them, with a `?` for each control character.
@@ -134,7 +134,7 @@ fn gather_from<D: Disk>(alloc: Global, disk: &mut D, words: &Words) -> Result<Ga
     Ok(gathering)
 }
 
-// A FILE without a leading `./`.
+// A path argument without its leading `./`.
 fn without_dot(file: &str) -> &str
     ensures { result.now ≡ path_named file.now }
 {
@@ -148,12 +148,12 @@ fn list_workflows<D: Disk>(alloc: Global, disk: &mut D) -> Result<BTreeSet<Strin
     }
 }
 
-// The candidates of calls at which no file was taken.
+// The candidates of calls that aren't among the taken files.
 #[derive(Drop)]
 struct Candidates {
-    // those that weren't tried yet
+    // those that haven't been tried
     waiting: BTreeSet<String>,
-    // those at which no file is, or none of the folder
+    // those that have no file, or none in the folder
     absent: BTreeSet<String>,
 }
 
@@ -167,12 +167,12 @@ impl Candidates {
         }
     }
 
-    // Whether a path waits, or no file was found there.
+    // Whether a path waits, or was found to have no file.
     fn has(&self, path: &str) -> bool {
         self.waiting.contains(path) || self.absent.contains(path)
     }
 
-    // Lets a path wait, unless a file was taken there or it was tried.
+    // Adds a path to those that wait, unless its file was taken or it was tried.
     fn add(&mut self, alloc: Global, files: &TakenFiles, path: &Path) -> Result<(), Unread>
         requires waiting { AreAmong (called_by files.now) self.old.waiting.keys }
         requires called { is_among path.now (called_by files.now) ≡ true }
@@ -197,7 +197,7 @@ impl Candidates {
         Ok(())
     }
 
-    // Lets the candidates of a call wait.
+    // Adds the candidates of a call.
     fn add_call(&mut self, alloc: Global, files: &TakenFiles, call: &Target) -> Result<(), Unread>
         requires waiting { AreAmong (called_by files.now) self.old.waiting.keys }
         requires called { AllByRecursion (λ path. is_among path (called_by files.now) ≡ true)
@@ -221,7 +221,7 @@ impl Candidates {
 // What was found at a path.
 #[derive(Clone, Copy)]
 enum Found {
-    // a file, which was taken
+    // a file, now taken
     File,
     Absent,
     Outside,
@@ -233,7 +233,7 @@ struct Gathering {
     alloc: Global,
     files: TakenFiles,
     candidates: Candidates,
-    // the paths that lead out of the folder, as they are printable
+    // the paths that lead out of the folder, in printable form
     outside: Vec<String>,
 }
 
@@ -250,7 +250,7 @@ impl Gathering {
         }
     }
 
-    // Takes the files that the words ask for, and then those that they call.
+    // Takes the files that the command line asks for, and then those that they call.
     fn take_asked<D: Disk>(&mut self, disk: &mut D, words: &Words) -> Result<(), Unread>
         requires files { (self.old).files ≡ [] }
         requires waiting { (self.old).candidates.waiting.keys ≡ [] }
@@ -266,7 +266,7 @@ impl Gathering {
         self.take_called(disk)
     }
 
-    // Takes files that the folder lists.
+    // Takes the files that the folder lists.
     fn take_listed<D: Disk>(
         &mut self,
         disk: &mut D,
@@ -289,7 +289,7 @@ impl Gathering {
         Ok(())
     }
 
-    // Takes the files that the words name.
+    // Takes the files that the command line names.
     fn take_named<D: Disk>(&mut self, disk: &mut D, files: &[&str]) -> Result<(), Unread>
         requires files { (self.old).files ≡ [] }
         ensures files { OnOk result (paths_of (self.new).files
@@ -303,7 +303,7 @@ impl Gathering {
         Ok(())
     }
 
-    // Takes a file that has to be there.
+    // Takes a file that must exist.
     fn take_present<D: Disk>(&mut self, disk: &mut D, path: &str) -> Result<(), Unread>
         ensures files { OnOk result
             (paths_of (self.new).files ≡ with_path (paths_of (self.old).files) path.now) }
@@ -316,7 +316,7 @@ impl Gathering {
         }
     }
 
-    // Takes each called file that is there: at each turn the first that wasn't tried.
+    // Takes each called file that exists: each time the first path that hasn't been tried.
     fn take_called<D: Disk>(&mut self, disk: &mut D) -> Result<(), Unread>
         requires { (self.old).candidates.waiting.keys ≡ [] }
         ensures { OnOk result (IsCalling (self.old).files (self.new).files
@@ -332,7 +332,7 @@ impl Gathering {
         Ok(())
     }
 
-    // Takes a called file, if it is there.
+    // Takes a called file, if it exists.
     fn take_candidate<D: Disk>(&mut self, disk: &mut D, path: String) -> Result<(), Unread>
         requires waiting { AreAmong (called_by (self.old).files)
             (self.old).candidates.waiting.keys }
@@ -359,7 +359,7 @@ impl Gathering {
         }
     }
 
-    // Passes over a path that leads out of the folder, and doesn't try it again.
+    // Skips a path that leads out of the folder, for good.
     fn pass_over(&mut self, path: &str) -> Result<(), Unread>
         ensures files { (self.new).files ≡ (self.old).files }
         ensures waiting { (self.new).candidates.waiting.keys
@@ -372,7 +372,7 @@ impl Gathering {
         Ok(())
     }
 
-    // Takes a file, if it wasn't taken before; answers whether it is there.
+    // Takes a file unless it was taken before; returns whether it exists.
     fn take<D: Disk>(&mut self, disk: &mut D, path: &str) -> Result<Found, Unread>
         ensures taken { IfOk result (λ found.
             IsTakenAs found path.now (self.old).files (self.new).files) }
@@ -436,7 +436,7 @@ impl Gathering {
         self.candidates.add_calls(self.alloc, &self.files, number)
     }
 
-    // The files, and the paths that were passed over.
+    // The files, and the paths that were skipped.
     fn into_gathered(self) -> Gathered
         ensures gathered { AreGathered self.files }
         ensures made { result.files.folder ≡ folder_with [] self.files }

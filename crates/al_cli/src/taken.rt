@@ -16,8 +16,8 @@ use al_session::{Refused, Target};
 use std::alloc::{AllocError, Global};
 use std::marker::Model;
 
-/// Files that were read and put one after another, each path once, and not checked yet. Contracts see their paths and bytes, in the
-/// order in which they were put.
+/// Files that were read and put one after another, each path once, but not yet checked. Contracts see their paths and bytes, in the order
+/// in which they were put.
 #[derive(Drop)]
 pub(crate) struct TakenFiles {
     files: Loaded,
@@ -36,7 +36,7 @@ impl Model for TakenFiles {
 }
 
 impl TakenFiles {
-    /// No file. Takes no memory.
+    /// No files. Doesn't allocate.
     pub(crate) fn new(alloc: Global) -> TakenFiles
         ensures { result ≡ [] }
     {
@@ -51,7 +51,7 @@ impl TakenFiles {
         self.order.len()
     }
 
-    /// Whether the linter takes a file with this path.
+    /// Whether the linter accepts a file with this path.
     pub(crate) fn accepts(&self, path: &str) -> bool
         ensures { result ≡ is_accepted path.now }
     {
@@ -65,7 +65,7 @@ impl TakenFiles {
         self.files.bytes(path).is_some()
     }
 
-    /// The calls of the file of this number; none where there is no such file.
+    /// The calls of the file with this number; none if there is no such file.
     pub(crate) fn calls(&self, number: usize) -> &[Target]
         ensures { result.now ≡ calls_at self.now number }
     {
@@ -75,11 +75,11 @@ impl TakenFiles {
         }
     }
 
-    /// Puts a file behind the others, of which none has its path.
+    /// Puts a file after the others, none of which may have its path.
     ///
     /// # Errors
     ///
-    /// Those of [`SessionBuilder::put`](al_session::SessionBuilder::put). The files are then as before.
+    /// Those of [`SessionBuilder::put`](al_session::SessionBuilder::put). The files are then unchanged.
     pub(crate) fn put(&mut self, alloc: Global, path: &str, bytes: Vec<u8>) -> Result<(), Refused>
         requires { bytes_at (folder_with [] self.old) path.now ≡ None }
         ensures put { OnOk result (self.new ≡ self.old ++ (path.now, bytes.items) ∷ []) }
@@ -89,7 +89,7 @@ impl TakenFiles {
         put_behind(&mut self.files, &mut self.order, owned, bytes)
     }
 
-    /// The files, which are in the folder that they make where they are put one after another, and not checked yet.
+    /// The folder that the files make when they are put one after another, not yet checked.
     pub(crate) fn into_loaded(self) -> Loaded
         ensures gathered { AreGathered self }
         ensures folder { result.folder ≡ folder_with [] self }
@@ -102,7 +102,7 @@ impl TakenFiles {
     ///
     /// # Errors
     ///
-    /// [`AllocError`] where memory ran out.
+    /// [`AllocError`] if memory runs out.
     pub(crate) fn into_list(self, alloc: Global) -> Result<Vec<(Path, Vec<u8>)>, AllocError>
         ensures gathered { AreGathered self }
         ensures list { IfOk result (λ files. map owned_entry files.items ≡ self) }
@@ -113,7 +113,7 @@ impl TakenFiles {
     }
 }
 
-// A path of a file that is there to be put.
+// The path of a file to be put.
 fn owned_path(alloc: Global, path: &str) -> Result<Path, Refused>
     ensures { IfOk result (λ owned. owned ≡ path.now) }
 {
@@ -124,7 +124,7 @@ fn owned_path(alloc: Global, path: &str) -> Result<Path, Refused>
     }
 }
 
-// Puts a file behind those at these paths, of which none is its own. On failure the files and the paths stay.
+// Puts a file after those at these paths, none of which is its own. On failure the files and the paths are unchanged.
 fn put_behind(
     files: &mut Loaded,
     order: &mut Vec<Path>,
@@ -173,7 +173,7 @@ fn file_at(alloc: Global, files: &Loaded, path: Path) -> Result<(Path, Vec<u8>),
     Ok((path, bytes))
 }
 
-// A copy of bytes; none of nothing.
+// A copy of some bytes; empty for `None`.
 fn copy_of(alloc: Global, bytes: Option<&[u8]>) -> Result<Vec<u8>, AllocError>
     ensures { IfOk result (λ v. v.items ≡ unwrap_or (option_copied bytes.entry) []) }
 {

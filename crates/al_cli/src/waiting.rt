@@ -1,4 +1,4 @@
-//! Output that is waited for.
+//! Output that waits for a full pipe.
 
 ghost use Rattle.std.specs.Prelude.{◌≡◌};
 
@@ -6,13 +6,13 @@ use std::io::{ErrorKind, Write};
 use std::time::{Clock, Duration};
 use std::{io, thread};
 
-/// How many milliseconds are waited where the writer takes nothing at the moment.
+/// How many milliseconds to wait if the writer takes nothing at the moment.
 const PAUSE: u64 = 1;
 
 /// A writer that waits until the one below takes bytes.
 ///
-/// A pipe that its maker set not to block, as Node does, refuses a write where it is full (`WouldBlock`). What is written here waits
-/// then, as at a pipe that blocks; any other answer is handed on.
+/// A non-blocking pipe, as Node makes them, refuses a write when it is full (`WouldBlock`). This writer then waits, as a blocking pipe
+/// would; any other result is passed on.
 #[derive(Drop)]
 pub struct WaitingOutput<'a, W, C> {
     output: W,
@@ -20,7 +20,7 @@ pub struct WaitingOutput<'a, W, C> {
 }
 
 impl<'a, W, C> WaitingOutput<'a, W, C> {
-    /// A writer over this one, which waits by this clock.
+    /// Wraps a writer; waits by this clock.
     pub fn new(output: W, clock: &'a C) -> WaitingOutput<'a, W, C>
         ensures { result.output ≡ output }
     {

@@ -1,4 +1,4 @@
--- What a script's session does at a command: the folder, replies and the status.
+-- What a script's session does at a command: the folder, the reply and the status.
 use Rattle.std.specs.Prelude.{◌≡◌, ◌≢◌, ◌⊎◌, ℕ, Bool, List, ◌++◌, length, codes, decimal, Option, None, Some, Result, Ok, Err}
 use Rattle.std.specs.Io.KnownBytes.{Keeps}
 use Rattle.al_base.specs.Counted.{AppendsPrefix}
@@ -30,12 +30,12 @@ accepted_reply files = codes "ok " ++ decimal files ++ codes "\n"
 abbrev pub refused_reply : Refused → List ℕ
 refused_reply refused = codes "refused E" ++ decimal (refusal_number refused) ++ codes "\n"
 
--- an edit that may be refused leaves the folder as it was, or another one
+-- the folder after an edit: unchanged if the edit is refused
 abbrev pub edit_result : Option Refused → Folder → Folder → Folder
 edit_result None old new = new
 edit_result (Some refused) old new = old
 
--- an accepted edit is answered by the number of the files that it can change
+-- the reply to an accepted edit is the number of files that it affects
 abbrev pub edit_reply : Option Refused → Folder → Folder → List ℕ
 edit_reply None old new =
     accepted_reply (length (affected_paths interface.ghosts.eq linting old new))
@@ -46,13 +46,13 @@ after_command folder (Put path bytes) = edit_result (put_refusal linting folder 
 after_command folder (Delete path) = edit_result (delete_refusal linting folder path) folder (without_file folder path)
 after_command folder Report = folder
 
--- to a report with snippets, or of lines alone
+-- the reply to a command; a report has snippets, or only lines
 abbrev pub reply_to : Bool → Folder → Command → List ℕ
 reply_to oneline folder (Put path bytes) = edit_reply (put_refusal linting folder path bytes) folder (with_file folder path bytes)
 reply_to oneline folder (Delete path) = edit_reply (delete_refusal linting folder path) folder (without_file folder path)
 reply_to oneline folder Report = report_of oneline linting folder ++ (codes "status " ++ decimal (status_of linting folder) ++ codes "\n")
 
--- why a command is refused, other than for memory
+-- why a command is refused, other than for lack of memory
 abbrev pub refusal_of : Folder → Command → Option Refused
 refusal_of folder (Put path bytes) = put_refusal linting folder path bytes
 refusal_of folder (Delete path) = delete_refusal linting folder path
@@ -68,7 +68,7 @@ abbrev pub reply_bytes : Result Edit Refused → List ℕ
 reply_bytes (Ok edit) = accepted_reply (length edit.rechecked)
 reply_bytes (Err refused) = refused_reply refused
 
--- the session ran out of memory and nothing was written, or a write failed behind a prefix of the reply
+-- memory ran out and nothing was written, or a write failed after a prefix of the reply
 abbrev pub ReplyStops : Result Edit Refused → Option (List ℕ) → Option (List ℕ) → Stop → Type 0
 ReplyStops reply wrote now stop = ((stop ≡ stops.Memory) × (reply ≡ Err Memory) × Keeps wrote now)
     ⊎ ((stop ≡ stops.WriteFault) × (reply ≢ Err Memory) × AppendsPrefix wrote now (reply_bytes reply))

@@ -1,4 +1,4 @@
--- The output of a script, for any session that answers one command at a time, and what a run leaves that stops early.
+-- The output of a script, for any session that answers one command at a time, and what a run that stops early leaves.
 use Rattle.std.specs.Prelude.{◌≡◌, ◌≢◌, ℕ, ◌+◌, ◌<◌, ◌≤◌, max, ◌⊎◌, List, [], ◌∷◌, ◌++◌, length, All, codes}
 use Rattle.std.specs.Prelude.{Option, None, Some, IfSome, Result, Ok, Err, IfOk, OnOk, IfErr, IsErrOf}
 use Rattle.std.specs.List.{flat_map, fold}
@@ -21,7 +21,7 @@ abbrev pub replies_to : {F : Type 0} → Steps F → F → List Command → List
 replies_to steps folder [] = []
 replies_to steps folder (c ∷ cs) = steps.reply folder c ++ replies_to steps (steps.after folder c) cs
 
--- these bytes are whole commands and then rest: with their replies, and the folder after them
+-- these bytes are whole commands and then rest; with the replies to them, and the folder after them
 pub record Served {F : Type 0} (steps : Steps F) (start : F) (bytes : List ℕ) (folder : F) (replies rest : List ℕ) : Type 0 where
   pub commands : List Command
   pub each : All IsCommand commands
@@ -34,7 +34,7 @@ abbrev pub Ends : {F : Type 0} → Steps F → F → List ℕ → List ℕ → �
 Ends steps folder rest out answer = ((rest ≡ []) × (out ≡ []) × (answer ≡ steps.status folder))
     ⊎ ((rest ≢ []) × (BeginsWithCommand rest → ⊥) × (out ≡ codes "bad command\n") × (answer ≡ 2))
 
--- the output and the answer of a script over a folder
+-- the output and the result of a script over a folder
 pub record Puts {F : Type 0} (steps : Steps F) (start : F) (script out : List ℕ) (answer : ℕ) : Type 0 where
   pub folder : F
   pub replies : List ℕ
@@ -50,21 +50,21 @@ PutsPrefix steps start script wrote now = (out : List ℕ) (answer : ℕ) → Pu
 
 -- ---- what a run leaves; left and then are what the reader has left, before and after, wrote and now what the writer holds
 
--- the run put out the whole output of what waits and what the reader has left
+-- the run wrote the whole output of the waiting bytes and what the reader has left
 abbrev pub RunsToEnd : {F : Type 0} → Steps F → F → List ℕ → Option (List ℕ) → Option (List ℕ) → Option (List ℕ) → ℕ → Type 0
 RunsToEnd steps start waiting left wrote now answer =
     IfSome left (λ script. (out : List ℕ) × Puts steps start (waiting ++ script) out answer × Appends wrote now out)
 
--- the run left this folder: the one that the whole commands of that script leave
+-- the run left this folder, which is the one after the whole commands of that script
 abbrev pub LeavesFolder : {F : Type 0} → Steps F → F → List ℕ → Option (List ℕ) → F → Type 0
 LeavesFolder steps start waiting left folder = IfSome left (λ script. (replies : List ℕ) × (rest : List ℕ)
     × Served steps start (waiting ++ script) folder replies rest × (BeginsWithCommand rest → ⊥))
 
--- the run put out a prefix of that output
+-- the run wrote a prefix of that output
 abbrev pub IsCutShort : {F : Type 0} → Steps F → F → List ℕ → Option (List ℕ) → Option (List ℕ) → Option (List ℕ) → Type 0
 IsCutShort steps start waiting left wrote now = IfSome left (λ script. PutsPrefix steps start (waiting ++ script) wrote now)
 
--- the run read these bytes, and answered each whole command among them; what is left of them isn't wrong
+-- the run read these bytes, and answered each whole command in them; the rest isn't wrong
 pub record PausesAfter {F : Type 0} (steps : Steps F) (start folder : F) (waiting : List ℕ) (left then wrote now : Option (List ℕ))
     (read : List ℕ) : Type 0 where
   pub replies : List ℕ
@@ -73,29 +73,30 @@ pub record PausesAfter {F : Type 0} (steps : Steps F) (start folder : F) (waitin
   pub pending : IsPending waiting
   pub written : Appends wrote now replies
 
--- such a run, of at least so many bytes
+-- such a run over at least this many bytes
 abbrev pub Pauses : {F : Type 0} → Steps F → F → Option (List ℕ) → Option (List ℕ) → Option (List ℕ) → Option (List ℕ) → ℕ → Type 0
 Pauses {F} steps start left then wrote now least = (folder : F) × (waiting : List ℕ) × (read : List ℕ)
     × (least ≤ length read) × PausesAfter steps start folder waiting left then wrote now read
 
--- what a run leaves that stopped early
+-- what a run that stopped early leaves
 abbrev pub Stops : {F : Type 0} → Steps F → F → Option (List ℕ) → Option (List ℕ) → Option (List ℕ) → Option (List ℕ) → Stop → Type 0
 Stops steps start left then wrote now ReadFault = Pauses steps start left then wrote now 0
 Stops steps start left then wrote now TooManyTurns = Pauses steps start left then wrote now most_reads
 Stops steps start left then wrote now WriteFault = IsCutShort steps start [] left wrote now
 Stops steps start left then wrote now Memory = IsCutShort steps start [] left wrote now
 
--- a read behind which the run ends: it gave nothing, or made wrong what waited
+-- a read after which the run ends: it gave nothing, or made the waiting bytes wrong
 abbrev pub IsDecisive : {F : Type 0} → Steps F → F → List ℕ → List ℕ → Type 0
 IsDecisive {F} steps folder waiting last = (last ≡ []) ⊎ ((after : F) × (replies : List ℕ) × (rest : List ℕ)
     × Served steps folder (waiting ++ last) after replies rest × IsWrong rest)
 
--- one read, of 65,536 bytes at most, behind which the run ends
+-- one read, of at most 65,536 bytes, after which the run ends
 abbrev pub ReadsLast : {F : Type 0} → Steps F → F → List ℕ → Option (List ℕ) → Option (List ℕ) → Type 0
 ReadsLast steps folder waiting left then =
     (last : List ℕ) × (length last ≤ largest_read) × Consumes left then last × IsDecisive steps folder waiting last
 
--- all reads but the last gave whole commands and what begins one, and behind the last the run ended: it read nothing else
+-- all reads but the last gave whole commands and the beginning of one, and the run ended after the last: it read
+-- nothing else
 pub record ReadsNoFurther {F : Type 0} (steps : Steps F) (start : F) (left then : Option (List ℕ)) : Type 0 where
   pub folder : F
   pub replies : List ℕ
@@ -108,12 +109,12 @@ pub record ReadsNoFurther {F : Type 0} (steps : Steps F) (start : F) (left then 
   pub consumed : Consumes left then (before ++ last)
   pub decisive : IsDecisive steps folder waiting last
 
--- a count of failures, as before where a run answered or goes on, and one more where it stopped at such a failure
+-- a count of failures: unchanged if a run returned or continues, one more if it stopped at such a failure
 pub record CountsFailures {T : Type 0} (result : Result T Stop) (stop : Stop) (before now : ℕ) : Type 0 where
   pub answered : OnOk result (now ≡ before)
   pub stopped : IsErrOf result stop → HasRisen before now
 
--- What a run of a script from a folder leaves, with its result: of the reader, before and after, and of the writer.
+-- What a run of a script over a folder leaves, with its result: the reader and the writer, before and after.
 pub record Runs {F R W : Type 0} (steps : Steps F) (start : F) (remaining : R → Option (List ℕ)) (contents : W → Option (List ℕ))
     (unread left : Input R) (wrote now : Output W) (result : Result ℕ Stop) : Type 0 where
   pub end : IfOk result (RunsToEnd steps start [] (remaining unread.inner) (contents wrote.inner) (contents now.inner))
@@ -128,7 +129,7 @@ pub record Runs {F R W : Type 0} (steps : Steps F) (start : F) (remaining : R �
 
 -- ---- one turn
 
--- Where a run stands between two reads: the folder, the bytes that wait, what the reader has left and what the writer holds.
+-- The state of a run between two reads: the folder, the waiting bytes, what the reader has left and what the writer holds.
 pub record RunState (F : Type 0) : Type 0 where
   pub folder : F
   pub waiting : List ℕ
@@ -155,7 +156,7 @@ TurnStops steps old new WriteFault = IsCutShort steps old.folder old.waiting old
 TurnStops steps old new Memory = IsCutShort steps old.folder old.waiting old.left old.wrote new.wrote
 TurnStops steps old new TooManyTurns = ⊥
 
--- a turn from one state to another goes on, ends the run behind its last read, or stops it
+-- a turn from one state to another continues, ends the run after its last read, or stops it
 abbrev pub Turns : {F : Type 0} → Steps F → RunState F → RunState F → Result (Option ℕ) Stop → Type 0
 Turns steps old new (Ok None) = GoesOn steps old new
 Turns steps old new (Ok (Some answer)) = RunsToEnd steps old.folder old.waiting old.left old.wrote new.wrote answer

@@ -11,25 +11,25 @@ use itoa::Buffer;
 /// A command of a script.
 #[derive(Clone, Copy)]
 pub enum Command<'a> {
-    /// A path, and the bytes of the file to be put there.
+    /// A path, and the bytes to put there.
     Put(&'a str, &'a [u8]),
-    /// The path of the file to be deleted.
+    /// The path of the file to delete.
     Delete(&'a str),
     Report,
 }
 
-/// What the bytes that wait begin with.
+/// What the unread bytes of a script begin with.
 #[derive(Clone, Copy)]
 pub enum NextCommand<'a> {
-    /// A command, and how many bytes it has.
+    /// A command, and its length in bytes.
     Whole(Command<'a>, usize),
-    /// No whole command, and not wrong yet.
+    /// No whole command yet, but possibly the beginning of one.
     Pending,
-    /// No command, whatever follows.
+    /// No command, whatever comes after.
     Wrong,
 }
 
-/// The lengths of seven digits end here.
+/// One more than the greatest length of seven digits.
 const LENGTHS: u32 = 10_000_000;
 
 // A command's line.
@@ -59,7 +59,7 @@ pub fn next_command(bytes: &[u8]) -> NextCommand<'_>
     }
 }
 
-// The command of a put's line that ends at `end`.
+// The `put` whose line ends at `end`.
 fn next_put<'a>(bytes: &'a [u8], end: usize, path: &'a str, length: usize) -> NextCommand<'a>
     requires line { IsPutLine bytes.now end path.now length }
     ensures { IsNext bytes.now result }
@@ -74,7 +74,7 @@ fn next_put<'a>(bytes: &'a [u8], end: usize, path: &'a str, length: usize) -> Ne
     }
 }
 
-// The first LF, where the line before it isn't too long.
+// The offset of the first line feed, if the line before it isn't too long.
 fn find_break(bytes: &[u8]) -> Option<usize>
     ensures { MatchOption result (HasNoBreak (take (longest_line + 1) bytes.now))
         (λ end. (end < length bytes.now) × (end ≤ longest_line) × HasNoBreak (take end bytes.now)
@@ -91,7 +91,7 @@ pub(crate) fn first_break(bytes: &[u8]) -> Option<usize>
     bytes.iter().position(|b| *b == b'\n')
 }
 
-// The line that has these bytes.
+// The command line with these bytes.
 fn read_line(line: &[u8]) -> Option<Line<'_>>
     requires one { HasNoBreak line.now }
     requires short { length line.now ≤ longest_line }
@@ -109,7 +109,7 @@ fn read_line(line: &[u8]) -> Option<Line<'_>>
     }
 }
 
-// A delete's line, where it is one.
+// The path of a `delete` line.
 fn read_delete(line: &[u8]) -> Option<Line<'_>>
     requires { HasNoBreak line.now }
     ensures { IsDeleteOf line.now result }
@@ -123,7 +123,7 @@ fn read_delete(line: &[u8]) -> Option<Line<'_>>
     }
 }
 
-// A put's path and length. The last space stands between them.
+// The path and length of a `put` line, which its last space separates.
 fn read_put(rest: &[u8]) -> Option<(&str, usize)>
     requires { HasNoBreak rest.now }
     ensures { IsPutOf rest.now result }
@@ -140,7 +140,7 @@ fn read_put(rest: &[u8]) -> Option<(&str, usize)>
     }
 }
 
-// A path's text, which is UTF-8 and not empty.
+// The text of a path: UTF-8, and not empty.
 fn read_path(bytes: &[u8]) -> Option<&str>
     requires { HasNoBreak bytes.now }
     ensures { MatchOption result (IsPathText bytes.now → ⊥)
@@ -163,7 +163,7 @@ fn last_space(text: &[u8]) -> Option<usize>
     text.iter().rposition(|b| *b == b' ')
 }
 
-// The number below ten millions that is written so.
+// The number below ten million with these digits.
 fn read_length(digits: &[u8]) -> Option<usize>
     ensures { IsLengthOf digits.now result }
 {
@@ -172,7 +172,7 @@ fn read_length(digits: &[u8]) -> Option<usize>
         Ok(text) => match text.parse::<u32>() {
             Err(_) => None,
             Ok(length) => {
-                // A number isn't written with a sign or a leading zero.
+                // Signs and leading zeros aren't allowed: a number has one spelling.
                 if length < LENGTHS && is_written(length, text) {
                     Some(length as usize)
                 } else {

@@ -25,12 +25,12 @@ use itoa::Buffer;
 use std::alloc::{AllocError, Global};
 use std::io::{Read, Write};
 
-/// Where the bytes that wait stand once each whole command is answered.
+/// What is left of the unread bytes once each whole command is answered.
 #[derive(Clone, Copy)]
 pub(crate) enum Progress {
-    /// So many bytes were commands, and the rest is none yet.
+    /// This many bytes were commands; the rest is the beginning of one, or empty.
     Waits(usize),
-    /// The rest is no command, and this was said.
+    /// The rest isn't a command, and the error was reported.
     Bad,
 }
 
@@ -96,16 +96,16 @@ fn empty_piece(alloc: Global) -> Result<Vec<u8>, AllocError>
     vec![in alloc; 0u8; LARGEST_READ]
 }
 
-// A run of a script between two reads.
+// The state of a run between two reads.
 #[derive(Drop)]
 struct Run {
     oneline: bool,
-    // the bytes behind the last whole command
+    // the bytes after the last whole command
     waiting: Vec<u8>,
 }
 
 impl Run {
-    // A run that has read nothing.
+    // A run that hasn't read anything.
     fn new(alloc: Global, oneline: bool) -> Run
         ensures oneline { result.oneline ≡ oneline }
         ensures waiting { result.waiting.items ≡ [] }
@@ -116,7 +116,7 @@ impl Run {
         }
     }
 
-    // One read, and the answers to what came. `Some` is the answer of a run that is over.
+    // Makes one read, and answers the commands in it. `Some` is the result of a run that has ended.
     fn take_turn<R: Read, W: Write>(
         &mut self,
         session: &mut Session<Actions>,
@@ -156,7 +156,7 @@ impl Run {
     }
 }
 
-// Drops the bytes that were answered.
+// Drops the bytes of the commands that were answered.
 fn drop_prefix(waiting: &mut Vec<u8>, done: usize)
     requires { done ≤ length waiting.old.items }
     ensures { waiting.new.items ≡ drop done waiting.old.items }
@@ -164,7 +164,7 @@ fn drop_prefix(waiting: &mut Vec<u8>, done: usize)
     waiting.drain(..done);
 }
 
-// The end of the input, whatever reports print.
+// The result at the end of the input.
 fn finish<W: Write>(
     session: &mut Session<Actions>,
     waiting: &[u8],
@@ -193,7 +193,7 @@ fn finish<W: Write>(
     Ok(2)
 }
 
-// Answers each whole command that stands first, and a bad one.
+// Answers each whole command at the beginning of the bytes, and a bad one.
 fn answer_all<W: Write>(
     session: &mut Session<Actions>,
     waiting: &[u8],
@@ -257,7 +257,7 @@ fn answer<W: Write>(
     }
 }
 
-// Writes the reply to an edit. Running out of memory has none, and ends the run; no other reply does.
+// Writes the reply to an edit. If memory ran out, writes none and ends the run.
 fn reply_to_edit<W: Write>(writer: &mut Output<W>, reply: Result<Edit, Refused>) -> Result<(), Stop>
     ensures ok { OnOk result ((reply ≢ Err refused.Memory)
         × Writes W.contents writer.old writer.new
@@ -313,7 +313,7 @@ fn reply_to_report<W: Write>(
     write_number(writer, b"status ", u64::from(status))
 }
 
-// Writes a line of a word and a number.
+// Writes a line with a word and a number.
 fn write_number<W: Write>(writer: &mut Output<W>, word: &[u8], number: u64) -> Result<(), Stop>
     ensures ok { OnOk result
         (Writes W.contents writer.old writer.new

@@ -1,4 +1,4 @@
-//! The laws of scripts: that their definition leaves no choice.
+//! The laws of scripts: each has exactly one output.
 
 ghost use Rattle.al_cli_scripts.specs.ScriptLaws.{BeginsInOneWay, StaysWrong, PutsInOneWay, PutsSomething};
 

@@ -1,4 +1,4 @@
--- The command line: its options as clap's definitions take them, and what its words ask for.
+-- The command line: its options, in terms of clap's definitions, and what its words ask for.
 use Rattle.std.specs.Prelude.{◌≡◌, ◌≢◌, ◌⊎◌, Bool, true, false, List, [], ◌∷◌, Option, Some, None, map, unwrap_or, codes}
 use Rattle.std.specs.List.{fold}
 use Rattle.clap.specs.Words.{App, IsAmong, Kinds, Row, Rule, Text, all_of, fault_of, first_of, one_of, matches_of, new_app, new_rule}
@@ -12,7 +12,7 @@ use Rattle.al_cli_words.specs.declared.words.Words.{Words}
 use Rattle.al_cli_words.specs.declared.words.Usage.{Usage}
 use Rattle.al_cli_words.specs.declared.words.Usage.TheVariants as usage
 
--- the option that is written as this name behind two minuses
+-- the option that is written as two minuses and this name
 abbrev pub option_rule : Text → ArgAction → Rule
 option_rule name action = record (new_rule name) { long = Some name; action = Some action }
 
@@ -22,7 +22,7 @@ root_rule = record (option_rule (codes "root") Set) { value_names = 1 }
 abbrev pub file_rule : Rule
 file_rule = record (new_rule (codes "file")) { action = Some Append; value_names = 1 }
 
--- there is no `-h`: `--help` is an option of its own
+-- there is no `-h`, and `--help` is an ordinary option
 abbrev pub bare_app : App
 bare_app = on_top (λ s. record s { disable_help_flag = true }) (new_app (codes "actionlint"))
 
@@ -32,11 +32,11 @@ linter_app = fold with_rule bare_app
     (option_rule (codes "oneline") SetTrue ∷ root_rule ∷ option_rule (codes "session") SetTrue
     ∷ option_rule (codes "help") Help ∷ file_rule ∷ [])
 
--- what clap finds in these words, of which the first is the program's name
+-- what clap finds in these words, the first of which is the program's name
 unfoldable pub rows_in : List Text → List Row
 rows_in words = matches_of linter_app words
 
--- a flag is as the text of its value says
+-- a flag has the value that its text says
 pub record IsFlag (text : Option Text) (flag : Bool) : Type 0 where
   pub unset : text ≡ None → flag ≡ false
   pub on : text ≡ Some (codes "true") → flag ≡ true
@@ -48,7 +48,7 @@ root_in rows = first_of (codes "root") rows
 abbrev pub files_in : List Row → List Text
 files_in rows = unwrap_or (all_of (codes "file") rows) []
 
--- what these matches ask for: the flags, DIR and the FILEs are theirs, and a script has neither files nor DIR
+-- the matches ask for these words: the flags, DIR and FILEs are theirs, and a script has neither FILEs nor DIR
 pub record AsksFor (rows : List Row) (words : Words) : Type 0 where
   pub oneline : IsFlag (one_of (codes "oneline") rows) words.oneline
   pub session : IsFlag (one_of (codes "session") rows) words.session
@@ -56,30 +56,30 @@ pub record AsksFor (rows : List Row) (words : Words) : Type 0 where
   pub files : map (λ file. file.now) words.files.items ≡ files_in rows
   pub alone : words.session ≡ true → (root_in rows ≡ None) × (files_in rows ≡ [])
 
--- `--session` stands beside files or `--root`
+-- `--session` is given together with files or `--root`
 pub record AreBeside (rows : List Row) : Type 0 where
   pub session : IsFlag (one_of (codes "session") rows) true
   pub beside : (root_in rows ≢ None) ⊎ (files_in rows ≢ [])
 
--- the kinds of what clap may answer in place of matches; none where the words ask for a run
+-- the kinds of errors that clap may return in place of matches; none if the words ask for a run
 unfoldable pub kinds_in : List Text → Kinds
 kinds_in words = fault_of linter_app words
 
--- what an answer of this kind is said as
+-- how an error of this kind is reported
 abbrev pub IsSaidAs : ErrorKind → Usage → Type 0
 IsSaidAs kind usage.Session = ⊥
 IsSaidAs kind (usage.Help text) = kind ≡ DisplayHelp
 IsSaidAs kind (usage.Clap text) = (kind ≢ DisplayHelp) × (kind ≢ OutOfMemory)
 IsSaidAs kind usage.Memory = Unit {0}
 
--- why matches ask for no run
+-- why matches don't ask for a run
 abbrev pub IsNoRun : List Row → Usage → Type 0
 IsNoRun rows usage.Session = AreBeside rows
 IsNoRun rows (usage.Help text) = ⊥
 IsNoRun rows (usage.Clap text) = ⊥
 IsNoRun rows usage.Memory = Unit {0}
 
--- why words ask for no run: side by side stands what can't; they ask for help; they are wrong in another way; or memory ran out
+-- why words don't ask for a run: they combine what can't be combined; they ask for help; they are wrong in another way; or memory ran out
 abbrev pub IsUsage : List Text → Usage → Type 0
 IsUsage words usage.Session = (kinds_in words ≡ []) × AreBeside (rows_in words)
 IsUsage words (usage.Help text) = IsAmong DisplayHelp (kinds_in words)

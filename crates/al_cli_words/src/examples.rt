@@ -5,7 +5,7 @@ ghost use Rattle.clap.specs.Words.{one_of};
 ghost use Rattle.al_cli_words.specs.Words.{files_in, kinds_in, root_in, rows_in};
 ghost use Rattle.clap.specs.declared.error.kind.ErrorKind.TheVariants.{DisplayHelp, InvalidValue, UnknownArgument};
 
-/// What is found in some command lines, as the definitions give it. Does nothing.
+/// What the definitions find in some command lines. Does nothing at run time.
 pub fn rows()
     ensures none { kinds_in (codes "actionlint" ∷ []) ≡ [] }
     ensures all { kinds_in (codes "actionlint" ∷ codes "--oneline" ∷ codes "--root" ∷ codes "d" ∷ codes "a/action.yml" ∷ []) ≡ [] }

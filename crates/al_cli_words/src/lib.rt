@@ -1,4 +1,4 @@
-//! The words of the linter's command line, and what they ask for.
+//! The linter's command line, and what it asks for.
 #![tactic(auto)]
 
 mod examples;

@@ -1,4 +1,4 @@
--- What clauses see of fields that are gathered.
+-- What contracts see of collected fields.
 use Rattle.std.specs.Prelude.{map}
 use Rattle.al_types.specs.Types.{Parts, parts_with}
 use Rattle.al_expr.specs.Trees.{field_of, rest_of}

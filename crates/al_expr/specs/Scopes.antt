@@ -1,4 +1,4 @@
--- What a place makes available, by trees.
+-- What is available at a place, with types as trees.
 use Rattle.std.specs.Prelude.{◌≡◌, true}
 use Rattle.al_types.specs.Scopes.{Scope, available_of}
 use Rattle.al_types.specs.Types.{Type'}
@@ -30,7 +30,7 @@ abbrev pub scope_of : code.Scope → Scope
 scope_of s =
     record { types = type_of_context s.types; available = available_of s.available; in_run = s.in_run }
 
--- numbers of the table that stand for the types of the contexts
+-- the types in a table that the types of the contexts have
 pub record StandFor (types : Types) (ns : numbers.ContextTypes) (ts : ContextTypes) : Type 0 where
   pub known : (c : Context) → is_known types (context_number ns c) ≡ true
   pub are : (c : Context) → type_at types (context_number ns c) ≡ type_of_context ts c

@@ -1,4 +1,4 @@
--- What clauses see of trees: the type that one stands for.
+-- What contracts see of trees: the type that each stands for.
 use Rattle.std.specs.Prelude.{List, [], ◌∷◌, Option, Some, None, Box, string_bytes}
 use Rattle.std.specs.Global.{Global}
 use Rattle.al_types.specs.Puts.{TypedName, firsts}
@@ -9,11 +9,12 @@ use Rattle.al_expr.specs.declared.trees.Ty as code
 use Rattle.al_expr.specs.declared.trees.Field.{Field}
 use Rattle.al_expr.specs.declared.trees.Ty.{Row_of-Field, end_of-Field, more_of-Field, Held-Ty-Object-1, None', Some'}
 
--- an object of fields, of which the first of each name counts, and of others of a type where there may be others
+-- an object with these fields, where the first with each name counts, and with others of a type if others are
+-- possible
 abbrev pub listed_parts : List TypedName → Optional → Parts
 listed_parts ts rest = parts_with (firsts ts) rest
 
--- an object of one field
+-- an object with one field
 abbrev pub field_parts : TypedName → Parts
 field_parts f = parts_with (f ∷ []) Absent
 

@@ -1,4 +1,4 @@
-//! Trees put into a table.
+//! Adding trees to a table of types.
 
 ghost use Rattle.std.specs.Prelude.{◌≡◌, IfOk, length, map, true};
 ghost use Rattle.al_base.specs.Growth.{BeginsWith};
@@ -15,8 +15,8 @@ use crate::trees::{Field, Ty};
 use al_expr_types::{FieldMap, Scalar, Types};
 use std::alloc::{AllocError, Global};
 
-/// Adds the objects of a tree to a table, and answers the type that it stands for. Fails with `AllocError`, only when out of memory, as all
-/// here.
+/// Adds the objects of a tree to a table, and returns the type that the tree stands for. Fails with `AllocError` when out of memory, as
+/// everything here does.
 #[tactic(auto, using(al_base::proofs::Growing::growth))]
 #[cycle(adding)]
 fn add<'a>(
@@ -71,7 +71,7 @@ fn add_fields<'a>(
     Ok(map)
 }
 
-// Adds the objects of the type of other fields, where there may be others.
+// Adds the objects of the type of other fields, if others are possible.
 #[tactic(auto, using(al_base::proofs::Growing::growth))]
 #[cycle(adding)]
 fn add_rest<'a>(

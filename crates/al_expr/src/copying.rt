@@ -6,7 +6,7 @@ ghost use Rattle.al_expr.specs.Trees.{field_of, rest_of, ty_of};
 use crate::trees::{Field, Ty};
 use std::alloc::{AllocError, Global};
 
-/// The same type once more. Fails with `AllocError`, only when out of memory, as all here.
+/// A copy of a type. Fails with `AllocError` when out of memory, as everything here does.
 #[cycle(copying)]
 pub(crate) fn copy(alloc: Global, ty: &Ty) -> Result<Ty, AllocError>
     ensures { IfOk result (λ t. ty_of t ≡ ty_of ty.now) }
@@ -41,7 +41,7 @@ fn copy_fields(alloc: Global, fields: &[Field]) -> Result<Vec<Field>, AllocError
     Ok(copies)
 }
 
-/// The same field once more.
+/// A copy of a field.
 #[cycle(copying)]
 pub(crate) fn copy_field(alloc: Global, field: &Field) -> Result<Field, AllocError>
     ensures { IfOk result (λ f. field_of f ≡ field_of field.now) }
@@ -51,7 +51,7 @@ pub(crate) fn copy_field(alloc: Global, field: &Field) -> Result<Field, AllocErr
     Ok(Field { name, ty })
 }
 
-/// The same type of other fields once more.
+/// A copy of the type of other fields.
 #[cycle(copying)]
 pub(crate) fn copy_rest(
     alloc: Global,

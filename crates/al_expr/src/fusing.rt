@@ -15,9 +15,9 @@ use crate::trees::{Field, Ty};
 use al_expr_types::Scalar;
 use std::alloc::{AllocError, Global};
 
-/// What two types have in common: any with any or null, itself with itself, a string for two other scalars, an array of what the elements
-/// have in common, and an object with all fields of both, those of one name fused, as are the types of other fields where both have one.
-/// Everything else is any. Fails only when out of memory.
+/// What two types have in common: any with any or null, a type with itself, a string for two other scalars, an array of what the elements
+/// have in common, and an object with all fields of both, where those with one name are fused, as are the types of other fields if both
+/// have one. Everything else is any. Fails with `AllocError` when out of memory.
 pub fn fuse(alloc: Global, a: Ty, b: Ty) -> Result<Ty, AllocError>
     ensures { IfOk result (λ t. ty_of t ≡ fuse_type (ty_of a) (ty_of b)) }
 {
@@ -92,7 +92,7 @@ pub(crate) fn add_object(
     Ok(whole)
 }
 
-// The same of an object of these fields, and no others.
+// The same for an object with these fields and no others.
 #[cycle(fusing)]
 fn add_fields(alloc: Global, fields: &[Field], sofar: Listing) -> Result<Listing, AllocError>
     ensures { IfOk result
@@ -109,7 +109,7 @@ fn add_fields(alloc: Global, fields: &[Field], sofar: Listing) -> Result<Listing
     Ok(all)
 }
 
-// The same of an object of one field.
+// The same for an object with one field.
 #[cycle(fusing)]
 fn add_field(alloc: Global, field: &Field, sofar: Listing) -> Result<Listing, AllocError>
     ensures { IfOk result
@@ -122,7 +122,7 @@ fn add_field(alloc: Global, field: &Field, sofar: Listing) -> Result<Listing, Al
     })
 }
 
-// Fields, and one more: fused with that of its name, else behind them.
+// Adds a field: fused with the one with its name, otherwise at the end.
 #[cycle(fusing)]
 fn put_or_fuse(alloc: Global, field: &Field, fields: Vec<Field>) -> Result<Vec<Field>, AllocError>
     ensures { IfOk result (λ v. map field_of v.items
@@ -143,7 +143,7 @@ fn put_or_fuse(alloc: Global, field: &Field, fields: Vec<Field>) -> Result<Vec<F
     }
 }
 
-// The same of an object without fields of its own, and with others of a type where there may be others.
+// The same for an object without fields of its own, with others of the type `rest`, if given.
 #[cycle(fusing)]
 fn add_rest(alloc: Global, rest: &Option<Box<Ty>>, sofar: Listing) -> Result<Listing, AllocError>
     ensures { IfOk result
@@ -156,7 +156,7 @@ fn add_rest(alloc: Global, rest: &Option<Box<Ty>>, sofar: Listing) -> Result<Lis
     })
 }
 
-// What the types of other fields have in common, where there may be others.
+// What the types of other fields have in common, if others are possible.
 #[cycle(fusing)]
 fn fuse_rest(
     alloc: Global,

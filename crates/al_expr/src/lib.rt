@@ -1,8 +1,8 @@
 //! Expressions of workflows and actions, `${{ .. }}`: their tokens and chunks, their trees, their types, and their
 //! faults.
 //!
-//! Types are trees here, for callers that keep no table of objects: each call puts its trees into a table, and takes
-//! the answer out. The rest is of the crates of the grammar and of the signatures of functions.
+//! Types are trees here, for callers that keep no table of objects: each call adds its trees to a table, and takes
+//! the result out as a tree. Everything else is re-exported from the crates of the grammar and of types.
 #![tactic(auto)]
 
 mod adding;

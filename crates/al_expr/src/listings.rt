@@ -1,4 +1,4 @@
-//! The fields of an object while they are gathered.
+//! The fields of an object while they are collected.
 
 ghost use Rattle.std.specs.Prelude.{◌≡◌, ◌<◌, IfOk, IfSome, length, map, true, []};
 ghost use Rattle.al_types.specs.FusedFields.{are_distinct};
@@ -11,7 +11,7 @@ use crate::trees::{Field, Ty};
 use al_base::is_same_name;
 use std::alloc::{AllocError, Global};
 
-/// Fields, each of another name but for ASCII case, and the type of others where there may be others.
+/// Fields with different names, ignoring ASCII case, and the type of others, if others are possible.
 #[derive(Drop)]
 pub(crate) struct Listing {
     pub fields: Vec<Field>,
@@ -19,7 +19,7 @@ pub(crate) struct Listing {
     ghost distinct: { are_distinct (map field_of fields.items) ≡ true },
 }
 
-/// The position of the first field that has the name of another, in any ASCII case.
+/// The position of the first field with the name of another, ignoring ASCII case.
 pub(crate) fn position(fields: &[Field], other: &Field) -> Option<usize>
     ensures place { result ≡ name_at (map field_of fields.now) (field_of other.now).0 }
     ensures within { IfSome result (λ i. i < length fields.now) }
@@ -32,7 +32,7 @@ pub(crate) fn position(fields: &[Field], other: &Field) -> Option<usize>
     None
 }
 
-/// Copies of the fields of which each is the first of its name. Fails with `AllocError`, only when out of memory, as all here.
+/// Copies of the fields that are the first with their names. Fails with `AllocError` when out of memory, as everything here does.
 fn first_fields(alloc: Global, fields: &[Field]) -> Result<Vec<Field>, AllocError>
     ensures { IfOk result (λ v. map field_of v.items ≡ firsts (map field_of fields.now)) }
 {
@@ -51,7 +51,7 @@ impl Listing {
     ghost use Rattle.al_expr.specs.Listings.{parts_in};
     ghost use Rattle.al_expr.specs.Trees.{listed_parts, rest_of, ty_of};
 
-    /// No fields, and no others. Takes no memory.
+    /// No fields, and no others. Doesn't allocate.
     pub(crate) fn new(alloc: Global) -> Listing
         ensures { parts_in result ≡ parts_with [] Absent }
     {
@@ -61,7 +61,7 @@ impl Listing {
         }
     }
 
-    /// A copy of an object's.
+    /// A copy of an object's fields.
     pub(crate) fn of(
         alloc: Global,
         fields: &[Field],
@@ -75,7 +75,7 @@ impl Listing {
         Ok(Listing { fields, rest })
     }
 
-    /// The object that has them.
+    /// The object with these fields.
     pub(crate) fn into_type(self) -> Ty
         ensures { ty_of result ≡ object_type (parts_in self) }
     {

@@ -1,4 +1,4 @@
-//! Which types go where one is asked for.
+//! Which types can be assigned to which.
 
 ghost use Rattle.std.specs.Prelude.{◌≡◌};
 ghost use Rattle.al_types.specs.Types.{assignable_type};
@@ -6,8 +6,8 @@ ghost use Rattle.al_expr.specs.Trees.{ty_of};
 
 use crate::trees::Ty;
 
-/// Whether a value of the type `from` may stand where one of the type `to` is wanted: any goes with every type, a
-/// scalar with itself, null, number and bool with a string, arrays by their elements, and an object with an object.
+/// Whether a value of the type `from` can be used where one of the type `to` is expected: any and every type, a
+/// scalar as itself, null, number and bool as a string, arrays by their elements, and an object as an object.
 pub fn assignable(from: &Ty, to: &Ty) -> bool
     ensures { result ≡ assignable_type (ty_of from.now) (ty_of to.now) }
 {

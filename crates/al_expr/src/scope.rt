@@ -1,4 +1,4 @@
-//! What an expression can name at its place, its types as trees.
+//! What an expression can refer to at its place, with types as trees.
 
 use crate::trees::Ty;
 use al_types::Available;
@@ -8,7 +8,7 @@ use al_types::Available;
 pub struct Scope {
     pub types: ContextTypes,
     pub available: Available,
-    /// Whether the place is a step's `run`, where text from outside would become part of a script.
+    /// Whether the place is a step's `run`, where untrusted text would become part of a script.
     pub in_run: bool,
 }
 

@@ -1,4 +1,4 @@
-//! Trees taken out of a table.
+//! The trees of the types in a table.
 
 ghost use Rattle.std.specs.Prelude.{◌≡◌, ◌<◌, ◌≤◌, IfOk, length, map, take, true};
 ghost use Rattle.al_expr_types.specs.Names.{names_in};
@@ -14,7 +14,7 @@ use crate::trees::{Field, Ty};
 use al_expr_types::{Base, Fields, NameList, Object, Scalar, Types};
 use std::alloc::{AllocError, Global};
 
-/// The tree of a type of a table. Fails with `AllocError`, only when out of memory, as all here.
+/// The tree of a type of a table. Fails with `AllocError` when out of memory, as everything here does.
 pub fn tree_of(alloc: Global, types: &Types<'_>, ty: al_expr_types::Ty) -> Result<Ty, AllocError>
     requires { is_known types.now ty ≡ true }
     ensures { IfOk result (λ t. ty_of t ≡ type_at types.now ty) }
@@ -36,7 +36,7 @@ pub(crate) fn scalar_tree(scalar: Scalar) -> Ty
     }
 }
 
-// A type in so many arrays.
+// A type nested in this many arrays.
 fn in_arrays(alloc: Global, ty: Ty, arrays: u32) -> Result<Ty, AllocError>
     ensures { IfOk result (λ t. ty_of t ≡ arrays_of arrays (ty_of ty)) }
 {
@@ -47,7 +47,7 @@ fn in_arrays(alloc: Global, ty: Ty, arrays: u32) -> Result<Ty, AllocError>
     Ok(all)
 }
 
-// The tree of a type whose object has a number below this.
+// The tree of a type whose object has a number below `bound`.
 #[cycle(taking)]
 fn tree_below(
     alloc: Global,
@@ -96,12 +96,12 @@ fn object_listing(alloc: Global, types: &Types<'_>, n: u32) -> Result<Listing, A
             }
             Ok(all)
         }
-        // Neither a tree nor an expression makes one.
+        // Neither trees nor expressions make extensions.
         Object::Extension(_) => Err(AllocError),
     }
 }
 
-// Fields of types whose objects have numbers below this.
+// Fields with types whose objects have numbers below `bound`.
 #[cycle(taking)]
 fn fields_listing(
     alloc: Global,
@@ -164,7 +164,7 @@ fn rest_tree(
     }
 }
 
-// A field of a name and a type. Names are those of trees or of a file that was read, so they are UTF-8.
+// A field with a name and a type. Names come from trees or from a file that was read, so they are UTF-8.
 fn field_with(alloc: Global, name: &[u8], ty: Ty) -> Result<Field, AllocError>
     ensures { IfOk result (λ f. field_of f ≡ (name.now, ty_of ty)) }
 {
@@ -177,7 +177,7 @@ fn field_with(alloc: Global, name: &[u8], ty: Ty) -> Result<Field, AllocError>
     }
 }
 
-// Strings of these names, and no others.
+// String fields with these names, and no others.
 fn strings_listing(alloc: Global, names: &NameList) -> Result<Listing, AllocError>
     ensures { IfOk result (λ l. parts_in l ≡ strings_parts names.now) }
 {

@@ -6,7 +6,7 @@ ghost use Rattle.al_expr.specs.Trees.{ty_of};
 
 use al_types::Form;
 
-/// The type of a value, as far as it is known before a workflow runs.
+/// The type of a value, as far as it is known before the workflow runs.
 #[derive(Drop)]
 #[cycle(trees)]
 pub enum Ty {
@@ -15,17 +15,17 @@ pub enum Ty {
     Number,
     Bool,
     String,
-    /// An array, by the type of its elements.
+    /// An array, with the type of its elements.
     Array(Box<Ty>),
-    /// An object. Of fields whose names differ in ASCII case alone, the first counts.
+    /// An object. Of fields whose names differ only in ASCII case, the first counts.
     Object {
         fields: Vec<Field>,
-        /// The type of every field beside these, where there may be others.
+        /// The type of all other fields, if others are possible.
         rest: Option<Box<Ty>>,
     },
 }
 
-/// A field of an object, by its name.
+/// A named field of an object.
 #[derive(Drop)]
 #[cycle(trees)]
 pub struct Field {

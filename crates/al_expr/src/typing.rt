@@ -16,9 +16,10 @@ use al_expr_grammar::Expr;
 use al_expr_types::Types;
 use std::alloc::{AllocError, Global};
 
-/// The type of an expression under a scope, with the faults in it added to `out` in the order in which it is read:
-/// X7 to X17 and X19. Spans are places in the expression's content. Where it is out of memory, `out` begins with what
-/// it held. Recursion goes no deeper than the expression's nesting, and than the types of the scope.
+/// The type of an expression under a scope. Adds the faults in it, X7 to X17 and X19, to `out` in the order in which
+/// it is read. Spans are byte offsets in the expression's content. Fails with `AllocError` when out of memory; `out`
+/// then still begins with what it held. Recursion is at most as deep as the expression's nesting or the types of the
+/// scope.
 pub fn type_of(
     alloc: Global,
     env: &Scope,

@@ -1,4 +1,4 @@
--- The tree that tokens spell, made from the last token to the first. Of tokens that spell none it is some tree, which nobody asks for.
+-- The tree that tokens spell, built from the last token to the first. For tokens that spell none it is some tree, which is never used.
 use Rattle.std.specs.Prelude.{ℕ, zero, suc, List, [], ◌∷◌, drop, slice_index_or}
 use Rattle.std.specs.List.{fold}
 use Rattle.al_base.specs.declared.faults.Span.{Span}
@@ -10,8 +10,8 @@ use Rattle.al_expr_grammar.specs.Tokens.{Lexed, AllRead, tokens_of}
 use Rattle.al_expr_grammar.specs.Tree.{Sign, sign, Tree, Constant, Number, Text, Named, Call, Group, Negated}
 use Rattle.al_expr_grammar.specs.Tree.{StepTree, Property, All, Index, arguments_of, chain_of, path_of}
 
--- What follows an operand in its bracket: the steps of its path; the operators with their operands, level by level from the tightest on;
--- the arguments behind its own; and where the bracket closes.
+-- What follows an operand in its bracket: the steps of its path; the operators with their operands, level by level from the tightest; the
+-- arguments after its own; and where the bracket closes.
 pub record Remainder : Type 0 where
   pub steps : List StepTree
   pub levels : List (List (Sign × Tree))
@@ -38,7 +38,7 @@ with_step s f = (record f.0 { steps = s ∷ f.0.steps }, f.1)
 abbrev pub with_path : Tree → Following → Tree × Following
 with_path t f = (path_of t f.0.steps, (record f.0 { steps = [] }, f.1))
 
--- An operator of a level and the operand behind it, before other operators: those that bind tighter belong to the operand.
+-- An operator of a level and the operand after it, before other operators: those that bind tighter belong to the operand.
 abbrev pub add_operator : ℕ → Sign → Tree → List (List (Sign × Tree)) → List (List (Sign × Tree))
 add_operator zero s t levels = ((s, t) ∷ slice_index_or levels 0 []) ∷ drop 1 levels
 add_operator (suc l) s t levels = [] ∷ add_operator l s (chain_of t (slice_index_or levels 0 [])) (drop 1 levels)
@@ -47,7 +47,7 @@ add_operator (suc l) s t levels = [] ∷ add_operator l s (chain_of t (slice_ind
 abbrev pub whole : Tree × Following → Tree
 whole x = fold chain_of x.0 x.1.0.levels
 
--- what is made of the expressions in a bracket, and what follows it
+-- what is built from the expressions in a bracket, and what follows it
 abbrev pub in_bracket : (Tree → List Tree → Span → Tree) → Tree × Following → Tree × Following
 in_bracket make x = with_path (make (whole x) x.1.0.arguments x.1.0.close) (past_bracket x.1.1)
 

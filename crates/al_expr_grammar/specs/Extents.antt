@@ -1,4 +1,4 @@
--- Where an expression stands, its own brackets included.
+-- The span of an expression, its own brackets included.
 use Rattle.al_base.specs.declared.faults.Span.{Span}
 use Rattle.al_base.specs.Spans.{span}
 use Rattle.al_expr_grammar.specs.Tree as tree
@@ -6,7 +6,7 @@ use Rattle.al_expr_grammar.specs.Tree.{Tree, Constant, Named, Call, Group, Negat
 use Rattle.al_expr_grammar.specs.Tree.{Chain, PathSteps, NoStep, PropertyThen, AllThen, IndexThen}
 use Rattle.al_expr_grammar.specs.Tree.{Operands, NoOperand, OperandThen}
 
--- from the start of one place to the end of another
+-- from the start of one span to the end of another
 abbrev pub across : Span → Span → Span
 across a b = span a.start b.end
 

@@ -77,7 +77,7 @@ mutual
         Derives (Binary 3) ts t (lexeme kind.CloseIndex c e ∷ mid) → Walks mid ss rest
         → Walks (lexeme kind.OpenIndex b s ∷ ts) (Index s t e ∷ ss) rest
 
-  -- further arguments of a call, each behind a comma
+  -- further arguments of a call, each after a comma
   pub data Lists : List Lexeme → List Tree → List Lexeme → Type 0 where
     listed : {ts : List Lexeme} → Lists ts [] ts
     and_next : {b : List ℕ} {s : Span} {ts mid rest : List Lexeme} {t : Tree} {more : List Tree} →

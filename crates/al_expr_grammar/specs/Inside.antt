@@ -11,7 +11,7 @@ use Rattle.al_expr_grammar.specs.Refusal.{Spells, fault_of_content, fault_of_lex
 use Rattle.al_expr_grammar.specs.Tokens.{tokens_of}
 use Rattle.al_expr_grammar.specs.Tree.{Tree}
 
--- each of these faults stands in what has so many bytes
+-- each of these faults lies in a text with this many bytes
 abbrev pub AllLie : ℕ → List Fault → Type 0
 AllLie size faults = AllByRecursion (λ (f : Fault). LiesIn size f.span) faults
 
@@ -23,11 +23,11 @@ ChunksLie = (text : List ℕ) → AllByRecursion (λ (s : Span). LiesIn (length 
 abbrev pub EndFaultLies : Type 0
 EndFaultLies = (text : List ℕ) → AllLie (length text) (option_to_list (chunks_of text).fault)
 
--- what is wrong with the tokens of a content
+-- the fault of a content's tokens
 abbrev pub TokenFaultLies : Type 0
 TokenFaultLies = (content : List ℕ) → AllLie (length content) (option_to_list (fault_of_lexed content (tokens_of content)))
 
--- why a content is no expression
+-- the fault of a content
 abbrev pub ContentFaultLies : Type 0
 ContentFaultLies = (content : List ℕ) → AllLie (length content) (option_to_list (fault_of_content content))
 

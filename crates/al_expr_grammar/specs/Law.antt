@@ -1,4 +1,4 @@
--- What the table has to do with the grammar.
+-- How the table relates to the grammar.
 use Rattle.std.specs.Prelude.{◌≡◌, ◌≢◌, ◌↔◌, ℕ, List, ◌∷◌, ◌++◌, length, None}
 use Rattle.al_expr_grammar.specs.Lexeme.{Lexeme, kinds}
 use Rattle.al_expr_grammar.specs.Tree.{Tree}
@@ -7,12 +7,12 @@ use Rattle.al_expr_grammar.specs.Table.{Fine, Early, Unexpected, verdict_of}
 use Rattle.al_expr_grammar.specs.Refusal.{Spells, fault_of_content}
 use Rattle.al_expr_grammar.specs.Building.{tree_of_content}
 
--- A list with the fault that a token may not stand where it does, or that it ends too early, spells no tree.
+-- A list with an unexpected token, or that ends too early, spells no tree.
 abbrev pub FaultsSpellNothing : Type 0
 FaultsSpellNothing = (ts : List Lexeme) (t : Tree) → IsTreeOf t ts
     → (verdict_of (kinds ts) ≢ Early) × ((n : ℕ) → verdict_of (kinds ts) ≢ Unexpected n)
 
--- Nor does any list that begins with the tokens up to that one, it included.
+-- Nor does any list that begins with the tokens up to and including that one.
 abbrev pub NoWayOn : Type 0
 NoWayOn = (front back other : List Lexeme) (x : Lexeme) (t : Tree) →
     verdict_of (kinds (front ++ x ∷ back)) ≡ Unexpected (length (x ∷ back)) → IsTreeOf t (front ++ x ∷ other) → ⊥

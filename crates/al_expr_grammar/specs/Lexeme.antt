@@ -1,4 +1,4 @@
--- A token without where its text lies.
+-- A token without the location of its text in memory.
 use Rattle.std.specs.Prelude.{ℕ, List, map}
 use Rattle.al_base.specs.declared.faults.Span.{Span}
 use Rattle.al_expr_grammar.specs.declared.token.TokenKind.{TokenKind}

@@ -1,4 +1,4 @@
--- What each function of the parser answers.
+-- The result of each function of the parser.
 use Rattle.std.specs.Prelude.{◌≡◌, ◌≢◌, ℕ, ◌+◌, ◌<◌, ◌≤◌, List, [], ◌∷◌, length, map, Result, MatchResult}
 use Rattle.std.specs.Borrow.{Bor}
 use Rattle.al_expr_grammar.specs.declared.ast.Expr.{Expr}
@@ -59,24 +59,24 @@ abbrev pub Refused : Nonterminal → ℕ → List Lexeme → ParseError → Type
 Refused p room ts e = (k : ℕ) (st : List Frame) → StartsAt p k → k + outside st + room ≡ deepest_expression
     → IsVerdict e (scan E k st (kinds ts))
 
--- What a reader of expressions answers: a tree of this kind at the front of the tokens, with those left, or its fault.
+-- The result of parsing an expression: a tree of this kind at the front of the tokens, with those left, or the fault.
 abbrev pub Parses : Nonterminal → ℕ → List Lexeme → Result (Expr × Bor (List Token)) ParseError → Type 0
 Parses p room ts result =
     MatchResult result (λ x. Parsed p room ts (expr_view x.0) (map seen x.1.now)) (λ e. Refused p room ts e)
 
--- A chain of operators, as far as it was read.
+-- The part of a chain of operators read so far.
 pub record PartOfChain (l room : ℕ) (ts : List Lexeme) (os : List (Sign × Tree)) (rest : List Lexeme) : Type 0 where
   pub derives : Operators l ts os rest
   pub goes : (st : List Frame) → outside st + room ≡ deepest_expression → scan O 0 st (kinds ts) ≡ scan O 0 st (kinds rest)
   pub shorter : length rest ≤ length ts
 
--- A path, as far as it was read.
+-- The part of a path read so far.
 pub record PartOfPath (room : ℕ) (ts : List Lexeme) (ss : List StepTree) (rest : List Lexeme) : Type 0 where
   pub derives : Walks ts ss rest
   pub goes : (k : ℕ) (st : List Frame) → k + outside st + room ≡ deepest_expression → scan O k st (kinds ts) ≡ scan O k st (kinds rest)
   pub shorter : length rest ≤ length ts
 
--- Further arguments, as far as they were read, inside a call that stands behind so many negations.
+-- Further arguments read so far, inside a call after this many negations.
 pub record PartOfCall (room : ℕ) (ts : List Lexeme) (more : List Tree) (rest : List Lexeme) : Type 0 where
   pub derives : Lists ts more rest
   pub goes : (k : ℕ) (st : List Frame) → 1 + k + outside st + room ≡ deepest_expression
@@ -96,16 +96,16 @@ pub record StepRead (room : ℕ) (ts : List Lexeme) (s : StepTree) (rest : List 
   pub goes : (k : ℕ) (st : List Frame) → k + outside st + room ≡ deepest_expression → scan O k st (kinds ts) ≡ scan O k st (kinds rest)
   pub shorter : length rest < length ts
 
--- From behind an operand the table comes to this fault.
+-- After an operand, the table comes to this fault.
 abbrev pub StepRefused : ℕ → List Lexeme → ParseError → Type 0
 StepRefused room ts e = (k : ℕ) (st : List Frame) → k + outside st + room ≡ deepest_expression → IsVerdict e (scan O k st (kinds ts))
 
--- what a reader of steps answers
+-- the result of parsing a step
 abbrev pub ParsesStep : ℕ → List Lexeme → Result (PathStep × Bor (List Token)) ParseError → Type 0
 ParsesStep room ts result =
     MatchResult result (λ x. StepRead room ts (step_of x.0) (map seen x.1.now)) (λ e. StepRefused room ts e)
 
--- the fault where the first token may not stand here
+-- the fault if the first token isn't allowed here
 abbrev pub error_at : List Lexeme → ParseError
 error_at [] = error.Early
 error_at (t ∷ ts) = error.Unexpected (length (t ∷ ts))
@@ -115,7 +115,7 @@ abbrev pub NoComma : List TokenKind → Type 0
 NoComma (Comma ∷ ts) = ⊥
 NoComma _ = Unit {0}
 
--- the arguments of a call as far as they were read, of which there is at least one
+-- the arguments of a call read so far, at least one
 pub record ArgumentsPart (room : ℕ) (ts : List Lexeme) (all : List Tree) (rest : List Lexeme) : Type 0 where
   pub first : Tree
   pub more : List Tree
@@ -129,7 +129,7 @@ pub record ArgumentsRead (room : ℕ) (ts : List Lexeme) (all : List Tree) (rest
   pub part : ArgumentsPart room ts all rest
   pub ends : NoComma (kinds rest)
 
--- A call with these tokens behind its opening bracket is refused.
+-- A call with these tokens after its opening bracket is refused.
 abbrev pub ArgumentsRefused : ℕ → List Lexeme → ParseError → Type 0
 ArgumentsRefused room ts e = (outer : ℕ) (b c : List ℕ) (s u : Span) → room + 1 ≡ outer
     → Refused Primary outer (lexeme Name b s ∷ lexeme Open c u ∷ ts) e
@@ -149,7 +149,7 @@ abbrev pub NoClose : List TokenKind → Type 0
 NoClose (Close ∷ ts) = ⊥
 NoClose _ = Unit {0}
 
--- The token that has to come first isn't of this kind.
+-- The first token isn't of the kind that is required here.
 pub record IsStray (ts : List Lexeme) (k : TokenKind) (e : ParseError) : Type 0 where
   pub fault : e ≡ error_at ts
   pub other : (rest : List TokenKind) → kinds ts ≢ k ∷ rest

@@ -1,3 +1,3 @@
--- Words that only contracts of private functions need: no definition of what the product means stands on them.
+-- Terms that only contracts of private functions need. No definition of what the product means uses them.
 pub mod TextTails
 pub mod TokenStates

@@ -1,4 +1,4 @@
--- The fault of a content that is no expression.
+-- The fault of a content that isn't an expression.
 use Rattle.std.specs.Prelude.{◌≡◌, ℕ, ◌+◌, ◌-◌, List, [], ◌∷◌, nat_lt, if◌then◌else◌, length, drop, Option, Some, None, option_map}
 use Rattle.al_base.specs.declared.codes.Code.TheVariants.{Expression}
 use Rattle.al_base.specs.declared.codes.ExpressionCode as codes
@@ -13,7 +13,7 @@ use Rattle.al_expr_grammar.specs.Tree.{Tree}
 use Rattle.al_expr_grammar.specs.Grammar.{IsTreeOf}
 use Rattle.al_expr_grammar.specs.Table.{Verdict, Fine, Early, Unexpected, TooDeep, verdict_of}
 
--- a fault of an expression: what it is, where it stands, and its arguments
+-- a fault of an expression: its code, its span and its arguments
 abbrev pub expression_fault : codes.ExpressionCode → Span → List (List ℕ) → Fault
 expression_fault x s args = record { span = s; code = Expression x; args = args }
 
@@ -22,7 +22,7 @@ abbrev pub fault_at : (Span → List ℕ → Fault) → List Lexeme → Option F
 fault_at make [] = None
 fault_at make (lexeme k b s ∷ ts) = Some (make s b)
 
--- what the table finds, where it stands, in a content of so many bytes
+-- the fault that the table finds, with its span, in a content with this many bytes
 abbrev pub fault_of_verdict : ℕ → List Lexeme → Verdict → Option Fault
 fault_of_verdict len ts Fine = None
 fault_of_verdict len ts Early = Some (expression_fault code.EndsEarly (span len len) [])
@@ -32,7 +32,7 @@ fault_of_verdict len ts (TooDeep left) = fault_at (λ s b. expression_fault code
 abbrev pub open_text : Option ℕ → Option Fault
 open_text = option_map (λ quote. expression_fault code.UnclosedText (span quote (quote + 1)) [])
 
--- X1 or X2, where the tokens are not all read
+-- X1 or X2, if not all tokens are read
 abbrev pub fault_of_lexed : List ℕ → Lexed → Option Fault
 fault_of_lexed content (Bad s) = Some (expression_fault code.BadCharacter s [])
 fault_of_lexed content Unclosed = open_text (last_quote content)
@@ -42,7 +42,7 @@ abbrev pub fault_of_tokens : List ℕ → Lexed → Option Fault
 fault_of_tokens content (AllRead ts) = fault_of_verdict (length content) ts (verdict_of (kinds ts))
 fault_of_tokens content other = fault_of_lexed content other
 
--- X5, else X1 or X2, else X3 or X6, else X4
+-- X5, otherwise X1 or X2, otherwise X3 or X6, otherwise X4
 abbrev pub fault_of_content : List ℕ → Option Fault
 fault_of_content content =
     if nat_lt longest_expression (length content) then Some (expression_fault code.TooLong (span 0 1) [])

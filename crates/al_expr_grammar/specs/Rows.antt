@@ -1,4 +1,4 @@
--- What worked rows are written with: small files and their trees, by hand. No definition stands on them.
+-- Terms for worked rows: small files and their trees, by hand. No definition uses them.
 pub mod Chunks
 pub mod Tokens
 pub mod Trees

@@ -14,8 +14,8 @@ pub data Mode : Type 0 where
 pub data Frame : Type 0 where
   Group Call Index : ℕ → Frame
 
--- What a token leads to: nothing; a mode with so many negations open in the innermost bracket, and the open brackets; or the same one
--- deeper.
+-- What a token leads to: nothing; a mode with this many negations open in the innermost bracket, and the open brackets; or the same one
+-- level deeper.
 pub data Transition : Type 0 where
   Stuck : Transition
   Go Deeper : Mode → ℕ → List Frame → Transition
@@ -53,12 +53,12 @@ step N k st t = after_operand k st t
 step O k st t = after_operand k st t
 step m k st t = operand k st t
 
--- A fault stands at the token behind which this many are left, itself counted.
+-- A fault is at the token at which this many are left, itself included.
 pub data Verdict : Type 0 where
   Fine Early : Verdict
   Unexpected TooDeep : ℕ → Verdict
 
--- where the tokens end
+-- at the end of the tokens
 abbrev pub finish : Mode → List Frame → Verdict
 finish O [] = Fine
 finish N [] = Fine
@@ -71,13 +71,13 @@ outside (Group k ∷ st) = 1 + k + outside st
 outside (Call k ∷ st) = 1 + k + outside st
 outside (Index k ∷ st) = 1 + k + outside st
 
--- on from a step, with whether there is room for one more, and how many tokens were left
+-- continues after a step, given whether there is room for one more level, and how many tokens were left
 abbrev pub onward : Transition → Bool → ℕ → (Mode → ℕ → List Frame → Verdict) → Verdict
 onward Stuck room left go = Unexpected left
 onward (Go m k st) room left go = go m k st
 onward (Deeper m k st) room left go = if room then go m k st else TooDeep left
 
--- the verdict on the tokens, in a mode with so many negations in the innermost bracket, and the open brackets
+-- the verdict on the tokens, in a mode with this many negations in the innermost bracket, and the open brackets
 abbrev pub scan : Mode → ℕ → List Frame → List TokenKind → Verdict
 scan m k st [] = finish m st
 scan m k st (t ∷ ts) =

@@ -34,7 +34,7 @@ is_blank_byte b = b == ascii " " || b == ascii "\t" || b == ascii "\n" || b == a
 abbrev pub is_quote : ℕ → Bool
 is_quote b = b == ascii "'"
 
--- a part that is there only with at least one digit: so many bytes and the digits behind them
+-- a part that needs at least one digit: this many bytes and the digits after them
 abbrev pub with_digits : ℕ → ℕ → ℕ
 with_digits lead zero = 0
 with_digits lead (suc n) = lead + suc n
@@ -60,7 +60,7 @@ decimal_tail bs = fraction_len bs + exponent_len (drop (fraction_len bs) bs)
 abbrev pub decimal_len : List ℕ → ℕ
 decimal_len bs = let whole = prefix_len is_ascii_digit bs in if first_is is_ascii_digit bs then whole + decimal_tail (drop whole bs) else 0
 
--- a number's length without its sign, the longest that fits, or 0 where there is none
+-- the length of the longest number without its sign, or 0 if there is none
 abbrev pub unsigned_len : List ℕ → ℕ
 unsigned_len bs = max (hex_len bs) (decimal_len bs)
 
@@ -70,14 +70,14 @@ number_len bs = if first_is is_sign bs then with_digits 1 (unsigned_len (drop 1 
 abbrev pub add_to : ℕ → Option ℕ → Option ℕ
 add_to n o = option_map (λ m. n + m) o
 
--- How many bytes follow the quote that opens a text, its closing quote included, where it is closed: two quotes stand for one in the
--- text, and the first that is single closes it.
+-- The number of bytes after the opening quote of a string, its closing quote included, if it is closed: two quotes are one in the string,
+-- and the first single one closes it.
 abbrev pub text_tail : List ℕ → Option ℕ
 text_tail [] = None
 text_tail (b ∷ []) = if is_quote b then Some 1 else None
 text_tail (b ∷ c ∷ bs) = if is_quote b then (if is_quote c then add_to 2 (text_tail bs) else Some 1) else add_to 1 (text_tail (c ∷ bs))
 
--- `null`, `true` and `false` are words of their own
+-- `null`, `true` and `false` are keywords
 abbrev pub word_kind : List ℕ → TokenKind
 word_kind b =
     if bytes_eq b (codes "null") then Keyword keyword.Null
@@ -85,7 +85,7 @@ word_kind b =
     else if bytes_eq b (codes "false") then Keyword keyword.False
     else Name
 
--- the marks; of two that begin alike the longer one stands first
+-- the marks; of two that begin alike, the longer one comes first
 abbrev pub marks : List (List ℕ × TokenKind)
 marks =
     (codes "(", Open) ∷ (codes ")", Close) ∷ (codes "[", OpenIndex) ∷ (codes "]", CloseIndex) ∷ (codes ".", Dot) ∷ (codes ",", Comma)
@@ -127,18 +127,18 @@ abbrev pub then_token : Lexeme → Lexed → Lexed
 then_token t (AllRead ts) = AllRead (t ∷ ts)
 then_token t other = other
 
--- the character that bytes begin with which stand at a place: bytes from 128 to 191 continue it
+-- the span of the first character of bytes at an offset: bytes from 128 to 191 continue it
 abbrev pub character_span : ℕ → List ℕ → Span
 character_span at bs = span at (at + 1 + prefix_len (is_in_range 128 191) (drop 1 bs))
 
--- what bytes begin with, and the rest behind it
+-- what bytes begin with, and the rest after it
 abbrev pub with_first : (ℕ → List ℕ → Lexed) → Read → ℕ → List ℕ → Lexed
 with_first rest Blank at bs = rest (at + 1) (drop 1 bs)
 with_first rest (Token k n) at bs = then_token (lexeme k (take n bs) (span at (at + n))) (rest (at + n) (drop n bs))
 with_first rest BadCharacter at bs = Bad (character_span at bs)
 with_first rest OpenText at bs = Unclosed
 
--- the tokens of bytes that stand at a place: at most so many, each blank counted too
+-- the tokens of bytes at an offset: at most this many, blanks included
 abbrev pub tokens_within : ℕ → ℕ → List ℕ → Lexed
 tokens_within zero at bs = AllRead []
 tokens_within (suc n) at [] = AllRead []
@@ -147,7 +147,7 @@ tokens_within (suc n) at (b ∷ bs) = with_first (tokens_within n) (read (b ∷ 
 abbrev pub tokens_of : List ℕ → Lexed
 tokens_of content = tokens_within (length content) 0 content
 
--- the place of the last quote
+-- the offset of the last quote
 abbrev pub last_quote : List ℕ → Option ℕ
 last_quote [] = None
 last_quote (b ∷ bs) = option_or (option_map suc (last_quote bs)) (if is_quote b then Some 0 else None)

@@ -1,21 +1,21 @@
--- An expression without where it lies in memory.
+-- An expression without its location in memory.
 use Rattle.std.specs.Prelude.{ℕ, List, [], ◌∷◌}
 use Rattle.al_expr_grammar.specs.declared.token.Operator.{Operator}
 use Rattle.al_base.specs.declared.faults.Span.{Span}
 use Rattle.al_expr_grammar.specs.declared.token.Keyword.{Keyword}
 
--- an operator, and where it stands
+-- an operator, and its span
 pub data Sign : Type 0 where
   sign : Operator → Span → Sign
 
 mutual
   pub data Tree : Type 0 where
     Constant : Keyword → Span → Tree
-    -- number and text literals as written, and a name
+    -- number and string literals as written, and a name
     Number Text Named : List ℕ → Span → Tree
-    -- the name, where it stands, the arguments, and the closing bracket
+    -- the name, its span, the arguments, and the closing bracket
     Call : List ℕ → Span → Arguments → Span → Tree
-    -- the brackets round an expression
+    -- an expression in brackets
     Group : Tree → Span → Span → Tree
     Negated : Span → Tree → Tree
     Path : Tree → PathSteps → Tree
@@ -24,7 +24,7 @@ mutual
   -- the steps of a path
   pub data PathSteps : Type 0 where
     NoStep : PathSteps
-    -- the dot, and the name with its place
+    -- the dot, and the name with its span
     PropertyThen : Span → List ℕ → Span → PathSteps → PathSteps
     -- the first and the last token
     AllThen : Span → Span → PathSteps → PathSteps
@@ -59,12 +59,12 @@ abbrev pub arguments_of : List Tree → Arguments
 arguments_of [] = NoArgument
 arguments_of (t ∷ ts) = ArgumentThen t (arguments_of ts)
 
--- a path, which is its base where it has no step
+-- a path, which is its base if it has no steps
 abbrev pub path_of : Tree → List StepTree → Tree
 path_of t [] = t
 path_of t (s ∷ ss) = Path t (steps_of (s ∷ ss))
 
--- a chain, which is its first operand where it has no other
+-- a chain, which is its first operand if it has no others
 abbrev pub chain_of : Tree → List (Sign × Tree) → Tree
 chain_of t [] = t
 chain_of t (o ∷ os) = Chain t (operands_of (o ∷ os))

@@ -1,4 +1,4 @@
--- What a clause sees of the code's expressions.
+-- What contracts see of the program's expressions.
 use Rattle.al_expr_grammar.specs.declared.ast.Expr.{Expr}
 use Rattle.al_expr_grammar.specs.declared.ast.PathStep.{PathStep}
 use Rattle.al_expr_grammar.specs.declared.ast.Operand.{Operand}

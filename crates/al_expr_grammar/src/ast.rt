@@ -3,17 +3,17 @@
 use crate::token::{Keyword, Operator};
 use al_base::Span;
 
-/// A name or literal as written, and where it stands in the content.
+/// A name or literal as written, and its span in the content.
 #[derive(Clone, Copy)]
 pub struct Word<'a> {
     pub text: &'a str,
     pub span: Span,
 }
 
-/// An expression. Spans are places in its content.
+/// An expression. Spans are byte offsets in its content.
 ///
-/// The steps of a path, and the operators of one level, are one list, so that only brackets and negations make a tree
-/// deeper. Brackets are kept, as spans take them in and a path ends at them.
+/// The steps of a path are one list, and so are the operators of one level, so only brackets and negations make the
+/// tree deeper. Brackets are kept, since spans include them and they end a path.
 #[derive(Drop)]
 #[cycle(ast)]
 pub enum Expr<'a> {
@@ -21,19 +21,19 @@ pub enum Expr<'a> {
     Keyword(Keyword, Span),
     /// A number as written.
     Number(Word<'a>),
-    /// A text as written, with its quotes.
+    /// A string as written, with its quotes.
     Text(Word<'a>),
     /// A context's name.
     Name(Word<'a>),
     /// The name, the arguments, and the closing bracket.
     Call(Word<'a>, Vec<Expr<'a>>, Span),
-    /// What brackets hold, then the opening and the closing one.
+    /// The expression in brackets, and the opening and the closing bracket.
     Group(Box<Expr<'a>>, Span, Span),
     /// The `!`, and its operand.
     Not(Span, Box<Expr<'a>>),
     /// The base, and at least one step.
     Path(Box<Expr<'a>>, Vec<PathStep<'a>>),
-    /// The first operand, and at least one more, each behind an operator of the same level.
+    /// The first operand, and at least one more, each after an operator of the same level.
     Chain(Box<Expr<'a>>, Vec<Operand<'a>>),
 }
 
@@ -49,7 +49,7 @@ pub enum PathStep<'a> {
     Index(Span, Expr<'a>, Span),
 }
 
-/// An operator, its place, and the operand behind it.
+/// An operator, its span, and the operand after it.
 #[derive(Drop)]
 #[cycle(ast)]
 pub struct Operand<'a> {

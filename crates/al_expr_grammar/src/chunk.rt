@@ -1,4 +1,4 @@
-//! The expressions that a text holds, each between `${{` and `}}`.
+//! The expressions in a text, each between `${{` and `}}`.
 
 ghost use Rattle.std.specs.Prelude.{◌≡◌, ◌≤◌, ◌<◌, ◌+◌, ◌^◌, ◌&&◌, IfOk, IfSome, All, map, length};
 ghost use Rattle.std.specs.Str.{IsCharBoundary};
@@ -12,28 +12,28 @@ use crate::lexer::last_quote;
 use al_base::{ExpressionCode, Fault, Span};
 use std::alloc::{AllocError, Global};
 
-/// What stands between the braces of a `${{ .. }}`, and its place in the text.
+/// The content between the braces of a `${{ .. }}`, and its span in the text.
 #[derive(Clone, Copy)]
 pub struct Chunk<'a> {
     pub content: &'a str,
     pub span: Span,
 }
 
-/// Whether the braces of a chunk come first.
+/// Whether the bytes begin with `${{`.
 fn opens(bytes: &[u8]) -> bool
     ensures { result ≡ opens bytes.now }
 {
     matches!(bytes, [b'$', b'{', b'{', ..])
 }
 
-/// Whether the braces that end a chunk come first, outside quotes.
+/// Whether the bytes begin with `}}`, outside quotes.
 fn closes(outside: bool, bytes: &[u8]) -> bool
     ensures { result ≡ outside && closes bytes.now }
 {
     outside && matches!(bytes, [b'}', b'}', ..])
 }
 
-/// How many bytes stand before the first `${{`.
+/// The number of bytes before the first `${{`.
 fn before_opening(bytes: &[u8]) -> Option<usize>
     ensures value { result ≡ before_opening bytes.now }
     ensures fits { IfSome result (λ n. n + 3 ≤ length bytes.now) }
@@ -46,7 +46,7 @@ fn before_opening(bytes: &[u8]) -> Option<usize>
     None
 }
 
-/// How many bytes of a content stand before the first `}}` outside quotes.
+/// The number of bytes of a content before the first `}}` outside quotes.
 fn closing_position(bytes: &[u8]) -> Option<usize>
     ensures value { result ≡ closing_position bytes.now }
     ensures fits { IfSome result (λ n. n + 2 ≤ length bytes.now) }
@@ -63,7 +63,7 @@ fn closing_position(bytes: &[u8]) -> Option<usize>
     None
 }
 
-/// Whether no quote is open behind these bytes of a content.
+/// Whether no quote is open after these bytes of a content.
 #[tactic(auto, using(crate::proofs::Chunking::quotes_next))]
 fn is_outside_quotes(bytes: &[u8]) -> bool
     ensures { result ≡ is_outside_quotes bytes.now }
@@ -77,7 +77,7 @@ fn is_outside_quotes(bytes: &[u8]) -> bool
     outside
 }
 
-/// What is wrong with a content from this place on that the text's end cuts off.
+/// The fault of a content that starts here and isn't closed before the text ends, if it has one.
 fn open_fault(start: usize, content: &[u8]) -> Option<Fault>
     requires opening { 3 ≤ start }
     requires room { start + length content.now < 2 ^ 32 }
@@ -96,7 +96,7 @@ fn open_fault(start: usize, content: &[u8]) -> Option<Fault>
     }
 }
 
-/// The chunk whose content lies between these places.
+/// The chunk whose content is between these offsets.
 fn cut(text: &str, start: usize, end: usize) -> Chunk
     requires within { start ≤ end }
     requires room { length text.now < 2 ^ 32 }
@@ -114,12 +114,12 @@ fn cut(text: &str, start: usize, end: usize) -> Chunk
     }
 }
 
-/// The chunks of a text that are closed, in order, and the fault at its end, if there is one. Places are byte offsets
-/// in the text.
+/// The closed chunks of a text, in order, and the fault at its end, if there is one. Spans are byte offsets in the
+/// text.
 ///
-/// `${{` opens a chunk; in it a single quote switches quoting, and the first `}}` outside quotes closes it. The fault is
-/// X2 at the last quote where the text ends in quotes, or X20 at the `${{` of a chunk that is open otherwise. The error
-/// is `AllocError`, when out of memory.
+/// `${{` opens a chunk; in it a single quote switches quoting, and the first `}}` outside quotes closes it. The fault
+/// is X2 at the last quote if the text ends in quotes, otherwise X20 at the `${{` of a chunk that isn't closed. Fails
+/// with `AllocError` when out of memory.
 pub fn chunks(alloc: Global, text: &str) -> Result<(Vec<Chunk>, Option<Fault>), AllocError>
     requires { length text.now ≤ longest_text }
     ensures spans { IfOk result (λ r. map span_of_chunk r.0.items ≡ (chunks_of text.now).chunks) }

@@ -1,4 +1,4 @@
-//! A content read as one expression: its tree, or its one fault.
+//! Parsing a content as one expression: its tree, or its first fault.
 
 ghost use Rattle.std.specs.Prelude.{◌≡◌, ◌<◌, ◌≤◌, ◌-◌, slice_get, IfOk, IfErr, Some, None, map, length};
 ghost use Rattle.al_expr_grammar.specs.Lexeme.{seen, kinds};
@@ -17,7 +17,7 @@ use al_base::limits::LONGEST_EXPRESSION;
 use al_base::{ExpressionCode, Fault, Span};
 use std::alloc::{AllocError, Global};
 
-/// The token behind which so many are left, itself counted.
+/// The token at which this many are left, itself included.
 fn token_at<'a>(tokens: &[Token<'a>], left: usize) -> Token<'a>
     requires some { 0 < left }
     requires within { left ≤ length tokens.now }
@@ -26,7 +26,7 @@ fn token_at<'a>(tokens: &[Token<'a>], left: usize) -> Token<'a>
     tokens[tokens.len() - left]
 }
 
-/// The fault that the parser found in the tokens of a content of so many bytes.
+/// The fault that the parser found in the tokens of a content with this many bytes.
 fn parse_fault(
     alloc: Global,
     length: u32,
@@ -63,11 +63,11 @@ fn parse_fault(
     }
 }
 
-/// The tree of a content, or the one fault for which it has none. Places are byte offsets in the content.
+/// The tree of a content, or the fault because of which it has none. Spans are byte offsets in the content.
 ///
-/// The fault is X5 where the content is longer than 21,000 bytes; else X1 or X2 of its tokens; else, at the first token
-/// that no expression's tokens go on with, X3, or at the token that makes the nesting 51, X6; else X4 at the content's
-/// end, where its tokens end too early. The outer error: out of memory.
+/// The fault is X5 if the content is longer than 21,000 bytes; otherwise X1 or X2 of its tokens; otherwise X3 at the
+/// first unexpected token, or X6 at the token at which the nesting reaches 51; otherwise X4 at the content's end, if
+/// its tokens end too early. Fails with `AllocError` when out of memory.
 pub fn parse_expr(alloc: Global, content: &str) -> Result<Result<Expr<'_>, Fault>, AllocError>
     ensures tree { IfOk result (λ r. IfOk r (λ e. Spells content.now (expr_view e))) }
     ensures none { IfOk result (λ r. IfOk r (λ e. fault_of_content content.now ≡ None)) }

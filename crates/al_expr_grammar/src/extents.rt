@@ -1,4 +1,4 @@
-//! The bytes of a content that a part of its tree covers.
+//! The spans of the parts of a tree.
 
 ghost use Rattle.std.specs.Prelude.{◌≡◌, ◌∷◌, List, map};
 ghost use Rattle.al_base.specs.declared.faults.Span.{Span};
@@ -10,7 +10,7 @@ ghost use Rattle.al_expr_grammar.specs.View.{expr_view, step_of, operand_of};
 use crate::ast::{Expr, Operand, PathStep};
 use al_base::Span;
 
-/// Where an expression stands, its outer brackets included.
+/// The span of an expression, its outer brackets included.
 #[tactic(auto, using(crate::proofs::TreeViews::tree_views))]
 #[cycle(extents)]
 pub fn extent(expr: &Expr<'_>) -> Span
@@ -29,14 +29,14 @@ pub fn extent(expr: &Expr<'_>) -> Span
     }
 }
 
-/// Where a path stands.
+/// The span of a path.
 pub fn path_extent(base: &Expr<'_>, steps: &[PathStep<'_>]) -> Span
     ensures { result ≡ extent (Path (expr_view base.now) (steps_of (map step_of steps.now))) }
 {
     with_steps(extent(base), steps)
 }
 
-/// From the start of one place to the end of another.
+/// The span from the start of one to the end of another.
 pub fn across(first: Span, last: Span) -> Span
     ensures { result ≡ extents.across first last }
 {

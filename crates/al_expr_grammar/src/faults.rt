@@ -17,7 +17,7 @@ pub fn plain_fault(code: ExpressionCode, span: Span) -> Fault
     }
 }
 
-/// The fault of a text that is open from this quote on.
+/// The fault of a string that isn't closed, with this opening quote.
 pub fn unclosed_text(quote: usize) -> Fault
     requires { quote < 2 ^ 32 - 1 }
     ensures { Some result ≡ open_text (Some quote) }

@@ -1,4 +1,4 @@
-//! The tokens of a content, or the character at which they break off.
+//! The tokens of a content, or the character at which they end early.
 
 ghost use Rattle.std.specs.Prelude.{map, IfOk, IfSome, MatchOption, MatchResult, ◌≡◌, ◌≤◌, ◌<◌, ◌+◌, ◌^◌, Some, [], ◌∷◌, length, false};
 ghost use Rattle.std.specs.Int.{is_in_range};
@@ -20,23 +20,23 @@ use crate::token::{Keyword, Operator, Token, TokenKind};
 use al_base::{ExpressionCode, Fault, Span};
 use std::alloc::{AllocError, Global};
 
-/// What stands at the front of the rest of a content.
+/// What the rest of a content begins with.
 #[derive(Clone, Copy)]
 enum Read {
     /// A byte between tokens.
     Blank,
-    /// A token of so many bytes.
+    /// A token with this many bytes.
     Token(TokenKind, usize),
     /// A character that begins no token.
     BadCharacter,
-    /// A text that is never closed.
+    /// A string that is never closed.
     OpenText,
 }
 
-/// Why the tokens of a content were not all read.
+/// Why not all tokens of a content were read.
 #[derive(Clone, Copy)]
 enum LexError {
-    /// At this character.
+    /// A character that begins no token.
     BadCharacter(Span),
     OpenText,
 }
@@ -66,7 +66,7 @@ fn name_part(b: u8) -> bool
     name_start(b) || digit(b) || b == b'-'
 }
 
-/// How many bytes of a name stand at the front.
+/// The length of the name at the front.
 fn name_len(bytes: &[u8]) -> usize
     ensures value { result ≡ prefix_len goes_on_name bytes.now }
     ensures within { result ≤ length bytes.now }
@@ -74,7 +74,7 @@ fn name_len(bytes: &[u8]) -> usize
     bytes.iter().take_while(|b| name_part(**b)).count()
 }
 
-/// How many bytes at the front continue a character.
+/// The number of bytes at the front that continue a character.
 fn inside_len(bytes: &[u8]) -> usize
     ensures value { result ≡ prefix_len (is_in_range 128 191) bytes.now }
     ensures within { result ≤ length bytes.now }
@@ -85,7 +85,7 @@ fn inside_len(bytes: &[u8]) -> usize
         .count()
 }
 
-/// Whether a name is a word of its own.
+/// The kind of a name: a keyword or any other name.
 fn name_kind(name: &[u8]) -> TokenKind
     ensures { result ≡ word_kind name.now }
 {
@@ -100,8 +100,8 @@ fn name_kind(name: &[u8]) -> TokenKind
     }
 }
 
-/// How many bytes follow the quote that opens a text, the closing one included, or none where it is never closed. A
-/// doubled quote is a part of the text.
+/// The number of bytes after the opening quote of a string, the closing one included; `None` if it is never closed. A
+/// doubled quote is part of the string.
 fn text_len(bytes: &[u8]) -> Option<usize>
     ensures value { result ≡ tail_from false bytes.now }
     ensures within { IfSome result (λ n. n ≤ length bytes.now) }
@@ -117,7 +117,7 @@ fn text_len(bytes: &[u8]) -> Option<usize>
     if closes { Some(bytes.len()) } else { None }
 }
 
-/// The mark at the front. Of two that begin alike the longer one counts.
+/// The mark at the front; the longer one, if there are two.
 fn mark_at(bytes: &[u8]) -> Read
     ensures value { result ≡ mark bytes.now }
     ensures fits { Fits bytes.now result }
@@ -161,7 +161,7 @@ fn number_at(bytes: &[u8]) -> Read
     }
 }
 
-/// The text behind its opening quote.
+/// The string after its opening quote.
 fn text_at(rest: &[u8]) -> Read
     ensures { result ≡ text_read (text_tail rest.now) }
 {
@@ -171,7 +171,7 @@ fn text_at(rest: &[u8]) -> Read
     }
 }
 
-/// The first byte, and the others.
+/// The first byte, and the rest.
 fn split(bytes: &[u8]) -> Option<(u8, &[u8])>
     ensures { MatchOption result (bytes.now ≡ []) (λ x. bytes.now ≡ x.0 ∷ x.1.now) }
 {
@@ -181,7 +181,7 @@ fn split(bytes: &[u8]) -> Option<(u8, &[u8])>
     }
 }
 
-/// What stands at the front.
+/// What the bytes begin with.
 fn read_at(bytes: &[u8]) -> Read
     ensures value { result ≡ read bytes.now }
     ensures fits { Fits bytes.now result }
@@ -202,7 +202,7 @@ fn read_at(bytes: &[u8]) -> Read
     }
 }
 
-/// The tokens of a content, or why they are not all read.
+/// The tokens of a content, or why not all are read.
 #[tactic(auto, using(crate::proofs::Lexing::past_blank))]
 fn tokens(alloc: Global, content: &str) -> Result<Result<Vec<Token>, LexError>, AllocError>
     requires { length content.now < 2 ^ 32 }
@@ -243,7 +243,7 @@ fn tokens(alloc: Global, content: &str) -> Result<Result<Vec<Token>, LexError>, 
     Ok(Ok(tokens))
 }
 
-/// The last quote.
+/// The offset of the last quote.
 pub fn last_quote(bytes: &[u8]) -> Option<usize>
     ensures value { result ≡ last_quote bytes.now }
     ensures within { IfSome result (λ n. n < length bytes.now) }
@@ -257,10 +257,10 @@ pub fn last_quote(bytes: &[u8]) -> Option<usize>
     last
 }
 
-/// The tokens of a content, in order; their texts and places are those in the content.
+/// The tokens of a content, in order, with their texts and spans in it.
 ///
-/// The fault is X1 at the first character that begins no token, or X2 at the content's last quote where a text is never
-/// closed. The outer error: out of memory.
+/// The fault is X1 at the first character that begins no token, or X2 at the content's last quote if a string is
+/// never closed. Fails with `AllocError` when out of memory.
 pub fn lex(alloc: Global, content: &str) -> Result<Result<Vec<Token>, Fault>, AllocError>
     requires { length content.now ≤ longest_text }
     ensures { IfOk result

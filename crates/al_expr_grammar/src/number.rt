@@ -1,4 +1,4 @@
-//! How far a number reaches.
+//! The length of a number.
 
 ghost use Rattle.std.specs.Prelude.{◌≡◌, ◌≤◌, ◌<◌, ◌+◌, ◌^◌, length};
 ghost use Rattle.std.specs.Char.{is_ascii_digit, is_ascii_hexdigit};
@@ -20,7 +20,7 @@ fn hex_digit(b: u8) -> bool
     digit(b) || (b'A' <= b && b <= b'F') || (b'a' <= b && b <= b'f')
 }
 
-/// How many digits stand at the front.
+/// The number of digits at the front.
 fn digits(bytes: &[u8]) -> usize
     ensures value { result ≡ prefix_len is_ascii_digit bytes.now }
     ensures within { result ≤ length bytes.now }
@@ -28,7 +28,7 @@ fn digits(bytes: &[u8]) -> usize
     bytes.iter().take_while(|b| digit(**b)).count()
 }
 
-/// How many hexadecimal digits stand at the front.
+/// The number of hexadecimal digits at the front.
 fn hex_digits(bytes: &[u8]) -> usize
     ensures value { result ≡ prefix_len is_ascii_hexdigit bytes.now }
     ensures within { result ≤ length bytes.now }
@@ -36,7 +36,7 @@ fn hex_digits(bytes: &[u8]) -> usize
     bytes.iter().take_while(|b| hex_digit(**b)).count()
 }
 
-/// The length of a part that is there only with a digit: so many bytes, then digits.
+/// The length of a part that needs at least one digit: this many bytes, then digits.
 fn with(lead: usize, digits: usize) -> usize
     requires { lead + digits < 2 ^ 64 }
     ensures { result ≡ with_digits lead digits }
@@ -102,7 +102,7 @@ fn unsigned(bytes: &[u8]) -> usize
     hexadecimal(bytes).max(decimal(bytes))
 }
 
-/// The length of the number at the front, the longest that fits, or 0 where there is none.
+/// The length of the longest number at the front, or 0 if there is none.
 pub fn number(bytes: &[u8]) -> usize
     ensures value { result ≡ number_len bytes.now }
     ensures within { result ≤ length bytes.now }

@@ -1,4 +1,4 @@
-//! The tree that tokens spell, level by level of the operators.
+//! A recursive descent parser: a function for each level of the operators.
 
 ghost use Rattle.std.specs.Prelude.{map, IfOk, ◌≡◌, ◌≢◌, ◌+◌, ◌++◌, MatchOption, MatchResult, List, [], ◌∷◌};
 ghost use Rattle.al_expr_grammar.specs.Lexeme.{seen, kinds, kind_of, lexeme_text, lexeme_span};
@@ -18,7 +18,7 @@ use crate::token::{Operator, Token, TokenKind};
 use al_base::limits::DEEPEST_EXPRESSION;
 use std::alloc::{AllocError, AllocFailed, Global};
 
-/// Why tokens were not read, with how many are left where the fault stands, the faulty one included.
+/// Why tokens were not parsed, with how many are left at the fault, the faulty one included.
 #[derive(Clone, Copy, Debug)]
 pub enum ParseError {
     Memory,
@@ -58,7 +58,7 @@ fn level_of(operator: Operator) -> u8
     }
 }
 
-/// The first token, and the others.
+/// The first token, and the rest.
 fn split<'t, 'a>(tokens: &'t [Token<'a>]) -> Option<(Token<'a>, &'t [Token<'a>])>
     ensures { MatchOption result (map seen tokens.now ≡ [])
         (λ x. map seen tokens.now ≡ seen x.0 ∷ map seen x.1.now) }
@@ -69,7 +69,7 @@ fn split<'t, 'a>(tokens: &'t [Token<'a>]) -> Option<(Token<'a>, &'t [Token<'a>])
     }
 }
 
-/// A token's text with its place.
+/// A token's text with its span.
 fn word<'a>(token: Token<'a>) -> Word<'a>
     ensures text { result.text.now ≡ lexeme_text (seen token.entry) }
     ensures span { result.span ≡ lexeme_span (seen token.entry) }
@@ -80,7 +80,8 @@ fn word<'a>(token: Token<'a>) -> Word<'a>
     }
 }
 
-/// Adds to the steps of a path or the operands of a chain. The first takes room for itself alone, as most have no other.
+/// Appends to the steps of a path or the operands of a chain. The first one reserves room only for itself, since most
+/// lists have no other.
 fn add<T: Drop>(list: &mut Vec<T>, item: T) -> Result<(), AllocError>
     ensures { IfOk result (λ _. list.new.items ≡ list.old.items ++ item ∷ []) }
 {
@@ -91,7 +92,7 @@ fn add<T: Drop>(list: &mut Vec<T>, item: T) -> Result<(), AllocError>
     Ok(())
 }
 
-/// The path from a base, which is the base itself where there is no step.
+/// The path with a base and steps, or the base itself if there are no steps.
 fn with_steps<'a>(
     alloc: Global,
     base: Expr<'a>,
@@ -105,7 +106,7 @@ fn with_steps<'a>(
     Ok(Expr::Path(Box::new(alloc, base)?, steps))
 }
 
-/// The chain from a first operand, which is the operand itself where there is no other.
+/// The chain of a first operand and further ones, or the operand itself if there are no others.
 fn with_operands<'a>(
     alloc: Global,
     first: Expr<'a>,
@@ -119,7 +120,7 @@ fn with_operands<'a>(
     Ok(Expr::Chain(Box::new(alloc, first)?, more))
 }
 
-/// The token of this kind that has to come first, and what follows it.
+/// The first token, which must be of this kind, and the rest.
 fn past<'t, 'a>(
     tokens: &'t [Token<'a>],
     kind: TokenKind,
@@ -138,7 +139,7 @@ fn past<'t, 'a>(
     }
 }
 
-/// An operator of this level at the front, with the tokens behind it.
+/// An operator of this level at the front, and the tokens after it.
 fn operator<'t, 'a>(
     level: u8,
     tokens: &'t [Token<'a>],
@@ -160,7 +161,7 @@ fn operator<'t, 'a>(
     }
 }
 
-/// The first token where it is of this kind, and what follows it.
+/// The first token, if it is of this kind, and the rest.
 fn after<'t, 'a>(tokens: &'t [Token<'a>], kind: TokenKind) -> Option<(Token<'a>, &'t [Token<'a>])>
     ensures { MatchOption result
         ((rest : List TokenKind) → kinds (map seen tokens.now) ≢ kind ∷ rest)
@@ -174,7 +175,7 @@ fn after<'t, 'a>(tokens: &'t [Token<'a>], kind: TokenKind) -> Option<(Token<'a>,
     }
 }
 
-/// The nesting that is left inside a bracket or behind a `!`, with so many tokens left, it included.
+/// The nesting that is left inside a bracket or after a `!`, at which this many tokens are left, itself included.
 fn deeper(room: u32, left: usize) -> Result<u32, ParseError>
     ensures { MatchResult result (λ inner. inner + 1 ≡ room)
         (λ e. (room ≡ 0) × (e ≡ TooDeep left)) }
@@ -206,7 +207,7 @@ fn property<'t, 'a>(
     }
 }
 
-/// A literal, a name, a call or brackets, at the front.
+/// A literal, a name, a call or an expression in brackets, at the front.
 #[cycle(parser)]
 fn primary<'t, 'a>(
     alloc: Global,
@@ -232,7 +233,7 @@ fn primary<'t, 'a>(
     }
 }
 
-/// Brackets, behind the opening one.
+/// An expression in brackets, after the opening one.
 #[cycle(parser)]
 fn group<'t, 'a>(
     alloc: Global,
@@ -252,7 +253,7 @@ fn group<'t, 'a>(
     ))
 }
 
-/// A call, behind its name and opening bracket.
+/// A call, after its name and opening bracket.
 #[cycle(parser)]
 fn call<'t, 'a>(
     alloc: Global,
@@ -276,7 +277,7 @@ fn call<'t, 'a>(
     Ok((Expr::Call(function, given, close.span), rest))
 }
 
-/// The arguments of a call, of which there is at least one.
+/// The arguments of a call with at least one.
 #[cycle(parser)]
 fn arguments<'t, 'a>(
     alloc: Global,
@@ -299,7 +300,7 @@ fn arguments<'t, 'a>(
     Ok((given, left))
 }
 
-/// An operand with the steps behind it.
+/// An operand with the steps after it.
 #[cycle(parser)]
 fn postfix<'t, 'a>(
     alloc: Global,
@@ -318,7 +319,7 @@ fn postfix<'t, 'a>(
     Ok((with_steps(alloc, base, steps)?, left))
 }
 
-/// A step at the front, or none where no path goes on.
+/// A step at the front; `None` if the path doesn't continue.
 #[cycle(parser)]
 fn step<'t, 'a>(
     alloc: Global,
@@ -339,7 +340,7 @@ fn step<'t, 'a>(
     }
 }
 
-/// An index, behind its opening bracket.
+/// An index, after its opening bracket.
 #[cycle(parser)]
 fn index<'t, 'a>(
     alloc: Global,
@@ -360,7 +361,7 @@ fn index<'t, 'a>(
     Ok((PathStep::Index(bracket.span, expr, close.span), rest))
 }
 
-/// An operand of the tightest operators: negations, or none, before a path.
+/// An operand of the tightest operators: a path, possibly negated.
 #[cycle(parser)]
 fn unary<'t, 'a>(
     alloc: Global,
@@ -377,7 +378,7 @@ fn unary<'t, 'a>(
     Ok((Expr::Not(bang.span, Box::new(alloc, expr)?), rest))
 }
 
-/// Operands with the operators of one level between them.
+/// Operands, separated by operators of one level.
 #[cycle(parser)]
 fn binary<'t, 'a>(
     alloc: Global,

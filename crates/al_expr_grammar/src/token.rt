@@ -1,4 +1,4 @@
-//! What a token is, and where it stands.
+//! Tokens.
 
 use al_base::Span;
 
@@ -23,7 +23,7 @@ pub enum Keyword {
     False,
 }
 
-/// What a token is.
+/// The kind of a token.
 #[derive(Clone, Copy, PartialEq, Eq, Debug)]
 pub enum TokenKind {
     Name,
@@ -41,7 +41,7 @@ pub enum TokenKind {
     Infix(Operator),
 }
 
-/// A token of a content, with its text as written (a text literal's with its quotes) and its place in the content.
+/// A token of a content, with its text as written (a string with its quotes) and its span in the content.
 #[derive(Clone, Copy)]
 pub struct Token<'a> {
     pub kind: TokenKind,

@@ -1,4 +1,4 @@
-//! Chunks, tokens and trees of small texts that were worked out by hand, computed by the definitions.
+//! Worked chunks, tokens and trees of small texts, computed by the definitions.
 ghost use Rattle.al_expr_grammar.specs.Rows.Chunks.{closed, cut_off};
 ghost use Rattle.al_expr_grammar.specs.Rows.Tokens as row;
 ghost use Rattle.al_expr_grammar.specs.Rows.Trees.{chain, mark_at, name_at, operation, path, property_at};
@@ -11,7 +11,7 @@ ghost use Rattle.al_base.specs.Spans.{span};
 ghost use Rattle.al_base.specs.declared.codes.ExpressionCode.TheVariants.{UnclosedChunk, UnclosedText};
 ghost use Rattle.std.specs.Prelude.{◌≡◌, [], ◌∷◌, codes, None, Some};
 
-/// Where the contents of chunks lie in some texts, and what is wrong at their ends. Does nothing.
+/// Where the contents of chunks lie in some texts, and what is wrong at their ends. Does nothing at run time.
 pub fn chunk_rows()
     ensures none { chunks_of (codes "a $''{{ }} b") ≡ closed [] }
     ensures closing_in_quotes { chunks_of (codes "a ${{ 'x}}' }} b") ≡ closed ((5, 12) ∷ []) }
@@ -25,7 +25,7 @@ pub fn chunk_rows()
     ensures quotes_closed { chunks_of (codes "}${{x''${{ a }}\n'x${{ \n''") ≡ cut_off ((4, 13) ∷ []) UnclosedChunk (18, 21) }
 {}
 
-/// The tokens of some contents, or where one stands that has none. Does nothing.
+/// The tokens of some contents, or the character that begins none. Does nothing at run time.
 pub fn token_rows()
     ensures none { tokens_of (codes " \n") ≡ AllRead [] }
     ensures path { tokens_of (codes "a . b-1") ≡ AllRead (row.name (codes "a") 0 ∷ row.dot (codes ".") 2 ∷ row.name (codes "b-1") 4 ∷ []) }
@@ -47,7 +47,7 @@ pub fn token_rows()
     ensures hexadecimal { tokens_of (codes "0xaF 1E+2") ≡ AllRead (row.number (codes "0xaF") 0 ∷ row.number (codes "1E+2") 5 ∷ []) }
 {}
 
-/// The trees of some contents. Does nothing.
+/// The trees of some contents. Does nothing at run time.
 pub fn tree_rows()
     ensures looser_outside { tree_of_content (codes "a||b&&c<d") ≡ chain (name_at 0 (codes "a"))
         (operation Or 1 3 (chain (name_at 3 (codes "b"))

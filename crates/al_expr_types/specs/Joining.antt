@@ -1,4 +1,4 @@
--- What types have in common, as far as they were taken.
+-- What some types have in common.
 use Rattle.std.specs.Prelude.{ℕ, List, map, Bool, true}
 use Rattle.al_types.specs.Types.{Type', Optional, Absent, Present, Parts, object_type}
 use Rattle.al_types.specs.Fused.{fuse_all}

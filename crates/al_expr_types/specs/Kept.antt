@@ -1,4 +1,5 @@
--- What is kept of objects: what all fields of one, and the type of others, have in common; and its fields by their names.
+-- What a table keeps of objects: what all fields of one, and the type of others, have in common; and its fields by
+-- name.
 use Rattle.std.specs.Prelude.{◌≡◌, ◌<◌, ℕ, List, length, true, Option, Some}
 use Rattle.std.specs.BTreeMap.{BTreeMap, get}
 use Rattle.std.specs.Coded.{×_prop, Π_prop, →_prop, le_prop}
@@ -14,14 +15,14 @@ use Rattle.al_expr_types.specs.declared.ty.Ty.{Ty}
 abbrev pub IsCommon : List Object → ℕ → Option Ty → Type 0
 IsCommon os n t = (n < length os) × (is_rest_below (length os) t ≡ true) × (rest_in (parts_of_all os) t ≡ (object_in (parts_of_all os) n).2)
 
--- the fields of an object by their names, and the type of others
+-- the fields of an object by name, and the type of others
 abbrev pub IsFieldIndex : List Object → ℕ → Fields → Type 0
 IsFieldIndex os n f =
     let ms = parts_of_all os in
     ((n < length os) × (are_fields_below (length os) f ≡ true))
     × (((fields_parts ms f).0 ≡ (object_in ms n).0) × ((fields_parts ms f).1 ≡ (object_in ms n).1))
 
--- what is kept is so
+-- what is kept is right
 abbrev pub AreCommons : List Object → BTreeMap ℕ (Option Ty) → Type 0
 AreCommons os kept = (n : ℕ) (t : Option Ty) → get nat_cmp kept n ≡ Some t → IsCommon os n t
 

@@ -1,4 +1,4 @@
--- Objects that are made one: what a name finds.
+-- Merging objects, name by name.
 use Rattle.std.specs.Prelude.{ℕ, List, get_or, Bool, false, nat_eq, Option, Some, None, if◌then◌else◌}
 use Rattle.std.specs.List.{list_all}
 use Rattle.al_base.specs.Names.{same_name}
@@ -10,7 +10,7 @@ use Rattle.al_expr_types.specs.declared.joining.Join.{Join}
 use Rattle.al_expr_types.specs.declared.joining.Join.TheVariants as join
 use Rattle.al_expr_types.specs.declared.merging.FieldJoins.{FieldJoins}
 
--- what stands at a place, nothing where there is none
+-- the content of a slot; nothing if there is no slot
 abbrev pub slot : List Join → Option ℕ → Join
 slot js None = join.Nothing
 slot js (Some i) = get_or js i join.Nothing
@@ -28,11 +28,11 @@ are_joins_below k m = list_all (is_join_below k) m.joins.items
 abbrev pub and_named : (List ℕ → Optional) → List ℕ → Optional → List ℕ → Optional
 and_named at name more n = if same_name name n then fuse_optional (at n) more else at n
 
--- whether a name's place is this one
+-- whether a name's position is this one
 abbrev pub is_placed : Option ℕ → ℕ → Bool
 is_placed None i = false
 is_placed (Some k) i = nat_eq k i
 
--- with one more type of the name at a position of some names, where it is the first of its name
+-- with one more type for the name at a position, if it is the first with its name
 abbrev pub and_placed : (List ℕ → Optional) → List (List ℕ) → ℕ → Optional → List ℕ → Optional
 and_placed at ns i more n = if is_placed (name_place ns n) i then fuse_optional (at n) more else at n

@@ -1,4 +1,4 @@
--- Names of which no two are the same.
+-- Names that are all different.
 use Rattle.std.specs.Prelude.{ℕ, List, Bool}
 use Rattle.al_types.specs.FusedFields.{are_distinct}
 use Rattle.al_types.specs.Strings.{strings}

@@ -1,4 +1,4 @@
--- Parts of an object that can be asked for.
+-- The parts of an object that can be looked up.
 use Rattle.al_types.specs.Types.{Optional, Parts}
 use Rattle.al_expr_types.specs.declared.parts.Part.{Part}
 use Rattle.al_expr_types.specs.declared.parts.Part.TheVariants as part

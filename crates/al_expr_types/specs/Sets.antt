@@ -1,4 +1,4 @@
--- Types are a set, so that an equation of types can be kept as a fact.
+-- Types form a set, so that an equation of types can be kept as a fact.
 use Rattle.std.proofs.Common.{◌≡◌, ℕ, List, refl, ap, subst}
 use mathlib.Core.HLevel.{⊥_prop, Unit-prop, Π_prop, ×₃_prop, collapsible→set}
 use Rattle.al_types.specs.Types.{Type', Any, Null, Number, Bool', String, ArrayOf, ObjectOf, Optional, Absent, Present}

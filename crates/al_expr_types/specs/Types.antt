@@ -1,4 +1,4 @@
--- Types by numbers: what each stands for, object after object.
+-- The meaning of types that refer to objects by number, object after object.
 use Rattle.std.specs.Prelude.{ℕ, zero, suc, List, [], ◌∷◌, ◌++◌, map, take, zip}
 use Rattle.std.specs.Prelude.{get_or, Bool, true, false, ◌&&◌, nat_lt, Option, Some, None}
 use Rattle.std.specs.List.{list_all}
@@ -29,7 +29,7 @@ scalar_type scalar.String = String
 abbrev pub no_parts : Parts
 no_parts = parts_with [] Absent
 
--- the object of a number, among these
+-- the object with a number, among these
 abbrev pub object_in : List Parts → ℕ → Parts
 object_in ms n = get_or ms n no_parts
 
@@ -65,7 +65,7 @@ abbrev pub common_of : List Type' → Optional
 common_of [] = Absent
 common_of (t ∷ ts) = fuse_optional (Present t) (common_of ts)
 
--- fields, by what a prefix of them has in common and by types behind it
+-- fields, given what a prefix of them has in common, and the types after it
 abbrev pub parts_by : List Parts → Fields → Prefix → List Ty → Parts
 parts_by ms f b own =
     let p = fields_parts ms f in
@@ -74,7 +74,7 @@ parts_by ms f b own =
 abbrev pub extension_parts : List Parts → Extension → Parts
 extension_parts ms e = parts_by ms e.fields e.base e.own.items
 
--- strings of these names
+-- string fields with these names
 abbrev pub strings_parts : List (List ℕ) → Parts
 strings_parts ns = parts_with (strings ns) Absent
 
@@ -85,7 +85,7 @@ object_parts ms (object.Extension e) = extension_parts ms e
 object_parts ms (object.Strings ns) = strings_parts ns.now
 object_parts ms (object.Common ns) = fuse_all (map (object_in ms) ns.items)
 
--- objects one after another, behind those before them
+-- objects one after another, after those before them
 abbrev pub parts_after : List Parts → List Object → List Parts
 parts_after ms [] = []
 parts_after ms (o ∷ os) = let p = object_parts ms o in p ∷ parts_after (ms ++ p ∷ []) os
@@ -122,7 +122,7 @@ is_object_below n (object.Extension e) = are_fields_below n e.fields && is_exten
 is_object_below n (object.Strings ns) = true
 is_object_below n (object.Common ns) = are_below n ns.items
 
--- each object names earlier ones alone
+-- each object refers only to earlier ones
 abbrev pub are_in_order : ℕ → List Object → Bool
 are_in_order n [] = true
 are_in_order n (o ∷ os) = is_object_below n o && are_in_order (suc n) os

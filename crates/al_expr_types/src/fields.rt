@@ -1,4 +1,4 @@
-//! Fields, found by their names.
+//! Fields by name.
 
 ghost use Rattle.std.specs.Prelude.{◌≡◌, length};
 ghost use Rattle.al_expr_types.specs.Names.{names_in};
@@ -24,7 +24,7 @@ impl<'a> FieldMap<'a> {
     ghost use Rattle.al_expr_types.specs.Once.{are_once};
     ghost use Rattle.al_expr_types.specs.Types.{is_below, is_rest_below, named_types, type_in};
 
-    /// No fields. Takes no memory.
+    /// No fields. Doesn't allocate.
     pub fn new(alloc: Global) -> FieldMap<'a>
         ensures names { names_in result.names ≡ [] }
         ensures types { result.types.items ≡ [] }
@@ -35,7 +35,8 @@ impl<'a> FieldMap<'a> {
         }
     }
 
-    /// These fields, of which no two have the same name. Fails with `AllocError` where it is out of memory, as below.
+    /// These fields, which must have different names. Fails with `AllocError` when out of memory, as everything here
+    /// does.
     pub fn of(alloc: Global, fields: &[(&'a [u8], Ty)]) -> Result<FieldMap<'a>, AllocError>
         requires { are_once (map (λ f. f.0.now) fields.now) ≡ true }
         ensures names { IfOk result (λ m. names_in m.names ≡ map (λ f. f.0.now) fields.now) }
@@ -53,7 +54,7 @@ impl<'a> FieldMap<'a> {
         })
     }
 
-    /// The fields, and one more behind them unless one has its name.
+    /// Appends a field, unless there is one with its name.
     pub fn and(self, alloc: Global, name: &'a [u8], ty: Ty) -> Result<FieldMap<'a>, AllocError>
         ensures fields { IfOk result (λ f. (ms : List Parts)
             → fields_in ms f ≡ put_new (fields_in ms self.entry) (name.now, type_in ms ty)) }
@@ -70,7 +71,7 @@ impl<'a> FieldMap<'a> {
         }
     }
 
-    /// The fields, and one more behind them whose name isn't there.
+    /// Appends a field with a new name.
     fn push(self, alloc: Global, name: &'a [u8], ty: Ty) -> Result<FieldMap<'a>, AllocError>
         requires { name_place (names_in self.names) name.now ≡ None }
         ensures fields { IfOk result (λ f. (ms : List Parts)
@@ -100,7 +101,7 @@ impl<'a> FieldMap<'a> {
         (self.names.at(i), self.types[i])
     }
 
-    /// The type at a position, where it is one of the first so many.
+    /// The type at a position, if it is below `count`.
     fn type_at(&self, i: usize, count: usize) -> Option<Ty>
         ensures ty { result ≡ slice_get (take count self.now.types.items) i }
         ensures below { (k : ℕ) → is_map_below k self.now ≡ true → is_rest_below k result ≡ true }
@@ -114,7 +115,7 @@ impl<'a> FieldMap<'a> {
         Some(self.types[i])
     }
 
-    /// The type of the field of a name, in any ASCII case, where it is one of the first so many.
+    /// The type of the field with a name, ignoring ASCII case, if it is among the first `count` fields.
     pub fn get(&self, alloc: Global, name: &[u8], count: usize) -> Result<Option<Ty>, AllocError>
         ensures ty { IfOk result (λ found. (ms : List Parts) → option_map (type_in ms) found
             ≡ field_at name.now

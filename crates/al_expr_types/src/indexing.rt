@@ -1,4 +1,4 @@
-//! Objects made one: by names, for those that are looked through often.
+//! Indexes by name of objects that are often searched.
 
 ghost use Rattle.std.specs.Prelude.{◌≡◌, ◌<◌, IfOk, length, map, true};
 ghost use Rattle.std.specs.List.{list_all};
@@ -20,7 +20,7 @@ use crate::types::Types;
 use std::alloc::AllocError;
 
 impl<'a> Types<'a> {
-    /// Names with the fields of an object.
+    /// Adds the fields of an object to those merged so far.
     #[cycle(merging)]
     fn merge(&self, n: u32, sofar: FieldJoins<'a>) -> Result<FieldJoins<'a>, AllocError>
         requires { n < length self.now.objects.items }
@@ -59,7 +59,7 @@ impl<'a> Types<'a> {
         }
     }
 
-    /// The types of what fields have in common.
+    /// The types of merged fields.
     fn types_of(&mut self, merging: &FieldJoins<'a>) -> Result<Vec<Ty>, AllocError>
         requires { are_joins_below (length self.old.objects.items) merging.now ≡ true }
         ensures types { IfOk result (λ v. map (λ t. Present (type_at self.new t)) v.items
@@ -81,7 +81,7 @@ impl<'a> Types<'a> {
         Ok(types)
     }
 
-    /// The fields of an object by their names, and the type of others: as one list.
+    /// The fields of an object by name, and the type of others, as one list.
     pub fn index(&mut self, n: u32) -> Result<Fields<'a>, AllocError>
         requires { n < length self.old.objects.items }
         ensures index { IfOk result (λ f. IsFieldIndex self.new.objects.items n f) }
@@ -96,7 +96,7 @@ impl<'a> Types<'a> {
         Ok(fields)
     }
 
-    /// How many fields an object has by its index or of its own.
+    /// The number of fields of an object, by its index or by itself.
     fn field_count(&self, n: u32) -> usize
         requires { n < length self.now.objects.items }
     {
@@ -111,8 +111,8 @@ impl<'a> Types<'a> {
         }
     }
 
-    /// How many objects are looked through for a field of one, and how many fields these have. Makes the indexes of those that were looked
-    /// through often enough to pay for it.
+    /// How many objects a search for a field of an object goes through, and how many fields these have. Makes the index of each object
+    /// that was searched often enough to pay for it.
     pub(crate) fn prepare(&mut self, n: u32) -> Result<(usize, usize), AllocError>
         requires { n < length self.old.objects.items }
         ensures kept { BeginsWith (objects_of self.new) (objects_of self.old) }

@@ -12,28 +12,29 @@ use crate::ty::{Base, Scalar, Ty};
 use std::alloc::{AllocError, Global};
 use std::collections::BTreeMap;
 
-/// Up to so many objects are gone over to find one, which takes no memory. Where others stand is kept.
+/// Up to this many objects are searched one by one, which takes no memory. Of more, the positions are kept.
 const MOST_SCANNED: usize = 64;
 
-/// What types have in common.
+/// What some types have in common.
 #[derive(Drop)]
 pub enum Join {
-    /// Of no types.
+    /// There are no types.
     Nothing,
     One(Ty),
     Objects(ObjectJoin),
 }
 
-/// What objects have in common, in so many arrays.
+/// What objects have in common, nested in this many arrays.
 #[derive(Drop)]
 pub struct ObjectJoin {
     pub(crate) arrays: u32,
     pub(crate) objects: Vec<u32>,
-    /// Where those stand that aren't gone over, so that none is taken twice. Only time and memory depend on it.
+    /// The positions of those that aren't searched one by one, so that none is taken twice. Affects only time and
+    /// memory.
     places: BTreeMap<u32, usize>,
 }
 
-/// Any, in so many arrays.
+/// The type any, nested in this many arrays.
 fn any_in_arrays(arrays: u32) -> Ty
     ensures ty { (ms : List Parts) → type_in ms result ≡ arrays_of arrays Any }
     ensures below { (k : ℕ) → is_below k result ≡ true }
@@ -44,7 +45,7 @@ fn any_in_arrays(arrays: u32) -> Ty
     }
 }
 
-/// What two types have in common. Fails with `AllocError` where it is out of memory, as all here.
+/// What two types have in common. Fails with `AllocError` when out of memory, as everything here does.
 fn join_types(alloc: Global, a: Ty, b: Ty) -> Result<Join, AllocError>
     ensures ty { IfOk result
         (λ j. (ms : List Parts)
@@ -73,7 +74,7 @@ fn join_types(alloc: Global, a: Ty, b: Ty) -> Result<Join, AllocError>
     }
 }
 
-/// What two objects have in common, in so many arrays.
+/// What two objects have in common, nested in this many arrays.
 fn join_objects(alloc: Global, arrays: u32, m: u32, n: u32) -> Result<Join, AllocError>
     ensures ty { IfOk result (λ j. (ms : List Parts) → join_in ms j
         ≡ Present
@@ -93,7 +94,7 @@ fn join_objects(alloc: Global, arrays: u32, m: u32, n: u32) -> Result<Join, Allo
     Ok(Join::Objects(two))
 }
 
-/// Whether this object stands at a position.
+/// Whether this object is at a position.
 fn stands_at(objects: &[u32], i: usize, n: u32) -> bool
     ensures { IsTrue result → Contains objects.now n }
 {
@@ -103,7 +104,7 @@ fn stands_at(objects: &[u32], i: usize, n: u32) -> bool
     objects[i] == n
 }
 
-/// Whether this object is among the first ones, found by going over them.
+/// Whether this object is among the first ones, which are searched one by one.
 fn is_among_first(objects: &[u32], n: u32) -> bool
     ensures { IsTrue result → Contains objects.now n }
 {
@@ -127,7 +128,7 @@ impl ObjectJoin {
         }
     }
 
-    /// Whether an object is among them. Where it isn't found it is taken twice.
+    /// Whether an object is among them. If it is missed, it is only taken twice.
     fn has(&self, n: u32) -> bool
         ensures { IsTrue result → Contains self.now.objects.items n }
     {
@@ -212,7 +213,7 @@ impl Join {
         }
     }
 
-    /// The same once more.
+    /// A copy.
     pub(crate) fn copy(&self, alloc: Global) -> Result<Join, AllocError>
         ensures ty { IfOk result (λ j. (ms : List Parts) → join_in ms j ≡ join_in ms self.now) }
         ensures below { IfOk result
@@ -232,7 +233,7 @@ impl Join {
         }
     }
 
-    /// Whether they are none.
+    /// Whether there are no types.
     pub fn is_nothing(&self) -> bool
         ensures { (ms : List Parts) → result ≡ not (is_present (join_in ms self.now)) }
     {

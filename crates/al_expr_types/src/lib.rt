@@ -1,5 +1,6 @@
-//! The types of expressions by numbers. A type is a scalar or an object, in some arrays; the objects of a file stand in one table, each
-//! made once. What several objects have in common is an object too, made of their numbers, and so are the first fields of an object.
+//! The types of expressions. A type is a scalar or an object, nested in some arrays. The objects of a file are in one table, each made
+//! once, and types refer to them by number. What several objects have in common is an object too, given by their numbers, and so is a
+//! prefix of an object's fields.
 #![tactic(auto)]
 
 mod fields;

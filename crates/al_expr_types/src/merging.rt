@@ -1,4 +1,4 @@
-//! What the fields of each name have in common, of objects that are made one.
+//! Merging objects: what the fields with each name have in common.
 
 ghost use Rattle.std.specs.Prelude.{◌≡◌, length};
 ghost use Rattle.al_expr_types.specs.Names.{names_in};
@@ -11,7 +11,7 @@ use crate::ty::Ty;
 use std::alloc::{AllocError, Global};
 use std::mem::replace;
 
-/// Names, each once, and what the fields of each have in common.
+/// Names, each once, and what the fields with each have in common.
 #[derive(Drop)]
 pub struct FieldJoins<'a> {
     names: Names<'a>,
@@ -29,7 +29,7 @@ impl<'a> FieldJoins<'a> {
     ghost use Rattle.al_expr_types.specs.Merging.{and_named, are_joins_below, found_in};
     ghost use Rattle.al_expr_types.specs.Types.{are_fields_below, fields_parts, is_below, named_types, type_in};
 
-    /// No names. Takes no memory.
+    /// No names. Doesn't allocate.
     pub fn new(alloc: Global) -> FieldJoins<'a>
         ensures found { (ms : List Parts) → found_in ms result ≡ λ n. Absent }
         ensures below { (k : ℕ) → are_joins_below k result ≡ true }
@@ -52,7 +52,7 @@ impl<'a> FieldJoins<'a> {
         self.names
     }
 
-    /// Joins a type into a place. Where memory is wanting, what stood there is lost.
+    /// Joins a type into a slot. If memory runs out, the content of the slot is lost.
     fn join_into(alloc: Global, slot: &mut Join, ty: Ty) -> Result<(), AllocError>
         ensures ty { OnOk result
             ((ms : List Parts)
@@ -67,7 +67,7 @@ impl<'a> FieldJoins<'a> {
         Ok(())
     }
 
-    /// The same names, where a type is joined with what stands at the place of one.
+    /// Joins a type with what is at the position of a name.
     fn join_at(
         self,
         alloc: Global,
@@ -87,7 +87,7 @@ impl<'a> FieldJoins<'a> {
         Ok(FieldJoins { names, joins })
     }
 
-    /// The names, and one more that isn't there, with its type.
+    /// Appends a new name, with its type.
     fn push(self, alloc: Global, name: &'a [u8], ty: Ty) -> Result<FieldJoins<'a>, AllocError>
         requires { name_place (names_in self.names) name.now ≡ None }
         ensures found { IfOk result (λ m. (ms : List Parts) → found_in ms m
@@ -101,7 +101,7 @@ impl<'a> FieldJoins<'a> {
         Ok(FieldJoins { names, joins })
     }
 
-    /// The names with one more type: fused with what the fields of its name have in common, where there are some.
+    /// Adds the type of a field: joined with what the fields with its name have in common, if there are any.
     pub fn and(self, alloc: Global, name: &'a [u8], ty: Ty) -> Result<FieldJoins<'a>, AllocError>
         ensures found { IfOk result (λ m. (ms : List Parts) → found_in ms m
             ≡ and_named (found_in ms self.entry) name.now (Present (type_in ms ty))) }
@@ -121,7 +121,7 @@ impl<'a> FieldJoins<'a> {
         }
     }
 
-    /// The names with the field of a name, where it is the first of that name.
+    /// Adds the type of a field, if it is the first with its name.
     fn and_first(
         self,
         alloc: Global,
@@ -143,7 +143,7 @@ impl<'a> FieldJoins<'a> {
         Ok(self)
     }
 
-    /// The names with some fields.
+    /// Adds some fields.
     pub(crate) fn and_fields(
         self,
         alloc: Global,
@@ -167,7 +167,7 @@ impl<'a> FieldJoins<'a> {
         Ok(all)
     }
 
-    /// The names with strings of these names.
+    /// Adds string fields with these names.
     pub(crate) fn and_strings(
         self,
         alloc: Global,
@@ -187,7 +187,7 @@ impl<'a> FieldJoins<'a> {
         Ok(all)
     }
 
-    /// The names with the fields of an object.
+    /// Adds the fields of an object.
     pub(crate) fn and_object(
         self,
         alloc: Global,

@@ -1,4 +1,4 @@
-//! Where names first stand, when they come one by one.
+//! An index of names that are added one by one.
 
 ghost use Rattle.std.specs.Prelude.{◌≡◌, IfOk, None, OnOk};
 ghost use Rattle.al_base.specs.Names.{lower_case};
@@ -10,15 +10,16 @@ use std::alloc::{AllocError, Global};
 use std::collections::BTreeMap;
 use std::collections::btree_map::Entry;
 
-/// Where each name first stands, without regard to ASCII case. Adding one and looking one up take time that grows with the logarithm
-/// of their number, and with the name's length.
+/// The first position of each name, ignoring ASCII case. Adding and finding a name takes time logarithmic in their number, and linear in
+/// the name's length.
 #[derive(Drop)]
 pub(crate) struct NameIndex {
-    /// Of the names in lower case, by their last bytes first: numbers are compared at once, and mostly differ.
+    /// Positions by the names in lower case. The last bytes come first as a number: numbers are fast to compare, and
+    /// mostly differ.
     positions: BTreeMap<(u64, Vec<u8>), usize>,
 }
 
-/// What a name is found by. Fails with `AllocError` when out of memory, as all here.
+/// The key of a name. Fails with `AllocError` when out of memory, as everything here does.
 fn key_of(alloc: Global, name: &[u8]) -> Result<(u64, Vec<u8>), AllocError>
     ensures { IfOk result (λ k. (k.0, k.1.items) ≡ sort_key (lower_case name.now)) }
 {
@@ -27,7 +28,7 @@ fn key_of(alloc: Global, name: &[u8]) -> Result<(u64, Vec<u8>), AllocError>
 }
 
 impl NameIndex {
-    /// The index of no names. Takes no memory.
+    /// The index of no names. Doesn't allocate.
     pub(crate) fn new(alloc: Global) -> NameIndex
         ensures { place_in result ≡ λ name. None }
     {
@@ -36,7 +37,7 @@ impl NameIndex {
         }
     }
 
-    /// Adds a name that stands at a position, unless an equal one stood before.
+    /// Adds a name with its position, unless an equal one was added before.
     pub(crate) fn insert(
         &mut self,
         alloc: Global,
@@ -55,7 +56,7 @@ impl NameIndex {
         }
     }
 
-    /// Where a name first stands.
+    /// The first position of a name.
     pub(crate) fn get(&self, alloc: Global, name: &[u8]) -> Result<Option<usize>, AllocError>
         ensures { IfOk result (λ i. i ≡ place_in self.now name.now) }
     {

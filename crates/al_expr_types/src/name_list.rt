@@ -1,4 +1,4 @@
-//! Names that are kept: texts that compare equal exactly where their bytes are the same, ASCII case and all.
+//! Names that own their text. They compare equal only if their bytes are the same, ASCII case included.
 
 ghost use Rattle.std.specs.Prelude.{◌≡◌, IfOk, map};
 ghost use Rattle.al_base.specs.NamePlaces.{TellsFirsts, is_first_name, name_place, name_position};
@@ -40,7 +40,7 @@ impl Name {
         self.bytes.as_slice()
     }
 
-    /// A copy, with memory of its own. Fails with `AllocError` when out of memory.
+    /// A copy. Fails with `AllocError` when out of memory.
     pub fn copy(&self, alloc: Global) -> Result<Name, AllocError>
         ensures { IfOk result (λ copy. copy ≡ self.now) }
     {
@@ -149,7 +149,7 @@ impl NameList {
         self.names.as_slice()
     }
 
-    /// A copy, with memory of its own. Fails with `AllocError` when out of memory.
+    /// A copy. Fails with `AllocError` when out of memory.
     pub fn copy(&self, alloc: Global) -> Result<NameList, AllocError>
         ensures { IfOk result (λ copy. copy ≡ self.now) }
     {
@@ -173,7 +173,7 @@ impl NameList {
         self.names.len()
     }
 
-    /// The position of a name, in any ASCII case. Fails with `AllocError` where it is out of memory, as below.
+    /// The position of a name, in any ASCII case. Fails with `AllocError` when out of memory, as below.
     pub fn position(&self, alloc: Global, name: &[u8]) -> Result<Option<usize>, AllocError>
         ensures { IfOk result (λ i. i ≡ name_place self.now name.now) }
     {

@@ -1,4 +1,4 @@
-//! The names of fields, found by going over them, and by an index where there are many.
+//! The names of fields, searched one by one, or by an index if there are many.
 
 ghost use Rattle.std.specs.Prelude.{◌≡◌, ◌++◌, ◌∷◌, [], IfOk, None, map, true};
 ghost use Rattle.al_base.specs.NamePlaces.{name_place};
@@ -9,20 +9,20 @@ use crate::name_index::NameIndex;
 use al_base::is_same_name;
 use std::alloc::{AllocError, Global};
 
-/// Up to so many names are gone over to find one, which takes no memory. Of more there is an index.
+/// Up to this many names are searched one by one, which takes no memory. Of more there is an index.
 const MOST_SCANNED: usize = 64;
 
-/// The names of fields in order, each once but for ASCII case. A file lends them.
+/// The names of fields in order, each once, ignoring ASCII case. They are borrowed from a file.
 #[derive(Drop)]
 pub struct Names<'a> {
     names: Vec<&'a [u8]>,
-    /// Where each stands, of too many names to go over.
+    /// The index, if there are too many names to search one by one.
     index: Option<NameIndex>,
     ghost indexed: { place_by index (map (λ n. n.now) names.items) ≡ name_place (map (λ n. n.now) names.items) },
     ghost once: { are_once (map (λ n. n.now) names.items) ≡ true },
 }
 
-/// Where a name first stands, in any ASCII case, by going over the names.
+/// The first position of a name, ignoring ASCII case, by a search one by one.
 fn scan(names: &[&[u8]], name: &[u8]) -> Option<usize>
     ensures { result ≡ name_place (map (λ n. n.now) names.now) name.now }
 {
@@ -34,7 +34,7 @@ fn scan(names: &[&[u8]], name: &[u8]) -> Option<usize>
     None
 }
 
-/// Where each name first stands. Fails with `AllocError` where it is out of memory, as all here.
+/// The index of some names. Fails with `AllocError` when out of memory, as everything here does.
 fn index_of(alloc: Global, names: &[&[u8]]) -> Result<NameIndex, AllocError>
     ensures { IfOk result (λ index. IsNameIndex index (map (λ n. n.now) names.now)) }
 {
@@ -45,7 +45,7 @@ fn index_of(alloc: Global, names: &[&[u8]]) -> Result<NameIndex, AllocError>
     Ok(index)
 }
 
-/// The index of names to which one more comes: the one that there is, or one that is made where they become too many to go over.
+/// The index of names before one more is added: the existing one, or a new one if they become too many to search one by one.
 fn index_for_more(
     alloc: Global,
     names: &[&[u8]],
@@ -71,7 +71,7 @@ impl<'a> Names<'a> {
     ghost use Rattle.std.specs.Prelude.{◌<◌, get_or, length};
     ghost use Rattle.al_expr_types.specs.Names.{names_in};
 
-    /// No names. Takes no memory.
+    /// No names. Doesn't allocate.
     pub fn new(alloc: Global) -> Names<'a>
         ensures { names_in result ≡ [] }
     {
@@ -81,7 +81,7 @@ impl<'a> Names<'a> {
         }
     }
 
-    /// These names, of which no two are the same, without an index: they are to be few.
+    /// These names, which must be different, without an index, so they should be few.
     pub(crate) fn of(names: Vec<&'a [u8]>) -> Names<'a>
         requires { are_once (map (λ n. n.now) names.items) ≡ true }
         ensures { names_in result ≡ map (λ n. n.now) names.entry.items }
@@ -104,7 +104,7 @@ impl<'a> Names<'a> {
         self.names.len()
     }
 
-    /// The position of a name, in any ASCII case.
+    /// The position of a name, ignoring ASCII case.
     pub fn position(&self, alloc: Global, name: &[u8]) -> Result<Option<usize>, AllocError>
         ensures { IfOk result (λ i. i ≡ name_place (names_in self.now) name.now) }
     {
@@ -117,7 +117,7 @@ impl<'a> Names<'a> {
         }
     }
 
-    /// The names, and one more behind them that isn't there.
+    /// Appends a new name.
     pub(crate) fn push(self, alloc: Global, name: &'a [u8]) -> Result<Names<'a>, AllocError>
         requires { name_place (names_in self) name.now ≡ None }
         ensures { IfOk result (λ ns. names_in ns ≡ names_in self.entry ++ name.now ∷ []) }

@@ -1,4 +1,4 @@
-//! What an object is made of.
+//! Objects.
 
 ghost use Rattle.std.specs.Prelude.{◌≤◌, length};
 
@@ -8,7 +8,7 @@ use crate::ty::Ty;
 use std::alloc::{AllocError, Global};
 use std::rc::Rc;
 
-/// The first so many of some fields, and the type of every field beside them, where there may be others. Prefixes share the fields.
+/// A prefix of some fields, and the type of all other fields, if others are possible. Prefixes share the fields.
 #[derive(Drop)]
 pub struct Fields<'a> {
     pub map: Rc<FieldMap<'a>>,
@@ -23,7 +23,7 @@ impl<'a> Fields<'a> {
     ghost use Rattle.al_expr_types.specs.FieldMaps.{fields_in, is_map_below};
     ghost use Rattle.al_expr_types.specs.Types.{are_fields_below, fields_parts, is_rest_below, rest_in};
 
-    /// All fields of a map, and others of a type where there may be others. Fails with `AllocError` where it is out of memory.
+    /// All fields of a map, and the type of other fields, if others are possible. Fails with `AllocError` when out of memory.
     pub(crate) fn of(
         alloc: Global,
         map: FieldMap<'a>,
@@ -40,30 +40,30 @@ impl<'a> Fields<'a> {
     }
 }
 
-/// An object of the first so many fields of a map.
+/// An object with a prefix of a map's fields.
 #[derive(Clone, Copy)]
 pub struct Prefix {
     pub object: u32,
     pub count: usize,
 }
 
-/// Fields of which an earlier object has the first ones: what all of them have in common is what those have, and the types that come behind
+/// Fields that extend those of an earlier object: what all of them have in common is what that object's have, joined with the types after
 /// them.
 #[derive(Drop)]
 pub struct Extension<'a> {
     pub fields: Fields<'a>,
     pub base: Prefix,
-    /// The types behind the base, without objects that stand before.
+    /// The types after those of the base, without objects that occur before.
     pub own: Vec<Ty>,
 }
 
-/// An object. The numbers in it are those of earlier objects.
+/// An object. It refers only to earlier objects.
 #[derive(Drop)]
 pub enum Object<'a> {
     Fields(Fields<'a>),
     Extension(Extension<'a>),
-    /// Strings of these names: the outputs behind a call, which aren't copied.
+    /// String fields with these names: the outputs behind a call, which aren't copied.
     Strings(&'a NameList),
-    /// What objects have in common.
+    /// What these objects have in common.
     Common(Vec<u32>),
 }

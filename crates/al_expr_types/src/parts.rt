@@ -1,6 +1,6 @@
-//! What an object can be asked for.
+//! The parts of an object that can be looked up.
 
-/// A part of an object: the field of a name, the type of every field beside its own, or what all of them have in common.
+/// A part of an object: the field with a name, the type of fields beside its own, or what all of them have in common.
 #[derive(Clone, Copy)]
 pub enum Part<'n> {
     Named(&'n [u8]),

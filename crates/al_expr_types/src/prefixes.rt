@@ -1,4 +1,4 @@
-//! Prefixes of the fields of a map, as the steps before each step of a job are of all its steps.
+//! Prefixes of the fields of a map, such as the steps before each step of a job.
 
 ghost use Rattle.std.specs.Prelude.{◌≡◌, ◌<◌, ◌≤◌, Contains, List, None, Some, IfOk, IsTrue, OnOk, length, map, take, true, ℕ};
 ghost use Rattle.std.specs.List.{list_all};
@@ -14,22 +14,21 @@ use std::alloc::{AllocError, Global};
 use std::collections::BTreeMap;
 use std::rc::Rc;
 
-/// The fields of a map whose prefixes are asked for, as a rule the shorter ones first. What all fields of a prefix have in common goes by
-/// that of a base, a prefix with less than `BLOCK` fields fewer, and by the types that come behind it, so it takes no time that grows with
-/// the prefix.
+/// The fields of a map whose prefixes are needed, usually the shorter ones first. What all fields of a prefix have in common is computed
+/// from that of a base, a prefix with fewer than `BLOCK` fields less, and the types after it, so the time doesn't grow with the prefix.
 #[derive(Drop)]
 pub struct Prefixes<'a> {
     map: Rc<FieldMap<'a>>,
-    /// For each type of the map the position at which its object first stands. Only time and memory depend on it.
+    /// For each type of the map, the position at which its object first occurs. Affects only time and memory.
     firsts: Vec<usize>,
     base: Option<Prefix>,
 }
 
-/// So many fields stand between two bases.
+/// The number of fields between two bases.
 const BLOCK: usize = 64;
 
-/// For each of some types the position at which its object first stands, or its own where it is none. Fails with `AllocError` where it is
-/// out of memory, as all here.
+/// For each type, the position at which its object first occurs, or its own position if it isn't an object. Fails with `AllocError` when
+/// out of memory, as everything here does.
 fn first_positions(alloc: Global, types: &[Ty]) -> Result<Vec<usize>, AllocError> {
     let mut firsts = Vec::new(alloc);
     let mut places: BTreeMap<u32, usize> = BTreeMap::new(alloc);
@@ -49,7 +48,7 @@ fn first_positions(alloc: Global, types: &[Ty]) -> Result<Vec<usize>, AllocError
     Ok(firsts)
 }
 
-/// Whether two types are one object, in as many arrays.
+/// Whether two types are the same object, nested in as many arrays.
 fn are_one_object(a: Ty, b: Ty) -> bool
     ensures { IsTrue result → a ≡ b }
 {
@@ -65,7 +64,7 @@ fn are_one_object(a: Ty, b: Ty) -> bool
     m == n
 }
 
-/// Whether this object stands at a position.
+/// Whether this object is at a position.
 fn stands_at(types: &[Ty], i: usize, ty: Ty) -> bool
     ensures { IsTrue result → Contains types.now ty }
 {
@@ -75,7 +74,7 @@ fn stands_at(types: &[Ty], i: usize, ty: Ty) -> bool
     are_one_object(types[i], ty)
 }
 
-/// Whether an object stands before a position. Where it isn't found it is taken twice.
+/// Whether an object occurs before a position. If it is missed, it is only taken twice.
 fn stands_before(types: &[Ty], firsts: &[usize], i: usize, ty: Ty) -> bool
     requires { i ≤ length types.now }
     ensures { IsTrue result → Contains (take i types.now) ty }
@@ -87,7 +86,7 @@ fn stands_before(types: &[Ty], firsts: &[usize], i: usize, ty: Ty) -> bool
     stands_at(before, firsts[i], ty)
 }
 
-/// The types from one position to another, without objects that stand before.
+/// The types from one position to another, without objects that occur before.
 fn new_types(
     alloc: Global,
     types: &[Ty],
@@ -135,7 +134,7 @@ impl<'a> Prefixes<'a> {
         })
     }
 
-    /// The first so many fields.
+    /// The first `count` fields.
     fn fields(&self, count: usize) -> Result<Fields<'a>, AllocError>
         requires { count ≤ length (map_in self.now).types.items }
         ensures map { IfOk result (λ f. f.map.value ≡ map_in self.now) }
@@ -150,7 +149,7 @@ impl<'a> Prefixes<'a> {
         })
     }
 
-    /// The number of a new object of the first so many fields, by one of fewer of them where there is one.
+    /// The number of a new object with the first `count` fields, based on one with fewer of them if there is one.
     fn object(
         &self,
         types: &mut Types<'a>,
@@ -181,7 +180,7 @@ impl<'a> Prefixes<'a> {
         }
     }
 
-    /// The last base, unless it is longer than so many fields.
+    /// The last base, unless it has more than `count` fields.
     fn shorter_base(&self, count: usize) -> Option<Prefix>
         ensures base { (types : Types) → HasPrefix types (map_in self.now) self.now.base
             → HasPrefix types (map_in self.now) result }
@@ -196,7 +195,7 @@ impl<'a> Prefixes<'a> {
         Some(base)
     }
 
-    /// The base of the first so many fields: a new one where these are a block or more behind the last.
+    /// The base of the first `count` fields: a new one if they are a block or more beyond the last.
     fn base_of(&mut self, types: &mut Types<'a>, count: usize) -> Result<Option<Prefix>, AllocError>
         requires inside { count ≤ length (map_in self.old).types.items }
         requires below { is_map_below (length types.old.objects.items) (map_in self.old) ≡ true }
@@ -225,7 +224,7 @@ impl<'a> Prefixes<'a> {
         Ok(Some(new))
     }
 
-    /// The type of an object of the first so many fields, and no others.
+    /// The type of an object with the first `count` fields, and no others.
     pub fn first(&mut self, types: &mut Types<'a>, count: usize) -> Result<Ty, AllocError>
         requires inside { count ≤ length (map_in self.old).types.items }
         requires below { is_map_below (length types.old.objects.items) (map_in self.old) ≡ true }

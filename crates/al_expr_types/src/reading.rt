@@ -1,4 +1,4 @@
-//! What is asked of a type: the type of a property, and of `.*`.
+//! Looking up the type of a property, and of `.*`.
 
 ghost use Rattle.std.specs.Prelude.{◌≡◌, ◌<◌, List, IfOk, IfSome, length, map, not, option_map, true, ℕ};
 ghost use Rattle.al_base.specs.Growth.{BeginsWith};
@@ -21,7 +21,7 @@ use crate::ty::Ty;
 use crate::types::Types;
 use std::alloc::{AllocError, Global};
 
-/// What types have in common with those so far. Fails with `AllocError` where it is out of memory, as all here.
+/// Joins types with those so far. Fails with `AllocError` when out of memory, as everything here does.
 fn and_all(alloc: Global, types: &[Ty], sofar: Join) -> Result<Join, AllocError>
     ensures part { IfOk result (λ j. (ms : List Parts)
         → join_in ms j
@@ -37,7 +37,7 @@ fn and_all(alloc: Global, types: &[Ty], sofar: Join) -> Result<Join, AllocError>
     Ok(all)
 }
 
-/// What a type, where there is one, has in common with those so far.
+/// Joins a type, if there is one, with those so far.
 fn and_one(alloc: Global, ty: Option<Ty>, sofar: Join) -> Result<Join, AllocError>
     ensures part { IfOk result
         (λ j. (ms : List Parts) → join_in ms j ≡ fuse_optional (join_in ms sofar) (rest_in ms ty)) }
@@ -52,7 +52,7 @@ fn and_one(alloc: Global, ty: Option<Ty>, sofar: Join) -> Result<Join, AllocErro
 }
 
 impl Fields<'_> {
-    /// What a part of them has in common with types so far.
+    /// Joins a part of them with the types so far.
     fn gather(&self, alloc: Global, part: Part<'_>, sofar: Join) -> Result<Join, AllocError>
         ensures part { IfOk result (λ j. (ms : List Parts)
             → join_in ms j
@@ -80,7 +80,7 @@ impl Fields<'_> {
     }
 }
 
-/// Whether a part of an object of strings is one.
+/// Whether a part of an object with string fields is a string.
 fn has_string(alloc: Global, names: &NameList, part: Part<'_>) -> Result<bool, AllocError>
     ensures { IfOk result
         (λ b. part_in part.entry (strings_parts names.now) ≡ string_unless (not b)) }
@@ -95,7 +95,7 @@ fn has_string(alloc: Global, names: &NameList, part: Part<'_>) -> Result<bool, A
     }
 }
 
-/// What a part of an object of strings has in common with types so far.
+/// Joins a part of an object with string fields with the types so far.
 fn gather_strings(
     alloc: Global,
     names: &NameList,
@@ -115,7 +115,7 @@ fn gather_strings(
 }
 
 impl<'a> Types<'a> {
-    /// The index of an object, where it was made and the part can be read from it.
+    /// The index of an object, if it was made and has the part.
     fn index_for(&self, n: u32, part: Part<'_>) -> Option<&Fields<'a>>
         ensures part { IfSome result
             (λ f. part_in part.entry (fields_parts (objects_of self.now) f.now)
@@ -130,7 +130,7 @@ impl<'a> Types<'a> {
         }
     }
 
-    /// What all fields of an object have in common, where it is kept and the part is that.
+    /// What all fields of an object have in common, if that is the part and is kept.
     fn common_for(&self, n: u32, part: Part<'_>) -> Option<Option<Ty>>
         ensures part { IfSome result
             (λ t. rest_in (objects_of self.now) t
@@ -145,7 +145,7 @@ impl<'a> Types<'a> {
         }
     }
 
-    /// What a part of fields that extend those of an object has in common with types so far.
+    /// Joins a part of fields that extend those of an object with the types so far.
     #[cycle(gathering)]
     fn gather_extension(
         &self,
@@ -178,7 +178,7 @@ impl<'a> Types<'a> {
         }
     }
 
-    /// What a part of an object has in common with types so far.
+    /// Joins a part of an object with the types so far.
     #[cycle(gathering)]
     pub(crate) fn gather(&self, n: u32, part: Part<'_>, sofar: Join) -> Result<Join, AllocError>
         requires { n < length self.now.objects.items }
@@ -219,7 +219,8 @@ impl<'a> Types<'a> {
         }
     }
 
-    /// The type of a property of an object: of the field of its name, else of other fields, where there may be others.
+    /// The type of a property of an object: that of the field with its name, otherwise that of other fields, if
+    /// others are possible.
     pub fn property(&mut self, n: u32, name: &[u8]) -> Result<Option<Ty>, AllocError>
         requires { n < length self.old.objects.items }
         ensures ty { IfOk result (λ t. option_map (type_at self.new) t
@@ -232,7 +233,7 @@ impl<'a> Types<'a> {
         Ok(found)
     }
 
-    /// The type of a property of an object, by what is kept of it.
+    /// The type of a property of an object, found by what is kept of the object.
     fn find(&mut self, n: u32, name: &[u8]) -> Result<Option<Ty>, AllocError>
         requires { n < length self.old.objects.items }
         ensures ty { IfOk result (λ t. option_map (type_at self.new) t
@@ -248,7 +249,7 @@ impl<'a> Types<'a> {
         self.join_type(rest)
     }
 
-    /// The numbers of the objects that it is made of, where it is what objects have in common.
+    /// The numbers of the objects that an object is the common part of, if it is one.
     pub(crate) fn members(&self, n: u32) -> Result<Option<Vec<u32>>, AllocError>
         requires { n < length self.now.objects.items }
         ensures { IfOk result (λ of. IfSome of (λ v. are_below n v.items ≡ true)) }
@@ -264,7 +265,7 @@ impl<'a> Types<'a> {
         }
     }
 
-    /// The number of the object whose fields it extends, where it does.
+    /// The number of the object whose fields an object extends, if it does.
     fn base(&self, n: u32) -> Option<u32>
         requires { n < length self.now.objects.items }
         ensures { IfSome result (λ m. m < n) }
@@ -277,7 +278,7 @@ impl<'a> Types<'a> {
         }
     }
 
-    /// Makes what all fields of each object have in common that one is made of.
+    /// Computes, for each object that an object is made from, what all its fields have in common.
     #[cycle(commons)]
     fn make_commons(&mut self, n: u32) -> Result<(), AllocError>
         requires { n < length self.old.objects.items }
@@ -296,7 +297,7 @@ impl<'a> Types<'a> {
         Ok(())
     }
 
-    /// What all fields of an object, and the type of others, have in common: made once.
+    /// What all fields of an object, and the type of others, have in common, which is computed once.
     #[cycle(commons)]
     pub fn common(&mut self, n: u32) -> Result<Option<Ty>, AllocError>
         requires { n < length self.old.objects.items }

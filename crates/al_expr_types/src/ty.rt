@@ -1,4 +1,4 @@
-//! Types as they are passed on: numbers, which are copied.
+//! Types, which are small and copied.
 
 ghost use Rattle.std.specs.Prelude.{◌≡◌, List, IfOk, MatchOption, false, nat_lt, true, ℕ};
 ghost use Rattle.al_types.specs.Types.{ArrayOf, Parts, assignable_type, fuse_type, is_array, is_collection, is_object, is_plain};
@@ -9,7 +9,7 @@ ghost use Rattle.al_expr_types.specs.declared.ty.Base.TheVariants as base;
 use al_types::Form;
 use std::alloc::AllocError;
 
-/// A type without parts.
+/// A scalar type.
 #[derive(Clone, Copy, PartialEq, Eq, Debug)]
 pub enum Scalar {
     Any,
@@ -19,7 +19,7 @@ pub enum Scalar {
     String,
 }
 
-/// A type that is no array.
+/// A type that isn't an array.
 #[derive(Clone, Copy, PartialEq, Eq, Debug)]
 pub enum Base {
     Scalar(Scalar),
@@ -27,7 +27,7 @@ pub enum Base {
     Object(u32),
 }
 
-/// A type: one that is no array, in so many arrays.
+/// A type: one that isn't an array, nested in this many arrays.
 #[derive(Clone, Copy, PartialEq, Eq, Debug)]
 pub struct Ty {
     pub arrays: u32,
@@ -35,7 +35,7 @@ pub struct Ty {
 }
 
 impl Scalar {
-    /// What two have in common.
+    /// What two scalar types have in common.
     pub fn fuse(self, other: Scalar) -> Scalar
         ensures { scalar_type result ≡ fuse_type (scalar_type self) (scalar_type other) }
     {
@@ -68,7 +68,8 @@ impl Scalar {
         matches!(self, Scalar::Any)
     }
 
-    /// Whether a value of this type may stand where one of the other is wanted: any with each, each with itself, all but any with a string.
+    /// Whether a value of this type can be used where one of the other is expected: any and every type, each with itself, and all but any
+    /// as a string.
     fn is_assignable_to(self, to: Scalar) -> bool
         ensures { result ≡ assignable_type (scalar_type self) (scalar_type to) }
     {
@@ -103,7 +104,7 @@ impl Base {
         matches!(self, Base::Scalar(Scalar::Any))
     }
 
-    /// Whether a value of this type may stand where one of the other is wanted.
+    /// Whether a value of this type can be used where one of the other is expected.
     fn is_assignable_to(self, to: Base) -> bool
         ensures { (ms : List Parts)
             → result ≡ assignable_type (base_type ms self) (base_type ms to) }
@@ -195,7 +196,7 @@ impl Ty {
         matches!(self.form(), Form::Number | Form::Bool | Form::String)
     }
 
-    /// The type in so many more arrays. Fails with `AllocError` where all its arrays are too many to count.
+    /// The type nested in this many more arrays. Fails with `AllocError` if there are too many arrays to count.
     pub fn in_arrays(self, arrays: u32) -> Result<Ty, AllocError>
         ensures ty { IfOk result
             (λ t. (ms : List Parts) → type_in ms t ≡ arrays_of arrays (type_in ms self)) }
@@ -206,7 +207,7 @@ impl Ty {
                 arrays: all,
                 of: self.of,
             }),
-            // No memory holds a type in so many arrays.
+            // No memory holds a type nested in so many arrays.
             None => Err(AllocError),
         }
     }
@@ -225,8 +226,8 @@ impl Ty {
         })
     }
 
-    /// Whether a value of this type may stand where one of the other is wanted: any goes with every type, a scalar with itself, null,
-    /// number and bool with a string, arrays by their elements, and an object with an object.
+    /// Whether a value of this type can be used where one of the other is expected: any and every type, a scalar as itself, null, number
+    /// and bool as a string, arrays by their elements, and an object as an object.
     pub fn is_assignable_to(self, to: Ty) -> bool
         ensures { (ms : List Parts) → result ≡ assignable_type (type_in ms self) (type_in ms to) }
     {

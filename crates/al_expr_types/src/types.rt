@@ -1,4 +1,4 @@
-//! The table of a file's objects, and the types that are made of them.
+//! The table of a file's objects, and the types made from them.
 
 ghost use Rattle.std.specs.Prelude.{◌≡◌, true};
 ghost use Rattle.al_expr_types.specs.Kept.{AreCommons, AreCommons-prop, AreIndexes, AreIndexes-prop};
@@ -12,23 +12,24 @@ use crate::ty::{Base, Ty};
 use std::alloc::{AllocError, Global};
 use std::collections::BTreeMap;
 
-/// The objects of a file, each made once and named by its number. Later ones are made of earlier ones, so to add one changes no other.
+/// The objects of a file, each made once and identified by its number. Objects refer only to earlier ones, so adding one changes no
+/// other.
 #[derive(Drop)]
 pub struct Types<'a> {
     pub(crate) alloc: Global,
     pub(crate) objects: Vec<Object<'a>>,
-    /// What all fields of an object have in common, of the objects of which that was asked.
+    /// What all fields of an object have in common, for objects where it was needed.
     commons: BTreeMap<u32, Option<Ty>>,
-    /// How many objects were looked through for the fields of an object.
+    /// How many objects were searched for the fields of an object.
     looks: BTreeMap<u32, usize>,
-    /// The fields by their names, of the objects that were looked through often.
+    /// The fields by name, for objects that were often searched.
     indexes: BTreeMap<u32, Fields<'a>>,
     ghost ordered: { are_in_order 0 objects.items ≡ true },
     ghost common: { AreCommons objects.items commons } by { AreCommons-prop objects.items commons },
     ghost indexed: { AreIndexes objects.items indexes } by { AreIndexes-prop objects.items indexes },
 }
 
-/// So often a field may be looked at before the index is made.
+/// How often a field may be looked at before the index is made.
 const OFTEN: usize = 2;
 
 impl<'a> Types<'a> {
@@ -42,7 +43,7 @@ impl<'a> Types<'a> {
     ghost use Rattle.al_expr_types.specs.FieldMaps.{fields_in, is_map_below};
     ghost use Rattle.al_expr_types.specs.Types.{is_object_below, is_rest_below, object_in, object_parts, rest_in};
 
-    /// No objects. Takes no memory.
+    /// No objects. Doesn't allocate.
     pub fn new(alloc: Global) -> Types<'a>
         ensures { objects_of result ≡ [] }
     {
@@ -55,7 +56,7 @@ impl<'a> Types<'a> {
         }
     }
 
-    /// Adds an object, and answers its number. Fails with `AllocError` where it is out of memory, as all here.
+    /// Adds an object, and returns its number. Fails with `AllocError` when out of memory, as everything here does.
     pub(crate) fn push(&mut self, object: Object<'a>) -> Result<u32, AllocError>
         requires { is_object_below (length self.old.objects.items) object ≡ true }
         ensures objects { OnOk result
@@ -92,7 +93,7 @@ impl<'a> Types<'a> {
         &self.objects[n as usize]
     }
 
-    /// What all fields of an object have in common, where it is kept.
+    /// What all fields of an object have in common, if it is kept.
     pub(crate) fn kept_common(&self, n: u32) -> Option<Option<Ty>>
         ensures { IfSome result (λ t. IsCommon self.now.objects.items n t) }
     {
@@ -108,7 +109,7 @@ impl<'a> Types<'a> {
         Ok(())
     }
 
-    /// Whether an object was looked through so often that an index, made from all its fields, pays.
+    /// Whether an object was searched often enough for an index of all its fields to pay.
     pub(crate) fn is_due(&mut self, n: u32, looked: usize, all: usize) -> Result<bool, AllocError>
         ensures { (self.new).objects ≡ (self.old).objects }
     {
@@ -118,7 +119,7 @@ impl<'a> Types<'a> {
         Ok(more / OFTEN >= all)
     }
 
-    /// The index of an object, where it was made.
+    /// The index of an object, if it was made.
     pub(crate) fn index_of(&self, n: u32) -> Option<&Fields<'a>>
         ensures { IfSome result (λ f. IsFieldIndex self.now.objects.items n f.now) }
     {
@@ -134,7 +135,7 @@ impl<'a> Types<'a> {
         Ok(())
     }
 
-    /// The type of an object of the fields of a map, and of others of a type where there may be others.
+    /// The type of an object with the fields of a map, and with others of the type `rest`, if given.
     pub fn fields(&mut self, map: FieldMap<'a>, rest: Option<Ty>) -> Result<Ty, AllocError>
         requires fields { is_map_below (length self.old.objects.items) map ≡ true }
         requires rest { is_rest_below (length self.old.objects.items) rest ≡ true }
@@ -149,7 +150,7 @@ impl<'a> Types<'a> {
         Ok(Ty::object(number))
     }
 
-    /// The type of an object whose fields are strings of these names, and no others.
+    /// The type of an object with string fields of these names, and no others.
     pub fn strings(&mut self, names: &'a NameList) -> Result<Ty, AllocError>
         ensures ty { IfOk result (λ t. type_at self.new t ≡ named_strings names.entry.now) }
         ensures known { IfOk result (λ t. is_known self.new t ≡ true) }
@@ -159,7 +160,7 @@ impl<'a> Types<'a> {
         Ok(Ty::object(number))
     }
 
-    /// The type that types have in common, where there are some.
+    /// The type that types have in common; `None` if there are no types.
     pub fn join_type(&mut self, join: Join) -> Result<Option<Ty>, AllocError>
         requires { is_join_below (length self.old.objects.items) join ≡ true }
         ensures ty { IfOk result
@@ -180,7 +181,7 @@ impl<'a> Types<'a> {
         }
     }
 
-    /// The type that types have in common, any where there are none.
+    /// The type that types have in common; any if there are no types.
     pub fn type_or_any(&mut self, join: Join) -> Result<Ty, AllocError>
         requires { is_join_below (length self.old.objects.items) join ≡ true }
         ensures ty { IfOk result

@@ -14,6 +14,6 @@ argument_in ms a = (type_in ms a.ty, a.span)
 abbrev pub argument_at : Types → Argument → (Type' × Span)
 argument_at types a = argument_in (objects_of types) a
 
--- whether each argument's type is one of the table
+-- whether each argument's type refers to the table
 abbrev pub are_known : Types → List Argument → Bool
 are_known types as' = list_all (λ a. is_known types a.ty) as'

@@ -47,7 +47,7 @@ and_then (typed t fs) go = faults_then fs (go t)
 abbrev pub give : Bool → Fault → List Fault
 give b f = if b then f ∷ [] else []
 
--- A name is a context: X7 where there is none of it, X8 where it isn't available here.
+-- A name is a context: X7 if it isn't defined, X8 if it isn't available here.
 abbrev pub name_type : Scope → List ℕ → Span → Option Context → Typed
 name_type sc b s None = typed Any (expression_fault code.UndefinedContext s (b ∷ []) ∷ [])
 name_type sc b s (Some c) =
@@ -60,8 +60,8 @@ or_fault f found = option_map_or (λ t. typed t []) found (typed Any (f ∷ []))
 abbrev pub not_indexable : Span → Typed
 not_indexable whole = typed Any (expression_fault code.NotIndexable whole [] ∷ [])
 
--- A property: the field, else the type of other fields, else X13. Of an array, an array of the elements' property. A
--- scalar has none: X14.
+-- A property: the field, otherwise the type of other fields, otherwise X13. For an array, an array of the elements'
+-- property. A scalar has none: X14.
 abbrev pub property_of : List ℕ → Span → Span → Type' → Typed
 property_of n at whole Any = typed Any []
 property_of n at whole (ObjectOf fields rest all) =
@@ -69,14 +69,14 @@ property_of n at whole (ObjectOf fields rest all) =
 property_of n at whole (ArrayOf t) = and_then (property_of n at whole t) (λ u. typed (ArrayOf u) [])
 property_of n at whole _ = not_indexable whole
 
--- `.*` and `[*]`: of an object, an array of what all its fields and the type of others have in common, of any where there is neither
+-- `.*` and `[*]`: for an object, an array of what all its fields and the type of others have in common, or of any if there is neither
 abbrev pub all_of : Span → Type' → Typed
 all_of whole Any = typed Any []
 all_of whole (ArrayOf t) = typed (ArrayOf t) []
 all_of whole (ObjectOf fields rest all) = typed (ArrayOf (or_any (option_of all))) []
 all_of whole _ = not_indexable whole
 
--- what an index of this type gives: of an array an element
+-- the result of an index of this type: for an array an element
 abbrev pub index_of : Span → Type' → Type' → Typed
 index_of whole Any i = typed Any []
 index_of whole (ObjectOf fields rest all) i = typed Any []
@@ -95,7 +95,7 @@ parts_of (PropertyThen d b s ss) = b ∷ parts_of ss
 parts_of (AllThen a b ss) = codes "*" ∷ parts_of ss
 parts_of (IndexThen a t b ss) = option_map_or (λ text. text.0) (literal_text t) (codes "*") ∷ parts_of ss
 
--- X19: a whole path that is an untrusted chain, where a text could do harm. It begins with a name: a bracket ends a chain.
+-- X19: a whole path that is an untrusted chain, where its text could get into a script. It begins with a name: a bracket ends a chain.
 abbrev pub untrusted_faults : Bool → Tree → PathSteps → List Fault
 untrusted_faults true (Named b s) ss =
     option_map_or (λ c. expression_fault code.Untrusted (extent (Path (Named b s) ss)) (c ∷ []) ∷ []) (untrusted_chain (b ∷ parts_of ss)) []
@@ -110,13 +110,13 @@ abbrev pub begins_logic : Operands → Bool
 begins_logic NoOperand = false
 begins_logic (OperandThen (sign o s) t os) = is_logic o
 
--- One more operand: `&&` and `||` fuse, the others compare, X15 where the two can't be compared.
+-- One more operand: `&&` and `||` fuse, the others compare, with X15 if the two can't be compared.
 abbrev pub operation : Operator → Span → Type' → Type' → Typed
 operation o s t u =
     if is_logic o then typed (fuse_type t u) []
     else typed Bool' (give (not (comparable_types o t u)) (expression_fault code.NotComparable s []))
 
--- functions that only test their arguments, so that no text of theirs gets into a script
+-- functions that only test their arguments, so that none of their text gets into a script
 abbrev pub is_test : Option Function → Bool
 is_test (Some function.Contains) = true
 is_test (Some function.StartsWith) = true
@@ -127,36 +127,36 @@ is_test _ = false
 abbrev pub argument_then : Typed → Span → List (Type' × Span) × List Fault → List (Type' × Span) × List Fault
 argument_then (typed t fs) s more = ((t, s) ∷ more.0, fs ++ more.1)
 
--- X12 at each argument of a wrong type; the first has index 0 and number 1
+-- X12 at each argument of the wrong type; the first has index 0 and number 1
 abbrev pub wrong_arguments : List ℕ → Parameters → ℕ → List (Type' × Span) → List Fault
 wrong_arguments name ps n [] = []
 wrong_arguments name ps n (a ∷ as') =
     give (not (accepts (parameter_at ps n) a.0)) (expression_fault code.ArgumentType a.1 (decimal (n + 1) ∷ name ∷ []))
     ++ wrong_arguments name ps (n + 1) as'
 
--- X11 where the number of arguments is wrong, else X12
+-- X11 if the number of arguments is wrong, otherwise X12
 abbrev pub argument_faults : List ℕ → Span → Parameters → List (Type' × Span) → List Fault
 argument_faults name at ps as' =
     if takes_count ps (length as') then wrong_arguments name ps 0 as' else expression_fault code.ArgumentCount at (name ∷ []) ∷ []
 
--- X17 at each argument that no placeholder names. The first behind the text has index 0 and number 2.
+-- X17 at each argument that no placeholder uses. The first after the format string has index 0 and number 2.
 abbrev pub unused_arguments : ℕ → List Bool → List (Type' × Span) → List Fault
 unused_arguments n (u ∷ us) (a ∷ as') =
     give (not u) (expression_fault code.UnusedArgument a.1 (decimal (n + 2) ∷ [])) ++ unused_arguments (n + 1) us as'
 unused_arguments n _ _ = []
 
--- X16 where a placeholder is wrong, else X17
+-- X16 if a placeholder is wrong, otherwise X17
 abbrev pub placeholder_faults : List ℕ × Span → List (Type' × Span) → List Fault
 placeholder_faults text as' =
     option_map_or (λ us. unused_arguments 0 us as') (used_arguments (length as') text.0)
     (expression_fault code.WrongPlaceholder text.1 [] ∷ [])
 
--- `format`, where its first argument is a text literal
+-- `format`, if its first argument is a string literal
 abbrev pub format_faults : Function → Arguments → List (Type' × Span) → List Fault
 format_faults function.Format (ArgumentThen t ts) as' = option_map_or (λ text. placeholder_faults text (drop 1 as')) (literal_text t) []
 format_faults _ ts as' = []
 
--- A call: X9 where there is no such function, X10 where it isn't available here.
+-- A call: X9 if the function isn't defined, X10 if it isn't available here.
 abbrev pub call_from : Scope → List ℕ → Span → Option Function → Arguments → List (Type' × Span) → Typed
 call_from sc b s None ts as' = typed Any (expression_fault code.UndefinedFunction s (b ∷ []) ∷ [])
 call_from sc b s (Some f) ts as' =
@@ -167,8 +167,8 @@ call_from sc b s (Some f) ts as' =
 abbrev pub call : Scope → List ℕ → Span → Option Function → Arguments → List (Type' × Span) × List Fault → Typed
 call sc b s f ts given = faults_then given.1 (call_from sc b s f ts given.0)
 
--- The type of an expression, with its faults. The flag: whether it stands where X19 isn't given, in an argument of a
--- function that only tests it, or in an operand of a comparison or of `!`.
+-- The type of an expression, with its faults. The flag tells whether X19 isn't reported, as in an argument of a
+-- function that only tests it, or an operand of a comparison or of `!`.
 abbrev mutual
   pub meaning : Scope → Bool → Tree → Typed
   meaning sc safe (Constant w s) = typed (type_of_keyword w) []

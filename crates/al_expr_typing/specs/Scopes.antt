@@ -1,4 +1,4 @@
--- What a place makes available, by a table of types.
+-- What is available at a place, with types in a table.
 use Rattle.std.specs.Prelude.{◌≡◌, List, true}
 use Rattle.al_types.specs.Scopes.{Scope, available_of}
 use Rattle.al_types.specs.declared.names.Context.{Context}
@@ -32,6 +32,6 @@ scope_in ms s =
 abbrev pub scope_view : Types → code.Scope → Scope
 scope_view types s = scope_in (objects_of types) s
 
--- each context's type is one of the table
+-- each context's type refers to the table
 pub record IsShown (types : Types) (s : code.Scope) : Type 0 where
   pub known : (c : Context) → is_known types (context_number s.types c) ≡ true

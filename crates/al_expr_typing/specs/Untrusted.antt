@@ -1,4 +1,4 @@
--- Chains from `github` whose text comes from outside, as an author of an issue or a branch wrote it.
+-- Chains from `github` whose text is untrusted, such as the title of an issue or the name of a branch.
 use Rattle.std.specs.Prelude.{codes, ℕ, List, [], ◌∷◌, ◌==◌, Option, find}
 use Rattle.std.specs.List.{slice_split}
 use Rattle.std.specs.Option.{option_map_or}
@@ -26,6 +26,6 @@ chain_part (Property d b s) = b
 chain_part (All a b) = codes "*"
 chain_part (Index a t b) = option_map_or (λ text. text.0) (literal_text t) (codes "*")
 
--- the chain that has these parts between its dots
+-- the untrusted chain with these parts, if there is one
 abbrev pub untrusted_chain : List (List ℕ) → Option (List ℕ)
 untrusted_chain ps = find (λ c. pointwise same_name (slice_split (λ b. b == ascii ".") c) ps) untrusted_chains

@@ -1,4 +1,4 @@
-//! Calls of functions: whether one is known and may stand here, and what is wrong with its arguments.
+//! Calls of functions: whether the function is defined and available, and the faults of the arguments.
 
 ghost use Rattle.std.specs.Prelude.{◌≡◌, ◌++◌, ◌+◌, ◌^◌, ◌<◌, IfOk, OnOk, List, not, map, string_bytes, drop, true, ◌∷◌, [], ℕ};
 ghost use Rattle.al_expr_typing.specs.Meaning.{typed, faults_then, give, is_test, call_from};
@@ -26,7 +26,7 @@ use al_expr_types::{Scalar, Ty};
 use al_types::{Function, Parameters, Returned, Wanted};
 use std::alloc::AllocError;
 
-/// An argument's type and place.
+/// The type and span of an argument.
 #[derive(Clone, Copy)]
 pub(crate) struct Argument {
     pub ty: Ty,
@@ -37,22 +37,22 @@ pub(crate) struct Argument {
 #[derive(Clone, Copy)]
 pub(crate) struct CallExpr<'a, 'e> {
     pub name: Word<'a>,
-    /// The function of that name, where there is one.
+    /// The function with that name, if there is one.
     pub function: Option<Function>,
     pub arguments: &'e [Expr<'a>],
 }
 
-/// What a function wants of an argument.
+/// What a function requires of an argument.
 #[derive(Clone, Copy)]
 struct Parameter<'a> {
     // The function's name, as the call has it.
     of: Word<'a>,
-    // The first is 1.
+    // Counted from 1.
     number: usize,
     parameter_at: Wanted,
 }
 
-/// Whether a function only tests its arguments, so that no text of theirs gets into a script.
+/// Whether a function only tests its arguments, so that none of their text gets into a script.
 pub(crate) fn is_test(function: Option<Function>) -> bool
     ensures { result ≡ is_test function }
 {
@@ -274,7 +274,7 @@ fn check_argument(
     Ok(())
 }
 
-/// Whether a value of this type may be an argument of which this is parameter_at.
+/// Whether an argument can have this type.
 fn accepts(parameter_at: Wanted, ty: Ty) -> bool
     ensures { (ms : List Parts) → result ≡ accepts parameter_at (type_in ms ty) }
 {

@@ -19,7 +19,7 @@ use al_expr_grammar::{Operand, Operator};
 use al_expr_types::{Join, Scalar, Ty, Types};
 use std::alloc::AllocError;
 
-/// An operator, and the type of the operand behind it.
+/// An operator, and the type of the operand after it.
 #[derive(Clone, Copy)]
 pub(crate) struct TypedOperand {
     pub operator: Operator,
@@ -27,8 +27,8 @@ pub(crate) struct TypedOperand {
     pub ty: Ty,
 }
 
-/// The operands so far, with one more. What the branches of `||` and `&&` have in common becomes a type at their end, so that a long chain
-/// makes one object.
+/// Adds an operand to those so far. What the branches of `||` and `&&` have in common becomes a type only at the end, so that a long
+/// chain makes one object.
 #[tactic(auto, using(al_base::proofs::Growing::growth))]
 pub(crate) fn operation(
     types: &mut Types<'_>,
@@ -87,7 +87,7 @@ fn is_logic(operator: Operator) -> bool
 }
 
 /// Whether operators choose between their operands, so that these are branches. All operators of a level are of one kind, so the first
-/// tells.
+/// decides.
 #[tactic(auto, using(al_expr_grammar::proofs::TreeViews::operand_view))]
 pub(crate) fn begins_logic(operands: &[Operand<'_>]) -> bool
     ensures { result ≡ begins_logic (operands_of (map operand_of operands.now)) }

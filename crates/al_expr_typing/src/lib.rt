@@ -1,4 +1,4 @@
-//! The typing of expressions over the table of a file's types: the type of a tree under a scope, and the faults that come with it.
+//! Typing expressions over a file's table of types: the type of a tree under a scope, and the faults found on the way.
 #![tactic(auto)]
 
 mod calls;

@@ -1,4 +1,4 @@
-//! The value of a text literal.
+//! The value of a string literal.
 
 ghost use Rattle.std.specs.Prelude.{◌≡◌, ◌++◌, IfOk, OnOk, option_map, string_bytes};
 ghost use Rattle.std.specs.List.{flat_map};
@@ -14,14 +14,14 @@ use al_expr_grammar::{Expr, Keyword};
 use al_expr_types::Scalar;
 use std::alloc::{AllocError, Global};
 
-/// The value of a text literal, and the place of the literal, its quotes included.
+/// The value of a string literal, and the span of the literal, quotes included.
 #[derive(Drop)]
 pub struct Literal {
     pub value: String,
     pub span: Span,
 }
 
-/// Where the reader of a text literal stands.
+/// The state of reading a string literal.
 #[derive(Clone, Copy)]
 pub(crate) enum Quoting {
     Opening,
@@ -29,7 +29,7 @@ pub(crate) enum Quoting {
     BehindQuote,
 }
 
-/// The value of a text literal, in brackets or not: none where the expression is no such literal.
+/// The value of a string literal, in brackets or not; `None` if the expression isn't one.
 #[tactic(auto, using(al_expr_grammar::proofs::TreeViews::tree_views))]
 pub(crate) fn literal_text(alloc: Global, expr: &Expr<'_>) -> Result<Option<Literal>, AllocError>
     ensures { IfOk result (λ l. option_map literal_of l ≡ literal_text (expr_view expr.now)) }
@@ -53,7 +53,7 @@ pub(crate) fn literal_text(alloc: Global, expr: &Expr<'_>) -> Result<Option<Lite
     }
 }
 
-/// The text between the quotes of a literal, a doubled quote as one.
+/// The text between the quotes of a literal, with each doubled quote as one.
 fn text_value(alloc: Global, literal: &str) -> Result<String, AllocError>
     ensures { IfOk result (λ s. string_bytes s ≡ text_value literal.now) }
 {

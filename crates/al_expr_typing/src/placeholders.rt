@@ -1,4 +1,4 @@
-//! The placeholders of a text for `format`.
+//! The placeholders in a format string of `format`.
 
 ghost use Rattle.std.specs.Prelude.{◌≡◌, ◌∷◌, ℕ, List, IfOk, MatchOption, option_map, None};
 ghost use Rattle.al_expr_typing.specs.Placeholders.{used_arguments};
@@ -7,17 +7,17 @@ ghost use Rattle.al_expr_typing.specs.Private.PlaceholderViews.{IsSmall};
 
 use std::alloc::{AllocError, Global};
 
-/// Where the reader of a format text stands.
+/// The state of reading a format string.
 #[derive(Clone, Copy)]
 pub(crate) enum PlaceholderState {
     Outside,
     BehindOpening,
-    /// Behind a digit of an index that has this value so far.
+    /// After a digit of an index that has this value so far.
     InIndex(u128),
     BehindClosing,
 }
 
-/// What a byte of a format text leads to: another state, the index that it ends, or a wrong brace.
+/// What a byte of a format string leads to: another state, the index that it ends, or a wrong brace.
 #[derive(Clone, Copy)]
 pub(crate) enum Turn {
     To(PlaceholderState),
@@ -25,7 +25,7 @@ pub(crate) enum Turn {
     Wrong,
 }
 
-/// Which of so many arguments a format text names: none where a brace stands alone, or an index has no argument.
+/// Which of `count` arguments a format string uses; `None` if a brace is alone, or an index has no argument.
 #[tactic(auto, using(crate::proofs::PlaceholderLemmas::states_tell))]
 pub(crate) fn used_arguments(
     alloc: Global,
@@ -50,7 +50,7 @@ pub(crate) fn used_arguments(
     }
 }
 
-// The state behind a byte, with the argument marked whose index it ends: none where the text is wrong.
+// The state after a byte, with the argument marked whose index it ends; `None` if the format string is wrong.
 fn pass(state: PlaceholderState, byte: u8, used: &mut [bool]) -> Option<PlaceholderState>
     requires { IsSmall state }
     ensures { MatchOption result
@@ -61,7 +61,7 @@ fn pass(state: PlaceholderState, byte: u8, used: &mut [bool]) -> Option<Placehol
 {
     let count = used.len() as u128;
     match read_byte(state, byte) {
-        // A greater index has no argument, however it goes on.
+        // No argument has such an index, however it continues.
         Turn::To(PlaceholderState::InIndex(index)) if index >= count => None,
         Turn::To(next) => Some(next),
         Turn::Names(index) => {

@@ -1,4 +1,4 @@
-//! What an expression can name at its place, its types by numbers.
+//! What an expression can refer to at its place.
 
 ghost use Rattle.std.specs.Prelude.{◌≡◌};
 ghost use Rattle.al_expr_typing.specs.Scopes.{context_number};
@@ -11,7 +11,7 @@ use al_types::{Available, Context};
 pub struct Scope {
     pub types: ContextTypes,
     pub available: Available,
-    /// Whether the place is a step's `run`, where text from outside would become part of a script.
+    /// Whether the place is a step's `run`, where untrusted text would become part of a script.
     pub in_run: bool,
 }
 

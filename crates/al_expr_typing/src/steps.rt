@@ -20,9 +20,9 @@ use std::alloc::AllocError;
 #[derive(Clone, Copy)]
 pub(crate) struct PropertyStep<'a> {
     pub name: &'a str,
-    /// Where the name stands.
+    /// The span of the name.
     pub at: Span,
-    /// Where the whole step stands, with the dot or the brackets.
+    /// The span of the whole step, with the dot or the brackets.
     pub whole: Span,
 }
 
@@ -47,7 +47,7 @@ pub(crate) fn property(
     Ok(all)
 }
 
-// The same of a type that is no array.
+// The same for a type that isn't an array.
 #[tactic(auto, using(al_base::proofs::Growing::growth))]
 fn base_property(
     types: &mut Types<'_>,
@@ -75,7 +75,7 @@ fn base_property(
     }
 }
 
-// The same of an object: what it has by this name, else any with a fault.
+// The same for an object: its property with this name, otherwise any, with a fault.
 #[tactic(auto, using(al_base::proofs::Growing::growth, crate::proofs::TypedSteps::typing))]
 fn object_property(
     types: &mut Types<'_>,
@@ -105,7 +105,7 @@ fn object_property(
     }
 }
 
-// The type of any step of a scalar: any of any, else none.
+// The type after any step from a scalar: any, with a fault unless the scalar has the type any.
 #[tactic(auto, using(crate::proofs::TypedSteps::typing))]
 fn scalar_step(scalar: Scalar, whole: Span, faults: &mut FaultSink) -> Result<Ty, AllocError>
     ensures ok { IfOk result (λ t. (ms : List Parts) → typed (type_in ms t) faults.new
@@ -149,7 +149,7 @@ pub(crate) fn element(ty: Ty, by: Ty, whole: Span, faults: &mut FaultSink) -> Re
     Ok(of)
 }
 
-// The same of a type that is no array.
+// The same for a type that isn't an array.
 #[tactic(auto, using(crate::proofs::TypedSteps::typing, crate::proofs::Forms::scalar_steps))]
 fn base_element(base: Base, whole: Span, faults: &mut FaultSink) -> Result<Ty, AllocError>
     ensures ok { IfOk result (λ t. (ms : List Parts) (i : Type') → typed (type_in ms t) faults.new
@@ -214,7 +214,7 @@ pub(crate) fn all(
     Ok(of)
 }
 
-// The same of a type that is no array.
+// The same for a type that isn't an array.
 #[tactic(auto, using(al_base::proofs::Growing::growth, crate::proofs::TypedSteps::typing))]
 fn base_all(
     types: &mut Types<'_>,
@@ -241,7 +241,7 @@ fn base_all(
     }
 }
 
-// An array of elements of a type, of any where there is none.
+// An array with elements of a type, or of any if there is none.
 fn array_of(element: Option<Ty>) -> Result<Ty, AllocError>
     ensures ty { IfOk result
         (λ t. (ms : List Parts) → type_in ms t

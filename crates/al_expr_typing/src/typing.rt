@@ -29,8 +29,9 @@ use al_expr_types::{Join, Scalar, Ty, Types};
 use al_types::{Context, Function};
 use std::alloc::AllocError;
 
-/// The type of an expression under a scope, with the faults in it added in the order in which it is read: X7 to X17 and X19. Spans are
-/// places in the expression's content. Fails with `AllocError` when out of memory. Recursion goes no deeper than the expression's nesting.
+/// The type of an expression under a scope. Adds the faults in it, X7 to X17 and X19, in the order in which it is read. Spans are byte
+/// offsets in the expression's content. Fails with `AllocError` when out of memory. Recursion goes no deeper than the expression's
+/// nesting.
 pub fn type_of(
     types: &mut Types<'_>,
     scope: &Scope,
@@ -52,15 +53,15 @@ pub fn type_of(
     Ok(ty)
 }
 
-// What an expression stands in.
+// What surrounds an expression.
 #[derive(Clone, Copy)]
 struct Surroundings<'s> {
     scope: &'s Scope,
-    // Whether untrusted text does no harm there.
+    // Whether untrusted text is harmless there.
     safe: bool,
 }
 
-// What stands left of a step or an operator: its type, and what all of it stands in.
+// The left side of a step or an operator: its type, and what surrounds the whole.
 #[derive(Clone, Copy)]
 struct Left<'s> {
     around: Surroundings<'s>,
@@ -202,7 +203,7 @@ fn name_type(scope: &Scope, word: Word<'_>, faults: &mut FaultSink) -> Result<Ty
     Ok(Ty::ANY)
 }
 
-// The type behind the steps of a path, from the type before them.
+// The type after the steps of a path, from the type before them.
 #[tactic(auto, using(al_base::proofs::Growing::growth, crate::proofs::Shown::shown))]
 #[cycle(typing)]
 fn walk(
@@ -233,7 +234,7 @@ fn walk(
     Ok(ty)
 }
 
-// The type behind one step of a path.
+// The type after one step of a path.
 #[tactic(auto, using(al_base::proofs::Growing::growth, crate::proofs::Shown::shown))]
 #[cycle(typing)]
 fn step_from(
@@ -268,7 +269,7 @@ fn step_from(
     }
 }
 
-// The type behind an index: a property where it is a text literal, else an element.
+// The type after an index: of a property if it is a string literal, otherwise of an element.
 #[tactic(auto, using(al_base::proofs::Growing::growth, crate::proofs::Shown::shown))]
 #[cycle(typing)]
 fn index_from(
@@ -306,7 +307,7 @@ fn index_from(
     }
 }
 
-// The type of the operators of one level and their operands, from the type of the first operand.
+// The type of operators of one level with their operands, from the type of the first operand.
 #[tactic(auto, using(al_base::proofs::Growing::growth, crate::proofs::Shown::shown))]
 #[cycle(typing)]
 fn operations(
@@ -340,7 +341,7 @@ fn operations(
     Ok(ty)
 }
 
-// The types and places of arguments.
+// The types and spans of arguments.
 #[tactic(auto, using(al_base::proofs::Growing::growth, crate::proofs::Shown::shown))]
 #[cycle(typing)]
 fn typed_arguments(
@@ -369,7 +370,7 @@ fn typed_arguments(
     Ok(arguments)
 }
 
-// Adds the fault of a path that is an untrusted chain, where its text could do harm.
+// Adds the fault of a path that is an untrusted chain, where its text could get into a script.
 #[tactic(auto, using(crate::proofs::Paths::parts))]
 fn check_untrusted(
     exposed: bool,
@@ -397,7 +398,7 @@ fn check_untrusted(
     }
 }
 
-// The name that a path begins with: a bracket ends a chain.
+// The name that a path begins with; a bracket ends a chain.
 #[tactic(auto, using(al_expr_grammar::proofs::TreeViews::tree_views))]
 fn base_name<'a>(base: &Expr<'a>) -> Option<&'a str>
     ensures { option_map (λ n. n.now) result ≡ base_name (expr_view base.now) }

@@ -1,4 +1,4 @@
-//! Paths to what an outsider can write, which must not go into a script.
+//! Paths to text that outsiders can write, which must not get into a script.
 
 ghost use Rattle.std.specs.Prelude.{◌≡◌, ◌∷◌, IfOk, find, length, map, option_map, string_bytes};
 ghost use Rattle.std.specs.Cmp.Lexicographic.{pointwise};
@@ -15,7 +15,7 @@ use std::alloc::{AllocError, Global};
 
 type Parts = &'static [&'static str];
 
-/// Chains whose text comes from outside, as whoever opened an issue or named a branch wrote it.
+/// Chains whose text is untrusted, such as the title of an issue or the name of a branch.
 const UNTRUSTED: [Parts; 18] = [
     &["github", "head_ref"],
     &["github", "event", "issue", "title"],
@@ -37,7 +37,7 @@ const UNTRUSTED: [Parts; 18] = [
     &["github", "event", "head_commit", "author", "email"],
 ];
 
-/// The untrusted chain that a name with these steps behind it is, with dots between its parts.
+/// The untrusted chain that a name with these steps is, with dots between its parts.
 pub(crate) fn untrusted_chain(
     alloc: Global,
     name: &str,

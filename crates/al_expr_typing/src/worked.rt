@@ -1,9 +1,9 @@
-//! Format texts and text literals that were worked out by hand, computed by the definitions.
+//! Worked format strings and string literals, computed by the definitions.
 ghost use Rattle.al_expr_typing.specs.Literals.{text_value};
 ghost use Rattle.al_expr_typing.specs.Placeholders.{used_arguments};
 ghost use Rattle.std.specs.Prelude.{◌≡◌, [], ◌∷◌, codes, false, true, None, Some};
 
-/// Which of so many arguments some format texts name, and texts that are wrong. Does nothing.
+/// Which arguments some format strings use, and format strings that are wrong. Does nothing at run time.
 pub fn placeholder_rows()
     ensures empty { used_arguments 1 [] ≡ Some (false ∷ []) }
     ensures one_of_two { used_arguments 2 (codes "{0}") ≡ Some (true ∷ false ∷ []) }
@@ -22,7 +22,7 @@ pub fn placeholder_rows()
     ensures closing_alone { used_arguments 1 (codes "-0}") ≡ None }
 {}
 
-/// The values of some text literals. Does nothing.
+/// The values of some string literals. Does nothing at run time.
 pub fn literal_rows()
     ensures empty { text_value (codes "''") ≡ [] }
     ensures plain { text_value (codes "'a b'") ≡ codes "a b" }

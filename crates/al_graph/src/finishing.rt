@@ -1,4 +1,4 @@
-//! A postorder of a graph: the order in which a depth-first search along its edges is done with its nodes.
+//! A postorder of a graph: the order in which a depth-first search finishes its nodes.
 
 ghost use Rattle.al_graph.specs.Private.Finishing.{IsFinished, IsSearch, cost, frame_of, frames_of};
 ghost use Rattle.al_graph.specs.Graphs.{Edge, edges_of};
@@ -7,14 +7,14 @@ ghost use Rattle.std.specs.Prelude.{◌≡◌, ℕ, ◌<◌, ◌++◌, ◌∷◌
 
 use std::alloc::{AllocError, Global};
 
-/// A node that the search has come to, and of the nodes that its edges lead to those at which it has not yet looked.
+/// A node that the search has entered, and those of its successors that it hasn't visited yet.
 #[derive(Clone, Copy)]
 struct Frame<'a> {
     node: usize,
     rest: &'a [usize],
 }
 
-/// The first of some nodes, and those behind it.
+/// The first of some nodes, and the rest.
 fn split(nodes: &[usize]) -> Option<(usize, &[usize])>
     ensures { MatchOption result (nodes.now ≡ []) (λ x. nodes.now ≡ x.0 ∷ x.1.now) }
 {
@@ -24,7 +24,7 @@ fn split(nodes: &[usize]) -> Option<(usize, &[usize])>
     }
 }
 
-/// Comes to a node.
+/// Enters a node.
 fn enter<'a>(
     graph: &'a [Vec<usize>],
     node: usize,
@@ -45,7 +45,7 @@ fn enter<'a>(
     Ok(())
 }
 
-/// Looks at the next node that the innermost node leads to, or, where there is none, is done with it.
+/// Visits the next successor of the innermost node, or finishes that node if there is none.
 fn advance<'a>(
     graph: &'a [Vec<usize>],
     frame: Frame<'a>,
@@ -80,7 +80,8 @@ fn advance<'a>(
     Ok(())
 }
 
-/// Searches from a node, unless it was seen, until all that it leads to is finished. The list of frames is empty before and afterwards.
+/// Searches from a node, unless it was seen, until everything reachable from it is finished. The stack of frames is empty before and
+/// after.
 fn finish_from<'a>(
     graph: &'a [Vec<usize>],
     from: usize,
@@ -107,9 +108,10 @@ fn finish_from<'a>(
     Ok(())
 }
 
-/// The nodes in an order in which a depth-first search finishes them: each behind those that it leads to, unless these lead back to it.
+/// The nodes in an order in which a depth-first search finishes them: each after those reachable from it, except those from which it can
+/// be reached.
 ///
-/// Takes time in proportion to the nodes and edges. Fails with `AllocError` when out of memory.
+/// Takes time linear in nodes and edges. Fails with `AllocError` when out of memory.
 pub(crate) fn finish_order(alloc: Global, graph: &[Vec<usize>]) -> Result<Vec<usize>, AllocError>
     requires { (j k : ℕ) → Edge (edges_of graph.now) j k → k < length graph.now }
     ensures { IfOk result (λ order. IsFinished (edges_of graph.now) order.items) }

@@ -1,8 +1,9 @@
-//! Strongly connected components, as labels of nodes: the same for nodes that lead to one another.
+//! Strongly connected components, as labels of nodes: two nodes have the same label if each can be reached from the
+//! other.
 //!
-//! They are found by two searches (Kosaraju's algorithm). The first goes along the edges the other way round, and tells in which order it
-//! is done with the nodes. The second takes the nodes from the last one on: each that has no label gives its own to all that it leads to
-//! and that has none.
+//! They are found by two searches (Kosaraju's algorithm). The first follows the edges backward and yields a postorder of the nodes. The
+//! second goes through that order from the end: each node without a label passes its own to all nodes without one that can be reached
+//! from it.
 
 ghost use Rattle.al_graph.specs.Private.Labelling.{IsBackward, IsLabelling, Labels};
 ghost use Rattle.al_graph.specs.Graphs.{Edge, StronglyConnected, edges_of};
@@ -12,7 +13,7 @@ use crate::finishing::finish_order;
 use crate::turning::transpose;
 use std::alloc::{AllocError, Global};
 
-/// Labels a node; one that had no label is added to a list.
+/// Labels a node, and adds it to a list, unless it has a label.
 fn label_node(
     node: usize,
     label: usize,
@@ -31,7 +32,7 @@ fn label_node(
     Ok(())
 }
 
-/// Labels some nodes; those that had no label are added to a list.
+/// Labels those nodes that have no label, and adds them to a list.
 fn label_nodes(
     nodes: &[usize],
     label: usize,
@@ -47,7 +48,7 @@ fn label_nodes(
     Ok(())
 }
 
-/// Labels the nodes that edges from a node lead to; those that had no label are added to a list.
+/// Labels those successors of a node that have no label, and adds them to a list.
 fn label_next(
     graph: &[Vec<usize>],
     node: usize,
@@ -65,8 +66,8 @@ fn label_next(
     label_nodes(graph[node].as_slice(), label, labels, waiting)
 }
 
-/// Labels the node at this place of the order, unless it has a label, and all that it leads to and that has none. The list of nodes that
-/// wait is empty before and afterwards.
+/// Labels the node at this position of the order and all nodes without a label that can be reached from it, unless it has a label. The
+/// list of waiting nodes is empty before and after.
 fn label_from(
     graph: &[Vec<usize>],
     order: &[usize],
@@ -113,7 +114,8 @@ fn label_all(
     Ok(labels)
 }
 
-/// The nodes in an order in which, where an edge leads from one to an earlier one, all between them lead to the first.
+/// The nodes in such an order that, if an edge leads from a node to an earlier one, every node between the two can
+/// reach the edge's start.
 fn backward_order(alloc: Global, graph: &[Vec<usize>]) -> Result<Vec<usize>, AllocError>
     requires { (j k : ℕ) → Edge (edges_of graph.now) j k → k < length graph.now }
     ensures { IfOk result (λ order. IsBackward (edges_of graph.now) order.items) }
@@ -123,10 +125,10 @@ fn backward_order(alloc: Global, graph: &[Vec<usize>]) -> Result<Vec<usize>, All
     Ok(order)
 }
 
-/// A label for each node of a graph, the same for two nodes just where each leads to the other: where they are in one strongly connected
-/// component. No label is `None`.
+/// A label for each node of a graph, the same for two nodes if and only if they are in one strongly connected component. No label is
+/// `None`.
 ///
-/// Takes time in proportion to the nodes and edges, whatever the graph. Fails with `AllocError` when out of memory.
+/// Takes time linear in nodes and edges. Fails with `AllocError` when out of memory.
 pub fn strongly_connected_components(
     alloc: Global,
     graph: &[Vec<usize>],

@@ -1,9 +1,9 @@
-//! What the definitions say of one another.
+//! Laws that relate the definitions.
 
 ghost use Rattle.al_graph.specs.Within.{LeadsTellsWalks};
 
-/// Whether a walk leads from one node to another is told by walks of at most as many steps as there are nodes: the definitions' test of
-/// these tells all walks. Does nothing.
+/// If a walk leads from one node to another, one with at most as many steps as there are nodes does, so the definitions only try these.
+/// Does nothing at run time.
 pub fn walk_laws()
     ensures { LeadsTellsWalks }
 {}

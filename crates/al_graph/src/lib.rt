@@ -1,4 +1,4 @@
-//! Directed graphs: for each node, by its number, the list of the nodes that its edges lead to.
+//! Directed graphs as adjacency lists: for each node, by number, the nodes that its edges lead to.
 #![tactic(auto)]
 
 mod finishing;

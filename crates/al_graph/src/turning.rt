@@ -1,4 +1,4 @@
-//! Graphs with each edge the other way round.
+//! The transpose of a graph.
 
 ghost use Rattle.al_graph.specs.Graphs.{AddsEdges, Edge, IsTranspose, edges_of};
 ghost use Rattle.std.specs.Prelude.{◌≡◌, ℕ, ◌<◌, ◌∷◌, [], length, vec_len, replicate, Contains, IfOk, OnOk};
@@ -23,7 +23,7 @@ fn count_edges_to(nodes: &[usize], counts: &mut [usize])
     }
 }
 
-/// How many edges lead to each node: the room that its list in the transpose takes. Nothing but that room depends on these numbers.
+/// How many edges lead to each node, which is the length of its list in the transpose. Only capacities depend on these numbers.
 fn edge_counts(alloc: Global, graph: &[Vec<usize>]) -> Result<Vec<usize>, AllocError>
     requires { (j k : ℕ) → Edge (edges_of graph.now) j k → k < length graph.now }
     ensures { IfOk result (λ counts. vec_len counts ≡ length graph.now) }
@@ -35,7 +35,7 @@ fn edge_counts(alloc: Global, graph: &[Vec<usize>]) -> Result<Vec<usize>, AllocE
     Ok(counts)
 }
 
-/// A graph without edges, with room for so many from each node.
+/// A graph without edges, with room for this many from each node.
 fn without_edges(alloc: Global, counts: &[usize]) -> Result<Vec<Vec<usize>>, AllocError>
     ensures { IfOk result (λ v. edges_of v.items ≡ replicate (length counts.now) []) }
 {
@@ -55,7 +55,7 @@ fn add_edge(from: usize, to: usize, graph: &mut [Vec<usize>]) -> Result<(), Allo
     Ok(())
 }
 
-/// Adds the edges from some nodes to one.
+/// Adds an edge from each of some nodes to one node.
 fn add_edges(from: &[usize], to: usize, graph: &mut [Vec<usize>]) -> Result<(), AllocError>
     requires { (k : ℕ) → Contains from.now k → k < length graph.old }
     ensures { OnOk result (AddsEdges from.now to (edges_of graph.old) (edges_of graph.new)) }
@@ -66,9 +66,9 @@ fn add_edges(from: &[usize], to: usize, graph: &mut [Vec<usize>]) -> Result<(), 
     Ok(())
 }
 
-/// The transpose of a graph: the same nodes, and each edge the other way round.
+/// The transpose of a graph: the same nodes, with each edge reversed.
 ///
-/// Takes time in proportion to the nodes and edges. Fails with `AllocError` when out of memory.
+/// Takes time linear in nodes and edges. Fails with `AllocError` when out of memory.
 pub fn transpose(alloc: Global, graph: &[Vec<usize>]) -> Result<Vec<Vec<usize>>, AllocError>
     requires { (j k : ℕ) → Edge (edges_of graph.now) j k → k < length graph.now }
     ensures len { IfOk result (λ v. vec_len v ≡ length graph.now) }

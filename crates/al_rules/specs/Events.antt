@@ -23,7 +23,7 @@ activity_type_faults name event =
     option_map_or (λ types. flat_map (λ s. unless_among UnknownActivity types (of_scalar s)) (texts_at (codes "types") event))
     (activities_of name) []
 
--- a filter that is no pattern
+-- a filter that isn't a pattern
 abbrev pub filter_faults : Filter → Node → List ℕ → List Fault
 filter_faults filter event key =
     flat_map (λ s. unless (is_pattern filter (of_scalar s).text) WrongPattern (of_scalar s)) (texts_at key event)
@@ -49,7 +49,7 @@ input_faults types m = option_map_or (λ s. unless_among UnknownInputType types 
 abbrev pub inputs_faults : List (List ℕ) → Node → List Fault
 inputs_faults types event = flat_map (input_faults types) (entries_at (codes "inputs") event)
 
--- of a known event
+-- the faults of a known event
 abbrev pub event_faults : List ℕ → Node → List Fault
 event_faults name event =
     if bytes_eq name (codes "schedule") then flat_map cron_faults (items_in event)
@@ -58,13 +58,13 @@ event_faults name event =
     else if bytes_eq name (codes "image_version") then []
     else activity_type_faults name event ++ filters_faults event
 
--- an event that isn't known; its value isn't looked at
+-- an unknown event, whose value isn't checked
 abbrev pub event_name_faults : Named → List Fault
 event_name_faults n = unless (is_event n.text) UnknownEvent n
 
 abbrev pub named_faults : Node × Node → List Fault
 named_faults m = if is_event (of_key m.0).text then event_faults (of_key m.0).text m.1 else about UnknownEvent (of_key m.0)
 
--- of what stands under `on`
+-- the faults of the value of `on`
 abbrev pub on_faults : Node → List Fault
 on_faults on = flat_map (λ s. event_name_faults (of_scalar s)) (texts_in on) ++ flat_map named_faults (entries_in on)

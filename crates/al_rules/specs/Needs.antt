@@ -1,4 +1,4 @@
--- Faults of what jobs need.
+-- The faults of the `needs` of jobs.
 use Rattle.std.specs.Prelude.{◌≡◌, ℕ, List, [], ◌∷◌, ◌++◌, Bool, codes, map, Option, Some, None, if◌then◌else◌}
 use Rattle.std.specs.List.{flat_map, filter_map, enumerate_from}
 use Rattle.al_base.specs.declared.codes.RuleCode.TheVariants.{NeedsCycle, UndefinedJob}
@@ -18,7 +18,7 @@ job_keys jobs = map (λ j. of_key j.0) jobs
 abbrev pub needs_of : Node × Node → List Named
 needs_of j = map of_scalar (texts_at (codes "needs") j.1)
 
--- for each job the positions of the jobs that it needs, by where names stand
+-- for each job, the positions of the jobs that it needs, given the positions of names
 abbrev pub needs_lists : (List ℕ → Option ℕ) → List (Node × Node) → List (List ℕ)
 needs_lists position jobs = map (λ j. filter_map (λ n. position n.text) (needs_of j)) jobs
 
@@ -37,13 +37,13 @@ all_needs jobs = flat_map needs_in (enumerate_from 0 jobs)
 abbrev pub cycle_fault : NeedEntry → Fault
 cycle_fault n = rule_fault NeedsCycle n.text.span (n.key.text ∷ n.text.text ∷ [])
 
--- What an entry gives: a job that isn't there; one from which a walk of needs comes back to this job; nothing.
+-- The fault of an entry: its job isn't defined; a walk of needs leads from it back to this job; or none.
 pub data IsNeedFaults (Leads : ℕ → ℕ → Type 0) (n : NeedEntry) : Option ℕ → List Fault → Type 0 where
   undefined_job : IsNeedFaults Leads n None (about UndefinedJob n.text)
   leads_back : (j : ℕ) → Leads j n.job → IsNeedFaults Leads n (Some j) (cycle_fault n ∷ [])
   leads_on : (j : ℕ) → ¬ Leads j n.job → IsNeedFaults Leads n (Some j) []
 
--- what entries give, one after another
+-- the faults of entries, one after another
 pub data AreNeedsFaults (position : List ℕ → Option ℕ) (Leads : ℕ → ℕ → Type 0) : List NeedEntry → List Fault → Type 0 where
   no_needs : AreNeedsFaults position Leads [] []
   and_need : (n : NeedEntry) (ns : List NeedEntry) (first rest : List Fault) → IsNeedFaults Leads n (position n.text.text) first
@@ -64,7 +64,7 @@ abbrev pub AddsAllNeeds : List (Node × Node) → List Fault → List Fault → 
 AddsAllNeeds jobs old new =
     let position = name_place (keys_in jobs) in AddsNeeds position (Walk (needs_lists position jobs)) (all_needs jobs) old new
 
--- To compute rows with: what an entry gives, where a test says from which jobs a walk comes back
+-- For worked rows: the fault of an entry, given a test of which jobs a walk leads back from
 abbrev pub tested_faults : (ℕ → Bool) → NeedEntry → Option ℕ → List Fault
 tested_faults leads n None = about UndefinedJob n.text
 tested_faults leads n (Some j) = if leads j then cycle_fault n ∷ [] else []

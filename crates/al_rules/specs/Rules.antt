@@ -23,7 +23,7 @@ use Rattle.al_rules_settings.specs.Settings.{condition_faults, credentials_fault
 use Rattle.al_rules_settings.specs.Settings.{permissions_faults, script_faults, shell_faults}
 use Rattle.al_rules_settings.specs.Words.{Named, about, of_key, of_scalar, rule_fault}
 
--- of a step
+-- the faults of a step
 abbrev pub step_faults : Node → List Fault
 step_faults step =
     env_faults step ++ condition_faults (text_at_key (codes "if") step) ++ shell_faults (text_at_key (codes "shell") step)
@@ -32,11 +32,11 @@ step_faults step =
 abbrev pub steps_faults : List Node → List Fault
 steps_faults steps = ids_faults (map of_scalar (filter_map (text_at_key (codes "id")) steps)) ++ flat_map step_faults steps
 
--- of a container or a service
+-- the faults of a container or a service
 abbrev pub container_faults : Node → List Fault
 container_faults c = env_faults c ++ credentials_faults c
 
--- of a workflow or a job
+-- the faults of a workflow or a job as a section
 abbrev pub section_faults : Node → List Fault
 section_faults n = permissions_faults n ++ env_faults n ++ shell_faults (text_below (codes "defaults" ∷ codes "run" ∷ codes "shell" ∷ []) n)
 
@@ -53,7 +53,7 @@ settings_faults job =
 abbrev pub job_faults : Node × Node → List Fault
 job_faults j = settings_faults j.1 ++ containers_faults j.1 ++ steps_faults (items_at (codes "steps") j.1)
 
--- of a workflow, given the faults of what its jobs need
+-- the faults of a workflow, given those of its `needs`
 abbrev pub workflow_faults : List Fault → Node → List Fault
 workflow_faults needs root =
     option_map_or on_faults (value_at (codes "on") root) [] ++ section_faults root ++ ids_faults (job_keys (jobs_of root)) ++ needs
@@ -77,7 +77,7 @@ composite_faults root runs =
 abbrev pub hooks_faults : Node → List Fault
 hooks_faults runs = condition_faults (text_at_key (codes "pre-if") runs) ++ condition_faults (text_at_key (codes "post-if") runs)
 
--- by the section that `runs` is; where that isn't known, only `using` is checked
+-- the faults by the section that `runs` is; if that is unknown, only `using` is checked
 abbrev pub using_faults : Node → Node → Named → Shape → List Fault
 using_faults root runs using_name NodeRuns = hooks_faults runs
 using_faults root runs using_name DockerRuns = env_faults runs ++ hooks_faults runs
@@ -95,7 +95,7 @@ runs_faults root runs =
 abbrev pub action_faults : Node → List Fault
 action_faults root = option_map_or (runs_faults root) (value_at (codes "runs") root) []
 
--- what the rules find in a workflow
+-- the faults of the rules in a workflow
 pub record IsWorkflowFaults (root : Node) (found : List Fault) : Type 0 where
   pub needs : List Fault
   pub of_needs : IsNeedsFaults (jobs_of root) needs
@@ -120,7 +120,7 @@ AreRuleFaults kind.Action root found = found ≡ action_faults root
 abbrev pub IsRuleFaults : Tree → List Fault → Type 0
 IsRuleFaults file found = AreRuleFaults (kind_in file) (root_of file) found
 
--- The list has what it had, and some faults that are the rules', each of which it has now.
+-- The list begins with what it held, and now has the faults of the rules.
 pub record AddsRules (file : Tree) (old new : List Fault) : Type 0 where
   pub found : List Fault
   pub rules : IsRuleFaults file found

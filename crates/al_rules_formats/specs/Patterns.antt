@@ -15,7 +15,7 @@ use Rattle.al_base.specs.FirstBytes.{begins_with}
 use Rattle.al_rules_formats.specs.declared.patterns.Filter.{Filter}
 use Rattle.al_rules_formats.specs.declared.patterns.Filter.TheVariants.{Names, Paths}
 
--- the marks that may follow an item
+-- the marks that can follow an item
 abbrev pub is_mark : ℕ → Bool
 is_mark c = c == ascii "?" || c == ascii "+"
 
@@ -34,7 +34,7 @@ is_class [] = false
 is_class (c ∷ cs) = ascends (c ∷ cs)
 
 abbrev mutual
-  -- items up to the end, behind an item or not: only an item may have marks
+  -- items up to the end, after an item or not: only an item can have marks
   pub are_items_from : Bool → List ℕ → Bool
   are_items_from has_item [] = has_item
   are_items_from has_item (c ∷ cs) =
@@ -43,29 +43,29 @@ abbrev mutual
       else if is_mark c then has_item && are_items_from true cs
       else are_items_from true cs
 
-  -- any character, and then items
+  -- any character, then items
   pub goes_on_escaped : List ℕ → Bool
   goes_on_escaped [] = false
   goes_on_escaped (c ∷ cs) = are_items_from true cs
 
-  -- the rest of a class, and then items
+  -- the rest of a class, then items
   pub goes_on_in_class : List ℕ → Bool
   goes_on_in_class [] = false
   goes_on_in_class (c ∷ cs) = if c == ascii "]" then are_items_from true cs else goes_on_in_class cs
 
--- the characters behind a `!` at the start
+-- the characters after a leading `!`
 abbrev pub behind_not : List ℕ → List ℕ
 behind_not cs = if begins_with (ascii "!") cs then drop 1 cs else cs
 
 abbrev pub is_barred : ℕ → Bool
 is_barred c = c == ascii " " || c == ascii "~" || c == ascii "^" || c == ascii ":"
 
--- a path filter doesn't begin with `./`, branch and tag filters lack some characters
+-- a path filter can't begin with `./`, and filters of branches and tags can't have some characters
 abbrev pub has_barred : Filter → List ℕ → Bool
 has_barred Names cs = list_any is_barred cs
 has_barred Paths cs = starts_with nat_eq (behind_not cs) (codes "./")
 
--- a pattern by its characters: an optional `!`, or none, and then one or more items
+-- a pattern by its characters: an optional `!`, then one or more items
 abbrev pub is_right : Filter → List ℕ → Bool
 is_right filter cs = not (has_barred filter cs) && (are_items_from false cs || are_items_from false (behind_not cs))
 

@@ -1,3 +1,3 @@
--- What worked rows are written with: small files and their trees, by hand. No definition stands on them.
+-- Terms for worked rows: small files and their trees, by hand. No definition uses them.
 pub mod Patterns
 pub mod Schedules

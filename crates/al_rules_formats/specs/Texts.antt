@@ -2,7 +2,7 @@
 use Rattle.std.specs.Prelude.{ℕ, List, [], ◌∷◌, Bool, false, ◌==◌, ◌||◌, nat_eq}
 use Rattle.std.specs.List.{slice_split, starts_with}
 
--- the text stands somewhere in the other
+-- a text contains a part
 abbrev pub has_part : List ℕ → List ℕ → Bool
 has_part part [] = false
 has_part part (b ∷ bs) = starts_with nat_eq (b ∷ bs) part || has_part part bs

@@ -9,7 +9,7 @@ use al_base::limits::LONGEST_TEXT;
 use al_expr_grammar::chunks;
 use std::alloc::{AllocError, Global};
 
-/// What may stand in a text outside the braces of its one expression.
+/// What a text may have outside the braces of its one expression.
 #[derive(Clone, Copy)]
 pub enum Around {
     /// Nothing.
@@ -18,7 +18,7 @@ pub enum Around {
     Blanks,
 }
 
-/// Whether a byte may stand outside the braces.
+/// Whether a byte is allowed outside the braces.
 fn may_be(around: Around, byte: u8) -> bool
     ensures { result ≡ may_stand around byte }
 {
@@ -28,7 +28,7 @@ fn may_be(around: Around, byte: u8) -> bool
     }
 }
 
-/// Whether all of some bytes may.
+/// Whether all of these bytes are.
 fn may_all(around: Around, bytes: &[u8]) -> bool
     ensures { result ≡ list_all (may_stand around) bytes.now }
 {
@@ -46,7 +46,7 @@ fn prefix(bytes: &[u8], count: usize) -> &[u8]
     }
 }
 
-/// What stands behind the first bytes of a text.
+/// A text without its first bytes.
 fn suffix(bytes: &[u8], count: usize) -> &[u8]
     ensures { result.now ≡ drop count bytes.now }
 {
@@ -57,7 +57,7 @@ fn suffix(bytes: &[u8], count: usize) -> &[u8]
     }
 }
 
-/// Whether nothing but what may stands outside the braces of a chunk.
+/// Whether everything outside the braces of a chunk is allowed there.
 fn stands_alone(around: Around, bytes: &[u8], content: Span) -> bool
     ensures { result ≡ is_lone around bytes.now (content ∷ []) None }
 {
@@ -67,7 +67,7 @@ fn stands_alone(around: Around, bytes: &[u8], content: Span) -> bool
     ) && may_all(around, suffix(bytes, content.end as usize + 2))
 }
 
-/// A text that has chunks.
+/// A text as a string, if it is UTF-8 and has at most 4,194,304 bytes.
 fn short_text(bytes: &[u8]) -> Option<&str>
     ensures { MatchOption result (is_short bytes.now ≡ false)
         (λ s. (s.now ≡ bytes.now) × (is_short bytes.now ≡ true)) }
@@ -96,9 +96,10 @@ fn has_lone_chunk(alloc: Global, around: Around, text: &str) -> Result<bool, All
     }
 }
 
-/// Whether a text is one expression, `${{ .. }}`, outside whose braces nothing else stands than what may.
+/// Whether a text is one expression, `${{ .. }}`, with only what is allowed outside its braces.
 ///
-/// A text over 4,194,304 bytes, or that isn't UTF-8, is none: no file has such a text. Fails with `AllocError` when out of memory.
+/// `false` for a text of more than 4,194,304 bytes or that isn't UTF-8: no file has such a text. Fails with `AllocError` when out of
+/// memory.
 pub fn is_lone_chunk(alloc: Global, around: Around, text: &[u8]) -> Result<bool, AllocError>
     ensures { IfOk result (λ r. r ≡ lone_chunk around text.now) }
 {

@@ -1,18 +1,18 @@
-//! The names that jobs, steps and environment variables take.
+//! The names of jobs, steps and environment variables.
 
 ghost use Rattle.al_expr_grammar.specs.Tokens.{begins_name, goes_on_name};
 ghost use Rattle.al_rules_formats.specs.Names.{is_id as id, is_variable as variable, is_variable_byte};
 ghost use Rattle.std.specs.List.{list_all};
 ghost use Rattle.std.specs.Prelude.{◌≡◌};
 
-/// Whether a byte may begin an id.
+/// Whether an id can begin with a byte.
 fn begins(byte: u8) -> bool
     ensures { result ≡ begins_name byte }
 {
     byte.is_ascii_alphabetic() || byte == b'_'
 }
 
-/// Whether a byte may stand in an id behind the first one.
+/// Whether an id can have a byte after its first.
 fn continues(byte: u8) -> bool
     ensures { result ≡ goes_on_name byte }
 {
@@ -26,7 +26,7 @@ fn all_continue(bytes: &[u8]) -> bool
     bytes.iter().all(|byte| continues(*byte))
 }
 
-/// Whether a text is an id of a job or a step: an ASCII letter or `_`, and then ASCII letters, digits, `_` and `-`.
+/// Whether a text is an id of a job or a step: an ASCII letter or `_`, then ASCII letters, digits, `_` and `-`.
 pub fn is_id(text: &[u8]) -> bool
     ensures { result ≡ id text.now }
 {
@@ -36,7 +36,7 @@ pub fn is_id(text: &[u8]) -> bool
     }
 }
 
-/// Whether a byte may stand in the name of an environment variable.
+/// Whether the name of an environment variable can have a byte.
 fn may_name(byte: u8) -> bool
     ensures { result ≡ is_variable_byte byte }
 {

@@ -9,7 +9,7 @@ ghost use Rattle.std.specs.Str.{chars};
 
 use std::alloc::{AllocError, Global};
 
-/// What a filter pattern is matched with.
+/// What a filter pattern matches.
 #[derive(Clone, Copy)]
 pub enum Filter {
     /// The names of branches or tags.
@@ -18,26 +18,26 @@ pub enum Filter {
     Paths,
 }
 
-/// Where a filter pattern stands.
+/// The state of reading a filter pattern.
 #[derive(Clone, Copy)]
 pub(crate) enum State {
     /// Before its first item.
     FirstItem,
-    /// Behind an item.
+    /// After an item.
     AfterItem,
-    /// Behind a `\`.
+    /// After a `\`.
     AfterEscape,
-    /// In a class that has nothing yet.
+    /// In an empty class.
     ClassFirst,
-    /// In a class, behind a range.
+    /// In a class, after a range.
     ClassNext,
-    /// In a class, behind a character that may begin a range.
+    /// In a class, after a character that may begin a range.
     ClassLow(char),
-    /// In a class, behind that and a `-`.
+    /// In a class, after such a character and a `-`.
     ClassDash(char),
 }
 
-/// One more character outside a class, behind an item or not.
+/// The state after one more character outside a class, whether after an item or not.
 fn outside(is_behind: bool, c: char) -> Option<State>
     ensures { result ≡ outside_class is_behind c }
 {
@@ -50,7 +50,7 @@ fn outside(is_behind: bool, c: char) -> Option<State>
     }
 }
 
-/// One more character, if it may stand there.
+/// The state after one more character, if it is allowed.
 fn read(state: State, c: char) -> Option<State>
     ensures { result ≡ read_one state c }
 {
@@ -85,7 +85,7 @@ fn are_items(characters: &[char]) -> bool
     matches!(state, State::AfterItem)
 }
 
-/// The characters behind a `!` at the start.
+/// The characters after a leading `!`, if there is one.
 fn behind_not(characters: &[char]) -> &[char]
     ensures { result.now ≡ without_not characters.now }
 {
@@ -102,21 +102,21 @@ fn is_relative(characters: &[char]) -> bool
     matches!(characters, ['.', '/', ..])
 }
 
-/// Whether filters of branches and tags may not have a character.
+/// Whether filters of branches and tags can't have a character.
 fn is_barred_character(c: char) -> bool
     ensures { result ≡ is_barred c }
 {
     matches!(c, ' ' | '~' | '^' | ':')
 }
 
-/// Whether one of some characters is such a one.
+/// Whether one of these characters is such.
 fn has_barred_character(characters: &[char]) -> bool
     ensures { result ≡ list_any is_barred characters.now }
 {
     characters.iter().any(|c| is_barred_character(*c))
 }
 
-/// Whether a filter has what filters of its kind may not have.
+/// Whether a filter has something that filters of its kind can't have.
 fn has_barred(filter: Filter, characters: &[char]) -> bool
     ensures { result ≡ barred filter characters.now }
 {
@@ -144,7 +144,7 @@ fn characters_of(alloc: Global, text: &str) -> Result<Vec<char>, AllocError>
     Ok(characters)
 }
 
-/// Whether a text is a filter pattern: an optional `!`, and then one or more items, of which none has what such filters may not have.
+/// Whether a text is a filter pattern: an optional `!`, then one or more items, without what filters of this kind can't have.
 ///
 /// Bytes that aren't UTF-8 are read as U+FFFD. Fails with `AllocError` when out of memory.
 pub fn is_pattern(alloc: Global, filter: Filter, text: &[u8]) -> Result<bool, AllocError>

@@ -25,7 +25,7 @@ struct Name {
     number: u32,
 }
 
-/// What a field takes: the numbers from the low to the high one, and names for some of them.
+/// What a field accepts: the numbers from the low to the high one, and names for some of them.
 #[derive(Clone, Copy)]
 struct Range {
     low: u32,
@@ -33,7 +33,7 @@ struct Range {
     names: &'static [Name],
 }
 
-/// Numbers from a low one on, each so many further, up to a high one.
+/// The numbers from a low one to a high one, in steps.
 #[derive(Clone, Copy)]
 pub struct Item {
     pub low: u32,
@@ -149,7 +149,7 @@ const WEEKDAYS: Range = Range {
     ],
 };
 
-/// The number that digits write, or 1,000 where they write a greater one.
+/// The number that these digits are, or 1,000 if it is greater.
 fn number(text: &[u8]) -> Option<u32>
     ensures { result ≡ option_map least_thousand (written_number text.now) }
 {
@@ -166,7 +166,7 @@ fn number(text: &[u8]) -> Option<u32>
     Some(number)
 }
 
-/// A number with one more digit, or 1,000.
+/// A number with one more digit, at most 1,000.
 fn at_most_thousand(number: u32, digit: u8) -> u32
     requires { number ≤ 1000 }
     ensures value { result ≡ least_thousand (number * 10 + digit) }
@@ -176,7 +176,7 @@ fn at_most_thousand(number: u32, digit: u8) -> u32
     if next < 1_000 { next } else { 1_000 }
 }
 
-/// The number that digits write, where it lies in a range.
+/// The number that these digits are, if it is in the range.
 fn number_in(low: u32, high: u32, text: &[u8]) -> Option<u32>
     requires { high < 1000 }
     ensures { result ≡ in_range_number low high text.now }
@@ -212,7 +212,7 @@ fn value(range: Range, text: &[u8]) -> Option<u32>
     }
 }
 
-/// The numbers from one to another in steps, where they don't descend.
+/// The numbers from one to another in steps, unless the second is lower.
 fn from_to(step: u32, low: u32, high: u32) -> Option<Item>
     ensures { result ≡ numbers_from_to step low high }
 {
@@ -248,7 +248,7 @@ fn two_values(range: Range, step: Option<u32>, low: &[u8], high: &[u8]) -> Optio
     from_to(step.unwrap_or(1), low, high)
 }
 
-/// What stands before a step means.
+/// What the part before a step means.
 fn head(
     alloc: Global,
     range: Range,
@@ -266,7 +266,7 @@ fn head(
     })
 }
 
-/// An item of a field.
+/// The item that a text is, if it is one.
 fn item_at(alloc: Global, range: Range, text: &[u8]) -> Result<Option<Item>, AllocError>
     requires { range.high < 1000 }
     ensures { IfOk result (λ r. r ≡ item_parts (range_of range) (pieces (ascii "/") text.now)) }
@@ -282,7 +282,7 @@ fn item_at(alloc: Global, range: Range, text: &[u8]) -> Result<Option<Item>, All
     }
 }
 
-/// The items of a field, if each is right.
+/// The items of a field, if all are valid.
 fn field(alloc: Global, range: Range, text: &[u8]) -> Result<Option<Vec<Item>>, AllocError>
     requires { range.high < 1000 }
     ensures { IfOk result (λ r. option_map (λ v. v.items) r ≡ items_of_field (range_of range) text.now) }
@@ -291,7 +291,7 @@ fn field(alloc: Global, range: Range, text: &[u8]) -> Result<Option<Vec<Item>>, 
     items_of(alloc, range, parts.as_slice())
 }
 
-/// Items, if each is right.
+/// The items that these texts are, if all are valid.
 fn items_of(alloc: Global, range: Range, parts: &[&[u8]]) -> Result<Option<Vec<Item>>, AllocError>
     requires { range.high < 1000 }
     ensures { IfOk result
@@ -308,7 +308,7 @@ fn items_of(alloc: Global, range: Range, parts: &[&[u8]]) -> Result<Option<Vec<I
     Ok(Some(items))
 }
 
-/// Whether a field is right.
+/// Whether a field is valid.
 fn is_field(alloc: Global, range: Range, text: &[u8]) -> Result<bool, AllocError>
     requires { range.high < 1000 }
     ensures { IfOk result (λ r. r ≡ field_is_right (range_of range) text.now) }
@@ -339,7 +339,7 @@ fn without_empty<'a>(alloc: Global, parts: &[&'a [u8]]) -> Result<Vec<&'a [u8]>,
     Ok(found)
 }
 
-/// Whether the fields behind the minutes are right.
+/// Whether the fields after the minutes are valid.
 fn are_right(
     alloc: Global,
     hours: &[u8],
@@ -365,7 +365,7 @@ fn are_right(
     is_field(alloc, WEEKDAYS, weekdays)
 }
 
-/// The minutes of a schedule with these fields, if it is right.
+/// The minutes of a schedule with these fields, if it is valid.
 fn minutes(alloc: Global, fields: &[&[u8]]) -> Result<Option<Vec<Item>>, AllocError>
     ensures { IfOk result
         (λ r. option_map (λ v. v.items) r ≡ minutes_in (map (λ p. p.now) fields.now)) }
@@ -382,7 +382,7 @@ fn minutes(alloc: Global, fields: &[&[u8]]) -> Result<Option<Vec<Item>>, AllocEr
     }
 }
 
-/// The items of a schedule's minutes, if the text is a schedule, and `None` where it is not. Fails with `AllocError` when out of memory.
+/// The items of a schedule's minutes, or `None` if the text isn't a schedule. Fails with `AllocError` when out of memory.
 pub fn schedule(alloc: Global, text: &[u8]) -> Result<Option<Vec<Item>>, AllocError>
     ensures { IfOk result (λ r. option_map (λ v. v.items) r ≡ schedule_of text.now) }
 {
@@ -390,7 +390,7 @@ pub fn schedule(alloc: Global, text: &[u8]) -> Result<Option<Vec<Item>>, AllocEr
     minutes(alloc, fields.as_slice())
 }
 
-/// Whether a number is a member of an item.
+/// Whether an item has a number.
 fn picks(number: u32, item: Item) -> bool
     ensures { result ≡ item_picks number item }
 {
@@ -400,14 +400,14 @@ fn picks(number: u32, item: Item) -> bool
         && (number - item.low) % item.step == 0
 }
 
-/// Whether a number is a member of one of some items.
+/// Whether one of these items has a number.
 fn is_member(number: u32, items: &[Item]) -> bool
     ensures { result ≡ list_any (item_picks number) items.now }
 {
     items.iter().any(|item| picks(number, *item))
 }
 
-/// Adds a minute, if it is a member of one of some items.
+/// Adds a minute, if one of these items has it.
 fn add_minute(items: &[Item], minute: u32, found: &mut Vec<u32>) -> Result<(), AllocError>
     ensures { OnOk result
         (found.new.items
@@ -419,7 +419,7 @@ fn add_minute(items: &[Item], minute: u32, found: &mut Vec<u32>) -> Result<(), A
     Ok(())
 }
 
-/// The minutes that are members of some items.
+/// The minutes that these items have.
 fn minutes_of(alloc: Global, items: &[Item]) -> Result<Vec<u32>, AllocError>
     ensures { IfOk result (λ v. v.items ≡ minute_set items.now) }
 {
@@ -430,21 +430,21 @@ fn minutes_of(alloc: Global, items: &[Item]) -> Result<Vec<u32>, AllocError>
     Ok(found)
 }
 
-/// Whether two numbers differ by less than 5, and the first is the lower one.
+/// Whether the second number is greater than the first, by less than 5.
 fn is_close(low: u32, high: u32) -> bool
     ensures { result ≡ is_just_below low high }
 {
     low < high && high - low < 5
 }
 
-/// Whether a number is the lower one of two that differ by less than 5.
+/// Whether one of these numbers is greater than a number, by less than 5.
 fn is_close_below(low: u32, numbers: &[u32]) -> bool
     ensures { result ≡ list_any (is_just_below low) numbers.now }
 {
     numbers.iter().any(|high| is_close(low, *high))
 }
 
-/// Whether two of some numbers differ by less than 5.
+/// Whether two different numbers of these differ by less than 5.
 fn are_close(numbers: &[u32]) -> bool
     ensures { result ≡ list_any (λ m. list_any (is_just_below m) numbers.now) numbers.now }
 {

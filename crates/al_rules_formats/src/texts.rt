@@ -5,7 +5,7 @@ ghost use Rattle.std.specs.Prelude.{◌≡◌, map, IfOk};
 
 use std::alloc::{AllocError, Global};
 
-/// Whether a part stands somewhere in a text; an empty part stands in each text that isn't empty.
+/// Whether a text contains a part; an empty part is contained in each text that isn't empty.
 pub fn has_part(part: &[u8], text: &[u8]) -> bool
     ensures { result ≡ part_of part.now text.now }
 {

@@ -1,4 +1,4 @@
-//! Filter patterns and schedules that were worked out by hand, computed by the definitions.
+//! Worked filter patterns and schedules, computed by the definitions.
 ghost use Rattle.al_rules_formats.specs.Rows.Patterns.{right_names, right_paths, wrong_names, wrong_paths};
 ghost use Rattle.al_rules_formats.specs.Patterns.{is_right};
 ghost use Rattle.al_rules_formats.specs.Rows.Schedules.{every, frequent_schedules, right_schedules};
@@ -10,7 +10,7 @@ ghost use Rattle.al_rules_formats.specs.declared.patterns.Filter.TheVariants.{Na
 ghost use Rattle.std.specs.List.{list_all, list_any};
 ghost use Rattle.std.specs.Prelude.{◌≡◌, [], ◌∷◌, codes, false, is_some, None, Some, true};
 
-/// Texts that are filter patterns, of branches and tags or of paths, and texts that aren't. Does nothing.
+/// Texts that are filter patterns, of branches and tags or of paths, and texts that aren't. Does nothing at run time.
 pub fn pattern_rows()
     ensures right_names { list_all (is_right Names) right_names ≡ true }
     ensures wrong_names { list_any (is_right Names) wrong_names ≡ false }
@@ -18,14 +18,14 @@ pub fn pattern_rows()
     ensures wrong_paths { list_any (is_right Paths) wrong_paths ≡ false }
 {}
 
-/// Texts that are schedules, and texts that aren't, or that run too often. Does nothing.
+/// Texts that are schedules, and texts that aren't, or that run too often. Does nothing at run time.
 pub fn schedule_rows()
     ensures right { list_all runs_seldom right_schedules ≡ true }
     ensures wrong { list_any (λ text. is_some (schedule_of text)) wrong_schedules ≡ false }
     ensures frequent { list_all runs_too_often frequent_schedules ≡ true }
 {}
 
-/// Numbers, pieces and minutes of some texts and items. Does nothing.
+/// Numbers, pieces and minutes of some texts and items. Does nothing at run time.
 pub fn part_rows()
     ensures zeros { written_number (codes "007") ≡ Some 7 }
     ensures great { written_number (codes "4294967296") ≡ Some 4294967296 }

@@ -8,15 +8,15 @@ use Rattle.al_base.specs.declared.faults.Span.{Span}
 use Rattle.al_scalar.specs.Scalar.{Scalar, offset_of, text_of}
 use Rattle.al_rules_settings.specs.Words.{rule_fault}
 
--- the place behind one; a file has no place 2^32 - 1
+-- the offset after this one; no file has the offset 2^32 - 1
 abbrev pub place_behind : ℕ → ℕ
 place_behind at = if nat_lt at (2 ^ 32 - 1) then at + 1 else at
 
--- where the bytes from i on, n of them, stand in the file
+-- the span in the file of n bytes from the index i on
 abbrev pub part_span : Scalar → ℕ → ℕ → Span
 part_span s i n = record { start = offset_of s i; end = place_behind (offset_of s (i + n - 1)) }
 
--- a command: what is looked for, and its name
+-- a command: the text that gives it, and its name
 abbrev pub commands : List (List ℕ × List ℕ)
 commands =
     (codes "::set-output name=", codes "set-output") ∷ (codes "::save-state name=", codes "save-state")
@@ -25,7 +25,7 @@ commands =
 abbrev pub command_fault : Scalar → List ℕ → List ℕ → ℕ → Fault
 command_fault s needle name i = rule_fault DeprecatedCommand (part_span s i (length needle)) (name ∷ [])
 
--- each place of one command from the left, without those that overlap the last one taken
+-- each occurrence of a command from the left, without those that overlap the one before
 abbrev pub one_command : Scalar → List ℕ × List ℕ → List Fault
 one_command s c = map (command_fault s c.0 c.1) (matches (text_of s) c.0 0)
 

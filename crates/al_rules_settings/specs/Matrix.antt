@@ -22,7 +22,7 @@ is_null_node n = option_map_or is_null (scalar_in n) false
 abbrev pub is_dynamic : Node → Bool
 is_dynamic n = option_map_or (λ s. has_chunk (text_of s)) (scalar_in n) false
 
--- `include` and `exclude`: a list of mappings or scalars with an expression
+-- `include` and `exclude`: a sequence of mappings or scalars with an expression
 abbrev pub is_combination : Node → Bool
 is_combination n = is_some (mapping_in n) || is_dynamic n
 
@@ -32,7 +32,7 @@ are_combinations n = option_map_or (list_all is_combination) (sequence_in n) fal
 abbrev pub is_row_value : List ℕ → Node → Bool
 is_row_value k n = is_null_node n || is_dynamic n || (if is_combination_key k then are_combinations n else is_some (sequence_in n))
 
--- a wrong shape
+-- the fault of a wrong shape
 abbrev pub shape_faults : Bool → Span → List ℕ → List Fault
 shape_faults right at name = if right then [] else rule_fault WrongMatrix at (name ∷ []) ∷ []
 
@@ -47,11 +47,11 @@ row_names ms = filter (λ k. not (is_combination_key k)) (keys_in ms)
 abbrev pub exclude_keys : List Node → List Named
 exclude_keys items = flat_map (λ item. map (λ m. of_key m.0) (entries_in item)) items
 
--- one of them that is no row, by where rows stand
+-- the fault of one of them that isn't a row, given the positions of the rows
 abbrev pub exclude_faults : (List ℕ → Option ℕ) → Named → List Fault
 exclude_faults place n = unless (is_some (place n.text)) UnknownMatrixRow n
 
--- of a matrix that is a mapping
+-- the faults of a matrix that is a mapping
 abbrev pub mapping_faults : Node → List Fault
 mapping_faults n =
     flat_map row_faults (entries_in n)

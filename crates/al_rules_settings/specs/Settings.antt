@@ -20,14 +20,14 @@ use Rattle.al_rules_settings.specs.Commands.{command_faults}
 use Rattle.al_rules_settings.specs.Names.{shells, permissions, scope_values, whole_values}
 use Rattle.al_rules_settings.specs.Words.{of_key, of_scalar, rule_fault, unless, unless_among}
 
--- a shell, one with an expression, or a command line with a place for the script
+-- a known shell, or a text with an expression or `{0}`, the place of the script
 abbrev pub is_shell : List ℕ → Bool
 is_shell text = has_chunk text || has_part (codes "{0}") text || among shells text
 
 abbrev pub shell_faults : Option (Scalar × Span) → List Fault
 shell_faults shell = option_map_or (λ s. unless (is_shell (of_scalar s).text) UnknownShell (of_scalar s)) shell []
 
--- an unknown permission, and a wrong value of one
+-- an unknown permission, and a wrong value of a known one
 abbrev pub permission_value_faults : List (List ℕ) → Node → List Fault
 permission_value_faults values n = option_map_or (λ s. unless_among WrongPermission values (of_scalar s)) (text_in n) []
 
@@ -40,7 +40,7 @@ all_permissions_faults n = permission_value_faults whole_values n ++ flat_map pe
 abbrev pub permissions_faults : Node → List Fault
 permissions_faults section = option_map_or all_permissions_faults (value_at (codes "permissions") section) []
 
--- a wrong name of an environment variable
+-- an invalid name of an environment variable
 abbrev pub variable_faults : Node × Node → List Fault
 variable_faults m = unless (is_variable (of_key m.0).text) WrongVariable (of_key m.0)
 
@@ -54,11 +54,11 @@ is_password n = option_map_or (λ s. is_null s || is_lone_chunk Nothing (text_of
 abbrev pub password_faults : Node → List Fault
 password_faults n = if is_password n then [] else rule_fault PasswordNotExpression (span_of n) [] ∷ []
 
--- of a container or a service
+-- the fault of the credentials of a container or a service
 abbrev pub credentials_faults : Node → List Fault
 credentials_faults container = option_map_or password_faults (value_below (codes "credentials" ∷ codes "password" ∷ []) container) []
 
--- deprecated commands of a script
+-- the deprecated commands of a script
 abbrev pub script_faults : Option (Scalar × Span) → List Fault
 script_faults run = option_map_or (λ s. command_faults s.0) run []
 

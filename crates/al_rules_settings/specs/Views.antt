@@ -1,4 +1,4 @@
--- What the program's own types stand for.
+-- The meaning of the program's own types.
 use Rattle.std.specs.Prelude.{ℕ, List}
 use Rattle.al_tree.specs.declared.values.ScalarNode.{ScalarNode}
 use Rattle.al_tree.specs.Values.{scalar_node_of}
@@ -12,6 +12,6 @@ named_of n = record { text = n.text.now; span = n.span }
 abbrev pub named_scalar : ScalarNode → Named
 named_scalar s = of_scalar (scalar_node_of s)
 
--- what is looked for, and its name
+-- the text that gives a command, and its name
 abbrev pub command_of : Command → List ℕ × List ℕ
 command_of c = (c.needle.now, c.name.now)

@@ -1,4 +1,4 @@
--- Small words of the rules: texts with their places, and faults that name them.
+-- Terms of the rules: texts with their spans, and faults that name them.
 use Rattle.std.specs.Prelude.{ℕ, List, [], ◌∷◌, Bool, map, if◌then◌else◌}
 use Rattle.std.specs.Str.Lossy.{utf8_lossy}
 use Rattle.al_base.specs.declared.codes.Code.TheVariants as code
@@ -10,7 +10,7 @@ use Rattle.al_yaml_tree.specs.Node.{Node, span_of}
 use Rattle.al_tree.specs.Keys.{key_text}
 use Rattle.al_base.specs.Names.{among}
 
--- a text of a file, and where it stands
+-- a text of a file, and its span
 pub record Named : Type 0 where
   pub text : List ℕ
   pub span : Span
@@ -25,14 +25,14 @@ of_scalar s = record { text = text_of s.0; span = s.1 }
 abbrev pub rule_fault : RuleCode → Span → List (List ℕ) → Fault
 rule_fault rule at texts = record { span = at; code = code.Rule rule; args = map utf8_lossy texts }
 
--- the fault of a text, which names it
+-- a fault that names a text
 abbrev pub about : RuleCode → Named → List Fault
 about rule n = rule_fault rule n.span (n.text ∷ []) ∷ []
 
--- a text that isn't right
+-- the fault of a text, unless it is valid
 abbrev pub unless : Bool → RuleCode → Named → List Fault
 unless right rule n = if right then [] else about rule n
 
--- a text that isn't one of these
+-- the fault of a text that isn't one of these
 abbrev pub unless_among : RuleCode → List (List ℕ) → Named → List Fault
 unless_among rule names n = unless (among names n.text) rule n

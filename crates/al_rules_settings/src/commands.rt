@@ -13,7 +13,7 @@ use std::alloc::AllocError;
 /// A deprecated command.
 #[derive(Clone, Copy)]
 pub(crate) struct Command {
-    /// What a script has where it gives the command.
+    /// The text by which a script gives the command.
     needle: &'static str,
     name: &'static str,
 }
@@ -38,14 +38,14 @@ const ADD_PATH: Command = Command {
     name: "add-path",
 };
 
-/// The place behind one.
+/// The offset after this one.
 fn next_place(at: u32) -> u32
     ensures { result ≡ place_behind at }
 {
     if at < u32::MAX { at + 1 } else { at }
 }
 
-/// Adds the fault of a command at a place of a script.
+/// Adds the fault of a command at an offset of a script.
 fn report_command(
     script: &Scalar,
     command: Command,
@@ -82,7 +82,7 @@ fn check_command(
     Ok(())
 }
 
-/// Adds the deprecated commands of a script.
+/// Adds the faults of the deprecated commands in a script.
 pub(crate) fn check_commands(script: &Scalar, faults: &mut FaultSink) -> Result<(), AllocError>
     ensures { OnOk result (faults.new ≡ faults.old ++ command_faults script.now) }
 {

@@ -26,7 +26,7 @@ fn texts_of<'a>(alloc: Global, ids: &[Named<'a>]) -> Result<Vec<&'a [u8]>, Alloc
     Ok(texts)
 }
 
-/// Adds the ids that are wrong.
+/// Adds the faults of invalid ids.
 fn check_each(ids: &[Named<'_>], faults: &mut FaultSink) -> Result<(), AllocError>
     ensures { OnOk result (faults.new ≡ faults.old
         ++ flat_map (λ n. unless (id n.text) WrongId n) (map named_of ids.now)) }
@@ -37,7 +37,7 @@ fn check_each(ids: &[Named<'_>], faults: &mut FaultSink) -> Result<(), AllocErro
     Ok(())
 }
 
-/// Adds the ids that are repeated, by which are the first of their names.
+/// Adds the faults of repeated ids, given the first position of each name.
 fn check_each_first(
     positions: &NamePositions,
     ids: &[Named<'_>],
@@ -53,7 +53,7 @@ fn check_each_first(
     Ok(())
 }
 
-/// Adds the ids that are repeated.
+/// Adds the faults of repeated ids.
 fn check_repeated(ids: &[Named<'_>], faults: &mut FaultSink) -> Result<(), AllocError>
     ensures { OnOk result (faults.new ≡ faults.old ++ repeated_faults [] (map named_of ids.now)) }
 {
@@ -62,7 +62,7 @@ fn check_repeated(ids: &[Named<'_>], faults: &mut FaultSink) -> Result<(), Alloc
     check_each_first(&positions, ids, faults)
 }
 
-/// Adds the faults of the keys of jobs or the ids of steps: those that are no ids, and those that repeat an earlier one without ASCII case.
+/// Adds the faults of the keys of jobs or the ids of steps: invalid ones, and those that repeat an earlier one, ignoring ASCII case.
 ///
 /// Fails with `AllocError` when out of memory.
 pub fn check_ids(ids: &[Named<'_>], faults: &mut FaultSink) -> Result<(), AllocError>

@@ -1,5 +1,5 @@
-//! The rules of single settings, wherever they stand: ids, matrices, shells, permissions, environment variables, passwords, scripts
-//! and conditions. And what each rule reports with: texts of a file that a fault names.
+//! The rules of single settings, wherever they are: ids, matrices, shells, permissions, environment variables, passwords, scripts and
+//! conditions. Also how rules report faults that name a text of the file.
 #![tactic(auto)]
 
 mod commands;

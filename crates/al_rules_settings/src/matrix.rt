@@ -49,14 +49,14 @@ fn is_mapping(node: &Node) -> bool
     node.mapping().is_some()
 }
 
-/// Whether a node may stand in `include` and `exclude`.
+/// Whether `include` and `exclude` can have a node as item.
 fn is_combination(node: &Node) -> bool
     ensures { result ≡ combination (view node.now) }
 {
     is_mapping(node) || is_dynamic(node)
 }
 
-/// Whether all of some nodes may.
+/// Whether they can have all of these nodes.
 fn may_all(nodes: &[Node]) -> bool
     ensures { result ≡ list_all combination (map view nodes.now) }
 {
@@ -68,7 +68,7 @@ fn may_all(nodes: &[Node]) -> bool
     true
 }
 
-/// Whether a node is a sequence of such nodes.
+/// Whether a node is a sequence of such items.
 fn are_combinations(node: &Node) -> bool
     ensures { result ≡ all_combinations (view node.now) }
 {
@@ -78,7 +78,7 @@ fn are_combinations(node: &Node) -> bool
     }
 }
 
-/// Whether a key of a matrix may have a value.
+/// Whether a key of a matrix can have a value.
 fn is_row_value(key: &[u8], value: &Node) -> bool
     ensures { result ≡ row_value key.now (view value.now) }
 {
@@ -127,7 +127,7 @@ fn check_rows(rows: &[Member<'_>], faults: &mut FaultSink) -> Result<(), AllocEr
     Ok(())
 }
 
-/// The names of the rows: the keys but `include` and `exclude`.
+/// The names of the rows: all keys except `include` and `exclude`.
 fn row_names<'a>(alloc: Global, rows: &[Member<'a>]) -> Result<Vec<&'a [u8]>, AllocError>
     ensures { IfOk result (λ v. map (λ t. t.now) v.items
         ≡ names_of_rows (map member_of rows.now)) }
@@ -173,7 +173,7 @@ fn excluded_keys(alloc: Global, items: &[Node]) -> Result<Vec<Named<'_>>, AllocE
     Ok(found)
 }
 
-/// Adds the faults of some keys of `exclude`, beside rows that stand at these positions.
+/// Adds the faults of keys of `exclude`, given the positions of the rows.
 fn check_excluded(
     rows: &NamePositions,
     keys: &[Named<'_>],
@@ -189,7 +189,7 @@ fn check_excluded(
     Ok(())
 }
 
-/// Adds the faults of the keys of `exclude` beside some rows.
+/// Adds the faults of the keys of `exclude`, given the rows.
 fn check_excludes(
     rows: &[Member<'_>],
     items: &[Node],
@@ -215,7 +215,7 @@ fn check_mapping(node: &Node, faults: &mut FaultSink) -> Result<(), AllocError>
     check_excludes(rows.as_slice(), items_under(node, "exclude"), faults)
 }
 
-/// Adds the faults of a matrix: of its rows, and of the keys of `exclude` that name none of them.
+/// Adds the faults of a matrix: those of its rows, and of keys of `exclude` that aren't rows.
 ///
 /// Fails with `AllocError` when out of memory.
 pub fn check_matrix(node: &Node, faults: &mut FaultSink) -> Result<(), AllocError>

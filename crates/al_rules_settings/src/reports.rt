@@ -1,4 +1,4 @@
-//! Texts of a file, and the faults of the rules about them.
+//! Faults that name a text of the file.
 
 ghost use Rattle.al_rules_settings.specs.Views.{named_of, named_scalar};
 ghost use Rattle.al_rules_settings.specs.Words.{about, of_key, unless, unless_among};
@@ -10,16 +10,16 @@ use al_tree::{ScalarNode, key_text};
 use al_yaml_tree::Node;
 use std::alloc::AllocError;
 
-/// A text of a file, and where it stands.
+/// A text of a file, and its span.
 #[derive(Clone, Copy)]
 pub struct Named<'a> {
-    /// The text, as it is meant: without quotes, its escapes decoded.
+    /// The text without quotes, its escapes decoded.
     pub text: &'a [u8],
-    /// Where it stands, quotes included.
+    /// Its span, quotes included.
     pub span: Span,
 }
 
-/// The text of a key, and where the key stands.
+/// The text and the span of a key.
 pub fn named_key(key: &Node) -> Named<'_>
     ensures { named_of result ≡ of_key (view key.now) }
 {
@@ -29,7 +29,7 @@ pub fn named_key(key: &Node) -> Named<'_>
     }
 }
 
-/// The text of a scalar, and where the scalar stands.
+/// The text and the span of a scalar.
 pub fn named_text(scalar: ScalarNode<'_>) -> Named<'_>
     ensures { named_of result ≡ named_scalar scalar.entry }
 {
@@ -39,14 +39,14 @@ pub fn named_text(scalar: ScalarNode<'_>) -> Named<'_>
     }
 }
 
-/// Adds the fault of a text, which stands where the text does and names it. Fails with `AllocError` when out of memory.
+/// Adds a fault that has the span of a text and names it. Fails with `AllocError` when out of memory.
 pub fn report(rule: RuleCode, named: Named<'_>, faults: &mut FaultSink) -> Result<(), AllocError>
     ensures { OnOk result (faults.new ≡ faults.old ++ about rule (named_of named.entry)) }
 {
     faults.report_text(named.span, Code::Rule(rule), named.text)
 }
 
-/// Adds the fault of a text, unless it is right. Fails with `AllocError` when out of memory.
+/// Adds the fault of a text, unless the text is valid. Fails with `AllocError` when out of memory.
 pub fn report_unless(
     right: bool,
     rule: RuleCode,

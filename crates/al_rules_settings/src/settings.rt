@@ -28,14 +28,14 @@ use al_tree::{
 use al_yaml_tree::Node;
 use std::alloc::{AllocError, Global};
 
-/// Whether a text names a shell, or says how to call one.
+/// Whether a text is accepted as a shell: it has an expression or `{0}`, the place of the script, or is a known name.
 fn is_shell(text: &[u8]) -> bool
     ensures { result ≡ shell text.now }
 {
     contains_chunk(text) || has_part(b"{0}", text) || is_among(text, SHELLS)
 }
 
-/// Adds the fault of a shell that isn't known, has no place for the script, and no expression.
+/// Adds the fault of a shell that is unknown, and has neither an expression nor `{0}`.
 ///
 /// Fails with `AllocError` when out of memory.
 pub fn check_shell(shell: Option<ScalarNode<'_>>, faults: &mut FaultSink) -> Result<(), AllocError>
@@ -112,7 +112,7 @@ pub fn check_permissions(section: &Node, faults: &mut FaultSink) -> Result<(), A
     }
 }
 
-/// Adds the fault of a wrong name of an environment variable.
+/// Adds the fault of an invalid name of an environment variable.
 fn check_variable(variable: Member<'_>, faults: &mut FaultSink) -> Result<(), AllocError>
     ensures { OnOk result (faults.new ≡ faults.old ++ variable_faults (member_of variable.entry)) }
 {
@@ -132,7 +132,7 @@ fn check_variables(variables: &[Member<'_>], faults: &mut FaultSink) -> Result<(
     Ok(())
 }
 
-/// Adds the faults of `env` of a section: wrong names of environment variables.
+/// Adds the faults of `env` of a section: invalid names of environment variables.
 ///
 /// Fails with `AllocError` when out of memory.
 pub fn check_env(section: &Node, faults: &mut FaultSink) -> Result<(), AllocError>
@@ -153,7 +153,7 @@ fn is_expression(alloc: Global, scalar: &Scalar) -> Result<bool, AllocError>
     is_lone_chunk(alloc, Around::Nothing, scalar.text())
 }
 
-/// Whether a node may be a password: null, or one expression.
+/// Whether a node is allowed as a password: null, or one expression.
 fn is_password(alloc: Global, node: &Node) -> Result<bool, AllocError>
     ensures { IfOk result (λ r. r ≡ password (view node.now)) }
 {

@@ -1,4 +1,4 @@
--- What a session is, what is true of what it keeps, and what a put reads.
+-- What a session is, the invariant of what it keeps, and what a put reads.
 use Rattle.std.specs.Prelude.{◌≡◌, ◌≢◌, ℕ, List, None, Some}
 use Rattle.al_base.specs.Counted.{count_after}
 use Rattle.al_session_folder.specs.Meaning.{IsUpTo, Meaning}
@@ -13,22 +13,22 @@ pub record SessionState : Type 0 where
   pub checks : ℕ
   pub reads : ℕ
 
--- What is true of what a session keeps: the faults are those of its folder, and so is the index.
+-- The invariant of what a session keeps: the faults and the index are those of its folder.
 pub record AreLinted {U I S R : Type 0} (m : Meaning I) (is_unit : U → List ℕ → List ℕ → Type 0) (files : Files U I)
     (callers : Callers S R) : Type 0 where
   pub kept : AreKept m is_unit files
   pub faults : AllChecked m (folder_of files) files
   pub index : IsCallerIndex m (folder_of files) callers
 
--- the folder that these files make
+-- the folder of these files
 abbrev pub folder_in : {U I : Type 0} → IndexedFiles U I → Folder
 folder_in kept = folder_of kept.files.entries
 
 abbrev pub IsLinted : {U I : Type 0} → Meaning I → (U → List ℕ → List ℕ → Type 0) → IndexedFiles U I → Type 0
 IsLinted m is_unit kept = AreLinted m is_unit kept.files.entries kept.callers
 
--- What a put of these bytes adds to the count of reads: one at most; none where the file has just these bytes, and one where it has others
--- and only memory can refuse them.
+-- What a put of these bytes adds to the count of reads: at most one; none if the file already has these bytes, and one if it doesn't and
+-- only lack of memory can refuse them.
 pub record ReadsForPut {I : Type 0} (m : Meaning I) (f : Folder) (path bytes : List ℕ) (before now : ℕ) : Type 0 where
   pub at_most : IsUpTo before now 1
   pub there : bytes_at f path ≡ Some bytes → now ≡ before

@@ -1,4 +1,4 @@
--- The graph of calls, labels that tell which calls are on a cycle, and what it depends on.
+-- The graph of calls, labels that tell which calls are on a cycle, and what the graph depends on.
 use Rattle.std.specs.Prelude.{ℕ, ◌≡◌, ◌↔◌, ◌&&◌, Bool, false, List, Option, Some, None, Vec, bytes_eq, length, map, slice_index_or}
 use Rattle.std.specs.Global.{Global}
 use Rattle.al_graph.specs.Graphs.{Edge, Walk, edges_of}
@@ -9,22 +9,22 @@ use Rattle.al_session_folder.specs.Loops.{calls_graph}
 use Rattle.al_session_folder.specs.declared.lint.Target.{Target}
 use Rattle.al_session_folder.specs.declared.lint.Target.TheVariants.{FirstOf, Only}
 
--- there is an edge from the file with this number to the one that a call leads to
+-- the graph has an edge from the file with this number to the one that a call leads to
 abbrev pub IsCalledBy : List (List ℕ) → ℕ → Option ℕ → Type 0
 IsCalledBy graph file None = Unit {0}
 IsCalledBy graph file (Some to) = Edge graph file to
 
--- labels of files: that of a file is the same as that of one to which a call of it leads just where the call is on a cycle
+-- labels of files: if a call leads from one file to another, the two have the same label if and only if the call is on a cycle
 abbrev pub TellLoops : List (List ℕ) → List (Option ℕ) → Type 0
 TellLoops graph labels = (length labels ≡ length graph) × ((j k : ℕ) → Edge graph j k →
     (slice_index_or labels k None ≡ slice_index_or labels j None) ↔ Walk graph k j)
 
--- The program's graph of a folder's calls, and labels that tell which of them are on a cycle.
+-- The graph of a folder's calls, as the program keeps it, and labels that tell which of them are on a cycle.
 pub record IsCallGraph {I : Type 0} (m : Meaning I) (f : Folder) (graph : List (Vec ℕ Global)) (labels : List (Option ℕ)) : Type 0 where
   pub edges : edges_of graph ≡ calls_graph m f
   pub tell : TellLoops (calls_graph m f) labels
 
--- The second folder has the files of the first, by their paths, and each calls the same: so they have one graph.
+-- The second folder has the paths of the first, and each file has the same calls: so they have the same graph.
 pub record HasSameCalls {I : Type 0} (m : Meaning I) (f g : Folder) : Type 0 where
   pub paths : paths_of g ≡ paths_of f
   pub calls : map (λ e. m.calls e.0 e.1) g ≡ map (λ e. m.calls e.0 e.1) f
@@ -36,7 +36,7 @@ is_same_target (Only p) (FirstOf q r) = false
 is_same_target (FirstOf p q) (Only r) = false
 is_same_target (FirstOf p q) (FirstOf r s) = bytes_eq p r && bytes_eq q s
 
--- Kept files with the program's graph of their calls.
+-- Kept files with the graph of their calls.
 pub record AreLinked {U I : Type 0} (m : Meaning I) (is_unit : U → List ℕ → List ℕ → Type 0) (files : Files U I)
     (graph : List (Vec ℕ Global)) (labels : List (Option ℕ)) : Type 0 where
   pub kept : AreKept m is_unit files

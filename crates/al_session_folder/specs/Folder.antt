@@ -1,4 +1,4 @@
--- A folder of files, its calls and their answers, and the edits that it takes.
+-- A folder of files, its calls and their answers, and its edits.
 use Rattle.std.specs.Prelude.{ℕ, not, ◌&&◌, List, [], ◌∷◌, Option, Some, None, length}
 use Rattle.std.specs.Prelude.{if◌then◌else◌, nat_lt, nat_le, is_some, map, unwrap_or}
 use Rattle.std.specs.Option.{option_map, option_or}
@@ -14,7 +14,7 @@ use Rattle.al_session_folder.specs.declared.lint.Target.{Target}
 use Rattle.al_session_folder.specs.declared.lint.Refused.{Refused}
 use Rattle.al_session_folder.specs.declared.lint.Refused.TheVariants.{BadPath, NotAccepted, TooLarge, Full, NoSuchFile, Memory}
 
--- The bytes of files by their paths, in order of path.
+-- The bytes of files by path, in order of path.
 abbrev pub Folder : Type 0
 Folder = List (List ℕ × List ℕ)
 
@@ -22,7 +22,7 @@ Folder = List (List ℕ × List ℕ)
 abbrev pub bytes_at : Folder → List ℕ → Option (List ℕ)
 bytes_at f p = lookup (is_at (slice_cmp nat_cmp p)) f
 
--- the folder with these bytes at a path, and all others as they were
+-- the folder with these bytes at a path, and all other files unchanged
 abbrev pub with_file : Folder → List ℕ → List ℕ → Folder
 with_file f p b = insert_entry (slice_cmp nat_cmp) f p b
 
@@ -34,16 +34,16 @@ paths_of f = map (λ e. e.0) f
 
 -- Calls and their answers
 
--- the interface of the file at a path, if it is there
+-- the interface of the file at a path, if there is one
 abbrev pub interface_in : {I : Type 0} → Meaning I → Folder → List ℕ → Option I
 interface_in m f p = option_map (m.interface p) (bytes_at f p)
 
--- what f answers of the first of these of which it answers something
+-- the first result of f among these
 abbrev pub find_map : {A B : Type 0} → (A → Option B) → List A → Option B
 find_map f [] = None
 find_map f (x ∷ xs) = option_or (f x) (find_map f xs)
 
--- the answer of a call: the interface of its first candidate in the folder, or absent
+-- the answer of a call: the interface of its first candidate in the folder, or None
 unfoldable pub answer : {I : Type 0} → Meaning I → Folder → Target → Option I
 answer m f t = find_map (interface_in m f) (candidates t)
 
@@ -55,13 +55,13 @@ answers m f p b = map (answer m f) (m.calls p b)
 unfoldable pub faults_in : {I : Type 0} → Meaning I → Folder → List ℕ → List ℕ → List Fault
 faults_in m f p b = m.faults p b (answers m f p b)
 
--- the faults of the file at a path, if it is there
+-- the faults of the file at a path, if there is one
 abbrev pub faults_at : {I : Type 0} → Meaning I → Folder → List ℕ → Option (List Fault)
 faults_at m f p = option_map (faults_in m f p) (bytes_at f p)
 
 -- Edits
 
--- why a put is refused, other than for memory
+-- why a put is refused, other than for lack of memory
 unfoldable pub put_refusal : {I : Type 0} → Meaning I → Folder → List ℕ → List ℕ → Option Refused
 put_refusal m f p b =
     if is_some (path_fault_of p) then Some BadPath
@@ -70,7 +70,7 @@ put_refusal m f p b =
     else if nat_le most_files (length f) && not (is_some (bytes_at f p)) then Some Full
     else None
 
--- why a delete is refused, other than for memory
+-- why a delete is refused, other than for lack of memory
 unfoldable pub delete_refusal : {I : Type 0} → Meaning I → Folder → List ℕ → Option Refused
 delete_refusal m f p =
     if is_some (path_fault_of p) then Some BadPath
@@ -78,6 +78,6 @@ delete_refusal m f p =
     else if not (is_some (bytes_at f p)) then Some NoSuchFile
     else None
 
--- the reply where an edit is not accepted
+-- the reply to an edit that isn't accepted
 abbrev pub refusal_or_memory : Option Refused → Refused
 refusal_or_memory r = unwrap_or r Memory

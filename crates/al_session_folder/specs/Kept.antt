@@ -1,4 +1,4 @@
--- The files of a folder as they are kept, the index of their callers, and both after a change.
+-- The files of a folder as a session keeps them, the index of their callers, and both after a change.
 use Rattle.std.specs.Prelude.{◌≡◌, ℕ, ◌≤◌, Bool, true, false, List, [], Option, Some, None}
 use Rattle.std.specs.Prelude.{length, map, String, string_bytes, bytes_eq, cond}
 use Rattle.std.specs.Borrow.{Bor}
@@ -25,14 +25,14 @@ use Rattle.al_session_folder.specs.declared.lint.Target.{Target}
 abbrev pub referents : {T : Type 0} → List (Bor T) → List T
 referents refs = map (λ r. r.now) refs
 
--- Kept files by their paths, in order of path.
+-- Kept files by path, in order of path.
 abbrev pub Files : Type 0 → Type 0 → Type 0
 Files U I = List (String Global × KeptFile U I)
 
 abbrev pub entry_of : {U I : Type 0} → String Global × KeptFile U I → List ℕ × List ℕ
 entry_of e = (string_bytes e.0, e.1.bytes.items)
 
--- the folder that kept files make
+-- the folder of kept files
 abbrev pub folder_of : {U I : Type 0} → Files U I → Folder
 folder_of files = map entry_of files
 
@@ -40,12 +40,12 @@ folder_of files = map entry_of files
 abbrev pub file_at : {U I : Type 0} → Files U I → List ℕ → Option (KeptFile U I)
 file_at files q = lookup (λ k. bytes_eq q (string_bytes k)) files
 
--- The calls of a file, by what they call, as they are kept.
+-- The calls of a file with these targets, as they are kept.
 pub record AreCalls (ts : List Target) (calls : Calls) : Type 0 where
   pub targets : calls.targets.items ≡ ts
   pub candidates : (c : List ℕ) → contains_text calls.candidates c ≡ is_candidate ts c
 
--- A kept file is one that the linter takes, and its parts are those of its bytes.
+-- A kept file is one that the linter accepts, and its parts are computed from its bytes.
 pub record IsKept {U I : Type 0} (m : Meaning I) (is_unit : U → List ℕ → List ℕ → Type 0) (path : List ℕ)
     (file : KeptFile U I) : Type 0 where
   pub valid : path_fault_of path ≡ None
@@ -59,7 +59,7 @@ pub record IsKept {U I : Type 0} (m : Meaning I) (is_unit : U → List ℕ → L
 abbrev pub AllKept : {U I : Type 0} → Meaning I → (U → List ℕ → List ℕ → Type 0) → Files U I → Type 0
 AllKept m is_unit files = AllByRecursion (λ e. IsKept m is_unit (string_bytes e.0) e.1) files
 
--- The index: from a candidate, present or not, the paths of the files that call it.
+-- The index of callers: for a candidate, present or not, the paths of the files that call it.
 abbrev pub Callers : Type 0 → Type 0 → Type 0
 Callers S R = IndexMap (String Global) (IndexSet (String Global) S) R
 
@@ -71,11 +71,11 @@ is_caller callers c q = option_map_or (λ known. contains_text known q) (get_by_
 abbrev pub calls_at : {I : Type 0} → Meaning I → Folder → List ℕ → List ℕ → Bool
 calls_at m f c q = option_map_or (λ b. is_candidate (m.calls q b) c) (bytes_at f q) false
 
--- the index has, for every path, just the files that call it
+-- the index has, for every path, exactly the files that call it
 abbrev pub IsCallerIndex : {S R I : Type 0} → Meaning I → Folder → Callers S R → Type 0
 IsCallerIndex m f callers = (c q : List ℕ) → is_caller callers c q ≡ calls_at m f c q
 
--- Kept files that are read: in order of path, each what its bytes make.
+-- Kept files: in order of path, each computed from its bytes.
 pub record AreKept {U I : Type 0} (m : Meaning I) (is_unit : U → List ℕ → List ℕ → Type 0) (files : Files U I) : Type 0 where
   pub ordered : IsStrictlySortedBy (slice_cmp nat_cmp) (paths_of (folder_of files))
   pub few : length files ≤ most_files
@@ -92,16 +92,16 @@ with_bytes_at f p (Some b) = with_file f p b
 abbrev pub next_folder : {U I : Type 0} → Files U I → List ℕ → Option (KeptFile U I) → Folder
 next_folder files p now = with_bytes_at (folder_of files) p (option_map (λ file. file.bytes.items) now)
 
--- the file at q where at p there is this one, or none
+-- the file at q if p has this one, or none
 abbrev pub file_after : {U I : Type 0} → Files U I → List ℕ → Option (KeptFile U I) → List ℕ → Option (KeptFile U I)
 file_after files p now q = cond (bytes_eq q p) now (file_at files q)
 
--- a file that is to stand at a path is one that the linter takes there
+-- the file that a path will have, if any, is kept
 abbrev pub IsKeptIf : {U I : Type 0} → Meaning I → (U → List ℕ → List ℕ → Type 0) → List ℕ → Option (KeptFile U I) → Type 0
 IsKeptIf m is_unit p None = Unit {0}
 IsKeptIf m is_unit p (Some file) = IsKept m is_unit p file
 
--- What a change is looked at with: the kept files, and what is to stand at one path.
+-- What a view shows: the kept files, and the file that one path will have, if any.
 pub record IsView {U I : Type 0} (m : Meaning I) (is_unit : U → List ℕ → List ℕ → Type 0) (files : Files U I) (p : List ℕ)
     (now : Option (KeptFile U I)) : Type 0 where
   pub kept : AreKept m is_unit files

@@ -1,4 +1,4 @@
--- Call cycles: calls that come back to their own file, at once or by calls of further files.
+-- Call cycles: calls from which further calls lead back to the same file, or that call it directly.
 use Rattle.std.specs.Prelude.{ℕ, Bool, false, List, [], ◌∷◌, ◌++◌, Option, Some, None, bytes_eq, map}
 use Rattle.std.specs.Prelude.{if◌then◌else◌}
 use Rattle.std.specs.List.{filter_map, flat_map, position, zip}
@@ -9,7 +9,7 @@ use Rattle.al_session_folder.specs.Meaning.{Meaning, candidates}
 use Rattle.al_session_folder.specs.Folder.{Folder, faults_in, find_map, paths_of}
 use Rattle.al_session_folder.specs.declared.lint.Target.{Target}
 
--- the number of the file at a path, in order of path, if it is there
+-- the number of the file at a path, in order of path, if there is one
 abbrev pub number_of_path : Folder → List ℕ → Option ℕ
 number_of_path f p = position (bytes_eq p) (paths_of f)
 
@@ -17,7 +17,7 @@ number_of_path f p = position (bytes_eq p) (paths_of f)
 abbrev pub callee : Folder → Target → Option ℕ
 callee f t = find_map (number_of_path f) (candidates t)
 
--- for each file the files that its calls lead to
+-- for each file, the files that its calls lead to
 abbrev pub calls_graph : {I : Type 0} → Meaning I → Folder → List (List ℕ)
 calls_graph m f = map (λ e. filter_map (callee f) (m.calls e.0 e.1)) f
 
@@ -26,7 +26,7 @@ abbrev pub leads_back : List (List ℕ) → ℕ → Option ℕ → Bool
 leads_back graph file None = false
 leads_back graph file (Some to) = leads graph to file
 
--- what is said of the calls of the file with this number that are on a call cycle, in their order
+-- the faults of the calls of the file with this number that are on a call cycle, in the order of the calls
 abbrev pub loop_faults : {I : Type 0} → Meaning I → Folder → ℕ → List ℕ → List ℕ → List Fault
 loop_faults m f file p b =
     flat_map (λ x. if leads_back (calls_graph m f) file (callee f x.0) then x.1 ∷ [] else []) (zip (m.calls p b) (m.sites p b))

@@ -1,4 +1,4 @@
--- The candidates of a folder's calls that are not in it.
+-- The candidates of a folder's calls that aren't in it.
 use Rattle.std.specs.Prelude.{ℕ, Bool, not, ◌&&◌, List, is_some, filter}
 use Rattle.std.specs.List.{flat_map, list_any}
 use Rattle.std.specs.Ordering.{nat_cmp}
@@ -11,11 +11,11 @@ use Rattle.al_session_folder.specs.declared.lint.Target.{Target}
 abbrev pub is_absent : Folder → List ℕ → Bool
 is_absent f p = not (is_some (bytes_at f p))
 
--- whether a path is missing: it is not in the folder, and a call of a file of the folder has it as a candidate
+-- whether a path is missing: it isn't in the folder, but is a candidate of a call of some file
 abbrev pub is_missing : {I : Type 0} → Meaning I → Folder → List ℕ → Bool
 is_missing m f p = is_absent f p && list_any (λ e. is_candidate (m.calls e.0 e.1) p) f
 
--- of these calls, the candidates that are not in the folder
+-- the candidates of these calls that aren't in the folder
 abbrev pub absent_candidates : Folder → List Target → List (List ℕ)
 absent_candidates f ts = filter (is_absent f) (flat_map candidates ts)
 

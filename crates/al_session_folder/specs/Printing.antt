@@ -1,4 +1,4 @@
--- Faults that are joined for a report, and printed.
+-- Joining and printing faults for a report.
 use Rattle.std.specs.Prelude.{◌≡◌, ℕ, ◌≤◌, ◌<◌, ◌==◌, Bool, cond, List, [], ◌++◌, length, slice_get, slice_index_or}
 use Rattle.std.specs.Prelude.{Some, String, Vec, string_bytes}
 use Rattle.std.specs.Borrow.{Bor}
@@ -16,11 +16,12 @@ use Rattle.al_session_folder.specs.Loops.{loop_faults, report_faults}
 use Rattle.al_session_folder.specs.declared.kept.KeptFile.{KeptFile}
 use Rattle.al_session_folder.specs.Kept.{Files, folder_of, referents}
 
--- a file's own faults and those of its calls on a call cycle, in the order of reports, each once; none where no call does
+-- a file's own faults and those of its calls on a call cycle, in the order of reports, each once; empty if no call is
+-- on one
 abbrev pub joined_faults : List Fault → List Fault → List Fault
 joined_faults own loops = cond (length loops == 0) [] (fault_list (own ++ loops))
 
--- the faults that are listed of a kept file: those that were joined, or else its own
+-- the listed faults of a kept file: the joined ones, or its own if there are none
 abbrev pub joined_or_own : {U I : Type 0} → KeptFile U I → List (Bor Fault) → List Fault
 joined_or_own file joined = cond (length joined == 0) file.faults.items (referents joined)
 
@@ -32,7 +33,7 @@ lines_of oneline path file faults = flat_map (fault_text oneline path file.bytes
 abbrev pub numbered_lines : {U I : Type 0} → Bool → Meaning I → Folder → ℕ × (String Global × KeptFile U I) → List ℕ
 numbered_lines oneline m f x = lines_of oneline (string_bytes x.1.0) x.1.1 (report_faults m f x.0 (string_bytes x.1.0) x.1.1.bytes.items)
 
--- A kept file of which these faults can be printed: they lie in it.
+-- These faults of a kept file can be printed: they lie in it.
 pub record IsPrintable {U I : Type 0} (file : KeptFile U I) (faults : List Fault) : Type 0 where
   pub small : length file.bytes.items ≤ largest_file
   pub lines : file.lines ≡ line_starts file.bytes.items
@@ -43,7 +44,7 @@ abbrev pub ArePrintable : {U I : Type 0} → Meaning I → Files U I → Type 0
 ArePrintable {U} {I} m files = (i : ℕ) (e : String Global × KeptFile U I) → slice_get files i ≡ Some e →
     IsPrintable e.1 (report_faults m (folder_of files) i (string_bytes e.0) e.1.bytes.items)
 
--- Each of so many elements is so, by its number.
+-- There are this many elements, and each satisfies P with its number.
 pub record AreNumbered {X : Type 0} (P : ℕ → X → Type 0) (count : ℕ) (all : List X) : Type 0 where
   pub number : length all ≡ count
   pub each : (i : ℕ) (x : X) → i < count → x ≡ slice_index_or all i x → P i x

@@ -1,4 +1,4 @@
--- What is said of a call, by its site.
+-- The fault of a call on a call cycle, by its site.
 use Rattle.std.specs.Prelude.{[], ◌∷◌}
 use Rattle.al_base.specs.declared.faults.Fault.{Fault}
 use Rattle.al_session_folder.specs.declared.lint.Site.{Site}

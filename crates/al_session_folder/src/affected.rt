@@ -21,8 +21,8 @@ use al_base::Path;
 use std::alloc::{AllocError, Global};
 use std::marker::Model;
 
-/// A change of one path that is not made yet: the files as they are, and the file that is to stand at the path, or none. Contracts see the
-/// folder before the change, the path, and the bytes that are to be there.
+/// A change of one path that isn't made yet: the current files, and the file that the path will have, if any. Contracts see the folder
+/// before the change, the path, and the bytes that the path will have.
 #[derive(Drop)]
 pub struct PlannedChange<'a, L: Lint> {
     files: &'a Files<L::Unit, L::Iface>,
@@ -55,7 +55,7 @@ fn is_same<I: Eq>(one: Option<&I>, other: Option<&I>) -> bool
 }
 
 impl<'a, L: Lint> PlannedChange<'a, L> {
-    /// The change by which this file, or none, is to stand at a path.
+    /// The change after which a path has this file, or none.
     pub fn new(
         files: &'a Files<L::Unit, L::Iface>,
         path: &'a str,
@@ -68,7 +68,7 @@ impl<'a, L: Lint> PlannedChange<'a, L> {
         PlannedChange { files, path, next }
     }
 
-    /// The folder as it is.
+    /// The folder before the change.
     fn as_is(&self) -> FolderView<'a, L>
         ensures { result ≡ self.now.before }
     {
@@ -83,7 +83,7 @@ impl<'a, L: Lint> PlannedChange<'a, L> {
         FolderView::with(self.files, self.path, self.next)
     }
 
-    // Whether the path of the change offers what it offered, or no file stands there before and after.
+    // Whether the interface at the path of the change stays the same, or there is no file before and after.
     fn has_same_interface(&self) -> bool
         ensures { result ≡ option_eq L.Iface.eq
             (interface_in L.meaning self.now.before self.now.path)
@@ -93,7 +93,7 @@ impl<'a, L: Lint> PlannedChange<'a, L> {
         is_same(before, self.after().interface(self.path))
     }
 
-    // Whether a call has the answer that it had.
+    // Whether a call keeps its answer.
     fn has_same_answer(&self, target: &Target) -> bool
         ensures { result ≡ option_eq L.Iface.eq (answer L.meaning self.now.before target.now)
             (answer L.meaning (changed_by self.now) target.now) }
@@ -102,7 +102,7 @@ impl<'a, L: Lint> PlannedChange<'a, L> {
         is_same(before, self.after().answer(target))
     }
 
-    // Whether all these calls have the answers that they had.
+    // Whether all these calls keep their answers.
     fn has_same_answers(&self, targets: &[Target]) -> bool
         ensures { result ≡ list_all
             (λ t. option_eq L.Iface.eq (answer L.meaning self.now.before t)
@@ -111,7 +111,7 @@ impl<'a, L: Lint> PlannedChange<'a, L> {
         targets.iter().all(|target| self.has_same_answer(target))
     }
 
-    // Adds the path of a caller behind the others, where the change affects it.
+    // Appends the path of a caller if the change affects it.
     fn add_if_affected(
         &self,
         alloc: Global,
@@ -137,7 +137,7 @@ impl<'a, L: Lint> PlannedChange<'a, L> {
         }
     }
 
-    // Adds the paths of those of these callers that the change affects, in no order.
+    // Appends the paths of those callers that the change affects, in no particular order.
     fn add_affected(
         &self,
         alloc: Global,
@@ -155,13 +155,12 @@ impl<'a, L: Lint> PlannedChange<'a, L> {
         Ok(paths)
     }
 
-    /// The paths of the files that the change affects: those that are new, have other bytes, or have a call with another answer, in order
-    /// of path, each once. What is to stand at the path has not the bytes that are there. It looks at the file at the path and at its
-    /// callers alone.
+    /// The paths of the files that the change affects, in order, each once: those that are new, whose bytes change, or that have a call
+    /// whose answer changes. The path must not keep its bytes. Looks only at the file at the path and at its callers.
     ///
     /// # Errors
     ///
-    /// [`AllocError`] where memory ran out.
+    /// [`AllocError`] if memory runs out.
     pub fn affected_paths(&self, alloc: Global, callers: &Callers) -> Result<Vec<Path>, AllocError>
         requires index { IsCallerIndex L.meaning self.now.before callers.now }
         requires other { self.now.bytes ≢ bytes_at self.now.before self.now.path }
@@ -182,7 +181,7 @@ impl<'a, L: Lint> PlannedChange<'a, L> {
     }
 }
 
-// The path of the change, where a file is put.
+// The path of the change if a file is put, otherwise none.
 fn first_path(alloc: Global, path: &str, is_put: bool) -> Result<Vec<Path>, AllocError>
     requires { path_fault_of path.now ≡ None }
     ensures { IfOk result (λ paths. paths.items ≡ cond is_put (path.now ∷ []) []) }

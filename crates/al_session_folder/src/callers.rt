@@ -1,4 +1,4 @@
-//! The index: which files call a path, whether a file is there or not.
+//! The index of callers: which files call a path, whether or not the path has a file.
 
 ghost use Rattle.std.specs.Prelude.{◌≡◌, ℕ, List, [], ◌∷◌, Bool, true, false, not, ◌&&◌, ◌||◌, None, bytes_eq, cond, IfOk, OnOk, OnErr};
 ghost use Rattle.indexmap.specs.IndexMap.{get_by_text};
@@ -45,7 +45,7 @@ fn add_names_of(
     }
 }
 
-// Adds a text, unless it is there. On failure the texts stay.
+// Inserts a text unless it is there already. On failure the texts are unchanged.
 fn add_name(alloc: Global, names: &mut IndexSet<String>, name: &str) -> Result<(), AllocError>
     ensures added { OnOk result ((c : List ℕ)
         → contains_text names.new c ≡ (bytes_eq c name.now || contains_text names.old c)) }
@@ -58,7 +58,7 @@ fn add_name(alloc: Global, names: &mut IndexSet<String>, name: &str) -> Result<(
     Ok(())
 }
 
-/// Makes a file a caller of a candidate. On failure the callers stay.
+/// Makes a file a caller of a candidate. On failure the callers are unchanged.
 pub(crate) fn add_caller(
     alloc: Global,
     callers: &mut Callers,
@@ -76,7 +76,7 @@ pub(crate) fn add_caller(
     }
 }
 
-// Makes a file the caller of a candidate that has none.
+// Makes a file the caller of a candidate without callers.
 fn add_first_caller(
     alloc: Global,
     callers: &mut Callers,
@@ -95,7 +95,7 @@ fn add_first_caller(
     Ok(())
 }
 
-/// Takes a file out of the callers of a candidate.
+/// Removes a file from the callers of a candidate.
 pub(crate) fn drop_caller(callers: &mut Callers, candidate: &str, path: &str)
     ensures { (c q : List ℕ) → is_caller callers.new c q
         ≡ (not (bytes_eq c candidate.now && bytes_eq q path.now) && is_caller callers.old c q) }
@@ -110,7 +110,7 @@ pub(crate) fn drop_caller(callers: &mut Callers, candidate: &str, path: &str)
     }
 }
 
-// Takes a text out, and answers whether none is left.
+// Removes a text, and returns whether none is left.
 fn drop_name(names: &mut IndexSet<String>, name: &str) -> bool
     ensures names { (c : List ℕ)
         → contains_text names.new c ≡ (not (bytes_eq c name.now) && contains_text names.old c) }
@@ -120,7 +120,7 @@ fn drop_name(names: &mut IndexSet<String>, name: &str) -> bool
     names.is_empty()
 }
 
-/// Makes a file a caller of all these candidates. On failure it may be one of some of them.
+/// Makes a file a caller of all these candidates. On failure it may have become a caller of some of them.
 fn add_callers(
     alloc: Global,
     callers: &mut Callers,
@@ -141,7 +141,7 @@ fn add_callers(
     Ok(())
 }
 
-/// Takes a file out of the callers of those of these candidates that are not among the others. Takes no memory.
+/// Removes a file from the callers of those candidates that aren't among the others. Doesn't allocate.
 pub fn drop_callers(
     callers: &mut Callers,
     names: &IndexSet<String>,
@@ -158,7 +158,7 @@ pub fn drop_callers(
     }
 }
 
-// Takes a file out of the callers of a candidate, unless that is among the others.
+// Removes a file from the callers of a candidate, unless the candidate is among the others.
 fn drop_unless(callers: &mut Callers, name: &str, others: &IndexSet<String>, path: &str)
     ensures { (c q : List ℕ) → is_caller callers.new c q
         ≡ (not (bytes_eq q path.now && (bytes_eq c name.now && not (contains_text others.now c)))
@@ -169,7 +169,7 @@ fn drop_unless(callers: &mut Callers, name: &str, others: &IndexSet<String>, pat
     }
 }
 
-/// The candidates of the calls of the file at a path: those that it is indexed by, and those that it is to be indexed by.
+/// The candidates of the calls of the file at a path, before and after a change.
 #[derive(Clone, Copy)]
 pub struct CandidateChange<'a> {
     pub path: &'a str,
@@ -177,8 +177,8 @@ pub struct CandidateChange<'a> {
     pub after: &'a IndexSet<String>,
 }
 
-// Makes a file, which is a caller of the candidates before the change, one of those after it too. On failure the callers are
-// as before.
+// Makes a file, already a caller of the candidates before the change, a caller of those after it too. On failure the callers are
+// unchanged.
 fn index_calls(
     alloc: Global,
     callers: &mut Callers,
@@ -201,11 +201,11 @@ fn index_calls(
     }
 }
 
-/// Makes a file, which is a caller of the candidates before the change, one of those after it alone.
+/// Makes a file, so far a caller of the candidates before the change, a caller of exactly those after it.
 ///
 /// # Errors
 ///
-/// [`AllocError`] where memory ran out. The callers are then as before.
+/// [`AllocError`] if memory runs out. The callers are then unchanged.
 pub fn reindex(
     alloc: Global,
     callers: &mut Callers,

@@ -1,4 +1,4 @@
-//! The calls of a file as they are kept.
+//! The calls of a file, as a session keeps them.
 
 ghost use Rattle.std.specs.Prelude.{IfOk};
 ghost use Rattle.al_session_folder.specs.Kept.{AreCalls};
@@ -8,11 +8,11 @@ use crate::kept::Calls;
 use crate::lint::Target;
 use std::alloc::{AllocError, Global};
 
-/// The calls of a file, by what they call in their order.
+/// The calls of a file with these targets, in order.
 ///
 /// # Errors
 ///
-/// [`AllocError`] where memory ran out.
+/// [`AllocError`] if memory runs out.
 pub fn calls_of(alloc: Global, targets: Vec<Target>) -> Result<Calls, AllocError>
     ensures { IfOk result (AreCalls targets.items) }
 {

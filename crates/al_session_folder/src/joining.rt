@@ -1,4 +1,4 @@
-//! The faults of calls on a call cycle, joined with the file's others.
+//! The faults of calls on a call cycle, merged with the file's own faults.
 
 ghost use Rattle.std.specs.Prelude.{◌≡◌, ◌++◌, ◌==◌, IfOk, OnOk, length, not};
 ghost use Rattle.std.specs.List.{enumerate_from, list_any};
@@ -22,7 +22,7 @@ fn add_references<'a>(faults: &'a [Fault], out: &mut Vec<&'a Fault>) -> Result<(
     Ok(())
 }
 
-// Puts the faults that are referred to in the order of reports, each once.
+// Sorts references to faults in the order of reports, each fault once.
 fn put_in_order(faults: &mut Vec<&Fault>)
     ensures { referents faults.new.items ≡ fault_list (referents faults.old.items) }
 {
@@ -30,7 +30,7 @@ fn put_in_order(faults: &mut Vec<&Fault>)
     faults.dedup();
 }
 
-// A file's own faults and those of its calls on a call cycle, in the order of reports, each once; none where no call does.
+// A file's own faults and those of its calls on a call cycle, in the order of reports, each once. Empty if no call is on a cycle.
 fn join_faults<'a>(
     alloc: Global,
     own: &'a [Fault],
@@ -42,7 +42,7 @@ fn join_faults<'a>(
     if loops.is_empty() {
         return Ok(joined);
     }
-    // The file's own faults are in order, and few stand behind its first call: so they are put in order fastest from the front.
+    // The file's own faults are sorted, and few come after its first call, so appending the others makes sorting fast.
     add_references(own, &mut joined)?;
     add_references(loops, &mut joined)?;
     put_in_order(&mut joined);
@@ -53,7 +53,7 @@ fn join_faults<'a>(
 ///
 /// # Errors
 ///
-/// [`AllocError`] where memory ran out.
+/// [`AllocError`] if memory runs out.
 pub fn find_loops<L: Lint>(
     lint: &L,
     alloc: Global,
@@ -68,12 +68,12 @@ pub fn find_loops<L: Lint>(
     Ok(loops)
 }
 
-/// What a report lists of each file in order, by these faults of calls on a call cycle; none where there are no such: then its own
-/// faults are listed.
+/// What a report lists of each file, in order of path, given the faults of calls on a call cycle. Empty for a file without such faults,
+/// of which the report lists its own faults.
 ///
 /// # Errors
 ///
-/// [`AllocError`] where memory ran out.
+/// [`AllocError`] if memory runs out.
 pub fn join_files<'a, L: Lint>(
     alloc: Global,
     files: &'a Files<L::Unit, L::Iface>,
@@ -91,7 +91,7 @@ pub fn join_files<'a, L: Lint>(
     Ok(joined)
 }
 
-/// Whether a call of a file is on a call cycle. Takes no memory.
+/// Whether any file has a call on a call cycle. Doesn't allocate.
 pub fn has_loops<L: Lint>(linked: &LinkedFiles<'_, L>) -> bool
     ensures { result ≡ list_any
         (λ x. not (length (loops.loop_faults L.meaning linked.now x.0 x.1.0 x.1.1) == 0))

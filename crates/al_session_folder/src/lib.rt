@@ -1,6 +1,5 @@
-//! A folder of files that may call one another, as a session keeps it: what is asked of their linter, the files as they
-//! were read, the index of their callers, which of them a change affects, which calls are on a call cycle, and what a report and a
-//! status tell of each file.
+//! A folder of files that may call one another, as a session keeps it: what it requires of a linter, the files that were read, the index
+//! of their callers, which files a change affects, which calls are on a call cycle, and what a report and a status say of each file.
 #![tactic(auto)]
 
 mod affected;

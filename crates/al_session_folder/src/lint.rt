@@ -1,4 +1,4 @@
-//! What is asked of a linter of a folder's files, and why an edit of the folder is refused.
+//! What a session requires of a linter, and why an edit of the folder is refused.
 
 ghost use Rattle.std.specs.Prelude.{◌≡◌, ℕ, ◌≤◌, ◌<◌, List, Option, Some, length, map, slice_get, true, IfOk};
 ghost use Rattle.std.specs.Option.{option_copied};
@@ -16,7 +16,7 @@ use al_base::{Code, Fault, Path, Span};
 use std::alloc::{AllocError, Global};
 use thiserror::Error;
 
-/// What a file calls: the paths of which the first that is in the folder answers.
+/// What a call names: candidate paths, of which the first that is in the folder answers the call.
 #[derive(Drop)]
 pub enum Target {
     Only(Path),
@@ -28,7 +28,7 @@ impl Target {
     ///
     /// # Errors
     ///
-    /// [`AllocError`] where memory ran out.
+    /// [`AllocError`] if memory runs out.
     pub fn copy(&self, alloc: Global) -> Result<Target, AllocError>
         ensures { IfOk result (λ copy. copy ≡ self.now) }
     {
@@ -43,21 +43,21 @@ impl Target {
     }
 }
 
-/// Where a call stands, and what is said where it is on a call cycle.
+/// Where a call is in its file, and the fault to report if it is on a call cycle.
 #[derive(Clone, Copy)]
 pub struct Site<'a> {
-    /// The code of the fault that such a call gives.
+    /// The code of that fault.
     pub code: Code,
     /// The call's span, which lies inside the file.
     pub span: Span,
-    /// The text that names what is called, which is the fault's argument.
+    /// The text that names what is called: the fault's argument.
     pub text: &'a str,
 }
 
-/// Why an edit is refused, in the order in which the reasons are looked for.
+/// Why an edit is refused, in the order in which the reasons are checked.
 #[derive(Clone, Copy, Debug, Drop, PartialEq, Eq, Error)]
 pub enum Refused {
-    /// E1: the text is no path.
+    /// E1: the text isn't a path.
     #[error("no path of a folder (E1)")]
     BadPath,
     /// E2: the linter accepts no file with this path.
@@ -79,9 +79,8 @@ pub enum Refused {
 
 /// A linter of files that may call one another.
 ///
-/// Its [`Unit`](Lint::Unit) is what reading a file gives, its [`Iface`](Lint::Iface) what a file offers to those that
-/// call it. What a file's faults are depends on its path, its bytes and the interfaces that answer its calls, and on
-/// nothing else.
+/// Its [`Unit`](Lint::Unit) is the result of reading a file, its [`Iface`](Lint::Iface) the interface that callers of
+/// a file see. The faults of a file depend only on its path, its bytes and the interfaces that answer its calls.
 pub trait Lint: Drop {
     /// A file that was read.
     type Unit: Drop;
@@ -89,24 +88,24 @@ pub trait Lint: Drop {
     /// What a file offers to its callers.
     type Iface: Eq + Drop;
 
-    /// What this linter means: the paths that it takes, and the calls, interface and faults of a file. No value of the
-    /// linter changes it.
+    /// What this linter computes: which paths it accepts, and the calls, interface and faults of a file. It is the
+    /// same for every value of the linter.
     ghost meaning: { Meaning Self.Iface };
 
-    /// This unit is what reading the file with that path and those bytes gives.
+    /// Whether a unit is the result of reading the file with this path and these bytes.
     ghost is_unit: { Self.Unit → List ℕ → List ℕ → Type 0 };
 
-    /// How many checks were made, up to the greatest count.
+    /// How many checks were made; the count saturates.
     ghost checks_of: { Self → ℕ };
 
-    /// How many files were read, up to the greatest count.
+    /// How many files were read; the count saturates.
     ghost reads_of: { Self → ℕ };
 
-    /// Whether the linter takes a file with this path. Takes no memory.
+    /// Whether the linter accepts a file with this path. Doesn't allocate.
     fn accepts(&self, path: &str) -> bool
         ensures { result ≡ meaning.accepts path.now };
 
-    /// Reads a file of at most 1,048,576 bytes. Counts one read, whatever it answers.
+    /// Reads a file of at most 1,048,576 bytes. Counts as one read, even if it fails.
     fn read(&mut self, alloc: Global, path: &str, bytes: &[u8]) -> Result<Self::Unit, AllocError>
         requires small { length bytes.now ≤ largest_file }
         ensures unit { IfOk result (λ u. is_unit u path.now bytes.now) }
@@ -123,9 +122,9 @@ pub trait Lint: Drop {
         ensures { (b : List ℕ) → is_unit unit.now path.now b
             → IfOk result (λ ts. ts.items ≡ meaning.calls path.now b) };
 
-    /// The faults of a file in order, each once. The answers are those of its calls, in their order: the interface of
-    /// the file that answers, or `None` where no candidate is in the folder. Calls with the same candidates have the same
-    /// answer. Counts one check, whatever it answers.
+    /// The faults of a file in the order of reports, each once. The answers are those of its calls, in order: the
+    /// interface of the file that answers, or `None` if no candidate is in the folder. Calls with the same candidates
+    /// have the same answer. Counts as one check, even if it fails.
     fn check(
         &mut self,
         alloc: Global,
@@ -143,32 +142,32 @@ pub trait Lint: Drop {
         ensures checks { checks_of self.new ≡ count_after (checks_of self.old) 1 }
         ensures reads { reads_of self.new ≡ reads_of self.old };
 
-    /// The site of a call, by its number in the order of [`calls`](Lint::calls), from 0. Takes no memory.
+    /// The site of a call, by its number in the order of [`calls`](Lint::calls), from 0. Doesn't allocate.
     fn site<'a>(&self, unit: &'a Self::Unit, call: usize) -> Site<'a>
         requires { (p : List ℕ) × (b : List ℕ) × is_unit unit.now p b
             × (call < length (meaning.calls p b)) }
         ensures { (p b : List ℕ) → is_unit unit.now p b
             → slice_get (meaning.sites p b) call ≡ Some (site_fault result) };
 
-    /// How many checks were made so far, up to the greatest count. Takes no memory.
+    /// How many checks were made so far; the count saturates. Doesn't allocate.
     fn checks(&self) -> u64
         ensures { result ≡ checks_of self.now };
 
-    /// How many files were read so far, up to the greatest count. Takes no memory.
+    /// How many files were read so far; the count saturates. Doesn't allocate.
     fn reads(&self) -> u64
         ensures { result ≡ reads_of self.now };
 
-    /// Interfaces that compare equal are the same.
+    /// Interfaces that compare equal are equal.
     ghost exact: { (a b : Self.Iface) → Self.Iface.eq a b ≡ true → a ≡ b };
 
-    /// Each fault of a file lies in it, for every path, all bytes that a file of a folder may have, and all answers.
+    /// Each fault of a file lies in the file, for every path, all bytes that a file can have, and all answers.
     ghost inside: { (p b : List ℕ) (given : List (Option Self.Iface)) → length b ≤ largest_file →
         AllByRecursion (λ fault. LiesIn (length b) fault.span) (meaning.faults p b given) };
 
     /// Each call of a file has one site, for every path and all bytes.
     ghost sited: { (p b : List ℕ) → length (meaning.sites p b) ≡ length (meaning.calls p b) };
 
-    /// Each site of a file lies in it, for every path and all bytes that a file of a folder may have.
+    /// Each site lies in its file, for every path and all bytes that a file can have.
     ghost sites_inside: { (p b : List ℕ) → length b ≤ largest_file →
         AllByRecursion (λ site. LiesIn (length b) site.span) (meaning.sites p b) };
 

@@ -19,17 +19,18 @@ use al_graph::strongly_connected_components;
 use std::alloc::{AllocError, Global};
 use std::marker::Model;
 
-/// The calls between the files of a folder, which are known by their numbers in order of path. It depends on the paths of
-/// the files and on their calls, and on nothing else of them.
+/// The calls between the files of a folder, which are numbered in order of path. It depends only on the paths of the
+/// files and on their calls.
 #[derive(Drop)]
 pub struct CallGraph {
     // For each file the numbers of the files that its calls lead to.
     graph: Vec<Vec<usize>>,
-    // Of each file a label, the same for two files that these calls lead between just where they lead from each to the other.
+    // A label for each file. If calls lead from one file to another, the two have the same label if and only if calls also lead from the
+    // other to the first.
     labels: Vec<Option<usize>>,
 }
 
-/// The number of the file at a path, if it is there.
+/// The number of the file with a path, if there is one.
 fn number_of<U, I>(files: &Files<U, I>, path: &Path) -> Option<usize>
     ensures number { result ≡ loops.number_of_path (folder_of files.now.entries) path.now }
     ensures inside { IfSome result (λ number. number < length files.now.entries) }
@@ -37,7 +38,7 @@ fn number_of<U, I>(files: &Files<U, I>, path: &Path) -> Option<usize>
     files.get_index_of(path.as_str())
 }
 
-/// The number of the file that a call leads to: of its first candidate that is there.
+/// The number of the file that a call leads to: the first candidate that is in the folder.
 fn callee<U, I>(files: &Files<U, I>, target: &Target) -> Option<usize>
     ensures number { result ≡ loops.callee (folder_of files.now.entries) target.now }
     ensures inside { IfSome result (λ number. number < length files.now.entries) }
@@ -87,11 +88,11 @@ fn calls_graph<L: Lint>(
 
 /// The calls between the files, with the strongly connected components of their graph.
 ///
-/// Takes time in proportion to the files and calls, and looks each candidate of a call up by hash.
+/// Takes time proportional to the files and calls; candidates are looked up by hash.
 ///
 /// # Errors
 ///
-/// [`AllocError`] where memory ran out.
+/// [`AllocError`] if memory runs out.
 pub fn call_graph<L: Lint>(
     alloc: Global,
     files: &Files<L::Unit, L::Iface>,
@@ -144,7 +145,7 @@ fn leads_back(labels: &[Option<usize>], index: usize, to: Option<usize>) -> bool
     }
 }
 
-/// What is said of a call on a call cycle.
+/// The fault of a call on a call cycle.
 fn fault_of(alloc: Global, site: Site<'_>) -> Result<Fault, AllocError>
     ensures { IfOk result (λ fault. fault ≡ site_fault site.entry) }
 {
@@ -187,7 +188,7 @@ impl<'a, L: Lint> Model for LinkedFiles<'a, L> {
 }
 
 impl<'a, L: Lint> LinkedFiles<'a, L> {
-    /// These files, with this graph.
+    /// These files with the graph of their calls.
     pub fn new(files: &'a Files<L::Unit, L::Iface>, calls: &'a CallGraph) -> LinkedFiles<'a, L>
         requires { AreLinked L.meaning L.is_unit files.now.entries calls.now.graph.items calls.now.labels.items }
         ensures { result ≡ folder_of files.now.entries }
@@ -202,8 +203,8 @@ impl<'a, L: Lint> LinkedFiles<'a, L> {
         self.files.len()
     }
 
-    /// Whether a call of the file with this number is on a call cycle: whether one leads to a file in its strongly connected component. No
-    /// file is looked at.
+    /// Whether any call of the file with this number is on a call cycle, that is, leads to a file in its strongly connected component.
+    /// Looks at no file.
     pub fn is_on_loop(&self, index: usize) -> bool
         requires { index < length self.now }
         ensures { (p b : List ℕ) → slice_get self.now index ≡ Some (p, b) → result
@@ -234,12 +235,12 @@ impl<'a, L: Lint> LinkedFiles<'a, L> {
         Ok(())
     }
 
-    /// The faults of the calls of the file with this number that are on a call cycle, in their order. No candidate is looked up of a
-    /// file none of whose calls is on a cycle.
+    /// The faults of the calls of the file with this number that are on a call cycle, in the order of the calls. If none is, no candidate
+    /// is looked up.
     ///
     /// # Errors
     ///
-    /// [`AllocError`] where memory ran out.
+    /// [`AllocError`] if memory runs out.
     pub fn loop_faults(
         &self,
         lint: &L,

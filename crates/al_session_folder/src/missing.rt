@@ -1,4 +1,4 @@
-//! The candidates of calls that are not in the folder.
+//! The candidates of calls that aren't in the folder.
 
 ghost use Rattle.std.specs.Prelude.{◌≡◌, ◌++◌, ◌∷◌, [], ℕ, List, filter, IfOk, OnOk};
 ghost use Rattle.std.specs.List.Sorted.{IsStrictlySortedBy};
@@ -17,11 +17,11 @@ use crate::place::file_number;
 use al_base::Path;
 use std::alloc::{AllocError, Global};
 
-/// The candidates of the files' calls that are not in the folder, in order of path, each once.
+/// The candidates of the files' calls that aren't in the folder, in order of path, each once.
 ///
 /// # Errors
 ///
-/// [`AllocError`] where memory ran out.
+/// [`AllocError`] if memory runs out.
 pub fn missing_paths<L: Lint>(
     alloc: Global,
     files: &Files<L::Unit, L::Iface>,
@@ -43,7 +43,7 @@ pub fn missing_paths<L: Lint>(
     Ok(paths)
 }
 
-// Adds those of some calls.
+// Adds the missing candidates of some calls.
 fn add_absent<'a, U, I>(
     files: &Files<U, I>,
     targets: &'a [Target],
@@ -58,7 +58,7 @@ fn add_absent<'a, U, I>(
     Ok(())
 }
 
-// Adds those of one call.
+// Adds the missing candidates of a call.
 fn add_candidates<'a, U, I>(
     files: &Files<U, I>,
     target: &'a Target,
@@ -92,7 +92,7 @@ fn add_if_absent<'a, U, I>(
     Ok(())
 }
 
-// Puts paths in order, each once.
+// Sorts paths, and removes repeated ones.
 fn put_in_order(paths: &mut Vec<&Path>)
     ensures { referents paths.new.items
         ≡ in_order (slice_cmp nat_cmp) (referents paths.old.items) }
@@ -101,7 +101,7 @@ fn put_in_order(paths: &mut Vec<&Path>)
     paths.dedup_by(|one, other| one.as_str() == other.as_str());
 }
 
-// The paths that are referred to, with memory of their own.
+// Copies of the paths.
 fn copies(alloc: Global, paths: &[&Path]) -> Result<Vec<Path>, AllocError>
     ensures { IfOk result (λ copies. copies.items ≡ referents paths.now) }
 {

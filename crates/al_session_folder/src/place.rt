@@ -1,4 +1,4 @@
-//! Places among the files, which stand in order of path.
+//! Positions among the files, which are in order of path.
 
 ghost use Rattle.std.specs.Prelude.{◌≡◌, ◌<◌, Some, length, slice_get, string_bytes};
 ghost use Rattle.std.specs.List.Sorted.{IsStrictlySortedBy};
@@ -11,7 +11,7 @@ ghost use Rattle.al_session_folder.specs.Kept.{folder_of};
 use crate::kept::{Files, KeptFile};
 use std::cmp::Ordering;
 
-/// The index at which a path stands among the files, as `Ok`, or at which it would go, as `Err`.
+/// `Ok` with the index of the file with a path, or `Err` with the index at which it would be inserted.
 pub fn place_in<U, I>(files: &Files<U, I>, path: &str) -> Result<usize, usize>
     requires { IsStrictlySortedBy (slice_cmp nat_cmp) (paths_of (folder_of files.now.entries)) }
     ensures { result ≡ path_place (paths_of (folder_of files.now.entries)) path.now }
@@ -23,7 +23,7 @@ pub fn place_in<U, I>(files: &Files<U, I>, path: &str) -> Result<usize, usize>
     )
 }
 
-/// The file at an index, and its path.
+/// The file at an index, with its path.
 pub fn file_number<U, I>(files: &Files<U, I>, index: usize) -> (&String, &KeptFile<U, I>)
     requires { index < length files.now.entries }
     ensures { slice_get files.now.entries index ≡ Some (result.0.now, result.1.now) }

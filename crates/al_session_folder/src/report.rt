@@ -1,4 +1,4 @@
-//! What is printed of a folder's files.
+//! What a report prints of a folder's files.
 
 ghost use Rattle.std.specs.Prelude.{◌≡◌, not, length, ◌==◌, OnOk, OnErr, IsOkUnless};
 ghost use Rattle.std.specs.List.{enumerate_from, flat_map, list_any};
@@ -13,7 +13,7 @@ use al_base::{Fault, Location, Output, Stop};
 use al_text::{write_fault_at, write_faults};
 use std::io::Write;
 
-/// Whether a file has a fault of its own. Takes no memory.
+/// Whether any file has a fault of its own, not of a call cycle. Doesn't allocate.
 pub fn has_faults<U, I>(files: &Files<U, I>) -> bool
     ensures { result ≡ list_any (λ e. not (length e.1.faults.items == 0)) files.now.entries }
 {
@@ -33,12 +33,12 @@ fn is_clean<U, I>(file: &KeptFile<U, I>) -> bool
     file.faults.is_empty()
 }
 
-/// Writes the faults that a report lists of all files, file by file in order of path: each as its line, and its snippet unless `oneline` is
-/// asked for. What is listed is what [`join_files`](crate::join_files) joined. Takes no memory.
+/// Writes the faults that a report lists, file by file in order of path: each as its line, followed by its snippet unless `oneline` is
+/// set. The lists are those of [`join_files`](crate::join_files). Doesn't allocate.
 ///
 /// # Errors
 ///
-/// [`Stop::WriteFault`] where the writer failed, which then holds a prefix of what was to be written. No other stop is answered.
+/// [`Stop::WriteFault`] if the writer fails; it then holds a prefix of the output. No other stop is returned.
 pub fn write_files<L: Lint, W: Write>(
     writer: &mut Output<W>,
     files: &Files<L::Unit, L::Iface>,
@@ -72,7 +72,7 @@ pub fn write_files<L: Lint, W: Write>(
     Ok(())
 }
 
-// A file whose faults are listed, each as its line, and its snippet unless `oneline` is asked for.
+// A file whose faults are listed, each as its line, followed by its snippet unless `oneline` is set.
 #[derive(Drop)]
 struct Listing<'a, U, I> {
     path: &'a str,
@@ -80,7 +80,7 @@ struct Listing<'a, U, I> {
     oneline: bool,
 }
 
-// Writes the listed faults of one file: those that were joined, or its own where none were.
+// Writes the listed faults of one file: the joined ones, or its own if there are none.
 fn write_file<U, I, W: Write>(
     writer: &mut Output<W>,
     listing: &Listing<'_, U, I>,
@@ -114,7 +114,7 @@ fn write_file<U, I, W: Write>(
     )
 }
 
-// Writes faults of a file that are referred to, as `write_faults` writes those of one list.
+// Writes faults of a file, given by reference, as `write_faults` does.
 fn write_referred<U, I, W: Write>(
     writer: &mut Output<W>,
     listing: &Listing<'_, U, I>,

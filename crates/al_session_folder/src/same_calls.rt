@@ -1,4 +1,4 @@
-//! Whether files call the same.
+//! Comparing the calls of two files.
 
 ghost use Rattle.std.specs.Prelude.{◌≡◌};
 ghost use Rattle.std.specs.Bool.{Decides};
@@ -24,7 +24,7 @@ fn is_same_target(one: &Target, other: &Target) -> bool
     }
 }
 
-/// Whether these are the same calls, in the same order: one after another has the same candidates.
+/// Whether two lists of calls are equal: pair by pair they have the same candidates.
 pub fn has_same_calls(one: &[Target], other: &[Target]) -> bool
     ensures { Decides result (one.now ≡ other.now) }
 {

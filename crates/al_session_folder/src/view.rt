@@ -1,4 +1,4 @@
-//! The files of a folder, as they are or with another file, or none, at one path; what they answer to calls, and their checks.
+//! A view of a folder's files, either as they are or with one path changed: what they answer to calls, and checking them.
 
 ghost use Rattle.std.specs.Prelude.{◌≡◌, IsSome, length, map, IfOk, IfSome, OnOk, OnErr};
 ghost use Rattle.std.specs.List.{AllByRecursion};
@@ -14,11 +14,11 @@ use al_base::{Fault, Path};
 use std::alloc::{AllocError, Global};
 use std::marker::Model;
 
-/// The files of a folder, as they are or with another file, or none, at one path. Contracts see the folder.
+/// The files of a folder, either as they are or with another file, or none, at one path. Contracts see the folder.
 #[derive(Drop)]
 pub struct FolderView<'a, L: Lint> {
     files: &'a Files<L::Unit, L::Iface>,
-    // The path at which the other file, or none, is to stand.
+    // The path that has another file, or none.
     path: Option<&'a str>,
     next: Option<&'a KeptFile<L::Unit, L::Iface>>,
 }
@@ -76,7 +76,7 @@ impl<'a, L: Lint> FolderView<'a, L> {
         }
     }
 
-    /// The interface of the file at a path, if it is there.
+    /// The interface of the file at a path, if there is one.
     pub(crate) fn interface(&self, at: &str) -> Option<&'a L::Iface>
         ensures { option_copied result ≡ interface_in L.meaning self.now at.now }
     {
@@ -86,7 +86,7 @@ impl<'a, L: Lint> FolderView<'a, L> {
         }
     }
 
-    /// The interface of the first candidate of a call that is there.
+    /// The answer of a call: the interface of its first candidate that is in the folder.
     pub(crate) fn answer(&self, target: &Target) -> Option<&'a L::Iface>
         ensures { option_copied result ≡ answer L.meaning self.now target.now }
     {
@@ -115,11 +115,11 @@ impl<'a, L: Lint> FolderView<'a, L> {
         Ok(found)
     }
 
-    /// The faults of the file at a path. It counts at most one check, and reads nothing.
+    /// The faults of the file at a path. Makes at most one check, and reads nothing.
     ///
     /// # Errors
     ///
-    /// [`AllocError`] where memory ran out.
+    /// [`AllocError`] if memory runs out.
     pub fn check_path(
         &self,
         lint: &mut L,
@@ -139,11 +139,11 @@ impl<'a, L: Lint> FolderView<'a, L> {
         Ok(lint.check(alloc, at, &file.bytes, &file.unit, &found)?)
     }
 
-    /// The faults of the files at these paths: of each file a list, in their order. Each file is checked once, and none is read.
+    /// The faults of the files at these paths: a list for each file, in order. Checks each file once, and reads none.
     ///
     /// # Errors
     ///
-    /// [`AllocError`] where memory ran out. At most as many checks as there are paths are counted then.
+    /// [`AllocError`] if memory runs out. At most as many checks as there are paths have then been counted.
     pub fn check_paths(
         &self,
         lint: &mut L,
@@ -168,7 +168,7 @@ impl<'a, L: Lint> FolderView<'a, L> {
     }
 }
 
-// The file at a path, where at `path` there is `next`.
+// The file at a path, if `path` has `next`.
 fn find_after<'a, U, I>(
     files: &'a Files<U, I>,
     path: &str,

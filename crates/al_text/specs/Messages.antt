@@ -6,7 +6,7 @@ use Rattle.al_base.specs.Printable.{printable}
 use Rattle.al_base.specs.declared.codes.Code.{Code}
 use Rattle.al_base.specs.declared.faults.Fault.{Fault}
 
--- the argument i, as it is printed
+-- the argument i, as printed
 abbrev pub argument : List (List ℕ) → ℕ → List ℕ
 argument args i = printable (unwrap_or (slice_get args i) [])
 

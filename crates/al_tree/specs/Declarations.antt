@@ -1,4 +1,4 @@
--- Inputs, secrets and outputs that a file declares, by their names.
+-- The inputs, secrets and outputs that a file declares by name.
 use Rattle.std.specs.Prelude.{ℕ, List, [], ◌∷◌, Bool, false, codes, is_some}
 use Rattle.std.specs.List.{list_any}
 use Rattle.std.specs.Option.{option_map_or}
@@ -9,11 +9,11 @@ use Rattle.al_yaml_tree.specs.Access.{scalar_in}
 use Rattle.al_yaml_tree.specs.Node.{Node}
 use Rattle.al_tree.specs.Values.{entries_in, firsts_by, items_at, value_at, value_below}
 
--- one of these texts is this name, but for ASCII case
+-- one of these texts is this name, ignoring ASCII case
 abbrev pub named_among : List (List ℕ) → List ℕ → Bool
 named_among ns n = list_any (λ m. same_name m n) ns
 
--- what a mapping declares: of entries with equal names the first
+-- what a mapping declares: the first of the entries with equal names
 abbrev pub declared_in : Node → List (Node × Node)
 declared_in n = firsts_by named_among [] (entries_in n)
 

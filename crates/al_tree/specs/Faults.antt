@@ -1,4 +1,4 @@
--- The faults of a node that doesn't fit its shape.
+-- The faults of a node against the shape of its place.
 use Rattle.std.specs.Prelude.{ℕ, List, [], ◌∷◌, ◌++◌, ◌==◌, Bool, true, false, codes, map, Option, Some, None, ◌||◌, ◌&&◌, not}
 use Rattle.std.specs.Prelude.{if◌then◌else◌, find, nat_eq, length, option_map, option_and_then}
 use Rattle.std.specs.Bool.{then_some}
@@ -56,7 +56,7 @@ is_key k e = bytes_eq (key_of e) k
 abbrev pub value_in : List ℕ → List (Node × Node) → Option Node
 value_in k es = option_map (λ e. e.1) (find (is_key k) es)
 
--- A scalar that isn't taken: of a wrong class where some scalars are taken, else of a wrong kind.
+-- A scalar that isn't accepted: of the wrong type if some scalars are accepted, otherwise of the wrong kind.
 abbrev pub scalar_fault : ScalarSet → Scalar → Option codes_key.KeyCode
 scalar_fault AnyScalar s = None
 scalar_fault NoScalar s = Some WrongKind
@@ -65,7 +65,7 @@ scalar_fault Bools s = then_some (not (has_class class.Bool s || has_chunk (text
 scalar_fault Numbers s = then_some (not (has_class class.Int s || has_class class.Float s || has_chunk (text_of s))) WrongType
 scalar_fault Chunks s = then_some (not (has_chunk (text_of s))) WrongKind
 
--- `runs` by what `using` says; where that is nothing known, only `using` is checked
+-- the shape of `runs`, by `using`; if that is unknown, only `using` is checked
 abbrev pub runs_of : List ℕ → Shape
 runs_of using =
     if among (codes "node12" ∷ codes "node16" ∷ codes "node20" ∷ codes "node24" ∷ []) using then NodeRuns
@@ -77,46 +77,46 @@ abbrev pub mapping_shape : Shape → List (Node × Node) → Shape
 mapping_shape Runs es = option_map_or (λ s. runs_of (text_of s)) (option_and_then scalar_in (value_in (codes "using") es)) Runs
 mapping_shape s es = s
 
--- every key but `on`, `jobs` and a job's own takes null
+-- every key except `on`, `jobs` and that of a job accepts null
 abbrev pub takes_null : Shape → Bool
 takes_null (On Events) = false
 takes_null Jobs = false
 takes_null Job = false
 takes_null _ = true
 
--- A mapping's keys as a test. Whether a key is needed beside them:
+-- Whether a key is required in a mapping, whose keys are given as a test.
 abbrev pub is_needed : Need → (List ℕ → Bool) → Bool
 is_needed optional all = false
 is_needed required all = true
 is_needed (unless k) all = not (all k)
 
--- a key that is needed, and doesn't stand in the mapping that has this span
+-- a required key that is missing in the mapping with this span
 abbrev pub missing_fault : Span → (List ℕ → Bool) → Field → List Fault
 missing_fault at all f =
     if is_needed f.need all && not (all f.key) then one_fault Missing (record { start = at.start; end = at.start }) f.key else []
 
--- the key that a key cannot stand beside, if it is among those that were seen, or among all
+-- the key that a key isn't allowed beside, if it is among those seen so far, or among all
 abbrev pub clash_with : Clash → (List ℕ → Bool) → (List ℕ → Bool) → Option (List ℕ)
 clash_with never seen all = None
 clash_with (after k) seen all = then_some (seen k) k
 clash_with (beside k) seen all = then_some (all k) k
 
--- How an entry stands in its mapping: its key repeats an earlier one; is no key of the mapping; isn't looked at;
--- or its value should have a shape. A text is a key that is there and beside which it cannot stand.
+-- The standing of an entry in its mapping: its key repeats an earlier one; is unexpected; isn't checked; or its value
+-- should have a shape. A text is a key that is present and that the entry isn't allowed beside.
 pub data Standing : Type 0 where
   repeated : Standing
   unexpected : Option (List ℕ) → Standing
   ignored : Standing
   expected : Shape → Option (List ℕ) → Standing
 
--- of a key without a field
+-- the standing of a key without a field
 abbrev pub other_standing : Others → (List ℕ → Bool) → (List ℕ → Bool) → List ℕ → Standing
 other_standing wrong seen all k = if seen k then repeated else unexpected None
 other_standing (wrong_beside u) seen all k = if seen k then repeated else unexpected (then_some (all u) u)
 other_standing unchecked seen all k = ignored
 other_standing events seen all k = if seen k then repeated else expected (if is_event k then On Event else Any) None
 
--- how an entry with a key stands behind the keys that were seen, in a mapping with all these: the first of equal keys counts
+-- the standing of an entry with a key after the keys seen so far, in a mapping with all these: the first of equal keys counts
 abbrev pub standing : Keys → (List ℕ → Bool) → (List ℕ → Bool) → List ℕ → Standing
 standing no_keys seen all k = ignored
 standing (free s) seen all k = if seen k then repeated else expected s None
@@ -127,21 +127,21 @@ standing (keys others fs) seen all k =
 abbrev pub beside_faults : Option (List ℕ) → Node → List Fault
 beside_faults other key = option_map_or (λ k. key_fault NotBeside (span_of key) (key_text key ∷ k ∷ []) ∷ []) other []
 
--- of an entry, given what its value has as a node of a shape
+-- the faults of an entry, given those of its value as a node of a shape
 abbrev pub entry_faults : Standing → Node → (Shape → List Fault) → List Fault
 entry_faults repeated key value = one_fault Repeated (span_of key) (key_text key)
 entry_faults (unexpected other) key value = one_fault Unexpected (span_of key) (key_text key) ++ beside_faults other key
 entry_faults ignored key value = []
 entry_faults (expected s other) key value = beside_faults other key ++ value s
 
--- of a mapping with these keys, given what its entries have
+-- the faults of a mapping with these keys, given those of its entries
 abbrev pub keyed_faults : Keys → List ℕ → (List ℕ → Bool) → Span → (Keys → List Fault) → List Fault
 keyed_faults no_keys above all at inside = one_fault WrongKind at above
 keyed_faults (free s) above all at inside = inside (free s)
 keyed_faults (keys others fs) above all at inside = flat_map (missing_fault at all) fs ++ inside (keys others fs)
 
 abbrev mutual
-  -- the faults of a node below a key, where it should have a shape and may be null or not
+  -- the faults of a node below a key, which should have a shape and may be null or not
   pub faults : Shape → Bool → List ℕ → Node → List Fault
   faults shape null above (scalar s at) =
       if is_null s && null then []
@@ -153,19 +153,19 @@ abbrev mutual
       option_map_or (λ r. keyed_faults r.keys_of above all at (λ ks. entries_faults ks [] all es))
       (rule (mapping_shape shape (entries es))) []
 
-  -- of the items of a sequence below a key
+  -- the faults of the items of a sequence below a key
   pub items_faults : Shape → List ℕ → Nodes → List Fault
   items_faults s above no_nodes = []
   items_faults s above (item n ns) = faults s false above n ++ items_faults s above ns
 
-  -- of entries behind others with the keys that were seen, in a mapping with all these
+  -- the faults of entries after others with the keys seen, in a mapping with all these
   pub entries_faults : Keys → List (List ℕ) → (List ℕ → Bool) → Entries → List Fault
   entries_faults ks seen all no_entries = []
   entries_faults ks seen all (entry k v es) =
       entry_faults (standing ks (among seen) all (key_text k)) k (λ s. faults s (takes_null s) (key_text k) v)
       ++ entries_faults ks (seen ++ key_text k ∷ []) all es
 
--- nothing was written
+-- an empty node: nothing was written
 abbrev pub is_empty_node : Node → Bool
 is_empty_node n = option_map_or (λ s. styles.ghosts.eq s.style style.Plain && (length s.cells == 0)) (scalar_in n) false
 
@@ -173,7 +173,7 @@ is_empty_node n = option_map_or (λ s. styles.ghosts.eq s.style style.Plain && (
 abbrev pub root_faults : Shape → Node → List Fault
 root_faults s n = if is_empty_node n then key_fault EmptyFile (record { start = 0; end = 0 }) [] ∷ [] else faults s false (codes "file") n
 
--- what the program's `Standing` stands for
+-- the meaning of the program's `Standing`
 abbrev pub standing_view : rust.Standing → Standing
 standing_view rust.TheVariants.Repeated = repeated
 standing_view (rust.TheVariants.Unexpected other) = unexpected (option_map (λ k. k.now) other)

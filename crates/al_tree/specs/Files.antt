@@ -1,4 +1,4 @@
--- What a tree is, and the faults of its keys and values.
+-- The kinds of trees, and the faults of their keys and values.
 use Rattle.std.specs.Prelude.{List, codes}
 use Rattle.al_base.specs.FaultLists.{fault_list}
 use Rattle.al_base.specs.declared.faults.Fault.{Fault}
@@ -21,7 +21,7 @@ abbrev pub kind_in : Tree → FileKind
 kind_in (tree.Workflow w) = kind.Workflow
 kind_in (tree.Action a) = kind.Action
 
--- the section that a file's root should be
+-- the shape that a file's root should have
 abbrev pub shape_of : FileKind → Shape
 shape_of kind.Workflow = shape.Workflow
 shape_of kind.Action = shape.Action

@@ -1,4 +1,4 @@
--- The keys of a mapping's entries, and of its first ones.
+-- The keys of a mapping's entries, and of its first entries.
 use Rattle.std.specs.Prelude.{◌≡◌, ◌<◌, ℕ, List, [], length, map, slice_index_or, take, Bool, false, nat_lt, not, Option}
 use Rattle.std.specs.Option.{option_map_or}
 use Rattle.al_base.specs.NamePlaces.{is_first_text, text_position}
@@ -11,7 +11,7 @@ use Rattle.al_base.specs.Names.{among}
 use Rattle.al_tree.specs.declared.keys.KeyIndex.{KeyIndex}
 use Rattle.al_tree.specs.declared.keys.KeySet.{KeySet}
 
--- the text of a key; one that is no scalar, of which reading a file gives none, is as an empty one
+-- the text of a key; empty for a key that isn't a scalar, which no file that was read has
 abbrev pub key_text : Node → List ℕ
 key_text key = option_map_or text_of (scalar_in key) []
 
@@ -30,7 +30,7 @@ unfoldable pub has_first : KeyIndex → ℕ → List ℕ → Bool
 has_first x n k =
     option_map_or (λ p. is_before n (text_position p k)) x.positions (among (keys_in (map entry_view (take n x.entries.now))) k)
 
--- whether the entry at a position, which has this key, is told to repeat an earlier one
+-- whether the entry at a position, which has this key, repeats an earlier one by the index
 unfoldable pub repeats : KeyIndex → ℕ → List ℕ → Bool
 repeats x i k = option_map_or (λ p. not (is_first_text p i)) x.positions (has_first x i k)
 

@@ -1,2 +1,2 @@
--- Words that only contracts of private functions need.
+-- Terms that only contracts of private functions need.
 pub mod Demands

@@ -1,4 +1,4 @@
--- What a workflow and an action may hold: the table, one equation for each section.
+-- The syntax of workflows and actions: the table, with one equation for each section.
 use Prim.Native.String.{String}
 use Rattle.std.specs.Prelude.{ℕ, List, [], ◌∷◌, ◌++◌, codes, map, Option, Some, None}
 use Rattle.al_tree.specs.declared.table.Shape.{Shape}
@@ -16,36 +16,36 @@ use Rattle.al_tree.specs.declared.table.Others as rust_others
 use Rattle.al_tree.specs.declared.table.Keys as rust
 use Rattle.al_tree.specs.declared.table.Rule as rust_rule
 
--- whether a key has to stand in its mapping: never, always, where another key isn't there
+-- whether a key is required: never, always, or unless another key is present
 pub data Need : Type 0 where
   optional required : Need
   unless : List ℕ → Need
 
--- the key that a key cannot stand beside: none, one that stands earlier, one anywhere
+-- the key that a key isn't allowed beside: none, one before it, or one anywhere
 pub data Clash : Type 0 where
   never : Clash
   after beside : List ℕ → Clash
 
--- a key that a mapping takes, and the shape of its value
+-- a key of a mapping, and the shape of its value
 pub record Field : Type 0 where
   pub key : List ℕ
   pub shape : Shape
   pub need : Need
   pub clash : Clash
 
--- what a key without a field is: wrong; wrong, and it cannot stand beside another key; not looked at; the name of an event
+-- what a key without a field is: unexpected; unexpected, and not allowed beside another key; unchecked; or the name of an event
 pub data Others : Type 0 where
   wrong : Others
   wrong_beside : List ℕ → Others
   unchecked events : Others
 
--- the mappings that are taken: none, those with free keys and values of a shape, those with these keys
+-- the mappings that are accepted: none, those with any keys and values of a shape, or those with these keys
 pub data Keys : Type 0 where
   no_keys : Keys
   free : Shape → Keys
   keys : Others → List Field → Keys
 
--- which scalars, lists and mappings a shape takes
+-- which scalars, sequences and mappings a shape accepts
 pub record Rule : Type 0 where
   pub scalars : ScalarSet
   pub items : Option Shape
@@ -63,7 +63,7 @@ must = field required never
 abbrev pub not_beside : String → String → Shape → Field
 not_beside other = field optional (beside (codes other))
 
--- two keys that cannot stand side by side, of which the later one is wrong
+-- two keys that exclude each other, where the later one is at fault
 abbrev pub either : String → String → Shape → List Field
 either one other shape = field optional (after (codes other)) one shape ∷ field optional (after (codes one)) other shape ∷ []
 
@@ -76,11 +76,11 @@ list_of s = takes NoScalar (Some s) no_keys
 abbrev pub map_of : Shape → Option Rule
 map_of s = takes NoScalar None (free s)
 
--- a mapping with these keys and no other
+-- a mapping with these keys and no others
 abbrev pub section : List Field → Option Rule
 section fs = takes NoScalar None (keys wrong fs)
 
--- The table. None takes anything.
+-- The table. None accepts anything.
 abbrev pub rule : Shape → Option Rule
 rule Any = None
 rule Text = takes AnyScalar None no_keys
@@ -147,7 +147,7 @@ rule DockerRuns = section (
     must "using" Text ∷ must "image" Text ∷ may "env" TextMap ∷ may "entrypoint" Text ∷ may "pre-entrypoint" Text
     ∷ may "post-entrypoint" Text ∷ may "args" Any ∷ may "pre-if" Text ∷ may "post-if" Text ∷ [])
 
--- what the program's rows and rules stand for
+-- the meaning of the program's rows and rules
 abbrev pub need_of : rust_need.Need → Need
 need_of rust_need.TheVariants.May = optional
 need_of rust_need.TheVariants.Must = required

@@ -1,4 +1,4 @@
--- What stands under a key of a node. A value of a wrong kind is as if it weren't there.
+-- The value under a key of a node. A value of the wrong kind counts as missing.
 use Rattle.std.specs.Prelude.{ℕ, List, [], ◌∷◌, ◌++◌, Bool, not, Option, Some, find, option_and_then, option_map, if◌then◌else◌}
 use Rattle.std.specs.Bool.{then_some}
 use Rattle.std.specs.List.{filter_map}
@@ -14,20 +14,20 @@ use Rattle.al_base.specs.Names.{among}
 use Rattle.al_tree.specs.declared.values.Member.{Member}
 use Rattle.al_tree.specs.declared.values.ScalarNode.{ScalarNode}
 
--- the entries whose keys aren't in those of earlier ones, behind entries with the keys that were seen
+-- the entries whose key no earlier entry has, after entries with the keys seen
 abbrev pub firsts_by : (List (List ℕ) → List ℕ → Bool) → List (List ℕ) → List (Node × Node) → List (Node × Node)
 firsts_by is_in seen [] = []
 firsts_by is_in seen (e ∷ es) = (if is_in seen (key_of e) then [] else e ∷ []) ++ firsts_by is_in (seen ++ key_of e ∷ []) es
 
--- the entries of a mapping, of equal keys the first; else none
+-- the entries of a mapping, the first of those with equal keys; otherwise none
 abbrev pub entries_in : Node → List (Node × Node)
 entries_in n = option_map_or (firsts_by among []) (mapping_in n) []
 
--- the items of a sequence, else none
+-- the items of a sequence; otherwise none
 abbrev pub items_in : Node → List Node
 items_in n = option_map_or (λ ns. ns) (sequence_in n) []
 
--- the node of a key where it first stands
+-- the node of the first occurrence of a key
 abbrev pub key_at : List ℕ → Node → Option Node
 key_at k n = option_and_then (λ es. option_map (λ e. e.0) (find (is_key k) es)) (mapping_in n)
 
@@ -50,7 +50,7 @@ text_at_key k n = option_and_then text_in (value_at k n)
 abbrev pub text_below : List (List ℕ) → Node → Option (Scalar × Span)
 text_below ks n = option_and_then text_in (value_below ks n)
 
--- what a scalar or a sequence of scalars says
+-- the texts of a scalar or a sequence of scalars
 abbrev pub texts_in : Node → List (Scalar × Span)
 texts_in n = option_map_or (filter_map text_in) (sequence_in n) (option_to_list (text_in n))
 
@@ -64,7 +64,7 @@ items_at k n = option_map_or items_in (value_at k n) []
 abbrev pub texts_at : List ℕ → Node → List (Scalar × Span)
 texts_at k n = option_map_or texts_in (value_at k n) []
 
--- what the program's views of a scalar and of an entry stand for
+-- the meaning of the program's views of a scalar and of an entry
 abbrev pub scalar_node_of : ScalarNode → Scalar × Span
 scalar_node_of s = (s.scalar.now, s.span)
 

@@ -10,6 +10,6 @@ abbrev pub fused_with : Parts → List Parts → Parts
 fused_with p [] = p
 fused_with p (q ∷ qs) = fused_with (fuse_parts p q) qs
 
--- objects as one, fused in turn: of none an object without fields
+-- all objects fused; an object without fields, if there are none
 abbrev pub fuse_all : List Parts → Parts
 fuse_all qs = fused_with (parts_with [] Absent) qs

@@ -44,7 +44,7 @@ functions =
     function.Contains ∷ function.StartsWith ∷ function.EndsWith ∷ function.Format ∷ function.Join ∷ function.ToJson
     ∷ function.FromJson ∷ function.HashFiles ∷ function.Success ∷ function.Always ∷ function.Cancelled ∷ function.Failure ∷ []
 
--- the one of a name
+-- the one with a name
 abbrev pub context_of : List ℕ → Option Context
 context_of n = find (λ c. same_name (context_name c) n) contexts
 

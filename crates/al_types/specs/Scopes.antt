@@ -9,7 +9,7 @@ use Rattle.al_types.specs.declared.names.Function.TheVariants.{Always, Cancelled
 use Rattle.al_types.specs.declared.scope.Available as code
 use Rattle.al_types.specs.Types.{Type'}
 
--- which contexts are there, and which functions can be called
+-- which contexts are available, and which special functions
 pub record Available : Type 0 where
   pub contexts : Context → Bool
   pub functions : Function → Bool
@@ -20,11 +20,11 @@ pub record Scope : Type 0 where
   pub available : Available
   pub in_run : Bool
 
--- the functions that tell how a job went so far
+-- the functions that tell the status of the job so far
 abbrev pub status : List Function
 status = Always ∷ Cancelled ∷ Success ∷ Failure ∷ []
 
--- the functions that only some places make available
+-- the functions that are available only at some places
 abbrev pub special : List Function
 special = HashFiles ∷ status
 

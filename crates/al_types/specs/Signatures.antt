@@ -28,7 +28,7 @@ signature function.Always = giving Zero returns.Bool
 signature function.Cancelled = giving Zero returns.Bool
 signature function.Failure = giving Zero returns.Bool
 
--- whether a call may have so many arguments
+-- whether a call can have this many arguments
 abbrev pub takes_count : Parameters → ℕ → Bool
 takes_count Zero n = nat_eq n 0
 takes_count (One a) n = nat_eq n 1
@@ -36,7 +36,7 @@ takes_count (Two a b) n = nat_eq n 2
 takes_count (OneOrTwo a b) n = nat_eq n 1 || nat_eq n 2
 takes_count (OneOrMore a b) n = not (nat_eq n 0)
 
--- what the argument of an index, counted from 0, may be
+-- which types the argument at an index, from 0, can have
 abbrev pub parameter_at : Parameters → ℕ → Wanted
 parameter_at Zero n = wants.Any
 parameter_at (One a) n = a

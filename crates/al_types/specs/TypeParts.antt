@@ -13,7 +13,7 @@ form_of String = form.String
 form_of (ArrayOf a) = form.Array
 form_of (ObjectOf at rest all) = form.Object
 
--- what two types have in common, where both are there
+-- what two types have in common, if both are there
 abbrev pub common_type : Option Type' → Option Type' → Option Type'
 common_type None o = o
 common_type (Some t) None = Some t

@@ -1,4 +1,4 @@
--- The types of expressions: which may stand where another is wanted, and what two have in common.
+-- The types of expressions: which can be used where another is expected, and what two have in common.
 use Rattle.std.specs.Prelude.{ℕ, List, [], ◌∷◌, Bool, true, false, ◌&&◌, ◌||◌, not, if◌then◌else◌, Option, Some, None}
 use Rattle.al_base.specs.Names.{same_name}
 
@@ -6,10 +6,10 @@ mutual
   pub data Type' : Type 0 where
     Any Null Number Bool' String : Type'
     ArrayOf : Type' → Type'
-    -- by the type of the field of each name, that of every other field, and what all of them have in common
+    -- by the type of the field with each name, that of all other fields, and what all of them have in common
     ObjectOf : (List ℕ → Optional) → Optional → Optional → Type'
 
-  -- a type, where there is one
+  -- a type, if there is one
   pub data Optional : Type 0 where
     Absent : Optional
     Present : Type' → Optional
@@ -40,7 +40,7 @@ is_plain Bool' = true
 is_plain String = true
 is_plain _ = false
 
--- Whether a value of the one type may stand where the other is wanted.
+-- Whether a value of the one type can be used where the other is expected.
 abbrev pub assignable_type : Type' → Type' → Bool
 assignable_type Any to = true
 assignable_type from Any = true
@@ -52,8 +52,8 @@ assignable_type (ArrayOf a) (ArrayOf b) = assignable_type a b
 assignable_type (ObjectOf at rest all) (ObjectOf bt other both) = true
 assignable_type from to = false
 
--- What two types have in common: each what it has with itself, a string for two other plain types, the elements' for arrays, all fields of
--- both for objects, those of one name fused, else any.
+-- What two types have in common: a type has itself in common with itself, two other plain types a string, arrays what their elements
+-- have, objects all fields of both, those with one name fused; otherwise any.
 abbrev mutual
   pub fuse_type : Type' → Type' → Type'
   fuse_type Any b = Any
@@ -74,7 +74,7 @@ abbrev mutual
 abbrev pub Fields : Type 0
 Fields = List (List ℕ × Type')
 
--- the type of the first field of a name
+-- the type of the first field with a name
 abbrev pub field_at : List ℕ → Fields → Option Type'
 field_at n [] = None
 field_at n (f ∷ fs) = if same_name f.0 n then Some f.1 else field_at n fs
@@ -88,31 +88,32 @@ abbrev pub common_in : Fields → Optional
 common_in [] = Absent
 common_in (f ∷ fs) = fuse_optional (Present f.1) (common_in fs)
 
--- an object by the type of the field of each name, that of every other field, and what all of them have in common
+-- an object, by the type of the field with each name, that of all other fields, and what all of them have in common
 abbrev pub Parts : Type 0
 Parts = (List ℕ → Optional) × Optional × Optional
 
 abbrev pub object_type : Parts → Type'
 object_type p = ObjectOf p.0 p.1 p.2
 
--- an object that has these fields, and others of a type where there may be others
+-- an object with these fields, and others of a type if others are possible
 abbrev pub parts_with : Fields → Optional → Parts
 parts_with fs rest = (λ n. optional (field_at n fs), rest, fuse_optional (common_in fs) rest)
 
 abbrev pub object_with : Fields → Optional → Type'
 object_with fs rest = object_type (parts_with fs rest)
 
--- a type, else any
+-- a type, or any if there is none
 abbrev pub or_any : Option Type' → Type'
 or_any None = Any
 or_any (Some t) = t
 
--- the one type, else the other
+-- the one type, or the other if there is none
 abbrev pub or_else : Optional → Optional → Optional
 or_else Absent o = o
 or_else (Present t) o = Present t
 
--- the type of an object's property: of the field of its name, else of every other field; another type has none
+-- the type of an object's property: that of the field with its name, otherwise that of all other fields; other types
+-- have none
 abbrev pub property_in : List ℕ → Type' → Option Type'
 property_in n (ObjectOf at rest all) = option_of (or_else (at n) rest)
 property_in n _ = None

@@ -1,5 +1,5 @@
-//! What the types of expressions mean: what may stand where another is wanted, what two have in common, which contexts and functions there
-//! are, and what functions take and return.
+//! The types of expressions: which can be assigned to which, what two have in common, the contexts and functions, and what functions take
+//! and return.
 #![tactic(auto)]
 
 mod forms;

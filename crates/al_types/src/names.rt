@@ -1,4 +1,4 @@
-//! The names of contexts and functions, in which letter case does not count.
+//! The names of contexts and functions, which are case-insensitive.
 
 ghost use Rattle.std.specs.Prelude.{◌≡◌, find};
 ghost use Rattle.al_base.specs.Names.{same_name};
@@ -93,7 +93,7 @@ impl Context {
         }
     }
 
-    /// The context of a name, in any ASCII case.
+    /// The context with a name, ignoring ASCII case.
     pub fn from_name(name: &str) -> Option<Context>
         ensures { result ≡ names.context_of name.now }
     {
@@ -122,7 +122,7 @@ impl Function {
         }
     }
 
-    /// The function of a name, in any ASCII case.
+    /// The function with a name, ignoring ASCII case.
     pub fn from_name(name: &str) -> Option<Function>
         ensures { result ≡ names.function_of name.now }
     {

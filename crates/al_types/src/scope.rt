@@ -1,4 +1,4 @@
-//! Which contexts and functions there are at a place.
+//! Which contexts and functions are available at a place.
 
 ghost use Rattle.std.specs.Prelude.{◌≡◌};
 ghost use Rattle.al_types.specs.Scopes as scopes;
@@ -6,7 +6,7 @@ ghost use Rattle.al_types.specs.Scopes.{can_call};
 
 use crate::names::{Context, Function};
 
-/// The functions that only some places make available.
+/// The functions that are available only at some places.
 pub const SPECIAL_FUNCTIONS: [Function; 5] = [
     Function::HashFiles,
     Function::Always,
@@ -23,7 +23,7 @@ pub struct Available {
     pub special: &'static [Function],
 }
 
-/// Whether only some places make a function available.
+/// Whether a function is available only at some places.
 fn is_special(function: Function) -> bool
     ensures { result ≡ scopes.is_special function }
 {

@@ -1,4 +1,4 @@
-//! The functions of expressions: how many arguments they take, of which types, and what they give.
+//! The signatures of functions: how many arguments they take, of which types, and what they return.
 
 ghost use Rattle.std.specs.Prelude.{◌≡◌, option_map};
 ghost use Rattle.al_types.specs.Names.{function_of};
@@ -6,7 +6,7 @@ ghost use Rattle.al_types.specs.Signatures.{signature, takes_count, parameter_at
 
 use crate::names::Function;
 
-/// What an argument of a function may be.
+/// Which types an argument can have.
 #[derive(Clone, Copy, PartialEq, Eq, Debug)]
 pub enum Wanted {
     Any,
@@ -14,19 +14,19 @@ pub enum Wanted {
     NotObject,
     /// Anything but an array or an object.
     NotCollection,
-    /// What can be assigned to a string.
+    /// Anything that can be assigned to a string.
     String,
-    /// An array, or what can be assigned to a string.
+    /// An array, or anything that can be assigned to a string.
     ArrayOrString,
 }
 
-/// How many arguments a function takes, and what they may be.
+/// How many arguments a function takes, and of which types.
 #[derive(Clone, Copy, PartialEq, Eq, Debug)]
 pub enum Parameters {
     Zero,
     One(Wanted),
     Two(Wanted, Wanted),
-    /// The second may be left out.
+    /// The second is optional.
     OneOrTwo(Wanted, Wanted),
     /// Any number of further arguments, each of which may be the second.
     OneOrMore(Wanted, Wanted),
@@ -47,7 +47,7 @@ pub struct Signature {
     pub returned: Returned,
 }
 
-/// The signature of the function of a name, in any ASCII case: none where there is no such function.
+/// The signature of the function with a name, ignoring ASCII case; `None` if there is no such function.
 pub fn signature_of(name: &str) -> Option<Signature>
     ensures { result ≡ option_map signature (function_of name.now) }
 {
@@ -99,7 +99,7 @@ impl Function {
 }
 
 impl Parameters {
-    /// Whether a call may have so many arguments.
+    /// Whether a call can have this many arguments.
     pub fn takes(self, count: usize) -> bool
         ensures { result ≡ takes_count self count }
     {
@@ -112,7 +112,7 @@ impl Parameters {
         }
     }
 
-    /// What the argument of an index, counted from 0, may be.
+    /// Which types the argument at an index, from 0, can have.
     pub fn parameter_at(self, index: usize) -> Wanted
         ensures { result ≡ parameter_at self index }
     {

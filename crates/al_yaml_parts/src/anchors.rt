@@ -25,15 +25,15 @@ use std::alloc::{AllocError, Global};
 use std::collections::BTreeMap;
 use std::rc::Rc;
 
-/// A node that an anchor names, and where the anchor stands.
+/// A node with an anchor, and the offset of the anchor.
 #[derive(Drop)]
 pub struct AnchoredNode {
     pub at: usize,
     pub node: Rc<Node>,
 }
 
-/// The anchors whose nodes are complete, of each name the one that stands last. Adding one and looking one up take time
-/// that grows with the logarithm of their number, and with the name's length.
+/// The anchors whose nodes are complete; of several with one name, the last in the file. Adding and finding one takes
+/// time logarithmic in their number, and linear in the name's length.
 #[derive(Drop)]
 pub struct Anchors {
     pub latest: BTreeMap<Vec<u8>, AnchoredNode>,
@@ -64,7 +64,7 @@ pub fn name_end(bytes: &[u8], at: usize) -> usize
     i
 }
 
-/// The name of the anchor or alias whose indicator stands at an offset.
+/// The name of the anchor or alias whose indicator is at an offset.
 fn name_at(bytes: &[u8], at: usize) -> &[u8]
     ensures { result.now ≡ content.anchor_name (lines_at bytes.now at) }
 {
@@ -77,7 +77,7 @@ fn name_at(bytes: &[u8], at: usize) -> &[u8]
     &bytes[at + 1..name_end(bytes, at + 1)]
 }
 
-/// Whether the indicator at an offset has no name behind it.
+/// Whether the indicator at an offset is not followed by a name.
 pub fn has_no_name(bytes: &[u8], at: usize) -> bool
     requires inside { at ≤ length bytes.now }
     requires property { content.is_property (text_at bytes.now at) ≡ true }
@@ -86,7 +86,7 @@ pub fn has_no_name(bytes: &[u8], at: usize) -> bool
     ends_name(bytes, at + 1)
 }
 
-/// Where the anchor or alias ends whose indicator stands at an offset.
+/// The end of the anchor or alias whose indicator is at an offset.
 pub fn property_end(bytes: &[u8], at: usize) -> usize
     requires inside { at ≤ length bytes.now }
     requires property { content.is_property (text_at bytes.now at) ≡ true }
@@ -99,7 +99,7 @@ pub fn property_end(bytes: &[u8], at: usize) -> usize
 }
 
 impl Anchors {
-    /// No anchors. Takes no memory.
+    /// No anchors. Doesn't allocate.
     pub fn new(alloc: Global) -> Anchors
         ensures { anchors_view result ≡ no_anchors }
     {
@@ -108,7 +108,7 @@ impl Anchors {
         }
     }
 
-    /// A node is complete with the anchor whose indicator stands at an offset. It is shared from here on.
+    /// Adds the anchor whose indicator is at an offset, with its complete node, which is shared from here on.
     ///
     /// Fails with `AllocError` when out of memory.
     #[inline(never)]
@@ -124,7 +124,7 @@ impl Anchors {
         Ok(result)
     }
 
-    /// One more anchor.
+    /// Adds an anchor.
     fn note(&mut self, name: Vec<u8>, anchor: AnchoredNode) -> Result<(), AllocError>
         ensures { IfOk result
             (λ _. anchors_view self.new
@@ -137,7 +137,7 @@ impl Anchors {
         Ok(())
     }
 
-    /// Whether the anchor of a name stands behind an offset.
+    /// Whether the anchor with a name is after an offset.
     fn has_later(&self, name: &[u8], at: usize) -> bool
         ensures { result ≡ is_later at (anchors_view self.now name.now) }
     {
@@ -149,7 +149,7 @@ impl Anchors {
 }
 
 impl State {
-    /// The node that the alias at an offset stands for. All nodes in it are counted.
+    /// The node of the alias at an offset. All nodes in it are counted.
     pub fn alias(&mut self, file: &File, at: usize, depth: u32) -> Result<Node, ReadError>
         requires { at ≤ size file.now }
         ensures fault { IfErr result (IsStopInside (size file.now)) }

@@ -1,4 +1,4 @@
-//! Content lines, and the gaps between what stands in flow collections.
+//! Content lines, and the gaps in flow collections.
 
 ghost use Rattle.al_scalar.specs.Line as line;
 ghost use Rattle.al_scalar.specs.Places.{lines_at, text_at};
@@ -32,7 +32,7 @@ pub fn is_skipped(bytes: &[u8], at: usize) -> bool
     begins(bytes, solid, b'#')
 }
 
-/// The first line from a line's start on that is no blank line and no comment, or else the file's end.
+/// The first line, from the start of a line on, that isn't blank or a comment; otherwise the file's end.
 pub fn next_text_line(bytes: &[u8], at: usize) -> usize
     requires { at ≤ length bytes.now }
     ensures from { at ≤ result }
@@ -51,7 +51,7 @@ pub fn next_text_line(bytes: &[u8], at: usize) -> usize
     line
 }
 
-/// What a line that is no blank line and no comment begins.
+/// What a line that isn't blank or a comment begins.
 fn content_line(bytes: &[u8], at: usize) -> Result<Next, FaultAt>
     requires { at ≤ length bytes.now }
     ensures fault { IfErr result (λ f. f.at ≤ length bytes.now) }
@@ -86,7 +86,7 @@ pub fn next_content(bytes: &[u8], at: usize) -> Result<Next, FaultAt>
     content_line(bytes, line)
 }
 
-/// Whether only blanks, and a comment after a blank, stand on the line from an offset on.
+/// Whether the rest of the line is only blanks, or blanks and a comment.
 fn ends_line(bytes: &[u8], at: usize) -> bool
     requires { at ≤ length bytes.now }
     ensures { result ≡ content.ends_line (text_at bytes.now at) }
@@ -101,7 +101,7 @@ fn ends_line(bytes: &[u8], at: usize) -> bool
     begins(bytes, solid, b'#')
 }
 
-/// The start of the line behind a node that ends its line.
+/// The start of the line after a node, which must end its line.
 pub fn line_behind(bytes: &[u8], at: usize) -> Result<usize, FaultAt>
     requires { at ≤ length bytes.now }
     ensures fault { IfErr result (λ f. f.at ≤ length bytes.now) }
@@ -118,7 +118,7 @@ pub fn line_behind(bytes: &[u8], at: usize) -> Result<usize, FaultAt>
     })
 }
 
-/// Whether the dash of a block sequence's entry stands at an offset.
+/// Whether the dash of a block sequence's entry is at an offset.
 pub fn is_dash(bytes: &[u8], at: usize) -> bool
     requires { at ≤ length bytes.now }
     ensures value { result ≡ content.is_dash (text_at bytes.now at) }
@@ -143,7 +143,7 @@ pub fn first_tab(bytes: &[u8], at: usize) -> Option<usize>
     None
 }
 
-/// Whether a gap goes on with the next line.
+/// Whether a gap continues on the next line.
 fn is_gap_line(bytes: &[u8], at: usize, at_start: bool, solid: usize) -> bool
     requires inside { at ≤ length bytes.now }
     requires solid { line.blanks_dropped (lines_at bytes.now at) ≡ lines_at bytes.now solid }
@@ -162,14 +162,14 @@ fn is_gap_line(bytes: &[u8], at: usize, at_start: bool, solid: usize) -> bool
     is_blank_or_end(bytes, at)
 }
 
-/// Whether a byte stands at an offset that is above blanks, breaks and `#`, so that no gap begins with it.
+/// Whether the byte at an offset is greater than blanks, breaks and `#`, so that no gap begins with it.
 fn is_solid(bytes: &[u8], at: usize) -> bool
     ensures { IsTrue result ↔ ((at < length bytes.now) × (35 < slice_index bytes.now at)) }
 {
     at < bytes.len() && bytes[at] > b'#'
 }
 
-/// The offset behind the blanks, breaks and comments at an offset in a flow collection.
+/// The offset after the blanks, breaks and comments at an offset in a flow collection.
 #[inline(always)]
 pub fn gap_end(bytes: &[u8], at: usize) -> usize
     requires { at ≤ length bytes.now }

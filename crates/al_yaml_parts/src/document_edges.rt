@@ -1,4 +1,4 @@
-//! What stands round a document's root.
+//! What comes before and after a document's root.
 
 ghost use Rattle.al_scalar.specs.Places.{lines_at};
 ghost use Rattle.al_yaml_tree.specs.Document as document;
@@ -11,9 +11,9 @@ use al_base::YamlCode;
 use al_scalar::FaultAt;
 use al_scalar::lines::{begins, blanks_end, indent, is_marker};
 
-/// The start of the root's lines: the first content line from a line's start on, or the line behind a first `---`;
-/// the file's end if there is none (YAML 1.2.2, 9.1). Fails at a directive, and at a character behind `---` that
-/// begins no comment.
+/// The start of the root's lines: the first content line from the start of a line on, or the line after a first
+/// `---`; the file's end if there is none (YAML 1.2.2, 9.1). Fails at a directive, and at a character after `---`
+/// that doesn't begin a comment.
 pub fn document_start(bytes: &[u8], at: usize) -> Result<usize, FaultAt>
     requires { at ≤ length bytes.now }
     ensures fault { IfErr result (λ f. f.at ≤ length bytes.now) }
@@ -25,7 +25,7 @@ pub fn document_start(bytes: &[u8], at: usize) -> Result<usize, FaultAt>
     first_line(bytes, next_text_line(bytes, at))
 }
 
-/// The start of the root's lines on the first content line or behind it.
+/// The start of the root's lines, given the start of the first content line.
 fn first_line(bytes: &[u8], at: usize) -> Result<usize, FaultAt>
     requires { at ≤ length bytes.now }
     ensures fault { IfErr result (λ f. f.at ≤ length bytes.now) }
@@ -45,7 +45,7 @@ fn first_line(bytes: &[u8], at: usize) -> Result<usize, FaultAt>
     Ok(at)
 }
 
-/// The offset behind a document marker of three bytes at a line's start, if it is one.
+/// The offset after the document marker at a line's start, if there is one.
 fn behind_marker(bytes: &[u8], at: usize, byte: u8) -> Option<usize>
     requires { at ≤ length bytes.now }
     ensures { IsBehindMarker bytes.now at byte result }
@@ -56,8 +56,8 @@ fn behind_marker(bytes: &[u8], at: usize, byte: u8) -> Option<usize>
     None
 }
 
-/// What stands behind the root: nothing, or a `...` with nothing behind it. Else fails at the second document or at
-/// the content that belongs to no open collection.
+/// Checks what comes after the root: nothing, or a `...` with nothing after it. Otherwise fails at the second
+/// document, or at content that belongs to no open collection.
 pub fn document_end(bytes: &[u8], at: usize) -> Result<(), FaultAt>
     requires { at ≤ length bytes.now }
     ensures fault { IfErr result (λ f. f.at ≤ length bytes.now) }
@@ -70,7 +70,7 @@ pub fn document_end(bytes: &[u8], at: usize) -> Result<(), FaultAt>
     last_line(bytes, line)
 }
 
-/// What a line behind the root is.
+/// Checks a line after the root.
 fn last_line(bytes: &[u8], at: usize) -> Result<(), FaultAt>
     requires { at ≤ length bytes.now }
     ensures fault { IfErr result (λ f. f.at ≤ length bytes.now) }
@@ -98,7 +98,7 @@ fn last_line(bytes: &[u8], at: usize) -> Result<(), FaultAt>
     })
 }
 
-/// Behind `...` no content stands, neither on its line nor on a later one.
+/// Checks that no content follows `...`, neither on its line nor on a later one.
 fn check_nothing_behind(bytes: &[u8], at: usize) -> Result<(), FaultAt>
     requires { at ≤ length bytes.now }
     ensures fault { IfErr result (λ f. f.at ≤ length bytes.now) }

@@ -1,4 +1,4 @@
-//! Why reading ends before its end.
+//! Why reading ends early.
 
 ghost use Rattle.al_yaml_parts.specs.declared.faults.ReadError.TheVariants.{Fault, Memory};
 ghost use Rattle.std.specs.Prelude.{◌≡◌};
@@ -6,7 +6,7 @@ ghost use Rattle.std.specs.Prelude.{◌≡◌};
 use al_scalar::FaultAt;
 use std::alloc::{AllocError, AllocFailed};
 
-/// Why reading ended before its end.
+/// Why reading ended early.
 #[derive(Clone, Copy)]
 pub enum ReadError {
     Fault(FaultAt),

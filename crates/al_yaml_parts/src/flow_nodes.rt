@@ -1,4 +1,4 @@
-//! Nodes and keys in flow collections that are read whole, and brackets that stand where one is due.
+//! Nodes and keys in flow collections that are read in one step, and brackets where one is expected.
 
 ghost use Rattle.al_scalar.specs.ReadScalar.{read_of};
 ghost use Rattle.al_scalar.specs.Line as line;
@@ -39,36 +39,38 @@ pub struct FlowKey {
     pub colon: Option<usize>,
 }
 
-/// A collection that begins: its bracket's place, and that of its anchor if it has one.
+/// The beginning of a collection: the offset of its bracket, and that of its anchor if it has one.
 #[derive(Clone, Copy)]
 pub struct Bracket {
     pub at: usize,
     pub anchor: Option<usize>,
 }
 
-/// Where a node is due in a flow collection: where that opens, and where an empty node would stand, if one may.
+/// A place in a flow collection where a node is expected: where the collection opens, and where an empty node would
+/// be, if one is allowed.
 #[derive(Clone, Copy)]
 pub struct FlowSlot {
     pub opening: usize,
     pub empty: Option<usize>,
 }
 
-/// What stands where a node is due in a flow collection: an alias, a scalar or an empty node, which was read, or the bracket
-/// of a collection.
+/// What was found where a node is expected in a flow collection: an alias, a scalar or an empty node, which was read, or the bracket of a
+/// collection.
 #[derive(Drop)]
 pub enum FoundNode {
     Node(Part),
     Opens(Bracket),
 }
 
-/// What stands where a key is due in a flow mapping: a scalar, which was read, or the bracket of a collection.
+/// What was found where a key is expected in a flow mapping: a scalar, which was read, or the bracket of a
+/// collection.
 #[derive(Drop)]
 pub enum FoundKey {
     Key(FlowKey),
     Opens,
 }
 
-/// The offset behind the colon of the key that a scalar in a flow mapping is, if it has one.
+/// The offset after the colon of a scalar that is a key in a flow mapping, if it has one.
 fn key_colon(bytes: &[u8], at: usize, read: &ScalarRead) -> Result<Option<usize>, FaultAt>
     requires at { at ≤ length bytes.now }
     requires inside { IsReadInside bytes.now at read.now }
@@ -107,7 +109,7 @@ fn property_on_key(bytes: &[u8], at: usize) -> YamlCode
     YamlCode::AnchorOrAlias
 }
 
-/// Reads the key of a flow mapping's entry, if no collection stands there.
+/// Reads the key of a flow mapping's entry, unless a collection is there.
 pub fn read_flow_key(file: &File, state: &mut State, at: usize) -> Result<FoundKey, ReadError>
     requires inside { at ≤ size file.now }
     ensures fault { IfErr result (IsStopInside (size file.now)) }
@@ -135,7 +137,7 @@ pub fn read_flow_key(file: &File, state: &mut State, at: usize) -> Result<FoundK
     Ok(FoundKey::Key(FlowKey { read, colon }))
 }
 
-/// Whether a comma or a closing brace stands at an offset.
+/// Whether a comma or a closing brace is at an offset.
 fn ends_value(bytes: &[u8], at: usize) -> bool
     requires { at ≤ length bytes.now }
     ensures { result ≡
@@ -144,7 +146,7 @@ fn ends_value(bytes: &[u8], at: usize) -> bool
     begins(bytes, at, b',') || begins(bytes, at, b'}')
 }
 
-/// Reads a node without anchor in a flow collection, if it is no collection.
+/// Reads a node without anchor in a flow collection, unless it is a collection.
 #[inline(always)]
 fn read_flow_content(file: &File, state: &mut State, at: usize) -> Result<FoundNode, ReadError>
     requires inside { at ≤ size file.now }
@@ -187,7 +189,7 @@ pub fn read_alias(file: &File, state: &mut State, at: usize, depth: u32) -> Resu
     })
 }
 
-/// Reads an alias, or an anchor and its node if that is no collection.
+/// Reads an alias, or an anchor and its node, unless that is a collection.
 fn read_flow_property(
     file: &File,
     state: &mut State,
@@ -229,7 +231,7 @@ fn read_flow_property(
     }
 }
 
-/// A node that was read, with its anchor if it has one.
+/// Adds the anchor of a node that was read, if it has one.
 #[inline(always)]
 pub fn complete(
     file: &File,
@@ -255,7 +257,7 @@ pub fn complete(
     }
 }
 
-/// Reads the node behind an anchor in a flow collection, if it is no collection.
+/// Reads the node after an anchor in a flow collection, unless it is a collection.
 fn read_behind_anchor(
     file: &File,
     state: &mut State,
@@ -301,7 +303,7 @@ fn read_behind_anchor(
     read_flow_content(file, state, at)
 }
 
-/// Reads a node in a flow collection, if it is no collection.
+/// Reads a node in a flow collection, unless it is a collection.
 #[inline(always)]
 pub fn read_flow_node(
     file: &File,
@@ -325,7 +327,7 @@ pub fn read_flow_node(
     read_flow_content(file, state, at)
 }
 
-/// Reads the value of a flow mapping's entry, which may be empty, if it is no collection.
+/// Reads the value of a flow mapping's entry, which may be empty, unless it is a collection.
 pub fn read_flow_value(
     file: &File,
     state: &mut State,

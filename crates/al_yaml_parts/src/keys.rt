@@ -1,4 +1,4 @@
-//! Keys: what may be one, and the colon behind it.
+//! Keys: what can be one, and the colon after it.
 
 ghost use Rattle.al_scalar.specs.ReadScalar.{read_of};
 ghost use Rattle.al_scalar.specs.Line as line;
@@ -29,7 +29,7 @@ use al_scalar::lines::{begins, blanks_end, is_blank_or_end, line_end};
 use al_scalar::{ScalarContext, ScalarRead};
 use std::alloc::AllocError;
 
-/// Whether a scalar that was read from an offset on may be a key: on one line, with at most 1,024 characters.
+/// Whether a scalar read from an offset on can be a key: it is on one line, with at most 1,024 characters.
 pub fn is_simple_key(bytes: &[u8], at: usize, read: &ScalarRead) -> bool
     requires { IsReadInside bytes.now at read.now }
     ensures { result ≡ content.is_simple_key (lines_at bytes.now at) (read_of bytes.now read.now) }
@@ -37,7 +37,7 @@ pub fn is_simple_key(bytes: &[u8], at: usize, read: &ScalarRead) -> bool
     is_same_line(bytes, at, read.next) && is_short_key(bytes, at, read)
 }
 
-/// Whether a scalar on one line that was read from an offset on has at most 1,024 characters.
+/// Whether a scalar on one line, read from an offset on, has at most 1,024 characters.
 pub fn is_short_key(bytes: &[u8], at: usize, read: &ScalarRead) -> bool
     requires inside { IsReadInside bytes.now at read.now }
     requires line { content.same_line (lines_at bytes.now at) (lines_at bytes.now read.now.next)
@@ -52,7 +52,7 @@ pub fn is_short_key(bytes: &[u8], at: usize, read: &ScalarRead) -> bool
     characters(bytes, at, end) <= LONGEST_KEY
 }
 
-/// Whether a colon that parts a key from its value in block context stands at an offset.
+/// Whether a colon that separates a key from its value in block context is at an offset.
 fn is_block_colon(bytes: &[u8], at: usize) -> bool
     requires { at ≤ length bytes.now }
     ensures value { result ≡ plain.is_value_colon (plain.block 0) (text_at bytes.now at) }
@@ -64,7 +64,7 @@ fn is_block_colon(bytes: &[u8], at: usize) -> bool
     is_blank_or_end(bytes, at + 1)
 }
 
-/// The offset behind the colon that parts a block mapping's key from its value, if one follows.
+/// The offset after the colon that separates a block mapping's key from its value, if one follows.
 pub fn behind_colon(bytes: &[u8], at: usize) -> Option<usize>
     requires { at ≤ length bytes.now }
     ensures { IsColon (block_reads.behind_colon_in_block (lines_at bytes.now at)) bytes.now at result }
@@ -76,7 +76,7 @@ pub fn behind_colon(bytes: &[u8], at: usize) -> Option<usize>
     Some(solid + 1)
 }
 
-/// Whether a colon follows that parts a block mapping's key from its value.
+/// Whether a colon follows that separates a block mapping's key from its value.
 pub fn has_colon(bytes: &[u8], at: usize) -> bool
     requires { at ≤ length bytes.now }
     ensures { result ≡ keys.has_colon (lines_at bytes.now at) }
@@ -87,7 +87,7 @@ pub fn has_colon(bytes: &[u8], at: usize) -> bool
     }
 }
 
-/// Whether a colon that parts a key from its value in a flow mapping stands at an offset.
+/// Whether a colon that separates a key from its value in a flow mapping is at an offset.
 fn is_flow_colon(bytes: &[u8], at: usize) -> bool
     requires { at ≤ length bytes.now }
     ensures value { result ≡ plain.is_value_colon plain.flow (text_at bytes.now at) }
@@ -102,7 +102,7 @@ fn is_flow_colon(bytes: &[u8], at: usize) -> bool
     begins_flow_indicator(bytes, at + 1)
 }
 
-/// Whether a colon touches a quoted key.
+/// Whether a colon directly follows a quoted key.
 fn is_quoted_colon(bytes: &[u8], at: usize, after_quote: bool) -> bool
     requires { at ≤ length bytes.now }
     ensures { result ≡ (after_quote && line.begins 58 (text_at bytes.now at)) }
@@ -113,7 +113,7 @@ fn is_quoted_colon(bytes: &[u8], at: usize, after_quote: bool) -> bool
     begins(bytes, at, b':')
 }
 
-/// The offset behind the colon that parts a flow mapping's key from its value, if one follows on the line.
+/// The offset after the colon that separates a flow mapping's key from its value, if one follows on the line.
 pub fn behind_flow_colon(bytes: &[u8], at: usize, after_quote: bool) -> Option<usize>
     requires { at ≤ length bytes.now }
     ensures { IsColon (flow.behind_colon_in_flow after_quote (lines_at bytes.now at)) bytes.now at result }
@@ -140,7 +140,7 @@ pub fn is_late_colon(bytes: &[u8], at: usize) -> bool
     !is_same_line(bytes, at, next)
 }
 
-/// A key of a block mapping, and the offset behind its colon.
+/// A key of a block mapping, and the offset after its colon.
 #[derive(Drop)]
 pub struct Key {
     pub read: ScalarRead,
@@ -172,7 +172,7 @@ fn key_scalar(file: &File, at: usize) -> Result<ScalarRead, ReadError>
     )
 }
 
-/// The key that begins at an offset, if one does; it may be too long or span lines yet.
+/// The key that begins at an offset, if one does. It may still be too long or span several lines.
 #[inline(always)]
 pub fn key_at(file: &File, at: usize) -> Result<Option<Key>, ReadError>
     requires inside { at ≤ size file.now }
@@ -188,7 +188,7 @@ pub fn key_at(file: &File, at: usize) -> Result<Option<Key>, ReadError>
     }
 }
 
-/// Whether what begins at an offset may be a key by its first character.
+/// Whether the first character at an offset can begin a key.
 fn is_key_start(bytes: &[u8], at: usize) -> bool
     requires { at ≤ length bytes.now }
     ensures { result ≡ keys.is_key_start (text_at bytes.now at) }
@@ -214,7 +214,8 @@ fn is_key(file: &File, at: usize) -> Result<bool, AllocError>
     }
 }
 
-/// Whether the anchor or alias at an offset stands on a key: the alias itself, or what follows the anchor on its line.
+/// Whether the anchor or alias at an offset belongs to a key: the alias itself, or what follows the anchor on its
+/// line.
 pub fn is_on_key(file: &File, at: usize) -> Result<bool, AllocError>
     requires inside { at ≤ size file.now }
     requires property { content.is_property (text_at file.now.bytes.now at) ≡ true }
@@ -231,7 +232,7 @@ pub fn is_on_key(file: &File, at: usize) -> Result<bool, AllocError>
     is_key(file, solid)
 }
 
-/// The fault of an anchor or alias where an entry of an open mapping is due.
+/// The fault of an anchor or alias where an entry of an open mapping is expected.
 pub fn property_fault(file: &File, at: usize) -> Result<YamlCode, AllocError>
     requires inside { at ≤ size file.now }
     requires property { content.is_property (text_at file.now.bytes.now at) ≡ true }

@@ -10,7 +10,7 @@ use al_base::YamlCode;
 use al_base::limits::{DEEPEST_COLLECTION, MOST_ALIAS_TEXT, MOST_NODES};
 use al_scalar::FaultAt;
 
-/// What came before: the nodes that have started, those behind aliases too; the bytes of their texts behind aliases; and
+/// What was read so far: the number of nodes, including those behind aliases; the bytes of texts behind aliases; and
 /// the anchors.
 #[derive(Drop)]
 pub struct State {
@@ -34,7 +34,7 @@ impl State {
         self.start_with(at, more, 0, depth)
     }
 
-    /// Counts nodes that start at an offset, with so many bytes of text behind an alias, down to a depth.
+    /// Counts nodes that start at an offset, with this many bytes of text behind an alias, down to a depth.
     #[inline(always)]
     pub fn start_with(&mut self, at: usize, more: u32, text: u32, depth: u32) -> Result<(), FaultAt>
         ensures fault { IfErr result (λ f. f.at ≡ at) }

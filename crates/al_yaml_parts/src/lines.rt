@@ -1,4 +1,4 @@
-//! Lines at an offset, as the definitions of reading speak of them.
+//! Lines at an offset, in the terms of the definitions of reading.
 
 ghost use Rattle.al_scalar.specs.Line as line;
 ghost use Rattle.al_scalar.specs.Places.{lines_at, text_at};
@@ -17,7 +17,7 @@ pub fn is_text_end(bytes: &[u8], at: usize) -> bool
     is_line_end(bytes, at)
 }
 
-/// The start of the next line, and the file's end behind the last line.
+/// The start of the next line; after the last line, the file's end.
 #[tactic(auto, using(crate::proofs::LineLemmas::whole_lines_further))]
 pub fn next_line(bytes: &[u8], at: usize) -> usize
     requires { at ≤ length bytes.now }
@@ -40,7 +40,7 @@ fn is_break(byte: u8) -> bool
     byte == b'\n' || byte == b'\r'
 }
 
-/// Whether no break stands between two offsets.
+/// Whether there is no break between two offsets.
 pub fn is_same_line(bytes: &[u8], from: usize, to: usize) -> bool
     requires order { from ≤ to }
     requires inside { to ≤ length bytes.now }
@@ -56,14 +56,14 @@ pub fn is_same_line(bytes: &[u8], from: usize, to: usize) -> bool
     true
 }
 
-/// Whether a byte goes on with a character that began before it.
+/// Whether a byte continues a character.
 fn is_continuation(byte: u8) -> bool
     ensures { result ≡ (nat_le 128 byte && nat_lt byte 192) }
 {
     byte >= 128 && byte < 192
 }
 
-/// The characters between two offsets of a line.
+/// The number of characters between two offsets of a line.
 pub fn characters(bytes: &[u8], from: usize, to: usize) -> usize
     requires order { from ≤ to }
     requires inside { to ≤ length bytes.now }

@@ -16,8 +16,8 @@ pub struct Part {
     pub next: usize,
 }
 
-/// The same elements in a list without spare room, as most mappings have few entries. They move, so that the room in which
-/// they were read is free for those of the next collection. If memory runs out, they stay in their list.
+/// Moves the elements to a list without spare capacity, since most mappings have few entries. The room in which they were read is then
+/// free for the next collection. If memory runs out, they stay in their list.
 fn fit<T: Drop>(elements: Vec<T>) -> Vec<T>
     ensures { result.items ≡ elements.items }
 {
@@ -30,7 +30,7 @@ fn fit<T: Drop>(elements: Vec<T>) -> Vec<T>
     list
 }
 
-/// A sequence that was read from an offset to another one.
+/// A sequence, read from one offset to another.
 pub fn sequence_part(items: Vec<Node>, start: usize, end: usize, next: usize) -> Part
     requires start { start < 2 ^ 32 }
     requires end { end < 2 ^ 32 }
@@ -50,7 +50,7 @@ pub fn sequence_part(items: Vec<Node>, start: usize, end: usize, next: usize) ->
     }
 }
 
-/// A mapping that was read from an offset to another one.
+/// A mapping, read from one offset to another.
 pub fn mapping_part(entries: Vec<Entry>, start: usize, end: usize, next: usize) -> Part
     requires start { start < 2 ^ 32 }
     requires end { end < 2 ^ 32 }

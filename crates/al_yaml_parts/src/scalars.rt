@@ -46,7 +46,7 @@ pub fn scalar_at(
     }
 }
 
-/// The node that a scalar is, with the offset behind it.
+/// A scalar as a node, with the offset after it.
 pub fn scalar_part(read: ScalarRead, next: usize) -> Part
     ensures node { view result.node ≡ tree.scalar read.scalar read.span }
     ensures end { result.end ≡ read.span.end }
@@ -74,7 +74,7 @@ pub fn empty_part(file: &File, state: &mut State, at: usize, next: usize) -> Res
     Ok(scalar_part(read, next))
 }
 
-/// The start of the line behind a scalar; a block scalar ends with its last line.
+/// The start of the line after a scalar; a block scalar ends with its last line.
 fn line_behind_scalar(bytes: &[u8], at: usize, next: usize) -> Result<usize, FaultAt>
     requires at { at ≤ length bytes.now }
     requires inside { next ≤ length bytes.now }

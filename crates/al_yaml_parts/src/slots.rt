@@ -1,4 +1,4 @@
-//! Where a node in block context stands.
+//! The surroundings of a node in block context.
 
 ghost use Rattle.al_scalar.specs.Places.{lines_at, text_at};
 ghost use Rattle.al_yaml_parts.specs.BlockReads.{IsTabInside, slot_of, spot_of};
@@ -7,7 +7,8 @@ ghost use Rattle.std.specs.Prelude.{length, ◌≡◌, ◌≤◌};
 
 use crate::content::{first_tab, is_dash};
 
-/// Where a node begins: on a line of its own; behind a dash, with the first tab before it; behind a key on its line.
+/// Where a node begins: on its own line; after a dash, with the first tab before it; or after a key on the key's
+/// line.
 #[derive(Clone, Copy)]
 pub enum Spot {
     OwnLine,
@@ -15,15 +16,15 @@ pub enum Spot {
     BehindKey,
 }
 
-/// A place of the file with its column: that of a node's or a collection's first character, or one behind a dash or a colon.
+/// An offset of the file with its column: of the first character of a node or a collection, or after a dash or a colon.
 #[derive(Clone, Copy)]
 pub struct Cursor {
     pub at: usize,
     pub column: usize,
 }
 
-/// What surrounds a node: its spot; the least indent of its further lines; whether it is the value of a mapping's
-/// entry; and the offset at which an empty node would stand in its place.
+/// The surroundings of a node: its spot; the least indent of its further lines; whether it is the value of a
+/// mapping's entry; and the offset of an empty node in its place.
 #[derive(Clone, Copy)]
 pub struct Slot {
     pub spot: Spot,
@@ -32,7 +33,7 @@ pub struct Slot {
     pub empty: usize,
 }
 
-/// The spot behind the blanks at an offset.
+/// The spot after the blanks at an offset.
 pub fn spot_behind(bytes: &[u8], at: usize, spot: Spot) -> Spot
     requires inside { at ≤ length bytes.now }
     requires tab { IsTabInside (length bytes.now) spot }

@@ -21,7 +21,7 @@ struct Cells {
 }
 
 impl Cells {
-    /// Puts a frame into a cell.
+    /// Stores a frame in a cell.
     #[inline(always)]
     fn put(&mut self, index: usize, frame: Frame)
         requires { index < 64 }
@@ -30,7 +30,7 @@ impl Cells {
         self.xs[index] = Some(frame);
     }
 
-    /// Puts something into a cell, and returns what was there.
+    /// Replaces the content of a cell, and returns the old one.
     #[inline(always)]
     fn replace(&mut self, index: usize, cell: Option<Frame>) -> Option<Frame>
         requires { index < 64 }
@@ -65,7 +65,7 @@ impl Model for Frames {
 }
 
 impl Frames {
-    /// No frame.
+    /// No frames.
     fn new() -> Self
         ensures { result ≡ [] }
     {
@@ -77,7 +77,7 @@ impl Frames {
         }
     }
 
-    /// How many there are.
+    /// The number of frames.
     fn len(&self) -> usize
         ensures value { result ≡ length self.now }
         ensures most { result ≤ 64 }
@@ -85,7 +85,7 @@ impl Frames {
         self.len
     }
 
-    /// Puts one more on.
+    /// Pushes a frame.
     #[inline(always)]
     fn push(&mut self, frame: Frame)
         requires { length self.old < 64 }
@@ -96,7 +96,7 @@ impl Frames {
         self.len = len + 1;
     }
 
-    /// Takes the last one off.
+    /// Pops the last frame.
     #[inline(always)]
     fn pop(&mut self) -> Option<Frame>
         ensures popped { MatchOption result (self.old ≡ []) (λ frame. self.old ≡ frame ∷ self.new) }
@@ -111,8 +111,8 @@ impl Frames {
     }
 }
 
-/// What is open while something inside it is read, at most 64 of it: block collections, and flow collections inside
-/// them. The innermost comes off first.
+/// The open collections, at most 64: block collections, and flow collections inside them. The innermost is popped
+/// first.
 #[derive(Drop)]
 pub struct Stack {
     frames: Frames,
@@ -138,7 +138,7 @@ impl Model for Stack {
 }
 
 impl Stack {
-    /// Nothing open.
+    /// No open collection.
     pub fn new() -> Self
         ensures { result ≡ record { flows = []; blocks = [] } }
     {
@@ -147,7 +147,7 @@ impl Stack {
         }
     }
 
-    /// How much is open.
+    /// The number of open collections.
     pub fn len(&self) -> usize
         ensures value { result ≡ length self.now.flows + length self.now.blocks }
         ensures most { result ≤ 64 }
@@ -155,7 +155,7 @@ impl Stack {
         self.frames.len()
     }
 
-    /// The depth of a node inside all that is open, if that is block collections; the root's is 1.
+    /// The depth of a node inside the open collections, if these are block collections; the root's is 1.
     pub fn depth(&self) -> u32
         requires { self.now.flows ≡ [] }
         ensures value { result ≡ depth_in self.now }
@@ -174,7 +174,7 @@ impl Stack {
         self.frames.push(Frame::Block(frame));
     }
 
-    /// Takes the innermost block collection off.
+    /// Pops the innermost block collection.
     pub fn pop_block(&mut self) -> Option<BlockFrame>
         requires { self.old.flows ≡ [] }
         ensures flows { self.new.flows ≡ [] }
@@ -197,7 +197,7 @@ impl Stack {
         self.frames.push(Frame::Flow(frame));
     }
 
-    /// Takes the innermost collection off if it is a flow collection.
+    /// Pops the innermost collection, if it is a flow collection.
     pub fn pop_flow(&mut self) -> Option<FlowFrame>
         ensures flows { MatchOption result ((self.old.flows ≡ []) × (self.new.flows ≡ []))
             (λ frame. self.old.flows ≡ frame ∷ self.new.flows) }

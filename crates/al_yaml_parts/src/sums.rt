@@ -1,4 +1,4 @@
-//! What an alias counts of its node (YAML 1.2.2, 7.1): a loop over the nodes in it, with a stack of its own.
+//! What an alias counts of its node (YAML 1.2.2, 7.1): a loop over the nodes in it, with its own stack.
 
 ghost use Rattle.al_yaml_tree.specs.Limits.{most_counted};
 ghost use Rattle.al_yaml_tree.specs.Reading as reading;
@@ -9,8 +9,7 @@ ghost use Rattle.std.specs.Prelude.{IfOk, map, max, ◌++◌, ◌+◌, ◌≡◌
 use al_yaml_tree::{Entry, Kind, Node};
 use std::alloc::{AllocError, Global};
 
-/// What an alias counts of its node: the nodes in it, the bytes of their texts, and how deep collections stand in it; each
-/// up to the greatest value.
+/// What an alias counts of its node: the nodes in it, the bytes of their texts, and the depth of collections in it. All counts saturate.
 #[derive(Clone, Copy)]
 pub struct Sums {
     pub nodes: u32,
@@ -19,7 +18,7 @@ pub struct Sums {
 }
 
 impl Sums {
-    /// Of no node.
+    /// The counts of no node.
     fn none() -> Sums
         ensures { result ≡ record { nodes = 0; text = 0; levels = 0 } }
     {
@@ -30,7 +29,7 @@ impl Sums {
         }
     }
 
-    /// Of a collection itself, which stands in so many others.
+    /// The counts of a collection itself, which is inside this many others.
     fn of_collection(levels: u32) -> Sums
         ensures nodes { result.nodes ≡ 1 }
         ensures text { result.text ≡ 0 }
@@ -43,7 +42,7 @@ impl Sums {
         }
     }
 
-    /// Of what is counted, and a node behind it.
+    /// The counts with those of one more node.
     fn plus(self, more: Sums) -> Sums
         ensures nodes { result.nodes ≡ most_counted (self.nodes + more.nodes) }
         ensures text { result.text ≡ most_counted (self.text + more.text) }
@@ -57,7 +56,7 @@ impl Sums {
     }
 }
 
-/// A length as a count.
+/// A length as a saturating count.
 fn count_of(len: usize) -> u32
     ensures { result ≡ most_counted len }
 {
@@ -67,14 +66,14 @@ fn count_of(len: usize) -> u32
     4_294_967_295
 }
 
-/// A node that is still to be counted, and in how many of the collections that are counted it stands.
+/// A node that is still to be counted, and how many of the counted collections it is inside.
 #[derive(Clone, Copy)]
 pub struct UncountedNode<'a> {
     pub node: &'a Node,
     pub levels: u32,
 }
 
-/// What an alias counts of a node. It takes time in proportion to the nodes in it, and memory for those that are left.
+/// What an alias counts of a node. Takes time linear in the nodes in it, and memory for those that are left.
 ///
 /// Fails with `AllocError` when out of memory.
 pub fn sums_of(alloc: Global, node: &Node) -> Result<Sums, AllocError>
@@ -89,8 +88,8 @@ pub fn sums_of(alloc: Global, node: &Node) -> Result<Sums, AllocError>
     Ok(sums)
 }
 
-/// Counts a node itself, which stands in so many collections, and leaves those in it to be counted. A node is
-/// shared at most once, as an alias has no anchor of its own (7.1), so no call of this goes further than into one more.
+/// Counts a node itself, which is inside this many collections, and leaves those in it to be counted. A node is
+/// shared at most once, as an alias has no anchor of its own (7.1), so this recurs at most once.
 fn count<'a>(
     node: &'a Node,
     levels: u32,
@@ -158,7 +157,7 @@ fn leave_entries<'a>(
     Ok(())
 }
 
-/// The depth of the deepest collection in a node of so many levels whose own depth is this, up to the greatest value.
+/// The depth of the deepest collection in a node with this depth and this many levels. The count saturates.
 pub fn deepest(depth: u32, levels: u32) -> u32
     ensures { result ≡ most_counted (reading.deepest depth levels) }
 {

@@ -1,4 +1,4 @@
-//! What a node is, asked of it.
+//! Accessors of nodes, which look through sharing.
 
 ghost use Rattle.al_scalar.specs.Scalar.{text_of};
 ghost use Rattle.std.specs.Option.{option_copied};
@@ -33,7 +33,7 @@ impl Node {
         self.unshared().span
     }
 
-    /// The scalar that the node is.
+    /// The scalar, if the node is one.
     #[inline(always)]
     pub fn scalar(&self) -> Option<&Scalar>
         ensures { option_copied result ≡ scalar_in (view self.now) }
@@ -45,7 +45,7 @@ impl Node {
         }
     }
 
-    /// The text of the scalar that the node is, as `read_yaml` gives it: UTF-8.
+    /// The text of the scalar, if the node is one. It must be UTF-8, as in a tree from `read_yaml`.
     pub fn text(&self) -> Option<&str>
         requires { HasTexts (view self.now) }
         ensures { option_map (λ t. t.now) result ≡ option_map text_of (scalar_in (view self.now)) }
@@ -56,7 +56,7 @@ impl Node {
         }
     }
 
-    /// The items of the sequence that the node is.
+    /// The items of the sequence, if the node is one.
     #[inline(always)]
     pub fn sequence(&self) -> Option<&[Node]>
         ensures { option_map (λ v. map view v.now) result ≡ sequence_in (view self.now) }
@@ -68,7 +68,7 @@ impl Node {
         }
     }
 
-    /// The entries of the mapping that the node is.
+    /// The entries of the mapping, if the node is one.
     #[inline(always)]
     pub fn mapping(&self) -> Option<&[Entry]>
         ensures { option_map (λ v. map entry_view v.now) result ≡ mapping_in (view self.now) }

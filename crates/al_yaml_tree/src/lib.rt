@@ -1,4 +1,4 @@
-//! YAML documents: the tree of nodes that a file is, as the definitions give it, and laws over them.
+//! YAML documents: the tree of a file's nodes, and laws of the definitions that read it.
 #![tactic(auto)]
 
 mod access;

@@ -17,8 +17,8 @@ pub struct Node {
     pub span: Span,
 }
 
-/// What a node is, with what stands in it. A node with an anchor is shared by its own place and those of its aliases; what
-/// is shared has the span of the written form.
+/// The kind of a node, with its content. A node with an anchor is shared by its own place and those of its aliases; the shared node has
+/// the span of the written form.
 #[cycle(node)]
 #[derive(Drop)]
 pub enum Kind {
@@ -42,7 +42,7 @@ pub struct Doc {
     pub root: Node,
 }
 
-/// The node that a scalar is.
+/// A scalar node.
 pub fn scalar_node(scalar: Scalar, span: Span) -> Node
     ensures { view result ≡ tree.scalar scalar span }
 {
@@ -52,7 +52,7 @@ pub fn scalar_node(scalar: Scalar, span: Span) -> Node
     }
 }
 
-/// The node that a sequence of these items is.
+/// A sequence node with these items.
 pub fn sequence_node(items: Vec<Node>, span: Span) -> Node
     ensures { view result ≡ tree.sequence (nodes_of (map view items.items)) span }
 {
@@ -62,7 +62,7 @@ pub fn sequence_node(items: Vec<Node>, span: Span) -> Node
     }
 }
 
-/// The node that a mapping of these entries is.
+/// A mapping node with these entries.
 pub fn mapping_node(entries: Vec<Entry>, span: Span) -> Node
     ensures { view result ≡ tree.mapping (entries_of (map entry_view entries.items)) span }
 {
@@ -72,7 +72,7 @@ pub fn mapping_node(entries: Vec<Entry>, span: Span) -> Node
     }
 }
 
-/// A node that is shared. Fails with `AllocError` where it has too many owners.
+/// One more owner of a shared node. Fails with `AllocError` if it has too many.
 pub fn shared_node(node: &Rc<Node>) -> Result<Node, AllocError>
     ensures { IfOk result (λ n. view n ≡ view node.now.value) }
 {
@@ -82,14 +82,14 @@ pub fn shared_node(node: &Rc<Node>) -> Result<Node, AllocError>
     })
 }
 
-/// A node that can be shared. Fails with `AllocError` when out of memory.
+/// A node made sharable. Fails with `AllocError` when out of memory.
 pub fn sharable(alloc: Global, node: Node) -> Result<Rc<Node>, AllocError>
     ensures { IfOk result (λ n. n.value ≡ node) }
 {
     Ok(Rc::new(alloc, node)?)
 }
 
-/// An entry of this key and this value.
+/// An entry with this key and this value.
 pub fn entry_of(key: Node, value: Node) -> Entry
     ensures { entry_view result ≡ (view key, view value) }
 {

@@ -1,4 +1,4 @@
-//! A law over the definitions: where the nodes of a tree and the first fault of a file lie.
+//! A law of the definitions: where the nodes of a tree and the first fault of a file lie.
 
 ghost use Rattle.al_yaml_tree.specs.Document.{HasNoAlias, tree_of};
 ghost use Rattle.al_yaml_tree.specs.Spans.{AreFrom, IsInside, IsLaid, IsPlacedIn};
@@ -6,9 +6,9 @@ ghost use Rattle.al_yaml_tree.specs.Laws.{IsTreeLaid};
 ghost use Rattle.std.specs.Prelude.{◌≤◌, IfOk, List, length, ℕ};
 ghost use Rattle.al_base.specs.Limits.{largest_file};
 
-/// A law over the definitions: whatever the bytes of a file, the nodes of its tree lie in it, those behind an alias at its anchor, with
-/// each byte of each text; and its first fault lies in it. In a file in which no alias is read each node lies in the one around it and
-/// behind those before it. It does nothing when it runs.
+/// A law of the definitions: for any bytes of a file, the nodes of its tree lie in it, those of an alias at its anchor, with each byte of
+/// each text, and so does its first fault. In a file without aliases, each node lies in the one around it, after those before it. Does
+/// nothing at run time.
 pub fn tree_spans()
     ensures tree { (bytes : List ℕ) → IsTreeLaid bytes (tree_of bytes) }
     ensures inside { (bytes : List ℕ) → IfOk (tree_of bytes) (IsInside (length bytes)) }

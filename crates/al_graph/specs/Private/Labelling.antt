@@ -10,7 +10,8 @@ abbrev pub free_one : Option ℕ → ℕ
 free_one None = 1
 free_one (Some l) = 0
 
--- An order of all nodes in which, where an edge leads from a node to an earlier one, all between them lead to the first.
+-- An order of all nodes in which, if an edge leads from a node to an earlier one, every node between the two can
+-- reach the edge's start.
 pub record IsBackward (graph : List (List ℕ)) (order : List ℕ) : Type 0 where
   pub all : (k : ℕ) → k < length graph → Contains order k
   pub inside : (k : ℕ) → Contains order k → k < length graph
