@@ -25,7 +25,7 @@ use Rattle.al_base.specs.declared.codes.RuleCode.TheVariants.{WrongId, RepeatedI
 use Rattle.al_base.specs.declared.codes.RuleCode.TheVariants.{UnknownShell, UnknownPermission, WrongPermission, WrongVariable}
 use Rattle.al_base.specs.declared.codes.RuleCode.TheVariants.{PasswordNotExpression, DeprecatedCommand, AlwaysTrue, UnknownInputType}
 use Rattle.al_base.specs.declared.codes.RuleCode.TheVariants.{UnknownUsing, MissingShell, MissingOutputValue}
-use Rattle.al_base.specs.declared.codes.CallCode.TheVariants.{NoWorkflow, UndefinedInput, MissingInput, WrongInput, UndefinedSecret, MissingSecret, WrongUses, NotCallable, LeadsBack}
+use Rattle.al_base.specs.declared.codes.CallCode.TheVariants.{NoWorkflow, UndefinedInput, MissingInput, WrongInput, UndefinedSecret, MissingSecret, WrongUses, NotCallable, CallCycle}
 use Rattle.al_base.specs.declared.codes.Caller.TheVariants as caller
 use Rattle.al_base.specs.declared.codes.ExpressionCode.TheVariants.{BadCharacter, UnclosedText, UnexpectedToken, EndsEarly, TooLong}
 use Rattle.al_base.specs.declared.codes.ExpressionCode.TheVariants.{TooDeep, UndefinedContext, UnavailableContext, UndefinedFunction}
@@ -109,7 +109,7 @@ code_at kind place = get_or (get_or (
     ∷ UnavailableContext ∷ UndefinedFunction ∷ UnavailableFunction ∷ ArgumentCount ∷ ArgumentType ∷ UndefinedProperty ∷ NotIndexable
     ∷ NotComparable ∷ WrongPlaceholder ∷ UnusedArgument ∷ NotText ∷ Untrusted ∷ UnclosedChunk ∷ []))
     ∷ (C.Key EmptyFile ∷ flat_map (λ a. C.Call a caller.Job ∷ C.Call a caller.Step ∷ []) (NoWorkflow ∷ UndefinedInput ∷ MissingInput
-    ∷ WrongInput ∷ UndefinedSecret ∷ MissingSecret ∷ WrongUses ∷ NotCallable ∷ LeadsBack ∷ []))
+    ∷ WrongInput ∷ UndefinedSecret ∷ MissingSecret ∷ WrongUses ∷ NotCallable ∷ CallCycle ∷ []))
     ∷ []) kind []) (pred place) (C.Key EmptyFile)
 
 code_back : (a : Code) → code_at (kind_place a) (place_in_kind a) ≡ a

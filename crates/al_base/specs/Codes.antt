@@ -14,7 +14,7 @@ use Rattle.al_base.specs.declared.codes.RuleCode.TheVariants.{UnknownShell, Unkn
 use Rattle.al_base.specs.declared.codes.RuleCode.TheVariants.{PasswordNotExpression, DeprecatedCommand, AlwaysTrue, UnknownInputType}
 use Rattle.al_base.specs.declared.codes.RuleCode.TheVariants.{UnknownUsing, MissingShell, MissingOutputValue}
 use Rattle.al_base.specs.declared.codes.CallCode.TheVariants.{NoWorkflow, UndefinedInput, MissingInput, WrongInput, UndefinedSecret}
-use Rattle.al_base.specs.declared.codes.CallCode.TheVariants.{MissingSecret, WrongUses, NotCallable, LeadsBack}
+use Rattle.al_base.specs.declared.codes.CallCode.TheVariants.{MissingSecret, WrongUses, NotCallable, CallCycle}
 use Rattle.al_base.specs.declared.codes.Caller.{Caller}
 use Rattle.al_base.specs.declared.codes.Caller.TheVariants as caller
 use Rattle.al_base.specs.declared.codes.ExpressionCode.TheVariants.{BadCharacter, UnclosedText, UnexpectedToken, EndsEarly, TooLong}
@@ -134,4 +134,4 @@ code_row (C.Call UndefinedSecret by) = row_of_call by 5 "secret \"" "\" is not d
 code_row (C.Call MissingSecret by) = row_of_call by 6 "required secret \"" "\" of \"" "\" is missing"
 code_row (C.Call WrongUses by) = row_of_call by 7 "\"" "\" is not a valid uses" ""
 code_row (C.Call NotCallable by) = row_of_call by 8 "\"" "\" cannot be called here" ""
-code_row (C.Call LeadsBack by) = row_of_call by 9 "call of \"" "\" leads back to this file" ""
+code_row (C.Call CallCycle by) = row_of_call by 9 "call of \"" "\" leads back to this file" ""

@@ -174,7 +174,7 @@ pub enum CallCode {
     /// C8: a file that cannot be called there.
     NotCallable,
     /// C9: a call on a call cycle.
-    LeadsBack,
+    CallCycle,
 }
 
 /// Who calls. Between faults that are otherwise equal, a job's comes before a step's.

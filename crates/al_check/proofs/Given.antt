@@ -9,7 +9,7 @@ use Rattle.std.proofs.lemmas.List.{length-map}
 use Rattle.std.proofs.lemmas.List.Elements.{All-contains, All-from_recursion}
 use Rattle.std.proofs.lemmas.Option.{slice_get-get_or, slice_get-map}
 use Rattle.al_base.proofs.Sets.{mapped_in}
-use Rattle.al_base.specs.declared.codes.CallCode.TheVariants.{LeadsBack}
+use Rattle.al_base.specs.declared.codes.CallCode.TheVariants.{CallCycle}
 use Rattle.al_base.specs.declared.faults.Fault.{Fault}
 use Rattle.al_scalar.specs.declared.faults.FaultAt.{FaultAt}
 use Rattle.al_scalar.specs.declared.faults.YamlFault.{YamlFault}
@@ -114,7 +114,7 @@ loops_named : (cs : List uses.Call) → AllByRecursion IsNamed (cycle_faults cs)
 loops_named [] = tt
 loops_named (c ∷ cs) = put (target_in c.form) (loops_named cs)
   where
-    put : (o : Option Target) → AllByRecursion IsNamed (cycle_faults cs) → AllByRecursion IsNamed (cons_option (option_map (λ t. that_uses LeadsBack c) o) (cycle_faults cs))
+    put : (o : Option Target) → AllByRecursion IsNamed (cycle_faults cs) → AllByRecursion IsNamed (cons_option (option_map (λ t. that_uses CallCycle c) o) (cycle_faults cs))
     put None rest = rest
     put (Some t) rest = (record { text = utf8_lossy c.text; is = refl }, rest)
 

@@ -5,7 +5,7 @@ use Rattle.std.specs.Prelude.{IfSome, slice_get, slice_index_or}
 use Rattle.std.specs.List.{AllByRecursion, cons_option, filter_map}
 use Rattle.std.specs.Option.{option_map_or}
 use Rattle.al_base.proofs.Elements.{each_cons}
-use Rattle.al_base.specs.declared.codes.CallCode.TheVariants.{LeadsBack}
+use Rattle.al_base.specs.declared.codes.CallCode.TheVariants.{CallCycle}
 use Rattle.al_session_folder.specs.declared.lint.Target.{Target}
 use Rattle.al_yaml_tree.specs.Node.{Node}
 use Rattle.al_tree.specs.declared.files.FileKind.{FileKind}
@@ -48,7 +48,7 @@ of_kept [] answers = refl
 of_kept (c ∷ cs) answers = by (target_in c.form) (of_kept cs)
   where
     by : (o : Option Target) → ((answers : List (Option Interface)) → answered_of_kept (filter_map as_folder_call cs) answers ≡ calls_with_answers cs answers) →
-        answered_of_kept (cons_option (option_map (λ t. (Some c, t, that_uses LeadsBack c)) o) (filter_map as_folder_call cs)) answers
+        answered_of_kept (cons_option (option_map (λ t. (Some c, t, that_uses CallCycle c)) o) (filter_map as_folder_call cs)) answers
         ≡ cons_option (option_map (λ t. with_answer answers c) o) (calls_with_answers cs (option_map_or (λ t. drop 1 answers) o answers))
     by None rest = rest answers
     by (Some t) rest = ap (λ l. with_answer answers c ∷ l) (rest (drop 1 answers))

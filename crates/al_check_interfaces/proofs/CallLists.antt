@@ -27,11 +27,11 @@ at_number v xs i x room is = slice_get-map v xs i ∙ ap (option_map v) (slice_g
 
 -- a call that is kept
 pub local_added : (c : Call) (t : Target) (number : ℕ) (fault : Fault) (all : List Call) (old new : List code_calls.FolderCall) → c.form ≡ Local t → slice_get all number ≡ Some c →
-    fault ≡ that_uses code.LeadsBack c → new ≡ old ++ record { number = number; target = t; fault = fault } ∷ [] →
+    fault ≡ that_uses code.CallCycle c → new ≡ old ++ record { number = number; target = t; fault = fault } ∷ [] →
     map (folder_call all) new ≡ map (folder_call all) old ++ cons_option (as_folder_call c) []
 local_added c t number fault all old new form at said more =
     ap (map (folder_call all)) more ∙ map-append (folder_call all) old (record { number = number; target = t; fault = fault } ∷ []) ∙ (λ i. map (folder_call all) old ++ (at i, t, said i) ∷ [])
-    ∙ ap (λ f. map (folder_call all) old ++ cons_option (option_map (λ x. (Some c, x, that_uses code.LeadsBack c)) (target_in f)) []) (sym form)
+    ∙ ap (λ f. map (folder_call all) old ++ cons_option (option_map (λ x. (Some c, x, that_uses code.CallCycle c)) (target_in f)) []) (sym form)
 
 -- what kept calls call, and what is said of them
 of_kept : {X : Type 0} (f : FolderCall → X) (g : Call → Option X) → ((c : Call) → option_map f (as_folder_call c) ≡ g c) → (cs : List Call) → map f (filter_map as_folder_call cs) ≡ filter_map g cs
@@ -50,16 +50,16 @@ module _ (cs : List Call) (calls : List code_calls.FolderCall) (are : map (folde
   pub kept_targets : map (λ c. c.target) calls ≡ targets_of cs
   kept_targets = sym (map_seen (λ k. k.1) cs calls) ∙ ap (map (λ k. k.1)) are ∙ of_kept (λ k. k.1) (λ c. target_in c.form) (λ c. by (target_in c.form) c) cs
     where
-      by : (o : Option Target) (c : Call) → option_map (λ (k : FolderCall). k.1) (option_map (λ t. (Some c, t, that_uses code.LeadsBack c)) o) ≡ o
+      by : (o : Option Target) (c : Call) → option_map (λ (k : FolderCall). k.1) (option_map (λ t. (Some c, t, that_uses code.CallCycle c)) o) ≡ o
       by None c = refl
       by (Some t) c = refl
 
   pub kept_faults : map (λ c. c.fault) calls ≡ cycle_faults cs
   kept_faults =
       sym (map_seen (λ k. k.2) cs calls) ∙ ap (map (λ k. k.2)) are
-      ∙ of_kept (λ k. k.2) (λ c. option_map (λ t. that_uses code.LeadsBack c) (target_in c.form)) (λ c. by (target_in c.form) c) cs
+      ∙ of_kept (λ k. k.2) (λ c. option_map (λ t. that_uses code.CallCycle c) (target_in c.form)) (λ c. by (target_in c.form) c) cs
     where
-      by : (o : Option Target) (c : Call) → option_map (λ (k : FolderCall). k.2) (option_map (λ t. (Some c, t, that_uses code.LeadsBack c)) o)
-          ≡ option_map (λ t. that_uses code.LeadsBack c) o
+      by : (o : Option Target) (c : Call) → option_map (λ (k : FolderCall). k.2) (option_map (λ t. (Some c, t, that_uses code.CallCycle c)) o)
+          ≡ option_map (λ t. that_uses code.CallCycle c) o
       by None c = refl
       by (Some t) c = refl

@@ -18,7 +18,7 @@ abbrev pub folder_call : List Call → code_calls.FolderCall → FolderCall
 folder_call calls k = (slice_get calls k.number, k.target, k.fault)
 
 abbrev pub as_folder_call : Call → Option FolderCall
-as_folder_call c = option_map (λ t. (Some c, t, that_uses code.LeadsBack c)) (target_in c.form)
+as_folder_call c = option_map (λ t. (Some c, t, that_uses code.CallCycle c)) (target_in c.form)
 
 -- these are the calls of files in the folder that a file makes, in order
 abbrev pub AreCallsOf : FileKind → Node → List code_calls.FolderCall → Type 0

@@ -83,4 +83,4 @@ targets_of = filter_map (λ c. target_in c.form)
 
 -- C9 of each such call, to be reported if the call is on a call cycle
 abbrev pub cycle_faults : List Call → List Fault
-cycle_faults = filter_map (λ c. option_map (λ t. that_uses code.LeadsBack c) (target_in c.form))
+cycle_faults = filter_map (λ c. option_map (λ t. that_uses code.CallCycle c) (target_in c.form))

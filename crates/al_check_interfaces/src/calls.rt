@@ -59,7 +59,7 @@ fn add_call(
     let alloc = faults.alloc();
     match form(alloc, caller_of(call.site), call.uses.scalar.text())? {
         Form::Local(target) => {
-            let fault = that_uses(alloc, CallCode::LeadsBack, call)?;
+            let fault = that_uses(alloc, CallCode::CallCycle, call)?;
             kept.push(FolderCall {
                 number,
                 target,

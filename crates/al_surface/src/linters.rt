@@ -81,7 +81,7 @@ fn lints(alloc: Global) -> Result<bool, AllocError> {
 
 /// Whether a call is that of a file that calls itself, on its fifth line.
 fn is_own_call(site: &Site<'_>) -> bool {
-    site.code == Code::Call(CallCode::LeadsBack, Caller::Job)
+    site.code == Code::Call(CallCode::CallCycle, Caller::Job)
         && site.span == Span { start: 42, end: 67 }
         && site.text == "./.github/workflows/r.yml"
 }

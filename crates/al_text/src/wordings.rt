@@ -187,7 +187,7 @@ fn call_row(fault: CallCode, caller: Caller) -> CodeRow
         CallCode::MissingSecret => row(kind, "required secret \"", "\" of \"", "\" is missing"),
         CallCode::WrongUses => row(kind, "\"", "\" is not a valid uses", ""),
         CallCode::NotCallable => row(kind, "\"", "\" cannot be called here", ""),
-        CallCode::LeadsBack => row(kind, "call of \"", "\" leads back to this file", ""),
+        CallCode::CallCycle => row(kind, "call of \"", "\" leads back to this file", ""),
     }
 }
 

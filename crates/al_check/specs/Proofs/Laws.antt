@@ -22,7 +22,7 @@ use Rattle.al_yaml_tree.proofs.LaidRoot.{tree-from, tree-inside, tree-laid, tree
 use Rattle.al_yaml_tree.specs.Laws.{IsTreeLaid}
 use Rattle.al_check_expressions.proofs.Inside.{expression_faults_lie}
 use Rattle.al_check_expressions.specs.FileExpressions.{expression_faults}
-use Rattle.al_base.specs.declared.codes.CallCode.TheVariants.{LeadsBack}
+use Rattle.al_base.specs.declared.codes.CallCode.TheVariants.{CallCycle}
 use Rattle.al_check_interfaces.specs.Uses.{Call, calls_in, cycle_faults, target_in, targets_of, that_uses}
 use Rattle.al_check_interfaces.proofs.Inside.{calls_lie, wrong_uses_lie}
 use Rattle.al_session_folder.specs.declared.lint.Target.{Target}
@@ -121,7 +121,7 @@ sited_calls [] = refl
 sited_calls (c ∷ cs) = put (target_in c.form) (sited_calls cs)
   where
     put : (o : Option Target) → length (cycle_faults cs) ≡ length (targets_of cs) →
-        length (cons_option (option_map (λ t. that_uses LeadsBack c) o) (cycle_faults cs)) ≡ length (cons_option o (targets_of cs))
+        length (cons_option (option_map (λ t. that_uses CallCycle c) o) (cycle_faults cs)) ≡ length (cons_option o (targets_of cs))
     put None h = h
     put (Some t) h = ap suc h
 
@@ -141,7 +141,7 @@ loops_lie size [] h = tt
 loops_lie size (c ∷ cs) h = put (target_in c.form) (loops_lie size cs h.1)
   where
     put : (o : Option Target) → AllLie size (cycle_faults cs) →
-        AllLie size (cons_option (option_map (λ t. that_uses LeadsBack c) o) (cycle_faults cs))
+        AllLie size (cons_option (option_map (λ t. that_uses CallCycle c) o) (cycle_faults cs))
     put None rest = rest
     put (Some t) rest = (h.0.0, rest)
 
