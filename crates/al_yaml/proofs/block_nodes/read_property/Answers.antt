@@ -25,9 +25,11 @@ returns-then-has_no_name-clause-is c = λ bound. no-anchor bound c.args.node.anc
 
 pub returns-then-on_key-clause-is : goal.returns-then-on_key-clause-is
 unfolding block_node block_property
-returns-then-on_key-clause-is c = λ bound. no-anchor bound c.args.node.anchor _ _ _ _ _ _ c.if-is_some.ensures
-    ∙ rw (c.requires.property, ← c.if-has_no_name.ensures, sym c.in_ok-on_key.ensures ∙ c.if-on_key.true,
-    start-at c.args.file.now.bytes.now c.args.node.start.at c.requires.node.inside) (run-fails _ _ _)
+returns-then-on_key-clause-is c = λ bound.
+    let here = start-at c.args.file.now.bytes.now c.args.node.start.at c.requires.node.inside in
+    let on_key = sym c.in_ok-on_key.ensures ∙ c.if-on_key.true in
+    no-anchor bound c.args.node.anchor _ _ _ _ _ _ c.if-is_some.ensures
+    ∙ rw (c.requires.property, ← c.if-has_no_name.ensures, on_key, here) (run-fails _ _ _)
 
 pub returns-in_err-part-clause-is : goal.returns-in_err-part-clause-is
 unfolding block_node block_property
@@ -57,8 +59,9 @@ returns-then-begins-clause-is c = λ bound. no-anchor bound c.args.node.anchor _
 pub returns-clause-is : goal.returns-clause-is
 unfolding block_node block_property
 returns-clause-is c = λ bound.
+    let here = start-at c.args.file.now.bytes.now c.args.node.start.at c.requires.node.inside in
+    let free = sym c.in_ok-on_key.ensures ∙ c.if-on_key.false in
     property-begins c.args.file.now.bytes.now bound (depth_in c.args.progress.now.stack) c.args.node.start.at (state_of c.args.progress.now.state)
     (state_of c.find_rest.new.state) _ _ c.find_rest.result (no-anchor bound c.args.node.anchor _ _ _ _ _ _ c.if-is_some.ensures
-    ∙ rw (c.requires.property, ← c.if-has_no_name.ensures, sym c.in_ok-on_key.ensures ∙ c.if-on_key.false, ← c.if-begins.ensures.value,
-    start-at c.args.file.now.bytes.now c.args.node.start.at c.requires.node.inside, c.property_end-rest.ensures.lines) refl)
+    ∙ rw (c.requires.property, ← c.if-has_no_name.ensures, free, ← c.if-begins.ensures.value, here, c.property_end-rest.ensures.lines) refl)
     (c.find_rest.ensures.is (block_content (block_node bound) (flow_collection (suc bound)) (suc bound)) (depth_in c.args.progress.now.stack))

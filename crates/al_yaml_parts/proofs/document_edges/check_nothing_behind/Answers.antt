@@ -12,5 +12,6 @@ returns-then-line-bytes-clause-is c =
 pub returns-clause-is : goal.returns-clause-is
 returns-clause-is c =
     let text = c.next_text_line-line.ensures.text (omega (arith, c.next_text_line-line.ensures.inside, c.if-line-bytes.false)) in
-    rw (c.next_text_line-line.ensures.lines, ← skipped-solid (text_at c.args.bytes.now c.next_text_line-line.result) text, c.blanks_end.ensures.dropped,
-    start-at c.args.bytes.now c.blanks_end.result c.blanks_end.ensures.inside) refl
+    let solid = skipped-solid (text_at c.args.bytes.now c.next_text_line-line.result) text in
+    let here = start-at c.args.bytes.now c.blanks_end.result c.blanks_end.ensures.inside in
+    rw (c.next_text_line-line.ensures.lines, ← solid, c.blanks_end.ensures.dropped, here) refl

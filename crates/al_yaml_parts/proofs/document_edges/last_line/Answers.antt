@@ -7,10 +7,10 @@ returns-then-is_marker-clause-is c = rw (← c.if-is_marker.ensures, start-at c.
 
 pub returns-then-begins-clause-is : goal.returns-then-begins-clause-is
 returns-then-begins-clause-is c =
-    rw (← c.if-is_marker.ensures, ← c.in_default.ensures, c.indent.ensures.dropped, ← c.if-begins.ensures.value,
-    start-at c.args.bytes.now (c.args.at + c.indent.result) c.indent.ensures.inside) refl
+    let here = start-at c.args.bytes.now (c.args.at + c.indent.result) c.indent.ensures.inside in
+    rw (← c.if-is_marker.ensures, ← c.in_default.ensures, c.indent.ensures.dropped, ← c.if-begins.ensures.value, here) refl
 
 pub returns-clause-is : goal.returns-clause-is
 returns-clause-is c =
-    rw (← c.if-is_marker.ensures, ← c.in_default.ensures, c.indent.ensures.dropped, ← c.if-begins.ensures.value,
-    start-at c.args.bytes.now (c.args.at + c.indent.result) c.indent.ensures.inside) refl
+    let here = start-at c.args.bytes.now (c.args.at + c.indent.result) c.indent.ensures.inside in
+    rw (← c.if-is_marker.ensures, ← c.in_default.ensures, c.indent.ensures.dropped, ← c.if-begins.ensures.value, here) refl

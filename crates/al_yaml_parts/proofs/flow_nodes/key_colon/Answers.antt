@@ -9,5 +9,5 @@ returns-then-not-is_simple_key-clause-is c = rw (← c.if-not-is_simple_key.ensu
 
 pub returns-then-is_late_colon-clause-is : goal.returns-then-is_late_colon-clause-is
 returns-then-is_late_colon-clause-is c =
-    rw (← c.if-not-is_simple_key.ensures, ap (λ b. behind_colon_in_flow b (lines_at c.args.bytes.now c.args.read.now.next)) (sym c.is_quote.ensures) ∙ c.in_default.ensures,
-    ← c.if-is_late_colon.ensures, start-at c.args.bytes.now c.args.at c.requires.at) refl
+    let none = ap (λ b. behind_colon_in_flow b (lines_at c.args.bytes.now c.args.read.now.next)) (sym c.is_quote.ensures) ∙ c.in_default.ensures in
+    rw (← c.if-not-is_simple_key.ensures, none, ← c.if-is_late_colon.ensures, start-at c.args.bytes.now c.args.at c.requires.at) refl

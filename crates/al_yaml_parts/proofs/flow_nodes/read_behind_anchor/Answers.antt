@@ -35,14 +35,14 @@ returns-then-ends_value-clause-within c =
 pub returns-in-Some-flow_fault-clause-is : goal.returns-in-Some-flow_fault-clause-is
 unfolding flow_content
 returns-in-Some-flow_fault-clause-is c = λ depth col.
-    rw (← c.if-is_text_end.ensures.text, ← c.if-ends_value.ensures, ← c.in-Some-flow_fault.ensures,
-    start-at c.args.file.now.bytes.now c.args.at c.requires.inside) (run-fails _ _ _)
+    let here = start-at c.args.file.now.bytes.now c.args.at c.requires.inside in
+    rw (← c.if-is_text_end.ensures.text, ← c.if-ends_value.ensures, ← c.in-Some-flow_fault.ensures, here) (run-fails _ _ _)
 
 pub returns-then-is_property-clause-is : goal.returns-then-is_property-clause-is
 unfolding flow_content
 returns-then-is_property-clause-is c = λ depth col.
-    rw (← c.if-is_text_end.ensures.text, ← c.if-ends_value.ensures, ← c.in_default-flow_fault.ensures, ← c.if-is_property.ensures,
-    start-at c.args.file.now.bytes.now c.args.at c.requires.inside) (run-fails _ _ _)
+    let here = start-at c.args.file.now.bytes.now c.args.at c.requires.inside in
+    rw (← c.if-is_text_end.ensures.text, ← c.if-ends_value.ensures, ← c.in_default-flow_fault.ensures, ← c.if-is_property.ensures, here) (run-fails _ _ _)
 
 pub returns-clause-is : goal.returns-clause-is
 returns-clause-is c = λ depth.

@@ -23,16 +23,16 @@ returns-in-Some-clause-is c = λ depth slot col. rw (← c.in-Some.ensures, star
 pub returns-in_err-start-clause-is : goal.returns-in_err-start-clause-is
 unfolding flow_content
 returns-in_err-start-clause-is c = λ depth slot.
+    let here = start-at c.args.file.now.bytes.now c.args.at c.requires.inside in
     let p = err_from_is_err_and c.from_residual.result c.from_residual.ensures.1 in
-    rw (p.1, p.2) (λ col. rw (← c.in_default.ensures, ← c.requires.plain, ← c.if-is_flow_start.ensures.value,
-    start-at c.args.file.now.bytes.now c.args.at c.requires.inside) (run-broken _ _ _ _ _ _ c.in_err-start.ensures.limits))
+    rw (p.1, p.2) (λ col. rw (← c.in_default.ensures, ← c.requires.plain, ← c.if-is_flow_start.ensures.value, here) (run-broken _ _ _ _ _ _ c.in_err-start.ensures.limits))
 
 pub returns-in_err-read-clause-is : goal.returns-in_err-read-clause-is
 unfolding flow_content
 returns-in_err-read-clause-is c = λ depth slot.
+    let here = start-at c.args.file.now.bytes.now c.args.at c.requires.inside in
     let p = err_from_is_err_and c.from_residual-in_err-read.result c.from_residual-in_err-read.ensures.1 in
-    rw (p.1, p.2) (λ col. rw (← c.in_default.ensures, ← c.requires.plain, ← c.if-is_flow_start.ensures.value,
-    start-at c.args.file.now.bytes.now c.args.at c.requires.inside)
+    rw (p.1, p.2) (λ col. rw (← c.in_default.ensures, ← c.requires.plain, ← c.if-is_flow_start.ensures.value, here)
     (scalar-stops (scalar_at flow (lines_at c.args.file.now.bytes.now c.args.at)) (state_of c.args.state.now) (state_of c.start.new.self)
     c.args.at c.in_ok-start.ensures.limits c.in_ok-start.ensures.state c.in_err-read.field-0.0 c.in_err-read.ensures.is))
 

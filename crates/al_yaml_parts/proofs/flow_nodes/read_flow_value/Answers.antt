@@ -22,20 +22,21 @@ pub returns-in_err-part-2-clause-is : goal.returns-in_err-part-2-clause-is
 unfolding flow_entry_value
 returns-in_err-part-2-clause-is c =
     let inside = rw c.in-Some.is at c.requires.inside.colon in
+    let here = start-at c.args.file.now.bytes.now c.in-Some.colon inside.1 in
     let p = err_from_is_err_and c.from_residual-in_err-part-2.result c.from_residual-in_err-part-2.ensures.1 in
-    rw (p.1, p.2) (λ col. rw (c.in-Some.is, c.gap_end-at.ensures.lines, start-at c.args.file.now.bytes.now c.in-Some.colon inside.1,
-    ← c.if-is_text_end.ensures.text, ← c.if-ends_value.ensures) c.in_err-part-2.ensures.is)
+    rw (p.1, p.2) (λ col. rw (c.in-Some.is, c.gap_end-at.ensures.lines, here, ← c.if-is_text_end.ensures.text, ← c.if-ends_value.ensures)
+    c.in_err-part-2.ensures.is)
 
 pub returns-then-ends_value-clause-is : goal.returns-then-ends_value-clause-is
 unfolding flow_entry_value
 returns-then-ends_value-clause-is c = λ col.
     let inside = rw c.in-Some.is at c.requires.inside.colon in
-    rw (c.in-Some.is, c.gap_end-at.ensures.lines, start-at c.args.file.now.bytes.now c.in-Some.colon inside.1, ← c.if-is_text_end.ensures.text,
-    ← c.if-ends_value.ensures) c.in_ok-part-2.ensures.is
+    let here = start-at c.args.file.now.bytes.now c.in-Some.colon inside.1 in
+    rw (c.in-Some.is, c.gap_end-at.ensures.lines, here, ← c.if-is_text_end.ensures.text, ← c.if-ends_value.ensures) c.in_ok-part-2.ensures.is
 
 pub returns-clause-is : goal.returns-clause-is
 unfolding flow_entry_value
 returns-clause-is c =
     let inside = rw c.in-Some.is at c.requires.inside.colon in
-    rw (c.in-Some.is, c.gap_end-at.ensures.lines, start-at c.args.file.now.bytes.now c.in-Some.colon inside.1, ← c.if-is_text_end.ensures.text,
-    ← c.if-ends_value.ensures) c.read_flow_node.ensures.is
+    let here = start-at c.args.file.now.bytes.now c.in-Some.colon inside.1 in
+    rw (c.in-Some.is, c.gap_end-at.ensures.lines, here, ← c.if-is_text_end.ensures.text, ← c.if-ends_value.ensures) c.read_flow_node.ensures.is
