@@ -9,16 +9,13 @@ use Rattle.std.proofs.lemmas.List.{get_or_past}
 use Rattle.std.proofs.lemmas.List.Folds.{Any-from_list_any, list_any-from_Any}
 use Rattle.al_graph.specs.Graphs.{Edge, Walk, here, onward}
 use Rattle.al_graph.specs.Within.{leads, leads_within}
+use Rattle.al_graph.proofs.Orders.{both_walks}
 
 any_also : (p q : ℕ → Bool) (xs : List ℕ) → ((x : ℕ) → p x ≡ true → q x ≡ true) → list_any p xs ≡ true → list_any q xs ≡ true
 any_also p q [] f e = e
 any_also p q (x ∷ xs) f e = let here = f x in let rest = any_also p q xs f in grind (arith, nat_tests, here, rest)
 
 module _ (g : List (List ℕ)) where
-  first_step : (j i : ℕ) {k : ℕ} → Edge g j i → Walk g i k → Walk g j k
-  first_step j i e here = onward j i here e
-  first_step j i e (onward a b w f) = onward a b (first_step j i e w) f
-
   no_step : (j k : ℕ) → nat_eq j k ≡ true → Walk g j k
   no_step j k e = subst (λ x. Walk g j x) (eqb-true j k e) here
 
@@ -28,7 +25,7 @@ module _ (g : List (List ℕ)) where
     | inl h ↦ no_step j k h
     | inr h ↦
         let a = Any-from_list_any (λ i. leads_within n g i k) (slice_index_or g j []) h in
-        first_step j a.1 (a.0, a.2, a.3) (walk_of n a.1 k a.4)
+        both_walks g j a.1 k (onward j a.1 here (a.0, a.2, a.3)) (walk_of n a.1 k a.4)
   ]
 
   module _ (k : ℕ) where

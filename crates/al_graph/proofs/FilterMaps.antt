@@ -1,7 +1,9 @@
 -- What a list holds of which some elements give a number.
-use Rattle.std.proofs.Common.{◌≡◌, ℕ, zero, suc, ◌<◌, List, [], ◌∷◌, length, get_or, Option, Some, None, sym, ◌∙◌, ap, subst, refl, arith}
+use Rattle.std.proofs.Common.{◌≡◌, ℕ, zero, suc, ◌<◌, List, [], ◌∷◌, length, get_or, Option, Some, None, sym, ◌∙◌, ap, subst, refl, arith, ⊎_elim}
 use Rattle.std.specs.Prelude.{Contains}
 use Rattle.std.specs.List.{AllByRecursion, cons_option, filter_map}
+use Rattle.std.proofs.lemmas.List.Elements.{Contains-append_right, Contains-append_cases}
+use Rattle.al_graph.proofs.Lists.{none_in, one_is}
 
 module _ {X : Type 0} (h : X → Option ℕ) where
   pub put_first : (o : Option ℕ) (k : ℕ) (rest : List ℕ) → o ≡ Some k → Contains (cons_option o rest) k
@@ -9,7 +11,7 @@ module _ {X : Type 0} (h : X → Option ℕ) where
 
   pub put_behind : (o : Option ℕ) (k : ℕ) (rest : List ℕ) → Contains rest k → Contains (cons_option o rest) k
   put_behind None k rest c = c
-  put_behind (Some n) k rest c = let lt = c.1 in (suc c.0, omega (arith, lt), c.2)
+  put_behind (Some n) k rest c = Contains-append_right (n ∷ []) rest k c
 
   pub in_filter_map : (xs : List X) (at : ℕ) (x : X) (k : ℕ) → at < length xs → x ≡ get_or xs at x → h x ≡ Some k → Contains (filter_map h xs) k
   in_filter_map [] at x k lt is e = absurd (omega arith)
@@ -18,17 +20,13 @@ module _ {X : Type 0} (h : X → Option ℕ) where
 
   took : (P : ℕ → Type 0) (o : Option ℕ) (k : ℕ) (rest : List ℕ) → ((n : ℕ) → o ≡ Some n → P n) → (Contains rest k → P k) → Contains (cons_option o rest) k → P k
   took P None k rest f g c = g c
-  took P (Some n) k rest f g c = by c.0 c.1 c.2
-    where
-      by : (i : ℕ) → i < length (n ∷ rest) → get_or (n ∷ rest) i k ≡ k → P k
-      by zero lt e = subst P e (f n refl)
-      by (suc i) lt e = g (i, omega (arith, lt), e)
+  took P (Some n) k rest f g c = ⊎_elim (λ one. subst P (one_is n k one) (f n refl)) g (Contains-append_cases (n ∷ []) rest k c)
 
   pub all_in_filter_map : (P : ℕ → Type 0) → ((x : X) (k : ℕ) → h x ≡ Some k → P k) → (xs : List X) (k : ℕ) → Contains (filter_map h xs) k → P k
-  all_in_filter_map P f [] k c = absurd (let below : c.0 < 0 = c.1 in omega (arith, below))
+  all_in_filter_map P f [] k c = absurd (none_in k c)
   all_in_filter_map P f (x ∷ xs) k c = took P (h x) k (filter_map h xs) (f x) (all_in_filter_map P f xs k) c
 
   -- what holds of each number that an element of the list gives
   pub each_in_filter_map : (P : ℕ → Type 0) (xs : List X) → AllByRecursion (λ x. (k : ℕ) → h x ≡ Some k → P k) xs → (k : ℕ) → Contains (filter_map h xs) k → P k
-  each_in_filter_map P [] all k c = absurd (let below : c.0 < 0 = c.1 in omega (arith, below))
+  each_in_filter_map P [] all k c = absurd (none_in k c)
   each_in_filter_map P (x ∷ xs) all k c = took P (h x) k (filter_map h xs) all.0 (each_in_filter_map P xs all.1 k) c

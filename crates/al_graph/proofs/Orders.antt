@@ -1,11 +1,13 @@
 -- Orders of nodes, and one node more behind them.
-use Rattle.std.proofs.Common.{◌≡◌, ℕ, zero, suc, ◌+◌, ◌<◌, List, [], ◌∷◌, ◌++◌, length, get_or, refl, subst, ap, ◌∙◌, arith, ◌⊎◌, length-append}
+use Rattle.std.proofs.Common.{◌≡◌, ℕ, zero, suc, ◌+◌, ◌<◌, List, [], ◌∷◌, ◌++◌, length, get_or, refl, subst, ap, ◌∙◌, arith, ◌⊎◌, ⊎_elim, length-append}
 use Rattle.std.specs.List.{AllByRecursion}
 use Rattle.std.specs.Prelude.{Contains}
 use Rattle.std.proofs.lemmas.List.{get_or_append_left}
+use Rattle.std.proofs.lemmas.List.Elements.{Contains-append_cases}
 use Rattle.std.proofs.Math.Seq.{get_or-append_seam}
 use Rattle.al_graph.specs.Graphs.{Walk, here, onward}
 use Rattle.al_graph.specs.Private.Finishing.{Chain, node_at}
+use Rattle.al_graph.proofs.Lists.{none_in, one_is}
 
 -- walks one behind the other
 pub both_walks : (graph : List (List ℕ)) (i j k : ℕ) → Walk graph i j → Walk graph j k → Walk graph i k
@@ -60,9 +62,5 @@ module _ (graph : List (List ℕ)) where
   chain_more (x ∷ xs) y h w = (all_more (Walk graph x) xs y h.0 w.0, chain_more xs y h.1 w.1)
 
 pub all_at : (P : ℕ → Type 0) (xs : List ℕ) (k : ℕ) → AllByRecursion P xs → Contains xs k → P k
-all_at P xs k h c = by xs h c.0 c.1 c.2
-  where
-    by : (ys : List ℕ) → AllByRecursion P ys → (i : ℕ) → i < length ys → get_or ys i k ≡ k → P k
-    by [] h i lt e = absurd (omega arith)
-    by (y ∷ ys) h zero lt e = subst P e h.0
-    by (y ∷ ys) h (suc i) lt e = by ys h.1 i (omega arith) e
+all_at P [] k h c = absurd (none_in k c)
+all_at P (x ∷ xs) k h c = ⊎_elim (λ one. subst P (one_is x k one) h.0) (λ r. all_at P xs k h.1 r) (Contains-append_cases (x ∷ []) xs k c)

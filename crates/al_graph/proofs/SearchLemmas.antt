@@ -89,11 +89,7 @@ module _ (graph : List (List ℕ)) where
 
   -- nodes that stand in a list of one more
   in_rest : (next k : ℕ) (rest : List ℕ) → Contains (next ∷ rest) k → (next ≡ k) ⊎ Contains rest k
-  in_rest next k rest c = by c.0 c.1 c.2
-    where
-      by : (i : ℕ) → i < length (next ∷ rest) → get_or (next ∷ rest) i k ≡ k → (next ≡ k) ⊎ Contains rest k
-      by zero lt e = inl e
-      by (suc i) lt e = inr (i, omega (arith, lt), e)
+  in_rest next k rest c = ⊎_elim (λ one. inl (one_is next k one)) (λ r. inr r) (Contains-append_cases (next ∷ []) rest k c)
 
   later : (next k : ℕ) (rest : List ℕ) → Contains rest k → Contains (next ∷ rest) k
   later next k rest c = let lt = c.1 in (suc c.0, omega (arith, lt), c.2)

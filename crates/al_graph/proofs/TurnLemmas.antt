@@ -9,6 +9,7 @@ use Rattle.std.proofs.lemmas.Bool.{cases_eq, cases_lt}
 use Rattle.al_graph.specs.Graphs.{AddsEdges, Edge, IsTranspose, Walk, edges_of, here, onward}
 use Rattle.al_graph.proofs.Lists.{is_one, none_in, one_is, written}
 use Rattle.al_graph.proofs.Edges.{edges_at}
+use Rattle.al_graph.proofs.Orders.{both_walks}
 
 abbrev no_edges : List ℕ
 no_edges = []
@@ -91,11 +92,7 @@ turned_end graph other i e t =
     let len : length (edges_of graph) ≡ length graph = length-map graph _ in
     turned_all (edges_of graph) other (rw (len, sym e) t)
 
--- a walk the other way round, and an edge before it
-pub before : (graph : List (List ℕ)) (i j k : ℕ) → Edge graph i j → Walk graph j k → Walk graph i k
-before graph i j _ e here = onward i j here e
-before graph i j _ e (onward l m w f) = onward l m (before graph i j l e w) f
-
+-- a walk the other way round
 pub turned_walk : (graph other : List (List ℕ)) → ((j k : ℕ) → Edge graph j k → Edge other k j) → (j k : ℕ) → Walk graph j k → Walk other k j
 turned_walk graph other t j _ here = here
-turned_walk graph other t j _ (onward l m w e) = before other m l j (t l m e) (turned_walk graph other t j l w)
+turned_walk graph other t j _ (onward l m w e) = both_walks other m l j (onward m l here (t l m e)) (turned_walk graph other t j l w)
