@@ -32,17 +32,6 @@ run-more bytes at i order here run =
 pub begins-cell : (bytes : List ℕ) (i : ℕ) → IsInside bytes i → first_text (lines_at bytes i) ≡ (slice_index bytes i, i) ∷ first_text (lines_at bytes (i + 1))
 begins-cell bytes i here = (cell_at bytes i here.inside here.not_feed here.not_return).text
 
-pub all_blank-run : (bytes : List ℕ) (at end : ℕ) (run : List Cell) → end ≤ length bytes → IsLineEnd bytes end → AreBlank run → RunBefore run (lines_at bytes at) (lines_at bytes end)
-    → is_all_blank (first_text (lines_at bytes at)) ≡ true
-all_blank-run bytes at end run h e b r =
-    ap is_all_blank r.text ∙ ap is_empty (after_blanks-run run (first_text (lines_at bytes end)) b) ∙ ap is_all_blank (text-line_end bytes end h e)
-
-pub all_blank-solid : (bytes : List ℕ) (at i : ℕ) (run : List Cell) → IsInside bytes i → AreBlank run → (IsBlankByte (slice_index bytes i) → ⊥) → RunBefore run (lines_at bytes at) (lines_at bytes i)
-    → is_all_blank (first_text (lines_at bytes at)) ≡ false
-all_blank-solid bytes at i run here b n r =
-    ap is_all_blank r.text ∙ ap is_empty (after_blanks-run run (first_text (lines_at bytes i)) b) ∙ ap is_all_blank (begins-cell bytes i here)
-    ∙ ap is_empty (after_blanks-solid (slice_index bytes i, i) (first_text (lines_at bytes (i + 1))) n)
-
 -- ---- spaces
 
 pub indent-run : (run rest : List Cell) → AreSpaces run → indent (run ++ rest) ≡ length run + indent rest

@@ -2,6 +2,7 @@
 use Rattle.std.proofs.Common.{◌≡◌, ℕ, zero, suc, ◌+◌, ◌≤◌, List, [], ◌∷◌, ◌++◌, drop, refl, sym, subst}
 use Rattle.std.proofs.Common.{◌∙◌, arith, Bool, true, false, not, ◌&&◌, ◌||◌, ◌==◌, if◌then◌else◌, Option, Some, None}
 use Rattle.al_scalar.specs.Line.{Cell, Line, lines, place, start, is_blank, after_blanks, is_break, with_cell, with_return}
+use Rattle.std.proofs.lemmas.Bool.Decides.{nat_tests}
 use Rattle.al_base.specs.FirstBytes.{begins_with}
 use Rattle.al_scalar.specs.Places.{first_text}
 use Rattle.al_scalar.specs.Offsets.{AreRising, AreClimbing, IsTail, AreLines}
@@ -73,12 +74,6 @@ lines-tail : (end : ℕ) (ls : List Line) → AreLines (end + 1) ls → IsTail e
 lines-tail end [] h = absurd h
 lines-tail end (l ∷ ls) h = (refl, h.0, h.1)
 
-break-chosen : (p q r : Bool) → (p || (q && not r)) ≡ false → q ≡ true → r ≡ true
-break-chosen p q true h k = refl
-break-chosen true q false h k = cc
-break-chosen false true false h k = cc
-break-chosen false false false h k = cc
-
 feed-text : (at : ℕ) (bs : List ℕ) → begins_with 10 bs ≡ true → first_text (lines at bs) ≡ []
 feed-text at [] h = cc
 feed-text at (b ∷ bs) h = rw h refl
@@ -102,7 +97,7 @@ lines-climb at (b ∷ bs) =
     let more = lines-climb (at + 1) bs in
     choose (AreLines at) (is_break b bs) (λ _. (omega arith, lines-tail at (lines (at + 1) bs) more))
     (λ e. choose (AreLines at) (b == 13)
-    (λ k. returned at (lines (at + 1) bs) (feed-text (at + 1) bs (break-chosen (b == 10) (b == 13) (begins_with 10 bs) e k)) more)
+    (λ k. returned at (lines (at + 1) bs) (feed-text (at + 1) bs (grind (arith, nat_tests, e, k))) more)
     (λ _. celled at b (lines (at + 1) bs) more))
 
 pub lines-start : (low : ℕ) (ls : List Line) → AreLines low ls → low ≤ start ls

@@ -13,21 +13,17 @@ use Rattle.al_scalar.specs.declared.faults.FaultAt.{FaultAt}
 use Rattle.al_scalar.specs.declared.faults.YamlFault.{YamlFault}
 use Rattle.al_scalar.specs.declared.scalars.ScalarRead as code
 use Rattle.al_base.specs.declared.faults.Span.{Span}
-use Rattle.al_scalar.proofs.OffsetLemmas.{lines-climb}
+use Rattle.al_scalar.proofs.OffsetLemmas.{choose, lines-climb}
 use Rattle.al_scalar.proofs.PlacedLemmas.{IsPlacedRead, ReadsText, offset-within, scalar-placed, scalar-text}
 use Rattle.al_scalar.proofs.RestLemmas.{start-at}
 use Rattle.al_scalar.proofs.Standing.{Stand, lines-end}
 use Rattle.al_scalar.proofs.Utf8Lemmas.{lines-utf8}
 
-reach-inside : (b : Bool) (high end size : ℕ) → high ≤ size → end ≤ size → (if b then high else end) ≤ size
-reach-inside true high end size h k = h
-reach-inside false high end size h k = k
-
 -- what is placed in a file, or in a part of it
 pub from-placed : (high size : ℕ) (s : Scalar) (at : Span) → high ≤ size → at.end ≤ size → IsPlaced high s at → IsFrom size s
 from-placed high size s at a b h i l =
     let end : s.end ≤ size = omega (arith, h.end, b) in
-    let most = reach-inside (is_block s.style) high s.end size a end in
+    let most : reach high s.style s.end ≤ size = choose (λ (x : ℕ). x ≤ size) (is_block s.style) (λ _. a) (λ _. end) in
     let cells : i < length s.cells = omega (arith, l, length-map s.cells (λ (c : Cell). c.0)) in
     let within = offset-within at.start (reach high s.style s.end) s.end s.cells i h.rising cells in
     omega (arith, within.1, most)

@@ -18,16 +18,6 @@ use Rattle.al_scalar.proofs.BlankLemmas.{after_blanks-none, no_blank_line}
 
 -- ---- the text at an offset
 
--- what follows the blanks from i to j
-pub solid_text : (bytes : List ℕ) (i j : ℕ) → j ≤ length bytes → lines_at bytes i ≡ with_cells_before (cells_between bytes i j) (lines_at bytes j) → AreBlank (cells_between bytes i j)
-    → (j < length bytes → IsBlankByte (slice_index bytes j) → ⊥) → after_blanks (text_at bytes i) ≡ text_at bytes j
-solid_text bytes i j h e b n =
-    let own : after_blanks (text_at bytes j) ≡ text_at bytes j = elim (text_kind bytes j h) [
-      | inl e ↦ ap after_blanks e ∙ sym e
-      | inr k ↦ ap after_blanks k.1 ∙ after_blanks-solid (slice_index bytes j, j) (text_at bytes (j + 1)) (n k.0) ∙ sym k.1
-    ] in
-    ap after_blanks (run_at bytes i j (cells_between bytes i j) e).text ∙ after_blanks-run (cells_between bytes i j) (text_at bytes j) b ∙ own
-
 -- a colon stands where its cell says
 place-colon : (p : Context) (bytes : List ℕ) (j z : ℕ) → j ≤ length bytes → is_value_colon p (text_at bytes j) ≡ true → place (text_at bytes j) z ≡ j
 place-colon p bytes j z h e = elim (text_kind bytes j h) [

@@ -5,7 +5,8 @@ use Rattle.al_scalar.specs.LineEnds.{cells_between, later}
 use Rattle.al_scalar.specs.Taken.{folded_break}
 use Rattle.al_scalar.specs.Private.PlainLines.{context_of, empty_ends, here_at}
 use Rattle.al_scalar.proofs.LineCells.{run_at, same_then, never}
-use Rattle.al_scalar.proofs.PlainReadLemmas.{solid_text, read_first, read_done, found_at, read_stopped, read_more, read_key}
+use Rattle.al_scalar.proofs.RestLemmas.{solid_text}
+use Rattle.al_scalar.proofs.PlainReadLemmas.{read_first, read_done, found_at, read_stopped, read_more, read_key}
 use Rattle.al_scalar.proofs.plain.read_plain.Goals as goal
 
 pub text_lines-init : goal.text_lines-init
