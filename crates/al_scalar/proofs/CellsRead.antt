@@ -1,6 +1,7 @@
 -- How text is read of the cells of a line: each stays, goes if it is ASCII, or begins an escape; what is left then lies behind the text.
 use Rattle.std.proofs.Common.{◌≡◌, ℕ, suc, ◌+◌, ◌<◌, List, [], ◌∷◌, ◌++◌, length, map, refl, sym, ap, subst, arith, append_assoc, append-nil, encode_utf8}
 use Rattle.std.proofs.lemmas.Bool.Decides.{nat_tests}
+use Rattle.std.proofs.lemmas.List.{length-map}
 use Rattle.std.proofs.lemmas.Str.{IsUtf8-append, IsUtf8-encode, IsUtf8-nil, length-encode, len_utf8_bounds}
 use Rattle.std.specs.Char.{IsScalar}
 use Rattle.std.specs.Prelude.{IsUtf8}
@@ -74,14 +75,10 @@ module _ {text rest : List Cell} where
       rising-at [] = omega arith
       rising-at (b ∷ bs) = (omega arith, omega arith, rising-at bs)
 
-      length-at : (bs : List ℕ) → length {A = Cell} (map (λ b. (b, c.1)) bs) ≡ length bs
-      length-at [] = refl
-      length-at (b ∷ bs) = ap suc (length-at bs)
-
       written-from : IsFrom ⊥ c.1 (c.1 + 1) (character_cells c.1 code)
       written-from = record {
         rising = rising-at (encode_utf8 code);
-        size = omega (arith, length-at (encode_utf8 code), length-encode code, len_utf8_bounds code);
+        size = omega (arith, length-map {A = ℕ} {B = Cell} (encode_utf8 code) (λ b. (b, c.1)), length-encode code, len_utf8_bounds code);
         text = λ u. absurd u;
       }
 

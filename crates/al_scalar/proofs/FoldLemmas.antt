@@ -48,12 +48,6 @@ given-line (cut_short at) q space t x l ls below = refl
 given-line broken q space t x l ls below = refl
 given-line escaped q space t x l ls below = refl
 
-pub cut-same : (x y : Line) (xs ys : List Line) → SameLine (x ∷ xs) (y ∷ ys) → cut y.text x xs ≡ y ∷ ys
-cut-same x y xs ys s =
-    ap (λ e. cut y.text (record { text = y.text; end = e; last = x.last }) xs) s.end
-    ∙ ap (λ z. cut y.text (record { text = y.text; end = y.end; last = z }) xs) s.last
-    ∙ ap (λ r. y ∷ r) s.later
-
 -- ---- against offsets
 
 -- a place that is no line's end and no blank

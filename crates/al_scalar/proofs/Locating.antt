@@ -1,5 +1,6 @@
 -- Offsets of cells.
 use Rattle.std.proofs.Common.{map, ◌^◌, ◌≡◌, ℕ, zero, suc, ◌+◌, ◌<◌, ◌≤◌, List, [], ◌∷◌, length, refl, sym, ap, ◌∙◌, arith}
+use Rattle.std.proofs.lemmas.List.{get_or_past, length-map}
 use Rattle.al_scalar.specs.Private.Segments.{AreInRange, cells_from, offset_at}
 use Rattle.al_scalar.specs.Line.{Cell}
 use Rattle.al_scalar.specs.Scalar.{offset_or}
@@ -17,9 +18,7 @@ offset_or-cells_from k (b ∷ bs) ss end (suc i) h =
     offset_or-cells_from (suc k) bs ss end i (omega arith) ∙ ap (offset_at ss) (sym e)
 
 pub offset_or-end : (cs : List Cell) (end i : ℕ) → length cs ≤ i → offset_or cs end i ≡ end
-offset_or-end [] end i h = refl
-offset_or-end (c ∷ cs) end zero h = absurd (omega (arith, h))
-offset_or-end (c ∷ cs) end (suc i) h = offset_or-end cs end i (omega (arith, h))
+offset_or-end cs end i h = get_or_past (map (λ (c : Cell). c.1) cs) i end (omega (arith, h, length-map cs (λ (c : Cell). c.1)))
 
 pub bytes-cells_from : (k : ℕ) (bs : List ℕ) (ss : List Segment) → map (λ (c : Cell). c.0) (cells_from k bs ss) ≡ bs
 bytes-cells_from k [] ss = refl

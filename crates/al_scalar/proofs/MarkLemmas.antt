@@ -22,7 +22,7 @@ use Rattle.al_scalar.specs.declared.quoted.Quotes.TheVariants.{Single, Double}
 use Rattle.al_scalar.specs.Private.QuotedRead.{part_in, quoted_in, ReadsOn, EndsRun, IsMarkByte, Between, read_behind, hex_value}
 use Rattle.al_scalar.proofs.LineCells.{lines_at-some, cell_at, run_then, RunBefore, text-line_end, lines-at_end, same_then}
 use Rattle.al_scalar.proofs.FoldLemmas.{break-at}
-use Rattle.al_scalar.proofs.QuotedLemmas.{quoted-part, given, given-closed, given-break, given-end, given-cut}
+use Rattle.al_scalar.proofs.QuotedLemmas.{quoted-part, given, given-closed, given-break, given-end}
 use Rattle.al_scalar.proofs.PartLemmas.{nothing, part-end, single-quote, single-pair, double-quote, double-escape}
 use Rattle.al_scalar.proofs.LiteralLemmas.{reads_on}
 use Rattle.al_scalar.proofs.BlockLemmas.{length-cells_between}
@@ -94,13 +94,13 @@ module _ (quotes : Quotes) (bytes : List ℕ) (at q : ℕ) where
   pub file_end : at ≡ length bytes → quoted_in quotes q (lines_at bytes at) ≡ Err (record { code = yaml.UnclosedQuote; at = q })
   file_end e =
       given_at (Ok nothing) (ap (λ ls. part_in quotes (first_text ls)) (lines-at_end bytes at e) ∙ part-end quotes)
-      ∙ given-end (part_in quotes) q false (lines_at bytes at) (lines_at-some bytes at) (ap first_last (lines-at_end bytes at e))
+      ∙ given-end (part_in quotes) q false (lines_at bytes at) (ap first_last (lines-at_end bytes at e))
 
   pub line_break : at < length bytes → IsLineEnd bytes at → quoted_in quotes q (lines_at bytes at) ≡ read_behind quotes bytes at false q
   line_break h k =
       let broke = break-at bytes at h k in
       given_at (Ok nothing) (ap (part_in quotes) (text-line_end bytes at (omega arith) k) ∙ part-end quotes)
-      ∙ given-break (part_in quotes) q false (lines_at bytes at) (lines_at-some bytes at) broke.1
+      ∙ given-break (part_in quotes) q false (lines_at bytes at) broke.1
       ∙ ap (λ end. quoted_lines (part_in quotes) q (Some end) (later (lines_at bytes at))) broke.0
 
   closed_at : at < length bytes → slice_index bytes at ≢ 10 → slice_index bytes at ≢ 13
@@ -109,7 +109,7 @@ module _ (quotes : Quotes) (bytes : List ℕ) (at q : ℕ) where
   closed_at h n m e =
       let cell = cell_at bytes at h n m in
       given_at (Ok (record { text = []; stop = closed (at + 1) (text_at bytes (at + 1)) })) (ap (part_in quotes) cell.text ∙ e)
-      ∙ given-closed (part_in quotes) q (at + 1) (lines_at bytes at) (lines_at bytes (at + 1)) (lines_at-some bytes at) (lines_at-some bytes (at + 1)) cell.same
+      ∙ given-closed (part_in quotes) q (at + 1) (lines_at bytes at) (lines_at bytes (at + 1)) (lines_at-some bytes (at + 1)) cell.same
 
 -- ---- at a quote
 
@@ -156,13 +156,13 @@ module _ (bytes : List ℕ) (at : ℕ) (h : at < length bytes) (e : slice_index 
   escape_cut q f =
       let last : first_last (lines_at bytes at) ≡ true = slash.same.last ∙ ap first_last (lines-at_end bytes (at + 1) f) in
       given_at Double bytes at q (Ok (record { text = []; stop = escaped })) (escape-part [] (text-line_end bytes (at + 1) (omega arith) (λ l. absurd (omega arith))))
-      ∙ given-end (double_part) q true (lines_at bytes at) (lines_at-some bytes at) last
+      ∙ given-end (double_part) q true (lines_at bytes at) last
 
   pub escaped_break : (q : ℕ) → at + 1 < length bytes → IsLineEnd bytes (at + 1) → double_quoted q (lines_at bytes at) ≡ read_behind Double bytes (at + 1) true q
   escaped_break q l k =
       let broke = break-at bytes (at + 1) l k in
       given_at Double bytes at q (Ok (record { text = []; stop = escaped })) (escape-part [] (text-line_end bytes (at + 1) (omega arith) k))
-      ∙ given-break (double_part) q true (lines_at bytes at) (lines_at-some bytes at) (slash.same.last ∙ broke.1)
+      ∙ given-break (double_part) q true (lines_at bytes at) (slash.same.last ∙ broke.1)
       ∙ ap (λ ls. quoted_lines (double_part) q None ls) slash.same.later
 
   -- a letter behind it
@@ -242,7 +242,6 @@ module _ (bytes : List ℕ) (at : ℕ) (h : at < length bytes) (e : slice_index 
         short-given : (q : ℕ) (last : Bool) → first_last (lines_at bytes end) ≡ last → double_quoted q (lines_at bytes at) ≡ cond last (fault yaml.UnclosedQuote q) (fault yaml.WrongEscape at)
         short-given q last e =
             given_at Double bytes at q (Ok (record { text = []; stop = cut_short at })) short-part
-            ∙ given-cut (double_part) q at (lines_at bytes at) (lines_at-some bytes at)
             ∙ ap (λ z. cond z (fault yaml.UnclosedQuote q) (fault yaml.WrongEscape at)) (both.same.last ∙ b.0.same.last ∙ e)
 
         pub short_file : (q : ℕ) → end ≡ length bytes → double_quoted q (lines_at bytes at) ≡ Err (record { code = yaml.UnclosedQuote; at = q })

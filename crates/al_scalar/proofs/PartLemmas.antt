@@ -57,12 +57,8 @@ part-other Single c cs n = ap Ok (single-other c cs n)
 part-other Double c cs n = double-other c cs (λ e. n (inl e)) (λ e. n (inr e))
 
 not_mark : (quotes : Quotes) (b : ℕ) → IsBlankByte b → IsMarkByte quotes b → ⊥
-not_mark Single b (inl e) m = omega (arith, e, m)
-not_mark Single b (inr e) m = omega (arith, e, m)
-not_mark Double b (inl e) (inl m) = omega (arith, e, m)
-not_mark Double b (inl e) (inr m) = omega (arith, e, m)
-not_mark Double b (inr e) (inl m) = omega (arith, e, m)
-not_mark Double b (inr e) (inr m) = omega (arith, e, m)
+not_mark Single b h m = grind arith
+not_mark Double b h m = grind arith
 
 some-before : (cs : List Cell) (r : Result QuotedLine FaultAt) → gives_nothing r ≡ false → gives_nothing (part_before cs r) ≡ false
 some-before [] (Ok p) h = h

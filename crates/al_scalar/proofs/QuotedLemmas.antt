@@ -11,40 +11,26 @@ use Rattle.al_scalar.specs.Private.PlainLines.{is_blank_line, empty_ends, break_
 use Rattle.al_scalar.specs.Private.Folding.{solid_lines, break_of}
 use Rattle.al_scalar.proofs.LineCells.{has_line}
 use Rattle.al_scalar.proofs.OffsetLemmas.{choose}
-use Rattle.al_scalar.proofs.FoldLemmas.{before-two, before-none, line_given-before, given-line, cut-same}
+use Rattle.al_scalar.proofs.FoldLemmas.{before-two, before-none, line_given-before, given-line}
 
 -- what the part of the first line gives with the lines behind it
 abbrev pub given : (List Cell → Result QuotedLine FaultAt) → ℕ → QuotedLine → List Line → Result Taken FaultAt
-given part q p [] = fault yaml.UnclosedQuote q
-given part q p (l ∷ ls) = line_given q [] p l ls (λ b. quoted_lines part q b ls)
+given part q p xs = line_given q [] p (record { text = []; end = first_end xs; last = first_last xs }) (later xs) (λ b. quoted_lines part q b (later xs))
 
-line-same : (part : List Cell → Result QuotedLine FaultAt) (q : ℕ) (p : QuotedLine) (x y : Line) (xs ys : List Line) → x.end ≡ y.end → x.last
-    ≡ y.last → xs ≡ ys → given part q p (x ∷ xs) ≡ given part q p (y ∷ ys)
-line-same part q p x y xs ys e f g =
-    sym (given-line p.stop q [] p.text y.text x xs (λ b. quoted_lines part q b xs))
-    ∙ ap (λ (n : ℕ). line_given q [] p (record { text = y.text; end = n; last = x.last }) xs (λ b. quoted_lines part q b xs)) e
-    ∙ ap (λ (z : Bool). line_given q [] p (record { text = y.text; end = y.end; last = z }) xs (λ b. quoted_lines part q b xs)) f
-    ∙ ap (λ (r : List Line). line_given q [] p y r (λ b. quoted_lines part q b r)) g
-
-given-same : (part : List Cell → Result QuotedLine FaultAt) (q : ℕ) (p : QuotedLine) (xs ys : List Line) → has_line xs ≡ true → has_line ys
-    ≡ true → SameLine xs ys → given part q p xs ≡ given part q p ys
-given-same part q p [] ys h k s = cc
-given-same part q p (x ∷ xs) [] h k s = cc
-given-same part q p (x ∷ xs) (y ∷ ys) h k s = line-same part q p x y xs ys s.end s.last s.later
-
-given-run : (part : List Cell → Result QuotedLine FaultAt) (q : ℕ) (run : List Cell) (p : QuotedLine) (xs : List Line) → has_line xs ≡ true
-    → given part q (with_cells run p) xs ≡ before run (given part q p xs)
-given-run part q run p [] h = cc
-given-run part q run p (x ∷ xs) h = line_given-before q run p x xs (λ b. quoted_lines part q b xs)
-
-given-part : (part : List Cell → Result QuotedLine FaultAt) (q : ℕ) (run : List Cell) (r : Result QuotedLine FaultAt) (xs ys : List Line) → has_line xs ≡ true → has_line ys ≡ true → SameLine xs ys
+given-part : (part : List Cell → Result QuotedLine FaultAt) (q : ℕ) (run : List Cell) (r : Result QuotedLine FaultAt) (xs ys : List Line) → SameLine xs ys
     → (part_before run r >>= (λ p. given part q p xs)) ≡ before run (r >>= (λ p. given part q p ys))
-given-part part q run (Ok p) xs ys h k s = given-run part q run p xs h ∙ ap (before run) (given-same part q p xs ys h k s)
-given-part part q run (Err e) xs ys h k s = refl
+given-part part q run (Ok p) xs ys s =
+    line_given-before q run p (record { text = []; end = first_end xs; last = first_last xs }) (later xs) (λ b. quoted_lines part q b (later xs))
+    ∙ ap (before run) (rw (s.end, s.last, s.later) refl)
+given-part part q run (Err e) xs ys s = refl
 
 quoted-given : (part : List Cell → Result QuotedLine FaultAt) (q : ℕ) (xs : List Line) → has_line xs ≡ true → quoted_scalar part q xs ≡ (part (first_text xs) >>= (λ p. given part q p xs))
 quoted-given part q [] h = cc
-quoted-given part q (x ∷ xs) h = refl
+quoted-given part q (x ∷ xs) h = by_part (part x.text)
+  where
+    by_part : (r : Result QuotedLine FaultAt) → (r >>= (λ p. line_given q [] p x xs (λ b. quoted_lines part q b xs))) ≡ (r >>= (λ p. given part q p (x ∷ xs)))
+    by_part (Ok p) = sym (given-line p.stop q [] p.text [] x xs (λ b. quoted_lines part q b xs))
+    by_part (Err e) = refl
 
 -- cells in front of what is left of the line
 pub quoted-run : (part : List Cell → Result QuotedLine FaultAt) (q : ℕ) (run : List Cell) (xs ys : List Line) → has_line xs ≡ true → has_line ys ≡ true → SameLine xs ys
@@ -52,7 +38,7 @@ pub quoted-run : (part : List Cell → Result QuotedLine FaultAt) (q : ℕ) (run
 quoted-run part q run xs ys h k s e =
     quoted-given part q xs h
     ∙ ap (λ r. r >>= (λ p. given part q p xs)) e
-    ∙ given-part part q run (part (first_text ys)) xs ys h k s
+    ∙ given-part part q run (part (first_text ys)) xs ys s
     ∙ ap (before run) (sym (quoted-given part q ys k))
 
 -- what the part of the first line gives
@@ -60,40 +46,26 @@ pub quoted-part : (part : List Cell → Result QuotedLine FaultAt) (q : ℕ) (xs
     → quoted_scalar part q xs ≡ (r >>= (λ p. given part q p xs))
 quoted-part part q xs r h e = quoted-given part q xs h ∙ ap (λ r. r >>= (λ p. given part q p xs)) e
 
-pub given-closed : (part : List Cell → Result QuotedLine FaultAt) (q next : ℕ) (xs ys : List Line) → has_line xs ≡ true → has_line ys ≡ true → SameLine xs ys
+pub given-closed : (part : List Cell → Result QuotedLine FaultAt) (q next : ℕ) (xs ys : List Line) → has_line ys ≡ true → SameLine xs ys
     → given part q (record { text = []; stop = closed next (first_text ys) }) xs ≡ Ok (record { text = []; end = next; left = ys })
-given-closed part q next [] ys h k s = cc
-given-closed part q next (x ∷ xs) [] h k s = cc
-given-closed part q next (x ∷ xs) (y ∷ ys) h k s = ap (λ l. Ok (record { text = []; end = next; left = l })) (cut-same x y xs ys s)
+given-closed part q next xs [] k s = cc
+given-closed part q next xs (y ∷ ys) k s = rw (s.end, s.last, s.later) refl
 
 -- a line that a break ends, which may be escaped
 abbrev pub stop_of : Bool → QuotedEnd
 stop_of true = escaped
 stop_of false = broken
 
-given-stop : (part : List Cell → Result QuotedLine FaultAt) (q : ℕ) (e : Bool) (x : Line) (xs : List Line) → x.last ≡ false
-    → given part q (record { text = []; stop = stop_of e }) (x ∷ xs) ≡ quoted_lines part q (break_of e x.end) xs
-given-stop part q true x xs f = ap (λ z. cond z (fault yaml.UnclosedQuote q) (before [] (quoted_lines part q None xs))) f ∙ before-none (quoted_lines part q None xs)
-given-stop part q false x xs f = ap (λ z. cond z (fault yaml.UnclosedQuote q) (before [] (quoted_lines part q (Some x.end) xs))) f ∙ before-none (quoted_lines part q (Some x.end) xs)
-
-pub given-break : (part : List Cell → Result QuotedLine FaultAt) (q : ℕ) (e : Bool) (xs : List Line) → has_line xs ≡ true → first_last xs ≡ false
+pub given-break : (part : List Cell → Result QuotedLine FaultAt) (q : ℕ) (e : Bool) (xs : List Line) → first_last xs ≡ false
     → given part q (record { text = []; stop = stop_of e }) xs ≡ quoted_lines part q (break_of e (first_end xs)) (later xs)
-given-break part q e [] h f = cc
-given-break part q e (x ∷ xs) h f = given-stop part q e x xs f
+given-break part q true xs f = rw f (before-none (quoted_lines part q None (later xs)))
+given-break part q false xs f = rw f (before-none (quoted_lines part q (Some (first_end xs)) (later xs)))
 
 -- a line that the file's end ends
-pub given-end : (part : List Cell → Result QuotedLine FaultAt) (q : ℕ) (e : Bool) (xs : List Line) → has_line xs ≡ true → first_last xs ≡ true
+pub given-end : (part : List Cell → Result QuotedLine FaultAt) (q : ℕ) (e : Bool) (xs : List Line) → first_last xs ≡ true
     → given part q (record { text = []; stop = stop_of e }) xs ≡ fault yaml.UnclosedQuote q
-given-end part q e [] h f = cc
-given-end part q true (x ∷ xs) h f = ap (λ z. cond z (fault yaml.UnclosedQuote q) (before [] (quoted_lines part q None xs))) f
-given-end part q false (x ∷ xs) h f = ap (λ z. cond z (fault yaml.UnclosedQuote q) (before [] (quoted_lines part q (Some x.end) xs))) f
-
--- an escape that a line's end cuts
-pub given-cut : (part : List Cell → Result QuotedLine FaultAt) (q at : ℕ) (xs : List Line) → has_line xs ≡ true
-    → given part q (record { text = []; stop = cut_short at }) xs ≡ cond (first_last xs) (fault yaml.UnclosedQuote q)
-    (fault yaml.WrongEscape at)
-given-cut part q at [] h = cc
-given-cut part q at (x ∷ xs) h = refl
+given-end part q true xs f = rw f refl
+given-end part q false xs f = rw f refl
 
 -- ---- folding
 
@@ -137,7 +109,7 @@ module _ (part : List Cell → Result QuotedLine FaultAt) (q : ℕ) where
   -- a line that isn't empty, behind a space that may come before it
   line-solid : (b : Option ℕ) (t : List Cell) (l : Line) (ls : List Line) (r : Result QuotedLine FaultAt) (x : QuotedLine → Result Taken FaultAt) → (gives_nothing r && not l.last) ≡ false
       → (r >>= (λ p. cond (is_empty_line p l) (x p) (line_given q (folding_space b) p l ls (λ o. quoted_lines part q o ls))))
-      ≡ before (folding_space b) (r >>= (λ p. given part q p (cut t l ls)))
+      ≡ before (folding_space b) (r >>= (λ p. line_given q [] p (record { text = t; end = l.end; last = l.last }) ls (λ o. quoted_lines part q o ls)))
   line-solid b t l ls (Ok p) x e =
       ap (λ z. cond z (x p) (line_given q (folding_space b) p l ls (λ o. quoted_lines part q o ls))) e
       ∙ line_given-before q (folding_space b) p l ls (λ o. quoted_lines part q o ls)

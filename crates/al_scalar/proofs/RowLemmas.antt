@@ -80,14 +80,6 @@ spaced-between bytes from stop b h e = ap begins_blank (cells_between-front byte
 
 -- ---- lines as rows
 
-rows_at-more : (m : Option ℕ) (found : Bool) (l : Line) (ls : List Line) (t : List Cell) → row_of m found l.text ≡ Some t → l.last ≡ false
-    → rows_at m found (l ∷ ls) ≡ with_row (record { text = t; break = l.end ∷ [] }) (rows_at m (found || not (is_all_blank l.text)) ls)
-rows_at-more m found l ls t e f = rw (e, f, rows_at) refl
-
-rows_at-last : (m : Option ℕ) (found : Bool) (l : Line) (ls : List Line) (t : List Cell) → row_of m found l.text ≡ Some t → l.last ≡ true
-    → rows_at m found (l ∷ ls) ≡ record { rows = record { text = t; break = [] } ∷ []; left = at_end l }
-rows_at-last m found l ls t e f = rw (e, f, rows_at) refl
-
 abbrev pub of_rows : Bool → Chomping → Option BlockLine → List ℕ → ℕ → Rows → Taken
 of_rows lit k last es end rs = record { text = text_after lit k last es rs.rows; end = rows_end end rs.rows; left = rs.left }
 
@@ -95,13 +87,13 @@ pub rest-more : (lit : Bool) (k : Chomping) (m : Option ℕ) (found : Bool) (las
     → row_of m found (first_text xs) ≡ Some t → first_last xs ≡ false
     → rest lit k m found last es end xs ≡ of_rows lit k last es end (with_row (record { text = t; break = first_end xs ∷ [] }) (rows_at m (found || not (is_all_blank (first_text xs))) (later xs)))
 rest-more lit k m found last es end [] t h e f = cc
-rest-more lit k m found last es end (l ∷ ls) t h e f = ap (of_rows lit k last es end) (rows_at-more m found l ls t e f)
+rest-more lit k m found last es end (l ∷ ls) t h e f = rw (e, f, rows_at) refl
 
 pub rest-last : (lit : Bool) (k : Chomping) (m : Option ℕ) (found : Bool) (last : Option BlockLine) (es : List ℕ) (end : ℕ) (xs : List Line) (t : List Cell) → has_line xs ≡ true
     → row_of m found (first_text xs) ≡ Some t → first_last xs ≡ true
     → rest lit k m found last es end xs ≡ of_rows lit k last es end (record { rows = record { text = t; break = [] } ∷ []; left = record { text = []; end = first_end xs; last = true } ∷ [] })
 rest-last lit k m found last es end [] t h e f = cc
-rest-last lit k m found last es end (l ∷ ls) t h e f = ap (of_rows lit k last es end) (rows_at-last m found l ls t e f)
+rest-last lit k m found last es end (l ∷ ls) t h e f = rw (e, f, rows_at) refl
 
 -- ---- the steps of the loop over the lines
 

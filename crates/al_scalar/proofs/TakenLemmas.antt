@@ -62,19 +62,6 @@ module _ {U : Type 0} where
     text = h.text;
   }
 
-  pub from-rest : {low end : ℕ} {cs : List Cell} → IsRest U low end cs → IsFrom U low end cs
-  from-rest {low} {end} {cs} h = record { rising = rising low cs h.climbing; size = size low cs h.climbing; text = h.text }
-    where
-      rising : (low : ℕ) (cs : List Cell) → AreClimbing low end cs → AreRising low end cs
-      rising low [] h = h
-      rising low (c ∷ cs) h =
-          let o = climbing-order (c.1 + 1) end cs h.1 in
-          (h.0, omega (arith, o), rising-lower (c.1 + 1) c.1 end cs (omega arith) (rising (c.1 + 1) cs h.1))
-
-      size : (low : ℕ) (cs : List Cell) → AreClimbing low end cs → length cs + 4 * low ≤ 4 * end
-      size low [] h = omega (arith, h)
-      size low (c ∷ cs) h = let more = size (c.1 + 1) cs h.1 in omega (arith, h.0, more)
-
   pub rest-behind : {low end : ℕ} {c : Cell} {cs : List Cell} → c.0 < 128 → IsRest U low end (c ∷ cs) → IsRest U (c.1 + 1) end cs
   rest-behind {low} {end} {c} {cs} a h = record { climbing = h.climbing.1; text = λ u. split-behind c.0 (bytes_of cs) a (h.text u) }
 
@@ -118,3 +105,10 @@ module _ {U : Type 0} where
   pub taken-behind : (size : ℕ) {low mid : ℕ} {cs : List Cell} (r : Result Taken FaultAt) → IsFrom U low mid cs → AreTaken size U mid r → AreTaken size U low (before cs r)
   taken-behind size (Ok t) h k = (from-join h k.0, k.1)
   taken-behind size (Err e) h k = k
+
+climbing-from : (low end : ℕ) (cs : List Cell) → AreClimbing low end cs → IsFrom ⊥ low end cs
+climbing-from low end [] h = from-none h
+climbing-from low end (c ∷ cs) h = from-join (from-cell h.0 (λ u. absurd u)) (climbing-from (c.1 + 1) end cs h.1)
+
+pub from-rest : {U : Type 0} {low end : ℕ} {cs : List Cell} → IsRest U low end cs → IsFrom U low end cs
+from-rest {U} {low} {end} {cs} h = let k = climbing-from low end cs h.climbing in record { rising = k.rising; size = k.size; text = h.text }
