@@ -7,7 +7,7 @@ use Rattle.std.proofs.lemmas.Bool.{cases_lt, eqb-true, or_cases, or_right}
 use Rattle.std.proofs.lemmas.Bool.Decides.{nat_tests}
 use Rattle.std.proofs.lemmas.List.{get_or_past}
 use Rattle.std.proofs.lemmas.List.Folds.{Any-from_list_any, list_any-from_Any}
-use Rattle.al_graph.specs.Graphs.{Edge, Walk, here, onward}
+use Rattle.al_graph.specs.Graphs.{Walk, here, onward}
 use Rattle.al_graph.specs.Within.{leads, leads_within}
 use Rattle.al_graph.proofs.Orders.{both_walks}
 

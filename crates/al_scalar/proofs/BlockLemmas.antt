@@ -3,13 +3,12 @@ use Rattle.std.proofs.Common.{◌≡◌, ◌≢◌, ℕ, zero, suc, ◌+◌, ◌
 use Rattle.std.proofs.Common.{subst, ◌∙◌, arith, true, false, cond, inl, inr, Option, Some, None, eq-eqb, is_some}
 use Rattle.std.proofs.lemmas.Grind.{common_steps}
 use Rattle.al_scalar.specs.Block.{row_of, found_indent}
-use Rattle.al_scalar.specs.Line.{Cell, Line, indent, is_empty, is_all_blank}
+use Rattle.al_scalar.specs.Line.{Cell, Line, indent, is_all_blank}
 use Rattle.al_scalar.specs.Places.{first_text, lines_at}
-use Rattle.al_scalar.specs.LineEnds.{cells_at, cells_between, with_cells_before, AreBlank, IsBlankByte, IsLineEnd, broken_line, SameLine, later, AreSpaces, BlankTo}
+use Rattle.al_scalar.specs.LineEnds.{cells_at, cells_between, with_cells_before, broken_line, SameLine, later, AreSpaces, BlankTo}
 use Rattle.al_scalar.specs.Private.BlockRead.{indent_from}
 use Rattle.al_scalar.proofs.LineLemmas.{cells_between-none, cells_between-more}
-use Rattle.al_scalar.proofs.LineCells.{has_line, RunBefore, run_at, run_then, cell_at, text-line_end, lines-at_end, IsInside}
-use Rattle.al_scalar.proofs.FoldLemmas.{after_blanks-run, after_blanks-solid}
+use Rattle.al_scalar.proofs.LineCells.{has_line, RunBefore, run_at, run_then, cell_at, lines-at_end, IsInside}
 use Rattle.al_scalar.proofs.RestLemmas.{text_kind}
 
 pub AreSpaces-more : (cs : List Cell) (c : Cell) → AreSpaces cs → c.0 ≡ 32 → AreSpaces (cs ++ c ∷ [])

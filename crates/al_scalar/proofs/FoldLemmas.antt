@@ -2,12 +2,12 @@
 use Rattle.std.proofs.Common.{◌≡◌, ℕ, ◌<◌, List, [], ◌∷◌, ◌++◌, length, refl, sym, ap, ◌∙◌, append_assoc}
 use Rattle.std.proofs.Common.{Bool, true, false, cond, Option, Some, None, Result, Ok, Err}
 use Rattle.al_base.specs.declared.codes.YamlCode.TheVariants.{UnclosedQuote, WrongEscape}
-use Rattle.al_scalar.specs.Line.{Cell, Line, with_return, cut, after_blanks}
+use Rattle.al_scalar.specs.Line.{Cell, Line, with_return, after_blanks}
 use Rattle.al_scalar.specs.Taken.{Taken, before, fault}
 use Rattle.al_scalar.specs.declared.faults.FaultAt.{FaultAt}
 use Rattle.al_scalar.specs.Quoted.{QuotedLine, QuotedEnd, closed, broken, escaped, cut_short, line_given}
 use Rattle.al_scalar.specs.Places.{first_end, lines_at}
-use Rattle.al_scalar.specs.LineEnds.{AreBlank, IsBlankByte, IsLineEnd, SameLine, first_last}
+use Rattle.al_scalar.specs.LineEnds.{AreBlank, IsBlankByte, IsLineEnd, first_last}
 use Rattle.al_scalar.proofs.LineCells.{broken-at, has_line, is_blank-yes, is_blank-no}
 
 pub before-two : (a b : List Cell) (r : Result Taken FaultAt) → before a (before b r) ≡ before (a ++ b) r

@@ -1,6 +1,6 @@
 -- Offsets that never fall, in texts and in lines.
 use Rattle.std.proofs.Common.{◌≡◌, ℕ, zero, suc, ◌+◌, ◌≤◌, List, [], ◌∷◌, ◌++◌, drop, refl, sym, subst}
-use Rattle.std.proofs.Common.{◌∙◌, arith, Bool, true, false, not, ◌&&◌, ◌||◌, ◌==◌, if◌then◌else◌, Option, Some, None}
+use Rattle.std.proofs.Common.{◌∙◌, arith, Bool, true, false, ◌==◌, if◌then◌else◌, Option, Some, None}
 use Rattle.al_scalar.specs.Line.{Cell, Line, lines, place, start, is_blank, after_blanks, is_break, with_cell, with_return}
 use Rattle.std.proofs.lemmas.Bool.Decides.{nat_tests}
 use Rattle.al_base.specs.FirstBytes.{begins_with}

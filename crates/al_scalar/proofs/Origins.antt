@@ -1,5 +1,5 @@
 -- What is read of a file: its text comes from there, lies in its span, and is UTF-8 where the file is.
-use Rattle.std.proofs.Common.{ℕ, ◌+◌, ◌<◌, ◌≤◌, List, length, drop, subst, arith, Bool, true, false, if◌then◌else◌, Result, Ok, Err, IfOk}
+use Rattle.std.proofs.Common.{ℕ, ◌+◌, ◌<◌, ◌≤◌, List, length, drop, subst, arith, Result, Ok, Err, IfOk}
 use Rattle.std.proofs.lemmas.List.{length-map}
 use Rattle.std.specs.Prelude.{IsUtf8}
 use Rattle.al_scalar.specs.ReadScalar.{LiesBehind, read_of}

@@ -10,8 +10,8 @@ use Rattle.al_scalar.specs.Plain.{Context, is_flow, is_value_colon, plain_part, 
 use Rattle.al_scalar.specs.Places.{first_text, first_end, lines_at, text_at}
 use Rattle.al_scalar.specs.LineEnds.{cells_between, with_cells_before, AreBlank, IsBlankByte, IsBreakAt, SameLine, broken_line, first_last, later}
 use Rattle.al_scalar.specs.Private.PlainLines.{is_blank_line, begins_blank_line, text_lines, empty_ends, here_at, after_part, PartTo}
-use Rattle.al_scalar.proofs.LineCells.{has_line, lines_at-some, run_at, never}
-use Rattle.al_scalar.proofs.FoldLemmas.{after_blanks-run, after_blanks-solid, before-two}
+use Rattle.al_scalar.proofs.LineCells.{has_line, lines_at-some, never}
+use Rattle.al_scalar.proofs.FoldLemmas.{before-two}
 use Rattle.al_scalar.proofs.OffsetLemmas.{choose}
 use Rattle.al_scalar.proofs.RestLemmas.{text_kind, place-same}
 use Rattle.al_scalar.proofs.BlankLemmas.{after_blanks-none, no_blank_line}

@@ -4,7 +4,7 @@ use Rattle.al_base.specs.declared.codes.YamlCode.TheVariants as yaml
 use Rattle.al_scalar.specs.Line.{Cell, Line, cut, is_blank, after_blanks, is_empty}
 use Rattle.al_scalar.specs.Taken.{Taken, ◌>>=◌, before, folding_space, feeds, fault}
 use Rattle.al_scalar.specs.declared.faults.FaultAt.{FaultAt}
-use Rattle.al_scalar.specs.Quoted.{QuotedLine, QuotedEnd, closed, broken, escaped, cut_short, is_broken, with_cells, part_before, line_given, is_empty_line, quoted_lines, quoted_scalar}
+use Rattle.al_scalar.specs.Quoted.{QuotedLine, QuotedEnd, closed, broken, escaped, is_broken, part_before, line_given, is_empty_line, quoted_lines, quoted_scalar}
 use Rattle.al_scalar.specs.Places.{first_text, first_end}
 use Rattle.al_scalar.specs.LineEnds.{IsBlankByte, SameLine, first_last, later}
 use Rattle.al_scalar.specs.Private.PlainLines.{is_blank_line, empty_ends, break_left}

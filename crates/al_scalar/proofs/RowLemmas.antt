@@ -3,7 +3,7 @@ use Rattle.std.proofs.Common.{◌≡◌, ℕ, zero, suc, ◌+◌, ◌-◌, ◌<�
 use Rattle.std.proofs.Common.{append_assoc, append-nil, Bool, true, false, not, ◌||◌, cond, Option, Some, None}
 use Rattle.al_scalar.specs.Line.{Cell, Line, is_empty, is_all_blank, begins_blank, is_blank}
 use Rattle.al_scalar.specs.Taken.{Taken, feeds, with_text}
-use Rattle.al_scalar.specs.Block.{last_end, BlockLine, Rows, with_row, at_end, row_of, rows_at, rows_end, between_rows, joint, final_breaks, text_after}
+use Rattle.al_scalar.specs.Block.{last_end, BlockLine, Rows, with_row, row_of, rows_at, rows_end, between_rows, joint, final_breaks, text_after}
 use Rattle.al_scalar.specs.declared.header.Chomping.{Chomping}
 use Rattle.al_scalar.specs.declared.header.Chomping.TheVariants.{Strip, Clip, Keep}
 use Rattle.al_scalar.specs.Places.{first_text, first_end, lines_at}

@@ -7,7 +7,7 @@ use Rattle.al_scalar.specs.Line.{Cell, Line, cut, start}
 use Rattle.al_scalar.specs.Offsets.{AreClimbing, AreRising}
 use Rattle.al_scalar.specs.Taken.{Taken, before, feeds, folded_break}
 use Rattle.al_scalar.specs.declared.faults.FaultAt.{FaultAt}
-use Rattle.al_scalar.proofs.OffsetLemmas.{climbing-lower, climbing-order, rising-order, rising-lower, rising-higher, rising-join}
+use Rattle.al_scalar.proofs.OffsetLemmas.{climbing-lower, rising-order, rising-lower, rising-higher, rising-join}
 use Rattle.al_scalar.proofs.Standing.{Stand, stand-cut, stand-lower, stand-start, stand-later, stand-at_end}
 use Rattle.al_scalar.proofs.Utf8Lemmas.{AreUtf8, bytes_of, split-behind}
 use Rattle.al_scalar.proofs.Utf8Texts.{IsText, text-join, one-ascii}
