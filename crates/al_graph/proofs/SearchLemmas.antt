@@ -4,7 +4,7 @@ use Rattle.std.proofs.Common.{subst, ap, ◌∙◌, arith, ◌⊎◌, ⊎_elim, 
 use Rattle.std.specs.List.{AllByRecursion}
 use Rattle.std.specs.Prelude.{Contains}
 use Rattle.std.proofs.lemmas.List.{length-set, map-append, get_or-set_other, get_or-set_same, get_or_past}
-use Rattle.std.proofs.lemmas.List.Sums.{sum_by-set, sum_by-append}
+use Rattle.std.proofs.lemmas.List.Sums.{sum_by-set, sum_by-append, sum_by-cons}
 use Rattle.std.proofs.Math.Nat.{suc-mul}
 use Rattle.std.proofs.lemmas.List.Elements.{Contains-append_left, Contains-append_right, Contains-append_cases, Contains-get_or}
 use Rattle.std.proofs.lemmas.Grind.{get_or-set_at}
@@ -205,14 +205,10 @@ module _ (graph : List (List ℕ)) where
 
 one_of_sum : (graph : List (List ℕ)) (i : ℕ) → length (get_or graph i []) ≤ sum_by length graph
 one_of_sum [] i = omega arith
-one_of_sum (x ∷ xs) zero =
-    let e = sum_by-append length (x ∷ []) xs in
-    let f : length (get_or {A = List ℕ} (x ∷ xs) 0 []) ≡ length x = refl in
-    omega (arith, e, f)
+one_of_sum (x ∷ xs) zero = let here : length (get_or {A = List ℕ} (x ∷ xs) 0 []) ≡ length x = refl in omega (arith, sum_by-cons length x xs, here)
 one_of_sum (x ∷ xs) (suc i) =
-    let e = sum_by-append length (x ∷ []) xs in
-    let f : length (get_or {A = List ℕ} (x ∷ xs) (suc i) []) ≡ length (get_or xs i []) = refl in
-    omega (arith, e, f, one_of_sum xs i)
+    let there : length (get_or {A = List ℕ} (x ∷ xs) (suc i) []) ≡ length (get_or xs i []) = refl in
+    omega (arith, sum_by-cons length x xs, there, one_of_sum xs i)
 
 abbrev K : List (List ℕ) → ℕ
 K graph = sum_by length graph + 2
