@@ -42,11 +42,6 @@ pub IsBlankByte-other : (b : ℕ) → IsBlankByte b → (b ≢ 10) × (b ≢ 13)
 IsBlankByte-other b (inl e) = (omega arith, omega arith)
 IsBlankByte-other b (inr e) = (omega arith, omega arith)
 
--- a blank more in front of the rest of the line
-pub lines_at-blank : (bytes : List ℕ) (i : ℕ) → i < length bytes → IsBlankByte (slice_index bytes i)
-    → lines_at bytes i ≡ with_cell (slice_index bytes i, i) (lines_at bytes (i + 1))
-lines_at-blank bytes i h b = lines_at-other bytes i h (IsBlankByte-other _ b).0 (IsBlankByte-other _ b).1
-
 -- a run and the text before it, each with a cell more
 pub pushed : {new mid run' : List Cell} (old run : List Cell) (c : Cell) → new ≡ mid ++ c ∷ [] → mid ≡ old ++ run → run' ≡ run ++ c ∷ [] → new ≡ old ++ run'
 pushed old run c e f g = e ∙ ap (λ t. t ++ c ∷ []) f ∙ append_assoc old run (c ∷ []) ∙ ap (λ t. old ++ t) (sym g)
@@ -57,6 +52,6 @@ pub blank_run-more : (bytes : List ℕ) (at i : ℕ) → at ≤ i → i < length
     → lines_at bytes at ≡ with_cells_before (cells_between bytes at (i + 1)) (lines_at bytes (i + 1))
 blank_run-more bytes at i order inside blank run =
     run
-    ∙ ap (λ ls. with_cells_before (cells_between bytes at i) ls) (lines_at-blank bytes i inside blank)
+    ∙ ap (λ ls. with_cells_before (cells_between bytes at i) ls) (lines_at-other bytes i inside (IsBlankByte-other _ blank).0 (IsBlankByte-other _ blank).1)
     ∙ sym (with_cells_before-more (cells_between bytes at i) (slice_index bytes i, i) (lines_at bytes (i + 1)))
     ∙ ap (λ cs. with_cells_before cs (lines_at bytes (i + 1))) (sym (cells_between-more bytes at i order))

@@ -161,9 +161,10 @@ module _ (size : ℕ) (U : Type 0) (quote : ℕ) (q : quote ≤ size) where
         by-stop : (s : QuotedEnd) → Stops l.text p.text s → AreTaken size U low (line_given quote space (record { text = p.text; stop = s }) l ls below)
         by-stop (closed end rest) g =
             let read : IsFrom U mid g.0.1 p.text × AreLeft size U g.0.1 (cut (g.0 ∷ rest) l ls) = reads-line l ls g.3 k in
-            subst (λ (end : ℕ). AreTaken size U low (Ok (record { text = space ++ p.text; end = end; left = cut rest l ls }))) (sym g.2)
-            (from-join h (from-wider (omega arith) (omega arith) read.0),
-            left-cut (rest-behind g.1 (left-first read.1)) k)
+            subst (λ (end : ℕ). AreTaken size U low (Ok (record { text = space ++ p.text; end = end; left = cut rest l ls }))) (sym g.2) (
+              from-join h (from-wider (omega arith) (omega arith) read.0),
+              left-cut (rest-behind g.1 (left-first read.1)) k,
+            )
         by-stop (cut_short at) g = choose (AreTaken size U low) l.last (λ _. q)
             (λ _. let a = g.1 mid l.end k.stand.0.0 in let b = k.stand.1.0 in omega (arith, a, b))
         by-stop broken g = choose (AreTaken size U low) l.last (λ _. q) (goes_on (Some l.end) (from-ascii (omega arith) (omega arith)) g)

@@ -5,6 +5,7 @@ use Rattle.std.proofs.Math.Seq.{take-suc}
 use Rattle.std.proofs.lemmas.Grind.{common_steps}
 use Rattle.std.proofs.lemmas.Bool.{not-false}
 use Rattle.std.proofs.lemmas.List.{take_all}
+use Rattle.al_base.proofs.Elements.{each_both}
 use Rattle.al_scalar.specs.Line.{Cell}
 use Rattle.al_scalar.specs.LineEnds.{cells_at, cells_between}
 use Rattle.al_scalar.specs.Private.Segments.{first_run, offset_in, offset_after, offset_from, offset_at, cells_from, AreBehind, AreFrom, IsRising, IsOrdered, GoesOn, AreInRange, run_cells}
@@ -27,25 +28,17 @@ offset_from-last found s (t ∷ ts) d i h = offset_from-last (offset_after found
 
 -- ---- where the runs begin
 
-pub AreBehind-more : (n : ℕ) (ss : List Segment) (s : Segment) → AreBehind n ss → s.index ≤ n → AreBehind n (ss ++ s ∷ [])
-AreBehind-more n [] s h k = (k, tt)
-AreBehind-more n (t ∷ ts) s h k = (h.0, AreBehind-more n ts s h.1 k)
-
 AreBehind-up : (n m : ℕ) (ss : List Segment) → AreBehind n ss → n ≤ m → AreBehind m ss
 AreBehind-up n m [] h k = tt
 AreBehind-up n m (s ∷ ss) h k = (omega (arith, h.0), AreBehind-up n m ss h.1 k)
 
-AreFrom-more : (n : ℕ) (ss : List Segment) (s : Segment) → AreFrom n ss → n ≤ s.index → AreFrom n (ss ++ s ∷ [])
-AreFrom-more n [] s h k = (k, tt)
-AreFrom-more n (t ∷ ts) s h k = (h.0, AreFrom-more n ts s h.1 k)
-
 -- a run more, behind all others
 pub IsOrdered-more : (n : ℕ) (ss : List Segment) (s : Segment) → IsOrdered n ss → s.index ≡ n → IsOrdered n (ss ++ s ∷ [])
-IsOrdered-more n ss s h e = (AreBehind-more n ss s h.0 (omega (arith, e)), rising ss h.0 h.1)
+IsOrdered-more n ss s h e = (each_both (λ (t : Segment). t.index ≤ n) ss (s ∷ []) h.0 (omega (arith, e), tt), rising ss h.0 h.1)
   where
     rising : (ss : List Segment) → AreBehind n ss → IsRising ss → IsRising (ss ++ s ∷ [])
     rising [] b r = (tt, tt)
-    rising (t ∷ ts) b r = (AreFrom-more t.index ts s r.0 (omega (arith, b.0, e)), rising ts b.1 r.1)
+    rising (t ∷ ts) b r = (each_both (λ (u : Segment). t.index ≤ u.index) ts (s ∷ []) r.0 (omega (arith, b.0, e), tt), rising ts b.1 r.1)
 
 last-of : (n : ℕ) (d s : Segment) (ss : List Segment) → AreBehind n (s ∷ ss) → (get_or (s ∷ ss) (length ss) d).index ≤ n
 last-of n d s [] h = h.0
@@ -143,10 +136,6 @@ escape-run at k (d ∷ ds) = ap (λ cs. (d, at) ∷ cs) (escape-run at (suc k) d
 
 -- ---- what a push leaves
 
-AreInRange-two : (xs ys : List Cell) → AreInRange xs → AreInRange ys → AreInRange (xs ++ ys)
-AreInRange-two [] ys h k = k
-AreInRange-two (x ∷ xs) ys h k = (h.0, AreInRange-two xs ys h.1 k)
-
 AreInRange-at : (file : List ℕ) (i n : ℕ) → i + n < 2 ^ 32 → AreInRange (cells_at file i n)
 AreInRange-at file i zero h = tt
 AreInRange-at file i (suc n) h = (omega (arith, h), AreInRange-at file (suc i) n (omega (arith, h)))
@@ -170,7 +159,7 @@ module _ (old : List Cell) (bs ds new : List ℕ) (ss ss' : List Segment) (n at 
   pub pushed-kept : AreInRange (cells_from 0 bs ss) → AreInRange (run_cells at moves 0 ds) → IsOrdered n ss' → IsOrdered (length new) ss' × AreInRange (cells_from 0 new ss')
   pushed-kept p q b =
       let long : n ≤ length new = omega (arith, e, ap length f, length-append bs ds) in
-      ((AreBehind-up n (length new) ss' b.0 long, b.1), subst AreInRange (sym pushed-text) (AreInRange-two old (run_cells at moves 0 ds) (subst AreInRange g p) q))
+      ((AreBehind-up n (length new) ss' b.0 long, b.1), subst AreInRange (sym pushed-text) (each_both (λ (c : Cell). c.1 < 2 ^ 32) old (run_cells at moves 0 ds) (subst AreInRange g p) q))
 
 -- ---- the search for the last run
 

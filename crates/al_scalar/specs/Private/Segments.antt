@@ -1,5 +1,6 @@
 -- Decoded bytes with their offsets, from the runs that keep them.
 use Rattle.std.specs.Prelude.{◌≡◌, ℕ, suc, ◌^◌, ◌+◌, ◌-◌, ◌<◌, ◌≤◌, List, [], ◌∷◌, nat_le, Bool, true, if◌then◌else◌}
+use Rattle.std.specs.List.{AllByRecursion}
 use Rattle.al_scalar.specs.Line.{Cell}
 use Rattle.al_scalar.specs.declared.texts.Segment.{Segment}
 
@@ -28,13 +29,11 @@ cells_from i (b ∷ bs) ss = (b, offset_at ss i) ∷ cells_from (suc i) bs ss
 
 -- no run begins behind an index
 abbrev pub AreBehind : ℕ → List Segment → Type 0
-AreBehind n [] = Unit {0}
-AreBehind n (s ∷ ss) = (s.index ≤ n) × AreBehind n ss
+AreBehind n = AllByRecursion (λ (s : Segment). s.index ≤ n)
 
 -- each run begins at a number or behind it
 abbrev pub AreFrom : ℕ → List Segment → Type 0
-AreFrom n [] = Unit {0}
-AreFrom n (s ∷ ss) = (n ≤ s.index) × AreFrom n ss
+AreFrom n = AllByRecursion (λ (s : Segment). n ≤ s.index)
 
 -- no run begins before an earlier one
 abbrev pub IsRising : List Segment → Type 0
@@ -56,5 +55,4 @@ run_cells at moves k (b ∷ bs) = (b, if moves then at + k else at) ∷ run_cell
 
 -- each offset fits 32 bits
 abbrev pub AreInRange : List Cell → Type 0
-AreInRange [] = Unit {0}
-AreInRange (c ∷ cs) = (c.1 < 2 ^ 32) × AreInRange cs
+AreInRange = AllByRecursion (λ (c : Cell). c.1 < 2 ^ 32)
