@@ -16,7 +16,7 @@ LiesIn len (Unexpected left) = (0 < left) × (left ≤ len)
 LiesIn len (TooDeep left) = (0 < left) × (left ≤ len)
 LiesIn len _ = Unit {0}
 
-at_end : (m : Mode) (st : List Frame) → LiesIn 0 (finish m st)
+pub at_end : (m : Mode) (st : List Frame) → LiesIn 0 (finish m st)
 at_end O [] = tt
 at_end O (f ∷ st) = tt
 at_end N [] = tt
@@ -28,7 +28,7 @@ one_more len (Unexpected n) h = (h.0, omega (arith, h.1))
 one_more len (TooDeep n) h = (h.0, omega (arith, h.1))
 one_more len _ h = tt
 
-lies_on : (o : Transition) (room : Bool) (len : ℕ) (go : Mode → ℕ → List Frame → Verdict)
+pub lies_on : (o : Transition) (room : Bool) (len : ℕ) (go : Mode → ℕ → List Frame → Verdict)
     → ((m : Mode) (k : ℕ) (st : List Frame) → LiesIn len (go m k st)) → LiesIn (suc len) (onward o room (suc len) go)
 lies_on Stuck room len go f = (omega arith, omega arith)
 lies_on (Go m k st) room len go f = one_more len (go m k st) (f m k st)

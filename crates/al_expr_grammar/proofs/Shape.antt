@@ -1,5 +1,5 @@
 -- The table without the limit on nesting, and what it has to do with the grammar.
-use Rattle.std.proofs.Common.{◌≡◌, ◌≢◌, ℕ, suc, ◌+◌, ◌<◌, ◌≤◌, Bool, true, false, List, [], ◌∷◌, ◌++◌, length, length-append, refl, ◌∙◌, arith, nat_lt, cond}
+use Rattle.std.proofs.Common.{◌≡◌, ℕ, suc, ◌+◌, ◌<◌, ◌≤◌, Bool, true, false, List, [], ◌∷◌, ◌++◌, length, length-append, refl, subst, ◌∙◌, arith, nat_lt, cond}
 use Rattle.al_expr_grammar.specs.declared.token.TokenKind.{TokenKind}
 use Rattle.al_expr_grammar.specs.declared.token.TokenKind.TheVariants.{Name, Keyword, Number, Text, Open, Close, OpenIndex, CloseIndex, Dot, Comma, Star, Bang, Infix}
 use Rattle.al_expr_grammar.specs.Lexeme.{Lexeme, kinds}
@@ -10,6 +10,7 @@ use Rattle.al_expr_grammar.specs.Grammar.{to_each, to_index, Lists, listed, and_
 use Rattle.al_expr_grammar.specs.Table.{Verdict, Fine, Early, Unexpected, TooDeep, Mode, E, A, I, S, D, O, N, Frame, Group, Call, Index}
 use Rattle.al_expr_grammar.specs.Table.{Transition, Stuck, Go, Deeper, operand, after_operand, step, finish, outside}
 use Rattle.al_expr_grammar.specs.Table.{onward, scan}
+use Rattle.al_expr_grammar.proofs.Left.{LiesIn, at_end, lies_on}
 
 abbrev pub forget : List Frame → List Frame
 forget [] = []
@@ -177,22 +178,12 @@ mutual
   lists_shape listed h st = refl
   lists_shape (and_next d w) h st = derives_shape d (before_lists w h) (Call 0 ∷ st) ∙ lists_shape w h st
 
-finish_bound : (m : Mode) (st : List Frame) (n : ℕ) → finish m st ≢ Unexpected n
-finish_bound O [] n h = cc
-finish_bound O (b ∷ st) n h = cc
-finish_bound N [] n h = cc
-finish_bound N (b ∷ st) n h = cc
-finish_bound _ st n h = cc
-
-bound_on : (o : Transition) (len n : ℕ) (go : Mode → ℕ → List Frame → Verdict)
-    → ((m : Mode) (k : ℕ) (st : List Frame) → go m k st ≡ Unexpected n → n ≤ len) → onward o true (suc len) go ≡ Unexpected n → n ≤ suc len
-bound_on Stuck len n go ih h = let e : suc len ≡ n = cc in omega arith
-bound_on (Go m k st) len n go ih h = let j = ih m k st h in omega (arith, j)
-bound_on (Deeper m k st) len n go ih h = let j = ih m k st h in omega (arith, j)
+shape_lies : (ts : List TokenKind) (m : Mode) (st : List Frame) → LiesIn (length ts) (shape m st ts)
+shape_lies [] m st = at_end m st
+shape_lies (t ∷ ts) m st = lies_on (step m 0 st t) true (length ts) (λ m' k' st'. shape m' st' ts) (λ m' k' st'. shape_lies ts m' st')
 
 bound : (ts : List TokenKind) (m : Mode) (st : List Frame) (n : ℕ) → shape m st ts ≡ Unexpected n → n ≤ length ts
-bound [] m st n h = absurd (finish_bound m st n h)
-bound (t ∷ ts) m st n h = bound_on (step m 0 st t) (length ts) n (λ m' k' st'. shape m' st' ts) (λ m' k' st' e. bound ts m' st' n e) h
+bound ts m st n h = (subst (LiesIn (length ts)) h (shape_lies ts m st)).1
 
 here : (o : Transition) (back other : List TokenKind) → onward o true (suc (length back)) (λ m k st. shape m st back)
     ≡ Unexpected (suc (length back)) → onward o true (suc (length other)) (λ m k st. shape m st other) ≡ Unexpected (suc (length other))
