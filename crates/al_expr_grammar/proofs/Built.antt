@@ -9,7 +9,7 @@ use Rattle.al_expr_grammar.specs.Lexeme.{Lexeme, lexeme, kinds}
 use Rattle.al_expr_grammar.specs.Tree.{Sign, sign, Tree, Named, Negated, StepTree, Property, All, Index, arguments_of, chain_of}
 use Rattle.al_expr_grammar.specs.Tree as tree
 use Rattle.al_expr_grammar.specs.Grammar.{Nonterminal, Binary, Unary, Postfix, Primary, level_of, below, Derives, single, chain, positive, IsTreeOf}
-use Rattle.al_expr_grammar.specs.Grammar.{negated, bare, path, constant, number, text, name, call_empty, call, group, Operators, no_more}
+use Rattle.al_expr_grammar.specs.Grammar.{negated, bare, path, name, call, group, Operators, no_more}
 use Rattle.al_expr_grammar.specs.Grammar.{one_more, Walks, arrived, to_property, to_keyword, to_all, to_each, to_index, Lists, listed, and_next}
 use Rattle.al_expr_grammar.specs.Building.{Remainder, Following, add_operator, behind_operand, from_operand, in_bracket, past_bracket, whole}
 use Rattle.al_expr_grammar.specs.Building.{with_path, with_step}

@@ -1,7 +1,7 @@
 -- A token that is read lies in the bytes, and its last byte is ASCII, so that a character ends with it.
 use Rattle.std.proofs.Common.{◌≡◌, ◌<◌, ◌≤◌, ◌+◌, ◌-◌, ℕ, zero, suc, List, [], ◌∷◌, length, length-drop, add-zero, inl, inr, ◌⊎◌, drop}
 use Rattle.std.proofs.Common.{refl, subst, arith, Bool, true, false, cond, nat_eq, max, Option, Some, None}
-use Rattle.std.proofs.lemmas.Bool.{and_parts, cond_both}
+use Rattle.std.proofs.lemmas.Bool.{and_parts, cond_both, eqb-true}
 use Rattle.std.proofs.lemmas.Bool.Decides.{nat_tests}
 use Rattle.std.proofs.lemmas.List.{get_or-drop}
 use Rattle.std.proofs.lemmas.List.Sums.{prefix_len_passes, prefix_len-le-length}
@@ -137,9 +137,6 @@ one_more quote q b bs (Some (suc m)) f e =
     let last : slice_index bs (suc m - 1) ≡ 39 = e.1 (omega arith) in
     (omega (arith, e.0), (λ h. rw i (rw j at last)), (λ h. omega arith))
 
-pub quote_is : (b : ℕ) → nat_eq b 39 ≡ true → b ≡ 39
-quote_is b h = grind (arith, nat_tests)
-
 stays : (quote t : Bool) (b : ℕ) (bs : List ℕ) → (t ≡ true → b ≡ 39) → ((q : Bool) → TailEnds q bs (tail_from q bs)) → TailEnds quote (b ∷ bs) (after_byte quote t (λ q. tail_from q bs))
 stays false t b bs f g = one_more false t b bs (tail_from t bs) f (g t)
 stays true true b bs f g = one_more true false b bs (tail_from false bs) (λ e. absurd cc) (g false)
@@ -148,7 +145,7 @@ stays true false b bs f g = (omega arith, (λ h. absurd (omega arith)), (λ e. a
 tail_ends_at : (bs : List ℕ) (quote : Bool) → TailEnds quote bs (tail_from quote bs)
 tail_ends_at [] false = tt
 tail_ends_at [] true = (omega arith, (λ h. absurd (omega arith)), (λ e. absurd cc))
-tail_ends_at (b ∷ bs) quote = stays quote (nat_eq b 39) b bs (quote_is b) (λ q. tail_ends_at bs q)
+tail_ends_at (b ∷ bs) quote = stays quote (nat_eq b 39) b bs (eqb-true b 39) (λ q. tail_ends_at bs q)
 
 text_fits_at : (bs : List ℕ) (o : Option ℕ) → TailEnds false bs o → Fits (39 ∷ bs) (text_read o)
 text_fits_at bs None e = tt

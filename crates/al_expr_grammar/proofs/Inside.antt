@@ -3,6 +3,7 @@ use Rattle.std.proofs.Common.{◌≡◌, ◌<◌, ◌≤◌, ◌+◌, ◌-◌, �
 use Rattle.std.specs.Int.{is_in_range}
 use Rattle.std.specs.List.{AllByRecursion}
 use Rattle.std.specs.Option.{option_map, option_to_list}
+use Rattle.std.proofs.lemmas.Bool.{cond_both}
 use Rattle.std.proofs.lemmas.Bool.Decides.{nat_tests}
 use Rattle.std.proofs.lemmas.List.Sums.{prefix_len-le-length}
 use Rattle.std.specs.Option.{option_or}
@@ -16,7 +17,7 @@ use Rattle.al_expr_grammar.specs.declared.token.TokenKind.{TokenKind}
 use Rattle.al_expr_grammar.specs.Chunks.{Chunked, before_opening, chunks_of, chunks_within, closing_position, is_outside_quotes, with_content, with_opening}
 use Rattle.al_expr_grammar.proofs.Chunking.{closing_fits, opening_fits}
 use Rattle.al_expr_grammar.specs.Extents.{across, extent, with_operands, with_steps}
-use Rattle.al_expr_grammar.specs.Grammar.{Nonterminal, Derives, single, chain, positive, negated, bare, path, constant, number, text, name}
+use Rattle.al_expr_grammar.specs.Grammar.{Nonterminal, Derives, single, chain, positive, negated, bare, path}
 use Rattle.al_expr_grammar.specs.Grammar.{call_empty, call, group, Operators, no_more, one_more, Walks, arrived, to_property, to_keyword, to_all}
 use Rattle.al_expr_grammar.specs.Grammar.{to_each, to_index, Lists, listed, and_next}
 use Rattle.al_expr_grammar.specs.Inside.{AllLie}
@@ -305,17 +306,13 @@ content_lexed content = lexed_lies (length content) (length content) 0 content (
 pub token_fault_lies : (content : List ℕ) → AllLie (length content) (option_to_list (fault_of_lexed content (tokens_of content)))
 token_fault_lies content = lexed_fault content (tokens_of content) (content_lexed content)
 
-too_long : (t : Bool) (size : ℕ) (f : Fault) (o : Option Fault) → (t ≡ true → LiesIn size f.span) → AllLie size (option_to_list o) → AllLie size (option_to_list (cond t (Some f) o))
-too_long true size f o h l = (h refl, tt)
-too_long false size f o h l = l
-
 some_byte : (n : ℕ) → nat_lt 21000 n ≡ true → LiesIn n (span 0 1)
 some_byte n h = let more : 21000 < n = grind (arith, nat_tests) in record { ordered = omega arith; inside = omega (arith, more) }
 
 pub content_fault_lies : (content : List ℕ) → AllLie (length content) (option_to_list (fault_of_content content))
 content_fault_lies content =
-    too_long (nat_lt 21000 (length content)) (length content) _ (fault_of_tokens content (tokens_of content)) (some_byte (length content))
-    (tokens_fault content (tokens_of content) (content_lexed content))
+    cond_both (nat_lt 21000 (length content)) _ (fault_of_tokens content (tokens_of content)) (λ o. AllLie (length content) (option_to_list o))
+    (λ e. (some_byte (length content) e, tt)) (λ e. tokens_fault content (tokens_of content) (content_lexed content))
 
 -- the tokens of a content, where they are all read
 pub tokens_lie : (content : List ℕ) (ts : List Lexeme) → tokens_of content ≡ AllRead ts → TokensLie (length content) 0 ts

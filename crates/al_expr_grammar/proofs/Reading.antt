@@ -1,19 +1,18 @@
 -- What is read at a place has a byte and lies in the bytes.
-use Rattle.std.proofs.Common.{◌≡◌, ◌<◌, ◌≤◌, ℕ, List, [], ◌∷◌, length, refl, sym, subst, arith, Bool, true, false, cond, nat_eq, nat_lt, ◌||◌, Option, Some}
-use Rattle.std.proofs.lemmas.Bool.{and_parts, cond_both}
-use Rattle.std.proofs.lemmas.Bool.Decides.{nat_tests}
+use Rattle.std.proofs.Common.{◌≡◌, ◌<◌, ◌≤◌, ℕ, List, [], ◌∷◌, length, refl, sym, subst, Bool, true, false, cond, nat_eq, nat_lt, ◌||◌, Option, Some}
+use Rattle.std.proofs.lemmas.Bool.{and_parts, cond_both, eqb-true, ltb-true}
 use Rattle.std.specs.Char.{is_ascii_digit}
 use Rattle.std.specs.List.{list_all, starts_with}
 use Rattle.std.specs.Option.{option_map_or}
 use Rattle.std.specs.Prelude.{find}
 use Rattle.al_expr_grammar.specs.declared.lexer.Read.{Read}
-use Rattle.al_expr_grammar.specs.declared.lexer.Read.TheVariants.{Blank, Token, BadCharacter, OpenText}
+use Rattle.al_expr_grammar.specs.declared.lexer.Read.TheVariants.{Blank, Token, BadCharacter}
 use Rattle.al_expr_grammar.specs.declared.token.TokenKind.{TokenKind}
 use Rattle.al_expr_grammar.specs.Tokens.{begins_name, is_blank_byte, mark, marks, name_read, number_len, number_read}
 use Rattle.al_base.specs.Ascii.{is_sign}
 use Rattle.al_expr_grammar.specs.Tokens.{read, text_read, text_tail}
 use Rattle.al_expr_grammar.specs.Private.TokenStates.{Fits}
-use Rattle.al_expr_grammar.proofs.Fitting.{name_fits, number_fits, quote_is, text_fits, text_within}
+use Rattle.al_expr_grammar.proofs.Fitting.{name_fits, number_fits, text_fits, text_within}
 
 abbrev pub Short : List ℕ → Read → Type 0
 Short bs (Token k n) = (0 < n) × (n ≤ length bs)
@@ -32,13 +31,10 @@ found_short : (bs : List ℕ) (m : List ℕ × TokenKind) (o : Option (List ℕ 
 found_short bs m o true e some h = (some, text_within m.0 bs e)
 found_short bs m o false e some h = h
 
-some_byte : (text : List ℕ) → nat_lt 0 (length text) ≡ true → 0 < length text
-some_byte text h = grind (arith, nat_tests)
-
 found_in : (bs : List ℕ) (ms : List (List ℕ × TokenKind)) → list_all (λ m. nat_lt 0 (length m.0)) ms ≡ true
     → Short bs (mark_found (find (λ m. starts_with nat_eq bs m.0) ms))
 found_in bs [] h = tt
-found_in bs (m ∷ ms) h = let h' = and_parts _ _ h in found_short bs m _ (starts_with nat_eq bs m.0) refl (some_byte m.0 h'.0) (found_in bs ms h'.1)
+found_in bs (m ∷ ms) h = let h' = and_parts _ _ h in found_short bs m _ (starts_with nat_eq bs m.0) refl (ltb-true 0 (length m.0) h'.0) (found_in bs ms h'.1)
 
 mark_short : (bs : List ℕ) → Short bs (mark bs)
 mark_short bs = found_in bs marks refl
@@ -46,7 +42,7 @@ mark_short bs = found_in bs marks refl
 text_short : (b : ℕ) (bs : List ℕ) → nat_eq b 39 ≡ true → Short (b ∷ bs) (text_read (text_tail bs))
 text_short b bs e =
     let there = fits_short (39 ∷ bs) (text_read (text_tail bs)) (text_fits bs) in
-    subst (λ x. Short (x ∷ bs) (text_read (text_tail bs))) (sym (quote_is b e)) there
+    subst (λ x. Short (x ∷ bs) (text_read (text_tail bs))) (sym (eqb-true b 39 e)) there
 
 pub read_short : (b : ℕ) (bs : List ℕ) → Short (b ∷ bs) (read (b ∷ bs))
 read_short b bs =

@@ -4,8 +4,8 @@ use Rattle.al_expr_grammar.specs.declared.token.TokenKind.{TokenKind}
 use Rattle.al_expr_grammar.specs.declared.token.TokenKind.TheVariants.{Name, Keyword, Number, Text, Open, Close, OpenIndex, CloseIndex, Dot, Comma, Star, Bang, Infix}
 use Rattle.al_expr_grammar.specs.Lexeme.{Lexeme, kinds}
 use Rattle.al_expr_grammar.specs.Tree.{Sign, Tree, StepTree}
-use Rattle.al_expr_grammar.specs.Grammar.{Nonterminal, Derives, single, chain, positive, negated, bare, path, constant, number, text, name}
-use Rattle.al_expr_grammar.specs.Grammar.{call_empty, call, group, Operators, no_more, one_more, Walks, arrived, to_property, to_keyword, to_all}
+use Rattle.al_expr_grammar.specs.Grammar.{Nonterminal, Derives, single, chain, positive, negated, bare, path, name}
+use Rattle.al_expr_grammar.specs.Grammar.{call, group, Operators, no_more, one_more, Walks, arrived, to_property, to_keyword, to_all}
 use Rattle.al_expr_grammar.specs.Grammar.{to_each, to_index, Lists, listed, and_next}
 use Rattle.al_expr_grammar.specs.Table.{Verdict, Fine, Early, Unexpected, TooDeep, Mode, E, A, I, S, D, O, N, Frame, Group, Call, Index}
 use Rattle.al_expr_grammar.specs.Table.{Transition, Stuck, Go, Deeper, operand, after_operand, step, finish, outside}

@@ -110,11 +110,10 @@ string_of (Some i) = refl
 pub named_string : (ns : List (List ℕ)) (n : List ℕ) (o : Option ℕ) → o ≡ name_place ns n → optional (field_at n (strings ns)) ≡ string_unless (not (is_some o))
 named_string ns n o e = ap optional (string_at ns n ∙ ap (option_map (λ i. String)) (sym e)) ∙ string_of o
 
-some_names : (n : ℕ) → nat_eq n 0 ≡ not (nat_lt 0 n)
-some_names n = grind (arith, nat_tests)
-
 pub all_strings : (ns : List (List ℕ)) (n : ℕ) → n ≡ length ns → fuse_optional (common_in (strings ns)) Absent ≡ string_unless (not (nat_lt 0 n))
-all_strings ns n e = nothing_last (common_in (strings ns)) ∙ common_strings ns ∙ ap string_unless (ap (λ k. nat_eq k 0) (sym e) ∙ some_names n)
+all_strings ns n e =
+    let some : nat_eq n 0 ≡ not (nat_lt 0 n) = grind (arith, nat_tests) in
+    nothing_last (common_in (strings ns)) ∙ common_strings ns ∙ ap string_unless (ap (λ k. nat_eq k 0) (sym e) ∙ some)
 
 -- ---- fields, and others behind them
 

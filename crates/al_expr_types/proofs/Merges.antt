@@ -14,7 +14,7 @@ use Rattle.std.specs.Str.{bytes_eq}
 use Rattle.al_base.specs.Names.{lower_case, same_name}
 use Rattle.al_base.specs.NamePlaces.{first_at, name_place}
 use Rattle.al_types.specs.Strings.{strings}
-use Rattle.al_types.specs.Types.{Type', String, Optional, Absent, Parts, Present, field_at, fuse_optional, optional}
+use Rattle.al_types.specs.Types.{Type', String, Optional, Parts, Present, field_at, fuse_optional, optional}
 use Rattle.al_types.proofs.FieldsByName.{found_by_name}
 use Rattle.al_types.proofs.FuseLaws.{nothing_last}
 use Rattle.al_base.proofs.NamePlaces.{first_more, first_within}

@@ -1,6 +1,6 @@
 -- Names of which no two are the same: with one more behind them, as the names of fields, and where each stands.
 use Rattle.std.proofs.Common.{◌≡◌, ℕ, ◌+◌, ◌<◌, List, [], ◌∷◌, ◌++◌, refl, sym, ap, ◌∙◌, Bool, true, false, ◌||◌, Option, Some, None, option_map, arith, get_or, length, suc, zero}
-use Rattle.std.proofs.lemmas.Bool.{or_parts}
+use Rattle.std.proofs.lemmas.Bool.{not-false, or_parts}
 use Rattle.std.proofs.lemmas.List.{map-append}
 use Rattle.std.specs.Prelude.{if◌then◌else◌, is_none, is_some, not, ◌&&◌, zip}
 use Rattle.std.specs.Cmp.Lexicographic.{nat_list_eq_equiv}
@@ -13,6 +13,7 @@ use Rattle.al_types.proofs.JoinedFields.{distinct_more, first_apart, has_field_a
 use Rattle.al_types.proofs.StringFields.{string_at}
 use Rattle.al_expr_types.specs.Once.{are_once}
 use Rattle.al_expr_types.proofs.Merges.{place_same}
+use Rattle.al_expr_types.proofs.NameIndexes.{none_there}
 
 some_mapped : (o : Option ℕ) → is_some (option_map (λ i. String) o) ≡ not (is_none o)
 some_mapped None = refl
@@ -44,10 +45,6 @@ once_distinct (m ∷ ns) (t ∷ ts) h =
     let others = once_distinct ns ts (others_apart (has_field m (strings ns)) (are_once ns) h) in
     λ d. not (first d) && others d
 
-nowhere : (o : Option ℕ) → not (is_none o) ≡ false → o ≡ None
-nowhere None h = refl
-nowhere (Some i) h = absurd cc
-
 apart_by : (b : Bool) (o : Option ℕ) (i : ℕ) → o ≡ Some i → (b ≡ true → o ≡ None) → b ≡ false
 apart_by true o i there h = let no : None ≡ Some i = sym (h refl) ∙ there in absurd cc
 apart_by false o i there h = refl
@@ -61,7 +58,8 @@ once_place (m ∷ ns) zero x h lt e =
 once_place (m ∷ ns) (suc i) x h lt e =
     let has = has_field m (strings ns) in
     let there : name_place ns x ≡ Some i = once_place ns i x (others_apart has (are_once ns) h) (omega (arith, lt)) e in
-    let none : name_place ns m ≡ None = nowhere (name_place ns m) (sym (has_by_name ns m) ∙ first_apart has (are_once ns) h) in
+    let none : name_place ns m ≡ None =
+    none_there (name_place ns m) (sym (not-false (is_none (name_place ns m)) (sym (has_by_name ns m) ∙ first_apart has (are_once ns) h))) in
     let apart : same_name m x ≡ false = apart_by (same_name m x) (name_place ns x) i there (λ is. place_same ns m x is ∙ none) in
     let next : i + 1 ≡ suc i = omega arith in
     ap (λ b. if b then Some 0 else option_map (λ k. k + 1) (name_place ns x)) apart ∙ ap (option_map (λ k. k + 1)) there ∙ ap Some next

@@ -1,7 +1,7 @@
 -- What fusing keeps to: which of several types are fused first does not count, nor in which order they stand, nor how often one does,
 -- nor an object without fields.
 use Rattle.std.proofs.Common.{◌≡◌, List, [], ◌∷◌, ◌++◌, refl, sym, ap, ◌∙◌, Option, Some, None}
-use Rattle.al_types.specs.Types.{Type', Any, Null, Number, Bool', String, ArrayOf, ObjectOf, Optional, Absent, Present}
+use Rattle.al_types.specs.Types.{Type', Any, ArrayOf, ObjectOf, Optional, Absent, Present}
 use Rattle.al_types.specs.Types.{Parts, fuse_optional, fuse_type, option_of, optional, parts_with}
 use Rattle.al_types.specs.Fused.{fuse_parts, fused_with, fuse_all}
 use Rattle.al_types.specs.TypeParts.{common_type}

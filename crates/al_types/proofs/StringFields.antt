@@ -25,9 +25,6 @@ pub string_at : (ns : List (List ℕ)) (n : List ℕ) → field_at n (strings ns
 string_at [] n = refl
 string_at (m ∷ ns) n = ap (λ o. if same_name m n then Some String else o) (string_at ns n) ∙ at_step (same_name m n) (name_place ns n)
 
-more_than_none : (n : ℕ) → nat_eq (n + 1) 0 ≡ false
-more_than_none n = grind (arith, common_steps)
-
 one_more : (b : Bool) → fuse_optional (Present String) (string_unless b) ≡ Present String
 one_more true = refl
 one_more false = refl
@@ -35,9 +32,9 @@ one_more false = refl
 pub common_strings : (ns : List (List ℕ)) → common_in (strings ns) ≡ string_unless (nat_eq (length ns) 0)
 common_strings [] = refl
 common_strings (n ∷ ns) =
-    let len : length (n ∷ ns) ≡ length ns + 1 = omega arith in
+    let some : nat_eq (length (n ∷ ns)) 0 ≡ false = grind (arith, common_steps) in
     ap (fuse_optional (Present String)) (common_strings ns) ∙ one_more (nat_eq (length ns) 0)
-    ∙ ap string_unless (sym (ap (λ k. nat_eq k 0) len ∙ more_than_none (length ns)))
+    ∙ ap string_unless (sym some)
 
 common_some : (ns : List (List ℕ)) → fuse_optional (Present String) (common_in (strings ns)) ≡ Present String
 common_some ns = ap (fuse_optional (Present String)) (common_strings ns) ∙ one_more (nat_eq (length ns) 0)

@@ -1,4 +1,4 @@
-use Rattle.std.proofs.Common.{◌∙◌, ap, refl, sym}
+use Rattle.std.proofs.Common.{◌∙◌, ap, sym}
 use Rattle.al_types.specs.Types.{Any, Present, fuse_type}
 use Rattle.al_expr_types.specs.Types.{base_type, object_in, scalar_type}
 use Rattle.al_expr_types.specs.declared.ty.Base.TheVariants as base

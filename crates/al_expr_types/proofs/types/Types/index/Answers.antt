@@ -5,7 +5,7 @@ use Rattle.al_base.proofs.Growing.{begins_trans}
 use Rattle.al_types.specs.Types.{Present, field_at, fuse_optional, optional}
 use Rattle.al_expr_types.specs.Joining.{join_in}
 use Rattle.al_expr_types.specs.Names.{names_in}
-use Rattle.al_expr_types.specs.Types.{is_below, named_types, object_in, parts_of_all, type_in}
+use Rattle.al_expr_types.specs.Types.{named_types, object_in, parts_of_all, type_in}
 use Rattle.al_expr_types.proofs.Below.{types_same}
 use Rattle.al_expr_types.proofs.Gathering.{rest_is}
 use Rattle.al_expr_types.proofs.Indexes.{index_named}
