@@ -1,5 +1,5 @@
 -- Objects that fields are added to, one after another.
-use Rattle.std.proofs.Common.{◌≡◌, ℕ, List, [], ◌∷◌, ◌++◌, refl, sym, ap, ◌∙◌, Bool, true, false, Option, Some, None}
+use Rattle.std.proofs.Common.{◌≡◌, ℕ, List, [], ◌∷◌, ◌++◌, refl, sym, ap, ◌∙◌, Bool, true, false, Some, None}
 use Rattle.std.specs.Prelude.{if◌then◌else◌, is_none, is_some, not, ◌&&◌}
 use Rattle.al_base.specs.Names.{same_name}
 use Rattle.al_types.specs.FusedFields.{are_distinct}
@@ -12,6 +12,7 @@ use Rattle.al_types.proofs.FuseLaws.{common_optional, last_turned, nothing_last,
 use Rattle.al_types.proofs.GatheredFields.{common_put, found_put}
 use Rattle.al_types.proofs.JoinedFields.{first_apart, has_field_at, nothing_at, others_apart, same_turned}
 use Rattle.al_types.proofs.Puts.{put_behind}
+use Rattle.al_expr_types.proofs.NameIndexes.{none_there}
 use Rattle.al_expr.specs.Trees.{field_parts, listed_parts}
 use Rattle.al_expr.proofs.Firsts.{firsts_more, firsts_old, none_first}
 
@@ -40,17 +41,13 @@ put_distinct (q ∷ qs) p d =
     ∙ ap (λ b. is_some (if b then Some p.1 else None)) (same_turned p.0 q.0 ∙ f))
     (put_distinct qs p (others_apart (has_field q.0 qs) (are_distinct qs) d))
 
-none_is : (o : Option ℕ) → is_none o ≡ true → o ≡ None
-none_is None e = refl
-none_is (Some i) e = absurd cc
-
 -- ---- fields one after another
 
 -- one that is the first of its name
 pub added_first : (ts : List TypedName) (p : TypedName) (start old new : Parts) → is_none (name_at ts p.0) ≡ true →
     old ≡ fuse_parts start (listed_parts ts Absent) → new ≡ fuse_parts old (field_parts p) → new ≡ fuse_parts start (listed_parts (ts ++ p ∷ []) Absent)
 added_first ts p start old new first was is =
-    let none = none_is (name_at (firsts ts) p.0) (none_first ts p.0 ∙ first) in
+    let none = none_there (name_at (firsts ts) p.0) (sym (none_first ts p.0 ∙ first)) in
     is ∙ ap (λ q. fuse_parts q (field_parts p)) was ∙ parts_assoc start (listed_parts ts Absent) (field_parts p)
     ∙ ap (fuse_parts start) (sym (parts_put (firsts ts) p Absent) ∙ ap (λ us. parts_with us Absent) (put_behind (firsts ts) p none ∙ sym (firsts_more ts p)))
 

@@ -1,6 +1,6 @@
 -- An operand more of a chain, and what was joined so far in a table that has grown.
 use Rattle.std.proofs.Common.{◌≡◌, List, [], ◌++◌, true, false, refl, ap, ◌∙◌}
-use Rattle.std.specs.Prelude.{if◌then◌else◌, not}
+use Rattle.std.specs.Prelude.{not}
 use Rattle.al_base.specs.Growth.{BeginsWith}
 use Rattle.al_base.specs.declared.codes.ExpressionCode.TheVariants as code
 use Rattle.al_base.specs.declared.faults.Fault.{Fault}
@@ -20,13 +20,10 @@ use Rattle.al_expr_typing.specs.Chains.{has_operand, is_join_known, type_so_far}
 
 -- ---- one more
 
-pub more_fused : (o new : Optional) (t : Type') → is_present o ≡ true → new ≡ fuse_optional o (Present t) → or_any (option_of new) ≡ fuse_type (or_any (option_of o)) t
+pub more_fused : (o new : Optional) (t : Type') → is_present o ≡ true → new ≡ fuse_optional o (Present t) →
+    (or_any (option_of new) ≡ fuse_type (or_any (option_of o)) t) × (is_present new ≡ true)
 more_fused Absent new t h e = absurd cc
-more_fused (Present u) new t h e = ap (λ x. or_any (option_of x)) e
-
-pub more_present : (o new : Optional) (t : Type') → is_present o ≡ true → new ≡ fuse_optional o (Present t) → is_present new ≡ true
-more_present Absent new t h e = absurd cc
-more_present (Present u) new t h e = ap is_present e
+more_fused (Present u) new t h e = (ap (λ x. or_any (option_of x)) e, ap is_present e)
 
 pub chosen : (o : Operator) (s : Span) (t u v : Type') (old : List Fault) → is_logic o ≡ true → v ≡ fuse_type t u → typed v old ≡ faults_then old (operation o s t u)
 chosen o s t u v old h e = rw (e, h) (unchanged (fuse_type t u) old)

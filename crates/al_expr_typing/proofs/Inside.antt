@@ -1,5 +1,5 @@
 -- Each fault of a meaning lies in the content that its tree lies in.
-use Rattle.std.proofs.Common.{◌≤◌, ◌+◌, ℕ, List, [], ◌∷◌, ◌++◌, length, drop, arith, Bool, true, false, cond, ◌||◌, ◌&&◌, not, Option, Some, None}
+use Rattle.std.proofs.Common.{◌≤◌, ◌+◌, ℕ, List, [], ◌∷◌, ◌++◌, length, drop, arith, Bool, true, false, ◌||◌, ◌&&◌, not, Option, Some, None}
 use Rattle.std.proofs.lemmas.Bool.{cond_both}
 use Rattle.std.specs.List.{AllByRecursion}
 use Rattle.std.specs.Option.{option_map_or}
@@ -172,9 +172,6 @@ module _ (size : ℕ) where
 
   mutual
     pub meaning_lies : (t : Tree) (sc : Scope) (safe : Bool) (low : ℕ) → TreeLies size low t → TypedLies (meaning sc safe t)
-    meaning_lies (Constant w s) sc safe low l = tt
-    meaning_lies (tree.Number b s) sc safe low l = tt
-    meaning_lies (tree.Text b s) sc safe low l = tt
     meaning_lies (Named b s) sc safe low l = named_lies sc b s (context_of b) l.1
     meaning_lies (Call b s ts e) sc safe low l =
         called_lies sc b s (function_of b) ts s.start (meanings sc (safe || is_test (function_of b)) ts) l.1 l.2
@@ -188,6 +185,7 @@ module _ (size : ℕ) where
     meaning_lies (Chain t os) sc safe low l =
         then_lies (meaning sc (safe || not (begins_logic os)) t) (λ u. operations sc (safe || not (begins_logic os)) os u)
         (meaning_lies t sc (safe || not (begins_logic os)) low l.0) (λ u. chained_lies os sc (safe || not (begins_logic os)) (start_of t) u l.1)
+    meaning_lies _ sc safe low l = tt
 
     walked_lies : (ss : PathSteps) (sc : Scope) (safe : Bool) (low : ℕ) (u : Type') → StepsLie size low ss → TypedLies (walk sc safe ss u)
     walked_lies NoStep sc safe low u l = tt

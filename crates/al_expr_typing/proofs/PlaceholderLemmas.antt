@@ -116,14 +116,10 @@ piece_within b bs n h =
 abbrev AreWithin : ℕ → Type 0
 AreWithin n = (used : List Bool) (bs : List ℕ) → length bs ≤ n → used_from Outside used bs ≡ used_within n used bs
 
-same_cond : (t : Bool) (x y : Option (List Bool)) → x ≡ y → cond t x None ≡ cond t y None
-same_cond true x y e = e
-same_cond false x y e = refl
-
 further : (n : ℕ) (used : List Bool) (p : Piece) → IsWithin n p → AreWithin n → behind used p ≡ used_with (used_within n) used p
 further n used NoPiece h f = refl
 further n used (Plain rest) h f = f used rest h
-further n used (Argument k rest) h f = same_cond (nat_lt k (length used)) _ _ (f (slice_set used k true) rest h)
+further n used (Argument k rest) h f = ap (λ o. cond (nat_lt k (length used)) o None) (f (slice_set used k true) rest h)
 
 within : (n : ℕ) → AreWithin n
 within zero used [] h = refl

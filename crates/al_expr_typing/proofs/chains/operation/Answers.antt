@@ -7,7 +7,7 @@ use Rattle.al_expr_typing.specs.Meaning.{typed, give}
 use Rattle.al_expr_types.specs.Joining.{join_in}
 use Rattle.al_expr_types.specs.Tables.{objects_of, type_at}
 use Rattle.al_expr_typing.specs.Chains.{type_so_far}
-use Rattle.al_expr_typing.proofs.ChainLemmas.{chosen, compared, more_fused, more_present}
+use Rattle.al_expr_typing.proofs.ChainLemmas.{chosen, compared, more_fused}
 use Rattle.al_expr_types.proofs.Stays.{type_stays}
 use Rattle.al_expr_typing.proofs.chains.operation.Goals as goal
 
@@ -18,12 +18,12 @@ returns-then-is_logic-clause-ok c =
     let all = c.args.sofar in
     let u = type_at types c.args.operand.ty in
     let fused = more_fused (join_in ms all) (join_in ms c.in_ok-more.more) u c.requires.present (c.in_ok-more.ensures.ty ms) in
-    chosen c.args.operand.operator c.args.operand.at (type_so_far types all) u _ c.args.faults.now (sym c.is_logic.ensures ∙ c.if-is_logic.true) fused
+    chosen c.args.operand.operator c.args.operand.at (type_so_far types all) u _ c.args.faults.now (sym c.is_logic.ensures ∙ c.if-is_logic.true) fused.0
 
 pub returns-then-is_logic-clause-present : goal.returns-then-is_logic-clause-present
 returns-then-is_logic-clause-present c =
     let ms = objects_of c.args.types.now in
-    more_present (join_in ms c.args.sofar) _ (type_at c.args.types.now c.args.operand.ty) c.requires.present (c.in_ok-more.ensures.ty ms)
+    (more_fused (join_in ms c.args.sofar) (join_in ms c.in_ok-more.more) (type_at c.args.types.now c.args.operand.ty) c.requires.present (c.in_ok-more.ensures.ty ms)).1
 
 pub returns-clause-ok : goal.returns-clause-ok
 returns-clause-ok c =

@@ -15,7 +15,7 @@ use Rattle.al_expr_types.specs.Tables.{is_known, objects_of, type_at}
 use Rattle.al_expr_types.proofs.Below.{all_more}
 use Rattle.al_expr_typing.specs.Arguments.{are_known, argument_at}
 use Rattle.al_expr_typing.specs.Scopes.{scope_view}
-use Rattle.al_expr_typing.specs.Meaning.{typed, faults_then, all_behind, walk, operations, begins_logic, call_from, index_of, meaning, meanings, operation, step_from}
+use Rattle.al_expr_typing.specs.Meaning.{typed, faults_then, all_behind, walk, operations, begins_logic, call_from, index_of, meanings}
 use Rattle.al_expr_typing.specs.Chains.{type_so_far}
 use Rattle.al_expr_typing.proofs.ChainLemmas.{join_stays, operand_stays, so_far_stays}
 use Rattle.al_expr_types.proofs.Stays.{known_stays, type_stays}
