@@ -111,7 +111,8 @@ module _ {I : Type 0} (m : Meaning I) (f : Folder) where
   LoopAt x = not (length (loop_faults m f x.0 x.1.0 x.1.1) == 0)
 
   -- a file has something to report just where a call of it is on a call cycle, or it has faults of its own
-  any_reported : {U : Type 0} (n : ℕ) (es : Files U I) → AllChecked m f es → list_any (λ (x : ℕ × (List ℕ × List ℕ)). not (length (report_faults m f x.0 x.1.0 x.1.1) == 0)) (enumerate_from n (folder_of es))
+  any_reported : {U : Type 0} (n : ℕ) (es : Files U I) → AllChecked m f es
+      → list_any (λ (x : ℕ × (List ℕ × List ℕ)). not (length (report_faults m f x.0 x.1.0 x.1.1) == 0)) (enumerate_from n (folder_of es))
       ≡ (list_any LoopAt (enumerate_from n (folder_of es)) || list_any (λ (e : String Global × KeptFile U I). not (length e.1.faults.items == 0)) es)
   unfolding report_faults
   any_reported n [] checked = refl
@@ -168,7 +169,8 @@ module _ {U I : Type 0} (m : Meaning I) (ordered : (p b : List ℕ) (given : Lis
       by : (b : Bool) → (length loops == 0) ≡ b → joined_or_own e.1 joined ≡ report_faults m (folder_of files) i (string_bytes e.0) e.1.bytes.items
       by true none =
           let empty : length joined ≡ 0 = sym long ∙ ap length (rw none at now) in
-          rw empty (own_reported m ordered (folder_of files) i (string_bytes e.0) e.1.bytes.items e.1.faults.items (checked_number m (folder_of files) files i e checked at) (sym all ∙ none_of loops none))
+          rw empty (own_reported m ordered (folder_of files) i (string_bytes e.0) e.1.bytes.items e.1.faults.items
+          (checked_number m (folder_of files) files i e checked at) (sym all ∙ none_of loops none))
       by false some =
           let put : referents joined ≡ fault_list (own ++ loops) = rw some at now in
           let in_order_too = some_in_order (own ++ loops) in

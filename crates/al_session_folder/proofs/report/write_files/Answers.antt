@@ -25,7 +25,8 @@ returns-in_err-write_file-clause-prefix g c =
     let is = c.requires.listed.each c.loop-index.index _ (omega (arith, c.len-index-end.ensures.len, c.loop-index-test.true)) c.index-joined-index.is e c.file_number.ensures in
     rw p.1 (AppendsPrefix-next (numbered_lines c.args.oneline g.L.Lint.meaning (folder_of files)) (enumerate_from 0 files) c.loop-index.index (c.loop-index.index, e)
     (omega (arith, length-enumerate_from 0 files, c.len-index-end.ensures.len, c.loop-index-test.true))
-    (numbered_read files c.loop-index.index e c.file_number.ensures) _ _ _ c.loop-index.invariant.appended (rw (c.as_str.ensures.value, c.deref.ensures.value, is) at c.in_err-write_file.ensures.prefix))
+    (numbered_read files c.loop-index.index e c.file_number.ensures) _ _ _ c.loop-index.invariant.appended
+    (rw (c.as_str.ensures.value, c.deref.ensures.value, is) at c.in_err-write_file.ensures.prefix))
 
 pub loop-index-preserved : goal.loop-index-preserved
 loop-index-preserved g c =
@@ -35,7 +36,8 @@ loop-index-preserved g c =
     record {
       appended = Appends-next (numbered_lines c.args.oneline g.L.Lint.meaning (folder_of files)) (enumerate_from 0 files) c.loop-index.index (c.loop-index.index, e)
           (omega (arith, length-enumerate_from 0 files, c.len-index-end.ensures.len, c.loop-index-test.true))
-          (numbered_read files c.loop-index.index e c.file_number.ensures) _ _ _ c.loop-index.invariant.appended (rw (c.as_str.ensures.value, c.deref.ensures.value, is) at c.in_ok-write_file.ensures.all);
+          (numbered_read files c.loop-index.index e c.file_number.ensures) _ _ _ c.loop-index.invariant.appended
+          (rw (c.as_str.ensures.value, c.deref.ensures.value, is) at c.in_ok-write_file.ensures.all);
       unfailed = c.in_ok-write_file.ensures.failures ∙ c.loop-index.invariant.unfailed;
     }
 

@@ -9,7 +9,8 @@ use Rattle.al_session_folder.proofs.affected.PlannedChange.affected_paths.Goals 
 pub returns-in_ok-affected-in-Some : goal.returns-in_ok-affected-in-Some
 returns-in_ok-affected-in-Some g c =
     let p = c.self.inside.path.now in
-    c.put_paths_in_order.ensures ∙ affected_found g.L.Lint.meaning g.L.Lint.is_unit g.L.Iface.PartialEq.eq g.met.L.Iface.Eq.laws.refl c.self.inside.files.now.entries c.self.inside.path.now c.self.inside.next c.args.self.now
+    c.put_paths_in_order.ensures
+    ∙ affected_found g.L.Lint.meaning g.L.Lint.is_unit g.L.Iface.PartialEq.eq g.met.L.Iface.Eq.laws.refl c.self.inside.files.now.entries c.self.inside.path.now c.self.inside.next c.args.self.now
     c.self.view_is c.self.invariant c.args.callers.now c.requires.index c.requires.other c.in_ok-paths.paths.items (rw c.is_some.ensures at c.in_ok-paths.ensures)
     (λ q. list_any (λ k. bytes_eq q (string_bytes k)) c.as_slice.result.now)
     (λ q. ap (list_any (λ k. bytes_eq q (string_bytes k))) c.as_slice.ensures.keys ∙ known_at c.args.callers.now p _ (sym c.in-Some.ensures.value) p q (bytes_self p))
