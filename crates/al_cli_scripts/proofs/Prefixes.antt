@@ -1,10 +1,10 @@
 -- What the beginning of the bytes that wait shows: a command, a wrong line, or neither yet.
-use Rattle.std.proofs.Common.{◌≡◌, ◌≢◌, ℕ, suc, ◌+◌, ◌-◌, ◌^◌, ◌≤◌, ◌<◌, inl, inr, List, [], ◌∷◌, ◌++◌, length, get_or, take, drop, All}
+use Rattle.std.proofs.Common.{◌≡◌, ◌≢◌, ℕ, ◌+◌, ◌-◌, ◌^◌, ◌≤◌, ◌<◌, inl, inr, List, [], ◌∷◌, ◌++◌, length, get_or, take, drop, All}
 use Rattle.std.proofs.Common.{refl, sym, ap, subst, ◌∙◌, arith, append_assoc, append-nil, length-append, length-take, length-drop, rules}
-use Rattle.std.proofs.Common.{add-one, decimal}
+use Rattle.std.proofs.Common.{decimal}
 use Rattle.std.proofs.lemmas.Grind.{common_steps}
-use Rattle.std.proofs.lemmas.List.{take-append-drop, take_all}
-use Rattle.std.proofs.Math.Seq.{drop-cons, drop-drop}
+use Rattle.std.proofs.lemmas.List.{drop_more, take-append-drop, take_all}
+use Rattle.std.proofs.Math.Seq.{drop-drop}
 use Rattle.al_cli_scripts.specs.Script.{Command, Put, ScriptLine, PutLine, IsLine, IsPathText, line_bytes, line_of, body_of, HasNoBreak, command_bytes, IsWrong, IsPending}
 use Rattle.al_cli_scripts.specs.Private.Next.{IsFirst}
 use Rattle.al_cli_scripts.proofs.Laws.{first_unique, last_unique, has_none, digits_without, line_unbroken, line_unique, no_early}
@@ -18,9 +18,8 @@ use Rattle.std.specs.Str.Parse.{ParsesUnsigned}
 -- a list is what stands before an element, the element, and the rest
 pub cut_at : (xs : List ℕ) (k d : ℕ) → k < length xs → get_or xs k 0 ≡ d → xs ≡ take k xs ++ d ∷ drop (k + 1) xs
 cut_at xs k d h e =
-    let split : take k xs ++ drop k xs ≡ xs = take-append-drop k xs in
-    let rest : drop k xs ≡ get_or xs k 0 ∷ drop (suc k) xs = drop-cons xs k 0 h in
-    sym split ∙ ap (λ l. take k xs ++ l) (rest ∙ ap (λ b. b ∷ drop (suc k) xs) e ∙ ap (λ n. d ∷ drop n xs) (sym (add-one k)))
+    let rest : drop k xs ≡ d ∷ drop (k + 1) xs = rw (drop_more xs k 0 h, e) in
+    sym (take-append-drop k xs) ∙ ap (λ l. take k xs ++ l) rest
 
 no_break : (bytes l r : List ℕ) → HasNoBreak bytes → bytes ≡ l ++ 10 ∷ r → ⊥
 no_break bytes l r p e = has_none 10 l r (subst HasNoBreak e p)
@@ -106,15 +105,13 @@ module _ (bytes : List ℕ) (end : ℕ) (path : List ℕ) (len : ℕ) (within : 
   pub put_wrong : (body : List ℕ) → body ≡ drop (end + 1) bytes → len < length body → get_or body len 0 ≢ 10 → IsWrong bytes
   put_wrong body be long ne =
       let n : length (take len body) ≡ len = taken body long in
-      let line : List ℕ = line_bytes (PutLine path (length (take len body))) in
       inr (inr (
         path,
         take len body,
         get_or body len 0,
         drop (len + 1) body,
-        subst (λ m. IsLine (PutLine path m)) (sym n) ok,
-        body_split body (get_or body len 0) be long refl ∙ ap (λ m. line_bytes (PutLine path m) ++ 10 ∷ (take len body ++ get_or body len 0 ∷ drop (len + 1) body)) (sym n)
-            ∙ sym (append_assoc line (10 ∷ take len body) (get_or body len 0 ∷ drop (len + 1) body)),
+        rw n ok,
+        rw (n, append_assoc (line_bytes (PutLine path len)) (10 ∷ take len body) (get_or body len 0 ∷ drop (len + 1) body)) (body_split body (get_or body len 0) be long refl),
         ne,
       ))
 
@@ -122,18 +119,13 @@ module _ (bytes : List ℕ) (end : ℕ) (path : List ℕ) (len : ℕ) (within : 
   pub put_whole : (body : List ℕ) → body ≡ drop (end + 1) bytes → len < length body → get_or body len 0 ≡ 10 → IsFirst bytes (Put path (take len body)) (end + 1 + len + 1)
   put_whole body be long e =
       let n : length (take len body) ≡ len = taken body long in
-      let line : List ℕ = line_bytes (PutLine path (length (take len body))) in
       let rest : drop (len + 1) body ≡ drop (end + 1 + len + 1) bytes = ap (drop (len + 1)) be ∙ drop-drop (len + 1) (end + 1) bytes ∙ ap (λ k. drop k bytes) (omega arith) in
       let size : length body ≡ length bytes - (end + 1) = ap length be ∙ length-drop (end + 1) bytes in
       record {
-        command_ok = subst (λ m. IsLine (PutLine path m)) (sym n) ok;
+        command_ok = rw n ok;
         within = omega (arith, size, long, within);
         moves = omega arith;
-        whole = body_split body 10 be long e
-            ∙ ap (λ m. line_bytes (PutLine path m) ++ 10 ∷ (take len body ++ 10 ∷ drop (len + 1) body)) (sym n)
-            ∙ ap (λ l. line ++ 10 ∷ (take len body ++ 10 ∷ l)) rest
-            ∙ ap (λ l. line ++ 10 ∷ l) (sym (append_assoc (take len body) (10 ∷ []) (drop (end + 1 + len + 1) bytes)))
-            ∙ sym (append_assoc line (10 ∷ (take len body ++ 10 ∷ [])) (drop (end + 1 + len + 1) bytes));
+        whole = rw (n, append_assoc (line_bytes (PutLine path len)) (10 ∷ (take len body ++ 10 ∷ [])), append_assoc (take len body) (10 ∷ []), ← rest) (body_split body 10 be long e);
       }
 
 -- ---- the parts of a line
@@ -153,7 +145,7 @@ find_is bytes prefix (Some k) f p =
     take_less a b l h = search (rules, common_steps)
 
 decimal_utf8 : (n : ℕ) (ds : List ℕ) → n < 10 ^ 7 → ds ≡ decimal n → IsUtf8 ds
-decimal_utf8 n ds h e = subst IsUtf8 (sym e) (IsUtf8-from_ascii (decimal n) (IsAscii-decimal n (omega arith)))
+decimal_utf8 n ds h e = rw e (IsUtf8-from_ascii (decimal n) (IsAscii-decimal n (omega arith)))
 
 pub not_text : (ds : List ℕ) → (IsUtf8 ds → ⊥) → (n : ℕ) → n < 10 ^ 7 → ds ≢ decimal n
 not_text ds bad n h e = bad (decimal_utf8 n ds h e)
