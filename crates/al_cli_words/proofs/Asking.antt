@@ -1,15 +1,11 @@
 -- What the command line's matches ask for.
 use Rattle.std.proofs.Common.{◌≡◌, List, [], Result, Ok, Err, subst, inl, inr}
 use Rattle.std.specs.Prelude.{OnOk}
-use Rattle.std.specs.Borrow.{Bor}
 use Rattle.clap.specs.Words.{HasKind, IsAmong, Text, kind_of}
 use Rattle.clap.specs.declared.error.Error.{Error}
 use Rattle.al_cli_words.specs.Words.{IsNoRun, IsSaidAs, IsUsage, kinds_in, rows_in}
 use Rattle.al_cli_words.specs.declared.words.Usage.{Usage}
 use Rattle.al_cli_words.specs.declared.words.Usage.TheVariants as usage
-
-abbrev text_of : Bor Text → Text
-text_of t = t.now
 
 -- what a wrong command line is said as
 pub said : (words : List Text) (e : Error) (u : Usage) → HasKind (kinds_in words) e → IsSaidAs (kind_of e) u → IsUsage words u
