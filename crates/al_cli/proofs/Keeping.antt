@@ -1,11 +1,12 @@
 -- Files put one after another, none at a path that is there.
-use Rattle.std.proofs.Common.{◌≡◌, ℕ, Bool, true, false, List, [], ◌∷◌, ◌++◌, Option, None, Result, Ok, Err, OnOk, refl, sym, ap, ◌∙◌, subst}
-use Rattle.std.specs.Prelude.{is_some, unwrap_or, bytes_eq, OnErr}
+use Rattle.std.proofs.Common.{◌≡◌, ℕ, true, false, List, [], ◌∷◌, ◌++◌, None, refl, sym, ap, ◌∙◌, subst, arith}
+use Rattle.std.specs.Prelude.{is_some, unwrap_or, bytes_eq}
 use Rattle.std.specs.List.{AllByRecursion}
 use Rattle.al_session.specs.Folder.{Folder, bytes_at, put_refusal, with_file}
+use Rattle.std.proofs.lemmas.Bool.Decides.{nat_tests}
 use Rattle.al_session_folder.proofs.Views.{bytes_put, bytes_put_other, bytes_same, bytes_self}
 use Rattle.al_check.specs.Linting.{linting}
-use Rattle.al_cli.specs.Linted.{folder_with, AreTaken}
+use Rattle.al_cli.specs.Linted.{folder_with}
 use Rattle.al_cli.specs.Private.Kept.{AreKept, KeptFiles, entries_in}
 use Rattle.al_cli.specs.Taken.{AreGathered, AreNew}
 use Rattle.al_cli.proofs.Putting.{taken_more, with_more}
@@ -15,13 +16,9 @@ IsThere f q = is_some (bytes_at f q) ≡ true
 
 -- a path at which a file is isn't one at which none is
 apart : (f : Folder) (p q : List ℕ) → bytes_at f p ≡ None → IsThere f q → bytes_eq q p ≡ false
-apart f p q none there = by (bytes_eq q p) refl
-  where
-    by : (t : Bool) → bytes_eq q p ≡ t → t ≡ false
-    by false h = refl
-    by true h =
-        let gone : is_some (bytes_at f q) ≡ false = ap (λ x. is_some (bytes_at f x)) (bytes_same q p h) ∙ ap is_some none in
-        sym there ∙ gone
+apart f p q none there =
+    let gone : bytes_eq q p ≡ true → is_some (bytes_at f q) ≡ false = λ h. ap (λ x. is_some (bytes_at f x)) (bytes_same q p h) ∙ ap is_some none in
+    grind (arith, nat_tests, gone)
 
 -- one more file that is put where none is
 new_more : (f : Folder) (es : List (List ℕ × List ℕ)) (e : List ℕ × List ℕ) → AreNew f es → bytes_at (folder_with f es) e.0 ≡ None → AreNew f (es ++ e ∷ [])
@@ -32,11 +29,8 @@ module _ (f : Folder) (p b : List ℕ) where
   -- the bytes of those that are there stay
   entries_put : (ps : List (List ℕ)) → bytes_at f p ≡ None → AllByRecursion (IsThere f) ps
       → entries_in (with_file f p b) (ps ++ p ∷ []) ≡ entries_in f ps ++ (p, b) ∷ []
-  entries_put [] none all = ap (λ (o : Option (List ℕ)). (p, unwrap_or o []) ∷ []) (bytes_put p p f b (bytes_self p))
-  entries_put (q ∷ qs) none all =
-      let same = bytes_put_other p q f b (apart f p q none all.0) in
-      ap (λ (o : Option (List ℕ)). (q, unwrap_or o []) ∷ entries_in (with_file f p b) (qs ++ p ∷ [])) same
-      ∙ ap (λ l. (q, unwrap_or (bytes_at f q) []) ∷ l) (entries_put qs none all.1)
+  entries_put [] none all = rw (bytes_put p p f b (bytes_self p)) refl
+  entries_put (q ∷ qs) none all = rw (bytes_put_other p q f b (apart f p q none all.0)) (ap (λ l. (q, unwrap_or (bytes_at f q) []) ∷ l) (entries_put qs none all.1))
 
   -- they and the new one are there
   there_put : (ps : List (List ℕ)) → bytes_at f p ≡ None → AllByRecursion (IsThere f) ps → AllByRecursion (IsThere (with_file f p b)) (ps ++ p ∷ [])
@@ -44,25 +38,18 @@ module _ (f : Folder) (p b : List ℕ) where
   there_put (q ∷ qs) none all =
       (ap is_some (bytes_put_other p q f b (apart f p q none all.0)) ∙ all.0, there_put qs none all.1)
 
-  pub entries_more : (g : Folder) (ps : List (List ℕ)) → bytes_at f p ≡ None → g ≡ with_file f p b → AllByRecursion (IsThere f) ps
-      → entries_in g (ps ++ p ∷ []) ≡ entries_in f ps ++ (p, b) ∷ []
-  entries_more g ps none made there = ap (λ (h : Folder). entries_in h (ps ++ p ∷ [])) made ∙ entries_put ps none there
-
   pub parts_more : (g : Folder) (c c2 : ℕ) (ps : List (List ℕ)) → bytes_at f p ≡ None → put_refusal linting f p b ≡ None → g ≡ with_file f p b
       → c2 ≡ c → KeptFiles f c ps → KeptFiles g c2 (ps ++ p ∷ [])
   parts_more g c c2 ps none right made same kept =
       let es = entries_in f ps in
-      let more : entries_in g (ps ++ p ∷ []) ≡ es ++ (p, b) ∷ [] = entries_more g ps none made kept.there in
-      let refusal : put_refusal linting (folder_with [] es) p b ≡ None =
-      subst (λ (h : Folder). put_refusal linting h p b ≡ None) kept.made right in
-      let alone : bytes_at (folder_with [] es) p ≡ None = subst (λ (h : Folder). bytes_at h p ≡ None) kept.made none in
+      let more : entries_in g (ps ++ p ∷ []) ≡ es ++ (p, b) ∷ [] = rw made (entries_put ps none kept.there) in
       record {
         gathered = record {
-          taken = subst (AreTaken []) (sym more) (taken_more [] es (p, b) kept.gathered.taken refusal);
-          new = subst (AreNew []) (sym more) (new_more [] es (p, b) kept.gathered.new alone);
+          taken = rw more (taken_more [] es (p, b) kept.gathered.taken (subst (λ (h : Folder). put_refusal linting h p b ≡ None) kept.made right));
+          new = rw more (new_more [] es (p, b) kept.gathered.new (subst (λ (h : Folder). bytes_at h p ≡ None) kept.made none));
         };
         made = made ∙ ap (λ (h : Folder). with_file h p b) kept.made ∙ sym (with_more [] es (p, b)) ∙ ap (folder_with []) (sym more);
-        there = subst (λ (h : Folder). AllByRecursion (IsThere h) (ps ++ p ∷ [])) (sym made) (there_put ps none kept.there);
+        there = rw made (there_put ps none kept.there);
         unchecked = same ∙ kept.unchecked;
       }
 
@@ -75,11 +62,6 @@ pub kept_of : (f : Folder) (c : ℕ) (ps : List (List ℕ)) → KeptFiles f c ps
 unfolding AreKept
 kept_of f c ps parts = parts
 
--- the same files, otherwise named
-pub kept_same : (f g : Folder) (c d : ℕ) (ps qs : List (List ℕ)) → g ≡ f → d ≡ c → qs ≡ ps → AreKept f c ps → AreKept g d qs
-kept_same f g c d ps qs e h i kept =
-    subst (λ (x : Folder). AreKept x d qs) (sym e) (subst (λ (x : ℕ). AreKept f x qs) (sym h) (subst (λ (x : List (List ℕ)). AreKept f c x) (sym i) kept))
-
 -- one more file that is put where none is
 pub kept_more : (f g : Folder) (p text b : List ℕ) (c d : ℕ) (ps qs : List (List ℕ)) → AreKept f c ps → bytes_at (folder_with [] (entries_in f ps)) p ≡ None
     → text ≡ p → put_refusal linting f text b ≡ None → g ≡ with_file f text b → d ≡ c → qs ≡ ps ++ p ∷ []
@@ -87,10 +69,9 @@ pub kept_more : (f g : Folder) (p text b : List ℕ) (c d : ℕ) (ps qs : List (
 kept_more f g p text b c d ps qs kept alone same_text right made same more =
     let parts = parts_of f c ps kept in
     let none : bytes_at f p ≡ None = ap (λ (h : Folder). bytes_at h p) parts.made ∙ alone in
-    let taken : put_refusal linting f p b ≡ None = subst (λ (x : List ℕ). put_refusal linting f x b ≡ None) same_text right in
     let with : g ≡ with_file f p b = made ∙ ap (λ (x : List ℕ). with_file f x b) same_text in (
-      subst (λ (x : List (List ℕ)). AreKept g d x) (sym more) (kept_of g d (ps ++ p ∷ []) (parts_more f p b g c d ps none taken with same parts)),
-      ap (entries_in g) more ∙ entries_more f p b g ps none with parts.there,
+      rw more (kept_of g d (ps ++ p ∷ []) (parts_more f p b g c d ps none (rw same_text at right) with same parts)),
+      rw (more, with) (entries_put f p b ps none parts.there),
     )
 
 -- what is kept, told by the list of the files
@@ -100,25 +81,6 @@ kept_as f c ps es kept is =
     let parts = parts_of f c ps kept in
     (subst AreGathered is parts.gathered, parts.made ∙ ap (folder_with []) is, parts.unchecked)
 
--- none has a path, however the files and the path are named
-pub none_there : (es fs : List (List ℕ × List ℕ)) (p q : List ℕ) → es ≡ fs → q ≡ p → bytes_at (folder_with [] fs) p ≡ None
-    → bytes_at (folder_with [] es) q ≡ None
-none_there es fs p q files path none =
-    ap (λ (l : List (List ℕ × List ℕ)). bytes_at (folder_with [] l) q) files ∙ ap (bytes_at (folder_with [] fs)) path ∙ none
-
--- what a put leaves, told by the list of the files
-pub put_as : {E : Type 0} (r : Result (Unit {0}) E) (es fs gs : List (List ℕ × List ℕ)) (p q b : List ℕ) → es ≡ fs → q ≡ p
-    → OnOk r (gs ≡ es ++ (q, b) ∷ []) → OnOk r (gs ≡ fs ++ (p, b) ∷ [])
-put_as (Ok u) es fs gs p q b files path put =
-    put ∙ ap (λ (l : List (List ℕ × List ℕ)). l ++ (q, b) ∷ []) files ∙ ap (λ (x : List ℕ). fs ++ (x, b) ∷ []) path
-put_as (Err e) es fs gs p q b files path put = tt
-
-pub stays_as : {E : Type 0} (r : Result (Unit {0}) E) (es fs gs : List (List ℕ × List ℕ)) → es ≡ fs → OnErr r (gs ≡ es) → OnErr r (gs ≡ fs)
-stays_as (Ok u) es fs gs files stays = tt
-stays_as (Err e) es fs gs files stays = stays ∙ files
-
 -- no file, put into no folder
-pub kept_none : (f : Folder) (c : ℕ) (ps : List (List ℕ)) → f ≡ [] → c ≡ 0 → ps ≡ [] → AreKept f c ps
-kept_none f c ps none zero empty =
-    let parts : KeptFiles f c [] = record { gathered = record { taken = tt; new = tt }; made = none; there = tt; unchecked = zero } in
-    subst (AreKept f c) (sym empty) (kept_of f c [] parts)
+pub kept_none : AreKept [] 0 []
+kept_none = kept_of [] 0 [] (record { gathered = record { taken = tt; new = tt }; made = refl; there = tt; unchecked = refl })

@@ -1,9 +1,9 @@
-use Rattle.std.proofs.Common.{◌≡◌, ◌≤◌, ◌<◌, ◌+◌, ◌∙◌, ℕ, Bool, true, false, not, if◌then◌else◌, List, [], ◌∷◌, ◌++◌, Result, Ok, Err, OnOk, ap, arith, refl}
+use Rattle.std.proofs.Common.{◌≡◌, ◌≤◌, ◌<◌, ◌+◌, ◌∙◌, ℕ, Bool, true, false, not, if◌then◌else◌, List, [], ◌∷◌, ◌++◌, Result, Ok, Err, OnOk, ap, arith}
 use Rattle.std.specs.Prelude.{is_ok}
 use Rattle.std.proofs.lemmas.Result.{err_from_is_err_and}
 use Rattle.al_session.specs.Folder.{Folder}
 use Rattle.al_cli.specs.Private.Kept.{entries_in}
-use Rattle.al_cli.proofs.Keeping.{kept_more, kept_same}
+use Rattle.al_cli.proofs.Keeping.{kept_more}
 use Rattle.al_cli.proofs.taken.put_behind.Goals as goal
 
 -- a push for which there was room
@@ -16,13 +16,13 @@ pushed {T} {E} {A} (Ok u) fails pushes len room old between new x well is fits s
 pushed {T} {E} {A} (Err e) fails pushes len room old between new x well is fits succeeds same items = let gone : false ≡ true = is ∙ ap not well in absurd cc
 
 pub returns-then-is_err-clause-kept : goal.returns-then-is_err-clause-kept
-returns-then-is_err-clause-kept c = kept_same _ _ _ _ _ _ refl refl c.reserve.ensures.items c.requires.kept
+returns-then-is_err-clause-kept c = rw c.reserve.ensures.items c.requires.kept
 
 pub returns-then-is_err-clause-as_before : goal.returns-then-is_err-clause-as_before
 returns-then-is_err-clause-as_before c = ap (entries_in c.args.files.now.folder) c.reserve.ensures.items
 
 pub returns-in_err-put-clause-kept : goal.returns-in_err-put-clause-kept
-returns-in_err-put-clause-kept c = kept_same _ _ _ _ _ _ c.in_err-put.ensures.as_before c.put.ensures.meter c.reserve.ensures.items c.requires.kept
+returns-in_err-put-clause-kept c = rw (c.in_err-put.ensures.as_before, c.put.ensures.meter, c.reserve.ensures.items) c.requires.kept
 
 pub returns-in_err-put-clause-put : goal.returns-in_err-put-clause-put
 returns-in_err-put-clause-put c =
