@@ -23,10 +23,8 @@ use Rattle.al_check_interfaces.specs.declared.interfaces.Signature.{Signature}
 use Rattle.al_check_interfaces.specs.Uses.{Call, site_caller}
 use Rattle.al_check_calls.specs.Answers.{Answered}
 use Rattle.al_check_calls.specs.CallFaults.{callable_signature, is_compared}
-use Rattle.al_check_calls.specs.Private.AnswerViews.{compared_of}
 use Rattle.al_check_calls.specs.Private.Comparing.{AreToldByUses, CallAlike, Comparison, HaveOneSignature, TellSignatures, call_alike, compared_with}
 use Rattle.al_check_calls.specs.Private.Comparing.{comparison_of, comparisons}
-use Rattle.al_check_calls.specs.declared.comparisons.Comparison as code
 
 -- ---- what equality says
 
@@ -94,12 +92,17 @@ tell_signatures as' told q r a b =
     let all = All-from_recursion (IsTold told.answer) qs (all_told told.answer as' told.told) in
     pair_told told.answer q r (All-contains (IsTold told.answer) qs q all a) (All-contains (IsTold told.answer) qs r all b)
 
-pub tell_permuted : (xs ys : List Comparison) → IsPermutation xs ys → TellSignatures xs → TellSignatures ys
-tell_permuted xs ys p tell q r a b = tell q r (Contains-permutation ys xs q (IsPermutation-sym xs ys p) a) (Contains-permutation ys xs r (IsPermutation-sym xs ys p) b)
+-- ---- what any two of some elements tell
 
--- the one before and the next
-pub alike_next : (xs : List code.Comparison) (o : Option code.Comparison) (one : code.Comparison) → TellSignatures (map compared_of xs) →
-    IfSome o (λ p. Contains (map compared_of xs) (compared_of p)) → Contains (map compared_of xs) (compared_of one) →
-    IfSome o (λ p. HaveOneSignature (compared_of p) (compared_of one))
-alike_next xs None one tell before at = tt
-alike_next xs (Some p) one tell before at = tell (compared_of p) (compared_of one) before at
+module _ {Y : Type 0} (R : Y → Y → Type 0) where
+  abbrev Tell : List Y → Type 0
+  Tell ys = (a b : Y) → Contains ys a → Contains ys b → R a b
+
+  pub tell_permuted : (xs ys : List Y) → IsPermutation xs ys → Tell xs → Tell ys
+  tell_permuted xs ys p tell a b x y = tell a b (Contains-permutation ys xs a (IsPermutation-sym xs ys p) x) (Contains-permutation ys xs b (IsPermutation-sym xs ys p) y)
+
+  -- the one before and the next
+  pub tell_next : {X : Type 0} (f : X → Y) (xs : List X) (o : Option X) (one : X) → Tell (map f xs) → IfSome o (λ p. Contains (map f xs) (f p)) →
+      Contains (map f xs) (f one) → IfSome o (λ p. R (f p) (f one))
+  tell_next f xs None one tell before at = tt
+  tell_next f xs (Some p) one tell before at = tell (f p) (f one) before at

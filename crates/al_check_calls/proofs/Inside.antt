@@ -15,8 +15,8 @@ use Rattle.al_check_objects.specs.Inputs.{input_type}
 use Rattle.al_scalar.specs.Scalar.{Scalar}
 use Rattle.al_yaml_tree.specs.Node.{Node, scalar, sequence, mapping, span_of}
 use Rattle.al_yaml_tree.specs.Spans.{IsInside}
+use Rattle.al_tree.proofs.Kept.{entries_kept}
 use Rattle.al_tree.specs.Keys.{key_of}
-use Rattle.al_tree.specs.Values.{entries_at}
 use Rattle.al_check_interfaces.specs.Parameters.{is_parameter}
 use Rattle.al_check_interfaces.specs.declared.interfaces.Interface.{Interface}
 use Rattle.al_check_interfaces.specs.declared.interfaces.Interface.TheVariants.{Readable, Unreadable}
@@ -25,9 +25,8 @@ use Rattle.al_check_interfaces.specs.declared.interfaces.ParameterKind.{Paramete
 use Rattle.al_check_interfaces.specs.declared.interfaces.ParameterKind.TheVariants.{Input, Secret}
 use Rattle.al_check_interfaces.specs.declared.interfaces.Signature.{Signature}
 use Rattle.al_check_interfaces.specs.Uses.{Call, calls_in, that_uses, site_caller}
-use Rattle.al_check_interfaces.proofs.Inside.{AtLies, calls_lie, inside_kept}
+use Rattle.al_check_interfaces.proofs.Inside.{calls_lie, inside_kept}
 use Rattle.al_base.proofs.Elements.{each_both, each_either, each_of}
-use Rattle.al_check_interfaces.proofs.Parts.{entries_kept}
 use Rattle.al_check_calls.specs.Answers.{Answered, Typing, calls_with_answers, answered_faults, values_in}
 use Rattle.al_check_calls.specs.CallFaults.{Given, absent_faults, call_fault, call_faults}
 use Rattle.al_check_calls.specs.CallFaults.{given_by, is_callable, missing_name}
@@ -73,12 +72,9 @@ module _ (size : ℕ) where
   missing_lies : (k : ParameterKind) (c : Call) (s : Signature) → LiesIn size c.at → (i : Parameter) → AllLie (missing_name k c s i)
   missing_lies k c s at i = search (unless, one_lies)
 
-  entries_lie : (k : List ℕ) (n : Node) → IsInside size n → AllByRecursion Pair (entries_at k n)
-  entries_lie k n i = entries_kept (IsInside size) (AtLies size) (inside_kept size) (λ s at p. p) k n i
-
   given_lie : (k : ParameterKind) (n : Node) → IsInside size n → AllByRecursion Pair (given_by k n)
-  given_lie Input n i = entries_lie (codes "with") n i
-  given_lie Secret n i = entries_lie (codes "secrets") n i
+  given_lie Input n i = entries_kept (inside_kept size) (codes "with") n i
+  given_lie Secret n i = entries_kept (inside_kept size) (codes "secrets") n i
 
   names_lie : (k : ParameterKind) (c : Call) (s : Signature) → CallLies c → AllLie (names_against k c s)
   names_lie k c s p =

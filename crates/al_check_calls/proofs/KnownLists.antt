@@ -1,18 +1,18 @@
 -- Lists of names at their positions, as more of them are put behind; the answers whose names stand there.
 use Rattle.std.proofs.Common.{◌≡◌, ◌<◌, ◌≤◌, ◌+◌, ◌++◌, ◌∙◌, ℕ, List, [], ◌∷◌, Bool, true, false, cond, Bor, Option, Some, None, refl, sym, ap}
 use Rattle.std.proofs.Common.{append-nil, append_assoc, get_or, length, map, subst, take}
-use Rattle.std.specs.Prelude.{if◌then◌else◌, is_some, option_and_then, slice_get}
+use Rattle.std.specs.Prelude.{All, if◌then◌else◌, is_some, option_and_then, slice_get}
 use Rattle.std.specs.BTreeMap.{Updates, get, is_at}
 use Rattle.std.specs.Cmp.Lexicographic.{slice_cmp}
-use Rattle.std.specs.List.{AllByRecursion}
 use Rattle.std.specs.Map.{lookup}
 use Rattle.std.specs.Ordering.{bool_cmp, is_eq, nat_cmp, ordering_then}
 use Rattle.std.specs.declared.cmp.Ordering.{Ordering}
 use Rattle.std.proofs.lemmas.List.{length-map, map-append, take_all, take_more}
-use Rattle.std.proofs.lemmas.List.Elements.{All-contains, All-from_recursion}
+use Rattle.std.proofs.lemmas.List.Elements.{All-contains, All-from_recursion, All-weaker}
 use Rattle.std.proofs.lemmas.Map.Text.{is_eq-slice_cmp}
 use Rattle.std.proofs.lemmas.Slice.Eq.{bytes_eq-Decides}
 use Rattle.al_base.specs.declared.codes.Caller.TheVariants as caller
+use Rattle.al_tree.proofs.Kept.{all_seen}
 use Rattle.al_check_calls.specs.Answers.{Answered}
 use Rattle.al_check_calls.specs.CallFaults.{callable_signature}
 use Rattle.al_check_interfaces.specs.Uses.{site_caller}
@@ -25,7 +25,6 @@ use Rattle.al_check_contexts.specs.declared.known.Answer.{Answer}
 use Rattle.al_check_calls.specs.Private.KnownLists.{ArePlaced, Naming, StandsAt, Takes, lists_of, position_of}
 use Rattle.al_check_calls.specs.Private.Comparing.{AreToldByUses}
 use Rattle.al_check_calls.specs.declared.known.Lists.{Lists}
-use Rattle.al_check_calls.proofs.Told.{told_back}
 use Rattle.std.specs.Bool.{then_some}
 use Rattle.al_check_calls.specs.FileCalls.{known_of_call}
 
@@ -43,17 +42,10 @@ key_cmp a b = ordering_then (bool_cmp a.0 b.0) (slice_cmp nat_cmp a.1.now b.1.no
 abbrev to_key : Bool → List ℕ → Key
 to_key of_step text = (of_step, record { ref_ptr = (0, 0); now = text })
 
-same_first : (a b : Bool) (o : Ordering) → is_eq (ordering_then (bool_cmp a b) o) ≡ true → b ≡ a
-same_first false false o e = refl
-same_first false true o e = absurd cc
-same_first true false o e = absurd cc
-same_first true true o e = refl
-
-same_second : (a b : Bool) (o : Ordering) → is_eq (ordering_then (bool_cmp a b) o) ≡ true → is_eq o ≡ true
-same_second false false o e = e
-same_second false true o e = absurd cc
-same_second true false o e = absurd cc
-same_second true true o e = e
+same_both : (a b : Bool) (o : Ordering) → is_eq (ordering_then (bool_cmp a b) o) ≡ true → (b ≡ a) × (is_eq o ≡ true)
+same_both false false o e = (refl, e)
+same_both true true o e = (refl, e)
+same_both _ _ o e = absurd cc
 
 same_text : (a b : List ℕ) → is_eq (slice_cmp nat_cmp a b) ≡ true → b ≡ a
 same_text a b e = sym ((bytes_eq-Decides a b).0 (sym (is_eq-slice_cmp a b) ∙ e))
@@ -106,7 +98,7 @@ put_takes old new key names put updates grown stands = record {
   placed = λ naming told before. record {
     at = λ of_step text position is.
         put_at naming (lists_of new) of_step key.0 text key.1.now put position (get key_cmp old.positions (to_key of_step text)) (is_at (key_cmp key) (to_key of_step text))
-        (λ e. let order = slice_cmp nat_cmp key.1.now text in (same_first key.0 of_step order e, same_text key.1.now text (same_second key.0 of_step order e)))
+        (λ e. let same = same_both key.0 of_step (slice_cmp nat_cmp key.1.now text) e in (same.0, same_text key.1.now text same.1))
         (λ more. stands more ∙ sym told)
         (λ p found. grown_stands (lists_of old) (lists_of new) (names ∷ []) (Some p) (naming of_step text) grown (before.at of_step text p found))
         (sym (updates.0 (to_key of_step text)) ∙ is);
@@ -114,29 +106,27 @@ put_takes old new key names put updates grown stands = record {
   stands = λ naming told before. stands;
 }
 
--- or had it before
-pub found_takes : (ls : Lists) (of_step : Bool) (text : List ℕ) (names : Option Names) (position : ℕ) → position_of ls of_step text ≡ Some position →
-    Takes ls ls of_step text names (Some position)
-found_takes ls of_step text names position is = record {
+-- or nothing is put
+unchanged_takes : (ls : Lists) (of_step : Bool) (text : List ℕ) (names : Option Names) (position : Option ℕ) →
+    ((naming : Naming) → naming of_step text ≡ names → ArePlaced naming ls → StandsAt (lists_of ls) position names) → Takes ls ls of_step text names position
+unchanged_takes ls of_step text names position stands = record {
   added = [];
   grown = sym (append-nil (lists_of ls));
   placed = λ naming told before. before;
-  stands = λ naming told before more. before.at of_step text position is more ∙ told;
+  stands = stands;
 }
 
--- or there are none
+pub found_takes : (ls : Lists) (of_step : Bool) (text : List ℕ) (names : Option Names) (position : ℕ) → position_of ls of_step text ≡ Some position →
+    Takes ls ls of_step text names (Some position)
+found_takes ls of_step text names position is =
+    unchanged_takes ls of_step text names (Some position) (λ naming told before more. before.at of_step text position is more ∙ told)
+
 pub none_takes : (ls : Lists) (of_step : Bool) (text : List ℕ) (names : Option Names) → names ≡ None → Takes ls ls of_step text names None
-none_takes ls of_step text names none = record {
-  added = [];
-  grown = sym (append-nil (lists_of ls));
-  placed = λ naming told before. before;
-  stands = λ naming told before more. sym none;
-}
+none_takes ls of_step text names none = unchanged_takes ls of_step text names None (λ naming told before more. sym none)
 
 pub takes_as : {old new : Lists} {b b' : Bool} {t t' : List ℕ} {n n' : Option Names} {position : Option ℕ} → b ≡ b' → t ≡ t' → n ≡ n' → Takes old new b t n position →
     Takes old new b' t' n' position
-takes_as {old} {new} {b} {b'} {t} {t'} {n} {n'} {position} e f g h =
-    subst (λ x. Takes old new b' t' x position) g (subst (λ x. Takes old new b' x n position) f (subst (λ x. Takes old new x t n position) e h))
+takes_as {old} {new} {position = position} e f g h = subst (λ (x : Bool × List ℕ × Option Names). Takes old new x.0 x.1 x.2 position) (λ i. (e i, f i, g i)) h
 
 -- ---- the answers so far
 
@@ -146,14 +136,13 @@ IsNamed naming a = naming (is_some a.call.site.step) a.call.text ≡ outputs_beh
 -- of the first of some calls, with names that may be told of all of them
 abbrev pub AreKnown : List code.Answered → ℕ → Lists → List Answer → Type 0
 AreKnown answered i ls known =
-    (naming : Naming) → AllByRecursion (IsNamed naming) (map answered_of answered)
+    (naming : Naming) → All (IsNamed naming) (map answered_of answered)
     → ArePlaced naming ls × ((more : List Names) → map (behind_of (lists_of ls ++ more)) known ≡ map known_of_call (map answered_of (take i answered)))
 
-named_at : (naming : Naming) (answered : List code.Answered) (i : ℕ) (a : code.Answered) → AllByRecursion (IsNamed naming) (map answered_of answered) →
+named_at : (naming : Naming) (answered : List code.Answered) (i : ℕ) (a : code.Answered) → All (IsNamed naming) (map answered_of answered) →
     i < length answered → a ≡ get_or answered i a → IsNamed naming (answered_of a)
 named_at naming answered i a named within is =
-    let P : code.Answered → Type 0 = λ x. IsNamed naming (answered_of x) in
-    All-contains P answered a (All-from_recursion P answered (told_back (IsNamed naming) answered named)) (i, within, sym is)
+    All-contains (λ x. IsNamed naming (answered_of x)) answered a (all_seen answered_of (IsNamed naming) answered named) (i, within, sym is)
 
 -- one call more
 pub one_known : (answered : List code.Answered) (i : ℕ) (a : code.Answered) (old new : Lists) (known now : List Answer) (position : Option ℕ) → i < length answered →
@@ -188,17 +177,14 @@ naming_of found told of_step text =
     let by = if of_step then caller.Step else caller.Job in
     option_and_then outputs_in (callable_signature by (told.answer by text))
 
-all_named : (naming : Naming) (told : List Answered) (P : Answered → Type 0) → ((a : Answered) → P a → IsNamed naming a) → AllByRecursion P told → AllByRecursion (IsNamed naming) told
-all_named naming [] P each h = tt
-all_named naming (a ∷ told) P each h = (each a h.0, all_named naming told P each h.1)
-
 -- of all calls
 pub all_known : (answered : List code.Answered) (i : ℕ) (ls : Lists) (known : List Answer) → length answered ≤ i → AreToldByUses (map answered_of answered) →
     AreKnown answered i ls known → map (behind_of (lists_of ls)) known ≡ map known_of_call (map answered_of answered)
 all_known answered i ls known end told so_far =
     let found = map answered_of answered in
     let naming = naming_of found told in
-    let named = all_named naming found (λ (a : Answered). a.answer ≡ told.answer (site_caller a.call.site) a.call.text)
-    (λ a h. ap (λ o. option_and_then outputs_in (callable_signature (site_caller a.call.site) o)) (sym h)) told.told in
+    let IsAnswered : Answered → Type 0 = λ a. a.answer ≡ told.answer (site_caller a.call.site) a.call.text in
+    let named = All-weaker IsAnswered (IsNamed naming) (λ a h. ap (λ o. option_and_then outputs_in (callable_signature (site_caller a.call.site) o)) (sym h))
+    found (All-from_recursion IsAnswered found told.told) in
     ap (λ l. map (behind_of l) known) (sym (append-nil (lists_of ls))) ∙ (so_far naming named).1 []
     ∙ ap (λ l. map known_of_call (map answered_of l)) (take_all i answered end)

@@ -1,15 +1,16 @@
 -- Names that are missing, call by call: behind one alike by the same `uses` only what all of them so far have given is looked up.
-use Rattle.std.proofs.Common.{◌≡◌, ◌∙◌, ◌⊎◌, ⊎_elim, inl, inr, zero, suc, List, [], ◌∷◌, ◌++◌, Bool, true, false, cond, Option, Some, None}
-use Rattle.std.proofs.Common.{ap, append-nil, arith, map, option_map, refl, subst, sym}
+use Rattle.std.proofs.Common.{◌≡◌, ◌∙◌, ◌⊎◌, ⊎_elim, inl, inr, List, [], ◌∷◌, ◌++◌, Bool, true, false, cond, Option, Some, None}
+use Rattle.std.proofs.Common.{ap, append-nil, map, option_map, refl, subst, sym}
 use Rattle.std.specs.Prelude.{Contains}
-use Rattle.std.specs.List.{cons_option, flat_map}
+use Rattle.std.specs.List.{AllByRecursion, cons_option, flat_map}
 use Rattle.std.specs.List.Sorted.{IsPermutation}
 use Rattle.std.specs.Option.{option_map_or}
 use Rattle.std.specs.Str.Lossy.{utf8_lossy}
 use Rattle.std.proofs.lemmas.Bool.{and_parts}
 use Rattle.std.proofs.lemmas.Grind.{flat_map-append}
-use Rattle.std.proofs.lemmas.List.Elements.{Contains-append_cases, Contains-append_left, Contains-append_right}
+use Rattle.std.proofs.lemmas.List.Elements.{All-contains, All-from_recursion, Contains-append_cases, Contains-append_left, Contains-append_right}
 use Rattle.std.proofs.lemmas.List.Sorted.{IsPermutation-map}
+use Rattle.al_base.proofs.Elements.{each_either}
 use Rattle.al_base.proofs.Growing.{same_set}
 use Rattle.al_base.proofs.Sets.{from_flat_map, head_in, in_flat_map, set_behind, set_permuted, set_trans}
 use Rattle.al_base.specs.Growth.{SameSet}
@@ -36,15 +37,8 @@ use Rattle.al_check_calls.proofs.Parts.{in_parts}
 -- ---- one call more
 
 -- what a choice gives at most
-only : {X : Type 0} (b : Bool) (x y : X) → Contains (cond b [] (x ∷ [])) y → x ≡ y
-only true x y c = absurd (omega (arith, c.1))
-only false x y (zero, room, is) = is
-only false x y (suc k, room, is) = absurd (omega (arith, room))
-
-only_then : {X : Type 0} (b : Bool) (x y : X) → Contains (cond b (x ∷ []) []) y → x ≡ y
-only_then false x y c = absurd (omega (arith, c.1))
-only_then true x y (zero, room, is) = is
-only_then true x y (suc k, room, is) = absurd (omega (arith, room))
+only : {X : Type 0} (x y : X) (l : List X) → AllByRecursion (λ z. x ≡ z) l → Contains l y → x ≡ y
+only x y l all = All-contains (λ z. x ≡ z) l y (All-from_recursion (λ z. x ≡ z) l all)
 
 module _ (q : Comparison) (left : List Parameter) (old : List Fault) (before : IsSaid q left old) where
   abbrev found : List Fault
@@ -56,7 +50,7 @@ module _ (q : Comparison) (left : List Parameter) (old : List Fault) (before : I
   of_one : (p : Parameter) (f : Fault) → Contains (mandatory_for q) p → Contains (fault_unless_given q p) f → Contains (old ++ found) f
   of_one p f at c =
       ⊎_elim (λ l. Contains-append_right old found f (in_flat_map (fault_unless_given q) left p f l c))
-      (λ o. Contains-append_left old found f (subst (λ g. Contains old g) (only (gives q p) (missing_fault q p) f c) o)) (before.said p at)
+      (λ o. Contains-append_left old found f (subst (λ g. Contains old g) (only (missing_fault q p) f _ (each_either _ (gives q p) [] (missing_fault q p ∷ []) tt (refl, tt)) c) o)) (before.said p at)
 
   all_found : SameSet (old ++ found) (old ++ flat_map (fault_unless_given q) (mandatory_for q))
   all_found f = (
@@ -76,7 +70,7 @@ module _ (q : Comparison) (left : List Parameter) (old : List Fault) (before : I
   then_said : IsSaid q rest (old ++ found)
   then_said = record {
     among = λ p c. from_flat_map (parameter_if_given q) left p (Contains (mandatory_for q) p)
-        (λ z at c'. subst (λ y. Contains (mandatory_for q) y) (only_then (gives q z) z p c') (before.among z at)) c;
+        (λ z at c'. subst (λ y. Contains (mandatory_for q) y) (only z p _ (each_either _ (gives q z) (z ∷ []) [] (refl, tt) tt) c') (before.among z at)) c;
     said = λ p at. ⊎_elim (λ l. stays p (gives q p) refl l) (λ o. inr (Contains-append_left old found (missing_fault q p) o)) (before.said p at);
   }
 

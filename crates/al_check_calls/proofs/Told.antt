@@ -15,8 +15,6 @@ use Rattle.al_check_interfaces.specs.declared.interfaces.Interface.{Interface}
 use Rattle.al_check_interfaces.specs.Forms.{form_by}
 use Rattle.al_check_interfaces.specs.Uses.{Call, Site, call_at, call_by, calls_in, sites_in, target_in, targets_of, site_caller}
 use Rattle.al_check_calls.specs.Answers.{Answered, answered_by, calls_with_answers}
-use Rattle.al_check_calls.specs.Private.AnswerViews.{answered_of}
-use Rattle.al_check_calls.specs.declared.answers.Answered as code
 use Rattle.al_check_calls.specs.Private.Comparing.{AreToldByUses}
 
 -- ---- what is called
@@ -60,8 +58,3 @@ told_by_uses k root given answers = record {
       subst (λ list. AllByRecursion (IsTold answers.answer) (calls_with_answers (calls_in k root) list)) (sym answers.are)
       (all_told answers.answer (calls_in k root) (sites_formed (sites_in k root)));
 }
-
--- of the calls that the code has found, with their answers
-pub told_back : (P : Answered → Type 0) (found : List code.Answered) → AllByRecursion P (map answered_of found) → AllByRecursion (λ (a : code.Answered). P (answered_of a)) found
-told_back P [] h = tt
-told_back P (a ∷ found) h = (h.0, told_back P found h.1)

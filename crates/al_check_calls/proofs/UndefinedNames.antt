@@ -1,6 +1,6 @@
 -- What is said of names that aren't declared, one after another: of one that is the same as the one before it nothing more.
-use Rattle.std.proofs.Common.{◌≡◌, ◌∙◌, zero, suc, List, [], ◌∷◌, ◌++◌, true, cond, Option, Some, None, ap, arith, map, refl, subst, sym}
-use Rattle.std.specs.Prelude.{Contains, IfSome, ◌&&◌, ◌||◌}
+use Rattle.std.proofs.Common.{◌≡◌, ◌∙◌, List, [], ◌∷◌, ◌++◌, true, cond, ap, map, refl, subst, sym}
+use Rattle.std.specs.Prelude.{Contains, ◌&&◌, ◌||◌}
 use Rattle.std.specs.List.{flat_map}
 use Rattle.std.specs.List.Sorted.{IsPermutation}
 use Rattle.std.specs.Option.{option_map_or}
@@ -8,8 +8,9 @@ use Rattle.std.specs.Str.{bytes_eq}
 use Rattle.std.specs.Str.Lossy.{utf8_lossy}
 use Rattle.std.proofs.lemmas.Bool.{and_parts}
 use Rattle.std.proofs.lemmas.Grind.{flat_map-append}
-use Rattle.std.proofs.lemmas.List.Elements.{Contains-append_right}
-use Rattle.std.proofs.lemmas.List.Sorted.{Contains-permutation, IsPermutation-map, IsPermutation-sym}
+use Rattle.std.proofs.lemmas.List.Elements.{All-contains, All-map, Contains-append_right}
+use Rattle.std.proofs.lemmas.List.Folds.{flat_map-map}
+use Rattle.std.proofs.lemmas.List.Sorted.{IsPermutation-map}
 use Rattle.std.proofs.lemmas.Slice.Eq.{bytes_eq-Decides}
 use Rattle.al_base.proofs.Growing.{same_set}
 use Rattle.al_base.proofs.Sets.{from_flat_map, set_behind, set_permuted, set_there, set_trans}
@@ -21,29 +22,23 @@ use Rattle.al_yaml_tree.specs.Node.{Node, span_of}
 use Rattle.al_tree.specs.Keys.{key_of}
 use Rattle.al_check_interfaces.specs.Kinds.{parameters_of}
 use Rattle.al_check_interfaces.specs.Parameters.{has_parameter}
-use Rattle.al_check_calls.specs.CallFaults.{given_by, is_free_for, undefined_code, undefined_name}
+use Rattle.al_check_calls.specs.CallFaults.{given_by, is_free_for, undefined_code}
 use Rattle.al_check_calls.specs.Private.AnswerViews.{name_of}
 use Rattle.al_check_calls.specs.Private.Comparing.{AreThere, Comparison, GivenName, HaveOneSignature, TellSignatures, TellSignaturesBy, call_alike}
 use Rattle.al_check_calls.specs.Private.Comparing.{is_same_name_given, name_by, names_by, undefined_at, undefined_of}
 use Rattle.al_check_calls.specs.declared.undefined.GivenName as code
-use Rattle.al_check_calls.proofs.Alike.{likeness, span_exact}
+use Rattle.al_check_calls.proofs.Alike.{likeness, span_exact, tell_permuted}
 
 -- ---- the names that calls give
-
-name_faults : (q : Comparison) (es : List (Node × Node)) → flat_map undefined_at (map (name_by q) es) ≡ flat_map (undefined_name q.kind q.call q.signature) es
-name_faults q [] = refl
-name_faults q (e ∷ es) = ap (λ l. undefined_name q.kind q.call q.signature e ++ l) (name_faults q es)
 
 all_names : (qs : List Comparison) → flat_map undefined_at (flat_map names_by qs) ≡ flat_map undefined_of qs
 all_names [] = refl
 all_names (q ∷ qs) =
     flat_map-append undefined_at (names_by q) (flat_map names_by qs)
-    ∙ λ i. name_faults q (given_by q.kind q.call.site.node) i ++ all_names qs i
+    ∙ λ i. flat_map-map undefined_at (name_by q) (given_by q.kind q.call.site.node) i ++ all_names qs i
 
 given_by_one : (q : Comparison) (es : List (Node × Node)) (n : GivenName) → Contains (map (name_by q) es) n → q ≡ n.by
-given_by_one q [] n c = absurd (omega (arith, c.1))
-given_by_one q (e ∷ es) n (zero, room, is) = ap (λ m. m.by) is
-given_by_one q (e ∷ es) n (suc k, room, is) = given_by_one q es n (k, omega (arith, room), is)
+given_by_one q es n = All-contains (λ m. q ≡ m.by) (map (name_by q) es) n (All-map (λ m. q ≡ m.by) (name_by q) es (λ k d within. refl))
 
 tell_names : (qs : List Comparison) → TellSignatures qs → TellSignaturesBy (flat_map names_by qs)
 tell_names qs tell n m a b =
@@ -52,14 +47,11 @@ tell_names qs tell n m a b =
     (λ r at' c'. subst (λ x. HaveOneSignature x m.by) (given_by_one q (given_by q.kind q.call.site.node) n c)
     (subst (λ y. HaveOneSignature q y) (given_by_one r (given_by r.kind r.call.site.node) m c') (tell q r at at'))) b) a
 
-tell_names_permuted : (xs ys : List GivenName) → IsPermutation xs ys → TellSignaturesBy xs → TellSignaturesBy ys
-tell_names_permuted xs ys p tell n m a b = tell n m (Contains-permutation ys xs n (IsPermutation-sym xs ys p) a) (Contains-permutation ys xs m (IsPermutation-sym xs ys p) b)
-
 -- those that were found, put in order
 pub names_told : (qs : List Comparison) (found given : List code.GivenName) → map name_of found ≡ flat_map names_by qs → IsPermutation found given →
     TellSignatures qs → TellSignaturesBy (map name_of given)
 names_told qs found given are order tell =
-    tell_names_permuted (map name_of found) (map name_of given) (IsPermutation-map name_of found given order)
+    tell_permuted (λ n m. HaveOneSignature n.by m.by) (map name_of found) (map name_of given) (IsPermutation-map name_of found given order)
     (subst TellSignaturesBy (sym are) (tell_names qs tell))
 
 pub names_found : (qs : List Comparison) (found given : List code.GivenName) (old new : List Fault) → map name_of found ≡ flat_map names_by qs → IsPermutation found given →
@@ -70,13 +62,6 @@ names_found qs found given old new are order is =
     set_trans new (old ++ flat_map undefined_at (map name_of given)) (old ++ flat_map undefined_of qs) is
     (set_behind old (flat_map undefined_at (map name_of given)) (flat_map undefined_of qs)
     (set_trans (flat_map undefined_at (map name_of given)) (flat_map undefined_at (map name_of found)) (flat_map undefined_of qs) moved (same_set _ _ all)))
-
--- the one before and the next
-pub told_next : (xs : List code.GivenName) (o : Option code.GivenName) (one : code.GivenName) → TellSignaturesBy (map name_of xs) →
-    IfSome o (λ p. Contains (map name_of xs) (name_of p)) → Contains (map name_of xs) (name_of one) →
-    IfSome o (λ p. HaveOneSignature (name_of p).by (name_of one).by)
-told_next xs None one tell before at = tt
-told_next xs (Some p) one tell before at = tell (name_of p) (name_of one) before at
 
 -- what was added is there
 pub added_there : (old new more : List Fault) → SameSet new (old ++ more) → AreThere more new

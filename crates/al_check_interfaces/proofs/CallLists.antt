@@ -1,9 +1,8 @@
 -- The calls of files of the folder, a call further.
-use Rattle.std.proofs.Common.{◌≡◌, ◌<◌, ◌+◌, ◌∙◌, ℕ, List, [], ◌∷◌, ◌++◌, Option, Some, None, ap, get_or, length, map, refl, slice_get, sym, take}
+use Rattle.std.proofs.Common.{◌≡◌, ◌<◌, ◌+◌, ◌∙◌, ℕ, List, [], ◌∷◌, ◌++◌, Option, Some, None, ap, get_or, length, map, refl, slice_get, sym}
 use Rattle.std.specs.Prelude.{option_map}
 use Rattle.std.specs.List.{cons_option, filter_map}
-use Rattle.std.proofs.lemmas.List.{map-append, take_more}
-use Rattle.std.proofs.lemmas.List.Elements.{filter_map-append}
+use Rattle.std.proofs.lemmas.List.{map-append}
 use Rattle.std.proofs.lemmas.Option.{slice_get-get_or, slice_get-map}
 use Rattle.al_base.specs.declared.codes.CallCode.TheVariants as code
 use Rattle.al_base.specs.declared.faults.Fault.{Fault}
@@ -12,15 +11,6 @@ use Rattle.al_check_interfaces.specs.FolderCalls.{FolderCall, as_folder_call, fo
 use Rattle.al_check_interfaces.specs.Uses.{Call, cycle_faults, target_in, targets_of, that_uses}
 use Rattle.al_check_interfaces.specs.declared.calls.FolderCall as code_calls
 use Rattle.al_check_interfaces.specs.declared.forms.Form.TheVariants.{Local}
-
-module _ {A X : Type 0} (v : A → X) (xs : List A) (i : ℕ) (x : A) (room : i < length xs) (is : x ≡ get_or xs i x) where
-  taken : map v (take (i + 1) xs) ≡ map v (take i xs) ++ v x ∷ []
-  taken = ap (map v) (take_more xs i x room ∙ ap (λ y. take i xs ++ y ∷ []) (sym is)) ∙ map-append v (take i xs) (x ∷ [])
-
-  pub kept_more : {Y : Type 0} (f : X → Option Y) (old new : List Y) → old ≡ filter_map f (map v (take i xs)) → new ≡ old ++ cons_option (f (v x)) [] →
-      new ≡ filter_map f (map v (take (i + 1) xs))
-  kept_more f old new o n =
-      n ∙ ap (λ l. l ++ cons_option (f (v x)) []) o ∙ sym (ap (filter_map f) taken ∙ filter_map-append f (map v (take i xs)) (v x ∷ []))
 
 pub at_number : {A X : Type 0} (v : A → X) (xs : List A) (i : ℕ) (x : A) → i < length xs → x ≡ get_or xs i x → slice_get (map v xs) i ≡ Some (v x)
 at_number v xs i x room is = slice_get-map v xs i ∙ ap (option_map v) (slice_get-get_or xs i x room ∙ ap Some (sym is))

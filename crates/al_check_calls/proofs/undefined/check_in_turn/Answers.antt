@@ -1,12 +1,13 @@
 use Rattle.al_base.proofs.Sets.{mapped_in, step_last, step_more}
 use Rattle.al_check_calls.specs.Private.AnswerViews.{name_of}
-use Rattle.al_check_calls.specs.Private.Comparing.{undefined_at}
-use Rattle.al_check_calls.proofs.UndefinedNames.{added_there, told_next}
+use Rattle.al_check_calls.specs.Private.Comparing.{HaveOneSignature, undefined_at}
+use Rattle.al_check_calls.proofs.Alike.{tell_next}
+use Rattle.al_check_calls.proofs.UndefinedNames.{added_there}
 use Rattle.al_check_calls.proofs.undefined.check_in_turn.Goals as goal
 
 pub check_next_name-requires-clause-alike : goal.check_next_name-requires-clause-alike
 check_next_name-requires-clause-alike c =
-    told_next c.args.given.now c.loop-i.previous c.index-given-i.result c.requires c.loop-i.invariant.there
+    tell_next (λ n m. HaveOneSignature n.by m.by) name_of c.args.given.now c.loop-i.previous c.index-given-i.result c.requires c.loop-i.invariant.there
     (mapped_in name_of c.args.given.now c.loop-i.i c.index-given-i.result c.loop-i-test.true c.index-given-i.is)
 
 pub loop-i-preserved : goal.loop-i-preserved

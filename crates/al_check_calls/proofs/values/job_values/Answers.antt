@@ -1,7 +1,6 @@
 use Rattle.std.proofs.Common.{ap, arith, ◌∙◌, map, sym}
 use Rattle.std.proofs.lemmas.List.{take_all}
 use Rattle.std.proofs.lemmas.List.Elements.{All-contains}
-use Rattle.al_check_calls.specs.CallFaults.{values_of}
 use Rattle.al_check_contexts.specs.Answered.{known_of}
 use Rattle.al_tree.specs.Values.{member_of}
 use Rattle.al_yaml_tree.specs.View.{view}
@@ -35,9 +34,5 @@ loop-member-preserved c =
 
 pub returns-clause-values : goal.returns-clause-values
 returns-clause-values c =
-    let types = value_type_in_job c.args.file.kind (known_of c.args.file.known) (view c.args.file.root.now) in
-    let given = ap (map member_of) c.deref-member-items.ensures.value ∙ c.in_ok-given.ensures in
-    c.loop-member.invariant.values
-    ∙ ap (λ ms. values_of (types c.text_or_empty-job.result.now) (map member_of ms))
-    (take_all c.loop-member.member-index c.deref-member-items.result.now (omega (arith, c.loop-member-test.false)))
-    ∙ λ i. values_of (types (c.text_or_empty-job.ensures i)) (given i)
+    rw (take_all c.loop-member.member-index c.deref-member-items.result.now (omega (arith, c.loop-member-test.false)), c.deref-member-items.ensures.value,
+    c.in_ok-given.ensures, c.text_or_empty-job.ensures) at c.loop-member.invariant.values
