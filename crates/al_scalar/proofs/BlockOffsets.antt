@@ -38,21 +38,21 @@ record ArePending (U : Type 0) (low mid high : ℕ) (last : Option BlockLine) (e
 
 -- ---- where rows end
 
-last-order : (low high at : ℕ) (cs : List Cell) → AreClimbing low high cs → at ≤ low → at ≤ last_end cs at
-last-order low high at [] h a = omega arith
-last-order low high at (c ∷ cs) h a = let k = last-order (c.1 + 1) high (c.1 + 1) cs h.1 (omega arith) in let b = h.0 in omega (arith, k, b, a)
+last-in : (low high at : ℕ) (cs : List Cell) → AreClimbing low high cs → at ≤ low → (at ≤ last_end cs at) × (last_end cs at ≤ high)
+last-in low high at [] h a = (omega arith, omega (arith, h, a))
+last-in low high at (c ∷ cs) h a =
+    let k = last-in (c.1 + 1) high (c.1 + 1) cs h.1 (omega arith) in
+    let b = h.0 in
+    let first = k.0 in
+    (omega (arith, first, b, a), k.1)
 
 before-climbing : (low high end at : ℕ) (cs : List Cell) → AreClimbing low high cs → last_end cs at ≤ end → AreBefore end cs
 before-climbing low high end at [] h a = tt
-before-climbing low high end at (c ∷ cs) h a = ((λ _. let k = last-order (c.1 + 1) high (c.1 + 1) cs h.1 (omega arith) in omega (arith, k, a)), before-climbing (c.1 + 1) high end (c.1 + 1) cs h.1 a)
-
-last-below : (low high at : ℕ) (cs : List Cell) → AreClimbing low high cs → at ≤ low → last_end cs at ≤ high
-last-below low high at [] h a = omega (arith, h)
-last-below low high at (c ∷ cs) h a = last-below (c.1 + 1) high (c.1 + 1) cs h.1 (omega arith)
+before-climbing low high end at (c ∷ cs) h a = ((λ _. let k = (last-in (c.1 + 1) high (c.1 + 1) cs h.1 (omega arith)).0 in omega (arith, k, a)), before-climbing (c.1 + 1) high end (c.1 + 1) cs h.1 a)
 
 last-behind : (low high at : ℕ) (cs : List Cell) → AreClimbing low high cs → is_empty cs ≡ false → low < last_end cs at
 last-behind low high at [] h e = absurd cc
-last-behind low high at (c ∷ cs) h e = let k = last-order (c.1 + 1) high (c.1 + 1) cs h.1 (omega arith) in let b = h.0 in omega (arith, k, b)
+last-behind low high at (c ∷ cs) h e = let k = (last-in (c.1 + 1) high (c.1 + 1) cs h.1 (omega arith)).0 in let b = h.0 in omega (arith, k, b)
 
 module _ (U : Type 0) where
   abbrev AreRows : ℕ → ℕ → List BlockLine → Type 0
@@ -153,8 +153,9 @@ module _ (U : Type 0) where
   rows-end : (at next high : ℕ) (rs : List BlockLine) → AreRows next high rs → at ≤ next → (at ≤ rows_end at rs) × (rows_end at rs ≤ high)
   rows-end at next high [] h a = (omega arith, omega (arith, h, a))
   rows-end at next high (r ∷ rs) h a =
-      let first = last-order next (break_at high r.break) at r.text h.0.climbing a in
-      let last = last-below next (break_at high r.break) at r.text h.0.climbing a in
+      let own = last-in next (break_at high r.break) at r.text h.0.climbing a in
+      let first = own.0 in
+      let last = own.1 in
       let break = from-order h.1 in
       let more = rows-end (last_end r.text at) (break_behind high r.break) high rs h.2 (omega (arith, last, break)) in
       (omega (arith, first, more.0), more.1)
@@ -170,7 +171,7 @@ module _ (U : Type 0) where
       let end = rows_end now rs in
       let line = climbing-order next break r.text rows.0.climbing in
       let order = from-order rows.1 in
-      let below = last-below next break at r.text rows.0.climbing a in
+      let below = (last-in next break at r.text rows.0.climbing a).1 in
       let inside : now ≤ behind = omega (arith, order, below) in
       let ends = (rows-end now behind high rs rows.2 inside).0 in
       choose (AreGiven low high end) (is_empty r.text)
