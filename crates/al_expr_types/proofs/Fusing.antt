@@ -17,7 +17,7 @@ scalar_object _ p = refl
 pub object_scalar : (p : Parts) (a : Scalar) → fuse_type (object_type p) (scalar_type a) ≡ Any
 object_scalar p a = fuse_turned (object_type p) (scalar_type a) ∙ scalar_object a p
 
--- what holds no type has nothing in common with an array, and stands for one or takes one only if it is any
+-- what is no array has any in common with an array, and goes with one only where it is any
 pub beside_array : (ms : List Parts) (b : Base) (a : Type') →
     (fuse_type (base_type ms b) (ArrayOf a) ≡ Any) × (assignable_type (base_type ms b) (ArrayOf a) ≡ is_any b) × (assignable_type (ArrayOf a) (base_type ms b) ≡ is_any b)
 beside_array ms (base.Scalar scalar.Any) a = (refl, refl, refl)

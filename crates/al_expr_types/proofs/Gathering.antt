@@ -87,13 +87,11 @@ of_object ms part start new p o x is made e = e ∙ ap (λ q. fuse_optional star
 
 pub part_nothing : (p : Part) → part_in p no_parts ≡ Absent
 part_nothing (part.Named n) = refl
-part_nothing part.Rest = refl
-part_nothing part.All = refl
+part_nothing _ = refl
 
 part_fused : (p : Part) (a b : Parts) → part_in p (fuse_parts a b) ≡ fuse_optional (part_in p a) (part_in p b)
 part_fused (part.Named n) a b = refl
-part_fused part.Rest a b = refl
-part_fused part.All a b = refl
+part_fused _ a b = refl
 
 pub gathered_none : (p : Part) (start : Optional) → start ≡ fuse_optional start (part_in p (fuse_all []))
 gathered_none p start = sym (ap (fuse_optional start) (part_nothing p) ∙ nothing_last start)

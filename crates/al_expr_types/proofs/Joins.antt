@@ -1,4 +1,4 @@
--- What holds no type, in so many arrays, joined with a type, by cases of its arrays.
+-- A type, in so many arrays, joined with another: by cases of how many arrays that one has.
 use Rattle.std.proofs.Common.{◌≡◌, ℕ, min, List, sym, ap, ◌∙◌}
 use Rattle.al_types.specs.Types.{Type', Any, ArrayOf, Parts, fuse_type}
 use Rattle.al_expr_types.specs.Types.{arrays_of, base_type, type_in}
