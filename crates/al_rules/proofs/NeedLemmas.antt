@@ -5,18 +5,15 @@ use Rattle.std.proofs.lemmas.Bool.{cases_lt}
 use Rattle.std.proofs.lemmas.Grind.{flat_map-append}
 use Rattle.std.proofs.lemmas.List.{get_or_past, get_or-map, length-map}
 use Rattle.std.specs.declared.alloc.Global.{Global}
-use Rattle.std.proofs.lemmas.List.Elements.{All-nil, All-cons, All-get_or, All-contains}
+use Rattle.std.proofs.lemmas.List.Elements.{All-nil, All-cons, All-map, All-get_or, All-contains}
 use Rattle.std.specs.List.{AllByRecursion, cons_option, enumerate_from, filter_map, flat_map}
-use Rattle.std.specs.Prelude.{◌↔◌, Contains, codes}
+use Rattle.std.specs.Prelude.{◌↔◌, Contains}
 use Rattle.al_base.specs.declared.faults.Fault.{Fault}
 use Rattle.al_yaml_tree.specs.Node.{Node}
 use Rattle.al_graph.specs.Graphs.{Edge, StronglyConnected, Walk, edges_of, here, onward}
 use Rattle.al_graph.proofs.FilterMaps.{put_behind, put_first}
 use Rattle.al_graph.proofs.Labels.{labels_same}
-use Rattle.al_scalar.specs.Scalar.{Scalar}
-use Rattle.al_base.specs.declared.faults.Span.{Span}
 use Rattle.al_tree.proofs.Lists.{left_next}
-use Rattle.al_tree.specs.Values.{texts_at}
 use Rattle.al_rules.specs.Private.Components.{has_label_of, labelled_fault, labelled_faults, named_by}
 use Rattle.al_rules.specs.Needs.{AddsAllNeeds, AddsNeeds, AreNeedsFaults, undefined_job, leads_back, leads_on, no_needs, and_need}
 use Rattle.al_rules.specs.Needs.{IsNeedFaults, NeedEntry, all_needs, cycle_fault, needs_in, needs_lists, needs_of}
@@ -24,7 +21,7 @@ use Rattle.al_base.specs.NamePlaces.{name_place}
 use Rattle.al_tree.specs.Keys.{keys_in}
 use Rattle.al_base.specs.Names.{same_name}
 use Rattle.al_base.proofs.NamePlaces.{first_within}
-use Rattle.al_rules_settings.specs.Words.{Named, of_key, of_scalar}
+use Rattle.al_rules_settings.specs.Words.{Named, of_key}
 
 module _ (position : List ℕ → Option ℕ) (Leads : ℕ → ℕ → Type 0) where
   more : (ns ms : List NeedEntry) (fs gs : List Fault) → AreNeedsFaults position Leads ns fs → AreNeedsFaults position Leads ms gs → AreNeedsFaults position Leads (ns ++ ms) (fs ++ gs)
@@ -122,18 +119,15 @@ below_cons : (o : Option ℕ) (xs : List ℕ) (m : ℕ) → ((k : ℕ) → o ≡
 below_cons None xs m f a = a
 below_cons (Some k) xs m f a = All-cons (Below m) k xs (f k refl) a
 
-named_below : (keys : List (List ℕ)) (text : List ℕ) (k : ℕ) → name_place keys text ≡ Some k → k < length keys
-named_below keys text k e = first_within (λ m. same_name m text) keys k e
-
 list_below : (keys : List (List ℕ)) (needs : List Named) → All (Below (length keys)) (filter_map (named_by (name_place keys)) needs)
 list_below keys [] = All-nil (Below (length keys))
 list_below keys (n ∷ ns) =
-    below_cons (named_by (name_place keys) n) (filter_map (named_by (name_place keys)) ns) (length keys) (λ k e. named_below keys n.text k e) (list_below keys ns)
+    below_cons (named_by (name_place keys) n) (filter_map (named_by (name_place keys)) ns) (length keys) (λ k e. first_within (λ m. same_name m n.text) keys k e)
+    (list_below keys ns)
 
 lists_below : (keys : List (List ℕ)) (jobs : List (Node × Node)) → All (λ l. All (Below (length keys)) l) (needs_lists (name_place keys) jobs)
-lists_below keys [] = All-nil (λ l. All (Below (length keys)) l)
-lists_below keys (j ∷ js) =
-    All-cons (λ l. All (Below (length keys)) l) (filter_map (named_by (name_place keys)) (needs_of j)) (needs_lists (name_place keys) js) (list_below keys (needs_of j)) (lists_below keys js)
+lists_below keys jobs =
+    All-map (λ l. All (Below (length keys)) l) (λ j. filter_map (named_by (name_place keys)) (needs_of j)) jobs (λ k d h. list_below keys (needs_of (get_or jobs k d)))
 
 needs_below : (keys : List (List ℕ)) (jobs : List (Node × Node)) (j k : ℕ) → Edge (needs_lists (name_place keys) jobs) j k → k < length keys
 needs_below keys jobs j k has =
@@ -157,14 +151,6 @@ edges_below jobs lists e j k has =
     let below : k < length (keys_in jobs) = needs_below (keys_in jobs) jobs j k (subst P e has) in
     let a : length (keys_in jobs) ≡ length jobs = length-map jobs _ in
     let b : length lists ≡ length jobs = lists_length jobs lists e in omega (arith, below, a, b)
-
--- the entries of a job
-pub needs_are : {X : Type 0} (seen : X → Scalar × Span) (i : ℕ) (job : Node × Node) (key : Named) (xs : List X) (ns : List NeedEntry) → ns
-    ≡ map (λ n. record { job = i; key = key; text = n }) (map of_scalar (map seen xs))
-    → map seen xs ≡ texts_at (codes "needs") job.1 → key ≡ of_key job.0 → ns ≡ needs_in (i, job)
-needs_are {X} seen i job key xs ns e t k =
-    e ∙ ap (λ (ss : List (Scalar × Span)). map (λ n. record { job = i; key = key; text = n }) (map of_scalar ss)) t
-    ∙ ap (λ (h : Named). map (λ n. record { job = i; key = h; text = n }) (map of_scalar (texts_at (codes "needs") job.1))) k
 
 pub lists_same : (jobs : List (Node × Node)) (position : List ℕ → Option ℕ) (lists : List (List ℕ)) → position ≡ name_place (keys_in jobs)
     → lists ≡ needs_lists position jobs → lists ≡ needs_lists (name_place (keys_in jobs)) jobs
