@@ -28,7 +28,7 @@ use Rattle.al_base.specs.declared.faults.Fault.{Fault}
 use Rattle.al_session_folder.specs.Meaning.{Meaning}
 use Rattle.al_session_folder.specs.Folder.{Folder, answers, faults_in}
 use Rattle.al_session_folder.specs.Kept.{Files, folder_of, referents, AllKept}
-use Rattle.al_session_folder.specs.Loops.{calls_graph, callee, leads_back, loop_faults, report_faults}
+use Rattle.al_session_folder.specs.Loops.{calls_graph, callee, is_on_cycle, loop_faults, report_faults}
 use Rattle.al_session_folder.specs.declared.kept.KeptFile.{KeptFile}
 use Rattle.al_session_folder.specs.declared.lint.Target.{Target}
 use Rattle.al_session_folder.proofs.Looping.{fault_if, kept_number, looping}
@@ -57,8 +57,8 @@ module _ {I : Type 0} (m : Meaning I) (f : Folder) (i : ℕ) (size : ℕ) where
   looping_inside [] ss h = tt
   looping_inside (t ∷ ts) [] h = tt
   looping_inside (t ∷ ts) (s ∷ ss) h =
-      each_both _ (fault_if (leads_back (calls_graph m f) i (callee f t)) s) (looping (calls_graph m f) f i ts ss)
-      (each_either _ (leads_back (calls_graph m f) i (callee f t)) (s ∷ []) [] (h.0, tt) tt) (looping_inside ts ss h.1)
+      each_both _ (fault_if (is_on_cycle (calls_graph m f) i (callee f t)) s) (looping (calls_graph m f) f i ts ss)
+      (each_either _ (is_on_cycle (calls_graph m f) i (callee f t)) (s ∷ []) [] (h.0, tt) tt) (looping_inside ts ss h.1)
 
 module _ {I : Type 0} (m : Meaning I)
     (inside : (p b : List ℕ) (given : List (Option I)) → length b ≤ 1048576 → AllByRecursion (λ (fault : Fault). LiesIn (length b) fault.span) (m.faults p b given))

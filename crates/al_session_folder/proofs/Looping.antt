@@ -26,7 +26,7 @@ use Rattle.al_graph.proofs.Lists.{none_in}
 use Rattle.al_session_folder.specs.Meaning.{Meaning, candidates}
 use Rattle.al_session_folder.specs.Folder.{Folder, find_map, paths_of}
 use Rattle.al_session_folder.specs.Kept.{Files, folder_of, entry_of, AllKept, IsKept}
-use Rattle.al_session_folder.specs.Loops.{callee, calls_graph, leads_back, loop_faults, number_of_path}
+use Rattle.al_session_folder.specs.Loops.{callee, calls_graph, is_on_cycle, loop_faults, number_of_path}
 use Rattle.al_session_folder.specs.CallGraphs.{IsCallGraph, IsCalledBy, TellLoops}
 use Rattle.al_session_folder.specs.declared.kept.KeptFile.{KeptFile}
 use Rattle.al_session_folder.specs.declared.lint.Target.{Target}
@@ -37,7 +37,7 @@ fault_if looping fault = cond looping (fault ∷ []) []
 
 -- of these calls of the file with this number, what is said of those on a call cycle
 abbrev pub looping : List (List ℕ) → Folder → ℕ → List Target → List Fault → List Fault
-looping graph f file ts ss = flat_map (λ x. fault_if (leads_back graph file (callee f x.0)) x.1) (zip ts ss)
+looping graph f file ts ss = flat_map (λ x. fault_if (is_on_cycle graph file (callee f x.0)) x.1) (zip ts ss)
 
 -- ---- numbers of files
 
@@ -114,10 +114,10 @@ labels_tell graph labels i to r c edge says =
 module _ (graph : List (List ℕ)) (f : Folder) (i : ℕ) (ts : List Target) (ss : List Fault) (at : ℕ) (done whole : List Fault)
     (so_far : done ++ looping graph f i (drop at ts) (drop at ss) ≡ whole) where
   pub looping_next : (more : List Fault) (t : Target) (s : Fault) → at < length ts → t ≡ get_or ts at t → slice_get ss at ≡ Some s →
-      more ≡ done ++ fault_if (leads_back graph i (callee f t)) s → more ++ looping graph f i (drop (at + 1) ts) (drop (at + 1) ss) ≡ whole
+      more ≡ done ++ fault_if (is_on_cycle graph i (callee f t)) s → more ++ looping graph f i (drop (at + 1) ts) (drop (at + 1) ss) ≡ whole
   looping_next more t s within read known now =
       let next = rw (drop_more ts at t within, drop_more ss at s (slice_get_within ss at s known), ← read, get_or_from_slice_get ss at s s known) at so_far in
-      rw (now, append_assoc done (fault_if (leads_back graph i (callee f t)) s)) next
+      rw (now, append_assoc done (fault_if (is_on_cycle graph i (callee f t)) s)) next
 
   pub looping_end : length ts ≤ at → done ≡ whole
   looping_end past = sym (append-nil done) ∙ rw (drop_all at ts past) at so_far
@@ -193,7 +193,7 @@ looping_any graph f i (t ∷ ts) (s ∷ ss) n = by (callee f t) (looping_any gra
     some rest false = rest
 
     by : (o : Option ℕ) → not (length (looping graph f i ts ss) == 0) ≡ list_any (λ k. leads graph k i) (filter_map (callee f) ts)
-        → not (length (fault_if (leads_back graph i o) s ++ looping graph f i ts ss) == 0) ≡ list_any (λ k. leads graph k i) (cons_option o (filter_map (callee f) ts))
+        → not (length (fault_if (is_on_cycle graph i o) s ++ looping graph f i ts ss) == 0) ≡ list_any (λ k. leads graph k i) (cons_option o (filter_map (callee f) ts))
     by None rest = rest
     by (Some k) rest = some rest (leads graph k i)
 

@@ -22,14 +22,14 @@ abbrev pub calls_graph : {I : Type 0} → Meaning I → Folder → List (List �
 calls_graph m f = map (λ e. filter_map (callee f) (m.calls e.0 e.1)) f
 
 -- whether a call of the file with this number is on a call cycle: the file that it leads to is that file, or further calls lead there
-abbrev pub leads_back : List (List ℕ) → ℕ → Option ℕ → Bool
-leads_back graph file None = false
-leads_back graph file (Some to) = leads graph to file
+abbrev pub is_on_cycle : List (List ℕ) → ℕ → Option ℕ → Bool
+is_on_cycle graph file None = false
+is_on_cycle graph file (Some to) = leads graph to file
 
 -- the faults of the calls of the file with this number that are on a call cycle, in the order of the calls
 abbrev pub loop_faults : {I : Type 0} → Meaning I → Folder → ℕ → List ℕ → List ℕ → List Fault
 loop_faults m f file p b =
-    flat_map (λ x. if leads_back (calls_graph m f) file (callee f x.0) then x.1 ∷ [] else []) (zip (m.calls p b) (m.sites p b))
+    flat_map (λ x. if is_on_cycle (calls_graph m f) file (callee f x.0) then x.1 ∷ [] else []) (zip (m.calls p b) (m.sites p b))
 
 -- a file's faults as reports list them: its own, and those of its calls on a call cycle, in order, each once
 unfoldable pub report_faults : {I : Type 0} → Meaning I → Folder → ℕ → List ℕ → List ℕ → List Fault

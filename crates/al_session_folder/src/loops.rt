@@ -133,11 +133,11 @@ fn has_label_of(nodes: &[usize], labels: &[Option<usize>], node: usize) -> bool
 }
 
 /// Whether a call of the file with this number is on a call cycle, by the number of the file that the call leads to.
-fn leads_back(labels: &[Option<usize>], index: usize, to: Option<usize>) -> bool
+fn is_on_cycle(labels: &[Option<usize>], index: usize, to: Option<usize>) -> bool
     requires index { index < length labels.now }
     requires to { IfSome to (λ number. number < length labels.now) }
     ensures { (graph : List (List ℕ)) → TellLoops graph labels.now → IsCalledBy graph index to
-        → result ≡ loops.leads_back graph index to }
+        → result ≡ loops.is_on_cycle graph index to }
 {
     match to {
         None => false,
@@ -157,11 +157,11 @@ fn fault_of(alloc: Global, site: Site<'_>) -> Result<Fault, AllocError>
 }
 
 /// Adds the fault of a call, if it is on a cycle.
-fn add_fault_if(leads_back: bool, site: Site<'_>, faults: &mut FaultSink) -> Result<(), AllocError>
+fn add_fault_if(is_on_cycle: bool, site: Site<'_>, faults: &mut FaultSink) -> Result<(), AllocError>
     ensures { OnOk result
-        (faults.new ≡ faults.old ++ cond leads_back (site_fault site.entry ∷ []) []) }
+        (faults.new ≡ faults.old ++ cond is_on_cycle (site_fault site.entry ∷ []) []) }
 {
-    if leads_back {
+    if is_on_cycle {
         let fault = fault_of(faults.alloc(), site)?;
         faults.push(fault)?;
     }
@@ -229,8 +229,8 @@ impl<'a, L: Lint> LinkedFiles<'a, L> {
         let targets = file.calls.targets.as_slice();
         for call in 0..targets.len() {
             let to = callee(self.files, &targets[call]);
-            let leads_back = leads_back(&self.calls.labels, index, to);
-            add_fault_if(leads_back, lint.site(&file.unit, call), faults)?;
+            let is_on_cycle = is_on_cycle(&self.calls.labels, index, to);
+            add_fault_if(is_on_cycle, lint.site(&file.unit, call), faults)?;
         }
         Ok(())
     }

@@ -52,7 +52,7 @@ fn calls_path(calls: &[Target], path: &str) -> bool {
 }
 
 /// Whether a file's one call is of itself.
-fn leads_back(
+fn is_on_cycle(
     alloc: Global,
     lint: &mut Actions,
     path: &str,
@@ -75,7 +75,7 @@ fn lints(alloc: Global) -> Result<bool, AllocError> {
     Ok(
         takes_both(&lint)
             && shows(alloc, &mut lint, ACTION, action())?
-            && leads_back(alloc, &mut lint, LOOP, calls_itself())?,
+            && is_on_cycle(alloc, &mut lint, LOOP, calls_itself())?,
     )
 }
 

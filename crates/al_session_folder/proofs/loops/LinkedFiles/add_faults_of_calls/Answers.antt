@@ -10,16 +10,16 @@ use Rattle.al_session_folder.specs.Sites.{site_fault}
 use Rattle.al_session_folder.proofs.Looping.{call_edge, entry_calls, kept_number, looping_end, looping_next}
 use Rattle.al_session_folder.proofs.loops.LinkedFiles.add_faults_of_calls.Goals as goal
 
-pub leads_back-leads_back-requires-clause-index : goal.leads_back-leads_back-requires-clause-index
-leads_back-leads_back-requires-clause-index g c =
+pub is_on_cycle-is_on_cycle-requires-clause-index : goal.is_on_cycle-is_on_cycle-requires-clause-index
+is_on_cycle-is_on_cycle-requires-clause-index g c =
     let F = folder_of c.self.inside.files.now.entries in
     let below = rw (← c.self.view_is) at c.requires in
     let size = c.self.invariant.calls.tell.0 in
     let n : length (calls_graph g.L.Lint.meaning F) ≡ length F = length-map F _ in
     omega (arith, below, size, n, ap length c.deref.ensures.value)
 
-pub leads_back-leads_back-requires-clause-to : goal.leads_back-leads_back-requires-clause-to
-leads_back-leads_back-requires-clause-to g c =
+pub is_on_cycle-is_on_cycle-requires-clause-to : goal.is_on_cycle-is_on_cycle-requires-clause-to
+is_on_cycle-is_on_cycle-requires-clause-to g c =
     let F = folder_of c.self.inside.files.now.entries in
     let size = c.self.invariant.calls.tell.0 in
     let n : length (calls_graph g.L.Lint.meaning F) ≡ length F = length-map F _ in
@@ -48,7 +48,7 @@ loop-call-preserved g c p b at =
     let within : c.loop-call.call < length (m.calls p b) = omega (arith, c.loop-call-test.true, ap length items) in
     let read = rw items at c.index-targets-call.is in
     let edge : IsCalledBy G c.args.index c.callee-to.result = rw c.callee-to.ensures.number (call_edge m F c.args.index c.loop-call.call p b c.index-targets-call.result at within read) in
-    let back = rw c.callee-to.ensures.number at (c.leads_back-leads_back.ensures G (rw c.deref.ensures.value c.self.invariant.calls.tell) edge) in
+    let back = rw c.callee-to.ensures.number at (c.is_on_cycle-is_on_cycle.ensures G (rw c.deref.ensures.value c.self.invariant.calls.tell) edge) in
     looping_next G F c.args.index (m.calls p b) (m.sites p b) c.loop-call.call c.loop-call.faults _ (c.loop-call.invariant p b at) c.add_fault_if.new.faults
     c.index-targets-call.result (site_fault c.site.result) within read (c.site.ensures p b file.1) (rw back at c.in_ok-add_fault_if.ensures)
 
