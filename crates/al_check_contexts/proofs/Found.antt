@@ -79,7 +79,8 @@ at_place key names job step =
     then_eq (job_cmp key.0 (to_job job)) (option_cmp nat_cmp key.1 step)
     ∙ ap (λ b. b && is_eq (job_cmp key.0 (to_job job))) (same_option nat_cmp (λ i k. i == k) same_number key.1 step)
     ∙ ap (λ b. option_eq (λ i k. i == k) key.1 step && b)
-    (ap is_eq (jobs_compared key.0 (to_job job) ∙ ap (option_cmp (slice_cmp nat_cmp) (option_copied key.0)) (copied_job job)) ∙ same_option (slice_cmp nat_cmp) bytes_eq is_eq-slice_cmp (option_copied key.0) job)
+    (ap is_eq (jobs_compared key.0 (to_job job) ∙ ap (option_cmp (slice_cmp nat_cmp) (option_copied key.0)) (copied_job job))
+    ∙ same_option (slice_cmp nat_cmp) bytes_eq is_eq-slice_cmp (option_copied key.0) job)
 
 -- what is found at a key is what is known there
 pub names_found : (o : Outputs) (job : Option (Bor (List ℕ))) (step : Option ℕ) (r : Option (Option ℕ)) → r ≡ get_by (key_cmp (job, step)) o.positions →

@@ -124,7 +124,8 @@ module _ (size : ℕ) (sc : Scope) (only : Bool) (s : Scalar) (at : Span) (there
 
 place_lies : (size : ℕ) (sc : Scope) (p : Place) → IsThere size p → AllLie size (place_faults sc p)
 place_lies size sc p is =
-    each_either (Lies size) (is_whole p) (map (fault_in_file p.word 0) (content_faults sc true p.is_scalar_only (text_of p.word))) (chunked_faults sc p.is_scalar_only p.word (chunks_of (text_of p.word)))
+    each_either (Lies size) (is_whole p) (map (fault_in_file p.word 0) (content_faults sc true p.is_scalar_only (text_of p.word)))
+    (chunked_faults sc p.is_scalar_only p.word (chunks_of (text_of p.word)))
     (whole_lies size sc p.is_scalar_only p.word p.at is.span is.placed is.from) (chunked_lies size sc p.is_scalar_only p.word p.at is.span is.placed is.from)
 
 pub expression_faults_lie : (size : ℕ) (kind : FileKind) (known : OutputNames) (root : Node) → IsLaid size root → AreFrom size root → AllLie size (expression_faults kind known root)

@@ -97,7 +97,10 @@ tail_ends : (bs : List ℕ) → EndsRule bs (decimal_tail bs)
 tail_ends bs = further bs (fraction_len bs) _ (fraction_ends bs) (exponent_ends (drop (fraction_len bs) bs))
 
 decimal_ends : (bs : List ℕ) → EndsRule bs (decimal_len bs)
-decimal_ends bs = cond_both _ _ _ (EndsRule bs) (λ h. further bs (prefix_len is_ascii_digit bs) _ (run_ends is_ascii_digit bs digit_ascii) (tail_ends (drop (prefix_len is_ascii_digit bs) bs))) (λ h. nothing bs)
+decimal_ends bs =
+    cond_both _ _ _ (EndsRule bs)
+    (λ h. further bs (prefix_len is_ascii_digit bs) _ (run_ends is_ascii_digit bs digit_ascii) (tail_ends (drop (prefix_len is_ascii_digit bs) bs)))
+    (λ h. nothing bs)
 
 greater : (bs : List ℕ) (x y : ℕ) → EndsRule bs x → EndsRule bs y → EndsRule bs (max x y)
 greater bs x y a b = elim (max_is x y) [ inl e ↦ rw e a | inr e ↦ rw e b ]

@@ -138,7 +138,8 @@ module _ (room inner : ℕ) (b : List ℕ) (s : Span) (ts : List Lexeme) (one : 
   pub index_refused : (e : ParseError) → Lacks Star (kinds ts) → Refused (Binary 3) inner ts e → StepRefused room (lexeme OpenIndex b s ∷ ts) e
   index_refused e n r = λ k st h. likewise e _ _ (to_inside k st n h) (r 0 (Index k ∷ st) refl (omega arith))
 
-  pub index_stray : (mid : List Lexeme) (t : Tree) → Lacks Star (kinds ts) → Parsed (Binary 3) inner ts t mid → Lacks CloseIndex (kinds mid) → StepRefused room (lexeme OpenIndex b s ∷ ts) (error_at mid)
+  pub index_stray : (mid : List Lexeme) (t : Tree) → Lacks Star (kinds ts) → Parsed (Binary 3) inner ts t mid → Lacks CloseIndex (kinds mid)
+      → StepRefused room (lexeme OpenIndex b s ∷ ts) (error_at mid)
   index_stray mid t n p never = λ k st h. likewise (error_at mid) _ _ (to_inside k st n h ∙ p.goes 0 (Index k ∷ st) refl (omega arith)) (stray (Index k) st mid p.stops never)
 
 -- brackets without room

@@ -12,7 +12,7 @@ use Rattle.al_expr_grammar.specs.Extents.{across, extent}
 use Rattle.al_expr_grammar.specs.Inside.{AllLie}
 use Rattle.al_expr_grammar.specs.Refusal.{expression_fault}
 use Rattle.al_expr_grammar.specs.Tree as tree
-use Rattle.al_expr_grammar.specs.Tree.{Tree, sign, Constant, Named, Call, Group, Negated, Path, Chain, PathSteps, NoStep, PropertyThen, AllThen}
+use Rattle.al_expr_grammar.specs.Tree.{Tree, sign, Named, Call, Group, Negated, Path, Chain, PathSteps, NoStep, PropertyThen, AllThen}
 use Rattle.al_expr_grammar.specs.Tree.{IndexThen, Operands, NoOperand, OperandThen, Arguments, NoArgument, ArgumentThen}
 use Rattle.al_expr_grammar.specs.declared.token.Operator.{Operator}
 use Rattle.al_expr_grammar.proofs.Inside.{TreeLies, StepsLie, OperandsLie, ArgumentsLie, start_of, whole_lies}

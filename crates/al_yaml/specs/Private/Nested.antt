@@ -1,4 +1,4 @@
--- What the whole answers, told by the collections that are open in it: what is still to be read gives the same answer.
+-- What the whole answers, by the collections that are open in it: what is still to be read gives the same answer.
 use Rattle.std.specs.Prelude.{◌≡◌, ℕ, suc, ◌+◌, ◌<◌, List, [], ◌∷◌, length, Err}
 use Rattle.al_yaml_tree.specs.Node.{Node}
 use Rattle.al_yaml_tree.specs.Reading.{Part}
@@ -9,8 +9,8 @@ use Rattle.al_yaml_parts.specs.declared.faults.ReadError.TheVariants as stop
 abbrev pub NodeAnswer : Type 0
 NodeAnswer = Answer (Part Node)
 
--- What an open collection answers if what is read in it answers so. Bounds come first: how deep collections nest in it, and how much it still
--- reads; then how many collections stand around it.
+-- What an open collection answers if what is read in it answers so. Bounds come first: how deep collections nest in it, and how much it
+-- still reads; then how many collections are around it.
 abbrev pub Goes : Type 0 → Type 0
 Goes F = ℕ → ℕ → ℕ → F → NodeAnswer → NodeAnswer
 
@@ -26,8 +26,9 @@ AreEnough size at [] ts = Unit {0}
 AreEnough size at (f ∷ fs) [] = ⊥
 AreEnough size at (f ∷ fs) (t ∷ ts) = (size < t + at) × AreEnough size at fs ts
 
--- What stands from an offset on in the innermost of these answers so under two bounds.
-pub record IsInnermost {F : Type 0} (goes : Goes F) (size : ℕ) (whole : NodeAnswer) (fs : List F) (at : ℕ) (answer : ℕ → ℕ → NodeAnswer) : Type 0 where
+-- The innermost of these collections, read from an offset on, answers so under two bounds.
+pub record IsInnermost {F : Type 0} (goes : Goes F) (size : ℕ) (whole : NodeAnswer) (fs : List F) (at : ℕ)
+    (answer : ℕ → ℕ → NodeAnswer) : Type 0 where
   pub bound : ℕ
   pub turns : ℕ
   pub rest : List ℕ

@@ -33,7 +33,8 @@ gather-loop-m-preserved t c =
     let m = get_or ns i 0 in
     let ms = objects_of c.args.self.now in
     record {
-      part = next (λ ks. part_in c.args.part (fuse_all (map (object_in ms) ks))) (λ k. part_in c.args.part (object_in ms k)) (parts_more c.args.part (object_in ms)) ns i m (join_in ms c.args.sofar) (join_in ms c.loop-m.all) (join_in ms c.in_ok-all-in-Common.all)
+      part = next (λ ks. part_in c.args.part (fuse_all (map (object_in ms) ks))) (λ k. part_in c.args.part (object_in ms k))
+          (parts_more c.args.part (object_in ms)) ns i m (join_in ms c.args.sofar) (join_in ms c.loop-m.all) (join_in ms c.in_ok-all-in-Common.all)
           c.loop-m-test.true (get_or_default ns i 0 m c.loop-m-test.true) c.loop-m.invariant.part c.in_ok-all-in-Common.ensures.part;
       below = λ h. c.in_ok-all-in-Common.ensures.below (c.loop-m.invariant.below h);
     }
