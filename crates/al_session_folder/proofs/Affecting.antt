@@ -162,9 +162,10 @@ module _ (T : List ℕ × List ℕ → Bool) where
 
 -- paths in order have the members that they had
 pub among_ordered : (q : List ℕ) (ps : List (List ℕ)) → is_among q (in_order (slice_cmp nat_cmp) ps) ≡ is_among q ps
-among_ordered q ps = same_from_decides (is_among q (in_order (slice_cmp nat_cmp) ps)) (is_among q ps)
-    (λ h. Contains-from_in_order nat_list_cmp_total exact_bytes ps q (Contains-from_any bytes_same q (in_order (slice_cmp nat_cmp) ps) h),
-    λ c. list_any-from_Contains nat_list_eq_equiv q (in_order (slice_cmp nat_cmp) ps) (Contains-in_order nat_list_cmp_total exact_bytes ps q c))
+among_ordered q ps = same_from_decides (is_among q (in_order (slice_cmp nat_cmp) ps)) (is_among q ps) (
+  λ h. Contains-from_in_order nat_list_cmp_total exact_bytes ps q (Contains-from_any bytes_same q (in_order (slice_cmp nat_cmp) ps) h),
+  λ c. list_any-from_Contains nat_list_eq_equiv q (in_order (slice_cmp nat_cmp) ps) (Contains-in_order nat_list_cmp_total exact_bytes ps q c),
+)
     (Contains-from_any bytes_same q ps, list_any-from_Contains nat_list_eq_equiv q ps)
 
 among_last : (q n : List ℕ) (ps : List (List ℕ)) → is_among q (ps ++ n ∷ []) ≡ bytes_eq q n || is_among q ps

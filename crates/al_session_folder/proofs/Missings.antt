@@ -35,8 +35,16 @@ pub next_absent : (f : Folder) (ps so_far more : List (List ℕ)) (ts : List Tar
     → so_far ≡ ps ++ absent_candidates f (take i ts) → more ≡ so_far ++ filter (is_absent f) (candidates t)
     → more ≡ ps ++ absent_candidates f (take (i + 1) ts)
 next_absent f ps so_far more ts i t within read before now =
-    rw (now, before, append_assoc, take_more ts i t within, ← read, flat_map-append candidates (take i ts) (t ∷ []), append-nil (candidates t),
-    filter-append (is_absent f) (flat_map candidates (take i ts)) (candidates t))
+    rw (
+      now,
+      before,
+      append_assoc,
+      take_more ts i t within,
+      ← read,
+      flat_map-append candidates (take i ts) (t ∷ []),
+      append-nil (candidates t),
+      filter-append (is_absent f) (flat_map candidates (take i ts)) (candidates t),
+    )
 
 -- those of one file more
 pub next_missing : {X : Type 0} (part : X → List (List ℕ)) (so_far more : List (List ℕ)) (xs : List X) (i : ℕ) (x : X) → i < length xs → x ≡ get_or xs i x

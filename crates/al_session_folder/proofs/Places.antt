@@ -87,8 +87,11 @@ module _ (p : List ℕ) where
   sorted_put (e ∷ es) b s = by_ordering (slice_cmp nat_cmp p e.0)
       (λ a. rw a ((a, all_weaker _ (λ y. slice_cmp nat_cmp p y ≡ Less) (λ y h. nat_list_cmp_total.trans p e.0 y a h) (paths_of es) s.0), s))
       (λ a. rw a s)
-      (λ a. rw a (recursion_from_All _ _ (All-keys-insert_entry (slice_cmp nat_cmp) p b (λ y. slice_cmp nat_cmp e.0 y ≡ Less) es (All-from_recursion _ _ s.0)
-      (nat_list_cmp_total.antisymm e.0 p ∙ ap ordering_reverse a)), sorted_put es b s.1))
+      (λ a. rw a (
+        recursion_from_All _ _ (All-keys-insert_entry (slice_cmp nat_cmp) p b (λ y. slice_cmp nat_cmp e.0 y ≡ Less) es (All-from_recursion _ _ s.0)
+            (nat_list_cmp_total.antisymm e.0 p ∙ ap ordering_reverse a)),
+        sorted_put es b s.1,
+      ))
 
 -- a path that is nowhere is not found
 pub absent : (es : Folder) (p : List ℕ) (i : ℕ) → IsStrictlySortedBy (slice_cmp nat_cmp) (paths_of es) → path_place (paths_of es) p ≡ Err i → bytes_at es p ≡ None

@@ -34,5 +34,9 @@ loop-member-preserved c =
 
 pub returns-clause-values : goal.returns-clause-values
 returns-clause-values c =
-    rw (take_all c.loop-member.member-index c.deref-member-items.result.now (omega (arith, c.loop-member-test.false)), c.deref-member-items.ensures.value,
-    c.in_ok-given.ensures, c.text_or_empty-job.ensures) at c.loop-member.invariant.values
+    rw (
+      take_all c.loop-member.member-index c.deref-member-items.result.now (omega (arith, c.loop-member-test.false)),
+      c.deref-member-items.ensures.value,
+      c.in_ok-given.ensures,
+      c.text_or_empty-job.ensures,
+    ) at c.loop-member.invariant.values

@@ -19,8 +19,14 @@ pub loop-index-preserved : goal.loop-index-preserved
 loop-index-preserved g c =
     let es = c.args.files.now.entries in
     let e : String Global × KeptFile _ _ = (c.file_number.result.0.now, c.file_number.result.1.now) in
-    rw (c.in_ok-push.ensures.items, c.loop-index.invariant, c.in_ok-owned_path.ensures, c.as_str.ensures.value,
-    map_more (λ x. string_bytes x.0) es c.loop-index.index e (slice_get_within es c.loop-index.index e c.file_number.ensures), get_or_from_slice_get es c.loop-index.index e e c.file_number.ensures)
+    rw (
+      c.in_ok-push.ensures.items,
+      c.loop-index.invariant,
+      c.in_ok-owned_path.ensures,
+      c.as_str.ensures.value,
+      map_more (λ x. string_bytes x.0) es c.loop-index.index e (slice_get_within es c.loop-index.index e c.file_number.ensures),
+      get_or_from_slice_get es c.loop-index.index e e c.file_number.ensures,
+    )
 
 pub returns : goal.returns
 returns g c =
