@@ -1,4 +1,4 @@
--- Lemmas on what writes append, piece by piece.
+-- Lemmas about what a sequence of writes appends.
 use Rattle.std.proofs.lemmas.List.{take_more, take-append-drop, take_rest}
 use Rattle.std.proofs.lemmas.Grind.{flat_map-append}
 use Rattle.std.proofs.lemmas.List.Concat.{flat_map_single}
@@ -11,7 +11,7 @@ use Rattle.std.proofs.KnownBytes.{Appends-trans}
 use Rattle.std.specs.Io.KnownBytes.{Keeps}
 use Rattle.al_base.specs.Counted.{AppendsPrefix}
 
--- the front of length k, and then n of what is left
+-- a prefix of length k, and then n bytes of the rest
 pub Appends-more : (a b c : Option (List ℕ)) (xs : List ℕ) (k n : ℕ) → Appends a b (take k xs) → Appends b c (take n (take (length xs - k) (drop k xs))) → Appends a c (take (k + n) xs)
 Appends-more a b c xs k n p q =
     let more : Appends b c (take n (drop k xs)) = subst (Appends b c) (ap (take n) (take_rest xs k)) q in
@@ -25,7 +25,7 @@ AppendsPrefix-none (Some x) (Some y) xs p = (0, omega arith, p ∙ sym (append-n
 pub AppendsPrefix-all : (a b : Option (List ℕ)) (xs : List ℕ) → Appends a b xs → AppendsPrefix a b xs
 AppendsPrefix-all a b xs p = (length xs, omega arith, subst (Appends a b) (sym (take-length xs)) p)
 
--- a prefix of xs is one of what goes on
+-- a prefix of xs is a prefix of xs ++ ys
 pub AppendsPrefix-wider : (a b : Option (List ℕ)) (xs ys : List ℕ) → AppendsPrefix a b xs → AppendsPrefix a b (xs ++ ys)
 AppendsPrefix-wider a b xs ys w =
     let within : w.0 ≤ length xs = w.1 in
@@ -37,7 +37,7 @@ AppendsPrefix-after a b c xs ys p w =
     let within : w.0 ≤ length ys = w.1 in
     (length xs + w.0, omega (arith, length-append xs ys), subst (Appends a c) (sym (take-append-add xs ys w.0)) (Appends-trans a b c xs (take w.0 ys) p w.2))
 
--- the parts before i, and then a prefix of part i
+-- all parts before part i, and then a prefix of part i
 pub AppendsPrefix-part : {X : Type 0} (f : X → List ℕ) (parts : List X) (i : ℕ) (d : X) (a b c : Option (List ℕ)) → i < length parts
     → Appends a b (flat_map f (take i parts)) → AppendsPrefix b c (f (get_or parts i d)) → AppendsPrefix a c (flat_map f parts)
 AppendsPrefix-part {X} f parts i d a b c h p w =
@@ -50,16 +50,16 @@ AppendsPrefix-part {X} f parts i d a b c h p w =
     (flat_map-append f (take i parts) (x ∷ []) ∙ ap (λ l. flat_map f (take i parts) ++ l) (append-nil (f x))) in
     subst (AppendsPrefix a c) (sym split) (AppendsPrefix-wider a c (flat_map f (take i parts) ++ f x) _ (AppendsPrefix-after a b c (flat_map f (take i parts)) (f x) p w))
 
--- the same for a map
+-- the same where each part is a single byte
 pub AppendsPrefix-item : {X : Type 0} (f : X → ℕ) (xs : List X) (i : ℕ) (d : X) (a b c : Option (List ℕ)) → i < length xs
     → Appends a b (map f (take i xs)) → AppendsPrefix b c (f (get_or xs i d) ∷ []) → AppendsPrefix a c (map f xs)
 AppendsPrefix-item f xs i d a b c h p w =
     subst (AppendsPrefix a c) (flat_map_single f xs) (AppendsPrefix-part (λ y. f y ∷ []) xs i d a b c h (subst (Appends a b) (sym (flat_map_single f (take i xs))) p) w)
 
--- what a loop has appended that writes a part for each element of a list, where x is the next element
+-- What a loop has appended that writes one part for each element; x is the next element.
 module _ {X : Type 0} (f : X → List ℕ) (parts : List X) (i : ℕ) (x : X) (within : i < length parts) (read : x ≡ get_or parts i x)
     (a b c : Option (List ℕ)) (so_far : Appends a b (flat_map f (take i parts))) where
-  -- one part more
+  -- after one more part
   pub Appends-next : Appends b c (f x) → Appends a c (flat_map f (take (i + 1) parts))
   Appends-next more =
       let whole : flat_map f (take (i + 1) parts) ≡ flat_map f (take i parts) ++ f x =
@@ -67,6 +67,6 @@ module _ {X : Type 0} (f : X → List ℕ) (parts : List X) (i : ℕ) (x : X) (w
       ∙ ap (λ l. flat_map f (take i parts) ++ l) (append-nil (f x)) in
       subst (Appends a c) (sym whole) (Appends-trans a b c (flat_map f (take i parts)) (f x) so_far more)
 
-  -- a prefix of the next part is one of them all
+  -- A prefix of the next part gives a prefix of all parts.
   pub AppendsPrefix-next : AppendsPrefix b c (f x) → AppendsPrefix a c (flat_map f parts)
   AppendsPrefix-next front = AppendsPrefix-part f parts i x a b c within so_far (subst (λ (y : X). AppendsPrefix b c (f y)) read front)

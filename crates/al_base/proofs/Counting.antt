@@ -1,4 +1,4 @@
--- How the two counts of a position go on by one byte.
+-- How the line and the column change from one offset to the next, and their bounds.
 use Rattle.std.proofs.Common.{◌≡◌, ℕ, zero, suc, ◌+◌, ◌≤◌, ◌<◌, Bool, true, false, cond, eqb, ◌&&◌, List, get_or, refl, ap, subst, ◌∙◌, arith, add-one, add-zero, add-suc, eq-eqb, ◌-◌}
 use Rattle.std.proofs.lemmas.Bool.Decides.{nat_tests}
 use Rattle.al_base.specs.Positions.{count_below, ends_break, begins_char, line_at, column_at}

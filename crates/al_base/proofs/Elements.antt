@@ -1,4 +1,4 @@
--- What holds of each element of a list or of an option, through maps and searches.
+-- A property of all elements of a list, or of an option's value, is preserved by maps, filters and searches.
 use Rattle.std.specs.Prelude.{Bool, true, false, List, [], ◌∷◌, ◌++◌, map, Option, Some, None, IfSome, find, option_and_then, option_map}
 use Rattle.std.proofs.Common.{cond}
 use Rattle.std.specs.List.{AllByRecursion, cons_option, filter_map, flat_map}

@@ -1,4 +1,4 @@
--- The order of faults is the derived one, it is total, and it tells equal faults.
+-- The order of faults is the derived one and is total; only equal faults compare as equal.
 use Rattle.std.proofs.Common.{◌≡◌, ℕ, List, [], ◌∷◌, get_or, map, pred, refl, sym, ap, ◌∙◌}
 use Rattle.std.specs.Cmp.{IsTotalOrder}
 use Rattle.std.specs.Cmp.Derive.{then_next}
@@ -39,7 +39,7 @@ use Rattle.al_base.specs.contracts.faults.FaultOrd.TheImpl.Laws.{matches_eq-law}
 use Rattle.al_base.specs.contracts.faults.FaultPartialEq.TheImpl as derived_eq
 use Rattle.al_base.proofs.InOrder.{IsStrictlySortedBy-in_order, Contains-in_order, Contains-from_in_order, AllByRecursion-in_order, in_order-same, in_order-sorted}
 
--- ---- the derived order: each code beside each other one, by computation
+-- ---- the derived order, case by case on the two codes
 
 code_is : (a b : Code) → code.ghosts.cmp a b ≡ ordering_then (nat_cmp (kind_place a) (kind_place b)) (nat_cmp (place_in_kind a) (place_in_kind b))
 code_is (C.Yaml NotUtf8) (C.Yaml NotUtf8) = refl
@@ -81,7 +81,7 @@ derived_is x y =
     joined (nat_cmp x.span.start y.span.start) (nat_cmp x.span.end y.span.end) (code.ghosts.cmp x.code y.code)
     (nat_cmp (kind_place x.code) (kind_place y.code)) (nat_cmp (place_in_kind x.code) (place_in_kind y.code)) (args_cmp x.args y.args) (code_is x.code y.code)
 
--- `==` is true where the order answers `Equal`
+-- `==` holds exactly where the order gives `Equal`
 pub derived_ties : (x y : Fault) → derived_eq.ghosts.eq x y ≡ eq_by_cmp fault_cmp x y
 derived_ties x y = matches_eq-law x y ∙ ap is_eq (derived_is x y)
 
@@ -95,7 +95,7 @@ fault_cmp_total =
     (then_total (on_total (λ (fault : Fault). place_in_kind fault.code) nat_cmp_total)
     (on_total (λ (fault : Fault). fault.args) args_total))))
 
--- the code at each place of a group. Numbers begin at 1, those of calls at 2.
+-- The code at each position of a group. Positions begin at 1, in the group of calls at 2.
 code_at : ℕ → ℕ → Code
 code_at kind place = get_or (get_or (
     (map C.Yaml (NotUtf8 ∷ ControlCharacter ∷ TabInIndentation ∷ WrongIndentation ∷ UnclosedQuote ∷ UnclosedFlow ∷ AnchorOrAlias ∷ Tag
@@ -147,7 +147,7 @@ fault_cmp_same x y e =
     let args : x.args ≡ y.args = slice_cmp-IsAntisymmetric (slice_cmp-IsAntisymmetric nat_cmp-IsAntisymmetric) x.args y.args four.1 in
     λ i. record { span = record { start = start i; end = end i }; code = code i; args = args i }
 
--- ---- what a list of faults has
+-- ---- `fault_list` is strictly sorted and has the same faults
 
 pub IsStrictlySortedBy-fault_list : (faults : List Fault) → IsStrictlySortedBy fault_cmp (fault_list faults)
 IsStrictlySortedBy-fault_list faults = IsStrictlySortedBy-in_order fault_cmp_total fault_cmp_same faults
@@ -158,18 +158,18 @@ Contains-fault_list faults fault h = Contains-in_order fault_cmp_total fault_cmp
 pub Contains-from_fault_list : (faults : List Fault) (fault : Fault) → Contains (fault_list faults) fault → Contains faults fault
 Contains-from_fault_list faults fault h = Contains-from_in_order fault_cmp_total fault_cmp_same faults fault h
 
--- what holds of each fault, as that it lies in the file
+-- a property of all faults, for example that they lie in the file
 pub AllByRecursion-fault_list : (P : Fault → Type 0) (faults : List Fault) → AllByRecursion P faults → AllByRecursion P (fault_list faults)
 AllByRecursion-fault_list P faults all = AllByRecursion-in_order fault_cmp_total fault_cmp_same P faults all
 
--- two lists with the same faults
+-- Lists with the same faults give the same `fault_list`.
 pub fault_list-same : (a b : List Fault) → ((fault : Fault) → Contains a fault → Contains b fault) → ((fault : Fault) → Contains b fault → Contains a fault) → fault_list a ≡ fault_list b
 fault_list-same a b f g = in_order-same fault_cmp_total fault_cmp_same a b f g
 
--- a list and another order of it
+-- `fault_list` doesn't depend on the order of its argument.
 pub fault_list-permutation : (a b : List Fault) → IsPermutation a b → fault_list a ≡ fault_list b
 fault_list-permutation a b moved = fault_list-same a b (λ fault. Contains-permutation a b fault moved) (λ fault. Contains-permutation b a fault (IsPermutation-sym a b moved))
 
--- a list that is in order with each fault once
+-- A strictly sorted list is its own `fault_list`.
 pub fault_list-sorted : (faults : List Fault) → IsStrictlySortedBy fault_cmp faults → fault_list faults ≡ faults
 fault_list-sorted faults s = in_order-sorted fault_cmp_total fault_cmp_same faults s

@@ -1,10 +1,10 @@
--- Lists that were added to: what they begin with, and what they hold as sets.
+-- Lists after appends: their prefixes, and their elements as sets.
 use Rattle.std.specs.Prelude.{Contains, ◌↔◌}
 use Rattle.std.proofs.Common.{◌≡◌, List, [], ◌++◌, ◌∙◌, sym, ap, append_assoc, append-nil, subst, ◌⊎◌, ⊎_elim}
 use Rattle.std.proofs.lemmas.List.Elements.{Contains-append_left, Contains-append_right, Contains-append_cases}
 use Rattle.al_base.specs.Growth.{BeginsWith, SameSet}
 
--- a list begins with itself, and with what more was added to
+-- A list begins with itself, and still does after appends.
 pub begins_by : {X : Type 0} (old new more : List X) → new ≡ old ++ more → BeginsWith new old
 begins_by old new more e = record { more = more; is = e }
 
@@ -19,7 +19,7 @@ pub ruleset growth = (begins_by, begins_same, begins_trans)
 pub same_set : {X : Type 0} (xs ys : List X) → xs ≡ ys → SameSet xs ys
 same_set xs ys e x = let P : List _ → Type 0 = λ l. Contains l x in (λ h. subst P e h, λ h. subst P (sym e) h)
 
--- what was added as a list was added as a set
+-- Appending a list adds its elements.
 pub adds_set : {X : Type 0} (old new more : List X) → new ≡ old ++ more → (x : X) → Contains new x ↔ (Contains old x ⊎ Contains more x)
 adds_set {X} old new more e x =
     let P : List X → Type 0 = λ l. Contains l x in

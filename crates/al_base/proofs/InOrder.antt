@@ -1,4 +1,4 @@
--- What a list in order has, each value once: it is strictly sorted, and its members tell it.
+-- `in_order` is strictly sorted, and depends only on which elements its argument has.
 use Rattle.std.proofs.Common.{◌≡◌, ◌≢◌, ℕ, zero, suc, ◌<◌, Bool, true, List, [], ◌∷◌, length, get_or, refl, sym, ap, ◌∙◌, subst, ◌⊎◌, inl, inr, ⊎_elim, arith, true≢false}
 use Rattle.std.specs.List.{AllByRecursion, AllPairs, Contains, dedup}
 use Rattle.std.specs.List.Sorted.{IsStrictlySortedBy, IsPermutation, IsSorted}
@@ -12,7 +12,7 @@ use Rattle.std.proofs.lemmas.Map.Keys.{Less-from_sorted}
 use Rattle.std.proofs.lemmas.List.Sorted.{Contains-permutation, IsPermutation-sym}
 use Rattle.al_base.specs.InOrder.{with_one, in_order}
 
--- x is among ys, by recursion
+-- x is an element of the list, by recursion
 abbrev Has : {X : Type 0} → List X → X → Type 0
 Has [] x = ⊥
 Has (y ∷ ys) x = (y ≡ x) ⊎ Has ys x
@@ -42,13 +42,13 @@ module _ {X : Type 0} {R : X → X → Ordering} (o : IsTotalOrder R) where
   not_below_itself : (x : X) → R x x ≡ Less → ⊥
   not_below_itself x e = true≢false (sym (ap is_eq (tied_itself o x)) ∙ ap is_eq e)
 
-  -- no value stands twice in a strictly sorted list
+  -- The elements of a strictly sorted list are distinct.
   pub AllPairs-strict : (xs : List X) → IsStrictlySortedBy R xs → AllPairs (λ x y. x ≢ y) xs
   AllPairs-strict xs s i j d behind within same =
       not_below_itself (get_or xs i d) (subst (λ y. R (get_or xs i d) y ≡ Less) (sym same) (Less-from_sorted R xs i j d s behind within))
 
 module _ {X : Type 0} {R : X → X → Ordering} (o : IsTotalOrder R) (same : IsAntisymmetric R) where
-  -- the cases of `with_one` at a list that is not empty
+  -- case analysis of `with_one` on a list that is not empty
   by_cmp : (P : List X → Type 0) (x y : X) (ys : List X) → (R x y ≡ Less → P (x ∷ y ∷ ys)) → (R x y ≡ Equal → P (y ∷ ys)) → (R x y ≡ Greater → P (y ∷ with_one R x ys)) → P (with_one R x (y ∷ ys))
   by_cmp P x y ys less equal greater =
       elim (R x y) as (λ r. R x y ≡ r → P (match_ordering r (x ∷ y ∷ ys) (y ∷ ys) (y ∷ with_one R x ys))) [ Less ↦ less | Equal ↦ equal | Greater ↦ greater ] refl
@@ -93,7 +93,7 @@ module _ {X : Type 0} {R : X → X → Ordering} (o : IsTotalOrder R) (same : Is
   ordered_has [] z h = h
   ordered_has (x ∷ xs) z h = with_has x (in_order R xs) z (⊎_elim (λ e. inl e) (λ l. inr (ordered_has xs z l)) h)
 
-  -- two lists that are strictly sorted and have the same members are one
+  -- Two strictly sorted lists with the same elements are equal.
   one_list : (xs ys : List X) → IsStrictlySortedBy R xs → IsStrictlySortedBy R ys → ((z : X) → Has xs z → Has ys z) → ((z : X) → Has ys z → Has xs z) → xs ≡ ys
   unfolding IsStrictlySortedBy
   one_list [] [] s t f g = refl
@@ -127,25 +127,25 @@ module _ {X : Type 0} {R : X → X → Ordering} (o : IsTotalOrder R) (same : Is
   AllByRecursion-in_order P [] all = tt
   AllByRecursion-in_order P (x ∷ xs) all = all_with P x (in_order R xs) all.0 (AllByRecursion-in_order P xs all.1)
 
-  -- a strictly sorted list with the members of xs is that of xs
+  -- A strictly sorted list with the elements of xs is `in_order R xs`.
   pub in_order_is : (xs ys : List X) → IsStrictlySortedBy R ys → ((z : X) → Contains xs z → Contains ys z) → ((z : X) → Contains ys z → Contains xs z) → ys ≡ in_order R xs
   in_order_is xs ys s f g =
       one_list ys (in_order R xs) s (IsStrictlySortedBy-in_order xs)
       (λ z h. ordered_has xs z (has xs z (g z (contains ys z h))))
       (λ z h. has ys z (f z (contains xs z (has_ordered xs z h))))
 
-  -- so lists with the same members give one list
+  -- Lists with the same elements give the same `in_order`.
   pub in_order-same : (xs ys : List X) → ((z : X) → Contains xs z → Contains ys z) → ((z : X) → Contains ys z → Contains xs z) → in_order R xs ≡ in_order R ys
   in_order-same xs ys f g =
       in_order_is ys (in_order R xs) (IsStrictlySortedBy-in_order xs)
       (λ z h. Contains-in_order xs z (g z h))
       (λ z h. f z (Contains-from_in_order xs z h))
 
-  -- and a strictly sorted list gives itself
+  -- A strictly sorted list is its own `in_order`.
   pub in_order-sorted : (xs : List X) → IsStrictlySortedBy R xs → in_order R xs ≡ xs
   in_order-sorted xs s = sym (in_order_is xs xs s (λ z h. h) (λ z h. h))
 
-  -- what a sort and then a `dedup` leave of xs
+  -- `dedup` of a sorted permutation of xs is `in_order R xs`.
   pub dedup-in_order : (E : X → X → Bool) → ((x y : X) → E x y ≡ eq_by_cmp R x y) → (xs ys : List X) → IsPermutation xs ys → IsSorted R ys → dedup E ys ≡ in_order R xs
   dedup-in_order E ties xs ys moved sorted =
       let told : (x y : X) → E x y ≡ true → x ≡ y = λ x y e. same x y ((Equal-is (R x y)).0 (sym (ties x y) ∙ e)) in

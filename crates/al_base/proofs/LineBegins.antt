@@ -1,4 +1,4 @@
--- Where a line begins, a byte further.
+-- Where the line of the next offset begins, after a line break and elsewhere.
 use Rattle.std.proofs.Common.{◌≡◌, ℕ, ◌+◌, true, false, List, refl, sym, ◌∙◌, arith}
 use Rattle.al_base.specs.Positions.{ends_break, BeginsLine}
 use Rattle.al_base.proofs.Counting.{line_at-break, line_at-same}

@@ -1,4 +1,4 @@
--- What the offsets are at which lines begin.
+-- The table of the offsets at which lines begin, and how it gives the line of an offset.
 use Rattle.std.proofs.Common.{◌≡◌, ℕ, zero, suc, ◌+◌, ◌-◌, ◌≤◌, ◌<◌, Bool, true, false, List, [], ◌∷◌, ◌++◌, length, get_or, refl, sym, ap}
 use Rattle.std.proofs.Common.{subst, ◌∙◌, arith, add-one, add-zero, length-append, append-nil, inl, inr}
 use Rattle.std.proofs.Math.Nat.{eq-or-lt_of_le}
@@ -14,11 +14,11 @@ use Rattle.al_base.specs.Positions.{ends_break, line_at, column_at}
 use Rattle.al_base.specs.LineStarts.{starts_to, line_starts}
 use Rattle.al_base.proofs.Counting.{line_at-break, line_at-later, line_at-small, column_at-break}
 
--- a line is at most that of a later offset
+-- `line_at` is monotone.
 pub line_at-le : (bytes : List ℕ) (j k : ℕ) → j ≤ k → line_at bytes j ≤ line_at bytes k
 line_at-le bytes j k h = subst (λ (m : ℕ). line_at bytes j ≤ line_at bytes m) (omega arith) (line_at-later bytes j (k - j))
 
--- between two offsets on one line no break ends
+-- No break ends between two offsets on the same line.
 pub no_break_between : (bytes : List ℕ) (s k o : ℕ) → s ≤ k → k < o → line_at bytes s ≡ line_at bytes o → ends_break bytes k ≡ false
 no_break_between bytes s k o a b same =
     elim (cases_Bool (ends_break bytes k)) [
@@ -42,12 +42,12 @@ starts_to-break bytes n e = rw e refl
 starts_to-same : (bytes : List ℕ) (n : ℕ) → ends_break bytes n ≡ false → starts_to bytes (suc n) ≡ starts_to bytes n
 starts_to-same bytes n e = rw e (append-nil (starts_to bytes n))
 
--- ---- the starts behind the breaks among some places
+-- ---- the line starts, from the offsets of line feeds and carriage returns
 
 abbrev pub start_behind_break : List ℕ → ℕ → List ℕ
 start_behind_break bytes k = if ends_break bytes k then (k + 1) ∷ [] else []
 
--- the line feeds and carriage returns of a file, as a search gives them
+-- the bytes that the search looks for: line feed and carriage return
 abbrev pub break_bytes : ℕ → Bool
 break_bytes = is_byte2 10 13
 
@@ -71,14 +71,14 @@ starts_from bytes i (suc n) =
     ∙ place_more (break_bytes x) (ends_break bytes i) ((i + 1) ∷ []) (starts_to bytes i) _ i (start_behind_break bytes) (places_from break_bytes bytes (i + 1) n) refl refl
     (λ e. grind (arith, nat_tests))
 
--- all starts of a file, by the places of those bytes
+-- All line starts, from the offsets of these bytes.
 pub starts_by_places : (bytes : List ℕ) → 0 ∷ flat_map (start_behind_break bytes) (places break_bytes bytes) ≡ line_starts bytes
 starts_by_places bytes =
     let none : length bytes - 0 ≡ length bytes = omega arith in
     let all : 0 + length bytes ≡ length bytes = omega arith in
     ap (λ n. 0 ∷ flat_map (start_behind_break bytes) (places_from break_bytes bytes 0 n)) none ∙ sym (starts_from bytes 0 (length bytes)) ∙ ap (starts_to bytes) all
 
--- the search gives one more of those bytes
+-- one step of the loop: the search found the byte at offset k
 module _ (bytes starts : List ℕ) (k : ℕ) (all rest : List ℕ) (is : all ≡ k ∷ rest) where
   after_place : (b : Bool) → ends_break bytes k ≡ b →
       (starts ++ (if b then (k + 1) ∷ [] else [])) ++ flat_map (start_behind_break bytes) rest ≡ starts ++ flat_map (start_behind_break bytes) all
@@ -102,7 +102,7 @@ starts_to-length bytes (suc n) =
       | inr e ↦ rw e (omega (arith, ap length (append-nil (starts_to bytes n)), before))
     ]
 
--- a start behind the others
+-- A line starts directly after a break.
 start_behind : (bytes : List ℕ) (n : ℕ) → ends_break bytes n ≡ true → IsStart bytes (line_at bytes n) (n + 1)
 start_behind bytes n e = record {
   line = line_at-break bytes n e;
@@ -110,7 +110,7 @@ start_behind bytes n e = record {
   before = λ k h. line_at-le bytes k n (omega arith);
 }
 
--- the start i, at most n, in a list of starts
+-- entry i of the list is the start of line i + 1, and is at most n
 pub record HasStart (bytes : List ℕ) (n i : ℕ) (starts : List ℕ) : Type 0 where
   pub small : get_or starts i 0 ≤ n
   pub start : IsStart bytes i (get_or starts i 0)
@@ -149,7 +149,7 @@ start_at bytes (suc n) i h =
           subst (HasStart bytes (suc n) i) (sym same) (record { small = omega arith; start = first.start })
     ]
 
--- the starts rise
+-- The line starts are in ascending order.
 pub starts_to-rise : (bytes : List ℕ) (n : ℕ) → IsNonDecreasingBy (λ x. x) (starts_to bytes n)
 starts_to-rise bytes zero = IsNonDecreasingBy-short (λ x. x) (0 ∷ []) (omega arith)
 starts_to-rise bytes (suc n) =
@@ -163,11 +163,11 @@ starts_to-rise bytes (suc n) =
       | inr e ↦ subst (IsNonDecreasingBy (λ x. x)) (sym (starts_to-same bytes n e)) first
     ]
 
--- the start i of the table of these bytes
+-- entry i of the table is the start of line i + 1
 pub start_of : (bytes : List ℕ) (i : ℕ) → i < length (line_starts bytes) → IsStart bytes i (get_or (line_starts bytes) i 0)
 start_of bytes i h = (start_at bytes (length bytes) i h).start
 
--- an offset lies behind some start
+-- At least one line starts at or before an offset.
 pub some_start : (bytes : List ℕ) (offset r : ℕ) → ((k : ℕ) → r ≤ k → k < length (line_starts bytes) → offset < get_or (line_starts bytes) k 0) → 0 < r
 some_start bytes offset zero above =
     let some : 0 < length (line_starts bytes) = omega (arith, starts_to-length bytes (length bytes)) in
@@ -176,7 +176,7 @@ some_start bytes offset zero above =
     absurd (omega (arith, first))
 some_start bytes offset (suc r) above = omega arith
 
--- the last start at or before an offset is that of its line
+-- The last entry at or before an offset is the start of its line.
 pub line_at-start : (bytes : List ℕ) (offset i : ℕ) → offset ≤ length bytes → i < length (line_starts bytes) → get_or (line_starts bytes) i 0 ≤ offset
     → (i + 1 < length (line_starts bytes) → offset < get_or (line_starts bytes) (i + 1) 0) → line_at bytes offset ≡ i + 1
 line_at-start bytes offset i within few low high =
@@ -194,7 +194,7 @@ line_at-start bytes offset i within few low high =
           omega (arith, least, own, whole, all, g)
     ]
 
--- with as many starts at or before an offset as its line
+-- the offset's line number, and the offset at which that line starts
 pub record IsLineOf (bytes : List ℕ) (offset line start : ℕ) : Type 0 where
   pub above : 1 ≤ line
   pub small : line ≤ length bytes + 1
@@ -230,7 +230,7 @@ line_of bytes starts offset r made within bound up_to behind =
       first = λ k h. let low = start.before k h in omega (arith, low, at);
     })
 
--- an element that was read from the table
+-- an element read from the code's table
 pub start_read : (starts items : List ℕ) (i s : ℕ) → items ≡ starts → i < length starts → s ≡ get_or items i s → s ≡ get_or starts i 0
 start_read starts items i s same few read =
     read ∙ ap (λ l. get_or l i s) same ∙ get_or_default starts i s 0 few

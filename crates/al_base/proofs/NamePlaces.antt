@@ -1,4 +1,4 @@
--- Where the first of a list stands that passes a test, also with one more behind the list.
+-- The position of the first element that passes a test, also after one element is appended.
 use Rattle.std.proofs.Common.{◌≡◌, ℕ, ◌+◌, ◌<◌, get_or, map, Bool, true, false, List, [], ◌∷◌, ◌++◌, length, refl, sym, ap, ◌∙◌, arith, Option, Some, None, option_map, suc}
 use Rattle.std.specs.Prelude.{find, if◌then◌else◌}
 use Rattle.std.proofs.Math.ListN.{get_or-map}
@@ -17,7 +17,7 @@ module _ {A : Type 0} (test : A → Bool) where
   last_at true n m e = ap Some e
   last_at false n m e = refl
 
-  -- the first of a list and one more
+  -- after one element is appended
   pub first_more : (xs : List A) (x : A) → first_at test (xs ++ x ∷ []) ≡ option_or (first_at test xs) (if test x then Some (length xs) else None)
   first_more [] x = refl
   first_more (y ∷ ys) x =
@@ -30,7 +30,7 @@ module _ {A : Type 0} (test : A → Bool) where
   within_step false None n i h e = absurd cc
   within_step false (Some j) n i h e = let z : j + 1 ≡ i = cc in let y = h j refl in omega (arith, z, y)
 
-  -- it stands in the list
+  -- The position is within the list.
   pub first_within : (xs : List A) (i : ℕ) → first_at test xs ≡ Some i → i < length xs
   first_within [] i e = absurd cc
   first_within (x ∷ xs) i e =
@@ -42,12 +42,12 @@ module _ {A : Type 0} (test : A → Bool) where
   find_step false None x d xs found e = e
   find_step false (Some i) x d xs found e = let z : i + 1 ≡ suc i = omega arith in e ∙ ap (λ k. Some (get_or (x ∷ xs) k d)) (sym z)
 
-  -- and is the one that is found
+  -- `find` returns the element at that position.
   pub find_first : (xs : List A) (d : A) → find test xs ≡ option_map (λ i. get_or xs i d) (first_at test xs)
   find_first [] d = refl
   find_first (x ∷ xs) d = find_step (test x) (first_at test xs) x d xs (find test xs) (find_first xs d)
 
--- the position at which an element was found is one of the list, and the element is the one there
+-- the same for a mapped list: the position is within the list, and `find` returns the element there
 pub found_within : {X A : Type 0} (g : X → A) (test : A → Bool) (xs : List X) (i : ℕ) → first_at test (map g xs) ≡ Some i → i < length xs
 found_within g test xs i e = let h = first_within test (map g xs) i e in omega (arith, h, length-map xs g)
 

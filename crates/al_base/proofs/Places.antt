@@ -1,4 +1,4 @@
--- Where the text of each of a list first stands, along the entries in order.
+-- The position at which each text of a list first occurs, from its sorted entries.
 use Rattle.std.proofs.Common.{◌≡◌, ◌<◌, ℕ, ◌+◌, ◌-◌, Bool, true, false, ◌&&◌, List, [], ◌∷◌, ◌++◌, length, map, get_or, zero, suc, refl, sym, ap, subst, ◌∙◌, Option, Some}
 use Rattle.std.proofs.Common.{arith, ⊎_elim}
 use Rattle.std.specs.Prelude.{IsPermutation, nat_eq, nat_lt, slice_index}
@@ -17,14 +17,14 @@ use Rattle.al_base.specs.SortedTexts.{AreNumbered, AreOf, AreSorted, Key, StandI
 use Rattle.al_base.specs.declared.sorted_texts.Entry.{Entry}
 use Rattle.al_base.proofs.SortedTexts.{names_by_text, position_first}
 
--- keys that compare equal are of one text
+-- Keys that compare as equal have the same text.
 same_text : (a b : Key) → is_eq (key_cmp a b) ≡ true → a.1 ≡ b.1
 same_text a b e =
     (bytes_decides a.1 b.1).0
     (sym (is_eq-slice_cmp a.1 b.1)
     ∙ (and_parts (is_eq (nat_cmp a.0 b.0)) (is_eq (slice_cmp nat_cmp a.1 b.1)) (tied_then (nat_cmp a.0 b.0) (slice_cmp nat_cmp a.1 b.1) ∙ e)).1)
 
--- an element of a list with a position
+-- A list with a valid index has an element.
 with_one : {X P : Type 0} (xs : List X) (i : ℕ) → i < length xs → (X → P) → P
 with_one [] i l f = absurd (omega (arith, l))
 with_one (x ∷ xs) i l f = f x
@@ -47,7 +47,7 @@ module _ {T : Type 0} (bytes : T → List ℕ) where
       let number : entry_key bytes x ≡ sort_key (bytes x.text) = subst (λ (y : Entry T). entry_key bytes y ≡ sort_key (bytes y.text)) (sym is) (numbers i x l) in
       position_first bytes es (bytes x.text) x.number (ap (λ (k : Key). k.0) number) sorted i x l is refl others
 
-  -- ---- the entries of a list before they are sorted
+  -- ---- the entries before they are sorted
 
   abbrev pub InTurn : List (List ℕ) → List (Entry T) → Type 0
   InTurn ts es = (k : ℕ) (d : Entry T) → k < length es → ((get_or es k d).position ≡ k) × (entry_key bytes (get_or es k d) ≡ sort_key (get_or ts k []))
@@ -68,7 +68,7 @@ module _ {T : Type 0} (bytes : T → List ℕ) where
             (cases_lt k (length old))),
       )
 
-  -- ---- and after it
+  -- ---- the entries after they are sorted
 
   module _ (ts : List (List ℕ)) (old new : List (Entry T)) (many : length old ≡ length ts) (turn : InTurn ts old) (permuted : IsPermutation old new) where
     pub stand : StandIn bytes new
@@ -93,7 +93,7 @@ module _ {T : Type 0} (bytes : T → List ℕ) where
     pub firsts : (places : List ℕ) → TellPlaces bytes new places → (place : List ℕ → Option ℕ) → position_among bytes new ≡ place → TellsFirsts place ts (is_own places)
     firsts places told place is i l = with_one old i (omega (arith, l, many)) (λ d. own_place places told place is i d (omega (arith, l, many)))
 
--- ---- names stand first where their texts in lower case do
+-- ---- the first occurrences of names are those of their texts in lower case
 
 lower_at : {X : Type 0} (g : X → List ℕ) (xs : List X) (i : ℕ) → get_or (map (λ x. lower_case (g x)) xs) i [] ≡ lower_case (get_or (map g xs) i [])
 lower_at g [] i = refl

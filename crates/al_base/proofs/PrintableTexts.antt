@@ -1,4 +1,4 @@
--- Texts without control bytes are printed as they are, and a text's characters are printed as its bytes are.
+-- A text without control bytes is printed as it is; printing by characters and by bytes gives the same.
 use Rattle.std.proofs.Common.{◌≡◌, ◌∙◌, inl, inr, ℕ, ◌<◌, ◌≤◌, Bool, true, false, cond, List, [], ◌∷◌, map, refl, sym, ap, arith}
 use Rattle.std.proofs.Math.Utf8.{encode, encodes}
 use Rattle.std.proofs.lemmas.Bool.{cases_lt}
@@ -12,7 +12,7 @@ use Rattle.std.specs.Prelude.{IsUtf8, chars, nat_lt}
 use Rattle.al_base.specs.Printable.{printable, printable_byte}
 use Rattle.al_base.proofs.Elements.{each_either}
 
--- a byte that is no control byte
+-- the byte is no control byte
 abbrev pub IsPlain : ℕ → Type 0
 IsPlain b = is_ascii_control b ≡ false
 
@@ -23,9 +23,9 @@ printable_plain (x ∷ xs) p =
     let rest : printable xs ≡ xs = printable_plain xs (All-tail IsPlain x xs p) in
     rw (first, rest) refl
 
--- ---- characters
+-- ---- by characters
 
--- a byte of a character that isn't of ASCII
+-- the byte is part of a character that isn't ASCII
 abbrev IsHigh : ℕ → Type 0
 IsHigh b = 128 ≤ b
 

@@ -1,4 +1,4 @@
--- Texts that are the same but for ASCII case are of one length, and the same at each place.
+-- Names that are equal up to ASCII case have the same length, and equal bytes up to case at each position.
 use Rattle.std.proofs.Common.{◌≡◌, ℕ, List, ap, ◌∙◌, get_or, length, sym, true}
 use Rattle.std.proofs.Math.ListN.{get_or-map}
 use Rattle.std.proofs.lemmas.List.{length-map}

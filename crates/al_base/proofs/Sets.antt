@@ -1,4 +1,4 @@
--- Lists that are one set: put together, in another order, and made element by element.
+-- Lists with the same elements: under append, permutation, map and `flat_map`.
 use Rattle.std.proofs.Common.{◌≡◌, ◌<◌, ◌≤◌, ◌+◌, ◌∙◌, ⊎_elim, ℕ, zero, suc, List, [], ◌∷◌, ◌++◌}
 use Rattle.std.proofs.Common.{append_assoc, append-nil, length, take, get_or, map, ap, arith, refl, subst, sym}
 use Rattle.std.specs.Prelude.{Contains}
@@ -18,14 +18,14 @@ set_sym xs ys s x = ((s x).1, (s x).0)
 pub set_trans : {X : Type 0} (xs ys zs : List X) → SameSet xs ys → SameSet ys zs → SameSet xs zs
 set_trans xs ys zs s t x = (λ h. (t x).0 ((s x).0 h), λ h. (s x).1 ((t x).1 h))
 
--- with the same behind it
+-- appending the same list to both
 pub set_more : {X : Type 0} (xs ys zs : List X) → SameSet xs ys → SameSet (xs ++ zs) (ys ++ zs)
 set_more xs ys zs s x = (
   λ h. ⊎_elim (λ a. Contains-append_left ys zs x ((s x).0 a)) (λ b. Contains-append_right ys zs x b) (Contains-append_cases xs zs x h),
   λ h. ⊎_elim (λ a. Contains-append_left xs zs x ((s x).1 a)) (λ b. Contains-append_right xs zs x b) (Contains-append_cases ys zs x h),
 )
 
--- with the same before it
+-- prepending the same list to both
 pub set_behind : {X : Type 0} (xs ys zs : List X) → SameSet ys zs → SameSet (xs ++ ys) (xs ++ zs)
 set_behind xs ys zs s x = (
   λ h. ⊎_elim (λ a. Contains-append_left xs zs x a) (λ b. Contains-append_right xs zs x ((s x).0 b)) (Contains-append_cases xs ys x h),
@@ -35,7 +35,7 @@ set_behind xs ys zs s x = (
 pub set_both : {X : Type 0} (xs ys zs ws : List X) → SameSet xs ys → SameSet zs ws → SameSet (xs ++ zs) (ys ++ ws)
 set_both xs ys zs ws s t = set_trans (xs ++ zs) (ys ++ zs) (ys ++ ws) (set_more xs ys zs s) (set_behind ys zs ws t)
 
--- of four lists the middle ones change places
+-- swapping the middle two of four lists
 mix : {X : Type 0} (as' bs cs ds : List X) (x : X) → Contains ((as' ++ bs) ++ (cs ++ ds)) x → Contains ((as' ++ cs) ++ (bs ++ ds)) x
 mix as' bs cs ds x h =
     ⊎_elim
@@ -51,18 +51,18 @@ set_mixed as' bs cs ds x = (mix as' bs cs ds x, mix as' cs bs ds x)
 swap : {X : Type 0} (xs ys : List X) (x : X) → Contains (xs ++ ys) x → Contains (ys ++ xs) x
 swap xs ys x h = ⊎_elim (λ a. Contains-append_right ys xs x a) (λ b. Contains-append_left ys xs x b) (Contains-append_cases xs ys x h)
 
--- what is there already adds nothing
+-- Appending elements that are already there adds nothing.
 pub set_there : {X : Type 0} (xs zs : List X) → ((x : X) → Contains zs x → Contains xs x) → SameSet xs (xs ++ zs)
 set_there xs zs there x = (λ h. Contains-append_left xs zs x h, λ h. ⊎_elim (λ a. a) (λ b. there x b) (Contains-append_cases xs zs x h))
 
--- what was there, moved behind what was found
+-- The new list has what was found before the old one: the same elements as the old list with all of it appended.
 pub set_moved_behind : {X : Type 0} (old found whole new : List X) → new ≡ found ++ old → SameSet found whole → SameSet new (old ++ whole)
 set_moved_behind old found whole new e s = set_trans new (found ++ old) (old ++ whole) (same_set new (found ++ old) e) (λ x. (
   λ h. ⊎_elim (λ a. Contains-append_right old whole x ((s x).0 a)) (λ b. Contains-append_left old whole x b) (Contains-append_cases found old x h),
   λ h. ⊎_elim (λ a. Contains-append_right found old x a) (λ b. Contains-append_left found old x ((s x).1 b)) (Contains-append_cases old whole x h),
 ))
 
--- ---- element by element
+-- ---- membership in mapped lists
 
 nothing : {X : Type 0} (P : Type 0) (x : X) → Contains [] x → P
 nothing P x c = absurd (omega (arith, c.1))
@@ -86,7 +86,7 @@ from_flat_map g [] y P h c = nothing P y c
 from_flat_map g (x ∷ xs) y P h c =
     ⊎_elim (λ a. h x (head_in x xs) a) (λ b. from_flat_map g xs y P (λ z at. h z (tail_in x xs z at)) b) (Contains-append_cases (g x) (flat_map g xs) y c)
 
--- of lists in another order the same is made
+-- `flat_map` over a permutation gives the same elements.
 pub set_permuted : {X Y : Type 0} (g : X → List Y) (xs ys : List X) → IsPermutation xs ys → SameSet (flat_map g ys) (flat_map g xs)
 set_permuted g xs ys p y = (
   λ h. from_flat_map g ys y (Contains (flat_map g xs) y) (λ x at c. in_flat_map g xs x y (Contains-permutation ys xs x (IsPermutation-sym xs ys p) at) c) h,
@@ -99,11 +99,11 @@ in_map {X} {Y} g xs ys h y c =
     subst (λ l. Contains l y) (flat_map_single g ys)
     (from_flat_map one xs y (Contains (flat_map one ys) y) (λ x at d. in_flat_map one ys x y (h x at) d) (subst (λ l. Contains l y) (sym (flat_map_single g xs)) c))
 
--- what is made of each, one by one
+-- `map` over lists with the same elements
 pub set_mapped : {X Y : Type 0} (g : X → Y) (xs ys : List X) → SameSet xs ys → SameSet (map g xs) (map g ys)
 set_mapped g xs ys s y = (in_map g xs ys (λ x. (s x).0) y, in_map g ys xs (λ x. (s x).1) y)
 
--- what is made of each in two parts
+-- `flat_map` of a function that gives two parts
 pub set_split : {X Y : Type 0} (f g h : X → List Y) → ((x : X) → SameSet (f x) (g x ++ h x)) → (xs : List X) → SameSet (flat_map f xs) (flat_map g xs ++ flat_map h xs)
 set_split f g h each [] = λ y. (λ c. c, λ c. c)
 set_split f g h each (x ∷ xs) =
@@ -111,7 +111,7 @@ set_split f g h each (x ∷ xs) =
     (set_both (f x) (g x ++ h x) (flat_map f xs) (flat_map g xs ++ flat_map h xs) (each x) (set_split f g h each xs))
     (set_mixed (g x) (h x) (flat_map g xs) (flat_map h xs))
 
--- one element more of a list
+-- `flat_map` over a prefix that is one element longer
 pub taken_more : {X Y Z : Type 0} (f : Y → List Z) (v : X → Y) (xs : List X) (i : ℕ) (x : X) → i < length xs → x ≡ get_or xs i x →
     flat_map f (map v (take (i + 1) xs)) ≡ flat_map f (map v (take i xs)) ++ f (v x)
 taken_more f v xs i x h e =

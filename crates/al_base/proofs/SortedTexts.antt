@@ -1,4 +1,4 @@
--- Entries of texts in order: which is first of its text after a sort, behind a binary search, and with one more entry.
+-- The first entry of a text: after an append, after a stable sort, and by binary search.
 use Rattle.std.proofs.Common.{◌≡◌, ℕ, ◌+◌, ◌-◌, ◌<◌, ◌≤◌, Bool, true, false, not, ◌&&◌, List, [], ◌∷◌, ◌++◌, length, map, take, get_or, zero, suc, refl, sym, ap, ◌∙◌, Option, Some, None, option_map}
 use Rattle.std.proofs.Common.{arith, ⊎_elim}
 use Rattle.std.specs.Cmp.{IsStrictWeakOrder, IsTotalOrder, Equal-is, tied_itself, tied_then}
@@ -32,7 +32,7 @@ and_right true b h = refl
 and_right false true h = h refl
 and_right false false h = refl
 
--- keys are equal where the texts are
+-- Keys are equal exactly if the texts are.
 pub same_key : (u t : List ℕ) → is_eq (key_cmp (sort_key u) (sort_key t)) ≡ bytes_eq u t
 same_key u t =
     let n : ℕ = tail_number u in
@@ -41,7 +41,7 @@ same_key u t =
     ∙ and_right (is_eq (nat_cmp n (tail_number t))) (bytes_eq u t)
     (λ e. ap (λ v. is_eq (nat_cmp n (tail_number v))) (sym ((bytes_decides u t).0 e)) ∙ ap is_eq (tied_itself nat_cmp_total n))
 
--- ---- with one more entry
+-- ---- after one entry is appended
 
 module _ {T : Type 0} (bytes : T → List ℕ) where
   or_mapped : (o p : Option (Entry T)) → option_map (λ e. e.position) (option_or o p) ≡ option_or (option_map (λ e. e.position) o) (option_map (λ e. e.position) p)
@@ -63,7 +63,7 @@ module _ {T : Type 0} (bytes : T → List ℕ) where
       ∙ ap (option_or (position_among bytes es t))
       (one_alone (is_eq (key_cmp (entry_key bytes e) (sort_key t))) (bytes_eq u t) e i (ap (λ n. is_eq (key_cmp n (sort_key t))) k ∙ same_key u t) p)) d
 
--- ---- after a sort that keeps the order of those that tie
+-- ---- after a stable sort
 
 module _ {X : Type 0} (test : X → Bool) where
   abbrev head : List X → Option X
@@ -98,7 +98,7 @@ module _ {X : Type 0} (test : X → Bool) where
       let same : (x : X) → test x ≡ true → find test ys ≡ find test xs = λ x t. find_head ys ∙ ap head (kept x t) ∙ sym (find_head xs) in
       same_if_some (find test xs) (find test ys) (λ x e. same x (find_passes xs x e)) (λ x e. same x (find_passes ys x e))
 
-  -- ---- behind those that fail a test
+  -- ---- the first element that passes, after those that fail
 
   first_here : (xs : List X) (i : ℕ) (x : X) → i < length xs → x ≡ get_or xs i x → AllWithin (λ y. test y ≡ false) xs 0 i → test x ≡ true → find test xs ≡ Some x
   first_here [] i x l e front t = absurd (omega (arith, l))
@@ -122,7 +122,7 @@ twice Less = refl
 twice Equal = refl
 twice Greater = refl
 
--- what ties with an element of a key is of that key
+-- Elements tie with an element that has key k exactly if they have key k.
 pub ties_at : {X K : Type 0} {R : K → K → Ordering} (total : IsTotalOrder R) (key : X → K) (k : K) (x : X) → is_eq (R (key x) k) ≡ true → (y : X) →
     ties (λ a b. is_lt (R (key a) (key b))) x y ≡ is_eq (R (key y) k)
 ties_at {R = R} total key k x t y =
@@ -131,7 +131,7 @@ ties_at {R = R} total key k x t y =
     let behind : R (key y) (key x) ≡ o = total.antisymm (key y) (key x) ∙ ap ordering_reverse ahead ∙ twice o in
     ap (λ p. not (is_lt p) && not (is_lt (R (key y) (key x)))) ahead ∙ ap (λ p. not (is_lt (ordering_reverse o)) && not (is_lt p)) behind ∙ reverse_ties o
 
--- ---- a sort
+-- ---- sorting entries
 
 module _ {T : Type 0} (bytes : T → List ℕ) where
   abbrev pub is_before : Entry T → Entry T → Bool
@@ -146,7 +146,7 @@ module _ {T : Type 0} (bytes : T → List ℕ) where
       ap (option_map (λ (e : Entry T). e.position))
       (find_stable (λ e. is_eq (key_cmp (entry_key bytes e) (sort_key text))) is_before old new (ties_at key_cmp_total (entry_key bytes) (sort_key text)) stable) d
 
--- ---- behind a binary search
+-- ---- binary search
 
 index_of_less : (o : Ordering) → is_lt o ≡ true → ordering_index o ≡ 0
 index_of_less o h = grind (arith, nat_tests, is_lt_index o)
@@ -210,7 +210,7 @@ module _ {T : Type 0} (bytes : T → List ℕ) (es : List (Entry T)) (text : Lis
     pub position_past : length es ≤ i → None ≡ position_among bytes es text
     position_past l = sym (ap (option_map (λ (x : Entry T). x.position)) (past rank es up i point l)) ∙ at
 
-  -- one behind those of other texts is the first of its text
+  -- An entry is the first of its text if the entry before it has another text.
   not_above : (o p : Ordering) → p ≡ Equal → ordering_index o ≤ ordering_index p → is_eq o ≡ false → is_lt o ≡ true
   not_above o p q l e = let one = ap ordering_index q in grind (arith, nat_tests, one, is_lt_index o, is_eq_index o)
 
@@ -231,7 +231,7 @@ module _ {T : Type 0} (bytes : T → List ℕ) (es : List (Entry T)) (text : Lis
       )
       e l w (ap is_eq own))
 
--- ---- the entries of a list, one after another
+-- ---- appending the entries of a list one by one
 
 pub entries_next : {T X : Type 0} (bytes : T → List ℕ) (g : X → List ℕ) (xs : List X) (i : ℕ) (d : X) (old new : List (Entry T)) (e : Entry T) → i < length xs →
     position_among bytes old ≡ text_place (map g (take i xs)) → new ≡ old ++ e ∷ [] → entry_key bytes e ≡ sort_key (g (get_or xs i d)) → e.position ≡ i →
@@ -247,7 +247,7 @@ entries_next bytes g xs i d old new e l h n k p =
     ∙ ap (λ m. option_or (text_place front t) (if bytes_eq u t then Some m else None)) len
     ∙ sym (first_more (λ m. bytes_eq m t) front u) ∙ ap (λ ts. text_place ts t) (sym all)) s)
 
--- names stand where their texts in lower case do
+-- A name's position is that of its text in lower case.
 pub names_by_text : {X : Type 0} (g : X → List ℕ) (xs : List X) (n : List ℕ) → text_place (map (λ x. lower_case (g x)) xs) (lower_case n) ≡ name_place (map g xs) n
 names_by_text g [] n = refl
 names_by_text g (x ∷ xs) n = ap (λ o. if bytes_eq (lower_case (g x)) (lower_case n) then Some 0 else option_map (λ i. i + 1) o) (names_by_text g xs n)

@@ -1,4 +1,4 @@
--- Two texts that stand in one, and the order of texts of which there are at most two.
+-- Two texts kept in one string, and the order of lists of at most two texts.
 use Rattle.std.proofs.Common.{◌≡◌, ◌≢◌, ◌∙◌, ℕ, List, [], ◌∷◌, ◌++◌, length, map, take, drop, ap, refl, sym, Ordering, Less, Equal, Greater}
 use Rattle.std.proofs.Common.{IsCharBoundary, IsUtf8, Option, None, nat_cmp, slice_get, take_at, drop_at}
 use Rattle.std.proofs.lemmas.List.{drop-map, take-map}
@@ -9,22 +9,22 @@ use Rattle.std.specs.Ordering.{ordering_then}
 use Rattle.al_base.specs.Orders.{args_cmp}
 use Rattle.al_base.specs.Printable.{printable, printable_byte}
 
--- a text behind another begins where a character does
+-- The end of the first text is a character boundary of the joined text.
 pub cut_between : (text first second : List ℕ) → text ≡ first ++ second → IsUtf8 second → IsCharBoundary text (length first)
 cut_between text first second is valid = IsCharBoundary-at_seam text first second is valid
 
--- what stands before that place, and from there on
+-- Splitting the joined text there gives both texts back.
 pub parts_of : (text first second : List ℕ) → text ≡ first ++ second
     → take (length first) text ∷ drop (length first) text ∷ [] ≡ first ∷ second ∷ []
 parts_of text first second is =
     rw (ap (take (length first)) is ∙ take_at first second (length first) refl, ap (drop (length first)) is ∙ drop_at first second (length first) refl) refl
 
--- the parts of a text that is printed as it is are printed as they are
+-- The parts of a text that is printed as it is are printed as they are, too.
 pub parts_printable : (at : ℕ) (text : List ℕ) → printable text ≡ text → map printable (take at text ∷ drop at text ∷ []) ≡ take at text ∷ drop at text ∷ []
 parts_printable at text plain =
     rw (sym (take-map printable_byte at text) ∙ ap (take at) plain, sym (drop-map printable_byte at text) ∙ ap (drop at) plain) refl
 
--- ---- the order of at most two texts is that of the first, and then that of the second
+-- ---- lists of at most two texts compare by the first and then by the second
 
 abbrev compare : Option (List ℕ) → Option (List ℕ) → Ordering
 compare a b = option_cmp (slice_cmp nat_cmp) a b
@@ -39,7 +39,7 @@ then_unequal Less o other = refl
 then_unequal Equal o other = absurd (other refl)
 then_unequal Greater o other = refl
 
--- the order of at most one text
+-- lists of at most one text
 one_cmp : (a b : List (List ℕ)) → slice_get a 1 ≡ None → slice_get b 1 ≡ None → compare (slice_get a 0) (slice_get b 0) ≡ args_cmp a b
 one_cmp [] [] p q = refl
 one_cmp [] (y ∷ ys) p q = refl
