@@ -1,4 +1,4 @@
--- An argument as it is printed, up to a control byte and behind it.
+-- A printed argument is its bytes before the first control byte, `?`, and the rest printed.
 use Rattle.std.proofs.Common.{◌≡◌, ◌∙◌, ℕ, ◌+◌, ◌<◌, true, List, [], ◌∷◌, ◌++◌, length, take, drop, get_or, refl, sym, ap}
 use Rattle.std.specs.List.{All}
 use Rattle.std.proofs.lemmas.List.{take-append-drop, drop_more, map-append}

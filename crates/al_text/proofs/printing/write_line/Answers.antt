@@ -5,7 +5,7 @@ use Rattle.al_base.specs.Counted.{AppendsPrefix}
 use Rattle.al_base.specs.Printable.{printable}
 use Rattle.al_text.proofs.printing.write_line.Goals as goal
 
--- parts one after another, as a sum from the left
+-- the appended parts, reassociated to the left
 line_is : (p l c h f m s t k : List ℕ) →
     p ++ ((58 ∷ []) ++ (l ++ ((58 ∷ []) ++ (c ++ ((58 ∷ 32 ∷ []) ++ (h ++ (f ++ (m ++ (s ++ (t ++ ((32 ∷ 91 ∷ []) ++ (k ++ ((93 ∷ 10 ∷ []) ++ [])))))))))))))
     ≡ p ++ 58 ∷ [] ++ l ++ 58 ∷ [] ++ c ++ 58 ∷ 32 ∷ [] ++ (h ++ f ++ m ++ s ++ t) ++ 32 ∷ 91 ∷ (k ++ 93 ∷ 10 ∷ [])
