@@ -1,4 +1,4 @@
--- A walk along a graph leads somewhere exactly where one of bounded length does.
+-- There is a walk between two nodes exactly if there is one of bounded length.
 use Rattle.std.proofs.Common.{◌≡◌, ℕ, zero, suc, ◌+◌, ◌<◌, ◌≤◌, List, [], ◌∷◌, length, refl, sym, subst, arith, Bool, true}
 use Rattle.std.proofs.Common.{false, cond, eq-eqb, nat_eq, inl, inr, ◌⊎◌}
 use Rattle.std.specs.Prelude.{slice_index_or, ◌↔◌}
@@ -39,7 +39,7 @@ module _ (g : List (List ℕ)) where
         let more = any_also (λ i. leads_within n g i k) (λ i. leads_within (suc n) g i k) (slice_index_or g j []) (λ i. longer n i) in
         grind (arith, nat_tests, more)
 
-    -- one more step reaches nothing more
+    -- one more step reaches no further node
     abbrev Stable : ℕ → Type 0
     Stable n = (j : ℕ) → leads_within (suc n) g j k ≡ true → leads_within n g j k ≡ true
 
@@ -48,7 +48,7 @@ module _ (g : List (List ℕ)) where
         let less = any_also (λ i. leads_within (suc n) g i k) (λ i. leads_within n g i k) (slice_index_or g j []) s in
         grind (arith, nat_tests, less)
 
--- ---- how many numbers below a bound pass a test
+-- ---- counting the numbers below a bound that pass a test
 
 abbrev count : (ℕ → Bool) → ℕ → ℕ
 count p zero = 0
@@ -88,7 +88,7 @@ more_or_same p q (suc n) f = elim (more_or_same p q n f) [
   ]
 ]
 
--- ---- as many steps as there are nodes suffice
+-- ---- as many steps as there are nodes are enough
 
 module _ (g : List (List ℕ)) (k : ℕ) where
   outside : (n j : ℕ) → length g ≤ j → leads_within (suc n) g j k ≡ true → nat_eq j k ≡ true

@@ -1,4 +1,4 @@
--- The edges from a node.
+-- The edges from a node, in the code's view of a graph.
 use Rattle.std.proofs.Common.{◌≡◌, ℕ, ◌<◌, List, [], get_or, length, Vec, sym, ap, ◌∙◌}
 use Rattle.std.specs.declared.alloc.Global.{Global}
 use Rattle.std.proofs.lemmas.List.{get_or-map}

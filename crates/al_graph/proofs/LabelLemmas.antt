@@ -1,4 +1,4 @@
--- Labels that are given one after another, and what they say in the end.
+-- The steps of labelling, and why equal labels mean one strongly connected component in the end.
 use Rattle.std.proofs.Common.{◌≡◌, ℕ, ◌+◌, ◌<◌, ◌≤◌, List, [], ◌∷◌, ◌++◌, length, get_or, set, take, refl, sym, subst}
 use Rattle.std.proofs.Common.{ap, ◌∙◌, arith, ⊎_elim, inl, inr, length-append, Option, Some, None, true, false, is_none, is_some}
 use Rattle.std.specs.Prelude.{Contains, ◌↔◌}
@@ -51,7 +51,7 @@ labels_first label labels j found h e =
       count = (let s = sum_by-set free_one labels j (Some label) None h in omega (arith, s, was, length-append found (j ∷ [])));
     }
 
--- some nodes, and then others
+-- labelling some nodes and then others
 pub labels_more : (xs ys : List ℕ) (label : ℕ) (a b c : List (Option ℕ)) (f g h : List ℕ) → Labels xs label a b f g → Labels ys label b c g h → Labels (xs ++ ys) label a c f h
 labels_more xs ys label a b c f g h one two = record {
   size = two.size ∙ one.size;
@@ -73,14 +73,14 @@ labels_more xs ys label a b c f g h one two = record {
         by None e = e
         by (Some l) e = absurd (not_both l (label_at b k) none (one.kept k l e))
 
--- the node at an index of a list
+-- labelling one more node of a list
 pub labels_next : (nodes : List ℕ) (i label : ℕ) (a b c : List (Option ℕ)) (f g h : List ℕ) → i < length nodes → Labels (take i nodes) label a b f g →
     Labels (get_or nodes i 0 ∷ []) label b c g h → Labels (take (i + 1) nodes) label a c f h
 labels_next nodes i label a b c f g h lt one two =
     subst (λ (ns : List ℕ). Labels ns label a c f h) (sym (take_more nodes i 0 lt)) (labels_more (take i nodes) (get_or nodes i 0 ∷ []) label a b c f g h one two)
 
 module _ (graph : List (List ℕ)) (order : List ℕ) where
-  -- a label is one from before, or the new one of a node that had none
+  -- case analysis: a label is an old one, or the new one on a node that had none
   by_only : (nodes : List ℕ) (label : ℕ) (old new : List (Option ℕ)) (before after : List ℕ) → Labels nodes label old new before after →
       (P : ℕ → ℕ → Type 0) → ((k l : ℕ) → label_at old k ≡ Some l → P k l) → ((k : ℕ) → Contains nodes k → label_at old k ≡ None → P k label) →
       (k l : ℕ) → label_at new k ≡ Some l → P k l
@@ -113,7 +113,7 @@ module _ (graph : List (List ℕ)) (order : List ℕ) where
             ));
       }
 
-  -- one that has no label stands before the place
+  -- A node without a label is at a position before `at`.
   earlier : (labels : List (Option ℕ)) (at : ℕ) (waiting : List ℕ) (k : ℕ) → IsBackward graph order → IsLabelling graph order labels at waiting →
       k < length graph → label_at labels k ≡ None → (b : ℕ) × (b < at) × (node_at order b ≡ k)
   earlier labels at waiting k back s lt none =
@@ -124,7 +124,7 @@ module _ (graph : List (List ℕ)) (order : List ℕ) where
       late : (b : ℕ) → at ≤ b → b < length order → node_at order b ≡ k → ⊥
       late b past inside is = let d = s.done b past inside in not_both d.0 (label_at labels k) none (subst (λ n. label_at labels n ≡ Some d.0) is d.1)
 
-  -- from a node that leads up to one that it leads to and that stands before the place
+  -- `LeadsUp` holds for the successors of a node, if they are at positions before `at`.
   leads_next : (at j k b : ℕ) → IsBackward graph order → at < length order → b < at → node_at order b ≡ k → Edge graph j k → LeadsUp graph order j at → LeadsUp graph order k at
   leads_next at j k b back inside below is edge up =
       let bj : ℕ = up.0 in
@@ -169,7 +169,7 @@ module _ (graph : List (List ℕ)) (order : List ℕ) where
         leads = only (LeadsUp graph order) s.leads (λ k c n. let b = earlier labels at all k back s (inside node k c) n in leads_next at node k b.0 back lt b.1 b.2 c (s.leads node at was));
       }
 
-  -- along a walk labels don't fall
+  -- Labels don't decrease along a walk.
   along : (labels : List (Option ℕ)) (at : ℕ) → IsLabelling graph order labels at [] → (j l : ℕ) → label_at labels j ≡ Some l → (k : ℕ) → Walk graph j k →
       (m : ℕ) × (label_at labels k ≡ Some m) × (l ≤ m)
   along labels at s j l e _ here = (l, e, omega arith)
@@ -177,7 +177,7 @@ module _ (graph : List (List ℕ)) (order : List ℕ) where
       let mid = along labels at s j l e a w in
       ⊎_elim (λ c. let one = mid.2 in let two = c.2 in (c.0, c.1, omega (arith, one, two))) (λ c. absurd (none_in a c)) (s.closed a b mid.0 edge mid.1)
 
-  -- each node has a label in the end
+  -- In the end each node has a label.
   pub labelled : (labels : List (Option ℕ)) → IsBackward graph order → IsLabelling graph order labels 0 [] → (k : ℕ) → k < length graph → (l : ℕ) × (label_at labels k ≡ Some l)
   labelled labels back s k lt = by (label_at labels k) refl
     where
@@ -185,7 +185,7 @@ module _ (graph : List (List ℕ)) (order : List ℕ) where
       by (Some l) e = (l, e)
       by None e = let b = earlier labels 0 [] k back s lt e in absurd (let below : b.0 < 0 = b.1 in omega (arith, below))
 
-  -- a node of this label, and the one at its place
+  -- There are walks from a node to the one at its label's position, and back.
   both_ways : (labels : List (Option ℕ)) (k l : ℕ) → IsLabelling graph order labels 0 [] → label_at labels k ≡ Some l → Walk graph k (node_at order l) × Walk graph (node_at order l) k
   both_ways labels k l s e =
       let up = s.leads k l e in
@@ -224,11 +224,11 @@ pub no_waiting : (graph : List (List ℕ)) (order : List ℕ) (labels : List (Op
 no_waiting graph order labels at [] e s = s
 no_waiting graph order labels at (x ∷ xs) e s = absurd (omega (arith, e))
 
--- an edge leads from a node of the graph
+-- The source of an edge is a node of the graph.
 pub from_inside : (graph : List (List ℕ)) (j k : ℕ) → Edge graph j k → j < length graph
 from_inside graph j k e = ⊎_elim (λ h. h) (λ past. absurd (none_in k (subst (λ (ns : List ℕ). Contains ns k) (get_or_past graph j [] past) e))) (cases_lt j (length graph))
 
--- an order in which the nodes of the transpose graph were finished
+-- A finishing order of the transpose graph is a backward order of the graph.
 pub turned_back : (graph back : List (List ℕ)) (order : List ℕ) → length back ≡ length graph → IsTranspose graph back → IsFinished back order → IsBackward graph order
 turned_back graph back order len t f = record {
   all = λ k lt. f.all k (omega (arith, lt, len));
@@ -239,7 +239,8 @@ turned_back graph back order len t f = record {
 pub turned_inside : (graph back : List (List ℕ)) → length back ≡ length graph → IsTranspose graph back → (j k : ℕ) → Edge back j k → k < length back
 turned_inside graph back len t j k e = let below : k < length graph = from_inside graph k j ((t k j).1 e) in omega (arith, below, len)
 
--- by what the program finds
+-- ---- the same, given the values that the code computes
+
 pub node_first : (label : ℕ) (labels now : List (Option ℕ)) (j : ℕ) (found after : List ℕ) (o : Option ℕ) → j < length labels → label_at labels j ≡ o → is_none o ≡ true →
     now ≡ set labels j (Some label) → after ≡ found ++ j ∷ [] → Labels (j ∷ []) label labels now found after
 node_first label labels now j found after None h e n is more =
@@ -256,7 +257,7 @@ pub skipped : (graph : List (List ℕ)) (order : List ℕ) (labels : List (Optio
 skipped graph order labels at None e n s = absurd (let wrong : false ≡ true = n in cc)
 skipped graph order labels at (Some l) e n s = labelling_skip graph order labels at l e s
 
--- a node that waits is one of the graph
+-- A waiting node is a node of the graph.
 pub node_inside : (graph : List (List ℕ)) (order : List ℕ) (labels : List (Option ℕ)) (at : ℕ) (all rest : List ℕ) (node : ℕ) → all ≡ rest ++ node ∷ [] →
     IsLabelling graph order labels at all → node < length graph
 node_inside graph order labels at all rest node e s =

@@ -1,9 +1,9 @@
--- Labels of nodes, the same for those in one strongly connected component.
+-- The code's test for equal labels.
 use Rattle.std.proofs.Common.{◌≡◌, ℕ, Bool, true, false, Option, Some, None, refl, sym, ◌∙◌, ap, arith, nat_eq}
 use Rattle.std.specs.Option.{unwrap_or, option_eq}
 use Rattle.std.proofs.lemmas.Bool.Decides.{nat_tests}
 
--- equal labels
+-- deciding whether two labels are equal
 pub labels_same : (a b : Option ℕ) (r : Bool) → r ≡ option_eq nat_eq a b → (r ≡ true → a ≡ b) × (a ≡ b → r ≡ true)
 labels_same None None r e = (λ h. refl, λ h. e)
 labels_same None (Some y) r e = (λ h. absurd (let wrong : false ≡ true = sym e ∙ h in cc), λ h. absurd (wrong h))

@@ -1,4 +1,4 @@
--- Orders of nodes, and one node more behind them.
+-- Orders of nodes to which one node is appended.
 use Rattle.std.proofs.Common.{◌≡◌, ℕ, suc, ◌+◌, ◌<◌, List, [], ◌∷◌, ◌++◌, length, refl, subst, ap, ◌∙◌, arith, ◌⊎◌, ⊎_elim, length-append}
 use Rattle.std.specs.List.{AllByRecursion}
 use Rattle.std.specs.Prelude.{Contains}
@@ -9,7 +9,7 @@ use Rattle.al_graph.specs.Graphs.{Walk, here, onward}
 use Rattle.al_graph.specs.Private.Finishing.{Chain, node_at}
 use Rattle.al_graph.proofs.Lists.{none_in, one_is}
 
--- walks one behind the other
+-- Walks compose.
 pub both_walks : (graph : List (List ℕ)) (i j k : ℕ) → Walk graph i j → Walk graph j k → Walk graph i k
 both_walks graph i j _ w here = w
 both_walks graph i j _ w (onward a b v e) = onward a b (both_walks graph i j a w v) e
@@ -20,7 +20,7 @@ at_before order w i h = get_or_append_left order (w ∷ []) 0 i h
 pub at_end : (order : List ℕ) (w i : ℕ) → i ≡ length order → node_at (order ++ w ∷ []) i ≡ w
 at_end order w i e = ap (λ n. node_at (order ++ w ∷ []) n) e ∙ get_or-append_seam order w [] 0
 
--- a place of an order with one node more
+-- A position in the longer order is one of the old order, or the last.
 pub last_or_before : (order : List ℕ) (w i : ℕ) → i < length (order ++ w ∷ []) → (i < length order) ⊎ (i ≡ length order)
 last_or_before order w i h =
     let n : length (order ++ w ∷ []) ≡ length order + 1 = length-append order (w ∷ []) in
@@ -47,7 +47,8 @@ pub all_of : (P : ℕ → Type 0) (xs : List ℕ) → ((k : ℕ) → Contains xs
 all_of P [] f = tt
 all_of P (x ∷ xs) f = (f x (0, omega arith, refl), all_of P xs (λ k c. f k (suc c.0, (let lt = c.1 in omega (arith, lt)), c.2)))
 
--- chains
+-- ---- chains
+
 module _ (graph : List (List ℕ)) where
   pub chain_front : (xs : List ℕ) (y : ℕ) → Chain graph (xs ++ y ∷ []) → Chain graph xs
   chain_front [] y h = tt

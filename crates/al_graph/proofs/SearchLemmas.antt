@@ -1,4 +1,4 @@
--- Steps of a search that finishes nodes.
+-- The steps of the search keep its invariant and decrease its cost.
 use Rattle.std.proofs.Common.{◌≡◌, ℕ, zero, suc, ◌+◌, ◌*◌, ◌<◌, ◌≤◌, List, [], ◌∷◌, ◌++◌, Bool, true, false, length, get_or, set, refl, sym}
 use Rattle.std.proofs.Common.{subst, ap, ◌∙◌, arith, ◌⊎◌, ⊎_elim, inl, inr, sum_by}
 use Rattle.std.specs.List.{AllByRecursion}
@@ -19,7 +19,7 @@ module _ (graph : List (List ℕ)) where
   abbrev EdgesOf : ℕ × List ℕ → Type 0
   EdgesOf f = (k : ℕ) → Contains f.1 k → Edge graph f.0 k
 
-  -- where one node more is finished, of those that the search is at
+  -- `nested` after one more node is finished
   nested_more : (order ns : List ℕ) (w : ℕ) → Nested graph order → Contains ns w →
       ((a c k : ℕ) → a ≤ c → c < length order → Edge graph (node_at order a) k → Contains ns k → Walk graph k (node_at order c)) →
       Nested graph (order ++ w ∷ [])
@@ -39,7 +39,7 @@ module _ (graph : List (List ℕ)) where
           (λ past. rw (at_end order w c (omega (arith, past, cb, h))) here)
           (cases_lt c (length order)))
 
-  -- the same of what the nodes that it is still at lead to
+  -- `pending` after one more node is finished
   pending_more : (order ns : List ℕ) (w : ℕ) → AllByRecursion (λ x. Walk graph x w) ns →
       ((a c k : ℕ) → a ≤ c → c < length order → Edge graph (node_at order a) k → Contains (ns ++ w ∷ []) k → Walk graph k (node_at order c)) →
       (a c k : ℕ) → a ≤ c → c < length (order ++ w ∷ []) → Edge graph (node_at (order ++ w ∷ []) a) k → Contains ns k →
@@ -54,7 +54,7 @@ module _ (graph : List (List ℕ)) where
       last : c ≡ length order → Walk graph k (node_at (order ++ w ∷ []) c)
       last h = rw (at_end order w c h) (all_at (λ x. Walk graph x w) ns k leads in_ns)
 
-  -- the search is done with its innermost node
+  -- finishing the node on top of the stack
   pub search_finish : (seen : List Bool) (frames : List (ℕ × List ℕ)) (order : List ℕ) (w : ℕ) →
       IsSearch graph seen (frames ++ (w, []) ∷ []) order → IsSearch graph seen frames (order ++ w ∷ [])
   search_finish seen frames order w s =
@@ -87,7 +87,7 @@ module _ (graph : List (List ℕ)) where
         looked = all_front (SeesEdges graph seen) frames ((w, []) ∷ []) s.looked;
       }
 
-  -- nodes that stand in a list of one more
+  -- membership in a nonempty list
   in_rest : (next k : ℕ) (rest : List ℕ) → Contains (next ∷ rest) k → (next ≡ k) ⊎ Contains rest k
   in_rest next k rest c = ⊎_elim (λ one. inl (one_is next k one)) (λ r. inr r) (Contains-append_cases (next ∷ []) rest k c)
 
@@ -97,12 +97,12 @@ module _ (graph : List (List ℕ)) where
   first : (next : ℕ) (rest : List ℕ) → Contains (next ∷ rest) next
   first next rest = (0, omega arith, refl)
 
-  -- the edge at which it looks
+  -- The next node is the target of an edge.
   pub edge_next : (seen : List Bool) (frames : List (ℕ × List ℕ)) (order rest : List ℕ) (w next : ℕ) →
       IsSearch graph seen (frames ++ (w, next ∷ rest) ∷ []) order → Edge graph w next
   edge_next seen frames order rest w next s = all_last EdgesOf frames (w, next ∷ rest) s.begun.edges next (first next rest)
 
-  -- what has been begun stays so where it has looked at one edge more
+  -- `begun` after the next edge is dropped
   begun_next : (seen : List Bool) (frames : List (ℕ × List ℕ)) (order rest : List ℕ) (w next : ℕ) →
       IsBegun graph seen (frames ++ (w, next ∷ rest) ∷ []) order → IsBegun graph seen (frames ++ (w, rest) ∷ []) order
   begun_next seen frames order rest w next b =
@@ -131,7 +131,7 @@ module _ (graph : List (List ℕ)) where
       (λ k e. ⊎_elim (λ m. inl (kept k m)) (λ c. ⊎_elim (λ same. inl (subst (Marked after) same now)) (λ l. inr l) (in_rest next k rest c))
       (all_last (SeesEdges graph seen) frames (w, next ∷ rest) h k e))
 
-  -- the edge leads to a node that was seen
+  -- an edge to a node that was seen before
   pub search_pass : (seen : List Bool) (frames : List (ℕ × List ℕ)) (order rest : List ℕ) (w next : ℕ) → Marked seen next →
       IsSearch graph seen (frames ++ (w, next ∷ rest) ∷ []) order → IsSearch graph seen (frames ++ (w, rest) ∷ []) order
   search_pass seen frames order rest w next m s = record {
@@ -148,7 +148,7 @@ module _ (graph : List (List ℕ)) where
   unseen : (seen : List Bool) (k : ℕ) → get_or seen k false ≡ false → Marked seen k → ⊥
   unseen seen k f m = cc (f, m)
 
-  -- it comes to a node that was not seen, to which those lead that it is at
+  -- Entering a node that wasn't seen, to which all nodes on the stack lead.
   pub search_enter : (seen : List Bool) (frames : List (ℕ × List ℕ)) (order : List ℕ) (w : ℕ) → w < length graph →
       get_or seen w false ≡ false → AllByRecursion (λ x. Walk graph x w) (nodes_of frames) → IsBegun graph seen frames order →
       AllByRecursion (SeesEdges graph (set seen w true)) frames →
@@ -179,7 +179,7 @@ module _ (graph : List (List ℕ)) where
         looked = all_more (SeesEdges graph (set seen w true)) frames (w, get_or graph w []) looked (λ k e. inr e);
       }
 
-  -- the edge leads to one that was not seen
+  -- an edge to a node that wasn't seen before
   pub search_go_in : (seen : List Bool) (frames : List (ℕ × List ℕ)) (order rest : List ℕ) (w next : ℕ) → next < length graph →
       get_or seen next false ≡ false → IsSearch graph seen (frames ++ (w, next ∷ rest) ∷ []) order →
       IsSearch graph (set seen next true) ((frames ++ (w, rest) ∷ []) ++ (next, get_or graph next []) ∷ []) order
@@ -196,12 +196,12 @@ module _ (graph : List (List ℕ)) where
       search_enter seen (frames ++ (w, rest) ∷ []) order next lt fresh (subst (AllByRecursion (λ x. Walk graph x next)) (sym nodes) leads) b
       (looked_next seen (set seen next true) frames rest w next (λ k m. still_seen seen next k inside m) (get_or-set_same seen next true false inside) s.looked)
 
-  -- nothing is begun where all that was seen is finished
+  -- entering a node while the stack is empty
   pub search_start : (seen : List Bool) (order : List ℕ) (w : ℕ) → w < length graph → get_or seen w false ≡ false →
       IsSearch graph seen [] order → IsSearch graph (set seen w true) ((w, get_or graph w []) ∷ []) order
   search_start seen order w lt fresh s = search_enter seen [] order w lt fresh tt s.begun tt
 
--- what a step costs
+-- ---- the cost decreases with each step
 
 one_of_sum : (graph : List (List ℕ)) (i : ℕ) → length (get_or graph i []) ≤ sum_by length graph
 one_of_sum [] i = omega arith
@@ -227,8 +227,9 @@ cost_enter graph seen frames w next rest lt fresh =
     let d = one_of_sum graph next in
     omega (arith, times, a, b, c, d)
 
--- the steps of the program, by what it finds
--- the node that is looked at next is one of the graph, and has a mark
+-- ---- the steps, given the values that the code computes
+
+-- The next node is in the graph, and has a mark.
 pub step_inside : (graph : List (List ℕ)) (seen : List Bool) (frames : List (ℕ × List ℕ)) (order : List ℕ) (w next bound : ℕ) (nodes rest : List ℕ) →
     nodes ≡ next ∷ rest → length graph ≡ bound → ((j k : ℕ) → Edge graph j k → k < bound) → IsSearch graph seen (frames ++ (w, nodes) ∷ []) order →
     (next < length graph) × (next < length seen)
@@ -258,7 +259,7 @@ step_start graph seen now none after order w lt fresh n e a s =
       rw n (get_or-set_same seen w true false inside),
     )
 
--- all was seen
+-- When all nodes were seen, the order is finished.
 pub search_done : (graph : List (List ℕ)) (seen : List Bool) (order : List ℕ) (n : ℕ) → n ≡ length graph → ((k : ℕ) → k < n → Marked seen k) →
     IsSearch graph seen [] order → IsFinished graph order
 search_done graph seen order n e all s = record {

@@ -1,4 +1,4 @@
--- Edges that are added one after another, and graphs whose edges are the other way round.
+-- Adding edges one after another, and transposing a graph.
 use Rattle.std.proofs.Common.{◌≡◌, ℕ, ◌+◌, ◌<◌, ◌≤◌, List, [], ◌∷◌, ◌++◌, Vec, drop, get_or, length, refl, subst, sym, ap, ◌∙◌, arith, set, take, replicate, ⊎_elim, inl, inr}
 use Rattle.std.specs.declared.alloc.Global.{Global}
 use Rattle.std.specs.Prelude.{Contains}
@@ -17,7 +17,7 @@ no_edges = []
 abbrev In : ℕ → List ℕ → Type 0
 In k ns = Contains ns k
 
--- one edge more
+-- adding one edge
 pub edge_added : (old new : List (List ℕ)) (from to : ℕ) → from < length old → new ≡ set old from (get_or old from [] ++ to ∷ []) → AddsEdges (from ∷ []) to old new
 edge_added old new from to lt e =
     let full : get_or new from [] ≡ get_or old from [] ++ to ∷ [] = ap (λ g. get_or g from []) e ∙ get_or-set_at old from from (get_or old from [] ++ to ∷ []) [] refl lt in
@@ -33,7 +33,7 @@ edge_added old new from to lt e =
           (λ ne. inl (rw (off j ne) at c)) (cases_eq j from);
     }
 
--- the same where a node's list was pushed to
+-- the same in the code's view, by a push to the node's list
 pub edge_pushed : (graph : List (Vec ℕ Global)) (from to : ℕ) (old new : Vec ℕ Global) → from < length graph → old ≡ get_or graph from old → new.items ≡ old.items ++ to ∷ []
     → AddsEdges (from ∷ []) to (edges_of graph) (edges_of (set graph from new))
 edge_pushed graph from to old new lt is e =
@@ -54,7 +54,7 @@ pub edges_next : (nodes : List ℕ) (i to : ℕ) (a b c : List (List ℕ)) → i
 edges_next nodes i to a b c lt one two =
     subst (λ (ns : List ℕ). AddsEdges ns to a c) (sym (take_more nodes i 0 lt)) (edges_more (take i nodes) (get_or nodes i 0 ∷ []) to a b c one two)
 
--- the edges of the nodes before one, the other way round
+-- `other` has the reversed edges of the first i nodes, and no more
 pub record TurnedTo (i : ℕ) (graph other : List (List ℕ)) : Type 0 where
   pub all : (j k : ℕ) → j < i → Edge graph j k → Edge other k j
   pub only : (j k : ℕ) → Edge other k j → (j < i) × Edge graph j k
@@ -80,7 +80,7 @@ pub turned_all : (graph other : List (List ℕ)) → TurnedTo (length graph) gra
 turned_all graph other t j k =
     (λ e. ⊎_elim (λ lt. t.all j k lt e) (λ past. absurd (none_in k (subst (In k) (get_or_past graph j [] past) e))) (cases_lt j (length graph)), λ e. (t.only j k e).1)
 
--- the same for graphs of the program, of which one was written through a slice
+-- the same in the code's view, where the graph is written through a slice
 pub turned_write : (graph : List (List ℕ)) (items begun after : List (Vec ℕ Global)) (len i : ℕ) (nodes : List ℕ) → begun ≡ items → len ≡ length items → length after ≡ length begun
     → nodes ≡ get_or graph i [] → TurnedTo i graph (edges_of items) → AddsEdges nodes i (edges_of begun) (edges_of after)
     → TurnedTo (i + 1) graph (edges_of (take len (after ++ drop (length after) items)))
@@ -92,7 +92,7 @@ turned_end graph other i e t =
     let len : length (edges_of graph) ≡ length graph = length-map graph _ in
     turned_all (edges_of graph) other (rw (len, sym e) t)
 
--- a walk the other way round
+-- A walk, reversed.
 pub turned_walk : (graph other : List (List ℕ)) → ((j k : ℕ) → Edge graph j k → Edge other k j) → (j k : ℕ) → Walk graph j k → Walk other k j
 turned_walk graph other t j _ here = here
 turned_walk graph other t j _ (onward l m w e) = both_walks other m l j (onward m l here (t l m e)) (turned_walk graph other t j l w)

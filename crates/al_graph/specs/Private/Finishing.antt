@@ -1,11 +1,11 @@
--- A search along the edges of a graph that finishes each node behind those that it leads to.
+-- A depth-first search that finishes each node after those it leads to.
 use Rattle.std.specs.Prelude.{◌≡◌, ◌+◌, ◌*◌, ◌≤◌, ◌<◌, ◌⊎◌, ℕ, List, [], ◌∷◌, Bool, Contains, length, map, slice_index_or, sum_by}
 use Rattle.std.specs.List.{AllByRecursion}
 use Rattle.al_graph.specs.Graphs.{Edge, Walk}
 use Rattle.al_graph.specs.Private.Marks.{Marked, unmarked_one}
 use Rattle.al_graph.specs.declared.finishing.Frame.{Frame}
 
--- a node that the search has come to, and the nodes at which it has still to look from there
+-- a node on the stack, and those of its successors that are still to be looked at
 abbrev pub frame_of : Frame → ℕ × List ℕ
 frame_of f = (f.node, f.rest.now)
 
@@ -15,26 +15,25 @@ frames_of frames = map frame_of frames
 abbrev pub nodes_of : List (ℕ × List ℕ) → List ℕ
 nodes_of frames = map (λ f. f.0) frames
 
--- the node at a place of an order
+-- the node at a position of an order
 abbrev pub node_at : List ℕ → ℕ → ℕ
 node_at order i = slice_index_or order i 0
 
--- each node leads to those behind it
+-- each node of the list leads to all later ones
 abbrev pub Chain : List (List ℕ) → List ℕ → Type 0
 Chain graph [] = Unit {0}
 Chain graph (x ∷ xs) = AllByRecursion (Walk graph x) xs × Chain graph xs
 
--- where an edge leads from a node of the order to a later one, the later one leads to all between them
+-- if an edge leads from a node to a later one in the order, the later one leads to all nodes between them
 abbrev pub Nested : List (List ℕ) → List ℕ → Type 0
 Nested graph order = (a b c : ℕ) → a ≤ c → c ≤ b → b < length order → Edge graph (node_at order a) (node_at order b) →
     Walk graph (node_at order b) (node_at order c)
 
--- each node is seen that an edge leads to, or is one of these
+-- each successor of the node was seen, or is still to be looked at
 abbrev pub SeesEdges : List (List ℕ) → List Bool → ℕ × List ℕ → Type 0
 SeesEdges graph seen f = (k : ℕ) → Edge graph f.0 k → Marked seen k ⊎ Contains f.1 k
 
--- What holds while the search goes on, of the nodes seen, those that it is at, and those that it is done with. The edges at which it has
--- looked are apart.
+-- The invariant of the search, apart from `looked`: `seen` marks the nodes that are on the stack of `frames` or finished in `order`.
 pub record IsBegun (graph : List (List ℕ)) (seen : List Bool) (frames : List (ℕ × List ℕ)) (order : List ℕ) : Type 0 where
   pub size : length seen ≡ length graph
   pub listed : (k : ℕ) → Marked seen k → Contains order k ⊎ Contains (nodes_of frames) k
@@ -43,7 +42,7 @@ pub record IsBegun (graph : List (List ℕ)) (seen : List Bool) (frames : List (
   pub closed : (j k : ℕ) → Contains order j → Edge graph j k → Marked seen k
   pub edges : AllByRecursion (λ f. (k : ℕ) → Contains f.1 k → Edge graph f.0 k) frames
   pub chain : Chain graph (nodes_of frames)
-  -- a node that it is at leads to all that was finished behind one with an edge to it
+  -- if a finished node has an edge to a node on the stack, that one leads to it and to all that were finished later
   pub pending : (a c k : ℕ) → a ≤ c → c < length order → Edge graph (node_at order a) k → Contains (nodes_of frames) k →
       Walk graph k (node_at order c)
   pub nested : Nested graph order
@@ -52,14 +51,14 @@ pub record IsSearch (graph : List (List ℕ)) (seen : List Bool) (frames : List 
   pub begun : IsBegun graph seen frames order
   pub looked : AllByRecursion (SeesEdges graph seen) frames
 
--- a bound on the steps that are left
+-- an upper bound on the remaining steps
 abbrev pub frame_cost : ℕ × List ℕ → ℕ
 frame_cost f = 1 + length f.1
 
 abbrev pub cost : List (List ℕ) → List Bool → List (ℕ × List ℕ) → ℕ
 cost graph seen frames = sum_by unmarked_one seen * (sum_by length graph + 2) + sum_by frame_cost frames
 
--- An order of all nodes of a graph in which a search finishes them.
+-- An order of all nodes, as the search finishes them.
 pub record IsFinished (graph : List (List ℕ)) (order : List ℕ) : Type 0 where
   pub all : (k : ℕ) → k < length graph → Contains order k
   pub inside : (k : ℕ) → Contains order k → k < length graph

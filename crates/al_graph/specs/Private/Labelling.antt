@@ -1,4 +1,4 @@
--- Labels of the nodes of a graph.
+-- Labels of a graph's nodes, which are positions in an order of them.
 use Rattle.std.specs.Prelude.{◌≡◌, ◌+◌, ◌≤◌, ◌<◌, ◌⊎◌, ℕ, List, Option, Some, None, Contains, length, slice_index_or, sum_by}
 use Rattle.al_graph.specs.Graphs.{Edge, Walk}
 use Rattle.al_graph.specs.Private.Finishing.{node_at}
@@ -18,7 +18,7 @@ pub record IsBackward (graph : List (List ℕ)) (order : List ℕ) : Type 0 wher
   pub nested : (a b c : ℕ) → a ≤ c → c ≤ b → b < length order → Edge graph (node_at order b) (node_at order a) →
       Walk graph (node_at order c) (node_at order b)
 
--- Some nodes were labelled: each of them has a label now, and each that had none is in the list.
+-- The nodes of the list were labelled: each has a label now. Those that had none got this one and were appended to the waiting nodes.
 pub record Labels (nodes : List ℕ) (label : ℕ) (old new : List (Option ℕ)) (before after : List ℕ) : Type 0 where
   pub size : length new ≡ length old
   pub all : (k : ℕ) → Contains nodes k → (l : ℕ) × (label_at new k ≡ Some l)
@@ -28,15 +28,16 @@ pub record Labels (nodes : List ℕ) (label : ℕ) (old new : List (Option ℕ))
   pub listed : (k l : ℕ) → label_at new k ≡ Some l → (label_at old k ≡ Some l) ⊎ Contains after k
   pub list_kept : (k : ℕ) → Contains before k → Contains after k
   pub list_only : (k : ℕ) → Contains after k → Contains before k ⊎ (label_at new k ≡ Some label)
-  -- as many nodes more are in the list as were labelled
+  -- as many nodes were appended as got a label
   pub count : sum_by free_one new + length after ≡ sum_by free_one old + length before
 
--- a node with this label stands before the label's place in the order, and all from it to there lead to the node at that place
+-- node k is at position b ≤ l, and all nodes from there to position l lead to the one at position l
 abbrev pub LeadsUp : List (List ℕ) → List ℕ → ℕ → ℕ → Type 0
 LeadsUp graph order k l = (b : ℕ) × (b ≤ l) × (node_at order b ≡ k)
     × ((c : ℕ) → b ≤ c → c ≤ l → Walk graph (node_at order c) (node_at order l))
 
--- What holds while nodes are labelled by places of the order, down to this one. Those of the list have this label.
+-- The invariant of labelling from the end of the order down to `at`. The waiting nodes have label `at`,
+-- and their edges are still to be followed.
 pub record IsLabelling (graph : List (List ℕ)) (order : List ℕ) (labels : List (Option ℕ)) (at : ℕ) (waiting : List ℕ) : Type 0 where
   pub size : length labels ≡ length graph
   pub low : (k l : ℕ) → label_at labels k ≡ Some l → at ≤ l
