@@ -1,4 +1,4 @@
--- Block scalars: lines against offsets.
+-- Rows, indents and spaces of block scalars in terms of offsets.
 use Rattle.std.proofs.Common.{◌≡◌, ◌≢◌, ℕ, zero, suc, ◌+◌, ◌-◌, ◌<◌, ◌≤◌, List, [], ◌∷◌, ◌++◌, length, drop, slice_index, refl, sym, ap}
 use Rattle.std.proofs.Common.{subst, ◌∙◌, arith, true, false, cond, inl, inr, Option, Some, None, eq-eqb, is_some}
 use Rattle.std.proofs.lemmas.Grind.{common_steps}
@@ -27,7 +27,7 @@ run-more bytes at i order here run =
     subst (λ cs. RunBefore cs (lines_at bytes at) (lines_at bytes (i + 1))) (sym (cells_between-more bytes at i order))
     (run_then (cells_between bytes at i) ((slice_index bytes i, i) ∷ []) run (cell_at bytes i here.inside here.not_feed here.not_return))
 
--- what is left of a line: nothing, or a byte
+-- the first byte of the text from an offset
 pub begins-cell : (bytes : List ℕ) (i : ℕ) → IsInside bytes i → first_text (lines_at bytes i) ≡ (slice_index bytes i, i) ∷ first_text (lines_at bytes (i + 1))
 begins-cell bytes i here = (cell_at bytes i here.inside here.not_feed here.not_return).text
 
@@ -53,14 +53,14 @@ length-cells_between bytes i j = length-cells_at bytes i (j - i)
 indent-cell : (c : Cell) (cs : List Cell) → c.0 ≢ 32 → indent (c ∷ cs) ≡ 0
 indent-cell c cs n = grind (arith, common_steps, n)
 
--- no space stands there
+-- the byte at i is no space
 pub indent-solid : (bytes : List ℕ) (i : ℕ) → i ≤ length bytes → (i < length bytes → slice_index bytes i ≢ 32) → indent (first_text (lines_at bytes i)) ≡ 0
 indent-solid bytes i h n = elim (text_kind bytes i h) [
   | inl e ↦ ap indent e
   | inr k ↦ ap indent k.1 ∙ indent-cell (slice_index bytes i, i) (first_text (lines_at bytes (i + 1))) (n k.0)
 ]
 
--- the indent of a line whose spaces end at an offset
+-- the indent of a line with spaces up to an offset
 pub indent-at : (bytes : List ℕ) (at i : ℕ) → AreSpaces (cells_between bytes at i) → RunBefore (cells_between bytes at i) (lines_at bytes at) (lines_at bytes i)
     → indent (first_text (lines_at bytes at)) ≡ (i - at) + indent (first_text (lines_at bytes i))
 indent-at bytes at i s r =
@@ -73,7 +73,7 @@ drop-at bytes at i m e r =
     ap (λ n. drop n (first_text (lines_at bytes at))) (sym e ∙ sym (length-cells_between bytes at i))
     ∙ ap (drop (length (cells_between bytes at i))) r.text ∙ drop-run (cells_between bytes at i) (first_text (lines_at bytes i))
 
--- ---- rows of a line
+-- ---- `row_of` by cases
 
 pub row-indented : (m : ℕ) (text kept : List Cell) → m ≤ indent text → drop m text ≡ kept → row_of (Some m) true text ≡ Some kept
 row-indented m text kept h e = grind (arith, common_steps, h, e)
@@ -102,7 +102,7 @@ pub found-next : (bytes : List ℕ) (within at end next : ℕ) → is_all_blank 
     → lines_at bytes end ≡ broken_line end ∷ lines_at bytes next → found_indent within (lines_at bytes at) ≡ found_indent within (lines_at bytes next)
 found-next bytes within at end next b s e = found-blank within (lines_at bytes at) b ∙ ap (found_indent within) (s.later ∙ ap later e)
 
--- ---- a row that may be indented
+-- ---- a row whose spaces end at an offset
 
 module _ (bytes : List ℕ) (at from m : ℕ) (order : at ≤ from) (inside : from ≤ length bytes) (s : AreSpaces (cells_between bytes at from))
     (e : lines_at bytes at ≡ with_cells_before (cells_between bytes at from) (lines_at bytes from)) where

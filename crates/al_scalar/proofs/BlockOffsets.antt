@@ -1,4 +1,4 @@
--- Offsets of a block scalar's text, and the lines left behind it.
+-- The offsets of a block scalar's text are in order and within its span, and the remaining lines follow it.
 use Rattle.std.proofs.Common.{◌≡◌, ℕ, zero, suc, ◌+◌, ◌-◌, ◌<◌, ◌≤◌, List, [], ◌∷◌, ◌++◌, drop, refl, arith, Bool, true, false, not}
 use Rattle.std.proofs.Common.{if◌then◌else◌, ◌&&◌, ◌||◌, nat_le, Option, Some, None, Result, Ok, Err}
 use Rattle.std.proofs.lemmas.Bool.Decides.{nat_tests}
@@ -22,7 +22,7 @@ use Rattle.al_scalar.proofs.TakenLemmas.{rest-behind, rest-lower, left-cut, left
 
 -- ---- rows
 
--- where a row's break stands and where it ends; the last row has none
+-- the offset of a row's break, and the offset after it; the last row has none
 abbrev break_at : ℕ → List ℕ → ℕ
 break_at high [] = high
 break_at high (e ∷ es) = e
@@ -36,7 +36,7 @@ record ArePending (U : Type 0) (low mid high : ℕ) (last : Option BlockLine) (e
   own : IsFrom U low mid (feeds (own_break last))
   since : IsFrom U mid high (feeds empties)
 
--- ---- where rows end
+-- ---- the end of the rows
 
 last-in : (low high at : ℕ) (cs : List Cell) → AreClimbing low high cs → at ≤ low → (at ≤ last_end cs at) × (last_end cs at ≤ high)
 last-in low high at [] h a = (omega arith, omega (arith, h, a))
@@ -107,9 +107,9 @@ module _ (U : Type 0) where
       rows-by size low l ls (rows_at m next ls) h (λ k. rows-from size m next (l.end + 1) ls k) (row_of m found l.text)
       (row-from m found low l.end l.text (left-first h))
 
-  -- ---- the text of rows
+  -- ---- the text of the rows
 
-  -- cells that lie between two offsets, and but for line feeds before an end
+  -- the cells are in order between two offsets, and before `end` except for line feeds
   record AreGiven (low high end : ℕ) (cs : List Cell) : Type 0 where
     from : IsFrom U low high cs
     before : AreBefore end cs
@@ -185,7 +185,7 @@ module _ (U : Type 0) where
 
 -- ---- the header
 
--- where the first of a line's cells stands
+-- The offset of a line's first cell is at most its end.
 place-first : (low end : ℕ) (cs : List Cell) → AreClimbing low end cs → place cs 0 ≤ end
 place-first low end [] h = omega arith
 place-first low end (c ∷ cs) h = let k = climbing-order (c.1 + 1) end cs h.1 in omega (arith, k)
@@ -218,7 +218,7 @@ behind-indicator q low end (c ∷ cs) e h = h.1
 -- ---- the scalar
 
 module _ (size : ℕ) (U : Type 0) where
-  -- the text comes from before the lines left, and but for line feeds from before its end, behind which they stand; a fault lies in the file
+  -- The text is from before the remaining lines and, except for line feeds, from before the scalar's end. A fault is in the file.
   abbrev pub IsBlockTaken : ℕ → Result Taken FaultAt → Type 0
   IsBlockTaken low (Ok t) = IsFrom U low (start t.left) t.text × AreBefore t.end t.text × (low ≤ t.end) × AreLeft size U t.end t.left
   IsBlockTaken low (Err e) = e.at ≤ size

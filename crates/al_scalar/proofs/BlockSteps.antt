@@ -1,4 +1,4 @@
--- A block scalar from its indicator on: the header, then the rows.
+-- A block scalar from its indicator: the header, and then the rows.
 use Rattle.std.proofs.Common.{◌≡◌, ℕ, ◌+◌, List, [], ◌∷◌, length, drop, refl, ap, ◌∙◌, Bool, true, false, cond, Option, None, is_some, Result, Ok, Err}
 use Rattle.al_scalar.specs.Line.{Cell, Line, place}
 use Rattle.al_scalar.specs.Taken.{Taken, ◌>>=◌, with_text}
@@ -12,7 +12,7 @@ use Rattle.al_scalar.specs.Private.BlockRead.{rest}
 use Rattle.al_scalar.proofs.LineCells.{has_line, cell_at, lines-at_end, lines_at-some, IsInside}
 use Rattle.al_scalar.proofs.RowLemmas.{of_rows, final_breaks-none}
 
--- behind the header h of the first line
+-- the rows after the first line, which has header h
 abbrev pub rows_behind : ℕ → List Line → Header → Rows
 rows_behind within xs h =
     cond (first_last xs) (record { rows = []; left = record { text = []; end = first_end xs; last = true } ∷ [] })
@@ -41,7 +41,7 @@ module _ (lit : Bool) (within : ℕ) (bytes : List ℕ) (at : ℕ) (here : IsIns
   first-same : SameLine (lines_at bytes at) (lines_at bytes (at + 1))
   first-same = (cell_at bytes at here.inside here.not_feed here.not_return).same
 
-  -- the header's line is the file's last one
+  -- the header's line is the last one of the file
   pub block-last : (h : Header) (new : List Cell) (stop : ℕ) → given ≡ Ok h → SameLine (lines_at bytes (at + 1)) (lines_at bytes end) → SameLine (lines_at bytes end) (lines_at bytes stop)
       → stop ≡ length bytes → new ≡ [] → block_scalar lit within (lines_at bytes at) ≡ Ok (record { text = new; end = h.end; left = lines_at bytes stop })
   block-last h new stop g s u z n =
@@ -51,7 +51,7 @@ module _ (lit : Bool) (within : ℕ) (bytes : List ℕ) (at : ℕ) (here : IsIns
       let is_last : first_last xs ≡ true = first-same.last ∙ s.last ∙ u.last ∙ ap first_last at_stop in
       block-given ∙ rw (g, is_last, ended, n, final_breaks-none h.chomping, at_stop) refl
 
-  -- the lines behind the header's
+  -- there are lines after the header's
   pub block-more : (h : Header) (stop first : ℕ) → given ≡ Ok h → SameLine (lines_at bytes (at + 1)) (lines_at bytes end) → SameLine (lines_at bytes end) (lines_at bytes stop)
       → lines_at bytes stop ≡ broken_line stop ∷ lines_at bytes first
       → block_scalar lit within (lines_at bytes at)
@@ -62,7 +62,7 @@ module _ (lit : Bool) (within : ℕ) (bytes : List ℕ) (at : ℕ) (here : IsIns
       let behind : later xs ≡ lines_at bytes first = first-same.later ∙ s.later ∙ u.later ∙ ap later z in
       block-given ∙ rw (g, is_last, behind) refl
 
--- the rest, by the style that the code took from the header
+-- The rest doesn't depend on where the style comes from.
 pub rest-style : (lit : Bool) (k : Chomping) (m m' : Option ℕ) (b b' : Bool) (end : ℕ) (old : List Cell) (ls : List Line) → m' ≡ m → b' ≡ b → old ≡ []
     → rest lit k m b None [] end ls ≡ with_text old (rest lit k m' b' None [] end ls)
 rest-style lit k m m' b b' end old ls g h n =

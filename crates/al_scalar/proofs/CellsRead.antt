@@ -1,4 +1,4 @@
--- How text is read of the cells of a line: each stays, goes if it is ASCII, or begins an escape; what is left then lies behind the text.
+-- Decoding the cells of a line: a cell is kept, left out if it is ASCII, or begins an escape. The rest is after what was decoded.
 use Rattle.std.proofs.Common.{◌≡◌, ℕ, ◌+◌, ◌<◌, List, [], ◌∷◌, ◌++◌, map, refl, sym, ap, subst, arith, append_assoc, append-nil, encode_utf8}
 use Rattle.std.proofs.lemmas.Bool.Decides.{nat_tests}
 use Rattle.std.proofs.lemmas.List.{length-map}
@@ -13,7 +13,7 @@ use Rattle.al_scalar.proofs.TakenLemmas.{IsFrom, IsRest, AreLeft, from-cell, fro
 use Rattle.al_scalar.proofs.Utf8Lemmas.{bytes_of, split-before, split-behind}
 use Rattle.al_scalar.proofs.Utf8Texts.{IsText, text-join, one-ascii}
 
--- Text is read of cells, and some cells are left. Whatever stands before the cells, if it makes UTF-8 with them then it does with the text.
+-- `text` is decoded from the cells, and `rest` remains: this keeps UTF-8, after any bytes p, and the order of offsets.
 pub record Reads (cs text rest : List Cell) : Type 0 where
   pub utf8 : (p : List ℕ) → IsUtf8 (p ++ bytes_of cs) → IsUtf8 (p ++ bytes_of text) × IsText rest
   pub offsets : (low end : ℕ) → AreClimbing low end cs → IsFrom ⊥ low (place rest end) text × AreClimbing (place rest end) end rest
@@ -21,7 +21,7 @@ pub record Reads (cs text rest : List Cell) : Type 0 where
 pub reads-none : Reads [] [] []
 reads-none = record { utf8 = λ p u. (u, IsUtf8-nil); offsets = λ low end h. (from-none h, omega arith) }
 
--- an ASCII cell from which on all are left
+-- an ASCII cell that remains, with all after it
 pub reads-here : (c : Cell) (cs : List Cell) → c.0 < 128 → Reads (c ∷ cs) [] (c ∷ cs)
 reads-here c cs a = record {
   utf8 = λ p u. let s = split-before p c.0 (bytes_of cs) a u in (subst IsUtf8 (sym (append-nil p)) s.0, s.1);
@@ -46,7 +46,7 @@ module _ {text rest : List Cell} where
     offsets = λ low end o. h.offsets low end (climbing-behind low end c cs o);
   }
 
-  -- one more ASCII cell is left out behind the first one
+  -- an ASCII cell after the first one is left out
   pub reads-second : (c d : Cell) (cs : List Cell) → c.0 < 128 → d.0 < 128 → Reads (c ∷ cs) text rest → Reads (c ∷ d ∷ cs) text rest
   reads-second c d cs a b h = record {
     utf8 = λ p u.
@@ -56,7 +56,7 @@ module _ {text rest : List Cell} where
     offsets = λ low end o. h.offsets low end (o.0, climbing-lower (d.1 + 1) (c.1 + 1) end cs (omega (arith, o.1.0)) o.1.1);
   }
 
-  -- an ASCII cell in whose place a character stands
+  -- a character in place of an ASCII cell
   pub reads-written : (c : Cell) (cs : List Cell) (code : ℕ) → c.0 < 128 → IsScalar code → Reads cs text rest → Reads (c ∷ cs) (character_cells c.1 code ++ text) rest
   reads-written c cs code a v h = record {
     utf8 = λ p u.
@@ -88,7 +88,7 @@ module _ {text rest : List Cell} where
       choose (λ (t : List Cell). Reads t text rest → Reads (c ∷ cs) text rest) (is_blank c)
       (λ e k. reads-left_out c cs (grind (arith, nat_tests)) (reads-blanks cs k)) (λ _ k. k) h
 
-  -- what is read of what is left of a line
+  -- the text is from the remaining part of a line, and so is the rest
   module _ {U : Type 0} where
     reads-rest : {low end : ℕ} (cs : List Cell) → Reads cs text rest → IsRest U low end cs → IsFrom U low (place rest end) text × IsRest U (place rest end) end rest
     reads-rest {low} {end} cs h r =

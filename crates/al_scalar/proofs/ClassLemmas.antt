@@ -1,4 +1,4 @@
--- Texts of plain scalars that are no word and no number, as their first byte tells.
+-- A plain scalar whose first byte begins no word and no number is a string.
 use Rattle.std.proofs.Common.{◌≡◌, ℕ, List, [], ◌∷◌, drop, refl, sym, ap, ◌∙◌, arith, Bool, true, false, ◌&&◌, ◌||◌, ◌==◌, cond}
 use Rattle.std.proofs.lemmas.Grind.{common_steps}
 use Rattle.std.specs.Char.{is_ascii_digit}
@@ -22,7 +22,7 @@ abbrev begins_so : List ℕ → Bool
 begins_so [] = true
 begins_so (a ∷ more) = begins_value a
 
--- behind a byte that begins no word and no number
+-- the first byte begins no word and no number
 module _ (b : ℕ) (bs : List ℕ) (h : begins_value b ≡ false) where
   other : (a : ℕ) → begins_value a ≡ true → (b == a) ≡ false
   other a k = false_from_ne_true (b == a) (λ e. never (sym h ∙ ap begins_value (eqb-true b a e) ∙ k))

@@ -1,4 +1,4 @@
--- Hexadecimal digits against offsets.
+-- Hexadecimal digits in terms of offsets.
 use Rattle.std.proofs.Common.{◌≡◌, ℕ, suc, ◌+◌, ◌-◌, ◌*◌, ◌^◌, ◌<◌, ◌≤◌, lit<, List, [], ◌∷◌, ◌++◌, length, take, slice_index, refl, sym, ap, ◌∙◌, arith, append_assoc, Option, Some, None}
 use Rattle.std.proofs.Math.Nat.{pow-le-pow_right}
 use Rattle.std.proofs.Math.Seq.{take-append-add}
@@ -27,7 +27,7 @@ hex_value-append v w (c ∷ cs) ys e = more (hex_digit c.0) refl (λ u. hex_valu
     more None f below = let no : hex_value v (c ∷ cs) ≡ None = hex_value-wrong v c cs f in cc
     more (Some d) f below = hex_value-step v d c (cs ++ ys) f ∙ below (16 * v + d) (sym (hex_value-step v d c cs f) ∙ e)
 
--- ---- how large it is
+-- ---- bounds of the value
 
 pub digit-fits : (w d k : ℕ) → w < 16 ^ k → k < 8 → d < 16 → 16 * w + d < 2 ^ 32
 digit-fits w d k h l m =
@@ -37,7 +37,7 @@ digit-fits w d k h l m =
 pub digit-more : (w d k : ℕ) → w < 16 ^ k → d < 16 → 16 * w + d < 16 ^ suc k
 digit-more w d k h m = omega (arith, h, m)
 
--- ---- against offsets
+-- ---- in terms of offsets
 
 pub between-more : (bytes : List ℕ) (from i : ℕ) → Between bytes from i → IsInside bytes i → Between bytes from (i + 1)
 between-more bytes from i b h =

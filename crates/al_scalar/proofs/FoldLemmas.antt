@@ -1,4 +1,4 @@
--- The lines of a quoted scalar.
+-- The lines of a quoted scalar, and where they end in terms of offsets.
 use Rattle.std.proofs.Common.{◌≡◌, ℕ, ◌<◌, List, [], ◌∷◌, ◌++◌, length, refl, sym, ap, ◌∙◌, append_assoc}
 use Rattle.std.proofs.Common.{Bool, true, false, cond, Option, Some, None, Result, Ok, Err}
 use Rattle.al_base.specs.declared.codes.YamlCode.TheVariants.{UnclosedQuote, WrongEscape}
@@ -35,12 +35,12 @@ given-stop broken q space t l ls below =
 given-stop escaped q space t l ls below =
     ap (λ r. cond l.last (fault UnclosedQuote q) r) (sym (before-two space t (below None))) ∙ sym (before-cond space l.last (fault UnclosedQuote q) (before t (below None)))
 
--- what a line gives behind a space
+-- `space` is a prefix of what a line gives.
 pub line_given-before : (q : ℕ) (space : List Cell) (p : QuotedLine) (l : Line) (ls : List Line) (below : Option ℕ → Result Taken FaultAt)
     → line_given q space p l ls below ≡ before space (line_given q [] p l ls below)
 line_given-before q space p l ls below = given-stop p.stop q space p.text l ls below
 
--- the line's own text doesn't matter
+-- `line_given` doesn't depend on the text of the line.
 pub given-line : (st : QuotedEnd) (q : ℕ) (space t x : List Cell) (l : Line) (ls : List Line) (below : Option ℕ → Result Taken FaultAt)
     → line_given q space (record { text = t; stop = st }) (record { text = x; end = l.end; last = l.last }) ls below ≡ line_given q space (record { text = t; stop = st }) l ls below
 given-line (closed e rest) q space t x l ls below = refl
@@ -48,13 +48,13 @@ given-line (cut_short at) q space t x l ls below = refl
 given-line broken q space t x l ls below = refl
 given-line escaped q space t x l ls below = refl
 
--- ---- against offsets
+-- ---- in terms of offsets
 
--- a place that is no line's end and no blank
+-- the first cell is no blank
 pub after_blanks-solid : (c : Cell) (cs : List Cell) → (IsBlankByte c.0 → ⊥) → after_blanks (c ∷ cs) ≡ c ∷ cs
 after_blanks-solid c cs h = ap (λ b. cond b (after_blanks cs) (c ∷ cs)) (is_blank-no c h)
 
--- at a break the line ends there, and isn't the last one
+-- At a break the line ends, and isn't the last one.
 pub end-with_return : (at : ℕ) (ls : List Line) → has_line ls ≡ true → first_end (with_return at ls) ≡ at
 end-with_return at [] h = cc
 end-with_return at (l ∷ ls) h = refl

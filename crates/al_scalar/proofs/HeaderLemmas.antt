@@ -13,7 +13,7 @@ use Rattle.al_scalar.proofs.LineCells.{run_at, text-line_end, is_blank-yes, is_b
 use Rattle.al_scalar.proofs.RestLemmas.{solid_text}
 use Rattle.al_scalar.proofs.BlockLemmas.{begins-cell}
 
--- behind blanks
+-- after blanks
 module _ (bytes : List ℕ) (at solid : ℕ) (inside : solid ≤ length bytes) (b : AreBlank (cells_between bytes at solid))
     (e : lines_at bytes at ≡ with_cells_before (cells_between bytes at solid) (lines_at bytes solid))
     (n : solid < length bytes → IsBlankByte (slice_index bytes solid) → ⊥) (h : Header) where

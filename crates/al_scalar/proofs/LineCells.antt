@@ -1,4 +1,4 @@
--- Cells of a line against offsets.
+-- The cells of a line in terms of offsets.
 use Rattle.std.proofs.Common.{◌≡◌, ◌≢◌, ℕ, suc, ◌+◌, ◌<◌, ◌≤◌, List, [], ◌∷◌, ◌++◌, length, drop, slice_index, refl, sym, ap, subst, ◌∙◌}
 use Rattle.std.proofs.Common.{arith, append_assoc, drop-cons, Bool, true, false, ◌==◌, inl, inr, ◌⊎◌}
 use Rattle.std.proofs.Math.Nat.{eq-or-lt_of_le}
@@ -43,7 +43,7 @@ lines-some at (b ∷ bs) =
 pub lines_at-some : (bytes : List ℕ) (i : ℕ) → has_line (lines_at bytes i) ≡ true
 lines_at-some bytes i = lines-some i (drop i bytes)
 
--- what the bytes between two offsets of one line are
+-- the lines are the same except that the first one has `run` in front
 pub record RunBefore (run : List Cell) (xs ys : List Line) : Type 0 where
   pub text : first_text xs ≡ run ++ first_text ys
   pub same : SameLine xs ys
@@ -70,7 +70,7 @@ run_then p q r s = record {
   same = record { end = r.same.end ∙ s.same.end; last = r.same.last ∙ s.same.last; later = r.same.later ∙ s.same.later };
 }
 
--- at a break no text is left of the line, which isn't the last one
+-- At a break the line has no text left and isn't the last one.
 broken : (at b : ℕ) (bs : List ℕ) → IsBreakByte b → (more : List Line) × (lines at (b ∷ bs) ≡ broken_line at ∷ more)
 broken at b bs (inl e) = (lines (at + 1) bs, rw e refl)
 broken at b [] (inr e) = (lines (at + 1) [], rw e refl)
@@ -95,7 +95,7 @@ byte_kind b = elim (ℕ_discrete b 10) [ yes e ↦ inl (inl e) | no n ↦ elim (
 pub same_then : {xs ys zs : List Line} → SameLine xs ys → SameLine ys zs → SameLine xs zs
 same_then r s = record { end = r.end ∙ s.end; last = r.last ∙ s.last; later = r.later ∙ s.later }
 
--- a place that is no line's end
+-- the offset j isn't at the end of a line
 pub record IsInside (bytes : List ℕ) (j : ℕ) : Type 0 where
   pub inside : j < length bytes
   pub not_feed : slice_index bytes j ≢ 10

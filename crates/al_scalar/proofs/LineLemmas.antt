@@ -1,4 +1,4 @@
--- Lines and cells against offsets.
+-- Lines and cells in terms of offsets.
 use Rattle.std.proofs.Common.{◌≡◌, ◌≢◌, ℕ, zero, suc, ◌+◌, ◌-◌, ◌<◌, ◌≤◌, List, [], ◌∷◌, ◌++◌, length, slice_index, refl, sym, ap, ◌∙◌, arith, add-one, add-zero, append_assoc, drop-cons, inl, inr}
 use Rattle.std.proofs.lemmas.Grind.{common_steps}
 use Rattle.al_scalar.specs.Line.{Cell, Line, with_cell, cut}
@@ -9,14 +9,14 @@ cells_at-more : (bytes : List ℕ) (i n : ℕ) → cells_at bytes i (suc n) ≡ 
 cells_at-more bytes i zero = rw add-zero refl
 cells_at-more bytes i (suc n) = let e : i + suc n ≡ suc i + n = omega arith in rw e (ap (λ cs. (slice_index bytes i, i) ∷ cs) (cells_at-more bytes (suc i) n))
 
--- one more byte behind
+-- one more byte at the end
 pub cells_between-more : (bytes : List ℕ) (from i : ℕ) → from ≤ i → cells_between bytes from (i + 1) ≡ cells_between bytes from i ++ (slice_index bytes i, i) ∷ []
 cells_between-more bytes from i h =
     let e : (i + 1) - from ≡ suc (i - from) = omega arith in
     let f : from + (i - from) ≡ i = omega arith in
     rw e (cells_at-more bytes from (i - from) ∙ rw f refl)
 
--- one byte more in front
+-- one more byte in front
 pub cells_between-front : (bytes : List ℕ) (i j : ℕ) → i < j → cells_between bytes i j ≡ (slice_index bytes i, i) ∷ cells_between bytes (suc i) j
 cells_between-front bytes i j h =
     let e : j - i ≡ suc (j - suc i) = omega arith in
@@ -42,11 +42,11 @@ pub IsBlankByte-other : (b : ℕ) → IsBlankByte b → (b ≢ 10) × (b ≢ 13)
 IsBlankByte-other b (inl e) = (omega arith, omega arith)
 IsBlankByte-other b (inr e) = (omega arith, omega arith)
 
--- a run and the text before it, each with a cell more
+-- appending a cell to the run and to the text that ends with it
 pub pushed : {new mid run' : List Cell} (old run : List Cell) (c : Cell) → new ≡ mid ++ c ∷ [] → mid ≡ old ++ run → run' ≡ run ++ c ∷ [] → new ≡ old ++ run'
 pushed old run c e f g = e ∙ ap (λ t. t ++ c ∷ []) f ∙ append_assoc old run (c ∷ []) ∙ ap (λ t. old ++ t) (sym g)
 
--- a run of blanks, with a blank more
+-- appending a blank to a run of blanks
 pub blank_run-more : (bytes : List ℕ) (at i : ℕ) → at ≤ i → i < length bytes → IsBlankByte (slice_index bytes i)
     → lines_at bytes at ≡ with_cells_before (cells_between bytes at i) (lines_at bytes i)
     → lines_at bytes at ≡ with_cells_before (cells_between bytes at (i + 1)) (lines_at bytes (i + 1))

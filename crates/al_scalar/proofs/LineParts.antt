@@ -1,4 +1,4 @@
--- What stands at an offset of a line, and what is left of the lines behind blanks and spaces and up to a line's end.
+-- Case analysis of the byte at an offset, and the lines after blanks, after spaces and at the end of a line.
 use Rattle.std.proofs.Common.{◌≡◌, ◌≢◌, ℕ, ◌<◌, ◌≤◌, List, [], ◌∷◌, ◌++◌, length, slice_index, refl, sym, ap, ◌∙◌, inl, inr, ◌⊎◌, eq-or-lt_of_le, false, cond, eq-eqb}
 use Rattle.std.proofs.lemmas.Bool.{ne_eqb}
 use Rattle.al_scalar.specs.Line.{Cell, Line, start, place, cut, after_blanks, after_spaces, begins, begins_blank, blanks_dropped, spaces_dropped}
@@ -12,7 +12,7 @@ not_break : (b : ℕ) → (b ≢ 10) × (b ≢ 13) → IsBreakByte b → ⊥
 not_break b k (inl e) = k.0 e
 not_break b k (inr e) = k.1 e
 
--- what holds at the file's end, at a break and at a byte of the line
+-- the offset is the end of the file, at a break, or at a byte of the line
 pub data Kind (bytes : List ℕ) (i : ℕ) : Type 0 where
   at_file_end : i ≡ length bytes → Kind bytes i
   at_break : i < length bytes → IsBreakByte (slice_index bytes i) → Kind bytes i
@@ -63,7 +63,7 @@ spaces_dropped-stays (l ∷ ls) h = ap (λ t. cut t l ls) (after_spaces-stays l.
 begins_space-no : (bytes : List ℕ) (i : ℕ) → i ≤ length bytes → (i < length bytes → slice_index bytes i ≢ 32) → begins 32 (text_at bytes i) ≡ false
 begins_space-no bytes i h n = elim (text_kind bytes i h) [ inl e ↦ ap (begins 32) e | inr k ↦ ap (begins 32) k.1 ∙ ne_eqb (slice_index bytes i) 32 (n k.0) ]
 
--- ---- the lines behind a run of them
+-- ---- the lines after such a run
 
 module _ (bytes : List ℕ) (at i : ℕ) (inside : i ≤ length bytes) (run : lines_at bytes at ≡ with_cells_before (cells_between bytes at i) (lines_at bytes i)) where
   pub behind_blanks : AreBlank (cells_between bytes at i) → (i < length bytes → IsBlankByte (slice_index bytes i) → ⊥) → blanks_dropped (lines_at bytes at) ≡ lines_at bytes i
@@ -78,7 +78,7 @@ module _ (bytes : List ℕ) (at i : ℕ) (inside : i ≤ length bytes) (run : li
 
 -- ---- the end of a line
 
--- it stands where what is left of the line begins, if no text is left
+-- A line without text ends where it starts.
 end-start : (ls : List Line) → first_text ls ≡ [] → first_end ls ≡ start ls
 end-start [] h = refl
 end-start (l ∷ ls) h = sym (ap (λ t. place t l.end) h)

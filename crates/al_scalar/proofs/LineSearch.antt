@@ -1,4 +1,4 @@
--- The end of a line, as a search for a break finds it.
+-- The end of a line, as a search for its break finds it.
 use Rattle.std.proofs.Common.{◌≡◌, ℕ, zero, suc, ◌+◌, ◌-◌, ◌≤◌, List, true, ◌==◌, ◌++◌, append-nil, drop, take, take_all, length}
 use Rattle.std.proofs.Common.{length-drop, slice_index, arith, subst, sym, ap, ◌∙◌, inl, inr}
 use Rattle.std.proofs.lemmas.Bool.{eqb-true, or_cases}
@@ -13,13 +13,13 @@ use Rattle.al_scalar.proofs.LineCells.{IsInside, RunBefore, text-line_end}
 break_byte : (b : ℕ) → is_byte2 10 13 b ≡ true → IsBreakByte b
 break_byte b passes = elim (or_cases (b == 10) (b == 13) passes) [ inl e ↦ inl (eqb-true b 10 e) | inr e ↦ inr (eqb-true b 13 e) ]
 
--- the line of an offset goes on to another one, where it ends
+-- the line from `at` ends at `to`
 pub record IsLineTo (bytes : List ℕ) (at to : ℕ) : Type 0 where
   pub on_line : OnLine bytes at to
   pub text : text_at bytes at ≡ cells_between bytes at to
   pub end : first_end (lines_at bytes at) ≡ to
 
--- what is searched: the bytes from an offset on
+-- the bytes that are searched: all from `at` on
 module _ (bytes : List ℕ) (at : ℕ) (start : at ≤ length bytes) where
   abbrev rest : List ℕ
   rest = take (length bytes - at) (drop at bytes)
@@ -50,7 +50,7 @@ module _ (bytes : List ℕ) (at : ℕ) (start : at ≤ length bytes) where
       subst RunTo (omega arith)
       (run-more bytes at (at + n) (omega arith) here (run_to n (omega (arith, room)) (λ k low high. none k low (omega (arith, high)))))
 
-  -- the rest of the line, where no break stands before its end
+  -- no break is before at + n, where the line ends
   module _ (n : ℕ) (room : n ≤ length rest) (none : Nowhere IsBreak 0 n) (ends : IsLineEnd bytes (at + n)) where
     inside : at + n ≤ length bytes
     inside = omega (arith, room, size, start)

@@ -1,4 +1,4 @@
--- Characters that stand for themselves in a quoted scalar, against offsets.
+-- Literal characters of a quoted scalar in terms of offsets.
 use Rattle.std.proofs.Common.{◌≡◌, ℕ, ◌+◌, ◌≤◌, List, [], ◌∷◌, ◌++◌, length, slice_index, sym, ap, subst, ◌∙◌, append-nil}
 use Rattle.al_scalar.specs.Line.{Cell}
 use Rattle.al_scalar.specs.Taken.{before}
@@ -14,7 +14,7 @@ use Rattle.al_scalar.proofs.PlainLemmas.{cells_between-two}
 use Rattle.al_scalar.proofs.QuotedLemmas.{gives_nothing, quoted-run}
 use Rattle.al_scalar.proofs.PartLemmas.{part-end, part-blanks, part-run, part-byte, part-some}
 
--- ---- reading on
+-- ---- reading from one offset to another
 
 module _ (quotes : Quotes) (bytes : List ℕ) where
   pub reads_on : (i j : ℕ) (run : List Cell) → SameLine (lines_at bytes i) (lines_at bytes j)
@@ -32,12 +32,12 @@ module _ (quotes : Quotes) (bytes : List ℕ) where
   reads-more i j k o p r s =
       subst (λ cs. ReadsOn quotes bytes i cs k) (sym (cells_between-two bytes i j k o p)) (reads-then i j k (cells_between bytes i j) (cells_between bytes j k) r s)
 
-  -- the blanks from i to j
+  -- the cells from i to j are blanks
   module _ (i j : ℕ) (blanks : AreBlank (cells_between bytes i j)) (lines : lines_at bytes i ≡ with_cells_before (cells_between bytes i j) (lines_at bytes j)) where
     reached : RunBefore (cells_between bytes i j) (lines_at bytes i) (lines_at bytes j)
     reached = run_at bytes i j (cells_between bytes i j) lines
 
-    -- they go before the line's end
+    -- Blanks at the end of a line are dropped.
     pub reads-blanks : j ≤ length bytes → IsLineEnd bytes j → ReadsOn quotes bytes i [] j
     reads-blanks h k =
         let none : text_at bytes j ≡ [] = text-line_end bytes j h k in
@@ -46,7 +46,7 @@ module _ (quotes : Quotes) (bytes : List ℕ) where
         ∙ part-blanks quotes (cells_between bytes i j) blanks
         ∙ sym (ap (λ t. part_before [] (part_in quotes t)) none ∙ ap (part_before []) (part-end quotes)))
 
-    -- they stay before what is no blank
+    -- Blanks before another character are kept.
     pub reads-run : IsInside bytes j → (IsBlankByte (slice_index bytes j) → ⊥) → ReadsOn quotes bytes i (cells_between bytes i j) j
     reads-run h n =
         let cell = cell_at bytes j h.inside h.not_feed h.not_return in

@@ -1,4 +1,4 @@
--- Offsets of cells.
+-- The offsets of a text's cells, as `offset_or` gives them.
 use Rattle.std.proofs.Common.{map, ◌^◌, ◌≡◌, ℕ, zero, suc, ◌+◌, ◌<◌, ◌≤◌, List, [], ◌∷◌, length, refl, sym, ap, ◌∙◌, arith}
 use Rattle.std.proofs.lemmas.List.{get_or_past, length-map}
 use Rattle.al_scalar.specs.Private.Segments.{AreInRange, cells_from, offset_at}
@@ -29,7 +29,7 @@ offset_or-small [] end i h l = absurd (omega (arith, l))
 offset_or-small (c ∷ cs) end zero h l = h.0
 offset_or-small (c ∷ cs) end (suc i) h l = offset_or-small cs end i h.1 (omega (arith, l))
 
--- the offset that the last run gives is that of the cell
+-- The offset by the last run is that of the cell.
 pub located : (bs : List ℕ) (ss : List Segment) (cells : List Cell) (found i end : ℕ) → cells_from 0 bs ss ≡ cells → i < length cells → found ≡ offset_at ss i → found ≡ offset_or cells end i
 located bs ss cells found i end v h f =
     let long : length cells ≡ length bs = ap length (sym v) ∙ length-cells_from 0 bs ss in

@@ -1,4 +1,4 @@
--- What ends a run of characters that stand for themselves, against offsets.
+-- What ends a run of literal characters, in terms of offsets: a quote, an escape, a break or the file's end.
 use Rattle.std.proofs.Common.{◌≡◌, ◌≢◌, ℕ, zero, suc, ◌-◌, ◌*◌, ◌==◌, drop, ◌+◌, ◌<◌, List, [], ◌∷◌, ◌++◌, length, take, slice_index, refl, sym, ap, subst, ◌∙◌, arith}
 use Rattle.std.proofs.Common.{append-nil, Bool, true, false, nat_lt, cond, inl, inr, ◌⊎◌, Option, Some, None, Result}
 use Rattle.std.proofs.Common.{Ok, Err}
@@ -27,7 +27,7 @@ use Rattle.al_scalar.proofs.PartLemmas.{nothing, part-end, single-quote, single-
 use Rattle.al_scalar.proofs.LiteralLemmas.{reads_on}
 use Rattle.al_scalar.proofs.BlockLemmas.{length-cells_between}
 
--- an escape with digits, of which these stand on the line, with their value
+-- an escape with `width` digits, given those that are on the line, and their value
 abbrev hex_escape : ℕ → ℕ → List Cell → Option ℕ → Result QuotedLine FaultAt → Result QuotedLine FaultAt
 hex_escape at width digits None behind = fault yaml.WrongEscape at
 hex_escape at width digits (Some code) behind =
@@ -46,7 +46,7 @@ one_further at n c ds None behind = refl
 one_further at n c ds (Some code) behind =
     sym (ap (λ x. cond x (Ok (record { text = []; stop = cut_short at })) (escape_character at code behind)) (less_more (length ds) n (nat_lt (length ds) n) refl))
 
--- digits that are read one after another
+-- `escape_digits` reads all digits at once.
 digits-are : (at n v : ℕ) (cs : List Cell)
     → escape_digits at n v cs ≡ hex_escape at (suc n) (take (suc n) cs) (hex_value v (take (suc n) cs)) (double_part (drop (suc n) cs))
 digits-are at n v [] =
@@ -69,22 +69,22 @@ digits-are at (suc n) v (c ∷ cs) = next_digit (hex_digit c.0) (λ d. digits-ar
     next_digit (Some d) below =
         below d ∙ one_further at (suc n) c (take (suc n) cs) (hex_value (16 * v + d) (take (suc n) cs)) (double_part (drop (suc n) cs))
 
--- what a letter gives behind a backslash, by the two tables
+-- what follows a backslash, by the two tables' answers for its letter
 abbrev letter_given : ℕ → List Cell → Option ℕ → Option ℕ → Result QuotedLine FaultAt
 letter_given at cs x y = elim x [
   | Some code ↦ part_before (character_cells at code) (double_part cs)
   | None ↦ elim y [ None ↦ fault yaml.WrongEscape at | Some width ↦ escape_digits at (width - 1) 0 cs ]
 ]
 
--- at least one digit follows
+-- An escape with digits has at least one.
 has_digits : (b count : ℕ) → lookup (λ k. k == b) digits_table ≡ Some count → suc (count - 1) ≡ count
 has_digits b count e = grind (arith, common_steps, e)
 
--- a letter that digits follow is no break
+-- The letter of an escape with digits is no break.
 pub letter_kind : (b count : ℕ) → lookup (λ k. k == b) digits_table ≡ Some count → (b ≢ 10) × (b ≢ 13)
 letter_kind b count e = (λ f. grind (arith, common_steps, e, f), λ f. grind (arith, common_steps, e, f))
 
--- what the part of a line gives
+-- a scalar by what the part of its first line gives
 module _ (quotes : Quotes) (bytes : List ℕ) (at q : ℕ) where
   given_at : (r : Result QuotedLine FaultAt) → part_in quotes (text_at bytes at) ≡ r
       → quoted_in quotes q (lines_at bytes at) ≡ elim r [ Ok p ↦ given (part_in quotes) q p (lines_at bytes at) | Err e ↦ Err e ]
@@ -131,7 +131,7 @@ module _ (bytes : List ℕ) (at : ℕ) (h : at < length bytes) (e : slice_index 
   single_closing q f =
       closed_at Single bytes at q h (omega arith) (omega arith) (ap Ok (single-quote (slice_index bytes at, at) (text_at bytes (at + 1)) e f))
 
-  -- two quotes stand for one
+  -- two single quotes give one
   pub single_pair : at + 1 < length bytes → slice_index bytes (at + 1) ≡ 39 → ReadsOn Single bytes at (character_cells at 39) (at + 2)
   single_pair l f =
       let one = cell_at bytes at h (omega arith) (omega arith) in
@@ -143,7 +143,7 @@ module _ (bytes : List ℕ) (at : ℕ) (h : at < length bytes) (e : slice_index 
       (ap (part_in Single) both.text
       ∙ single-pair (slice_index bytes at) at (slice_index bytes (at + 1), at + 1) (text_at bytes (at + 1 + 1)) e f))
 
--- ---- behind a backslash
+-- ---- after a backslash
 
 module _ (bytes : List ℕ) (at : ℕ) (h : at < length bytes) (e : slice_index bytes at ≡ 92) where
   slash : RunBefore ((slice_index bytes at, at) ∷ []) (lines_at bytes at) (lines_at bytes (at + 1))
@@ -165,7 +165,7 @@ module _ (bytes : List ℕ) (at : ℕ) (h : at < length bytes) (e : slice_index 
       ∙ given-break (double_part) q true (lines_at bytes at) (slash.same.last ∙ broke.1)
       ∙ ap (λ ls. quoted_lines (double_part) q None ls) slash.same.later
 
-  -- a letter behind it
+  -- a letter follows the backslash
   module _ (l : at + 1 < length bytes) (n : slice_index bytes (at + 1) ≢ 10) (m : slice_index bytes (at + 1) ≢ 13) where
     letter_at : RunBefore ((slice_index bytes (at + 1), at + 1) ∷ []) (lines_at bytes (at + 1)) (lines_at bytes (at + 1 + 1))
     letter_at = cell_at bytes (at + 1) l n m
@@ -187,7 +187,7 @@ module _ (bytes : List ℕ) (at : ℕ) (h : at < length bytes) (e : slice_index 
         → double_quoted q (lines_at bytes at) ≡ Err (record { code = yaml.WrongEscape; at = at })
     no_letter q f g = given_at Double bytes at q (Err (record { code = yaml.WrongEscape; at = at })) (letter-part None None f g)
 
-    -- digits behind the letter
+    -- digits follow the letter
     module _ (count : ℕ) (f : lookup (λ k. k == slice_index bytes (at + 1)) escape_table ≡ None) (g : lookup (λ k. k == slice_index bytes (at + 1)) digits_table ≡ Some count) where
       number-part : double_part (text_at bytes at) ≡ hex_escape at count (take count (text_at bytes (at + 1 + 1)))
           (hex_value 0 (take count (text_at bytes (at + 1 + 1))))
@@ -200,7 +200,7 @@ module _ (bytes : List ℕ) (at : ℕ) (h : at < length bytes) (e : slice_index 
       wrong_digit q e = given_at Double bytes at q (Err (record { code = yaml.WrongEscape; at = at }))
           (number-part ∙ rw e refl)
 
-      -- all the digits
+      -- all digits are there
       module _ (b : Between bytes (at + 1 + 1) (at + 1 + 1 + count)) (code : ℕ) (v : hex_value 0 (cells_between bytes (at + 1 + 1) (at + 1 + 1 + count)) ≡ Some code) where
         digits-taken : take count (text_at bytes (at + 1 + 1)) ≡ cells_between bytes (at + 1 + 1) (at + 1 + 1 + count)
         digits-taken =
@@ -226,7 +226,7 @@ module _ (bytes : List ℕ) (at : ℕ) (h : at < length bytes) (e : slice_index 
         no_character q e = given_at Double bytes at q (Err (record { code = yaml.WrongEscape; at = at }))
             (code-part ∙ rw e refl)
 
-      -- too few digits
+      -- the line ends before the last digit
       module _ (end : ℕ) (b : Between bytes (at + 1 + 1) end) (k : IsLineEnd bytes end) (few : end < at + 1 + 1 + count) (value : ℕ)
           (v : hex_value 0 (cells_between bytes (at + 1 + 1) end) ≡ Some value) where
         short-part : double_part (text_at bytes at) ≡ Ok (record { text = []; stop = cut_short at })

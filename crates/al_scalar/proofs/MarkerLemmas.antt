@@ -1,4 +1,4 @@
--- Bytes at an offset and document markers.
+-- Tests of the byte at an offset, and of document markers.
 use Rattle.std.proofs.Common.{◌≡◌, ℕ, ◌+◌, ◌≤◌, List, [], ◌∷◌, length, drop, slice_index, refl, sym, ap, ◌∙◌, arith, Bool, true, false, ◌==◌, ◌&&◌}
 use Rattle.std.proofs.lemmas.Bool.Decides.{nat_tests}
 use Rattle.al_scalar.specs.Line.{Cell, is_blank_or_end, begins, is_marker}
@@ -7,7 +7,7 @@ use Rattle.al_scalar.specs.LineEnds.{IsLineEnd}
 use Rattle.al_scalar.proofs.LineCells.{text-line_end, never}
 use Rattle.al_scalar.proofs.PlainLemmas.{text_at-cell}
 
--- ---- a byte at an offset
+-- ---- the byte at an offset
 
 module _ (bytes : List ℕ) (i b : ℕ) (inside : i ≤ length bytes) where
   pub begins-end : IsLineEnd bytes i → false ≡ begins b (text_at bytes i)
@@ -19,7 +19,7 @@ module _ (bytes : List ℕ) (i b : ℕ) (inside : i ≤ length bytes) where
   pub begins-inside : true ≡ begins b (text_at bytes i) → IsLineEnd bytes i → ⊥
   begins-inside h k = never (begins-end k ∙ sym h)
 
--- ---- markers
+-- ---- document markers
 
 marker-is : (b : ℕ) (t : List Cell) → is_marker b t ≡ (begins b t && (begins b (drop 1 t) && (begins b (drop 1 (drop 1 t)) && is_blank_or_end (drop 1 (drop 1 (drop 1 t))))))
 marker-is b [] = refl

@@ -1,4 +1,4 @@
--- Offsets that never fall, in texts and in lines.
+-- Offsets in ascending order, of texts and of lines.
 use Rattle.std.proofs.Common.{◌≡◌, ℕ, zero, suc, ◌+◌, ◌≤◌, List, [], ◌∷◌, ◌++◌, drop, refl, sym, subst}
 use Rattle.std.proofs.Common.{◌∙◌, arith, Bool, true, false, ◌==◌, if◌then◌else◌, Option, Some, None}
 use Rattle.al_scalar.specs.Line.{Cell, Line, lines, place, start, is_blank, after_blanks, is_break, with_cell, with_return}
@@ -7,7 +7,7 @@ use Rattle.al_base.specs.FirstBytes.{begins_with}
 use Rattle.al_scalar.specs.Places.{first_text}
 use Rattle.al_scalar.specs.Offsets.{AreRising, AreClimbing, IsTail, AreLines}
 
--- ---- cells that are taken
+-- ---- the cells of a text, `AreRising`
 
 pub rising-order : (low high : ℕ) (cs : List Cell) → AreRising low high cs → low ≤ high
 rising-order low high [] h = h
@@ -25,7 +25,7 @@ pub rising-join : (low mid high : ℕ) (xs ys : List Cell) → AreRising low mid
 rising-join low mid high [] ys h k = rising-lower mid low high ys h k
 rising-join low mid high (c ∷ cs) ys h k = let o = rising-order mid high ys k in (h.0, omega (arith, h.1, o), rising-join c.1 mid high cs ys h.2 k)
 
--- ---- cells of a line
+-- ---- the cells of a line, `AreClimbing`
 
 pub climbing-order : (low end : ℕ) (cs : List Cell) → AreClimbing low end cs → low ≤ end
 climbing-order low end [] h = h
@@ -35,7 +35,7 @@ pub climbing-lower : (low low' end : ℕ) (cs : List Cell) → low' ≤ low → 
 climbing-lower low low' end [] a h = omega (arith, h)
 climbing-lower low low' end (c ∷ cs) a h = (omega (arith, h.0), h.1)
 
--- where the cells begin
+-- from the first cell on
 pub climbing-place : (low end : ℕ) (cs : List Cell) → AreClimbing low end cs → (low ≤ place cs end) × AreClimbing (place cs end) end cs
 climbing-place low end [] h = (h, omega arith)
 climbing-place low end (c ∷ cs) h = (h.0, (omega arith, h.1))
@@ -44,7 +44,7 @@ climbing-place low end (c ∷ cs) h = (h.0, (omega arith, h.1))
 pub climbing-behind : (low end : ℕ) (c : Cell) (cs : List Cell) → AreClimbing low end (c ∷ cs) → AreClimbing low end cs
 climbing-behind low end c cs h = climbing-lower (c.1 + 1) low end cs (omega (arith, h.0)) h.1
 
--- ---- choices
+-- ---- case analysis of a test or an option, and cells that are dropped
 
 pub choose : {A : Type 0} (P : A → Type 0) (b : Bool) {x y : A} → (b ≡ true → P x) → (b ≡ false → P y) → P (if b then x else y)
 choose P true h k = h refl

@@ -1,4 +1,4 @@
--- What is read of a file: its text comes from there, lies in its span, and is UTF-8 where the file is.
+-- The text of a scalar is from the file and within its span, and it is UTF-8 if the file is.
 use Rattle.std.proofs.Common.{ℕ, ◌+◌, ◌<◌, ◌≤◌, List, length, drop, subst, arith, Result, Ok, Err, IfOk}
 use Rattle.std.proofs.lemmas.List.{length-map}
 use Rattle.std.specs.Prelude.{IsUtf8}
@@ -19,7 +19,7 @@ use Rattle.al_scalar.proofs.RestLemmas.{start-at}
 use Rattle.al_scalar.proofs.Standing.{Stand, lines-end}
 use Rattle.al_scalar.proofs.Utf8Lemmas.{lines-utf8}
 
--- what is placed in a file, or in a part of it
+-- a scalar placed in a file, or in a part of one
 pub from-placed : (high size : ℕ) (s : Scalar) (at : Span) → high ≤ size → at.end ≤ size → IsPlaced high s at → IsFrom size s
 from-placed high size s at a b h i l =
     let end : s.end ≤ size = omega (arith, h.end, b) in
@@ -31,7 +31,7 @@ from-placed high size s at a b h i l =
 pub from-empty : (size at : ℕ) → IsFrom size (empty_scalar at)
 from-empty size at i l = absurd (omega (arith, l))
 
--- what is read of a file
+-- a scalar read from a file
 pub record IsReadAt (bytes : List ℕ) (at : ℕ) (r : code.ScalarRead) : Type 0 where
   pub placed : IsPlaced r.next r.scalar r.span
   pub from : IsFrom (length bytes) r.scalar

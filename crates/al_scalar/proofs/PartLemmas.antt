@@ -21,7 +21,7 @@ use Rattle.al_scalar.proofs.QuotedLemmas.{is_nothing, gives_nothing}
 abbrev pub nothing : QuotedLine
 nothing = record { text = []; stop = broken }
 
--- ---- cells that stand for themselves
+-- ---- literal cells
 
 pub part-none : (r : Result QuotedLine FaultAt) → part_before [] r ≡ r
 part-none (Ok p) = refl
@@ -73,12 +73,12 @@ module _ (quotes : Quotes) where
   part-blank : (c : Cell) (cs : List Cell) → IsBlankByte c.0 → part_in quotes (c ∷ cs) ≡ own_before c (part_in quotes cs)
   part-blank c cs h = part-other quotes c cs (not_mark quotes c.0 h)
 
-  -- blanks at the end of a line give nothing
+  -- Blanks at the end of a line give nothing.
   pub part-blanks : (cs : List Cell) → AreBlank cs → part_in quotes cs ≡ Ok nothing
   part-blanks [] h = part-end quotes
   part-blanks (c ∷ cs) h = part-blank c cs h.0 ∙ ap (own_before c) (part-blanks cs h.1) ∙ own-blank c h.0
 
-  -- blanks before something stay
+  -- Blanks before something are kept.
   pub part-run : (run rest : List Cell) → AreBlank run → gives_nothing (part_in quotes rest) ≡ false
       → part_in quotes (run ++ rest) ≡ part_before run (part_in quotes rest)
   part-run [] rest h s = sym (part-none (part_in quotes rest))
@@ -111,7 +111,7 @@ double-quote c cs e = rw e refl
 pub double-escape : (c : Cell) (cs : List Cell) → c.0 ≡ 92 → double_part (c ∷ cs) ≡ escape c.1 cs
 double-escape c cs e = rw e refl
 
--- ---- what is no blank gives something
+-- ---- a cell that is no blank gives something
 
 map-some : (at : ℕ) (bs : List ℕ) → 1 ≤ length bs → is_empty (map (λ b. (b, at)) bs) ≡ false
 map-some at [] h = absurd (omega (arith, h))
@@ -159,7 +159,7 @@ single-some c (d ∷ cs) h =
     choose (λ (p : QuotedLine). is_nothing p ≡ false) (not (c.0 == 39)) (λ _. own-solid c (single_part (d ∷ cs)) h)
     (λ _. choose (λ (p : QuotedLine). is_nothing p ≡ false) (d.0 == 39) (λ _. refl) (λ _. refl))
 
--- what is no blank gives something
+-- both kinds of quotes
 pub part-some : (quotes : Quotes) (c : Cell) (cs : List Cell) → (IsBlankByte c.0 → ⊥) → gives_nothing (part_in quotes (c ∷ cs)) ≡ false
 part-some Single c cs h = single-some c cs h
 part-some Double c cs h = double-some c cs h

@@ -1,4 +1,4 @@
--- The parts of a plain scalar's lines against offsets.
+-- The parts of a plain scalar's lines in terms of offsets.
 use Rattle.std.proofs.Common.{◌≡◌, ◌≢◌, ℕ, zero, suc, ◌+◌, ◌-◌, ◌<◌, ◌≤◌, List, [], ◌∷◌, ◌++◌, length, slice_index, refl, sym, ap, ◌∙◌}
 use Rattle.std.proofs.Common.{arith, append_assoc, append-nil, Bool, true, false, ◌&&◌, ◌||◌, ◌==◌, nat_lt, cond, inl, inr, ◌⊎◌, ◌↔◌}
 use Rattle.std.proofs.Common.{IsTrue, eq-or-lt_of_le, subst}
@@ -33,7 +33,7 @@ blank_or_end-cell bytes i r h k b = blank-value r (slice_index bytes i, i) b ∙
 pub blank_or_end-end : (bytes : List ℕ) (i : ℕ) → i ≤ length bytes → IsLineEnd bytes i → true ≡ is_blank_or_end (text_at bytes i)
 blank_or_end-end bytes i h k = sym (ap is_blank_or_end (text-line_end bytes i h k))
 
--- ---- where a plain scalar ends
+-- ---- `ends_plain` by the first byte
 
 pub ends-colon : (p : Context) (f : Bool) (c : Cell) (cs : List Cell) → c.0 ≡ 58 → ends_plain p f (c ∷ cs) ≡ ends_key p cs
 ends-colon p f c cs e = rw e (grind (arith, common_steps))
@@ -69,7 +69,7 @@ flag-true : (run : List Cell) → flag_after true run ≡ true
 flag-true [] = refl
 flag-true (c ∷ cs) = refl
 
--- the scalar ends before the cells behind a run of blanks
+-- the scalar ends after a run of blanks, which isn't part of it
 part-ends : (p : Context) (f : Bool) (run rest : List Cell) → AreBlank run → ends_plain p (flag_after f run) rest ≡ true → plain_part p f (run ++ rest) ≡ ([], run ++ rest)
 part-ends p f [] [] h e = refl
 part-ends p f [] (c ∷ cs) h e = part-step p f true (is_blank c) c cs (plain_part p (is_blank c) cs) e refl refl
@@ -81,7 +81,7 @@ some-empty : (run : List Cell) (c : Cell) (cs : List Cell) → is_empty (run ++ 
 some-empty [] c cs = refl
 some-empty (x ∷ xs) c cs = refl
 
--- the scalar goes on with a cell behind a run of blanks
+-- the scalar continues with a cell after a run of blanks
 part-goes : (p : Context) (f : Bool) (run : List Cell) (c : Cell) (cs : List Cell) → AreBlank run → (IsBlankByte c.0 → ⊥) → ends_plain p (flag_after f run) (c ∷ cs) ≡ false
     → plain_part p f (run ++ c ∷ cs) ≡ in_front (run ++ c ∷ []) (plain_part p false cs)
 part-goes p f [] c cs h n e = part-step p f false false c cs (plain_part p false cs) e (is_blank-no c n) refl
@@ -91,7 +91,7 @@ part-goes p f (b ∷ run) c cs h n e =
     (part-goes p true run c cs h.1 n (ap (λ x. ends_plain p x (c ∷ cs)) (flag-true run) ∙ e))
     ∙ ap (λ x. cond x ([], b ∷ (run ++ c ∷ cs)) (b ∷ ((run ++ c ∷ []) ++ more.0), more.1)) (ap is_empty (append_assoc run (c ∷ []) more.0) ∙ some-empty run c more.0)
 
--- ---- against offsets
+-- ---- in terms of offsets
 
 cells_at-two : (bytes : List ℕ) (i n m : ℕ) → cells_at bytes i (n + m) ≡ cells_at bytes i n ++ cells_at bytes (i + n) m
 cells_at-two bytes i zero m = let e : i + 0 ≡ i = omega arith in let f : 0 + m ≡ m = omega arith in rw (e, f) refl
@@ -111,7 +111,7 @@ flag-cases bytes true i j h = flag-true (cells_between bytes i j)
 flag-cases bytes false i j (inl e) = rw (e, cells_between-none bytes j) (grind (arith, common_steps))
 flag-cases bytes false i j (inr l) = rw (cells_between-front bytes i j l) (grind (arith, common_steps, l))
 
--- whether a blank stands before the cells behind a run
+-- A blank precedes j if one preceded i or the run isn't empty.
 pub flag-value : (bytes : List ℕ) (f : Bool) (i j : ℕ) → i ≤ j → flag_after f (cells_between bytes i j) ≡ (f || nat_lt i j)
 flag-value bytes f i j h = flag-cases bytes f i j (eq-or-lt_of_le h)
 
@@ -124,7 +124,7 @@ part_done p first f bytes at i j e r b h s =
     let own = ap (plain_part p f) r.text ∙ part-ends p f run (text_at bytes j) b (ap (λ x. ends_plain p x (text_at bytes j)) (flag-value bytes f i j h) ∙ sym s) ∙ ap (λ t. ([], t)) (sym r.text) in
     e ∙ ap (in_front (cells_between bytes at i)) own ∙ ap (λ t. (t, text_at bytes i)) (append-nil (cells_between bytes at i))
 
--- the part goes on at j
+-- the part continues with the byte at j
 pub part_more : (p : Context) (first f : Bool) (bytes : List ℕ) (at i j : ℕ) → plain_part p first (text_at bytes at) ≡ in_front (cells_between bytes at i) (plain_part p f (text_at bytes i))
     → RunBefore (cells_between bytes i j) (lines_at bytes i) (lines_at bytes j) → AreBlank (cells_between bytes i j) → at ≤ i → i ≤ j → j ≤ length bytes → (IsLineEnd bytes j → ⊥)
     → (IsBlankByte (slice_index bytes j) → ⊥) → false ≡ ends_plain p (f || nat_lt i j) (text_at bytes j)
@@ -175,7 +175,7 @@ module _ (bytes : List ℕ) (i : ℕ) (w : IsWordAt bytes i) where
   word-no_end : IsLineEnd bytes i → ⊥
   word-no_end h = elim (h w.0) [ inl e ↦ word-feed (slice_index bytes i) w.1 e | inr e ↦ word-return (slice_index bytes i) w.1 e ]
 
-  -- the part goes on behind one of them
+  -- The part continues after a byte of a word.
   pub part_word : (p : Context) (first f : Bool) (at : ℕ) → plain_part p first (text_at bytes at) ≡ in_front (cells_between bytes at i) (plain_part p f (text_at bytes i)) → at ≤ i
       → plain_part p first (text_at bytes at) ≡ in_front (cells_between bytes at (i + 1)) (plain_part p false (text_at bytes (i + 1)))
   part_word p first f at e o =
@@ -187,7 +187,7 @@ module _ (bytes : List ℕ) (i : ℕ) (w : IsWordAt bytes i) where
   pub same_word : SameLine (lines_at bytes i) (lines_at bytes (i + 1))
   same_word = (cell_at bytes i w.0 (word-feed (slice_index bytes i) w.1) (word-return (slice_index bytes i) w.1)).same
 
--- ---- the tests at an offset
+-- ---- the code's tests at an offset
 
 module _ (p : Context) (bytes : List ℕ) (i : ℕ) (inside : i ≤ length bytes) where
   pub ends_key-cell : (x : Bool) → false ≡ is_blank_or_end (text_at bytes i) → x ≡ (is_flow p && is_flow_indicator (slice_index bytes i)) → x ≡ ends_key p (text_at bytes i)

@@ -1,4 +1,4 @@
--- What is taken of lines as a plain scalar, and the lines left behind it.
+-- The offsets of a plain scalar's text are in order, and the remaining lines follow it.
 use Rattle.std.proofs.Common.{◌≡◌, ℕ, ◌+◌, ◌≤◌, List, [], ◌∷◌, ◌++◌, refl, sym, subst, arith, Bool, true, false, not, ◌&&◌, Ok}
 use Rattle.std.proofs.lemmas.Bool.Decides.{nat_tests}
 use Rattle.al_scalar.specs.Line.{Cell, Line, start, is_blank, after_blanks, is_empty}
@@ -23,7 +23,7 @@ module _ (size : ℕ) (U : Type 0) where
   nothing-more : (here : Taken) → here.text ≡ [] → AreLeft size U here.end here.left → AreTaken size U here.end (Ok here)
   nothing-more here e s = (subst (IsFrom U here.end here.end) (sym e) (from-none (omega arith)), s)
 
-  -- a break from low on, and the breaks of empty lines behind it
+  -- a break at `low` or later, and the breaks of the empty lines after it
   record AreBreaks (low high break : ℕ) (es : List ℕ) : Type 0 where
     from : low ≤ break
     feeds : IsFrom U (break + 1) high (feeds es)

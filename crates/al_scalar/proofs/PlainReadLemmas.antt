@@ -1,4 +1,4 @@
--- The reader of plain scalars, one line after the other.
+-- The steps of the reader of plain scalars, line by line.
 use Rattle.std.proofs.Common.{◌≡◌, ℕ, ◌+◌, ◌<◌, ◌≤◌, List, [], ◌∷◌, ◌++◌, length, drop, slice_index, refl, sym, ap, ◌∙◌, append_assoc}
 use Rattle.std.proofs.Common.{append-nil, Bool, true, false, not, ◌&&◌, ◌==◌, cond, inl, inr, Result, Ok, Err}
 use Rattle.std.proofs.lemmas.Bool.{and_parts, not-false, not-true}
@@ -18,14 +18,14 @@ use Rattle.al_scalar.proofs.BlankLemmas.{after_blanks-none, no_blank_line}
 
 -- ---- the text at an offset
 
--- a colon stands where its cell says
+-- The first cell of the text at j has offset j.
 place-colon : (p : Context) (bytes : List ℕ) (j z : ℕ) → j ≤ length bytes → is_value_colon p (text_at bytes j) ≡ true → place (text_at bytes j) z ≡ j
 place-colon p bytes j z h e = elim (text_kind bytes j h) [
   | inl n ↦ absurd (never (sym (ap (is_value_colon p) n) ∙ e))
   | inr k ↦ ap (λ t. place t z) k.1
 ]
 
--- ---- the last line stands alone
+-- ---- no line follows the last one
 
 abbrev LastAlone : List Line → Type 0
 LastAlone ls = first_last ls ≡ true → later ls ≡ []
@@ -49,12 +49,12 @@ last-alone at (b ∷ bs) =
     choose LastAlone (is_break b bs) (λ _. alone-broken at more)
     (λ _. choose LastAlone (b == 13) (λ _. alone-with_return at more below) (λ _. alone-with_cell (b, at) more below))
 
--- ---- behind a part
+-- ---- after a part of the scalar
 
 abbrev after_lines : Context → Taken → List Line → Result Taken FaultAt
 after_lines p here ls = cond (is_empty (after_blanks (first_text ls))) (plain_lines p here (first_end ls) [] (later ls)) (Ok here)
 
--- it stops before a line that isn't blank, or the last one
+-- The scalar ends before a line with text, or at the last line.
 after-stop : (p : Context) (here : Taken) (ls : List Line) → LastAlone ls → begins_blank_line ls ≡ false → after_lines p here ls ≡ Ok here
 after-stop p here [] a h = refl
 after-stop p here (l ∷ ls) a h = by_text (is_empty (after_blanks l.text)) refl h
@@ -66,7 +66,7 @@ after-stop p here (l ∷ ls) a h = by_text (is_empty (after_blanks l.text)) refl
 before-here : (text : List Cell) (bytes : List ℕ) (end : ℕ) → before text (Ok (here_at bytes end)) ≡ Ok (record { text = text; end = end; left = lines_at bytes end })
 before-here text bytes end = ap (λ t. Ok (record { text = t; end = end; left = lines_at bytes end })) (append-nil text)
 
--- no break stands behind the part and the blanks after it
+-- no break follows the part and the blanks after it
 pub read_done : {x : Result Taken FaultAt} (p : Context) (bytes : List ℕ) (end j : ℕ) (text : List Cell) → x ≡ before text (after_part p bytes end) → j ≤ length bytes
     → lines_at bytes end ≡ with_cells_before (cells_between bytes end j) (lines_at bytes j) → AreBlank (cells_between bytes end j) → (IsBreakAt bytes j → ⊥)
     → (j < length bytes → IsBlankByte (slice_index bytes j) → ⊥) → x ≡ Ok (record { text = text; end = end; left = lines_at bytes end })
@@ -76,7 +76,7 @@ read_done p bytes end j text e h f b k n =
 after-break : (p : Context) (here : Taken) (run : List Cell) (s : ℕ) (ls : List Line) → AreBlank run → after_lines p here (with_cells_before run (broken_line s ∷ ls)) ≡ plain_lines p here s [] ls
 after-break p here run s ls h = ap (λ t. cond (is_empty t) (plain_lines p here s [] ls) (Ok here)) (after_blanks-none run h)
 
--- ---- the look-ahead
+-- ---- skipping blank lines
 
 skip-line : (p : Context) (here : Taken) (break : ℕ) (es : List ℕ) (l : Line) (ls : List Line) (b : Bool) → is_blank_line l ≡ b
     → plain_lines p here break (es ++ l.end ∷ []) ls ≡ plain_lines p here break ((es ++ l.end ∷ []) ++ empty_ends ls) (text_lines ls)
@@ -90,7 +90,7 @@ skip-line p here break es l ls true e below =
         → plain_lines p here break es (l ∷ ls) ≡ plain_lines p here break (es ++ l.end ∷ []) ls
     skipped p here break es l ls e = rw e refl
 
--- blank lines only count
+-- `plain_lines` collects the breaks of blank lines.
 skip : (p : Context) (here : Taken) (break : ℕ) (es : List ℕ) (ls : List Line) → plain_lines p here break es ls ≡ plain_lines p here break (es ++ empty_ends ls) (text_lines ls)
 skip p here break es [] = refl
 skip p here break es (l ∷ ls) =
@@ -109,7 +109,7 @@ stops : (p : Context) (here : Taken) (break : ℕ) (es : List ℕ) (ls : List Li
 stops p here break es [] a h k = refl
 stops p here break es (l ∷ ls) a h k = stops-with p here break es l ls (is_empty (after_blanks l.text)) refl a h k
 
--- what the look-ahead finds behind a break
+-- the next line with text after a break
 pub found_at : {x : Result Taken FaultAt} (p : Context) (bytes : List ℕ) (end j next start : ℕ) (text : List Cell) → x ≡ before text (after_part p bytes end)
     → lines_at bytes end ≡ with_cells_before (cells_between bytes end j) (lines_at bytes j) → AreBlank (cells_between bytes end j) → lines_at bytes j ≡ broken_line j ∷ lines_at bytes next
     → text_lines (lines_at bytes next) ≡ lines_at bytes start → x ≡ before text (plain_lines p (here_at bytes end) j (empty_ends (lines_at bytes next)) (lines_at bytes start))
@@ -129,7 +129,7 @@ read_stopped p bytes end j start solid es text e h f g =
 
 -- ---- a line that continues the scalar
 
--- what a line gives, by its part
+-- the rest of the scalar, given the part of this line
 abbrev line_given : Context → ℕ → List ℕ → Line → List Line → List Cell × List Cell → Result Taken FaultAt
 line_given p break es l ls part =
     cond (not (is_flow p) && is_value_colon p (after_blanks part.1)) (fault UnexpectedCharacter (place (after_blanks part.1) l.end))
@@ -169,7 +169,7 @@ begins-on p cells end [] ys h k s m z = cc
 begins-on p cells end (x ∷ xs) [] h k s m z = cc
 begins-on p cells end (x ∷ xs) (y ∷ ys) h k s m z = rw (m, z, s.end, s.last, s.later) refl
 
--- a part of a further line from solid to end, and the place behind the blanks after it
+-- the part of a further line is from `solid` to `end`; `rest` is the offset after the blanks that follow it
 module _ (p : Context) (bytes : List ℕ) (start solid end rest : ℕ) (text : after_blanks (text_at bytes start) ≡ text_at bytes solid)
     (goes : true ≡ (not (is_empty (text_at bytes solid)) && continues p (text_at bytes start))) (part : PartTo p true bytes solid end)
     (behind : after_blanks (text_at bytes end) ≡ text_at bytes rest) where

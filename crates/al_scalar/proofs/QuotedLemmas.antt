@@ -1,4 +1,4 @@
--- Quoted scalars from the lines that are left, for each reader of a line's part.
+-- Quoted scalars by their lines, for any reader of a line's part.
 use Rattle.std.proofs.Common.{◌≡◌, ℕ, List, [], ◌∷◌, refl, sym, ap, ◌∙◌, Bool, true, false, not, ◌&&◌, cond, inl, inr, Option, Some, None, Result, Ok, Err}
 use Rattle.al_base.specs.declared.codes.YamlCode.TheVariants as yaml
 use Rattle.al_scalar.specs.Line.{Cell, Line, cut, is_blank, after_blanks, is_empty}
@@ -13,7 +13,7 @@ use Rattle.al_scalar.proofs.LineCells.{has_line}
 use Rattle.al_scalar.proofs.OffsetLemmas.{choose}
 use Rattle.al_scalar.proofs.FoldLemmas.{before-two, before-none, line_given-before, given-line}
 
--- what the part of the first line gives with the lines behind it
+-- the scalar, from the part of its first line and the lines after it
 abbrev pub given : (List Cell → Result QuotedLine FaultAt) → ℕ → QuotedLine → List Line → Result Taken FaultAt
 given part q p xs = line_given q [] p (record { text = []; end = first_end xs; last = first_last xs }) (later xs) (λ b. quoted_lines part q b (later xs))
 
@@ -32,7 +32,7 @@ quoted-given part q (x ∷ xs) h = by_part (part x.text)
     by_part (Ok p) = sym (given-line p.stop q [] p.text [] x xs (λ b. quoted_lines part q b xs))
     by_part (Err e) = refl
 
--- cells in front of what is left of the line
+-- cells in front of the first line
 pub quoted-run : (part : List Cell → Result QuotedLine FaultAt) (q : ℕ) (run : List Cell) (xs ys : List Line) → has_line xs ≡ true → has_line ys ≡ true → SameLine xs ys
     → part (first_text xs) ≡ part_before run (part (first_text ys)) → quoted_scalar part q xs ≡ before run (quoted_scalar part q ys)
 quoted-run part q run xs ys h k s e =
@@ -41,7 +41,7 @@ quoted-run part q run xs ys h k s e =
     ∙ given-part part q run (part (first_text ys)) xs ys s
     ∙ ap (before run) (sym (quoted-given part q ys k))
 
--- what the part of the first line gives
+-- the scalar by the part of its first line
 pub quoted-part : (part : List Cell → Result QuotedLine FaultAt) (q : ℕ) (xs : List Line) (r : Result QuotedLine FaultAt) → has_line xs ≡ true → part (first_text xs) ≡ r
     → quoted_scalar part q xs ≡ (r >>= (λ p. given part q p xs))
 quoted-part part q xs r h e = quoted-given part q xs h ∙ ap (λ r. r >>= (λ p. given part q p xs)) e
@@ -51,7 +51,7 @@ pub given-closed : (part : List Cell → Result QuotedLine FaultAt) (q next : �
 given-closed part q next xs [] k s = cc
 given-closed part q next xs (y ∷ ys) k s = rw (s.end, s.last, s.later) refl
 
--- a line that a break ends, which may be escaped
+-- a line that ends with a break, which may be escaped
 abbrev pub stop_of : Bool → QuotedEnd
 stop_of true = escaped
 stop_of false = broken
@@ -61,7 +61,7 @@ pub given-break : (part : List Cell → Result QuotedLine FaultAt) (q : ℕ) (e 
 given-break part q true xs f = rw f (before-none (quoted_lines part q None (later xs)))
 given-break part q false xs f = rw f (before-none (quoted_lines part q (Some (first_end xs)) (later xs)))
 
--- a line that the file's end ends
+-- a line that ends with the file
 pub given-end : (part : List Cell → Result QuotedLine FaultAt) (q : ℕ) (e : Bool) (xs : List Line) → first_last xs ≡ true
     → given part q (record { text = []; stop = stop_of e }) xs ≡ fault yaml.UnclosedQuote q
 given-end part q true xs f = rw f refl
@@ -69,7 +69,7 @@ given-end part q false xs f = rw f refl
 
 -- ---- folding
 
--- whether a line's rest gives nothing
+-- whether the rest of a line gives nothing
 
 abbrev pub is_nothing : QuotedLine → Bool
 is_nothing p = is_empty p.text && is_broken p.stop
@@ -78,7 +78,7 @@ abbrev pub gives_nothing : Result QuotedLine FaultAt → Bool
 gives_nothing (Ok p) = is_nothing p
 gives_nothing (Err e) = false
 
--- a reader of a line's part gives nothing at the line's end, and something at what is no blank
+-- The reader gives nothing for an empty line, and something for a cell that is no blank.
 pub record IsReader (part : List Cell → Result QuotedLine FaultAt) : Type 0 where
   pub none : part [] ≡ Ok (record { text = []; stop = broken })
   pub some : (c : Cell) (cs : List Cell) → (IsBlankByte c.0 → ⊥) → gives_nothing (part (c ∷ cs)) ≡ false
@@ -91,7 +91,7 @@ no-cells : (cs : List Cell) → is_empty cs ≡ true → cs ≡ []
 no-cells [] e = refl
 no-cells (c ∷ cs) e = cc
 
--- a break or a space that is to come, with the breaks of empty lines
+-- what a pending break and the breaks of empty lines give
 abbrev pub pending_given : Option ℕ → List ℕ → List Cell
 pending_given b [] = folding_space b
 pending_given b (e ∷ es) = feeds (e ∷ es)
@@ -106,7 +106,7 @@ pending-break false end [] = refl
 pending-break false end (e ∷ es) = refl
 
 module _ (part : List Cell → Result QuotedLine FaultAt) (q : ℕ) where
-  -- a line that isn't empty, behind a space that may come before it
+  -- a line that isn't empty, after a space that the break before it may give
   line-solid : (b : Option ℕ) (t : List Cell) (l : Line) (ls : List Line) (r : Result QuotedLine FaultAt) (x : QuotedLine → Result Taken FaultAt) → (gives_nothing r && not l.last) ≡ false
       → (r >>= (λ p. cond (is_empty_line p l) (x p) (line_given q (folding_space b) p l ls (λ o. quoted_lines part q o ls))))
       ≡ before (folding_space b) (r >>= (λ p. line_given q [] p (record { text = t; end = l.end; last = l.last }) ls (λ o. quoted_lines part q o ls)))
@@ -121,7 +121,7 @@ module _ (part : List Cell → Result QuotedLine FaultAt) (q : ℕ) where
   lines-solid b l ls e = line-solid b (after_blanks l.text) l ls (part (after_blanks l.text)) (λ p. before ((10, l.end) ∷ []) (quoted_lines part q None ls)) e
 
   module _ (ok : IsReader part) where
-    -- behind its blanks a line that isn't all blanks gives something
+    -- The text of such a line after its leading blanks gives something.
     solid-some : (cs : List Cell) → is_empty (after_blanks cs) ≡ false → gives_nothing (part (after_blanks cs)) ≡ false
     solid-some [] e = cc
     solid-some (c ∷ cs) e =
@@ -132,7 +132,7 @@ module _ (part : List Cell → Result QuotedLine FaultAt) (q : ℕ) where
         → quoted_lines part q b (l ∷ ls) ≡ before ((10, l.end) ∷ []) (quoted_lines part q None ls)
     lines-blank b l ls e f = rw (e, ok.none, f) refl
 
-    -- the text of the next line that isn't blank, behind what the break and the empty lines before it give
+    -- The break and the empty lines give their text, followed by the scalar from the next line with text.
     pub lines-fold : (b : Option ℕ) (ls : List Line) → quoted_lines part q b ls ≡ before (pending_given b (empty_ends ls)) (quoted_scalar part q (solid_lines ls))
     lines-fold b [] = refl
     lines-fold b (l ∷ ls) = by_text (lines-fold None ls) (is_empty (after_blanks l.text)) l.last refl refl

@@ -1,4 +1,4 @@
--- What is taken of lines as a quoted scalar, and the lines left behind it.
+-- The offsets of a quoted scalar's text are in order, and the remaining lines follow it.
 use Rattle.std.proofs.Common.{◌≡◌, ℕ, zero, suc, ◌*◌, ◌-◌, ◌+◌, ◌<◌, ◌≤◌, List, [], ◌∷◌, ◌++◌, refl, sym, subst, arith, true, false}
 use Rattle.std.proofs.Common.{not, if◌then◌else◌, ◌&&◌, ◌==◌, nat_lt, Option, Some, None, Result, Ok, Err}
 use Rattle.std.proofs.lemmas.Bool.{and_parts, not-true}
@@ -21,13 +21,13 @@ use Rattle.al_scalar.proofs.CellsRead.{Reads, reads-none, reads-here, reads-kept
 use Rattle.al_scalar.proofs.OffsetLemmas.{choose, choose-option, climbing-blanks, climbing-order, climbing-lower}
 use Rattle.al_scalar.proofs.TakenLemmas.{IsFrom, AreLeft, AreTaken, from-none, from-ascii, from-join, from-wider, from-order, rest-behind, left-cut, left-first, left-later, taken-behind}
 
--- ---- what a line gives
+-- ---- the part of a line
 
--- an offset of one of the cells
+-- the offset is at most the end of a line with these cells
 abbrev StandsIn : List Cell → ℕ → Type 0
 StandsIn cs at = (low end : ℕ) → AreClimbing low end cs → at ≤ end
 
--- by how the scalar leaves it: a quote is ASCII
+-- the text is decoded from the cells up to where the scalar leaves the line; the closing quote is ASCII
 abbrev Stops : List Cell → List Cell → QuotedEnd → Type 0
 Stops cs text (closed end rest) = (q : Cell) × (q.0 < 128) × (end ≡ q.1 + 1) × Reads cs text (q ∷ rest)
 Stops cs text (cut_short at) = Reads cs text [] × StandsIn cs at
@@ -44,7 +44,7 @@ stands-first c cs low end h = let o = climbing-order (c.1 + 1) end cs h.1 in ome
 stands-more : (c : Cell) (cs : List Cell) (at : ℕ) → StandsIn cs at → StandsIn (c ∷ cs) at
 stands-more c cs at k low end h = k (c.1 + 1) end h.1
 
--- what is read of some cells is read of others
+-- the same for other cells, if what is decoded from the former can be decoded from them
 module _ {cs ds : List Cell} (stands : (at : ℕ) → StandsIn cs at → StandsIn ds at) where
   stops-also : {text new : List Cell} (s : QuotedEnd) → ((rest : List Cell) → Reads cs text rest → Reads ds new rest) → Stops cs text s → Stops ds new s
   stops-also (closed end rest) f h = (h.0, h.1, h.2, f (h.0 ∷ rest) h.3)
@@ -86,7 +86,7 @@ single-reads (c ∷ d ∷ cs) =
 
 -- ---- double quotes
 
--- in a table whose keys are ASCII and whose values are characters
+-- an entry of a table whose keys are ASCII and whose values are characters
 found : (b x : ℕ) (es : List (ℕ × ℕ)) → list_all (λ e. nat_lt e.0 128 && scalar e.1) es ≡ true → lookup (λ k. k == b) es ≡ Some x
     → (b < 128) × IsScalar x
 found b x [] h f = absurd cc
@@ -99,7 +99,7 @@ own-both : (c : Cell) (cs : List Cell) (r : Result QuotedLine FaultAt) → Gives
 own-both c cs (Ok p) h = own-reads c cs p h
 own-both c cs (Err e) h = stands-more c cs e.at h
 
--- behind the backslash c
+-- c is a backslash, and d follows it
 module _ (c : Cell) (a : c.0 < 128) (d : Cell) (cs : List Cell) (b : d.0 < 128) where
   second : (r : Result QuotedLine FaultAt) → GivesPart (c ∷ cs) r → GivesPart (c ∷ d ∷ cs) r
   second r h =
@@ -144,12 +144,12 @@ abbrev PartReader : (List Cell → Result QuotedLine FaultAt) → Type 0
 PartReader part = (cs : List Cell) → GivesPart cs (part cs)
 
 module _ (size : ℕ) (U : Type 0) (quote : ℕ) (q : quote ≤ size) where
-  -- what is taken behind a line
+  -- what `below` gives is from the lines after this one
   abbrev LinesReader : (Option ℕ → Result Taken FaultAt) → List Line → Type 0
   LinesReader below ls = (low mid : ℕ) (b : Option ℕ) → IsFrom U low mid (folding_space b) → AreLeft size U mid ls → AreTaken size U low (below b)
 
   module _ (l : Line) (ls : List Line) (below : Option ℕ → Result Taken FaultAt) (more : LinesReader below ls) where
-    -- what a line takes, and the lines behind it
+    -- a line and those after it
     given-from : (low mid : ℕ) (space : List Cell) (p : QuotedLine) → IsFrom U low mid space → AreLeft size U mid (l ∷ ls) → GivesPart l.text (Ok p)
         → AreTaken size U low (line_given quote space p l ls below)
     given-from low mid space p h k g = by-stop p.stop g

@@ -1,4 +1,4 @@
--- What a turn of the reader of quoted scalars adds to its text.
+-- What one iteration of the reader of quoted scalars appends.
 use Rattle.std.proofs.Common.{◌≡◌, ℕ, List, ◌++◌, sym, ap, ◌∙◌, Bool, Result}
 use Rattle.al_scalar.specs.Line.{Cell}
 use Rattle.al_scalar.specs.Taken.{Taken, before}

@@ -12,7 +12,7 @@ use Rattle.al_scalar.specs.Private.BlockRead.{row_like, rest, last_line}
 use Rattle.al_scalar.proofs.LineLemmas.{cells_between-front}
 use Rattle.al_scalar.proofs.LineCells.{has_line, lines-at_end, lines_at-some}
 
--- of a row only that matters whether it begins with a blank, and its break
+-- A joint depends only on a row's break and on whether it begins with a blank.
 pub joint-like : (lit : Bool) (last : Option BlockLine) (es : List ℕ) (r s : BlockLine) → begins_blank r.text ≡ begins_blank s.text → joint lit last es r ≡ joint lit last es s
 joint-like lit None es r s e = refl
 joint-like lit (Some l) es r s e = ap (λ b. cond (lit || begins_blank l.text || b) (feeds (l.break ++ es)) (between_rows l.break es)) e
@@ -31,9 +31,9 @@ spaced-like : (b : Bool) (break : List ℕ) → begins_blank (row_like b break).
 spaced-like true break = refl
 spaced-like false break = refl
 
--- ---- one row added
+-- ---- one more row
 
--- a row with text, whose first byte is a blank or not
+-- a row with text
 pub row-text : (new mid : List Cell) (lit : Bool) (k : Chomping) (last : Option BlockLine) (es : List ℕ) (text : List Cell) (break : List ℕ) (rs : List BlockLine) (old : List Cell) (b : Bool)
     → is_empty text ≡ false → begins_blank text ≡ b → mid ≡ old ++ joint lit last es (row_like b []) → new ≡ mid ++ text
     → old ++ text_after lit k last es (record { text = text; break = break } ∷ rs) ≡ new ++ text_after lit k (Some (row_like b break)) [] rs
@@ -53,7 +53,7 @@ final_breaks-none Strip = refl
 final_breaks-none Clip = refl
 final_breaks-none Keep = refl
 
--- the file's last line, with text
+-- the last line of the file, with text
 pub row-final : (new mid : List Cell) (lit : Bool) (k : Chomping) (last : Option BlockLine) (es : List ℕ) (text old : List Cell) (b : Bool)
     → is_empty text ≡ false → begins_blank text ≡ b → mid ≡ old ++ joint lit last es (row_like b []) → new ≡ mid ++ text
     → new ≡ old ++ text_after lit k last es (record { text = text; break = [] } ∷ [])
@@ -78,7 +78,7 @@ some-between bytes from stop h = ap is_empty (cells_between-front bytes from sto
 pub spaced-between : (bytes : List ℕ) (from stop : ℕ) (b : Bool) → from < stop → is_blank (slice_index bytes from, from) ≡ b → begins_blank (cells_between bytes from stop) ≡ b
 spaced-between bytes from stop b h e = ap begins_blank (cells_between-front bytes from stop h) ∙ e
 
--- ---- lines as rows
+-- ---- rows of lines
 
 abbrev pub of_rows : Bool → Chomping → Option BlockLine → List ℕ → ℕ → Rows → Taken
 of_rows lit k last es end rs = record { text = text_after lit k last es rs.rows; end = rows_end end rs.rows; left = rs.left }
@@ -95,7 +95,7 @@ pub rest-last : (lit : Bool) (k : Chomping) (m : Option ℕ) (found : Bool) (las
 rest-last lit k m found last es end [] t h e f = cc
 rest-last lit k m found last es end (l ∷ ls) t h e f = rw (e, f, rows_at) refl
 
--- ---- the steps of the loop over the lines
+-- ---- the steps of the loop over lines
 
 pub rows-last : {x : Taken} (new text : List Cell) (lit : Bool) (k : Chomping) (m : Option ℕ) (found : Bool) (last : Option BlockLine) (es : List ℕ) (end to : ℕ) (bytes : List ℕ) (i from stop : ℕ)
     → x ≡ with_text text (rest lit k m found last es end (lines_at bytes i)) → row_of m found (first_text (lines_at bytes i)) ≡ Some (first_text (lines_at bytes from))

@@ -1,4 +1,4 @@
--- Runs of offsets, and the cells that they stand for.
+-- The offsets that runs give, and the cells of a text.
 use Rattle.std.proofs.Common.{◌≡◌, ℕ, zero, suc, ◌+◌, ◌-◌, ◌^◌, ◌<◌, ◌≤◌, List, [], ◌∷◌, ◌++◌, length, length-append, get_or, refl, sym, ap, subst}
 use Rattle.std.proofs.Common.{◌∙◌, arith, Bool, true, false, not, cond, map, take, drop, drop-cons, slice_range, slice_index}
 use Rattle.std.proofs.Math.Seq.{take-suc}
@@ -21,18 +21,18 @@ offset_from-more : (found : ℕ) (ss : List Segment) (s : Segment) (i : ℕ) →
 offset_from-more found [] s i = refl
 offset_from-more found (t ∷ ts) s i = offset_from-more (offset_after found t i) ts s i
 
--- the last run gives the offset of an index that no run begins behind
+-- If no run begins after index i, the last run gives its offset.
 offset_from-last : (found : ℕ) (s : Segment) (ss : List Segment) (d : Segment) (i : ℕ) → AreBehind i (s ∷ ss) → offset_from found (s ∷ ss) i ≡ offset_in (get_or (s ∷ ss) (length ss) d) i
 offset_from-last found s [] d i h = after-behind found s i h.0
 offset_from-last found s (t ∷ ts) d i h = offset_from-last (offset_after found s i) t ts d i h.1
 
--- ---- where the runs begin
+-- ---- the order of runs
 
 AreBehind-up : (n m : ℕ) (ss : List Segment) → AreBehind n ss → n ≤ m → AreBehind m ss
 AreBehind-up n m [] h k = tt
 AreBehind-up n m (s ∷ ss) h k = (omega (arith, h.0), AreBehind-up n m ss h.1 k)
 
--- a run more, behind all others
+-- appending a run
 pub IsOrdered-more : (n : ℕ) (ss : List Segment) (s : Segment) → IsOrdered n ss → s.index ≡ n → IsOrdered n (ss ++ s ∷ [])
 IsOrdered-more n ss s h e = (each_both (λ (t : Segment). t.index ≤ n) ss (s ∷ []) h.0 (omega (arith, e), tt), rising ss h.0 h.1)
   where
@@ -47,7 +47,7 @@ last-of n d s (t ∷ ts) h = last-of n d t ts h.1
 last-is : (d s : Segment) (ss : List Segment) → get_or (s ∷ ss) (length (s ∷ ss) - 1) d ≡ get_or (s ∷ ss) (length ss) d
 last-is d s ss = let e : suc (length ss) - 1 ≡ length ss = omega arith in ap (λ k. get_or (s ∷ ss) k d) e
 
--- the last run begins no further on than the bytes end
+-- The last run begins at or before index n.
 pub last-behind : (d : Segment) (n : ℕ) (ss : List Segment) → AreBehind n ss → (length ss ≡ 0 → ⊥) → (get_or ss (length ss - 1) d).index ≤ n
 last-behind d n [] h z = absurd (z refl)
 last-behind d n (s ∷ ss) h z = subst (λ t. t.index ≤ n) (sym (last-is d s ss)) (last-of n d s ss h)
@@ -65,7 +65,7 @@ pub last-offset : (d : Segment) (at i : ℕ) (ss : List Segment) → AreBehind i
 last-offset d at i [] h z = absurd (z refl)
 last-offset d at i (s ∷ ss) h z = ap (λ t. offset_in t i) (last-is d s ss) ∙ sym (offset_from-last (offset_after 0 (first_run at) i) s ss d i h.1)
 
--- ---- whether the offsets go on
+-- ---- whether an offset continues the last run
 
 moving : (last : Segment) (n at k : ℕ) → last.index ≤ n → not last.moves ≡ false → last.offset ≤ at → at - last.offset ≡ n - last.index → offset_in last (n + k) ≡ at + k
 moving last n at k b m o e =
@@ -77,11 +77,11 @@ pub goes-on : (last : Segment) (n at : ℕ) (ss : List Segment) → ((i : ℕ) �
     → at - last.offset ≡ n - last.index → GoesOn ss n at true
 goes-on last n at ss f h b m o e = λ k. sym (f (n + k) (AreBehind-up n (n + k) ss h (omega arith))) ∙ moving last n at k b m o e
 
--- where there is no byte yet, the first run alone
+-- before the first byte, with the first run alone
 pub first-goes-on : (ss : List Segment) (at : ℕ) → length ss ≡ 0 → GoesOn (first_run at ∷ ss) 0 at true
 first-goes-on ss at z = λ k. let sum : at + ((0 + k) - 0) ≡ at + k = omega arith in sym (only-offset at (0 + k) ss z) ∙ sum
 
--- a run more, from the next byte on
+-- a run that begins with the next byte
 pub next-run : (ss new : List Segment) (n at : ℕ) (moves : Bool) → new ≡ ss ++ record { index = n; offset = at; moves = moves } ∷ [] → GoesOn new n at moves
 next-run ss new n at moves g = λ k.
     let s : Segment = record { index = n; offset = at; moves = moves } in
@@ -91,7 +91,7 @@ next-run ss new n at moves g = λ k.
 
 -- ---- cells
 
--- a run that begins behind the bytes changes nothing
+-- Appending a run after the bytes doesn't change their cells.
 pub cells_from-run : (k : ℕ) (bs : List ℕ) (ss : List Segment) (s : Segment) → k + length bs ≤ s.index → cells_from k bs (ss ++ s ∷ []) ≡ cells_from k bs ss
 cells_from-run k [] ss s h = refl
 cells_from-run k (b ∷ bs) ss s h =
@@ -134,7 +134,7 @@ pub escape-run : (at k : ℕ) (ds : List ℕ) → run_cells at false k ds ≡ ma
 escape-run at k [] = refl
 escape-run at k (d ∷ ds) = ap (λ cs. (d, at) ∷ cs) (escape-run at (suc k) ds)
 
--- ---- what a push leaves
+-- ---- after bytes are appended
 
 AreInRange-at : (file : List ℕ) (i n : ℕ) → i + n < 2 ^ 32 → AreInRange (cells_at file i n)
 AreInRange-at file i zero h = tt
@@ -161,7 +161,7 @@ module _ (old : List Cell) (bs ds new : List ℕ) (ss ss' : List Segment) (n at 
       let long : n ≤ length new = omega (arith, e, ap length f, length-append bs ds) in
       ((AreBehind-up n (length new) ss' b.0 long, b.1), subst AreInRange (sym pushed-text) (each_both (λ (c : Cell). c.1 < 2 ^ 32) old (run_cells at moves 0 ds) (subst AreInRange g p) q))
 
--- ---- the search for the last run
+-- ---- binary search for the last run
 
 none-above : (found n i k : ℕ) (ss : List Segment) → AreFrom k ss → i < k → offset_from found (take n ss) i ≡ found
 none-above found zero i k ss h l = refl
@@ -170,7 +170,7 @@ none-above found (suc n) i k (s ∷ ss) h l =
     let before : i < s.index = omega (arith, h.0, l) in
     ap (λ o. offset_from o (take n ss) i) (after-before found s i before) ∙ none-above found n i k ss h.1 l
 
--- from a run behind the index on, no run says its offset
+-- Runs from one that begins after index i on don't change its offset.
 cut-from : (found n m i : ℕ) (d : Segment) (ss : List Segment) → IsRising ss → i < (get_or ss m d).index → m ≤ n → m < length ss → offset_from found (take n ss) i ≡ offset_from found (take m ss) i
 cut-from found n m i d [] r h o l = absurd (omega (arith, l))
 cut-from found zero zero i d (s ∷ ss) r h o l = refl

@@ -1,4 +1,4 @@
--- Lines that stand behind an offset, in a file of so many bytes.
+-- Lines at an offset or after it, in a file of `size` bytes.
 use Rattle.std.proofs.Common.{◌≡◌, ℕ, ◌+◌, ◌≤◌, List, [], ◌∷◌, length, refl, arith, false, ◌==◌}
 use Rattle.al_scalar.specs.Block.{at_end}
 use Rattle.al_scalar.specs.Line.{Cell, Line, lines, place, start, cut, is_break, with_cell, with_return}
@@ -9,7 +9,7 @@ pub place-end : (low end : ℕ) (cs : List Cell) → AreClimbing low end cs → 
 place-end low end cs h = climbing-order (place cs end) end cs (climbing-place low end cs h).1
 
 module _ (size : ℕ) where
-  -- each line ends in the file
+  -- each line ends within the file
   abbrev pub EndIn : List Line → Type 0
   EndIn [] = Unit {0}
   EndIn (l ∷ ls) = (l.end ≤ size) × EndIn ls
@@ -30,16 +30,16 @@ module _ (size : ℕ) where
   start-in low [] h = absurd h.0
   start-in low (l ∷ ls) h = let a = place-end low l.end l.text h.0.0 in let b = h.1.0 in omega (arith, a, b)
 
-  -- they begin in the file, and stand behind where they begin
+  -- The same holds for the offset at which the lines start, which is within the file.
   pub stand-start : (low : ℕ) (ls : List Line) → Stand low ls → Stand (start ls) ls
   stand-start low [] h = h
   stand-start low (l ∷ ls) h = (((climbing-place low l.end l.text h.0.0).1, h.0.1), h.1)
 
-  -- lines that begin behind an offset stand behind it
+  -- Lines that start at an offset or after it are after it.
   pub stand-higher : (low low' : ℕ) (ls : List Line) → low' ≤ start ls → Stand low ls → Stand low' ls
   stand-higher low low' ls a h = stand-lower (start ls) low' ls a (stand-start low ls h)
 
-  -- ---- the first line and those behind it
+  -- ---- the first line, and those after it
 
   pub stand-cut : (low at : ℕ) (cs : List Cell) (l : Line) (ls : List Line) → AreClimbing at l.end cs → Stand low (l ∷ ls)
       → Stand at (cut cs l ls)
@@ -51,7 +51,7 @@ module _ (size : ℕ) where
   pub stand-at_end : (low : ℕ) (l : Line) (ls : List Line) → Stand low (l ∷ ls) → Stand low (at_end l)
   stand-at_end low l ls h = ((climbing-order low l.end l.text h.0.0, refl), (h.1.0, tt))
 
-  -- ---- the lines of bytes
+  -- ---- the lines of a file's bytes
 
   end-return : (at : ℕ) (ls : List Line) → at ≤ size → EndIn ls → EndIn (with_return at ls)
   end-return at [] a h = h

@@ -1,4 +1,5 @@
--- What is taken of lines comes from between two offsets, which leave room for it, and is UTF-8 where the file is; so is what is left.
+-- Text taken from lines is from between two offsets, at most four bytes for each of the file, and UTF-8 if the file is;
+-- so are the remaining lines.
 use Rattle.std.proofs.Common.{◌≡◌, ℕ, ◌+◌, ◌*◌, ◌<◌, ◌≤◌, List, [], ◌∷◌, ◌++◌, length, length-append, ap, subst, arith, refl, false, Result, Ok, Err}
 use Rattle.std.proofs.lemmas.Str.{IsUtf8-nil}
 use Rattle.al_base.specs.Ascii.{ascii}
@@ -18,17 +19,17 @@ pub record IsFrom (U : Type 0) (low high : ℕ) (cs : List Cell) : Type 0 where
   pub size : length cs + 4 * low ≤ 4 * high
   pub text : U → IsText cs
 
--- what is left of a line
+-- the rest of a line
 pub record IsRest (U : Type 0) (low end : ℕ) (cs : List Cell) : Type 0 where
   pub climbing : AreClimbing low end cs
   pub text : U → IsText cs
 
--- lines that are left, in a file of so many bytes
+-- the remaining lines, in a file of `size` bytes
 pub record AreLeft (size : ℕ) (U : Type 0) (low : ℕ) (ls : List Line) : Type 0 where
   pub stand : Stand size low ls
   pub utf8 : U → AreUtf8 ls
 
--- what was taken comes from between an offset and its end, behind which what is left stands; a fault lies in the file
+-- The text is from between an offset and its end, and the remaining lines follow it. A fault is in the file.
 abbrev pub AreTaken : ℕ → Type 0 → ℕ → Result Taken FaultAt → Type 0
 AreTaken size U low (Ok t) = IsFrom U low t.end t.text × AreLeft size U t.end t.left
 AreTaken size U low (Err e) = e.at ≤ size

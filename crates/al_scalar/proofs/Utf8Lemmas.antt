@@ -1,4 +1,4 @@
--- The lines of UTF-8 are UTF-8: they are cut at ASCII bytes.
+-- The lines of a UTF-8 file are UTF-8, since breaks are ASCII.
 use Rattle.std.proofs.Common.{ℕ, ◌+◌, ◌<◌, List, [], ◌∷◌, ◌++◌, length, length-append, map}
 use Rattle.std.proofs.Common.{sym, subst, arith, append_assoc, append-nil, ◌==◌}
 use Rattle.std.proofs.lemmas.Bool.Decides.{nat_tests}
@@ -8,7 +8,7 @@ use Rattle.std.proofs.lemmas.Str.{IsUtf8-append, IsUtf8-take, IsUtf8-drop, IsCha
 use Rattle.al_scalar.specs.Line.{Cell, Line, lines, is_break, with_cell, with_return, is_blank, after_blanks}
 use Rattle.al_scalar.proofs.OffsetLemmas.{choose}
 
--- ---- a text with an ASCII byte in it
+-- ---- splitting a text at an ASCII byte
 
 pub split-before : (p : List ℕ) (b : ℕ) (bs : List ℕ) → b < 128 → IsUtf8 (p ++ b ∷ bs) → IsUtf8 p × IsUtf8 (b ∷ bs)
 split-before p b bs l u =
@@ -41,7 +41,7 @@ abbrev pub AreUtf8 : List Line → Type 0
 AreUtf8 [] = Unit {0}
 AreUtf8 (l ∷ ls) = IsUtf8 (bytes_of l.text) × AreUtf8 ls
 
--- the first line goes on with what stands before it
+-- the lines are UTF-8, the first one with p in front
 abbrev GoOn : List ℕ → List Line → Type 0
 GoOn p [] = ⊥
 GoOn p (l ∷ ls) = IsUtf8 (p ++ bytes_of l.text) × AreUtf8 ls

@@ -1,4 +1,4 @@
--- Texts of scalars are UTF-8 where the lines are.
+-- The texts of scalars are UTF-8 if the lines are.
 use Rattle.std.proofs.Common.{slice_index, ◌≡◌, ℕ, zero, suc, ◌<◌, List, [], ◌∷◌, ◌++◌, drop, sym, subst, arith, true}
 use Rattle.std.specs.Prelude.{IsUtf8}
 use Rattle.std.proofs.lemmas.Bool.Decides.{nat_tests}
@@ -21,7 +21,7 @@ one-ascii b l = IsUtf8-from_ascii (b ∷ []) below
     below zero = l
     below (suc i) = omega arith
 
--- the lines behind an ASCII character
+-- the lines after an ASCII character
 first-text : (q : ℕ) (cs : List Cell) → q < 128 → begins q cs ≡ true → IsText cs → IsText (drop 1 cs)
 first-text q [] l h u = cc
 first-text q (c ∷ cs) l h u = split-behind c.0 (bytes_of cs) (grind (arith, nat_tests)) u

@@ -1,4 +1,4 @@
--- What the reader of block scalars answers, in terms of offsets.
+-- What the reader of block scalars returns, in terms of offsets.
 use Rattle.std.specs.Prelude.{◌≡◌, ℕ, List, [], ◌∷◌, ◌++◌, length, Bool, Option, Some}
 use Rattle.std.specs.Prelude.{None, Result, Ok, Err, cond, nat_le, if◌then◌else◌}
 use Rattle.al_base.specs.Ascii.{ascii}
@@ -18,7 +18,7 @@ use Rattle.al_scalar.specs.declared.block.BlockStyle.{BlockStyle}
 use Rattle.al_scalar.specs.declared.block.RowState.{RowState}
 use Rattle.al_scalar.specs.declared.block.RowsRead.{RowsRead}
 
--- a row of which only that matters which the next row asks for
+-- a row with only what the next row depends on: whether it begins with a blank, and its break
 abbrev pub row_like : Bool → List ℕ → BlockLine
 row_like spaced break = record { text = cond spaced ((ascii " ", 0) ∷ []) []; break = break }
 
@@ -26,18 +26,18 @@ abbrev pub last_row : Option LastLine → Option BlockLine
 last_row None = None
 last_row (Some l) = Some (row_like l.spaced (l.at ∷ []))
 
--- the indicators of a header read, and what comes behind them left
+-- the header's indicators were read; what follows them is still to be checked
 pub record Indicates (bytes : List ℕ) (at : ℕ) (asked : Result Header FaultAt) (h : Header) : Type 0 where
   pub given : asked ≡ block.header_end h (text_at bytes h.end)
   pub on_line : OnLine bytes at h.end
 
--- whether a header may end there: None, or the place of what stands there
+-- whether a header may end at an offset: None if it may, or the offset of what mustn't follow it
 abbrev pub EndsHeader : List ℕ → ℕ → Option ℕ → Type 0
 EndsHeader bytes at None = (h : Header) → block.header_end h (text_at bytes at) ≡ Ok h
 EndsHeader bytes at (Some place) = (h : Header) → block.header_end h (text_at bytes at)
     ≡ Err (record { code = WrongBlockHeader; at = place })
 
--- a row read, as a function of the line's text answers it
+-- the row of the line from `at` is its text from `s.from`, on the same line
 pub record RowAt (bytes : List ℕ) (at : ℕ) (asked : Option (List Cell)) (s : RowStart) : Type 0 where
   pub row : asked ≡ Some (text_at bytes s.from)
   pub blank : is_all_blank (text_at bytes at) ≡ s.is_blank
@@ -50,11 +50,11 @@ RowTo bytes at asked (Some s) = RowAt bytes at asked s
 abbrev pub RowStarts : List ℕ → ℕ → Option ℕ → Bool → Option RowStart → Type 0
 RowStarts bytes at m found r = RowTo bytes at (block.row_of m found (text_at bytes at)) r
 
--- the indent that the first line that isn't all blanks gives
+-- the content indent, from the first line that isn't all blanks
 abbrev pub indent_from : ℕ → List Cell → Option ℕ
 indent_from within text = if nat_le within (indent text) then Some (indent text) else None
 
--- the scalar from a row on: found as in `rows_at`, last and empties as in `text_after`, end as in `rows_end`
+-- The scalar from a row on: `found` is as in `rows_at`, `last` and `empties` as in `text_after`, `end` as in `rows_end`.
 abbrev pub rest : Bool → Chomping → Option ℕ → Bool → Option BlockLine → List ℕ → ℕ → List Line → Taken
 rest is_literal k m found last empties end ls =
     let rs = block.rows_at m found ls in
@@ -63,7 +63,7 @@ rest is_literal k m found last empties end ls =
 abbrev pub rest_of : BlockStyle → Bool → Option BlockLine → List ℕ → ℕ → List Line → Taken
 rest_of style found last empties end ls = rest style.literal style.chomping style.indent found last empties end ls
 
--- text read, with the rows from r on, as text read with the rows behind it
+-- After one row is read, the text so far and the rows after it give the same text as before with that row.
 abbrev pub AddsRow : Bool → List Cell → RowState → List Cell → List ℕ → List Cell → RowState → Type 0
 AddsRow is_literal old was text break new is =
     (k : Chomping) (rs : List BlockLine) →
@@ -73,11 +73,11 @@ AddsRow is_literal old was text break new is =
 abbrev pub EndsRow : RowState → List Cell → RowState → Type 0
 EndsRow was text is = last_end text was.end ≡ is.end
 
--- the row of the file's last line, from an offset on
+-- the row of the file's last line, from an offset
 abbrev pub last_line : List ℕ → ℕ → List BlockLine
 last_line bytes from = record { text = cells_between bytes from (length bytes); break = [] } ∷ []
 
--- rows read from an offset on
+-- the rows from offset `at` are read: `new` is all text, and the remaining lines begin at `r.next`
 abbrev pub ReadsRows : List ℕ → BlockStyle → List Cell → ℕ → ℕ → List Cell → RowsRead → Type 0
 ReadsRows bytes style old at end new r =
     with_text old (rest_of style style.explicit None [] end (lines_at bytes at))

@@ -1,4 +1,4 @@
--- What is read in block context or in a flow collection.
+-- What reading a scalar in a context returns, by the definition on lines.
 use Rattle.std.specs.Prelude.{◌≡◌, ℕ, List, Result, Ok, Err}
 use Rattle.al_scalar.specs.Characters.{character_at}
 use Rattle.al_scalar.specs.Places.{lines_at}

@@ -1,4 +1,4 @@
--- What folding a break in a quoted scalar gives (6.5), and where the next text begins.
+-- Folding a break in a quoted scalar (6.5), and where the next text begins.
 use Rattle.std.specs.Prelude.{ℕ, List, Bool, true, false, Option, Some, None}
 use Rattle.al_scalar.specs.Line.{Line, blanks_dropped}
 use Rattle.al_scalar.specs.Private.PlainLines.{text_lines}
@@ -7,7 +7,7 @@ use Rattle.al_scalar.specs.Private.PlainLines.{text_lines}
 abbrev pub solid_lines : List Line → List Line
 solid_lines ls = blanks_dropped (text_lines ls)
 
--- a break that is to be folded, unless it is escaped
+-- the break if it is to be folded: None if it is escaped
 abbrev pub break_of : Bool → ℕ → Option ℕ
 break_of true break = None
 break_of false break = Some break

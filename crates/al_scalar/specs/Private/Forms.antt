@@ -1,4 +1,4 @@
--- Decoded bytes with their offsets, from the form in which a text keeps them.
+-- Decoded bytes with their offsets, from the forms in which a text keeps them.
 use Rattle.std.specs.Prelude.{◌≤◌, List, [], ◌∷◌, take}
 use Rattle.al_scalar.specs.Line.{Cell}
 use Rattle.al_scalar.specs.Private.Segments.{first_run, cells_from, AreInRange}
@@ -13,7 +13,7 @@ abbrev pub cells_of : Form → List Cell
 cells_of (Short s) = short_cells s
 cells_of (Long t) = t.value
 
--- a short text has no more bytes than it has room for, and each offset fits 32 bits
+-- a short text fits its buffer, and each of its offsets fits 32 bits
 abbrev pub IsSound : Form → Type 0
 IsSound (Short s) = (s.count ≤ 26) × AreInRange (short_cells s)
 IsSound (Long t) = Unit {0}

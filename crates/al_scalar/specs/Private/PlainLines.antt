@@ -1,4 +1,4 @@
--- What the reader of plain scalars answers, in terms of offsets.
+-- What the reader of plain scalars returns, in terms of offsets.
 use Rattle.std.specs.Prelude.{◌≡◌, ◌≢◌, ◌<◌, length, slice_index}
 use Rattle.std.specs.Prelude.{ℕ, List, [], ◌∷◌, Bool, true, false, not, ◌&&◌, if◌then◌else◌, Result, Ok}
 use Rattle.al_scalar.specs.Line.{Cell, Line, after_blanks, is_empty, is_all_blank}
@@ -29,34 +29,35 @@ text_lines (l ∷ ls) =
     let more = text_lines ls in
     if is_blank_line l then more else (l ∷ ls)
 
--- the breaks of the blank lines before it
+-- the offsets of the blank lines' breaks before that line
 abbrev pub empty_ends : List Line → List ℕ
 empty_ends [] = []
 empty_ends (l ∷ ls) =
     let more = empty_ends ls in
     if is_blank_line l then l.end ∷ more else []
 
--- what a break and breaks of empty lines still give, where an empty line may have come before
+-- the line feeds or the space that are still to be added for a break and the breaks of the empty lines after it;
+-- the flag says that an empty line came before these
 abbrev pub break_left : Bool → ℕ → List ℕ → List Cell
 break_left true break ends = feeds ends
 break_left false break ends = folded_break break ends
 
--- what was read of a scalar that may end at an offset
+-- nothing more of the scalar, which ends at this offset
 abbrev pub here_at : List ℕ → ℕ → Taken
 here_at bytes end = record { text = []; end = end; left = lines_at bytes end }
 
--- what is read behind a part of the scalar that ends at an offset
+-- the rest of a scalar after a part of it that ends at this offset
 abbrev pub after_part : Context → List ℕ → ℕ → Result Taken FaultAt
 after_part p bytes end =
     let ls = lines_at bytes end in
     let below = plain_lines p (here_at bytes end) (first_end ls) [] (later ls) in
     if is_empty (after_blanks (first_text ls)) then below else Ok (here_at bytes end)
 
--- a part of a line from an offset to another one
+-- the part of a line from offset `at` ends at `end`
 abbrev pub PartTo : Context → Bool → List ℕ → ℕ → ℕ → Type 0
 PartTo p after_blank bytes at end = plain_part p after_blank (text_at bytes at) ≡ (cells_between bytes at end, text_at bytes end)
 
--- no blank and no part of a break, and no byte before which a scalar may end
+-- the byte is no blank and no part of a break, and a scalar can't end before it
 pub record IsWordByte (b : ℕ) : Type 0 where
   pub solid : 32 < b
   pub no_colon : b ≢ 58

@@ -1,4 +1,4 @@
--- What the reader of quoted scalars answers, in terms of offsets.
+-- What the reader of quoted scalars returns, in terms of offsets.
 use Rattle.std.specs.Prelude.{◌≡◌, ◌⊎◌, ℕ, ◌+◌, ◌*◌, ◌∷◌, ◌<◌, ◌≤◌, List, [], ◌++◌}
 use Rattle.std.specs.Prelude.{length, slice_index, Bool, Option, Some, None, Result, Ok, Err, take}
 use Rattle.al_base.specs.Ascii.{ascii}
@@ -17,7 +17,7 @@ use Rattle.al_scalar.specs.declared.quoted.Mark.TheVariants as mark
 use Rattle.al_scalar.specs.declared.quoted.Digits.{Digits}
 use Rattle.al_scalar.specs.declared.quoted.Digits.TheVariants as digits
 
--- what a line gives in quotes, and a scalar from behind its opening quote
+-- the part of a line in quotes, and a scalar after its opening quote
 
 abbrev pub part_in : Quotes → List Cell → Result QuotedLine FaultAt
 part_in Single = λ text. Ok (single_part text)
@@ -26,7 +26,7 @@ part_in Double = double_part
 abbrev pub quoted_in : Quotes → ℕ → List Line → Result Taken FaultAt
 quoted_in quotes quote ls = quoted_scalar (part_in quotes) quote ls
 
--- Reading on from an offset gives cells, and then what reading on from another offset gives.
+-- Reading from an offset gives these cells, and then what reading from the next offset gives.
 abbrev pub ReadsOn : Quotes → List ℕ → ℕ → List Cell → ℕ → Type 0
 ReadsOn quotes bytes at cells next = (quote : ℕ) → quoted_in quotes quote (lines_at bytes at)
     ≡ before cells (quoted_in quotes quote (lines_at bytes next))
@@ -35,11 +35,11 @@ abbrev pub IsMarkByte : Quotes → ℕ → Type 0
 IsMarkByte Single b = b ≡ ascii "'"
 IsMarkByte Double b = (b ≡ ascii "\"") ⊎ (b ≡ ascii "\\")
 
--- what ends characters that stand for themselves: a quote, a backslash, a break or the file's end
+-- where a run of literal characters ends: at a quote, a backslash, a break or the file's end
 abbrev pub EndsRun : Quotes → List ℕ → ℕ → Type 0
 EndsRun quotes bytes at = at < length bytes → IsBreakByte (slice_index bytes at) ⊎ IsMarkByte quotes (slice_index bytes at)
 
--- what is read behind the break at an offset
+-- the rest of the scalar after the break at an offset
 abbrev pub read_behind : Quotes → List ℕ → ℕ → Bool → ℕ → Result Taken FaultAt
 read_behind quotes bytes end escaped quote = quoted_lines (part_in quotes) quote (break_of escaped end) (later (lines_at bytes end))
 
@@ -55,11 +55,11 @@ GivesMark quotes bytes at mark.WrongEscape = (quote : ℕ) → quoted_in quotes 
 GivesMark quotes bytes at mark.FileEnd = (quote : ℕ) → quoted_in quotes quote (lines_at bytes at)
     ≡ Err (record { code = yaml.UnclosedQuote; at = quote })
 
--- the cells from an offset up to another one on the same line
+-- the cells from an offset to a later one on the same line
 abbrev pub Between : List ℕ → ℕ → ℕ → Type 0
 Between bytes from to = OnLine bytes from to × (text_at bytes from ≡ cells_between bytes from to ++ text_at bytes to)
 
--- the value of hexadecimal digits, after those that make value
+-- the value of hexadecimal digits that follow those of `value`
 abbrev pub hex_value : ℕ → List Cell → Option ℕ
 hex_value value [] = Some value
 hex_value value (c ∷ cs) = elim (hex_digit c.0) [ None ↦ None | Some d ↦ hex_value (16 * value + d) cs ]

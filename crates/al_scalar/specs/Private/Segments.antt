@@ -1,14 +1,14 @@
--- Decoded bytes with their offsets, from the runs that keep them.
+-- Decoded bytes with their offsets, from the runs that a text keeps.
 use Rattle.std.specs.Prelude.{◌≡◌, ℕ, suc, ◌^◌, ◌+◌, ◌-◌, ◌<◌, ◌≤◌, List, [], ◌∷◌, nat_le, Bool, true, if◌then◌else◌}
 use Rattle.std.specs.List.{AllByRecursion}
 use Rattle.al_scalar.specs.Line.{Cell}
 use Rattle.al_scalar.specs.declared.texts.Segment.{Segment}
 
--- the run that a text begins with
+-- the first run of a text
 abbrev pub first_run : ℕ → Segment
 first_run at = record { index = 0; offset = at; moves = true }
 
--- the offset of the byte at an index in one run: an escape gives one offset to all its bytes
+-- the offset of the byte at index i, by one run; all bytes of an escape have the same offset
 abbrev pub offset_in : Segment → ℕ → ℕ
 offset_in s i = if s.moves then s.offset + (i - s.index) else s.offset
 
@@ -27,28 +27,28 @@ abbrev pub cells_from : ℕ → List ℕ → List Segment → List Cell
 cells_from i [] ss = []
 cells_from i (b ∷ bs) ss = (b, offset_at ss i) ∷ cells_from (suc i) bs ss
 
--- no run begins behind an index
+-- each run begins at index n or before it
 abbrev pub AreBehind : ℕ → List Segment → Type 0
 AreBehind n = AllByRecursion (λ (s : Segment). s.index ≤ n)
 
--- each run begins at a number or behind it
+-- each run begins at index n or after it
 abbrev pub AreFrom : ℕ → List Segment → Type 0
 AreFrom n = AllByRecursion (λ (s : Segment). n ≤ s.index)
 
--- no run begins before an earlier one
+-- the runs are in ascending order of their indices
 abbrev pub IsRising : List Segment → Type 0
 IsRising [] = Unit {0}
 IsRising (s ∷ ss) = AreFrom s.index ss × IsRising ss
 
--- runs of a text of so many bytes
+-- the runs of a text of n bytes
 abbrev pub IsOrdered : ℕ → List Segment → Type 0
 IsOrdered n ss = AreBehind n ss × IsRising ss
 
--- the offsets of the bytes from an index on go up from one, or are all the same
+-- from an index on, the offsets of the bytes increase by one from `at`, or are all `at`
 abbrev pub GoesOn : List Segment → ℕ → ℕ → Bool → Type 0
 GoesOn ss index at moves = (k : ℕ) → offset_at ss (index + k) ≡ (if moves then at + k else at)
 
--- the cells of one run, from an index in it on
+-- the cells of one run, from the k-th on
 abbrev pub run_cells : ℕ → Bool → ℕ → List ℕ → List Cell
 run_cells at moves k [] = []
 run_cells at moves k (b ∷ bs) = (b, if moves then at + k else at) ∷ run_cells at moves (suc k) bs

@@ -4,11 +4,11 @@ use Rattle.al_scalar.specs.declared.texts.Segment.{Segment}
 use Rattle.al_scalar.proofs.RunLemmas.{after-behind, search-all, search-below, search-none, search-found}
 use Rattle.al_scalar.proofs.texts.Runs.run_of.Goals as goal
 
--- the rest of what a view has behind its first run
+-- the runs after the first one
 rising : (at : ℕ) (ss rest view : List Segment) → first_run at ∷ ss ≡ view → rest ≡ ss → IsRising view → IsRising rest
 rising at ss rest view v e h = let whole : IsRising (first_run at ∷ ss) = subst IsRising (sym v) h in subst IsRising (sym e) whole.1
 
--- the first run and the rest give the offsets of the view
+-- The first run and the rest give the same offsets as the view.
 viewed : (first : Segment) (at i : ℕ) (ss rest view : List Segment) → first ≡ first_run at → rest ≡ ss → first_run at ∷ ss ≡ view → offset_from (offset_after 0 first i) rest i ≡ offset_at view i
 viewed first at i ss rest view f e v =
     ap (λ s. offset_from (offset_after 0 s i) rest i) f ∙ ap (λ xs. offset_from (offset_after 0 (first_run at) i) xs i) e ∙ ap (λ xs. offset_at xs i) v

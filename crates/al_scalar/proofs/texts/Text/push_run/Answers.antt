@@ -8,7 +8,7 @@ use Rattle.al_scalar.specs.Private.Segments.{first_run, cells_from, AreInRange}
 use Rattle.al_scalar.proofs.RunLemmas.{new-run, run-between, first-goes-on, AreInRange-between}
 use Rattle.al_scalar.proofs.texts.Text.push_run.Goals as goal
 
--- the bytes of a file that were written over the first of others are the cells between
+-- The cells of bytes of the file that were written over the first bytes of a buffer.
 short-run : (file new rest : List ℕ) (from to : ℕ) → from ≤ to → to ≤ length file → new ≡ slice_range file from to
     → cells_from 0 (take (to - from) (new ++ rest)) (first_run from ∷ []) ≡ cells_between file from to
 short-run file new rest from to order inside same =
