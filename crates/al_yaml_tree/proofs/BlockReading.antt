@@ -1,4 +1,4 @@
--- Block nodes keep to what is said of nodes.
+-- Reading block nodes keeps the invariants of `NodeReading`.
 use Rattle.std.proofs.Common.{◌≡◌, ℕ, zero, suc, ◌+◌, ◌≤◌, List, [], ◌∷◌, refl, arith, Bool, true, false, not, ◌&&◌, ◌||◌, ◌==◌, nat_lt}
 use Rattle.std.proofs.Common.{if◌then◌else◌, Option, Some, None}
 use Rattle.al_base.specs.declared.codes.YamlCode.TheVariants as yaml
@@ -35,12 +35,12 @@ abbrev IsIn : File → Option ℕ → Type 0
 IsIn f None = Unit {0}
 IsIn f (Some at) = at ≤ f.size
 
--- the tab before a compact collection stands in the file
+-- the tab before a compact collection is within the file
 abbrev TabIn : File → Spot → Type 0
 TabIn f spot = IsIn f (tab_before spot)
 
--- An empty node would stand in the file, behind the offset. What is left then stands behind `back` of where it does: the same place as
--- that of the lines, but at the root, where it would stand at the file's end.
+-- An empty node would be at `low` or later, within the file. The remaining lines are then at `back` of its offset or later. `back` is the
+-- identity, except for a root, whose empty node would be at the file's end: there it is 0.
 pub record SlotIn (f : File) (back : ℕ → ℕ) (low : ℕ) (slot : Slot) : Type 0 where
   pub tab : TabIn f slot.spot
   pub behind : low ≤ slot.empty
@@ -53,7 +53,7 @@ BlockIn f node = (back : ℕ → ℕ) (slot : Slot) (depth column low : ℕ) (ls
     → Reads f (IsPart f itself back low) (node slot depth column ls)
 
 module _ (f : File) where
-  -- ---- what stands behind an indicator
+  -- ---- after an indicator
 
   tab_among-in : (low end : ℕ) (cs : List Cell) → end ≤ f.size → AreClimbing low end cs → IsIn f (tab_among cs)
   tab_among-in low end [] a h = tt
@@ -96,7 +96,7 @@ module _ {f : File} where
         (λ _. n back (record slot { spot = spot }) depth (column + characters (start left) (first_text ls)) low left
         (at_spot-in spot (spot_behind-in f (first_text rest) slot.spot (first_tab-in low rest h) s.tab) s) (left-blanks h))
 
-    -- what stands in a collection, where an empty node would stand at the lines
+    -- a node in a collection, where an empty node would be at the start of the remaining lines
     rest-lies : (slot : Slot) (depth column low : ℕ) (ls rest : List Line) → TabIn f slot.spot → slot.empty ≡ start rest
         → AreLeft f low rest → Reads f (IsNode f low) (rest_node node slot depth column ls rest)
     rest-lies slot depth column low ls rest t e h =
@@ -109,7 +109,7 @@ module _ {f : File} where
           back_to = λ end. omega arith;
         }) (left-start h)) (λ p k. part-lower (starts-behind h) k)
 
-    -- an alias, or an anchor and its node
+    -- an alias, or an anchor with its node
     property-in : (back : ℕ → ℕ) (slot : Slot) (depth column low : ℕ) (ls : List Line) → is_property (first_text ls) ≡ true
         → SlotIn f back low slot → AreLeft f low ls → Reads f (IsPart f itself back low) (block_property node slot depth column ls)
     unfolding block_property
@@ -156,7 +156,7 @@ module _ {f : File} where
   unless_tab-in (Some at) a h = reads-fault a
   unless_tab-in None a h = h
 
-  -- ---- the rest of a collection
+  -- ---- the remaining items or entries of a collection
 
   module _ {A : Type 0} {g : A → Span → Node} (from : ℕ) (done : Part A) (h : IsPart f g same from done) (column : ℕ)
       (more : Part A → List Line → Reading (Part A))

@@ -1,4 +1,4 @@
--- A character at an offset of a file lies in it.
+-- The span of a character at an offset of a file is within the file.
 use Rattle.std.proofs.Common.{ℕ, ◌≤◌, List, [], ◌∷◌, length, drop, arith, length-drop, not}
 use Rattle.std.proofs.lemmas.List.Sums.{prefix_len-le-length}
 use Rattle.al_base.specs.Positions.{begins_char}

@@ -1,4 +1,4 @@
--- The tree of a file keeps to what is said of nodes, and its first fault lies in the file.
+-- Reading a document keeps the invariants of `NodeReading`.
 use Rattle.std.proofs.Common.{◌≡◌, ℕ, suc, ◌+◌, ◌≤◌, List, [], ◌∷◌, ◌++◌, length, drop, arith, true, ◌||◌, nat_lt}
 use Rattle.std.proofs.Common.{Option, Some, None, Result}
 use Rattle.std.proofs.Math.Utf8.{encode}
@@ -29,7 +29,7 @@ use Rattle.al_scalar.proofs.Standing.{Stand, stand-lower, lines-end}
 climb-from : (low at : ℕ) (bs : List ℕ) (size : ℕ) → low ≤ at → at + length bs ≤ size → Stand size low (lines at bs)
 climb-from low at bs size a b = stand-lower size at low (lines at bs) a (lines-climb at bs, lines-end size at bs b)
 
--- a byte order mark has three bytes
+-- A byte order mark has three bytes.
 mark-long : (bs : List ℕ) → has_mark bs ≡ true → 3 + length (drop 3 bs) ≤ length bs
 mark-long [] e = absurd cc
 mark-long (a ∷ []) e = absurd cc
@@ -41,7 +41,7 @@ file-stands bs =
     choose (Stand (length bs) 0) (has_mark bs) (λ e. climb-from 0 3 (drop 3 bs) (length bs) (omega arith) (mark-long bs e))
     (λ _. climb-from 0 0 bs (length bs) (omega arith) (omega arith))
 
--- and it is a character
+-- They are the encoding of a character.
 mark-front : (bs : List ℕ) → has_mark bs ≡ true → bs ≡ encode 65279 ++ drop 3 bs
 unfolding encode
 mark-front [] e = absurd cc
@@ -57,7 +57,7 @@ file-utf8 bs u = choose AreUtf8 (has_mark bs) (λ e. lines-utf8 3 (drop 3 bs) (m
 
 -- ---- the document
 
--- what is left behind a root stands in the file
+-- the lines after a root are within the file
 abbrev to_start : ℕ → ℕ
 to_start end = 0
 
@@ -110,7 +110,7 @@ limited-in size P (Some e) r a h = a
 abbrev pub file_of : List ℕ → Type 0 → File
 file_of bytes plain = record { size = length bytes; is_utf8 = IsUtf8 bytes; is_plain = plain }
 
--- what holds of each node of the tree, whose order is known where no alias is read
+-- The tree's nodes are within the file, and in order if no alias is read; so is its fault.
 pub document-lies : (bytes : List ℕ) (plain : Type 0) → (plain → HasNoAlias bytes)
     → Answers (length bytes) (Lies (file_of bytes plain) 0 (length bytes)) (document_of bytes)
 document-lies bytes plain none =

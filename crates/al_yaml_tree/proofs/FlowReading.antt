@@ -1,4 +1,4 @@
--- Flow collections keep to what is said of nodes.
+-- Reading flow collections keeps the invariants of `NodeReading`.
 use Rattle.std.proofs.Common.{◌≡◌, inl, inr, ℕ, zero, suc, ◌+◌, ◌<◌, ◌≤◌, List, refl, arith, Bool, true, false, not, ◌&&◌, ◌||◌}
 use Rattle.std.proofs.Common.{Option, Some, None}
 use Rattle.al_base.specs.declared.codes.YamlCode.TheVariants as yaml
@@ -30,7 +30,7 @@ abbrev pub CollectionIn : File → CollectionReader → Type 0
 CollectionIn f collection = (depth low : ℕ) (ls : List Line) → is_flow_start (first_text ls) ≡ true → AreLeft f low ls
     → Reads f (IsNode f low) (collection depth ls)
 
--- an empty node would stand at the offset
+-- an empty node would be at this offset
 abbrev EmptyAt : ℕ → Option ℕ → Type 0
 EmptyAt low None = Unit {0}
 EmptyAt low (Some at) = low ≡ at
@@ -57,18 +57,18 @@ late-in : (f : File) (low : ℕ) (ls : List Line) (r : ScalarRead) (o : Option (
 late-in f low ls r (Some left) a h = h
 late-in f low ls r None a h = choose (Answers f.size (OptionLeft f low)) (is_late_colon r.left) (λ _. a) (λ _. tt)
 
--- the key that a scalar is
+-- a scalar read as a key
 abbrev key_with : List Line → ScalarRead → Option (List Line) → Reading FlowKey
 key_with ls r colon = starting_scalar (start ls) (gives (record { scalar = r; behind = colon }))
 
 module _ {f : File} where
-  -- ---- behind an item
+  -- ---- after an item
 
   closed-in : (q low : ℕ) (ls : List Line) → q < 128 → begins q (first_text ls) ≡ true → AreLeft f low ls
       → (low ≤ start ls + 1) × AreLeft f (start ls + 1) (behind 1 ls)
   closed-in q low ls a e h = let b = starts-behind h in (omega (arith, b), left-first q a e h)
 
-  -- items or entries behind those done, given what reads further ones
+  -- items or entries after those that are done, given the property of what reads the remaining ones
   module _ {A : Type 0} {g : A → Span → Node} (grows : Grows f g) (from low : ℕ) (done : A) (d : IsDone f g from low done) where
     closed-part : (end : ℕ) (ls : List Line) → (low ≤ end) × AreLeft f end ls → IsPart f g same from (part done end ls)
     closed-part end ls h = whole-part (grows from low end done h.0 (is-inside h.1) d) h.1
@@ -114,7 +114,7 @@ module _ {f : File} where
       (λ _. reads-by (is_flow_start (first_text ls)) (λ e. reads-then {g = λ (x : Part Node). fails yaml.WrongKey (start ls)} (c depth low ls e h) (λ x k. reads-fault a))
       (λ _. reads-then (reads-given (IsRead f low) (scalar_at flow ls) (scalar-read flow low ls h)) (λ r k. colon_key-in low ls r a k))))
 
-  -- ---- nodes in a collection, given what reads one
+  -- ---- nodes in a collection, given the property of what reads a node
 
   module _ (node : FlowReader) (n : FlowIn f node) where
     flow_value-in : (slot : FlowSlot) (depth low : ℕ) (ls : List Line) → SlotIn f low slot → AreLeft f low ls

@@ -1,4 +1,4 @@
--- Keys of block mappings keep to what is said of scalars, and the lines behind their colon to what is said of lines.
+-- Reading the keys of block mappings: a key is within the file, and the lines after its colon follow it.
 use Rattle.std.proofs.Common.{◌≡◌, ℕ, ◌+◌, ◌≤◌, List, [], ◌∷◌, refl, arith, true, ◌||◌, Option, Some, None, Result, Ok, Err}
 use Rattle.std.proofs.lemmas.Str.{IsUtf8-nil}
 use Rattle.al_base.specs.declared.codes.YamlCode.{YamlCode}
@@ -47,7 +47,7 @@ abbrev pub OptionKeyIn : File → ℕ → Option Key → Type 0
 OptionKeyIn f low None = Unit {0}
 OptionKeyIn f low (Some key) = KeyIn f low key
 
--- the file as if the line were its last
+-- the file as it would be if this line were the last
 abbrev up_to : File → Line → File
 up_to f l = record { size = l.end; is_utf8 = f.is_utf8; is_plain = f.is_plain }
 
@@ -92,7 +92,7 @@ module _ {f : File} where
   pub key_at-in : (low : ℕ) (ls : List Line) → AreLeft f low ls → Answers f.size (OptionKeyIn f low) (key_here ls)
   key_at-in low ls h = key_from-in f low (key_scalar ls) (key_scalar-in low ls h)
 
-  -- ---- lines that begin no entry
+  -- ---- lines that don't begin an entry
 
   refused-in : {A : Type 0} {P : A → Type 0} (code : List Line → YamlCode) (collection : CollectionReader) → CollectionIn f collection
       → (depth low : ℕ) (ls : List Line) → is_flow_start (first_text ls) ≡ true → AreLeft f low ls
@@ -113,7 +113,7 @@ module _ {f : File} where
       (reads-given (IsRead f low) (scalar_at (block 0) ls) (scalar-read (block 0) low ls h)) (λ r k. reads-fault a))
       (λ _. reads-fault a))))
 
-  -- ---- the key of a further entry
+  -- ---- the key of the next entry
 
   found_key-in : (low : ℕ) (ls : List Line) (o : Option Key) → start ls ≤ f.size → OptionKeyIn f low o → Reads f (KeyIn f low) (found_key ls o)
   found_key-in low ls None a h = reads-fault a

@@ -1,4 +1,4 @@
--- What holds of each node in a node, and of nodes that lie in a file in any order.
+-- Properties of each node in a node, and nodes within a file in any order.
 use Rattle.std.proofs.Common.{ℕ, ◌≤◌, arith}
 use Rattle.al_base.specs.Spans.{LiesIn}
 use Rattle.al_base.specs.declared.faults.Span.{Span}
@@ -10,7 +10,7 @@ use Rattle.al_yaml_tree.specs.Node.{Node, Nodes, Entries, scalar, sequence, mapp
 use Rattle.al_yaml_tree.specs.Node.{Each, EachItem, EachEntry}
 use Rattle.al_yaml_tree.specs.Spans.{IsInside, AreFrom, IsLaidIn, IsLaid, LiesAround}
 
--- ---- one more behind others
+-- ---- appending an item or an entry
 
 module _ (P : Scalar → Span → Type 0) (around : Span → Type 0 → Type 0) where
   pub each-item : (ns : Nodes) (n : Node) → EachItem P around ns → Each P around n → EachItem P around (with_item ns n)
@@ -22,7 +22,7 @@ module _ (P : Scalar → Span → Type 0) (around : Span → Type 0 → Type 0) 
   each-entry no_entries k v h x y = (x, y, tt)
   each-entry (entry l w es) k v h x y = (h.0, h.1, each-entry es k v h.2 x y)
 
--- ---- what follows of each
+-- ---- implications
 
 module _ (P Q : Scalar → Span → Type 0) (outer inner : Span → Type 0 → Type 0) (of_scalar : (s : Scalar) (at : Span) → P s at → Q s at)
     (of_collection : (A B : Type 0) (at : Span) → (A → B) → outer at A → inner at B) where
@@ -40,7 +40,7 @@ module _ (P Q : Scalar → Span → Type 0) (outer inner : Span → Type 0 → T
     entries-follow no_entries h = tt
     entries-follow (entry k v es) h = (each-follows k h.0, each-follows v h.1, entries-follow es h.2)
 
--- ---- nodes that lie in a file
+-- ---- nodes within a file
 
 abbrev pub Laid : ℕ → ℕ → Scalar → Span → Type 0
 Laid most size s at = LiesIn size at × IsPlaced most s at
@@ -59,7 +59,7 @@ pub laid-from : (size : ℕ) (n : Node) → IsLaidIn size size n → AreFrom siz
 laid-from size = each-follows (Laid size size) (λ s at. IsFrom size s) (LiesAround size) (λ at inner. inner)
     (λ s at h. from-placed size size s at (omega arith) h.0.inside h.1) (λ A B at f h. f h.1)
 
--- ---- a file of more bytes
+-- ---- a larger file
 
 lies-wider : (size size' : ℕ) (at : Span) → size ≤ size' → LiesIn size at → LiesIn size' at
 lies-wider size size' at a h = let b = h.inside in record { ordered = h.ordered; inside = omega (arith, a, b) }

@@ -1,4 +1,4 @@
--- The tree of a file lies in it, in order where no alias is read, and its texts are UTF-8; its first fault lies in the file too.
+-- The tree of a file is within it, and in order if no alias is read; its texts are UTF-8; its first fault is within the file, too.
 use Rattle.std.proofs.Common.{◌≡◌, refl, sym, ap, ◌∙◌, subst, ℕ, zero, suc, ◌+◌, ◌<◌, ◌≤◌, List, [], ◌∷◌, length, take, arith}
 use Rattle.std.proofs.Common.{Bool, true, false, Option, Some, None, option_map, cond, Result, Ok, Err, IfOk, IsUtf8}
 use Rattle.std.specs.Prelude.{IfNone}
@@ -29,7 +29,7 @@ use Rattle.al_yaml_tree.proofs.NodeReading.{Lies}
 use Rattle.al_yaml_tree.proofs.ScalarSpans.{Answers}
 use Rattle.al_yaml_tree.proofs.SpanLemmas.{placed-more}
 
--- ---- faults of bytes
+-- ---- faults of the bytes
 
 abbrev IsBelow : ℕ → Option ℕ → Type 0
 IsBelow high None = Unit {0}
@@ -40,7 +40,7 @@ valid-below bs zero = omega arith
 valid-below bs (suc n) =
     choose (λ k. k ≤ suc n) (is_utf8 (take (suc n) bs)) (λ _. omega arith) (λ _. omega (arith, valid-below bs n))
 
--- bytes that aren't UTF-8 go on behind their longest prefix that is
+-- The longest UTF-8 prefix of bytes that aren't UTF-8 is shorter than them.
 valid-short : (bs : List ℕ) → is_utf8 bs ≡ false → utf8_valid_len bs < length bs
 unfolding utf8_valid_len
 valid-short [] e = absurd (false≢true (sym e ∙ is_utf8-from_IsUtf8 [] IsUtf8-nil))
@@ -61,13 +61,13 @@ unless-fault : {A : Type 0} (o : Option FaultAt) (r : Result A FaultAt) (P : A �
 unless-fault None r P h = h
 unless-fault (Some f) r P h = tt
 
--- bytes that were found to have no fault
+-- bytes in which no fault was found
 pub no-fault : (bs : List ℕ) (o : Option YamlFault) → ((f : YamlFault) → o ≡ Some f → ⊥) → IfNone o (IsUtf8 bs) → IsUtf8 bs
 no-fault bs None n h = h
 no-fault bs (Some f) n h = absurd (n f refl)
 
 module _ (bytes : List ℕ) where
-  -- a node of the tree, where its order is known if so much holds
+  -- the property of a tree's root, whose nodes are in order if `plain` holds
   abbrev pub LiesIf : Type 0 → Node → Type 0
   LiesIf plain = Lies (file_of bytes plain) 0 (length bytes)
 
@@ -79,7 +79,7 @@ module _ (bytes : List ℕ) where
 
   -- ---- the file
 
-  -- a fault in the file, which may be UTF-8
+  -- the root, or a fault within the file, which is UTF-8 if `good` holds
   abbrev LiesAmong : Bool → Result Node FaultAt → Type 0
   LiesAmong good (Ok root) = LiesIf ⊥ root
   LiesAmong good (Err f) = LiesIn (length bytes) (cond good (character_at bytes f.at) (record { start = f.at; end = f.at + 1 }))
@@ -108,7 +108,7 @@ module _ (bytes : List ℕ) where
       whole (Ok root) h = h.laid
       whole (Err f) h = h
 
-  -- ---- its tree
+  -- ---- the tree of the file
 
   tree-lies : (plain : Type 0) → (plain → HasNoAlias bytes) → IfOk (tree_of bytes) (LiesIf plain)
   tree-lies plain none = unless-fault (byte_fault bytes) (document_of bytes) (LiesIf plain) (document-ok plain none)
@@ -126,7 +126,7 @@ module _ (bytes : List ℕ) where
   tree-laid a = tree-follows (IsLaid (length bytes))
       (λ root h. laid-wider (length bytes) (length bytes) 1048576 (length bytes) a (omega arith) root h.laid)
 
-  -- where no alias is read each node lies in the one around it, and behind those before it
+  -- Without aliases, each node is within the one around it, and after those before it.
 
   pub root-within : length bytes ≤ 1048576 → (root : Node) → LiesIf (Unit {0}) root → IsPlacedIn largest_file 0 (length bytes) root
   root-within a root h = placed-more (length bytes) 1048576 a 0 (length bytes) 0 (length bytes) root (omega arith) (omega arith) (h.placed tt)
@@ -137,7 +137,7 @@ module _ (bytes : List ℕ) where
   pub tree-within : length bytes ≤ 1048576 → HasNoAlias bytes → IfOk (tree_of bytes) (IsPlacedIn largest_file 0 (length bytes))
   tree-within a u = IfOk-weaker (tree_of bytes) (LiesIf (Unit {0})) _ (root-within a) (tree-lies (Unit {0}) (λ _. u))
 
-  -- the texts are UTF-8
+  -- The texts are UTF-8.
   pub tree-text : IfOk (tree_of bytes) HasTexts
   tree-text =
       choose (λ (o : Option FaultAt). IfOk (unless_fault o (document_of bytes)) HasTexts) (is_utf8 bytes)

@@ -1,4 +1,4 @@
--- What is left of a file's lines as it is read: it stands behind an offset, and is UTF-8 where the file is; a fault lies in the file.
+-- The remaining lines of a file while it is read: they are at an offset or after it, and UTF-8 if the file is; a fault is within the file.
 use Rattle.std.proofs.Common.{◌≡◌, ℕ, ◌+◌, ◌<◌, ◌≤◌, List, [], ◌∷◌, length, drop, arith, Bool, true, false}
 use Rattle.std.proofs.Common.{Option, Some, None, Result, Ok, Err, IfOk}
 use Rattle.std.proofs.lemmas.Str.{IsUtf8-nil}
@@ -26,7 +26,7 @@ use Rattle.al_yaml_tree.specs.Spans.{IsPlacedIn}
 use Rattle.al_yaml_tree.proofs.ScalarSpans.{Answers, ReadIn, scalar-in}
 use Rattle.al_yaml_tree.proofs.TextLines.{dash-text, bracket-text, spaces-text, climbing-spaces, property-text, marker-text}
 
--- A file of so many bytes, that it is UTF-8, and that no alias is read in it.
+-- A file's size, whether it is UTF-8, and whether no alias is read in it.
 pub record File : Type 1 where
   pub size : ℕ
   pub is_utf8 : Type 0
@@ -36,7 +36,7 @@ pub record AreLeft (f : File) (low : ℕ) (ls : List Line) : Type 0 where
   pub stand : Stand f.size low ls
   pub utf8 : f.is_utf8 → AreUtf8 ls
 
--- a scalar that was read behind an offset, and the lines left behind it
+-- a scalar at `low` or later, and the remaining lines after it
 pub record IsRead (f : File) (low : ℕ) (r : ScalarRead) : Type 0 where
   pub placed : IsPlacedIn f.size low r.span.end (scalar_node r)
   pub text : f.is_utf8 → IsUtf8 (text_of r.scalar)
@@ -76,7 +76,7 @@ module _ {f : File} where
   pub is-inside : {low : ℕ} {ls : List Line} → AreLeft f low ls → low ≤ f.size
   is-inside h = omega (arith, starts-behind h, starts-in h)
 
-  -- ---- the first line, cut, and those behind it
+  -- ---- the first line cut, and the lines after it
 
   left-cut : {low at : ℕ} {l : Line} {ls : List Line} (cs : List Cell) → AreClimbing at l.end cs → (f.is_utf8 → IsText cs)
       → AreLeft f low (l ∷ ls) → AreLeft f at (cut cs l ls)
@@ -90,7 +90,7 @@ module _ {f : File} where
       let a = climbing-order low l.end l.text h.stand.0.0 in
       left-lower (omega (arith, a)) (record { stand = stand-later f.size low l ls e h.stand; utf8 = λ u. (h.utf8 u).1 })
 
-  -- ---- what is dropped
+  -- ---- after blanks, spaces or characters are dropped
 
   pub left-whole : {low : ℕ} {ls : List Line} → AreLeft f low ls → AreLeft f low (whole_lines ls)
   left-whole {ls = []} h = h
@@ -135,7 +135,7 @@ module _ {f : File} where
   pub left-name : {low : ℕ} {ls : List Line} → is_property (first_text ls) ≡ true → AreLeft f low ls → AreLeft f low (behind_name ls)
   left-name {low} {ls} e h = left-behind (length (anchor_cells (drop 1 (first_text ls))) + 1) (property-text (first_text ls) e) h
 
-  -- behind a colon, which blanks may stand before
+  -- after a colon, which may follow blanks
   pub left-colon : {low : ℕ} {ls : List Line} → begins (ascii ":") (after_blanks (first_text ls)) ≡ true → AreLeft f low ls
       → AreLeft f low (behind 1 (blanks_dropped ls))
   left-colon {ls = []} e h = h
@@ -172,7 +172,7 @@ module _ {f : File} where
   line_ended-in low ls h =
       choose (Answers f.size (AreLeft f low)) (ends_line (first_text ls)) (λ _. left-whole h) (λ _. starts-in (left-blanks h))
 
-  -- ---- the start of a document, and its end
+  -- ---- the start and the end of a document
 
   first_line-in : (low : ℕ) (ls : List Line) → AreLeft f low ls → Answers f.size (AreLeft f low) (first_line ls)
   first_line-in low ls h =

@@ -1,5 +1,5 @@
--- What is said of each value that a reading gives: nodes lie in the file, with texts that are UTF-8 where the file is, and in order where
--- no alias is read; so do the nodes of anchors, but for the order. Its fault and its starts lie in the file.
+-- The invariants of reading nodes. Nodes are within the file and in order if no alias is read, and their texts are UTF-8 if the file is.
+-- So are the nodes of anchors, except for the order. Faults and starts are within the file.
 use Rattle.std.proofs.Common.{◌≡◌, ℕ, ◌≤◌, List, [], ◌∷◌, ◌++◌, refl, arith, Bool, true, false, nat_lt, if◌then◌else◌}
 use Rattle.std.proofs.Common.{Option, Some, None, Result, Ok, Err, IsUtf8}
 use Rattle.std.specs.Str.{bytes_eq}
@@ -27,7 +27,7 @@ use Rattle.al_yaml_tree.proofs.SpanLemmas.{wider_in, items-wider, entries-wider,
 
 -- ---- nodes
 
--- the text of a scalar is UTF-8, and so is all in a collection
+-- a scalar's text is UTF-8; a collection only passes this on to its parts
 
 abbrev pub Text : Scalar → Span → Type 0
 Text s at = IsUtf8 (text_of s)
@@ -35,18 +35,18 @@ Text s at = IsUtf8 (text_of s)
 abbrev pub Inner : Span → Type 0 → Type 0
 Inner at inner = inner
 
--- a node that was read from an offset to another
+-- a node that was read from offset `low` to `end`
 pub record Lies (f : File) (low end : ℕ) (n : Node) : Type 0 where
   pub laid : IsLaidIn f.size f.size n
   pub texts : f.is_utf8 → HasTexts n
   pub placed : f.is_plain → IsPlacedIn f.size low end n
 
--- what was read of a collection from an offset to another
+-- the part of a collection that was read from offset `from` to `end`
 pub record IsDone (f : File) {A : Type 0} (g : A → Span → Node) (from end : ℕ) (x : A) : Type 0 where
   pub ordered : from ≤ end
   pub lies : Lies f from end (g x (span from end))
 
--- it may end later
+-- the end may be moved to a later offset
 abbrev pub Grows : {A : Type 0} → File → (A → Span → Node) → Type 0
 Grows {A} f g = (from low end : ℕ) (x : A) → low ≤ end → end ≤ f.size → IsDone f g from low x → IsDone f g from end x
 
@@ -65,7 +65,7 @@ module _ {f : File} where
     placed = λ p. h.placed;
   }
 
-  -- it ends behind the offset that it was read from
+  -- A scalar ends at `low` or later.
   pub read-ends : {low : ℕ} {r : ScalarRead} → IsRead f low r → low ≤ r.span.end
   read-ends h = let a = h.placed.0.from in let b = h.placed.0.ordered in omega (arith, a, b)
 
@@ -117,9 +117,9 @@ module _ {f : File} where
   entries-grow from low end es a b h = entries-done from end es (omega (arith, a, h.ordered)) b h.lies.laid.1 h.lies.texts
       (λ p. entries-wider f.size f.size (omega arith) from low end es a (h.lies.placed p).1)
 
--- ---- what was read, and the lines left
+-- ---- a value, and the remaining lines
 
--- A value from an offset to its end. The lines left stand behind the end, or behind what `back` makes of it.
+-- A value from `low` to its end, with the remaining lines at `back` of this end or later.
 pub record IsPart (f : File) {A : Type 0} (g : A → Span → Node) (back : ℕ → ℕ) (low : ℕ) (p : Part A) : Type 0 where
   pub done : IsDone f g low p.end p.value
   pub inside : p.end ≤ f.size
@@ -159,7 +159,8 @@ module _ {f : File} where
   pub part-back : (back : ℕ → ℕ) {low : ℕ} {p : Part Node} → back p.end ≤ p.end → IsNode f low p → IsPart f itself back low p
   part-back back a h = record { done = h.done; inside = h.inside; left = left-lower a h.left }
 
-  -- one more behind others
+  -- ---- appending an item or an entry
+
 
   pub item-done : {from low : ℕ} {ns : Nodes} {p : Part Node} → IsDone f sequence from low ns → IsNode f low p
       → IsDone f sequence from p.end (with_item ns p.value)
@@ -209,7 +210,7 @@ abbrev FoundIn : File → Option Anchor → Type 0
 FoundIn f None = Unit {0}
 FoundIn f (Some a) = IsLaidIn f.size f.size a.node × (f.is_utf8 → HasTexts a.node)
 
--- whatever the name, this holds of the node of the anchor that is found
+-- the node of each known anchor has the properties, in any order
 abbrev AreKnown : File → KnownAnchors → Type 0
 AreKnown f known = (name : List ℕ) → FoundIn f (known name)
 
@@ -218,7 +219,7 @@ pub record Keeps (f : File) {A : Type 0} (P : A → Type 0) (o : Outcome A) : Ty
   pub starts : StartsIn f.size o.starts
   pub knows : AreKnown f o.known
 
--- Where no alias may be read, nothing is said of what reads one.
+-- The reading's results have the properties. If the file must have no alias, only for readings without one.
 pub record Reads (f : File) {A : Type 0} (P : A → Type 0) (r : Reading A) : Type 0 where
   pub run : (known : KnownAnchors) → AreKnown f known → (f.is_plain → HaveNoAlias (r known).starts) → Keeps f P (r known)
 
@@ -229,7 +230,7 @@ later-in : (f : File) (a : Anchor) (o : Option Anchor) → FoundIn f (Some a) �
 later-in f a None h k = h
 later-in f a (Some b) h k = choose (FoundIn f) (nat_lt a.at b.at) (λ _. k) (λ _. h)
 
--- nothing is known of where the node of an alias lies
+-- the node of an alias, which may be at any offset
 abbrev pub LiesAnywhere : File → Node → Type 0
 LiesAnywhere f n = (low end : ℕ) → Lies f low end n
 

@@ -1,4 +1,4 @@
--- A scalar lies between the offset behind which the lines stand and the lines left behind it; a fault of it lies in the file.
+-- A scalar is after the offset at which its lines begin and before the remaining lines; its fault is within the file.
 use Rattle.std.proofs.Common.{ℕ, ◌≤◌, List, arith, Result, Ok, Err}
 use Rattle.al_scalar.specs.Line.{Line, start}
 use Rattle.al_scalar.specs.Plain.{Context}
@@ -9,13 +9,13 @@ use Rattle.al_scalar.proofs.Standing.{Stand, start-in}
 use Rattle.al_yaml_tree.specs.Node.{scalar_node}
 use Rattle.al_yaml_tree.specs.Spans.{IsPlacedIn}
 
--- a scalar lies behind an offset, its text lies in it, and the lines left stand behind it
+-- the scalar is at `low` or later, its text within its span, and the remaining lines follow it
 pub record ReadIn (size low : ℕ) (r : ScalarRead) : Type 0 where
   pub placed : IsPlacedIn size low r.span.end (scalar_node r)
   pub left : Stand size r.span.end r.left
 
 module _ (size : ℕ) where
-  -- an answer keeps to P; a fault lies in the file
+  -- P holds for a value; a fault is within the file
   abbrev pub Answers : {A : Type 0} → (A → Type 0) → Result A FaultAt → Type 0
   Answers P (Ok x) = P x
   Answers P (Err e) = e.at ≤ size

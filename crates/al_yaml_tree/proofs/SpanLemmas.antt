@@ -1,11 +1,11 @@
--- How nodes lie that are read one behind another.
+-- The spans of nodes that are read one after another.
 use Rattle.std.proofs.Common.{ℕ, ◌≤◌, arith}
 use Rattle.al_base.specs.declared.faults.Span.{Span}
 use Rattle.al_scalar.proofs.PlacedLemmas.{placed-wider}
 use Rattle.al_yaml_tree.specs.Node.{Node, Nodes, Entries, scalar, sequence, mapping, no_nodes, item, no_entries, entry, span_of, with_item, with_entry}
 use Rattle.al_yaml_tree.specs.Spans.{IsBetween, IsPlacedIn, ArePlacedIn, EntriesPlacedIn}
 
--- ---- wider bounds, in a file of more bytes
+-- ---- wider bounds, in a larger file
 
 module _ (size more : ℕ) (grown : size ≤ more) where
   between-wider : (low high low' high' : ℕ) (at : Span) → low' ≤ low → high ≤ high' → IsBetween low high at → IsBetween low' high' at
@@ -38,7 +38,7 @@ module _ (size : ℕ) where
   pub wider_in : (low high low' high' : ℕ) (n : Node) → low' ≤ low → high ≤ high' → IsPlacedIn size low high n → IsPlacedIn size low' high' n
   wider_in = placed-more size size (omega arith)
 
-  -- ---- one more behind those that end before an offset
+  -- ---- a node appended to those that end before an offset
 
   pub behind-item : (low at high : ℕ) (ns : Nodes) (n : Node) → low ≤ at → at ≤ high → ArePlacedIn size low at ns → IsPlacedIn size at high n → ArePlacedIn size low high (with_item ns n)
   behind-item low at high no_nodes n a b h x = (wider_in at high low high n a (omega arith) x, tt)

@@ -1,4 +1,4 @@
--- Lines are cut where characters begin: what is left of cells that climb, and that are UTF-8, is so too.
+-- Lines are cut at character boundaries: the rest of a UTF-8 line is UTF-8.
 use Rattle.std.proofs.Common.{◌≡◌, ℕ, suc, ◌+◌, ◌<◌, List, [], ◌∷◌, ◌++◌, length, drop, sym, subst, arith, append_assoc, true, ◌||◌, ◌==◌}
 use Rattle.std.proofs.lemmas.Bool.{and_parts}
 use Rattle.std.proofs.lemmas.Bool.Decides.{nat_tests}
@@ -13,7 +13,7 @@ use Rattle.al_scalar.proofs.Utf8Lemmas.{bytes_of, split-before, split-behind}
 use Rattle.al_scalar.proofs.Utf8Texts.{IsText}
 use Rattle.al_yaml_tree.specs.Content.{is_dash, is_flow_start, is_property, anchor_cells}
 
--- ---- behind one character, and behind spaces
+-- ---- after one character, and after spaces
 
 pub dash-text : (cs : List Cell) → is_dash cs ≡ true → IsText cs → IsText (drop 1 cs)
 dash-text [] e u = u
@@ -35,7 +35,7 @@ climbing-spaces low end (c ∷ cs) h =
 
 -- ---- colons
 
--- a colon is no blank
+-- A colon is no blank.
 pub solid-colon : (cs : List Cell) → begins (ascii ":") cs ≡ true → begins (ascii ":") (after_blanks cs) ≡ true
 solid-colon [] e = e
 solid-colon (c ∷ cs) e = choose (λ (t : List Cell). begins (ascii ":") t ≡ true) (is_blank c) (λ b. grind (arith, nat_tests)) (λ _. e)

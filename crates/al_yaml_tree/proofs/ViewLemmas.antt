@@ -1,4 +1,4 @@
--- How a node is seen, by what it is.
+-- The view of a node, by its kind.
 use Rattle.std.proofs.Common.{◌≡◌, List, [], ◌∷◌, refl, ap, map, sym, ◌∙◌, Vec}
 use Rattle.std.specs.declared.alloc.Global.{Global}
 use Rattle.al_base.specs.declared.faults.Span.{Span}
@@ -25,7 +25,7 @@ kind_view = fold-Kind (Span → tree.Node) (tree.Node × tree.Node) tree.Node ki
 pub view_kind : (n : Node) → view n ≡ kind_view n.kind n.span
 view_kind n = fold_out-Node (Span → tree.Node) (tree.Node × tree.Node) tree.Node kind_step entry_step node_step n
 
--- an entry is its key and its value
+-- The view of an entry is a pair of a key and a value.
 pub entry_parts : (e : Entry) → entry_view e ≡ (view e.key, view e.value)
 entry_parts e = fold_out-Entry (Span → tree.Node) (tree.Node × tree.Node) tree.Node kind_step entry_step node_step e
 

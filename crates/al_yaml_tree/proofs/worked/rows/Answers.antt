@@ -1,4 +1,3 @@
--- Each row is computed.
 use Rattle.std.proofs.Common.{refl}
 use Rattle.std.proofs.Math.Utf8.{encode}
 use Rattle.std.specs.Str.{is_utf8, chars}
