@@ -1,4 +1,4 @@
--- A `${{` begins at a dollar sign.
+-- Each `${{` begins with a dollar sign, so a search may begin at the first one.
 use Rattle.std.proofs.Common.{◌≡◌, ℕ, zero, suc, ◌-◌, ◌≤◌, List, [], ◌∷◌, drop, take, take_all, length, Bool, true, false, ◌||◌, ◌==◌, refl, sym, arith, ◌∙◌, ap, length-drop}
 use Rattle.std.specs.Prelude.{codes, nat_eq}
 use Rattle.std.specs.List.{starts_with}
@@ -7,7 +7,7 @@ use Rattle.std.proofs.lemmas.List.{drop_all}
 use Rattle.al_tree.specs.Faults.{has_chunk}
 use Rattle.memchr.specs.Find.{NoneBefore, Nowhere, Passes, is_byte}
 
--- another byte begins none
+-- Another byte begins none.
 other : (b : ℕ) (bs : List ℕ) → (b == 36 ≡ true → ⊥) → has_chunk (b ∷ bs) ≡ has_chunk bs
 other b bs differs = by-byte (36 == b) refl
   where
@@ -15,7 +15,7 @@ other b bs differs = by-byte (36 == b) refl
     by-byte true e = absurd (differs (grind (arith, nat_tests, e)))
     by-byte false e = rw e refl
 
--- what has no dollar sign up to a place has a chunk where the rest has one
+-- If no dollar sign is before an offset, the bytes have a chunk exactly if those from it do.
 skipped : (bs : List ℕ) (at : ℕ) → at ≤ length bs → Nowhere (Passes (is_byte 36) bs) 0 at → has_chunk bs ≡ has_chunk (drop at bs)
 skipped bs zero h none = refl
 skipped [] (suc at) h none = absurd (omega (arith, h))
@@ -25,7 +25,7 @@ skipped (b ∷ bs) (suc at) h none =
 pub no_dollar : (bs : List ℕ) → Nowhere (Passes (is_byte 36) bs) 0 (length bs) → has_chunk bs ≡ false
 no_dollar bs none = skipped bs (length bs) (omega arith) none ∙ ap has_chunk (drop_all (length bs) bs (omega arith))
 
--- from the first dollar sign on
+-- the bytes from the first dollar sign
 module _ (bs : List ℕ) (at : ℕ) (first : NoneBefore (Passes (is_byte 36) bs) 0 (length bs) at) where
   rest : take (length bs - at) (drop at bs) ≡ drop at bs
   rest = take_all (length bs - at) (drop at bs) (omega (arith, length-drop at bs))

@@ -1,4 +1,4 @@
--- What holds of a node and of all that is in it holds of what stands under its keys.
+-- A property of a node and of all nodes in it holds for the nodes, texts and lists that keys lead to.
 use Rattle.std.specs.Prelude.{ℕ, ◌+◌, All, Bool, true, false, not, List, [], ◌∷◌, Option, Some, None, IfSome, find, map, option_map}
 use Rattle.std.proofs.Common.{arith, subst}
 use Rattle.std.proofs.lemmas.List.{get_or-map, length-map}
@@ -20,13 +20,13 @@ use Rattle.al_tree.proofs.Lists.{firsts_kept}
 abbrev pub Pair : (Node → Type 0) → Node × Node → Type 0
 Pair P e = P e.0 × P e.1
 
--- a property of nodes that the nodes in a node have, and what it says of a scalar with its span
+-- P passes from a node to the nodes directly in it, and gives Q for a scalar with its span
 pub record AreKept (P : Node → Type 0) (Q : Scalar × Span → Type 0) : Type 0 where
   pub items : (ns : Nodes) (at : Span) → P (sequence ns at) → AllByRecursion P (nodes ns)
   pub pairs : (es : Entries) (at : Span) → P (mapping es at) → AllByRecursion (Pair P) (entries es)
   pub scalars : (s : Scalar) (at : Span) → P (scalar s at) → Q (s, at)
 
--- what holds throughout a node is one
+-- `Each` is such a property.
 module _ (S : Scalar → Span → Type 0) (around : Span → Type 0 → Type 0) where
   items_each : (ns : Nodes) → EachItem S around ns → AllByRecursion (Each S around) (nodes ns)
   items_each no_nodes h = tt
@@ -118,11 +118,11 @@ module _ {P : Node → Type 0} {Q : Scalar × Span → Type 0} (kept : AreKept P
   pub texts_kept : (k : List ℕ) (n : Node) → P n → AllByRecursion Q (texts_at k n)
   texts_kept k n p = map_or P Q texts_in texts_in_kept (value_at k n) (value_kept k n p)
 
--- what holds of each element holds of those that are numbered
+-- numbering the elements of a list
 pub numbered_kept : {X : Type 0} (P : X → Type 0) (i : ℕ) (xs : List X) → AllByRecursion P xs → AllByRecursion (λ s. P s.1) (enumerate_from i xs)
 numbered_kept P i [] p = tt
 numbered_kept P i (x ∷ xs) p = (p.0, numbered_kept P (i + 1) xs p.1)
 
--- what holds of all that some items are seen as holds of the items
+-- A property of all mapped elements, as one of the elements.
 pub all_seen : {X Y : Type 0} (f : X → Y) (P : Y → Type 0) (xs : List X) → All P (map f xs) → All (λ x. P (f x)) xs
 all_seen f P xs h i d within = subst P (get_or-map f xs i d (f d) within) (h i (f d) (omega (arith, length-map xs f, within)))

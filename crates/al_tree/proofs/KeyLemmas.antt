@@ -1,4 +1,4 @@
--- The keys of the first entries of a mapping, and where keys and names first stand.
+-- The keys of a mapping's first entries, and the first occurrences of keys and names.
 use Rattle.std.proofs.Common.{◌≡◌, Bor, ◌≤◌, ◌<◌, ℕ, ◌+◌, zero, suc, Bool, true, false, List, [], ◌∷◌, length, map, take, get_or, refl, sym, ap, arith, add-one, ◌∙◌, ◌||◌}
 use Rattle.std.specs.Prelude.{Option, Some, None, is_none, nat_eq, not, option_map, if◌then◌else◌}
 use Rattle.std.specs.List.{list_any}
@@ -37,7 +37,7 @@ here_or_behind : (here : Bool) (n : ℕ) (place : Option ℕ) (behind : Bool) �
 here_or_behind true n place behind e = lt-ltb 0 (suc n) (omega arith)
 here_or_behind false n place behind e = before_more n place ∙ e
 
--- a text stands among the first ones where its place is before their end
+-- A text is among the first n exactly if its first occurrence is before n.
 pub placed_before : (ts : List (List ℕ)) (n : ℕ) (t : List ℕ) → is_before n (text_place ts t) ≡ among (take n ts) t
 placed_before ts zero t = before_none (text_place ts t)
 placed_before [] (suc n) t = refl
@@ -45,7 +45,7 @@ placed_before (u ∷ us) (suc n) t =
     here_or_behind (bytes_eq u t) n (text_place us t) (among (take n us) t) (placed_before us n t)
     ∙ ap (λ b. b || among (take n us) t) (bytes_swap u t)
 
--- ---- where a name first stands in a list
+-- ---- the first occurrence of a name in a list
 
 same_more : (k i : ℕ) → nat_eq (k + 1) (suc i) ≡ nat_eq k i
 same_more k i = ap (λ j. nat_eq j (suc i)) (add-one k) ∙ eqb-suc-suc k i
@@ -64,7 +64,7 @@ module _ {A : Type 0} (test : A → Bool) where
   first_behind false (Some k) None i e = same_more k i ∙ e
   first_behind false (Some k) (Some j) i e = same_more k i ∙ e
 
-  -- what passes a test is the first that does where none before it does
+  -- An element that passes the test is the first one exactly if none before it passes.
   pub stands_first : (xs : List A) (i : ℕ) (d : A) → i < length xs → test (get_or xs i d) ≡ true →
       option_eq nat_eq (first_at test xs) (Some i) ≡ is_none (first_at test (take i xs))
   stands_first [] i d within passes = absurd (omega (arith, within))
@@ -72,7 +72,7 @@ module _ {A : Type 0} (test : A → Bool) where
   stands_first (y ∷ ys) (suc i) d within passes =
       first_behind (test y) (first_at test ys) (first_at test (take i ys)) i (stands_first ys i d (omega (arith, within)) passes)
 
-  -- and none does where no element passes
+  -- There is no first element exactly if none passes.
   none_step : (here : Bool) (behind : Option ℕ) (more : Bool) → is_none behind ≡ not more →
       is_none (if here then Some 0 else option_map (λ k. k + 1) behind) ≡ not (here || more)
   none_step true behind more e = refl
@@ -83,7 +83,7 @@ module _ {A : Type 0} (test : A → Bool) where
   none_at [] = refl
   none_at (x ∷ xs) = none_step (test x) (first_at test xs) (list_any test xs) (none_at xs)
 
--- a text that isn't the first of its text stands before itself
+-- The text at i isn't the first of its text exactly if its first occurrence is before i.
 repeats_before : (ts : List (List ℕ)) (i : ℕ) (t : List ℕ) → i < length ts → get_or ts i [] ≡ t → not (option_eq nat_eq (text_place ts t) (Some i)) ≡ is_before i (text_place ts t)
 repeats_before ts i t within is =
     let test : List ℕ → Bool = λ u. bytes_eq u t in
@@ -93,7 +93,7 @@ repeats_before ts i t within is =
 same_itself : (n : List ℕ) → same_name n n ≡ true
 same_itself n = (bytes_eq-Decides (lower_case n) (lower_case n)).1 refl
 
--- a name is told to stand first where no earlier one is the same
+-- A name is the first one exactly if no earlier name is the same.
 pub told_first : {X Y : Type 0} (g : Y → List ℕ) (f : X → Y) (xs : List X) (i : ℕ) (n : List ℕ) (first : ℕ → Bool) →
     TellsFirsts (name_place (map g (map f xs))) (map g (map f xs)) first → i < length xs → get_or (map g (map f xs)) i [] ≡ n →
     first i ≡ is_none (name_place (map g (map f (take i xs))) n)
@@ -106,7 +106,7 @@ told_first g f xs i n first told within is =
 
 -- ---- the keys of a mapping
 
--- what an index of few keys tells, and one of many
+-- an index without positions, for few keys, and one with positions
 pub few_keys : (es : Bor (List Entry)) → IsIndexOf (record { entries = es; positions = None }) es.now
 unfolding has_first repeats
 few_keys es = (refl, refl, λ i l. refl)
@@ -128,14 +128,14 @@ many_keys es p is first =
           ap not (first i inside) ∙ repeats_before ks i k inside refl ∙ sym (ap (λ f. is_before i (f k)) is)),
     )
 
--- what a set of few keys holds
+-- the keys that a set without positions holds
 pub few_hold : (s : KeySet) (k : List ℕ) → s.index.now.positions ≡ None →
     among (keys_in (map entry_view (take s.count s.index.now.entries.now))) k ≡ holds s k
 unfolding has_first
 few_hold s k few =
     sym (ap (λ o. option_map_or (λ p. is_before s.count (text_position p k)) o (among (keys_in (map entry_view (take s.count s.index.now.entries.now))) k)) few)
 
--- all keys of a mapping
+-- a set of all keys of a mapping
 pub all_keys : (x : KeyIndex) (s : KeySet) (es : List Entry) (n : ℕ) → IsIndexOf x es → holds s ≡ has_first x n → length es ≤ n →
     holds s ≡ among (keys_in (map entry_view es))
 all_keys x s es n index first all =

@@ -1,4 +1,4 @@
--- What holds of the first entries of each key, and lists up to an item and behind it.
+-- What loops over lists have done after one more item, and properties of the first entries of each key.
 use Rattle.std.specs.Prelude.{ℕ, Bool, List, [], ◌∷◌, ◌++◌, ◌+◌, ◌<◌, length, if◌then◌else◌}
 use Rattle.std.proofs.Common.{◌≡◌, ap, append_assoc, map, cond, add-one, drop, drop-cons, get_or, subst, sym, take, ◌∙◌}
 use Rattle.std.proofs.lemmas.List.{flat_map_more, get_or-map, length-map, map-append, map_more}
@@ -15,7 +15,7 @@ firsts_kept is_in P seen (e ∷ es) p =
     each_both P (cond (is_in seen (key_of e)) [] (e ∷ [])) (firsts_by is_in (seen ++ key_of e ∷ []) es)
     (each_either P (is_in seen (key_of e)) [] (e ∷ []) tt (p.0, tt)) (firsts_kept is_in P (seen ++ key_of e ∷ []) es p.1)
 
--- the items behind those that were read, and the texts of those that were, one further
+-- the remaining items, and the texts of the items before them, after one more item
 pub left_next : {X Y : Type 0} (f : X → Y) (xs : List X) (i : ℕ) (x : X) → i < length xs → x ≡ get_or xs i x
     → map f (drop i xs) ≡ f x ∷ map f (drop (i + 1) xs)
 left_next f xs i x within is = ap (map f) (rw add-one (drop-cons xs i x within) ∙ ap (λ y. y ∷ drop (i + 1) xs) (sym is))
@@ -27,7 +27,7 @@ texts_next g f xs i x within is =
     ∙ map-append g (map f (take i xs)) (f (get_or xs i x) ∷ [])
     ∙ ap (λ y. map g (map f (take i xs)) ++ g (f y) ∷ []) (sym is)
 
--- the text of the item at a place
+-- the text of the item at index i
 pub text_there : {X Y : Type 0} (g : Y → List ℕ) (f : X → Y) (ys xs : List X) (i : ℕ) (x : X) → ys ≡ xs → i < length xs → x ≡ get_or xs i x
     → get_or (map g (map f ys)) i [] ≡ g (f x)
 text_there g f ys xs i x same within is =
@@ -35,7 +35,7 @@ text_there g f ys xs i x same within is =
     ∙ get_or-map g (map f xs) i (f x) [] (subst (λ n. i < n) (sym (length-map xs f)) within)
     ∙ ap g (get_or-map f xs i x (f x) within ∙ ap f (sym is))
 
--- the first entries so far, and those among what is left, one further
+-- the first entries so far, and those of the remaining items, after one more item
 module _ (is_in : List (List ℕ) → List ℕ → Bool) {X : Type 0} (f : X → Node × Node) (xs : List X) (i : ℕ) (x : X) where
   pub firsts_next : (found more : List (Node × Node)) (repeats : Bool) → i < length xs → x ≡ get_or xs i x
       → repeats ≡ is_in (keys_in (map f (take i xs))) (key_of (f x)) → more ≡ found ++ (if repeats then [] else f x ∷ [])
@@ -50,7 +50,7 @@ module _ (is_in : List (List ℕ) → List ℕ → Bool) {X : Type 0} (f : X →
       ∙ append_assoc found new (firsts_by is_in (before ++ key_of (f x) ∷ []) left)
       ∙ ap (λ es. found ++ firsts_by is_in before es) (sym (left_next f xs i x within is))
 
--- what the items that were read gave, and what one more gives
+-- what is appended for the items so far, after one more item
 pub gave_next : {X Y Z : Type 0} (v : X → Y) (f : Y → List Z) (xs : List X) (i : ℕ) (d : X) (old mid new : List Z) → i < length xs
     → mid ≡ old ++ flat_map f (map v (take i xs)) → new ≡ mid ++ f (v (get_or xs i d)) → new ≡ old ++ flat_map f (map v (take (i + 1) xs))
 gave_next v f xs i d old mid new within before here =

@@ -1,4 +1,4 @@
--- Each fault of a node lies in the file that the node lies in.
+-- The faults of a node are within the file if the node is.
 use Rattle.std.specs.Prelude.{ℕ, ◌≤◌, ◌&&◌, Bool, true, false, not, List, [], ◌∷◌, ◌++◌, codes, All, Option, Some, None, option_and_then}
 use Rattle.std.proofs.Common.{cond, arith}
 use Rattle.std.proofs.lemmas.List.Elements.{All-append, All-from_recursion}

@@ -1,4 +1,4 @@
--- The faults of a node that the program holds as a sequence or a mapping.
+-- The faults of a node that is a sequence or a mapping in the code's view.
 use Rattle.std.proofs.Common.{◌≡◌, ℕ, Bool, List, [], ap, map, ◌∙◌, Vec}
 use Rattle.std.specs.declared.alloc.Global.{Global}
 use Rattle.std.specs.Option.{option_map_or}

@@ -1,4 +1,4 @@
--- What the place of a node demands.
+-- The faults of a node, given what its place demands.
 use Rattle.std.specs.Prelude.{List, []}
 use Rattle.std.specs.Option.{option_map_or}
 use Rattle.al_base.specs.declared.faults.Fault.{Fault}
@@ -11,11 +11,11 @@ use Rattle.al_base.specs.Names.{among}
 use Rattle.al_tree.specs.Table.{rule}
 use Rattle.al_tree.specs.declared.check.Demand as rust
 
--- the faults of a node at a place that demands this
+-- the faults of a node at a place with this demand
 abbrev pub demanded_faults : rust.Demand → Node → List Fault
 demanded_faults demand n = faults demand.shape demand.takes_null demand.above.now n
 
--- of a mapping with these entries there
+-- the faults of a mapping with these entries there
 abbrev pub mapping_faults : rust.Demand → Span → List (Node × Node) → List Fault
 mapping_faults demand at es =
     let all = among (keys_in es) in

@@ -6,7 +6,7 @@ use Rattle.al_base.specs.Names.{among}
 use Rattle.al_tree.specs.Table.{keys_view}
 use Rattle.al_tree.proofs.check.+checks.Given as goal
 
--- what was added, and the faults of what is left, are the faults of all
+-- the faults so far, followed by those of the remaining items, are the faults of all items
 abbrev pub invariant-check_items-loop-node : goal.invariant-check_items-loop-node
 invariant-check_items-loop-node l =
     l.faults ++ items_faults l.shape l.above (nodes_of (map view (drop l.node-index l.nodes)))

@@ -6,7 +6,7 @@ use Rattle.al_base.specs.Names.{among}
 use Rattle.al_tree.specs.Values.{firsts_by}
 use Rattle.al_tree.proofs.values.first_members.Given as goal
 
--- the members so far, and the first entries among those that are left
+-- the members found so far, followed by those of the rest with new keys, are the first ones of each key
 abbrev pub invariant-loop-i : goal.invariant-loop-i
 invariant-loop-i l =
     map member_of l.firsts.items ++ firsts_by among (keys_in (map entry_view (take l.i l.entries))) (map entry_view (drop l.i l.entries))
