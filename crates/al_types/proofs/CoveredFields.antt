@@ -1,4 +1,4 @@
--- That what all fields of an object have in common covers what each property finds: for the law `all_fields_cover_each`.
+-- What all fields of an object have in common covers the type of each property, for the law `all_fields_cover_each`.
 use Rattle.std.proofs.Common.{◌≡◌, ℕ, List, Bool, true, false, sym, ap, ◌∙◌, Option, Some, None, [], ◌∷◌}
 use Rattle.std.specs.Prelude.{if◌then◌else◌}
 use Rattle.al_base.specs.Names.{same_name}
@@ -6,7 +6,7 @@ use Rattle.al_types.specs.Types.{Type', Fields, Optional, Absent, Present, commo
 use Rattle.al_types.specs.Types.{object_with, option_of, optional, or_else, property_in}
 use Rattle.al_types.proofs.FuseLaws.{optional_assoc, optional_same, optional_turned}
 
--- what is in the first of two is in both
+-- If b covers a, then b fused with any type does.
 first_covered : (a b c : Optional) → fuse_optional a b ≡ b → fuse_optional a (fuse_optional b c) ≡ fuse_optional b c
 first_covered a b c e = sym (optional_assoc a b c) ∙ ap (λ o. fuse_optional o c) e
 

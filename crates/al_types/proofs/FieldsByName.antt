@@ -1,4 +1,4 @@
--- Fields that are found by their names: the type at the place of a name.
+-- The types of fields by their names.
 use Rattle.std.proofs.Common.{◌≡◌, ◌+◌, ℕ, List, [], ◌∷◌, map, arith, refl, sym, ap, ◌∙◌, Bool, true, false, Option, Some, None, option_map}
 use Rattle.std.proofs.lemmas.Grind.{common_steps}
 use Rattle.std.proofs.lemmas.Option.{slice_get-map}
@@ -21,14 +21,14 @@ none_left : (o : Option ℕ) → None ≡ option_and_then (λ i. slice_get no_ty
 none_left None = refl
 none_left (Some i) = refl
 
--- a name finds the type at its place
+-- The type of a name is the one at the name's position.
 pub found_by_name : (ns : List (List ℕ)) (ts : List Type') (n : List ℕ) →
     field_at n (zip ns ts) ≡ option_and_then (λ i. slice_get ts i) (name_place ns n)
 found_by_name [] ts n = refl
 found_by_name (m ∷ ns) [] n = none_left (name_place (m ∷ ns) n)
 found_by_name (m ∷ ns) (t ∷ ts) n = found_step (same_name m n) t ts _ (name_place ns n) (found_by_name ns ts n)
 
--- a name finds the type that stands at its place
+-- the same for the items that the types are of
 pub found_there : {X : Type 0} (g : X → Type') (ns : List (List ℕ)) (xs : List X) (n : List ℕ) (i : ℕ) → name_place ns n ≡ Some i →
     option_map g (slice_get xs i) ≡ field_at n (zip ns (map g xs))
 found_there g ns xs n i e =

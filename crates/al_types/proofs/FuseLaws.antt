@@ -1,5 +1,5 @@
--- What fusing keeps to: which of several types are fused first does not count, nor in which order they stand, nor how often one does,
--- nor an object without fields.
+-- Fusing types is associative, commutative and idempotent,
+-- and an object without fields is neutral.
 use Rattle.std.proofs.Common.{◌≡◌, List, [], ◌∷◌, ◌++◌, refl, sym, ap, ◌∙◌, Option, Some, None}
 use Rattle.al_types.specs.Types.{Type', Any, ArrayOf, ObjectOf, Optional, Absent, Present}
 use Rattle.al_types.specs.Types.{Parts, fuse_optional, fuse_type, option_of, optional, parts_with}
@@ -7,7 +7,7 @@ use Rattle.al_types.specs.Fused.{fuse_parts, fused_with, fuse_all}
 use Rattle.al_types.specs.TypeParts.{common_type}
 
 mutual
-  -- which two of three types are fused first does not count
+  -- associative
   pub fuse_assoc : (a b c : Type') → fuse_type (fuse_type a b) c ≡ fuse_type a (fuse_type b c)
   fuse_assoc Any Any Any = refl
   fuse_assoc (ArrayOf a) (ArrayOf b) (ArrayOf c) = ap ArrayOf (fuse_assoc a b c)
@@ -24,7 +24,7 @@ mutual
   optional_assoc (Present a) (Present b) (Present c) = ap Present (fuse_assoc a b c)
 
 mutual
-  -- nor in which order two stand
+  -- commutative
   pub fuse_turned : (a b : Type') → fuse_type a b ≡ fuse_type b a
   fuse_turned Any Any = refl
   fuse_turned (ArrayOf a) (ArrayOf b) = ap ArrayOf (fuse_turned a b)
@@ -40,7 +40,7 @@ mutual
   optional_turned (Present a) (Present b) = ap Present (fuse_turned a b)
 
 mutual
-  -- nor whether one stands twice
+  -- idempotent
   pub fuse_same : (a : Type') → fuse_type a a ≡ a
   fuse_same (ArrayOf a) = ap ArrayOf (fuse_same a)
   fuse_same (ObjectOf f r x) = λ d. ObjectOf (λ n. optional_same (f n) d) (optional_same r d) (optional_same x d)
@@ -54,7 +54,7 @@ pub nothing_last : (o : Optional) → fuse_optional o Absent ≡ o
 nothing_last Absent = refl
 nothing_last (Present t) = refl
 
--- ---- of three the last two change places, of four the middle ones
+-- ---- swapping the last two of three types, and the middle two of four
 
 pub last_turned : (a b c : Optional) → fuse_optional (fuse_optional a b) c ≡ fuse_optional (fuse_optional a c) b
 last_turned a b c = optional_assoc a b c ∙ ap (fuse_optional a) (optional_turned b c) ∙ sym (optional_assoc a c b)
@@ -65,7 +65,7 @@ middle_turned a b c d =
     sym (optional_assoc (fuse_optional a b) c d) ∙ ap (λ x. fuse_optional x d) (last_turned a b c)
     ∙ optional_assoc (fuse_optional a c) b d
 
--- ---- types that may be there
+-- ---- types that may be absent
 
 pub option_back : (o : Optional) → optional (option_of o) ≡ o
 option_back Absent = refl
@@ -80,18 +80,18 @@ common_optional None b = refl
 common_optional (Some t) None = refl
 common_optional (Some t) (Some u) = refl
 
--- likewise of what the code has in hand
+-- the same for the options in the code
 pub common_more : (t o u : Option Type') (b : Optional) → t ≡ common_type o u → u ≡ option_of b → optional t ≡ fuse_optional (optional o) b
 common_more t o u b e is =
     ap optional e ∙ common_optional o u ∙ ap (λ x. fuse_optional (optional o) (optional x)) is ∙ ap (fuse_optional (optional o)) (option_back b)
 
 -- ---- objects
 
--- .. or after it
+-- An object without fields is neutral.
 pub empty_last : (p : Parts) → fuse_parts p (parts_with [] Absent) ≡ p
 empty_last p = λ d. (λ n. nothing_last (p.0 n) d, nothing_last p.1 d, nothing_last p.2 d)
 
--- which two of three objects are fused first does not count
+-- Fusing objects is associative.
 pub parts_assoc : (p q r : Parts) → fuse_parts (fuse_parts p q) r ≡ fuse_parts p (fuse_parts q r)
 parts_assoc p q r = λ d. (λ n. optional_assoc (p.0 n) (q.0 n) (r.0 n) d, optional_assoc p.1 q.1 r.1 d, optional_assoc p.2 q.2 r.2 d)
 
@@ -101,7 +101,7 @@ with_more : (p : Parts) (ps qs : List Parts) → fused_with p (ps ++ qs) ≡ fus
 with_more p [] qs = refl
 with_more p (r ∷ ps) qs = with_more (fuse_parts p r) ps qs
 
--- objects and one more
+-- appending an object
 pub fused_one_more : (ps : List Parts) (q : Parts) → fuse_all (ps ++ q ∷ []) ≡ fuse_parts (fuse_all ps) q
 fused_one_more ps q = with_more (parts_with [] Absent) ps (q ∷ [])
 
@@ -109,7 +109,7 @@ with_before : (p q : Parts) (qs : List Parts) → fused_with (fuse_parts p q) qs
 with_before p q [] = refl
 with_before p q (r ∷ qs) = ap (λ x. fused_with x qs) (parts_assoc p q r) ∙ with_before p (fuse_parts q r) qs
 
--- some objects and others: those fused, with these fused
+-- Two lists of objects can be fused each on its own.
 pub fused_both : (ps qs : List Parts) → fuse_all (ps ++ qs) ≡ fuse_parts (fuse_all ps) (fuse_all qs)
 fused_both ps qs =
     with_more (parts_with [] Absent) ps qs ∙ ap (λ x. fused_with x qs) (sym (empty_last (fuse_all ps)))

@@ -1,4 +1,4 @@
--- Fields put to others: what a name finds among them then, and whether names are distinct.
+-- Adding fields to others: the type of each name afterwards, and whether the names are distinct.
 use Rattle.std.proofs.Common.{◌≡◌, ℕ, List, [], ◌∷◌, refl, sym, ap, ◌∙◌, Bool, true, false, Option, Some, None}
 use Rattle.std.specs.Prelude.{if◌then◌else◌, is_some, not, ◌&&◌}
 use Rattle.std.specs.Option.{option_or}
@@ -12,7 +12,7 @@ use Rattle.al_types.specs.TypeParts.{common_type}
 use Rattle.al_types.proofs.FuseLaws.{common_optional, last_turned, optional_assoc}
 use Rattle.al_types.proofs.JoinedFields.{first_apart, has_field_at, has_same, nothing_at, others_apart, same_turned}
 
--- a type where a name is the one that is asked for
+-- the type of the added field, if it has the name that is looked up
 abbrev when : Bool → Type' → Option Type'
 when b t = if b then Some t else None
 
@@ -20,9 +20,9 @@ common_none : (o : Option Type') → common_type o None ≡ o
 common_none None = refl
 common_none (Some t) = refl
 
--- ---- one that is put
+-- ---- adding one field
 
--- among the fields it has the name of the first ..
+-- the added field has the name of the first one
 here_step : (there here : Bool) (t u : Type') (o : Option Type') → there ≡ here →
     (if there then Some (fuse_type t u) else o) ≡ common_type (if there then Some t else o) (when here u)
 here_step true true t u o e = refl
@@ -30,7 +30,7 @@ here_step false false t u o e = sym (common_none o)
 here_step true false t u o e = absurd cc
 here_step false true t u o e = absurd cc
 
--- .. or it has not
+-- the added field has another name
 apart_step : (there here : Bool) (t u : Type') (o more : Option Type') → (there ≡ true → here ≡ false) → more ≡ common_type o (when here u) →
     (if there then Some t else more) ≡ common_type (if there then Some t else o) (when here u)
 apart_step false here t u o more h e = e
@@ -61,12 +61,12 @@ common_step true q p qs more e = last_turned (Present q.1) (Present p.1) (common
 common_step false q p qs more e =
     ap (fuse_optional (Present q.1)) e ∙ sym (optional_assoc (Present q.1) (common_in qs) (Present p.1))
 
--- what all have in common then
+-- what all fields have in common afterwards
 pub common_put : (ts : List TypedName) (p : TypedName) → common_in (put_or_fuse ts p) ≡ fuse_optional (common_in ts) (Present p.1)
 common_put [] p = refl
 common_put (q ∷ qs) p = common_step (same_name q.0 p.0) q p qs (put_or_fuse qs p) (common_put qs p)
 
--- ---- many that are put, whose names are distinct
+-- ---- adding several fields with distinct names
 
 all_step : (b : Bool) (t : Type') (o more : Option Type') → (b ≡ true → more ≡ None) →
     common_type (common_type o (when b t)) more ≡ common_type o (if b then Some t else more)
@@ -83,19 +83,19 @@ found_all ts (p ∷ us) n d =
     ∙ all_step (same_name p.0 n) p.1 (field_at n ts) (field_at n us)
     (λ s. nothing_at n us (has_same n p.0 us (sym ((bytes_decides _ _).0 s)) ∙ none))
 
--- what each name finds
+-- the types of all names
 abbrev pub found_in : Fields → List ℕ → Optional
 found_in fs = λ n. optional (field_at n fs)
 
 abbrev pub found_in_either : Fields → Fields → List ℕ → Optional
 found_in_either fs gs = λ n. fuse_optional (found_in fs n) (found_in gs n)
 
--- a name finds what the types of both have in common
+-- The type of a name is what its types in both have in common.
 pub found_in_both : (ts us : List TypedName) → are_distinct us ≡ true → found_in (put_all put_or_fuse ts us) ≡ found_in_either ts us
 found_in_both ts us e =
     λ d n. (ap optional (found_all ts us n e) ∙ common_optional (field_at n ts) (field_at n us)) d
 
--- ---- of equal names the first
+-- ---- only the first of equal names
 
 or_none : (o : Option Type') → option_or o None ≡ o
 or_none None = refl
@@ -141,7 +141,7 @@ found_first ts (p ∷ us) n =
     found_first (put_new ts p) us n ∙ ap (λ o. option_or o (field_at n us)) (found_new ts p n)
     ∙ or_step (same_name p.0 n) p.1 (field_at n ts) (field_at n us)
 
--- a name finds what it found among all
+-- The first fields of each name give the same types as all fields.
 pub firsts_found : (us : List TypedName) (n : List ℕ) → field_at n (firsts us) ≡ field_at n us
 firsts_found us n = found_first [] us n
 

@@ -1,4 +1,4 @@
--- The fields of two objects as those of one: of each name, and what all have in common.
+-- The fields of two objects as those of one: the type of each name, and what all fields have in common.
 use Rattle.std.proofs.Common.{◌≡◌, ℕ, List, [], ◌∷◌, ◌++◌, refl, sym, ap, ◌∙◌, Bool, true, false, ◌||◌, Option, Some, None, arith}
 use Rattle.std.proofs.Math.Bool.{or_assoc}
 use Rattle.std.proofs.lemmas.Bool.Decides.{Decides-like, nat_tests, same_from_decides}
@@ -15,7 +15,7 @@ use Rattle.al_types.specs.FusedFields.{are_distinct, both, fuse_fields, missing_
 use Rattle.al_types.specs.TypeParts.{common_type}
 use Rattle.al_types.proofs.FuseLaws.{common_optional, last_turned, middle_turned, optional_assoc, optional_same}
 
--- ---- names that are the same
+-- ---- equal names
 
 pub same_turned : (m n : List ℕ) → same_name m n ≡ same_name n m
 same_turned m n =
@@ -43,11 +43,11 @@ none_at : (o : Option Type') → is_some o ≡ false → o ≡ None
 none_at None e = refl
 none_at (Some t) e = absurd cc
 
--- a name that no field has finds none
+-- A name without a field has no type.
 pub nothing_at : (n : List ℕ) (fs : Fields) → has_field n fs ≡ false → field_at n fs ≡ None
 nothing_at n fs h = none_at (field_at n fs) (has_field_at n fs ∙ h)
 
--- ---- the type of a field of both
+-- ---- the type of a name in both
 
 join_step : (b : Bool) (t : Type') (o more : Option Type') →
     (if b then Some t else option_or o more) ≡ option_or (if b then Some t else o) more
@@ -82,7 +82,7 @@ at_if : (has : Bool) (n m : List ℕ) (t : Type') (fs : Fields) →
 at_if true n m t fs = refl
 at_if false n m t fs = refl
 
--- a field that the first fields have not
+-- the name has no field among the first ones
 at_missing : (n : List ℕ) (fs gs : Fields) → has_field n fs ≡ false → field_at n (missing_fields fs gs) ≡ field_at n gs
 at_missing n fs [] h = refl
 at_missing n fs (g ∷ gs) h =
@@ -109,7 +109,7 @@ common_joined [] gs = refl
 common_joined (f ∷ fs) gs =
     ap (fuse_optional (Present f.1)) (common_joined fs gs) ∙ sym (optional_assoc (Present f.1) (common_in fs) (common_in gs))
 
--- a type that may be there with a type, where that counts
+-- the optional type, fused with another type if the flag is true
 abbrev with_if : Bool → Optional → Type' → Optional
 with_if b o u = if b then fuse_optional o (Present u) else o
 
@@ -117,7 +117,7 @@ fuse_none : (fs : Fields) → fuse_fields fs [] ≡ fs
 fuse_none [] = refl
 fuse_none (f ∷ fs) = ap (λ l. f ∷ l) (fuse_none fs)
 
--- the field has the name itself: it takes the type in, once if others of the name do too
+-- This field has the name, and is fused with the type; if later ones have it as well, fusing twice is fusing once.
 here_step : (more : Bool) (t u : Type') (o : Optional) →
     fuse_optional (Present (fuse_type t u)) (with_if more o u) ≡ fuse_optional (fuse_optional (Present t) o) (Present u)
 here_step false t u o = last_turned (Present t) (Present u) o
@@ -136,7 +136,7 @@ taken_step true more t u found o e =
     here_step more t u o ∙ ap (λ p. fuse_optional (fuse_optional (Present (with_other t p)) o) (Present u)) (sym (e refl))
 taken_step false more t u found o e = there_step more (with_other t found) u o
 
--- fields that are fused with others and one before them, whose name these have not
+-- fusing fields with others, where the first of these has a name that the rest doesn't have
 common_taken : (fs gs : Fields) (m : List ℕ) (u : Type') → has_field m gs ≡ false →
     common_in (fuse_fields fs ((m, u) ∷ gs)) ≡ with_if (has_field m fs) (common_in (fuse_fields fs gs)) u
 common_taken [] gs m u h = refl
@@ -154,7 +154,7 @@ missing_taken false o m u more whole e =
     sym (optional_assoc o (Present u) (common_in more)) ∙ last_turned o (Present u) (common_in more)
     ∙ ap (λ x. fuse_optional x (Present u)) e
 
--- of distinct fields the first is none of the others, and these are distinct
+-- The first of distinct fields isn't among the rest, and the rest is distinct.
 pub first_apart : (has rest : Bool) → not has && rest ≡ true → has ≡ false
 first_apart true rest e = absurd cc
 first_apart false rest e = refl
@@ -175,7 +175,7 @@ fused_missing fs (g ∷ gs) d =
 common_both : (fs gs : Fields) → are_distinct gs ≡ true → common_in (both fs gs) ≡ fuse_optional (common_in fs) (common_in gs)
 common_both fs gs d = common_joined (fuse_fields fs gs) (missing_fields fs gs) ∙ fused_missing fs gs d
 
--- the fields of both, and the type of others where either has one, are what both objects have in common
+-- The fields of both, with the fused type of other fields, are what both objects have in common.
 pub joined_parts : (fs gs : Fields) (r s : Optional) → are_distinct gs ≡ true →
     parts_with (both fs gs) (fuse_optional r s) ≡ fuse_parts (parts_with fs r) (parts_with gs s)
 joined_parts fs gs r s d =
@@ -184,7 +184,7 @@ joined_parts fs gs r s d =
     ap (λ x. fuse_optional x (fuse_optional r s)) (common_both fs gs d) ∙ middle_turned (common_in fs) (common_in gs) r s in
     λ i. (λ n. (ap optional (at_both n fs gs) ∙ common_optional (field_at n fs) (field_at n gs)) i, fuse_optional r s, all i)
 
--- ---- whether names are distinct, one after the other
+-- ---- distinct names, one field after another
 
 or_false : (a : Bool) → a || false ≡ a
 or_false a = grind (arith, nat_tests)
@@ -196,7 +196,7 @@ has_more n m t (f ∷ fs) = ap (λ b. same_name f.0 n || b) (has_more n m t fs) 
 four_ands : (a b c d : Bool) → not (a || b) && (c && not d) ≡ (not a && c) && not (b || d)
 four_ands a b c d = grind (arith, nat_tests)
 
--- fields and one more are distinct where these are and none of them has its name
+-- Appending a field keeps the names distinct if none of them is its name.
 pub distinct_more : (fs : Fields) (n : List ℕ) (t : Type') →
     are_distinct (fs ++ (n, t) ∷ []) ≡ are_distinct fs && not (has_field n fs)
 distinct_more [] n t = refl

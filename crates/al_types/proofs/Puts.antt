@@ -1,4 +1,4 @@
--- Fields put to others: behind them, at the one that has the name, or not at all.
+-- Adding a field to others: it is appended, fused with the field of its name, or dropped.
 use Rattle.std.proofs.Common.{◌≡◌, ℕ, ◌+◌, List, [], ◌∷◌, ◌++◌, refl, sym, ap, ◌∙◌, Bool, true, false, Option, Some, None, option_map, set, get_or, suc, arith}
 use Rattle.std.proofs.lemmas.Bool.{cond-false, cond-true}
 use Rattle.std.specs.Prelude.{if◌then◌else◌, is_none}
@@ -13,7 +13,7 @@ step true o q qs more = refl
 step false None q qs more = refl
 step false (Some i) q qs more = refl
 
--- where no field has its name it is put behind them
+-- `put_new` appends the field if no other has its name.
 pub put_new_any : (ts : List TypedName) (p : TypedName) → put_new ts p ≡ (if is_none (name_at ts p.0) then ts ++ p ∷ [] else ts)
 put_new_any [] p = refl
 put_new_any (q ∷ qs) p =
@@ -45,13 +45,13 @@ behind_step true o x y z w h e = absurd cc
 behind_step false None x y z w h e = h refl
 behind_step false (Some j) x y z w h e = absurd cc
 
--- where no field has its name it doesn't matter which way it is put
+-- Both ways of adding append the field if no other has its name.
 pub put_behind : (ts : List TypedName) (p : TypedName) → name_at ts p.0 ≡ None → put_or_fuse ts p ≡ put_new ts p
 put_behind [] p e = refl
 put_behind (q ∷ qs) p e =
     behind_step (same_name q.0 p.0) (name_at qs p.0) ((q.0, fuse_type q.1 p.1) ∷ qs) (q ∷ put_or_fuse qs p) (q ∷ put_new qs p) (q ∷ qs) (λ h. ap (λ us. q ∷ us) (put_behind qs p h)) e
 
--- a field that is fused where it stands
+-- the code's update: the field of this name is fused in place
 pub put_over : (ts : List TypedName) (p q r : TypedName) (i : ℕ) → name_at ts p.0 ≡ Some i → get_or ts i r ≡ r → q.0 ≡ r.0 → q.1 ≡ fuse_type r.1 p.1 → set ts i q ≡ put_or_fuse ts p
 put_over ts p q r i at got name ty =
     ap (λ n. set ts i (n, q.1)) name

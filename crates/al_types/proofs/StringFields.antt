@@ -1,4 +1,4 @@
--- Objects whose fields are strings: what a name finds in them, and what all have in common.
+-- Objects whose fields are all strings: the type of each name, and what all fields have in common.
 use Rattle.std.proofs.Common.{◌≡◌, ◌+◌, arith, ℕ, List, [], ◌∷◌, ◌++◌, length, refl, sym, ap, subst, ◌∙◌, Bool, true, false, Option, Some, None, option_map, nat_eq}
 use Rattle.std.proofs.lemmas.Grind.{common_steps}
 use Rattle.std.proofs.lemmas.Bool.{cond_both}
@@ -20,7 +20,7 @@ at_step true o = refl
 at_step false None = refl
 at_step false (Some i) = refl
 
--- a name finds a string where it is one of theirs
+-- The type of a name is a string if it is one of theirs.
 pub string_at : (ns : List (List ℕ)) (n : List ℕ) → field_at n (strings ns) ≡ option_map (λ i. String) (name_place ns n)
 string_at [] n = refl
 string_at (m ∷ ns) n = ap (λ o. if same_name m n then Some String else o) (string_at ns n) ∙ at_step (same_name m n) (name_place ns n)
@@ -39,7 +39,7 @@ common_strings (n ∷ ns) =
 common_some : (ns : List (List ℕ)) → fuse_optional (Present String) (common_in (strings ns)) ≡ Present String
 common_some ns = ap (fuse_optional (Present String)) (common_strings ns) ∙ one_more (nat_eq (length ns) 0)
 
--- ---- of equal names the first
+-- ---- only the first of equal names
 
 some_string : (m : List ℕ) (ms ns : List (List ℕ)) → common_in (put_all put_new (strings (m ∷ ms)) (strings ns)) ≡ Present String
 some_string m ms [] = common_some ms
@@ -53,7 +53,7 @@ names_common : (ns : List (List ℕ)) → common_in (firsts (strings ns)) ≡ co
 names_common [] = refl
 names_common (n ∷ ns) = some_string n [] ns ∙ sym (common_some ns)
 
--- an object of the first of each name is the one of all
+-- Only the first of equal names matters.
 pub first_strings : (ns : List (List ℕ)) → parts_with (firsts (strings ns)) Absent ≡ parts_with (strings ns) Absent
 first_strings ns =
     λ d. ((λ n. optional (firsts_found (strings ns) n d)), Absent, fuse_optional (names_common ns d) Absent)
