@@ -1,4 +1,4 @@
--- Tokens that spell a tree are built into it.
+-- The tree that is built from tokens is the one that the grammar derives.
 use Rattle.std.proofs.Common.{◌≡◌, ℕ, zero, suc, ◌<◌, List, [], ◌∷◌, ◌++◌, drop, slice_index_or, append-nil, refl, sym, ap, ◌∙◌, arith, subst}
 use Rattle.std.specs.List.{fold}
 use Rattle.al_base.specs.declared.faults.Span.{Span}
@@ -17,14 +17,14 @@ use Rattle.al_expr_grammar.proofs.Shape.{Begins, NoCall, begins, before_walks}
 
 -- ---- what may follow
 
--- No path and no call goes on.
+-- No step of a path and no call follows.
 abbrev NoMore : List TokenKind → Type 0
 NoMore (Dot ∷ ts) = ⊥
 NoMore (OpenIndex ∷ ts) = ⊥
 NoMore (Open ∷ ts) = ⊥
 NoMore _ = Unit {0}
 
--- Nor an operator of this level or a tighter one.
+-- Nor does an operator of this level or a tighter one.
 abbrev NoMoreAt : ℕ → List TokenKind → Type 0
 NoMoreAt l (Dot ∷ ts) = ⊥
 NoMoreAt l (OpenIndex ∷ ts) = ⊥
@@ -73,7 +73,7 @@ before_args (and_next d w) = tt
 abbrev Levels : Type 0
 Levels = List (List (Sign × Tree))
 
--- From an operand on, the operators of so many levels make one operand, before the looser ones.
+-- The operators of the n tightest levels after t make u; the looser ones remain.
 abbrev Closes : ℕ → Tree → Levels → Tree → Levels → Type 0
 Closes zero t levels u others = (t ≡ u) × (levels ≡ others)
 Closes (suc n) t levels u others = (slice_index_or others 0 [] ≡ []) × Closes n (chain_of t (slice_index_or levels 0 [])) (drop 1 levels) u (drop 1 others)
@@ -138,7 +138,7 @@ whole_closes (suc n) t u (os ∷ more) c = whole_closes n (chain_of t os) u more
 
 -- ---- operands and what follows them
 
--- From an operand on, the operators of so many levels make this tree, and this follows.
+-- The operators of the n tightest levels after an operand make the tree t, which f follows.
 record Reaches (n : ℕ) (x : Tree × Following) (t : Tree) (f : Following) : Type 0 where
   closes : Closes n x.0 x.1.0.levels t f.0.levels
   rest : x.1 ≡ (record f.0 { levels = x.1.0.levels }, f.1)
@@ -174,7 +174,7 @@ one_operated l s x t f r =
     ap (λ y. (record y.0 { levels = add_operator l s x.0 x.1.0.levels }, y.1)) r.rest
     ∙ ap (λ levels. (record f.0 { levels = levels }, f.1)) (same_added l s x.0 t x.1.0.levels f.0.levels r.closes)
 
--- what stands in a bracket behind an operand, where no operator and no step does
+-- what is in a bracket after an operand without operators and steps
 abbrev inside : List Tree → Span → List Remainder → Following
 inside more s around = (record { steps = []; levels = []; arguments = more; close = s }, around)
 
@@ -231,7 +231,7 @@ no_step (lexeme (Infix o) b s ∷ ts) h = no_step_left ts
 no_step (lexeme Comma b s ∷ ts) h = no_step_left ts
 no_step (lexeme k b s ∷ ts) h = refl
 
--- an operand with its steps
+-- an operand with the steps after it
 stepped : (t : Tree) (ss : List StepTree) (f : Following) → f.0.steps ≡ [] → with_path t (walked ss f) ≡ (tree.path_of t ss, f)
 stepped t ss f e =
     ap (λ l. (tree.path_of t l, (record f.0 { steps = [] }, f.1))) (ap (λ l. ss ++ l) e ∙ append-nil ss)
@@ -253,7 +253,7 @@ at_index b d [] h = absurd h
 at_index b d (lexeme Star c s ∷ ts) h = absurd h
 at_index b d (lexeme k c s ∷ ts) h = refl
 
--- ---- derivations
+-- ---- derivations, by induction
 
 mutual
   built : {p : Nonterminal} {ts rest : List Lexeme} {t : Tree} → Derives p ts t rest → EndsRule p (kinds rest) → Builds p ts t rest
@@ -297,6 +297,6 @@ mutual
   built_lists {e = e} {rest = rest} (and_next {ts = ts} {mid = mid} {t = t} {more = more} x w) =
       argued (from_operand ts) t more e (around rest) (subst (Reaches 4 (from_operand ts) t) (built_lists w) (built x (before_args w)))
 
--- tokens that spell a tree are built into it
+-- The tree of tokens is the one that they spell.
 pub builds_tree : (ts : List Lexeme) (t : Tree) → IsTreeOf t ts → whole (from_operand ts) ≡ t
 builds_tree ts t d = tree_is (from_operand ts) t [] _ [] (built d tt)

@@ -1,4 +1,4 @@
--- Negations, paths and chains of operators beside the table.
+-- Negations, paths and chains of operators: the grammar's rules agree with the table.
 use Rattle.std.proofs.Common.{◌≡◌, ℕ, zero, suc, ◌+◌, List, [], ◌∷◌, ◌++◌, length, refl, sym, ap, ◌∙◌, arith, subst, Result, Ok, Err}
 use Rattle.std.proofs.lemmas.Result.{err_from_is_err_and}
 use Rattle.std.specs.Prelude.{MatchResult}
@@ -33,7 +33,7 @@ not_refused room inner b s ts e one r = λ k st a h. likewise e _ _ (not_deeper 
 pub not_deep : (b : List ℕ) (s : Span) (ts : List Lexeme) → Refused Unary 0 (lexeme Bang b s ∷ ts) (error.TooDeep (suc (length ts)))
 not_deep b s ts = λ k st a h. too_deep (k + outside st) _ _ (omega arith) ∙ ap (λ n. TooDeep (suc n)) (same_length ts)
 
--- An operand without a negation is a level of its own.
+-- An operand without a negation is also a `Unary`.
 pub positive_read : (room : ℕ) (ts rest : List Lexeme) (t : Tree) → Parsed Postfix room ts t rest → Parsed Unary room ts t rest
 positive_read room ts rest t p = record { derives = positive p.derives; goes = p.goes; stops = p.stops; shorter = p.shorter }
 
@@ -78,7 +78,7 @@ pub steps_read : (room : ℕ) (ts mid rest : List Lexeme) (t : Tree) (ss : List 
 steps_read room ts mid rest t [] p w ends = bare_read room ts rest t (subst (λ m. Parsed Primary room ts t m) (walks_none w.derives refl) p) ends
 steps_read room ts mid rest t (s ∷ ss) p w ends = path_read room ts mid rest t s ss p w ends
 
--- a step of a path is refused
+-- A step of the path is refused.
 pub path_refused : (room : ℕ) (ts mid left : List Lexeme) (t : Tree) (ss : List StepTree) (e : ParseError) → Parsed Primary room ts t mid
     → PartOfPath room mid ss left → StepRefused room left e → Refused Postfix room ts e
 path_refused room ts mid left t ss e p w r = λ k st a h. likewise e _ _ (p.goes k st tt h ∙ w.goes k st h) (r k st h)
@@ -102,7 +102,7 @@ pub starts_below : (l : ℕ) → StartsAt (below l) 0
 starts_below zero = tt
 starts_below (suc l) = refl
 
--- from the start of a chain, where no negation is open
+-- at the start of a chain no negation is open
 from_start : (l room : ℕ) (ts : List Lexeme) (P : ℕ → List Frame → Verdict → Type 0) → ((st : List Frame) → outside st + room ≡ 50 → P 0 st (scan E 0 st (kinds ts)))
     → (k : ℕ) (st : List Frame) → StartsAt (Binary l) k → k + outside st + room ≡ 50 → P k st (scan E k st (kinds ts))
 from_start l room ts P g k st a h = subst (λ j. j + outside st + room ≡ 50 → P j st (scan E j st (kinds ts))) (sym a) (λ f. g st (omega arith)) h
@@ -152,7 +152,7 @@ pub operands_read : (l room : ℕ) (ts mid rest : List Lexeme) (t : Tree) (os : 
 operands_read l room ts mid rest t [] p c s never = single_read l room ts rest t (subst (λ m. Parsed (below l) room ts t m) (operators_none c.derives refl) p) never
 operands_read l room ts mid rest t (o ∷ os) p c s never = chain_read l room ts mid rest t o os p c s never
 
--- an operand of a chain is refused, the first or a later one
+-- The first operand of a chain, or a later one, is refused.
 pub first_refused : (l room : ℕ) (ts : List Lexeme) (e : ParseError) → Refused (below l) room ts e → Refused (Binary l) room ts e
 first_refused l room ts e r = from_start l room ts (λ k st v. IsVerdict e v) (λ st f. r 0 st (starts_below l) (omega arith))
 
@@ -166,6 +166,6 @@ pub either_way : {A F : Type 0} (P P' : A → Type 0) (Q Q' : F → Type 0) (r :
 either_way P P' Q Q' (Ok a) f g h = f a h
 either_way P P' Q Q' (Err e) f g h = g e h
 
--- what an exit of a `?` answers
+-- the result when `?` returns an error
 pub refusal : {A F : Type 0} (P : A → Type 0) (Q : F → Type 0) (r : Result A F) (e : F) → IsErrAnd r (λ y. y ≡ e) → Q e → MatchResult r P Q
 refusal P Q r e h q = let p = err_from_is_err_and r h in rw (p.1, p.2) q

@@ -1,4 +1,4 @@
--- Where chunks open and close, and how they are read one after another.
+-- The openings and closings of chunks, and reading one chunk after another.
 use Rattle.std.proofs.Common.{◌≡◌, ◌≤◌, ◌<◌, ◌-◌, ℕ, zero, suc, ◌+◌, List, [], ◌∷◌, ◌++◌, length, drop, take, get_or, refl, sym, ap, ◌∙◌, arith}
 use Rattle.std.proofs.Common.{append-nil, append_assoc, Bool, true, false, cond, ◌&&◌, not, subst, length-append, length-drop, drop-drop, Option, Some, None}
 use Rattle.std.proofs.lemmas.Bool.{and_parts}
@@ -51,7 +51,7 @@ opens_within bs n h = let t = (three (drop n bs) h).0 in omega (arith, t, length
 pub opening_fits : (bs : List ℕ) (n : ℕ) → before_opening bs ≡ Some n → n + 3 ≤ length bs
 opening_fits bs n e = opens_within bs n (opens_there bs n e)
 
--- A content begins a character.
+-- The opening ends at a character boundary.
 pub opening_ends : (bs : List ℕ) (at n : ℕ) → IsUtf8 bs → before_opening (drop at bs) ≡ Some n → IsCharBoundary bs (at + n + 3)
 opening_ends bs at n u e =
     let t = three (drop n (drop at bs)) (opens_there (drop at bs) n e) in
@@ -62,7 +62,7 @@ opening_ends bs at n u e =
 
 -- ---- closings
 
--- whether a content ends behind so many of these bytes
+-- the content ends after n bytes
 abbrev pub closes_at : List ℕ → ℕ → Bool
 closes_at bs n = is_outside_quotes (take n bs) && closes (drop n bs)
 
@@ -105,7 +105,7 @@ closes_within bs n h = let t = (two (drop n bs) (and_parts (is_outside_quotes (t
 pub closing_fits : (bs : List ℕ) (n : ℕ) → closing_position bs ≡ Some n → n + 2 ≤ length bs
 closing_fits bs n e = closes_within bs n (found (closes_at bs) (range_with_len 0 (length bs)) n e)
 
--- Its closing begins one.
+-- The closing begins at a character boundary.
 pub closing_begins : (bs : List ℕ) (at n : ℕ) → closing_position (drop at bs) ≡ Some n → IsCharBoundary bs (at + n)
 closing_begins bs at n e =
     let t = two (drop n (drop at bs)) (closes_there (drop at bs) n e) in
@@ -114,20 +114,20 @@ closing_begins bs at n e =
     let fits = closing_fits (drop at bs) n e in
     IsCharBoundary-before_ascii bs (at + n) (omega (arith, fits, length-drop at bs)) low
 
--- ---- chunk after chunk
+-- ---- the loop over chunks
 
--- chunks read so far, before those of the rest
+-- prepends the chunks that were read
 abbrev pub behind_chunks : List Span → Chunked → Chunked
 behind_chunks front c = record { chunks = front ++ c.chunks; fault = c.fault }
 
 pub behind_one : (front : List Span) (s : Span) (c : Chunked) → behind_chunks front (then_chunk s c) ≡ behind_chunks (front ++ s ∷ []) c
 behind_one front s c = ap (λ l. record { chunks = l; fault = c.fault }) (sym (append_assoc front (s ∷ []) c.chunks))
 
--- the chunks of a text, where some were read already, up to a place in it
+-- the chunks `front` were read, up to offset `at`
 abbrev pub AreRead : List ℕ → List Span → ℕ → Type 0
 AreRead text front at = chunks_of text ≡ behind_chunks front (chunks_within (length text - length front) at (drop at text))
 
--- these are all, with what is wrong at the text's end
+-- these are all chunks, and this is the fault at the text's end
 abbrev pub AreAll : List ℕ → List Span → Option Fault → Type 0
 AreAll text front f = (front ≡ (chunks_of text).chunks) × (f ≡ (chunks_of text).fault)
 

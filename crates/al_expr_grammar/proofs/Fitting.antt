@@ -1,4 +1,4 @@
--- A token that is read lies in the bytes, and its last byte is ASCII, so that a character ends with it.
+-- A token is within the bytes, and its last byte is ASCII, so it ends at a character boundary.
 use Rattle.std.proofs.Common.{◌≡◌, ◌<◌, ◌≤◌, ◌+◌, ◌-◌, ℕ, zero, suc, List, [], ◌∷◌, length, length-drop, add-zero, inl, inr, ◌⊎◌, drop}
 use Rattle.std.proofs.Common.{refl, subst, arith, Bool, true, false, cond, nat_eq, max, Option, Some, None}
 use Rattle.std.proofs.lemmas.Bool.{and_parts, cond_both, eqb-true}
@@ -17,7 +17,7 @@ use Rattle.al_expr_grammar.proofs.TextTails.{tail_is}
 use Rattle.al_expr_grammar.specs.Private.TokenStates.{Fits}
 use Rattle.al_expr_grammar.specs.Tokens.{text_read, number_read, name_read}
 
--- Where it isn't empty, a part of so many bytes at the front lies in them and ends with an ASCII byte.
+-- The first n bytes are within the bytes, and the last one of them is ASCII, if n isn't 0.
 pub record EndsRule (bs : List ℕ) (n : ℕ) : Type 0 where
   within : n ≤ length bs
   last : 0 < n → slice_index bs (n - 1) < 128
@@ -28,7 +28,7 @@ nothing bs = record { within = omega arith; last = λ h. absurd (omega arith) }
 max_is : (x y : ℕ) → (max x y ≡ x) ⊎ (max x y ≡ y)
 max_is x y = grind arith
 
--- one part behind another
+-- one part after another
 further : (bs : List ℕ) (k m : ℕ) → EndsRule bs k → EndsRule (drop k bs) m → EndsRule bs (k + m)
 further bs k zero a b = rw add-zero a
 further bs k (suc m) a b =
@@ -56,7 +56,7 @@ run_ends p bs f = record {
   last = λ h. f _ (prefix_len_passes p bs (prefix_len p bs - 1) 0 (omega arith));
 }
 
--- a part that is there only with a digit
+-- a part that is there only if it has digits
 with_ends : (bs : List ℕ) (lead d : ℕ) → lead ≤ length bs → EndsRule (drop lead bs) d → EndsRule bs (with_digits lead d)
 with_ends bs lead zero h e = nothing bs
 with_ends bs lead (suc d) h e =
@@ -73,7 +73,7 @@ begun : (c : ℕ) (bs : List ℕ) → begins_with c bs ≡ true → 1 ≤ length
 begun c [] h = absurd cc
 begun c (b ∷ bs) h = omega arith
 
--- A text at the front lies in the bytes.
+-- A text that the bytes begin with is no longer than them.
 pub text_within : (text bs : List ℕ) → starts_with nat_eq bs text ≡ true → length text ≤ length bs
 text_within [] bs h = omega arith
 text_within (c ∷ text) [] h = absurd cc
@@ -125,7 +125,7 @@ name_fits b bs h =
     let some : 0 < prefix_len goes_on_name (b ∷ bs) = rw g (omega arith) in
     (some, e.within, e.last some)
 
--- The bytes of a text lie in these, and the last one is a quote, where no quote came last before.
+-- The rest of a text is within the bytes and ends with a quote. It isn't empty, unless a quote was the last byte before it.
 abbrev TailEnds : Bool → List ℕ → Option ℕ → Type 0
 TailEnds quote bs None = Unit {0}
 TailEnds quote bs (Some n) = (n ≤ length bs) × (0 < n → slice_index bs (n - 1) ≡ 39) × (quote ≡ false → 0 < n)

@@ -1,4 +1,4 @@
--- What follows where the parser looked for a token and found it, or found another.
+-- The parser's cases at a token that is required: it is there, or another one is.
 use Rattle.std.proofs.Common.{◌≡◌, ℕ, ◌+◌, List, [], ◌∷◌, ◌++◌, refl, ap}
 use Rattle.al_base.specs.declared.faults.Span.{Span}
 use Rattle.al_expr_grammar.specs.declared.token.TokenKind.{TokenKind}

@@ -1,4 +1,4 @@
--- Chunks, tokens, trees and faults lie in the text or content that they were found in.
+-- Chunks, tokens, trees and faults are within the text or content that they were found in.
 use Rattle.std.proofs.Common.{◌≡◌, ◌<◌, ◌≤◌, ◌+◌, ◌-◌, ℕ, zero, suc, List, [], ◌∷◌, length, length-drop, drop, refl, ◌∙◌, subst, arith, Bool, true, false, cond, nat_lt, Option, Some, None}
 use Rattle.std.specs.Int.{is_in_range}
 use Rattle.std.specs.List.{AllByRecursion}
@@ -61,7 +61,7 @@ extent_start (Path t ss) = steps_start ss (extent t) ∙ extent_start t
 extent_start (Chain t os) = operands_start os (extent t) ∙ extent_start t
 extent_start _ = refl
 
--- ---- tokens lie in their content, one behind another
+-- ---- tokens are within their content, one after another
 
 module _ (size : ℕ) where
   abbrev pub TokensLie : ℕ → List Lexeme → Type 0
@@ -103,7 +103,7 @@ module _ (size : ℕ) where
   lexed_lies (suc n) at [] room = tt
   lexed_lies (suc n) at (b ∷ bs) room = first_lies n (read (b ∷ bs)) at b bs room (read_short b bs) (lexed_lies n)
 
-  -- ---- trees lie in their content, each part behind where the tree begins
+  -- ---- trees are within their content, and no part of a tree is before its start
 
   abbrev mutual
     pub TreeLies : ℕ → Tree → Type 0
@@ -175,7 +175,7 @@ module _ (size : ℕ) where
     operands_extent (OperandThen (sign o s) t os) low x h i l =
         let y = tree_extent t low l.1 in let a = y.from in let b = y.ordered in operands_extent os low (across x (extent t)) (omega (arith, a, b)) y.inside l.2
 
-  -- The tokens of a tree are followed by tokens behind where the tree begins.
+  -- A tree of tokens is within the content, and the tokens that remain aren't before its start.
   mutual
     pub derives_lie : {p : Nonterminal} {ts rest : List Lexeme} {t : Tree} → Derives p ts t rest → (low : ℕ) → TokensLie low ts → TreeLies low t × TokensLie (start_of t) rest
     derives_lie (single d) low l = derives_lie d low l
@@ -314,11 +314,11 @@ content_fault_lies content =
     cond_both (nat_lt 21000 (length content)) _ (fault_of_tokens content (tokens_of content)) (λ o. AllLie (length content) (option_to_list o))
     (λ e. (some_byte (length content) e, tt)) (λ e. tokens_fault content (tokens_of content) (content_lexed content))
 
--- the tokens of a content, where they are all read
+-- the tokens of a content, if all are read
 pub tokens_lie : (content : List ℕ) (ts : List Lexeme) → tokens_of content ≡ AllRead ts → TokensLie (length content) 0 ts
 tokens_lie content ts e = subst (LexedLies (length content) 0) e (content_lexed content)
 
--- a tree that the first of a content's tokens spell
+-- a tree that the grammar derives from a content's first tokens
 pub tree_lies : {p : Nonterminal} {rest : List Lexeme} (content : List ℕ) (ts : List Lexeme) (t : Tree) → tokens_of content ≡ AllRead ts → Derives p ts t rest → TreeLies (length content) 0 t
 tree_lies content ts t e d = (derives_lie (length content) d 0 (tokens_lie content ts e)).0
 

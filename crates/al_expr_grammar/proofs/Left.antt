@@ -1,4 +1,4 @@
--- A fault of the table stands at one of the tokens.
+-- A fault that the table finds is at one of the tokens.
 use Rattle.std.proofs.Common.{◌≡◌, ◌<◌, ◌≤◌, ℕ, zero, suc, List, [], ◌∷◌, length, drop, arith, Bool, true, false, subst, ◌∙◌, Some}
 use Rattle.std.proofs.lemmas.List.{length-map}
 use Rattle.std.specs.Prelude.{map, slice_get}
@@ -10,7 +10,7 @@ use Rattle.al_expr_grammar.specs.Lexeme.{Lexeme, lexeme, kind_of, kinds, lexeme_
 use Rattle.al_expr_grammar.specs.Refusal.{fault_at}
 use Rattle.al_expr_grammar.specs.Table.{Verdict, Unexpected, TooDeep, Mode, E, O, N, Frame, Transition, Stuck, Go, Deeper, step, onward, finish, scan, verdict_of}
 
--- a verdict on so many tokens
+-- the verdict's fault is at one of this many tokens
 abbrev pub LiesIn : ℕ → Verdict → Type 0
 LiesIn len (Unexpected left) = (0 < left) × (left ≤ len)
 LiesIn len (TooDeep left) = (0 < left) × (left ≤ len)
@@ -44,7 +44,7 @@ verdict_lies ts v e =
     let same : length (kinds (map seen ts)) ≡ length ts = length-map (map seen ts) kind_of ∙ length-map ts seen in
     subst (λ n. LiesIn n v) same (subst (LiesIn (length (kinds (map seen ts)))) e (lies_in (kinds (map seen ts)) E 0 []))
 
--- the fault at the token with this index
+-- The fault at the token with index i.
 pub fault_at_token : (make : Span → List ℕ → Fault) (ts : List Lexeme) (i : ℕ) (t : Lexeme) → slice_get ts i ≡ Some t → fault_at make (drop i ts) ≡ Some (make (lexeme_span t) (lexeme_text t))
 fault_at_token make [] i t e = absurd cc
 fault_at_token make (lexeme k b s ∷ ts) zero (lexeme j c u) e = cc

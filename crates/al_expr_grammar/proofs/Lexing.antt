@@ -1,4 +1,4 @@
--- One step of reading tokens.
+-- One iteration of the loop that reads tokens.
 use Rattle.std.proofs.Common.{◌≡◌, ◌≤◌, ◌<◌, ◌-◌, ℕ, zero, suc, ◌+◌, List, [], ◌∷◌, ◌++◌, length, drop, take, refl, sym, ap, ◌∙◌, arith, append_assoc, subst}
 use Rattle.std.proofs.Common.{append-nil, length-drop}
 use Rattle.std.specs.Prelude.{slice_index}
@@ -11,7 +11,7 @@ use Rattle.al_expr_grammar.specs.Private.TokenStates.{behind}
 use Rattle.al_expr_grammar.specs.Tokens.{Lexed, AllRead, Bad, Unclosed, character_span, read, then_token, tokens_of, tokens_within, with_first}
 use Rattle.al_base.specs.Spans.{span}
 
--- these tokens of a content were read, and these bytes from a place on are left
+-- the tokens `front` of the content were read, and the bytes from offset `at` remain
 pub record AreRead (content : List ℕ) (front : List Lexeme) (at : ℕ) (bs : List ℕ) : Type 0 where
   pub fuel : ℕ
   pub enough : length bs ≤ fuel
@@ -38,7 +38,7 @@ pub all_read : (content : List ℕ) (front : List Lexeme) (at : ℕ) (bs : List 
 all_read content front at [] r h = r.so_far ∙ ap (behind front) (nothing_left r.fuel at) ∙ ap AllRead (append-nil front)
 all_read content front at (b ∷ bs) r h = absurd (omega (arith, h))
 
--- by what comes first
+-- by the first token, blank or fault of the bytes
 by_first : (n at : ℕ) (bs : List ℕ) → 0 < length bs → length bs ≤ n → (m : ℕ) × (n ≡ suc m) × (tokens_within n at bs ≡ with_first (tokens_within m) (read bs) at bs)
 by_first n at [] some h = absurd (omega (arith, some))
 by_first zero at (b ∷ bs) some h = absurd (omega (arith, h))
@@ -70,7 +70,7 @@ module _ (content : List ℕ) (front : List Lexeme) (at : ℕ) (bs : List ℕ) (
   pub stays_open : OpenText ≡ read bs → tokens_of content ≡ Unclosed
   stays_open e = let f = first in f.2 ∙ ap (λ x. behind front (with_first (tokens_within f.0) x at bs)) (sym e)
 
--- A character ends behind an ASCII byte.
+-- An ASCII byte is followed by a character boundary.
 pub ends_char : (bs : List ℕ) (n : ℕ) → IsUtf8 bs → 0 < n → n ≤ length bs → slice_index bs (n - 1) < 128 → IsCharBoundary bs n
 ends_char bs n u some within h =
     let e : (n - 1) + 1 ≡ n = omega arith in

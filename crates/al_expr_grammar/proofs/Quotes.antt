@@ -1,4 +1,4 @@
--- A text that is never closed has a quote.
+-- A content with an unclosed text has a quote.
 use Rattle.std.proofs.Common.{◌≡◌, ◌≢◌, ◌+◌, ℕ, zero, suc, List, [], ◌∷◌, length, drop, refl, sym, ◌∙◌, true, Option, Some, None}
 use Rattle.std.proofs.lemmas.Bool.{cond_both}
 use Rattle.std.specs.Char.{is_ascii_digit}
@@ -54,7 +54,7 @@ further zero bs h = h
 further (suc n) [] h = h
 further (suc n) (b ∷ bs) h = behind_first (last_quote bs) _ (further n bs h)
 
--- Where what comes first leads to an open text, it is one, or what follows leads there.
+-- The induction step, by what the bytes begin with.
 leads : (n : ℕ) (r : Read) (at b : ℕ) (bs : List ℕ) → ((from : ℕ) (rest : List ℕ) → tokens_within n from rest ≡ Unclosed → last_quote rest ≢ None)
     → (r ≡ OpenText → is_quote b ≡ true) → with_first (tokens_within n) r at (b ∷ bs) ≡ Unclosed → last_quote (b ∷ bs) ≢ None
 leads n Blank at b bs there here e = further 1 (b ∷ bs) (there (at + 1) bs e)
@@ -71,6 +71,6 @@ none_of : (o : Option ℕ) → ((n : ℕ) → o ≡ Some n → ⊥) → o ≡ No
 none_of None f = refl
 none_of (Some n) f = absurd (f n refl)
 
--- An open text and no quote are absurd.
+-- So a search for the last quote finds one.
 pub quote_found : (content : List ℕ) (o : Option ℕ) → tokens_of content ≡ Unclosed → o ≡ last_quote content → ((n : ℕ) → o ≡ Some n → ⊥) → ⊥
 quote_found content o u e f = has_quote (length content) 0 content u (sym e ∙ none_of o f)

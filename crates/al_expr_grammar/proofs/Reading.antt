@@ -1,4 +1,4 @@
--- What is read at a place has a byte and lies in the bytes.
+-- A token is at least one byte long and within the bytes.
 use Rattle.std.proofs.Common.{◌≡◌, ◌<◌, ◌≤◌, ℕ, List, [], ◌∷◌, length, refl, sym, subst, Bool, true, false, cond, nat_eq, nat_lt, ◌||◌, Option, Some}
 use Rattle.std.proofs.lemmas.Bool.{and_parts, cond_both, eqb-true, ltb-true}
 use Rattle.std.specs.Char.{is_ascii_digit}
@@ -22,7 +22,7 @@ fits_short : (bs : List ℕ) (r : Read) → Fits bs r → Short bs r
 fits_short bs (Token k n) f = (f.0, f.1)
 fits_short bs _ f = tt
 
--- the token of a mark, where one is found
+-- the token of a mark, if one is found
 abbrev mark_found : Option (List ℕ × TokenKind) → Read
 mark_found o = option_map_or (λ m. Token m.1 (length m.0)) o BadCharacter
 

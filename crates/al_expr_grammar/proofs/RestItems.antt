@@ -1,4 +1,4 @@
--- The item at an index, before the rest of a list.
+-- The rest of a list from an index begins with the item there.
 use Rattle.std.proofs.Common.{◌≡◌, ◌<◌, ◌+◌, ℕ, List, ◌∷◌, length, get_or, drop, sym, ap, ◌∙◌}
 use Rattle.std.proofs.lemmas.List.{at_drop_more}
 

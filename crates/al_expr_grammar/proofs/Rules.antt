@@ -1,4 +1,4 @@
--- Each rule of the grammar, and each fault, beside the table.
+-- Each rule of the grammar, and each fault of the parser, agrees with the table.
 use Rattle.std.proofs.Common.{◌≡◌, ◌≢◌, ℕ, suc, ◌+◌, ◌<◌, ◌≤◌, List, [], ◌∷◌, ◌++◌, length, refl, sym, ap, ◌∙◌, arith, nat_lt, cond, subst}
 use Rattle.al_base.specs.declared.faults.Span.{Span}
 use Rattle.al_expr_grammar.specs.declared.token.Operator.{Operator}
@@ -23,7 +23,7 @@ pub at_most_three : (o : Operator) → level_of o ≤ 3
 at_most_three op.Or = omega arith
 at_most_three _ = omega arith
 
--- one deeper, where there is room
+-- one level deeper, if there is room
 abbrev pub deeper : ℕ → ℕ → Verdict → Verdict
 deeper n left v = cond (nat_lt n 50) v (TooDeep left)
 
@@ -36,7 +36,7 @@ too_deep n left v h = grind (arith, nat_tests)
 pub same_length : (ts : List Lexeme) → length (kinds ts) ≡ length ts
 same_length ts = length-map ts kind_of
 
--- Where no path goes on, the negations that stand open don't matter.
+-- If no path continues, the number of open negations doesn't matter.
 pub settled : (k j : ℕ) (st : List Frame) (ts : List TokenKind) → EndsPath ts → scan O k st ts ≡ scan O j st ts
 settled k j st [] h = refl
 settled k j st (Dot ∷ ts) h = absurd h
@@ -64,20 +64,20 @@ pub in_index : (k : ℕ) (st : List Frame) (ts : List TokenKind) → Lacks Star 
 in_index k st (Star ∷ ts) h = absurd (h ts refl)
 in_index k st ts h = refl
 
--- what the table comes to from other tokens as well
+-- the same verdict from other tokens
 pub likewise : (e : ParseError) (v w : Verdict) → v ≡ w → IsVerdict e w → IsVerdict e v
 likewise e v w same h = subst (IsVerdict e) (sym same) h
 
 pub unexpected : (ts : List Lexeme) → Unexpected (suc (length (kinds ts))) ≡ Unexpected (suc (length ts))
 unexpected ts = ap (λ n. Unexpected (suc n)) (same_length ts)
 
--- neither a token that closes these brackets comes first nor one that goes on in them
+-- the first token neither closes these brackets nor continues in them
 abbrev pub EndsInside : Frame → List TokenKind → Type 0
 EndsInside (Group k) ts = NoClose ts
 EndsInside (Call k) ts = NoComma ts × NoClose ts
 EndsInside (Index k) ts = Lacks CloseIndex ts
 
--- no token that may follow a whole operand inside these brackets
+-- the first token can't follow an expression inside these brackets
 stray : (f : Frame) (st : List Frame) (us : List Lexeme) → EndsLevel 3 (kinds us) → EndsInside f (kinds us) → IsVerdict (error_at us) (scan O 0 (f ∷ st) (kinds us))
 stray f st [] h c = refl
 stray f st (lexeme Dot b s ∷ us) h c = absurd h
@@ -142,7 +142,7 @@ module _ (room inner : ℕ) (b : List ℕ) (s : Span) (ts : List Lexeme) (one : 
       → StepRefused room (lexeme OpenIndex b s ∷ ts) (error_at mid)
   index_stray mid t n p never = λ k st h. likewise (error_at mid) _ _ (to_inside k st n h ∙ p.goes 0 (Index k ∷ st) refl (omega arith)) (stray (Index k) st mid p.stops never)
 
--- brackets without room
+-- brackets nested too deeply
 pub group_deep : (b : List ℕ) (s : Span) (ts : List Lexeme) → Refused Primary 0 (lexeme Open b s ∷ ts) (error.TooDeep (suc (length ts)))
 group_deep b s ts = λ k st a h. too_deep (k + outside st) _ _ (omega arith) ∙ ap (λ n. TooDeep (suc n)) (same_length ts)
 
@@ -220,7 +220,7 @@ pub each_read : (room inner : ℕ) (a b c : List ℕ) (s d e : Span) (rest : Lis
     → StepRead room (lexeme OpenIndex c d ∷ lexeme Star b s ∷ lexeme CloseIndex a e ∷ rest) (All d e) rest
 each_read room inner a b c s d e rest one = record { derives = λ ss after w. to_each w; goes = λ k st h. not_deeper (k + outside st) _ _ (omega arith); shorter = omega arith }
 
--- after a dot neither a name nor a star
+-- after a dot comes neither a name, a keyword nor a star
 abbrev pub NoProperty : List TokenKind → Type 0
 NoProperty (Name ∷ ts) = ⊥
 NoProperty (Keyword w ∷ ts) = ⊥

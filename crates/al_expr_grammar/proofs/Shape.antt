@@ -1,4 +1,4 @@
--- The table without the limit on nesting, and what it has to do with the grammar.
+-- The table without its limit on nesting, and its relation to the grammar.
 use Rattle.std.proofs.Common.{◌≡◌, ℕ, suc, ◌+◌, ◌<◌, ◌≤◌, Bool, true, false, List, [], ◌∷◌, ◌++◌, length, length-append, refl, subst, ◌∙◌, arith, nat_lt, cond}
 use Rattle.al_expr_grammar.specs.declared.token.TokenKind.{TokenKind}
 use Rattle.al_expr_grammar.specs.declared.token.TokenKind.TheVariants.{Name, Keyword, Number, Text, Open, Close, OpenIndex, CloseIndex, Dot, Comma, Star, Bang, Infix}
@@ -22,7 +22,7 @@ abbrev pub shape : Mode → List Frame → List TokenKind → Verdict
 shape m st [] = finish m st
 shape m st (t ∷ ts) = onward (step m 0 st t) true (suc (length ts)) (λ m' k' st'. shape m' st' ts)
 
--- the same verdict, or too deep
+-- the same verdict, unless the first is `TooDeep`
 abbrev pub Agrees : Verdict → Verdict → Type 0
 Agrees (TooDeep n) w = Unit {0}
 Agrees v w = v ≡ w
@@ -98,7 +98,7 @@ scan_shape m k st [] = agrees_refl _ _ (finish_same m st)
 scan_shape m k st (t ∷ ts) =
     step_same (nat_lt (k + outside st) 50) (suc (length ts)) (λ m' k' st'. scan m' k' st' ts) (λ m' st'. shape m' st' ts) (λ m' k' st'. scan_shape m' k' st' ts) m k st t
 
--- What follows isn't read as the arguments of a name.
+-- The next token doesn't open the arguments of a call.
 abbrev pub NoCall : List TokenKind → Type 0
 NoCall (Open ∷ ts) = ⊥
 NoCall _ = Unit {0}
@@ -109,7 +109,7 @@ uncalled (f ∷ st) [] h = refl
 uncalled st (Open ∷ ts) h = absurd h
 uncalled st (t ∷ ts) h = refl
 
--- An operand begins here.
+-- The next token begins an operand.
 abbrev pub Begins : List TokenKind → Type 0
 Begins (Name ∷ ts) = Unit {0}
 Begins (Keyword w ∷ ts) = Unit {0}
@@ -198,7 +198,7 @@ further Stuck left n m go on low ih h left' = let e : left ≡ n = cc in absurd 
 further (Go a k st) left n m go on low ih h left' = ih a k st h
 further (Deeper a k st) left n m go on low ih h left' = ih a k st h
 
--- The first fault is the same whatever follows it.
+-- The first fault doesn't depend on the tokens after it.
 pub same_fault : (front back other : List TokenKind) (x : TokenKind) (m : Mode) (st : List Frame) → shape m st (front ++ x ∷ back)
     ≡ Unexpected (length (x ∷ back)) → shape m st (front ++ x ∷ other) ≡ Unexpected (length (x ∷ other))
 same_fault [] back other x m st h = here (step m 0 st x) back other h

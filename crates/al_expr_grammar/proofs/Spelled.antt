@@ -1,4 +1,4 @@
--- A content without a fault spells a tree, and its tree is that one.
+-- A content without a fault spells exactly one tree, which is the tree of the content.
 use Rattle.std.proofs.Common.{◌≡◌, ◌<◌, ◌≤◌, ℕ, List, [], ◌∷◌, length, refl, sym, ap, ◌∙◌, subst, arith, Option, Some, None, Bool, true, false, cond, nat_lt, drop, ◌-◌}
 use Rattle.std.proofs.lemmas.List.{length-drop}
 use Rattle.al_base.specs.declared.faults.Fault.{Fault}
@@ -19,7 +19,7 @@ use Rattle.al_expr_grammar.proofs.Quotes.{quote_found}
 use Rattle.al_expr_grammar.proofs.Rules.{at_most_three, same_length}
 use Rattle.al_expr_grammar.proofs.Total.{Outcome, outcome_of, read, refused}
 
--- Where an operand was read and no fault is left, nothing is left.
+-- If an operand was read and the table finds no fault in the rest, the rest is empty.
 over : (rest : List Lexeme) → EndsLevel 3 (kinds rest) → scan O 0 [] (kinds rest) ≡ Fine → rest ≡ []
 over [] h e = refl
 over (lexeme Dot b s ∷ ts) h e = absurd h
@@ -53,7 +53,7 @@ fine_of len ts Early left e = absurd cc
 fine_of len ts (Unexpected n) left e = absurd (some_left n _ ts left e)
 fine_of len ts (TooDeep n) left e = absurd (some_left n _ ts left e)
 
--- tokens without a fault are fine
+-- If the verdict gives no fault, it is `Fine`.
 are_fine : (len : ℕ) (ts : List Lexeme) → fault_of_verdict len ts (verdict_of (kinds ts)) ≡ None → verdict_of (kinds ts) ≡ Fine
 are_fine len ts e = fine_of len ts (verdict_of (kinds ts)) (lies_in (kinds ts) E 0 []) e
 
@@ -65,7 +65,7 @@ no_quote : (quote : Option ℕ) → open_text quote ≡ None → (n : ℕ) → q
 no_quote None e n f = absurd cc
 no_quote (Some q) e n f = absurd cc
 
--- a content has the tree that it spells
+-- The tree of a content is the one that it spells.
 pub spelled : (content : List ℕ) (t : Tree) → Spells content t → tree_of_content content ≡ t
 spelled content t s = ap tree_of_tokens s.reads ∙ builds_tree s.tokens t s.derives
 
@@ -78,7 +78,7 @@ module _ (content : List ℕ) (t : Tree) where
   spelled_by (Bad s) reads none has = absurd cc
   spelled_by Unclosed reads none has = absurd (quote_found content (last_quote content) reads refl (no_quote (last_quote content) none))
 
-  -- and spells the tree that it has, where it has no fault
+  -- A content without a fault spells its tree.
   pub only_spelled : fault_of_content content ≡ None → tree_of_content content ≡ t → Spells content t
   only_spelled none has =
       spelled_by (tokens_of content) refl (not_long (nat_lt 21000 (length content)) _ (fault_of_tokens content (tokens_of content)) none) has

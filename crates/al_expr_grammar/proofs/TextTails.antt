@@ -1,4 +1,4 @@
--- Byte by byte a text ends where the definition says.
+-- `tail_from`, byte by byte, agrees with the definition of `text_tail`.
 use Rattle.std.proofs.Common.{◌≡◌, ℕ, List, [], ◌∷◌, Bool, true, false, cond, Option, Some, None, refl, ap, ◌∙◌, arith}
 use Rattle.al_expr_grammar.specs.Tokens.{add_to, is_quote, text_tail}
 use Rattle.al_expr_grammar.specs.Private.TextTails.{after_byte, tail_from}

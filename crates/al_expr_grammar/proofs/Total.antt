@@ -1,4 +1,4 @@
--- Every list of tokens is read or refused.
+-- Every list of tokens is read as an expression or refused.
 use Rattle.std.proofs.Common.{ℕ, zero, suc, ◌<◌, ◌≤◌, List, [], ◌∷◌, ◌++◌, length, refl, arith, inl, inr, ◌⊎◌}
 use Rattle.std.proofs.lemmas.Bool.{cases_eq}
 use Rattle.al_base.specs.declared.faults.Span.{Span}
@@ -28,11 +28,11 @@ pub data StepOutcome (room : ℕ) (ts : List Lexeme) : Type 0 where
   step_read : (s : StepTree) (rest : List Lexeme) → StepRead room ts s rest → StepOutcome room ts
   step_refused : (e : ParseError) → IsFault e → StepRefused room ts e → StepOutcome room ts
 
--- the part below a bracket
+-- the same for lists shorter than n, for use inside brackets
 abbrev pub Inner : ℕ → Type 0
 Inner n = (room : ℕ) (ts : List Lexeme) → length ts < n → Outcome (Binary 3) room ts
 
--- brackets
+-- groups and indices
 module _ (room : ℕ) (b : List ℕ) (s : Span) (ts : List Lexeme) where
   abbrev pub group_ends : (t : Tree) (mid : List Lexeme) → Parsed (Binary 3) room ts t mid → Outcome Primary (suc room) (lexeme Open b s ∷ ts)
   group_ends t (lexeme Close c e ∷ rest) p = read _ rest (group_read (suc room) room b s ts (omega arith) c e rest t p)
@@ -171,7 +171,7 @@ level l n room operand ts h = elim (operand ts h) [
   | read t mid p ↦ chain_walk l n room operand ts mid t h p (length mid) mid [] (chain_begins l room mid) p.stops (omega arith)
 ]
 
--- each list shorter than n
+-- by induction on the length of the list
 abbrev pub all : (n : ℕ) → Inner n
 all zero room ts h = absurd (omega arith)
 all (suc n) room ts h =
@@ -180,6 +180,6 @@ all (suc n) room ts h =
     (λ vs g. level 1 n room
     (λ ws i. level 0 n room (λ xs j. unary xs n room (all n) j) ws i) vs g) us f) ts (omega arith)
 
--- what becomes of the tokens of an expression
+-- the outcome for the tokens of an expression
 abbrev pub outcome_of : (ts : List Lexeme) → Outcome (Binary 3) 50 ts
 outcome_of ts = all (suc (length ts)) 50 ts (omega arith)

@@ -1,4 +1,4 @@
--- The views of an expression's forms, as rules to rewrite by.
+-- The views of an expression's forms, as rewrite rules.
 use Rattle.std.proofs.Common.{◌≡◌}
 use Rattle.al_expr_grammar.specs.declared.ast.Operand.{Operand}
 use Rattle.al_expr_grammar.specs.Tree.{sign}

@@ -1,5 +1,4 @@
--- Fusing types is associative, commutative and idempotent,
--- and an object without fields is neutral.
+-- Fusing types is associative, commutative and idempotent, and an object without fields is neutral.
 use Rattle.std.proofs.Common.{◌≡◌, List, [], ◌∷◌, ◌++◌, refl, sym, ap, ◌∙◌, Option, Some, None}
 use Rattle.al_types.specs.Types.{Type', Any, ArrayOf, ObjectOf, Optional, Absent, Present}
 use Rattle.al_types.specs.Types.{Parts, fuse_optional, fuse_type, option_of, optional, parts_with}

@@ -161,7 +161,6 @@ module _ {f : File} where
 
   -- ---- appending an item or an entry
 
-
   pub item-done : {from low : ℕ} {ns : Nodes} {p : Part Node} → IsDone f sequence from low ns → IsNode f low p
       → IsDone f sequence from p.end (with_item ns p.value)
   item-done {from} {low} {ns} {p} d h =
@@ -219,7 +218,7 @@ pub record Keeps (f : File) {A : Type 0} (P : A → Type 0) (o : Outcome A) : Ty
   pub starts : StartsIn f.size o.starts
   pub knows : AreKnown f o.known
 
--- The reading's results have the properties. If the file must have no alias, only for readings without one.
+-- The reading keeps the invariants, and P holds for its value. If no alias may be read, this says nothing about readings of one.
 pub record Reads (f : File) {A : Type 0} (P : A → Type 0) (r : Reading A) : Type 0 where
   pub run : (known : KnownAnchors) → AreKnown f known → (f.is_plain → HaveNoAlias (r known).starts) → Keeps f P (r known)
 
