@@ -158,7 +158,7 @@ Contains-fault_list faults fault h = Contains-in_order fault_cmp_total fault_cmp
 pub Contains-from_fault_list : (faults : List Fault) (fault : Fault) → Contains (fault_list faults) fault → Contains faults fault
 Contains-from_fault_list faults fault h = Contains-from_in_order fault_cmp_total fault_cmp_same faults fault h
 
--- a property of all faults, for example that they lie in the file
+-- a property of all faults, for example that they are within the file
 pub AllByRecursion-fault_list : (P : Fault → Type 0) (faults : List Fault) → AllByRecursion P faults → AllByRecursion P (fault_list faults)
 AllByRecursion-fault_list P faults all = AllByRecursion-in_order fault_cmp_total fault_cmp_same P faults all
 

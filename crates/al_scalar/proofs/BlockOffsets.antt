@@ -1,4 +1,4 @@
--- The offsets of a block scalar's text are in order and within its span, and the remaining lines follow it.
+-- The offsets of a block scalar's text are in order, and the remaining lines follow its end.
 use Rattle.std.proofs.Common.{◌≡◌, ℕ, zero, suc, ◌+◌, ◌-◌, ◌<◌, ◌≤◌, List, [], ◌∷◌, ◌++◌, drop, refl, arith, Bool, true, false, not}
 use Rattle.std.proofs.Common.{if◌then◌else◌, ◌&&◌, ◌||◌, nat_le, Option, Some, None, Result, Ok, Err}
 use Rattle.std.proofs.lemmas.Bool.Decides.{nat_tests}

@@ -62,7 +62,7 @@ module _ (lit : Bool) (within : ℕ) (bytes : List ℕ) (at : ℕ) (here : IsIns
       let behind : later xs ≡ lines_at bytes first = first-same.later ∙ s.later ∙ u.later ∙ ap later z in
       block-given ∙ rw (g, is_last, behind) refl
 
--- The rest doesn't depend on where the style comes from.
+-- the rest of the scalar, with the indent and the text as the code holds them
 pub rest-style : (lit : Bool) (k : Chomping) (m m' : Option ℕ) (b b' : Bool) (end : ℕ) (old : List Cell) (ls : List Line) → m' ≡ m → b' ≡ b → old ≡ []
     → rest lit k m b None [] end ls ≡ with_text old (rest lit k m' b' None [] end ls)
 rest-style lit k m m' b b' end old ls g h n =

@@ -1,4 +1,4 @@
--- The text of a scalar is from the file and within its span, and it is UTF-8 if the file is.
+-- A scalar that was read is placed as `IsPlaced` says, its text comes from the file, and it is UTF-8 if the file is.
 use Rattle.std.proofs.Common.{ℕ, ◌+◌, ◌<◌, ◌≤◌, List, length, drop, subst, arith, Result, Ok, Err, IfOk}
 use Rattle.std.proofs.lemmas.List.{length-map}
 use Rattle.std.specs.Prelude.{IsUtf8}

@@ -54,7 +54,7 @@ last-alone at (b ∷ bs) =
 abbrev after_lines : Context → Taken → List Line → Result Taken FaultAt
 after_lines p here ls = cond (is_empty (after_blanks (first_text ls))) (plain_lines p here (first_end ls) [] (later ls)) (Ok here)
 
--- The scalar ends before a line with text, or at the last line.
+-- The scalar ends here if more text follows on the line, or if the line is the last one.
 after-stop : (p : Context) (here : Taken) (ls : List Line) → LastAlone ls → begins_blank_line ls ≡ false → after_lines p here ls ≡ Ok here
 after-stop p here [] a h = refl
 after-stop p here (l ∷ ls) a h = by_text (is_empty (after_blanks l.text)) refl h
@@ -169,7 +169,7 @@ begins-on p cells end [] ys h k s m z = cc
 begins-on p cells end (x ∷ xs) [] h k s m z = cc
 begins-on p cells end (x ∷ xs) (y ∷ ys) h k s m z = rw (m, z, s.end, s.last, s.later) refl
 
--- the part of a further line is from `solid` to `end`; `rest` is the offset after the blanks that follow it
+-- the part of a later line is from `solid` to `end`; `rest` is the offset after the blanks that follow it
 module _ (p : Context) (bytes : List ℕ) (start solid end rest : ℕ) (text : after_blanks (text_at bytes start) ≡ text_at bytes solid)
     (goes : true ≡ (not (is_empty (text_at bytes solid)) && continues p (text_at bytes start))) (part : PartTo p true bytes solid end)
     (behind : after_blanks (text_at bytes end) ≡ text_at bytes rest) where

@@ -30,12 +30,12 @@ module _ (size : ℕ) where
   start-in low [] h = absurd h.0
   start-in low (l ∷ ls) h = let a = place-end low l.end l.text h.0.0 in let b = h.1.0 in omega (arith, a, b)
 
-  -- The same holds for the offset at which the lines start, which is within the file.
+  -- `low` may be raised to the start of the lines.
   pub stand-start : (low : ℕ) (ls : List Line) → Stand low ls → Stand (start ls) ls
   stand-start low [] h = h
   stand-start low (l ∷ ls) h = (((climbing-place low l.end l.text h.0.0).1, h.0.1), h.1)
 
-  -- Lines that start at an offset or after it are after it.
+  -- `low` may be any offset up to the start of the lines.
   pub stand-higher : (low low' : ℕ) (ls : List Line) → low' ≤ start ls → Stand low ls → Stand low' ls
   stand-higher low low' ls a h = stand-lower (start ls) low' ls a (stand-start low ls h)
 

@@ -9,7 +9,7 @@ use Rattle.al_scalar.proofs.Standing.{Stand, start-in}
 use Rattle.al_yaml_tree.specs.Node.{scalar_node}
 use Rattle.al_yaml_tree.specs.Spans.{IsPlacedIn}
 
--- the scalar is at `low` or later, its text within its span, and the remaining lines follow it
+-- the scalar is placed at `low` or later, and the remaining lines follow it
 pub record ReadIn (size low : ℕ) (r : ScalarRead) : Type 0 where
   pub placed : IsPlacedIn size low r.span.end (scalar_node r)
   pub left : Stand size r.span.end r.left

@@ -31,7 +31,7 @@ pub record Indicates (bytes : List ℕ) (at : ℕ) (asked : Result Header FaultA
   pub given : asked ≡ block.header_end h (text_at bytes h.end)
   pub on_line : OnLine bytes at h.end
 
--- whether a header may end at an offset: None if it may, or the offset of what mustn't follow it
+-- whether a header may end at an offset: None if it may, otherwise the offset of the text that isn't allowed there
 abbrev pub EndsHeader : List ℕ → ℕ → Option ℕ → Type 0
 EndsHeader bytes at None = (h : Header) → block.header_end h (text_at bytes at) ≡ Ok h
 EndsHeader bytes at (Some place) = (h : Header) → block.header_end h (text_at bytes at)
