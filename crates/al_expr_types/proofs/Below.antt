@@ -1,4 +1,4 @@
--- Numbers of objects that are there: what they stand for is the same in each table that has these objects.
+-- Types, objects and joins whose object numbers are in bounds: they stay so, and mean the same, in a table that has the same objects there.
 use Rattle.std.proofs.Common.{◌≡◌, ◌<◌, ◌≤◌, ℕ, List, [], ◌∷◌, ◌++◌, map, take, length, get_or, Bool, true, Option, Some, None, refl, sym, ap, ◌∙◌, arith}
 use Rattle.std.proofs.lemmas.Bool.{and_parts, lt-ltb, ltb-true}
 use Rattle.std.proofs.lemmas.List.{get_or_append_left, take-append-drop}
@@ -23,7 +23,7 @@ use Rattle.al_expr_types.specs.declared.objects.Fields.{Fields}
 use Rattle.al_expr_types.specs.declared.objects.Object.{Object}
 use Rattle.al_expr_types.specs.declared.objects.Object.TheVariants as object
 
--- ---- what holds of each element
+-- ---- predicates on all elements of a list
 
 module _ {X : Type 0} where
   pub all_taken : (test : X → Bool) (n : ℕ) (xs : List X) → list_all test xs ≡ true → list_all test (take n xs) ≡ true
@@ -46,11 +46,11 @@ module _ {X : Type 0} where
   pub all_at : (test : X → Bool) (xs : List X) (i : ℕ) (x : X) → i < length xs → list_all test xs ≡ true → test (get_or xs i x) ≡ true
   all_at test xs i x lt h = All-get_or (λ y. test y ≡ true) xs i x lt (AllPass-from_list_all test xs h)
 
--- an object among those of these numbers
+-- each number of a list is below the bound
 pub number_at : (n : ℕ) (ns : List ℕ) (i : ℕ) → i < length ns → are_below n ns ≡ true → get_or ns i 0 < n
 number_at n ns i lt h = ltb-true (get_or ns i 0) n (all_at (λ k. nat_lt k n) ns i 0 lt h)
 
--- ---- a table with the objects of the numbers below m, among those below n
+-- ---- tables that have the same objects below `m`, where `m` is at most `n`
 
 abbrev pub Has : List Parts → List Parts → ℕ → ℕ → Type 0
 Has new old m n = (k : ℕ) → nat_lt k m ≡ true → (nat_lt k n ≡ true) × (object_in new k ≡ object_in old k)
@@ -111,7 +111,7 @@ module _ (new old : List Parts) (m n : ℕ) (has : Has new old m n) where
   joined_same (joined.Objects s) h =
       let same = numbers_same s.objects.items h in (same.0, ap (λ ps. Present (arrays_of s.arrays (object_type (fuse_all ps)))) same.1)
 
--- ---- what an object is made of
+-- ---- the objects that an object refers to
 
 pub object_wider : (m n : ℕ) (o x : Object) → m < n → o ≡ x → is_object_below m o ≡ true → is_object_below n x ≡ true
 object_wider m n o x lt is h = ap (is_object_below n) (sym is) ∙ (object_same [] [] m n (has_itself [] m n (omega (arith, lt))) o h).0

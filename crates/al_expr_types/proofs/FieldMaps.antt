@@ -1,4 +1,4 @@
--- The fields of a map: with one more, and where the table has grown.
+-- The fields of a map: appending a field, and their types in a longer table.
 use Rattle.std.proofs.Common.{◌≡◌, ℕ, ◌+◌, List, [], ◌∷◌, ◌++◌, map, length, refl, sym, ap, ◌∙◌, true, Some, None, option_map, arith}
 use Rattle.std.proofs.lemmas.List.{length-map, map-append}
 use Rattle.std.specs.Prelude.{if◌then◌else◌, is_none, zip}
@@ -34,7 +34,7 @@ zip_behind (m ∷ ns) (u ∷ ts) n t e = ap (λ ps. (m, u) ∷ ps) (zip_behind n
 as_long : (ms : List Parts) (ns : List (List ℕ)) (ts : List Ty) → length ns ≡ length ts → length ns ≡ length (map (type_in ms) ts)
 as_long ms ns ts e = e ∙ sym (length-map ts (type_in ms))
 
--- a field whose name is new comes behind the others
+-- a field with a new name is appended
 pub new_field : (ms : List Parts) (ns : List (List ℕ)) (ts : List Ty) (n : List ℕ) (t : Ty) → length ns ≡ length ts → name_place ns n ≡ None →
     named_types ms (ns ++ n ∷ []) (ts ++ t ∷ []) ≡ put_new (named_types ms ns ts) (n, type_in ms t)
 new_field ms ns ts n t e new =
@@ -43,14 +43,14 @@ new_field ms ns ts n t e new =
     ap (zip (ns ++ n ∷ [])) (map-append (type_in ms) ts (t ∷ [])) ∙ zip_behind ns us n (type_in ms t) long
     ∙ sym (put_new_behind (zip ns us) (n, type_in ms t) (ap is_none (place_at ns us n long ∙ new)))
 
--- one whose name is there changes nothing
+-- a field whose name is there already changes nothing
 pub old_field : (ms : List Parts) (ns : List (List ℕ)) (ts : List Ty) (n : List ℕ) (t : Ty) (i : ℕ) → length ns ≡ length ts → name_place ns n ≡ Some i →
     named_types ms ns ts ≡ put_new (named_types ms ns ts) (n, type_in ms t)
 old_field ms ns ts n t i e old =
     let us = map (type_in ms) ts in
     sym (put_new_old (zip ns us) (n, type_in ms t) (ap is_none (place_at ns us n (as_long ms ns ts e) ∙ old)))
 
--- in a longer table the types are the same
+-- the fields have the same types in a longer table
 pub fields_stay : (new old : Types) (m : FieldMap) → BeginsWith (objects_of new) (objects_of old) → is_map_below (length old.objects.items) m ≡ true →
     fields_in (objects_of new) m ≡ fields_in (objects_of old) m
 fields_stay new old m b h =

@@ -1,4 +1,4 @@
--- What types have in common, by their arrays and by what these hold.
+-- Fusing types and assigning them, by their array depth and the base type.
 use Rattle.std.proofs.Common.{◌≡◌, ◌≢◌, ◌<◌, ◌+◌, ℕ, List, [], ◌∷◌, ◌++◌, map, zero, suc, min, refl, ap, ◌∙◌, arith}
 use Rattle.std.proofs.lemmas.List.{map-append}
 use Rattle.al_types.specs.Types.{Type', Any, ArrayOf, Parts, assignable_type, fuse_type, object_type}
@@ -17,7 +17,7 @@ scalar_object _ p = refl
 pub object_scalar : (p : Parts) (a : Scalar) → fuse_type (object_type p) (scalar_type a) ≡ Any
 object_scalar p a = fuse_turned (object_type p) (scalar_type a) ∙ scalar_object a p
 
--- what is no array has any in common with an array, and goes with one only where it is any
+-- A base type, which is no array, fused with an array is `Any`, and one can be assigned to the other only if the base type is `Any`.
 pub beside_array : (ms : List Parts) (b : Base) (a : Type') →
     (fuse_type (base_type ms b) (ArrayOf a) ≡ Any) × (assignable_type (base_type ms b) (ArrayOf a) ≡ is_any b) × (assignable_type (ArrayOf a) (base_type ms b) ≡ is_any b)
 beside_array ms (base.Scalar scalar.Any) a = (refl, refl, refl)
@@ -31,12 +31,12 @@ arrays_more zero k t = ap (λ n. arrays_of n t) (omega arith)
 arrays_more (suc j) k t =
     let e : suc j + k ≡ suc (j + k) = omega arith in ap (λ n. arrays_of n t) e ∙ ap (arrays_of 1) (arrays_more j k t)
 
--- as many
+-- of equal depth
 pub fuse_even : (k : ℕ) (x y : Type') → fuse_type (arrays_of k x) (arrays_of k y) ≡ arrays_of k (fuse_type x y)
 fuse_even zero x y = refl
 fuse_even (suc k) x y = ap ArrayOf (fuse_even k x y)
 
--- more and fewer
+-- of different depths: `Any`, at the lower depth
 pub fuse_uneven : (j k m : ℕ) (x y : Type') → ((a : Type') → fuse_type x (ArrayOf a) ≡ Any) → ((a : Type') → fuse_type y (ArrayOf a) ≡ Any) → j ≢ k → m ≡ min j k →
     fuse_type (arrays_of j x) (arrays_of k y) ≡ arrays_of m Any
 fuse_uneven zero zero m x y h g n e = absurd (n refl)
@@ -49,11 +49,11 @@ fuse_uneven (suc j) (suc k) m x y h g n e =
 
 -- ---- objects
 
--- one more
+-- one more object
 pub fused_push : (f : ℕ → Parts) (ns : List ℕ) (n : ℕ) → fuse_all (map f (ns ++ n ∷ [])) ≡ fuse_parts (fuse_all (map f ns)) (f n)
 fused_push f ns n = ap fuse_all (map-append f ns (n ∷ [])) ∙ fused_one_more (map f ns) (f n)
 
--- ---- where one type may stand for another
+-- ---- assigning one type to another
 
 pub assign_even : (k : ℕ) (x y : Type') → assignable_type (arrays_of k x) (arrays_of k y) ≡ assignable_type x y
 assign_even zero x y = refl

@@ -1,4 +1,4 @@
--- Parts of objects that are gathered, object after object and field after field.
+-- Fusing objects one after another, and their fields one after another.
 use Rattle.std.proofs.Common.{◌≡◌, ◌+◌, ◌<◌, ◌≤◌, ℕ, List, [], ◌∷◌, ◌++◌, map, take, length, get_or, zero, suc, false, Option, Some, None, refl, sym, ap, ◌∙◌, arith}
 use Rattle.std.proofs.lemmas.Bool.Decides.{nat_tests}
 use Rattle.std.proofs.lemmas.List.{map-append, take_more}
@@ -19,7 +19,7 @@ use Rattle.al_expr_types.specs.declared.parts.Part.{Part}
 use Rattle.al_expr_types.specs.declared.parts.Part.TheVariants as part
 use Rattle.al_expr_types.proofs.Fusing.{fused_push}
 
--- ---- what is found, as what may be there
+-- ---- optional results as `Optional`
 
 pub rest_is : (ms : List Parts) (o : Option Ty) → rest_in ms o ≡ optional (option_map (type_in ms) o)
 rest_is ms None = refl
@@ -29,7 +29,7 @@ pub asked_last : (x : Option Type') (at rest : Optional) → optional x ≡ rest
 asked_last x Absent rest e h = sym (optional_back x) ∙ ap option_of e
 asked_last x (Present t) rest e h = absurd cc
 
--- ---- what those of a list have in common, one after another
+-- ---- fusing the elements of a list one after another
 
 module _ {X : Type 0} (all : List X → Optional) (one : X → Optional) where
   pub taken : ((xs : List X) (x : X) → all (xs ++ x ∷ []) ≡ fuse_optional (all xs) (one x)) → (xs : List X) (i : ℕ) (x : X) → i < length xs → x ≡ get_or xs i x →
@@ -41,7 +41,7 @@ module _ {X : Type 0} (all : List X → Optional) (one : X → Optional) where
   next more xs i x start sofar new lt e old step =
       step ∙ ap (λ o. fuse_optional o (one x)) old ∙ optional_assoc start (all (take i xs)) (one x) ∙ ap (fuse_optional start) (sym (taken more xs i x lt e))
 
-  -- one that is among them adds nothing
+  -- fusing with an element of the list again changes nothing
   pub held : ((x : X) (xs : List X) → all (x ∷ xs) ≡ fuse_optional (one x) (all xs)) → (xs : List X) (x : X) (k : ℕ) → k < length xs → get_or xs k x ≡ x →
       fuse_optional (all xs) (one x) ≡ all xs
   held first [] x k lt e = absurd (omega (arith, lt))
@@ -52,7 +52,7 @@ module _ {X : Type 0} (all : List X → Optional) (one : X → Optional) where
       ap (λ o. fuse_optional o (one x)) (first y xs) ∙ optional_assoc (one y) (all xs) (one x)
       ∙ ap (fuse_optional (one y)) (held first xs x k (omega (arith, lt)) e) ∙ sym (first y xs)
 
--- objects
+-- for objects
 pub held_object : (f : ℕ → Parts) (ns : List ℕ) (n : ℕ) → Contains ns n → fuse_parts (fuse_all (map f ns)) (f n) ≡ fuse_all (map f ns)
 held_object f ns n c =
     let first : (k : ℕ) (ks : List ℕ) → fuse_all (map f (k ∷ ks)) ≡ fuse_parts (f k) (fuse_all (map f ks)) = λ k ks. fused_both (f k ∷ []) (map f ks) in
@@ -62,7 +62,7 @@ held_object f ns n c =
       held (λ ks. (fuse_all (map f ks)).2) (λ k. (f k).2) (λ k ks. ap (λ p. p.2) (first k ks)) ns n c.0 c.1 c.2 d,
     )
 
--- types
+-- for types: appending one
 pub common_push : (xs : List Type') (t : Type') → common_of (xs ++ t ∷ []) ≡ fuse_optional (common_of xs) (Present t)
 common_push [] t = refl
 common_push (x ∷ xs) t = ap (fuse_optional (Present x)) (common_push xs t) ∙ sym (optional_assoc (Present x) (common_of xs) (Present t))
@@ -70,7 +70,7 @@ common_push (x ∷ xs) t = ap (fuse_optional (Present x)) (common_push xs t) ∙
 pub types_more : {X : Type 0} (g : X → Type') (xs : List X) (x : X) → common_of (map g (xs ++ x ∷ [])) ≡ fuse_optional (common_of (map g xs)) (Present (g x))
 types_more g xs x = ap common_of (map-append g xs (x ∷ [])) ∙ common_push (map g xs) (g x)
 
--- names count nothing there
+-- the types of named fields, whatever their names are
 pub common_zipped : {X : Type 0} (g : X → Type') (ns : List (List ℕ)) (xs : List X) → length xs ≤ length ns →
     common_in (zip ns (map g xs)) ≡ common_of (map g xs)
 common_zipped g [] [] h = refl
@@ -80,7 +80,7 @@ common_zipped g (n ∷ ns) (x ∷ xs) h = ap (fuse_optional (Present (g x))) (co
 
 -- ---- objects one after another
 
--- what a part of an object adds is what that part of what it is made of does
+-- An object may be replaced by the one read from the table, and its parts by their meaning.
 pub of_object : (ms : List Parts) (part : Part) (start new : Optional) (p : Parts) (o x : Object) → p ≡ object_parts ms o → o ≡ x →
     new ≡ fuse_optional start (part_in part (object_parts ms x)) → new ≡ fuse_optional start (part_in part p)
 of_object ms part start new p o x is made e = e ∙ ap (λ q. fuse_optional start (part_in part q)) (sym (is ∙ ap (object_parts ms) made))
@@ -113,7 +113,7 @@ all_strings ns n e =
     let some : nat_eq n 0 ≡ not (nat_lt 0 n) = grind (arith, nat_tests) in
     nothing_last (common_in (strings ns)) ∙ common_strings ns ∙ ap string_unless (ap (λ k. nat_eq k 0) (sym e) ∙ some)
 
--- ---- fields, and others behind them
+-- ---- the types of fields, then the type of other fields
 
 pub fields_then_rest : (start all new common rest : Optional) → all ≡ fuse_optional start common → new ≡ fuse_optional all rest →
     new ≡ fuse_optional start (fuse_optional common rest)

@@ -1,4 +1,4 @@
--- The index of an object: what a name finds in what was made of its fields.
+-- The index of an object: looking up a name in fields that were made from joins.
 use Rattle.std.proofs.Common.{◌≡◌, ◌∙◌, ℕ, List, [], ◌∷◌, map, get_or, zero, suc, Option, Some, None, refl, ap}
 use Rattle.std.proofs.Math.ListN.{get_or-map}
 use Rattle.std.specs.Prelude.{option_and_then, slice_get}
@@ -26,7 +26,7 @@ mapped_twice : (g : Ty → Type') (ts : List Ty) → map Present (map g ts) ≡ 
 mapped_twice g [] = refl
 mapped_twice g (t ∷ ts) = ap (λ l. Present (g t) ∷ l) (mapped_twice g ts)
 
--- what a name finds among them
+-- looking up a name among fields whose types are those of the joins
 pub index_named : (ms now : List Parts) (ns : List (List ℕ)) (js : List Join) (ts : List Ty) → map (λ t. Present (type_in now t)) ts ≡ map (join_in ms) js →
     (n : List ℕ) → optional (field_at n (named_types now ns ts)) ≡ slot_in ms js (name_place ns n)
 index_named ms now ns js ts e n =

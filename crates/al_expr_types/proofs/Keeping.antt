@@ -1,4 +1,4 @@
--- What is kept of objects stays right where objects are added, and where more is kept.
+-- The caches of a table of objects stay right when objects are appended, and when an entry is inserted.
 use Rattle.std.proofs.Common.{◌≡◌, ◌<◌, ◌≤◌, ◌+◌, ℕ, List, [], ◌∷◌, ◌++◌, length, map, take, get_or, cond, Bool, true, false, Option, Some, None, Result, Ok, Err, Bor}
 use Rattle.std.proofs.Common.{refl, sym, ap, subst, ◌∙◌, arith}
 use Rattle.std.proofs.lemmas.Bool.{lt-ltb, ltb-true}
@@ -26,7 +26,7 @@ use Rattle.al_expr_types.proofs.Gathering.{rest_is}
 use Rattle.al_expr_types.proofs.Scans.{mapped_more}
 use Rattle.al_expr_types.proofs.Tables.{length_after}
 
--- a longer table
+-- the longer table has at least as many objects
 pub longer : (new old : List Object) → BeginsWith (parts_of_all new) (parts_of_all old) → length old ≤ length new
 longer new old b =
     let a = length_after [] old in
@@ -60,13 +60,13 @@ indexes_longer new old kept b h n f e =
       (ap (λ p. p.0) fields.1 ∙ is.1.0 ∙ ap (λ p. p.0) (sym there.1), ap (λ p. p.1) fields.1 ∙ is.1.1 ∙ ap (λ p. p.1) (sym there.1)),
     )
 
--- ---- one more that is kept
+-- ---- inserting an entry
 
 same_number : (n m : ℕ) → is_eq (nat_cmp n m) ≡ true → n ≡ m
 same_number n m e = grind (arith, nat_tests)
 
 module _ {X : Type 0} (P : ℕ → X → Type 0) where
-  -- it holds of each value at its key
+  -- every entry satisfies the predicate
   abbrev Each : BTreeMap ℕ X → Type 0
   Each kept = (n : ℕ) (x : X) → get nat_cmp kept n ≡ Some x → P n x
 
@@ -81,7 +81,7 @@ module _ {X : Type 0} (P : ℕ → X → Type 0) where
       (sym (updates.0 m) ∙ e)
   each_insert (Err o) old new n x updates unchanged h each m y e = each m y (ap (lookup (is_at (nat_cmp m))) (sym unchanged) ∙ e)
 
--- ---- what is found
+-- ---- looking up an entry
 
 pub common_at : (types : Types) (n : ℕ) (o : Option (Option Ty)) → o ≡ get nat_cmp types.commons n → IfSome o (IsCommon types.objects.items n)
 common_at types n None e = tt
@@ -91,12 +91,12 @@ pub index_at : (types : Types) (n : ℕ) (o : Option (Bor Fields)) → option_co
 index_at types n None e = tt
 index_at types n (Some f) e = types.indexed n f.now (sym e)
 
--- ---- what is answered
+-- ---- the cached type as an answer
 
 pub kept_answer : (os : List Object) (n : ℕ) (t : Option Ty) → IsCommon os n t → option_map (type_in (parts_of_all os)) t ≡ option_of (object_in (parts_of_all os) n).2
 kept_answer os n t h = sym (optional_back (option_map (type_in (parts_of_all os)) t)) ∙ ap option_of (sym (rest_is (parts_of_all os) t) ∙ h.2)
 
--- ---- what was joined so far stands for the same in a longer table
+-- ---- a join means the same in a longer table
 
 pub joined_longer : (new old : List Object) (j : Join) → BeginsWith (parts_of_all new) (parts_of_all old) → is_join_below (length old) j ≡ true →
     join_in (parts_of_all new) j ≡ join_in (parts_of_all old) j
@@ -105,7 +105,7 @@ joined_longer new old j b h = (joined_same (parts_of_all new) (parts_of_all old)
 pub joined_wider : (m n : ℕ) → m ≤ n → (j : Join) → is_join_below m j ≡ true → is_join_below n j ≡ true
 joined_wider m n le j h = (joined_same [] [] m n (has_itself [] m n le) j h).0
 
--- one type more that is made of what was joined, in a table that grows
+-- Appending the type made from the next join, in a table that has grown meanwhile, keeps the invariant.
 pub made_next : (entry now next : List Object) (js : List Join) (i : ℕ) (j : Join) (ts new : List Ty) (t : Ty) →
     BeginsWith (parts_of_all now) (parts_of_all entry) → BeginsWith (parts_of_all next) (parts_of_all now) → i < length js → j ≡ get_or js i j →
     is_join_below (length entry) j ≡ true → list_all (is_below (length now)) ts ≡ true → new ≡ ts ++ t ∷ [] →

@@ -1,4 +1,4 @@
--- A type more of a name, at its place or at a new one.
+-- Merging one more type of a name into the joins, at the position of its name or at a new one.
 use Rattle.std.proofs.Common.{◌≡◌, ◌≢◌, ◌+◌, ◌<◌, ◌≤◌, ℕ, List, [], ◌∷◌, ◌++◌, length, map, get_or, set, take, suc, ⊎_elim, Bool, true, false}
 use Rattle.std.proofs.Common.{Option, Some, None, option_map, refl, sym, ap, ◌∙◌, arith}
 use Rattle.std.proofs.lemmas.List.{get_or-set_same, get_or-set_other, get_or-take, get_or_append_left, get_or_at, length-take}
@@ -28,7 +28,7 @@ use Rattle.al_expr_types.specs.declared.merging.FieldJoins.{FieldJoins}
 use Rattle.al_expr_types.specs.declared.objects.Object.{Object}
 use Rattle.al_expr_types.specs.declared.joining.Join.TheVariants as joined
 
--- names that are the same stand at one place
+-- equal names have the same position
 pub place_same : (ns : List (List ℕ)) (name n : List ℕ) → same_name name n ≡ true → name_place ns n ≡ name_place ns name
 place_same ns name n e =
     ap (λ (f : List ℕ). first_at (λ m. bytes_eq (lower_case m) f) ns) (sym ((bytes_decides (lower_case name) (lower_case n)).0 e))
@@ -43,12 +43,12 @@ module _ {A : Type 0} (test : A → Bool) where
       let z : suc j ≡ i = omega (arith, y) in
       ap (λ k. test (get_or (x ∷ xs) k d)) (sym z) ∙ h j refl
 
-  -- the first that passes a test does so
+  -- the element at the first position found passes the test
   pub first_passes : (xs : List A) (i : ℕ) (d : A) → first_at test xs ≡ Some i → test (get_or xs i d) ≡ true
   first_passes [] i d e = absurd cc
   first_passes (x ∷ xs) i d e = passes_step (test x) (first_at test xs) x d xs i refl (λ j h. first_passes xs j d h) e
 
--- names that differ stand at places that do
+-- different names have different positions
 other_place : (ns : List (List ℕ)) (name n : List ℕ) (i j : ℕ) → name_place ns name ≡ Some i → name_place ns n ≡ Some j → same_name name n ≡ false → j ≢ i
 other_place ns name n i j at there differ same =
     let x = get_or ns i [] in
@@ -72,7 +72,7 @@ joined_step ms ns js name n i x t true is at lt e =
 joined_step ms ns js name n i x t false is at lt e =
     ap (join_in ms) (slot_other js i x (name_place ns n) (λ j there. other_place ns name n i j at there is))
 
--- at the place of the name
+-- setting the join at the position of the name
 pub joined_at : (ms : List Parts) (ns : List (List ℕ)) (js : List Join) (name : List ℕ) (i : ℕ) (x : Join) (t : Optional) →
     name_place ns name ≡ Some i → i < length js → join_in ms x ≡ fuse_optional (join_in ms (get_or js i joined.Nothing)) t → (n : List ℕ) →
     slot_in ms (set js i x) (name_place ns n)
@@ -99,7 +99,7 @@ pushed_step ms ns js name n x false is at len =
     ap (slot_in ms (js ++ x ∷ [])) (or_none (name_place ns n))
     ∙ ap (join_in ms) (slot_more js x (name_place ns n) (λ j there. let lt = first_within (λ m. same_name m n) ns j there in omega (arith, lt, len)))
 
--- behind the others
+-- appending the join of a new name
 pub pushed_behind : (ms : List Parts) (ns : List (List ℕ)) (js : List Join) (name : List ℕ) (x : Join) → name_place ns name ≡ None → length ns ≡ length js →
     (n : List ℕ) →
     slot_in ms (js ++ x ∷ []) (name_place (ns ++ name ∷ []) n)
@@ -107,7 +107,7 @@ pub pushed_behind : (ms : List Parts) (ns : List (List ℕ)) (js : List Join) (n
 pushed_behind ms ns js name x at len n =
     ap (slot_in ms (js ++ x ∷ [])) (first_more (λ m. same_name m n) ns name) ∙ pushed_step ms ns js name n x (same_name name n) refl at len
 
--- ---- in the code
+-- ---- bounds of positions, and setting an element
 
 pub joined_within : (m : FieldJoins) (name : List ℕ) (i : ℕ) → name_place (names_in m.names) name ≡ Some i → i < length m.joins.items
 joined_within m name i at = let lt = first_within (λ n. same_name n name) (names_in m.names) i at in omega (arith, lt, m.even)
@@ -115,7 +115,7 @@ joined_within m name i at = let lt = first_within (λ n. same_name n name) (name
 pub all_set : {X : Type 0} (test : X → Bool) (xs : List X) (i : ℕ) (x : X) → list_all test xs ≡ true → test x ≡ true → list_all test (set xs i x) ≡ true
 all_set test xs i x h k = list_all-from_AllPass test (set xs i x) (All-set (λ y. test y ≡ true) xs i x k (AllPass-from_list_all test xs h))
 
--- the fields of an object are those of what it is made of
+-- An object may be replaced by the one read from the table, and its parts by their meaning.
 pub of_object : (ms : List Parts) (start new : List ℕ → Optional) (p : Parts) (o x : Object) → p ≡ object_parts ms o → o ≡ x →
     new ≡ (λ n. fuse_optional (start n) ((object_parts ms x).0 n)) → new ≡ (λ n. fuse_optional (start n) (p.0 n))
 of_object ms start new p o x is made e = e ∙ ap (λ q n. fuse_optional (start n) (q.0 n)) (sym (is ∙ ap (object_parts ms) made))
@@ -133,7 +133,7 @@ placed_is : (o : Option ℕ) (i : ℕ) → is_placed o i ≡ true → o ≡ Some
 placed_is None i h = absurd cc
 placed_is (Some k) i h = let same : k ≡ i = grind (arith, nat_tests) in ap Some same
 
--- a name stands at a position where it is the one there, and that is the first of its name
+-- The position of `n` is `i` if and only if `i` is the first position of the name there and that name equals `n`.
 placed_both : (ns : List (List ℕ)) (x n : List ℕ) (i : ℕ) → x ≡ get_or ns i x → is_placed (name_place ns n) i ≡ (is_placed (name_place ns x) i && same_name x n)
 placed_both ns x n i e =
     let there : name_place ns n ≡ Some i → (is_placed (name_place ns x) i && same_name x n) ≡ true = λ at.
@@ -145,7 +145,7 @@ placed_both ns x n i e =
 within : (us : List Type') (n k : ℕ) (d : Type') → k < n → n ≤ length us → slice_get (take n us) k ≡ Some (get_or us k d)
 within us n k d lt le = slice_get-get_or (take n us) k d (omega (arith, length-take n us, lt, le)) ∙ ap Some (get_or-take n us k d lt)
 
--- what stands at a place among so many types, and one more of them
+-- the type at a position, among the first `i` types and among the first `i + 1`
 at_next : (us : List Type') (o : Option ℕ) (i : ℕ) (t d : Type') (start sofar new : Optional) (b : Bool) → b ≡ is_placed o i → i < length us → t ≡ get_or us i d →
     sofar ≡ fuse_optional start (optional (option_and_then (λ k. slice_get (take i us) k) o)) → new ≡ (if b then fuse_optional sofar (Present t) else sofar) →
     new ≡ fuse_optional start (optional (option_and_then (λ k. slice_get (take (i + 1) us) k) o))
@@ -177,7 +177,7 @@ pub merged_none : (ns : List (List ℕ)) (n : List ℕ) (start : Optional) → s
 merged_none [] n start = sym (nothing_last start)
 merged_none (m ∷ ns) n start = sym (nothing_last start)
 
--- the fields of some names, and one more of them, which counts where it is the first of its name
+-- one more field, which counts if it is the first with its name
 pub merged_next : (ns : List (List ℕ)) (us : List Type') (i : ℕ) (x : List ℕ) (t d : Type') (first : Bool) (start sofar new : List ℕ → Optional) → i < length us →
     x ≡ get_or ns i x → t ≡ get_or us i d → first ≡ is_placed (name_place ns x) i →
     ((n : List ℕ) → sofar n ≡ fuse_optional (start n) (optional (field_at n (zip ns (take i us))))) → new ≡ (if first then and_named sofar x (Present t) else sofar) →
@@ -189,7 +189,7 @@ merged_next ns us i x t d first start sofar new lt name ty is old step n =
     (old n ∙ ap (fuse_optional (start n)) (found i)) (ap (λ f. f n) step ∙ named_if first sofar x n (Present t))
     ∙ ap (fuse_optional (start n)) (sym (found (i + 1)))
 
--- strings
+-- string fields as names with types
 pub strings_zip : (ns : List (List ℕ)) → strings ns ≡ zip ns (map (λ n. String) ns)
 strings_zip [] = refl
 strings_zip (n ∷ ns) = ap (λ fs. (n, String) ∷ fs) (strings_zip ns)

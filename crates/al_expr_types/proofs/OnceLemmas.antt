@@ -1,4 +1,4 @@
--- Names of which no two are the same: with one more behind them, as the names of fields, and where each stands.
+-- Lists of distinct names: appending a name, pairing them with types, and their positions.
 use Rattle.std.proofs.Common.{◌≡◌, ℕ, ◌+◌, ◌<◌, List, [], ◌∷◌, ◌++◌, refl, sym, ap, ◌∙◌, Bool, true, false, ◌||◌, Option, Some, None, option_map, arith, get_or, length, suc, zero}
 use Rattle.std.proofs.lemmas.Bool.{not-false, or_parts}
 use Rattle.std.proofs.lemmas.List.{map-append}
@@ -19,11 +19,11 @@ some_mapped : (o : Option ℕ) → is_some (option_map (λ i. String) o) ≡ not
 some_mapped None = refl
 some_mapped (Some i) = refl
 
--- a name is that of a string where it stands among the names
+-- a name is a field of `strings ns` if and only if it has a position in `ns`
 has_by_name : (ns : List (List ℕ)) (n : List ℕ) → has_field n (strings ns) ≡ not (is_none (name_place ns n))
 has_by_name ns n = sym (has_field_at n (strings ns)) ∙ ap is_some (string_at ns n) ∙ some_mapped (name_place ns n)
 
--- names and one more that none of them is
+-- appending a new name keeps the names distinct
 pub once_more : (ns : List (List ℕ)) (n : List ℕ) → name_place ns n ≡ None → are_once ns ≡ true → are_once (ns ++ n ∷ []) ≡ true
 once_more ns n new h =
     ap are_distinct (map-append (λ (k : List ℕ). (k, String)) ns (n ∷ [])) ∙ distinct_more (strings ns) n String
@@ -36,7 +36,7 @@ lacks_name n (m ∷ ns) (t ∷ ts) h =
     let no = or_parts (same_name m n) (has_field n (strings ns)) h in
     λ d. no.0 d || lacks_name n ns ts no.1 d
 
--- fields of such names are distinct
+-- fields with distinct names are distinct
 pub once_distinct : (ns : List (List ℕ)) (ts : List Type') → are_once ns ≡ true → are_distinct (zip ns ts) ≡ true
 once_distinct [] ts h = refl
 once_distinct (m ∷ ns) [] h = refl
@@ -49,7 +49,7 @@ apart_by : (b : Bool) (o : Option ℕ) (i : ℕ) → o ≡ Some i → (b ≡ tru
 apart_by true o i there h = let no : None ≡ Some i = sym (h refl) ∙ there in absurd cc
 apart_by false o i there h = refl
 
--- each of such names is the first of its name
+-- each of distinct names is the first with its name
 pub once_place : (ns : List (List ℕ)) (i : ℕ) (x : List ℕ) → are_once ns ≡ true → i < length ns → x ≡ get_or ns i x → name_place ns x ≡ Some i
 once_place [] i x h lt e = absurd (omega (arith, lt))
 once_place (m ∷ ns) zero x h lt e =

@@ -1,4 +1,4 @@
--- Prefixes of the fields of a map: what all have in common is what those of the base have, and the types behind them.
+-- Prefixes of the fields of a map: the common type of all fields from that of a shorter prefix and the types after it.
 use Rattle.std.proofs.Common.{◌≡◌, ◌+◌, ◌<◌, ◌≤◌, ℕ, List, [], ◌∷◌, ◌++◌, get_or, map, take, length, true, Option, Some, None, refl, sym, ap, ◌∙◌, arith}
 use Rattle.std.proofs.lemmas.List.{length-take}
 use Rattle.std.specs.List.{list_all}
@@ -19,7 +19,7 @@ use Rattle.al_expr_types.proofs.Below.{all_taken, types_same}
 use Rattle.al_expr_types.proofs.Gathering.{common_zipped, held, taken, types_more}
 use Rattle.al_expr_types.proofs.Keeping.{has_old, longer, same_there}
 
--- ---- what the first types have in common, by fewer of them and types behind these
+-- ---- the common type of the first types, from that of fewer and of the types after these
 
 abbrev common : (Ty → Type') → List Ty → Optional
 common g ts = common_of (map g ts)
@@ -44,7 +44,7 @@ behind_same ts own j i t lt e there h = λ ms.
     h ms ∙ sym (held (common g) (λ u. Present (g u)) (λ u us. refl) (take i ts) t there.0 there.1 there.2)
     ∙ sym (taken (common g) (λ u. Present (g u)) (types_more g) ts i t lt e)
 
--- what all fields of a prefix have in common
+-- the common type of all fields of a prefix
 prefix_common : (ms : List Parts) (m : FieldMap) (k : ℕ) → (prefix_parts ms m k).2 ≡ common_of (map (type_in ms) (take k m.types.items))
 prefix_common ms m k =
     let ns = names_in m.names in
@@ -52,11 +52,11 @@ prefix_common ms m k =
     let few : length ts ≤ length ns = omega (arith, length-take k m.types.items, m.even) in
     nothing_last (common_in (named_types ms ns ts)) ∙ common_zipped (type_in ms) ns ts few
 
--- fields of a map, and no others
+-- fields that are a prefix of a map, without a type of other fields
 pub prefix_is : (ms : List Parts) (f : Fields) (m : FieldMap) (k : ℕ) → f.map.value ≡ m → f.count ≡ k → f.rest ≡ None → fields_parts ms f ≡ prefix_parts ms m k
 prefix_is ms f m k e n r = λ d. parts_with (named_types ms (names_in (e d).names) (take (n d) (e d).types.items)) (rest_in ms (r d))
 
--- fields by a prefix are what they are without it
+-- an extension of a prefix has the same parts as the longer prefix
 pub same_by : (ms : List Parts) (f : Fields) (b : Prefix) (own : List Ty) (m : FieldMap) (k : ℕ) → f.map.value ≡ m → f.count ≡ k → f.rest ≡ None →
     IsBehind m.types.items b.count own k → object_in ms b.object ≡ prefix_parts ms m b.count → parts_by ms f b own ≡ prefix_parts ms m k
 same_by ms f b own m k at n r behind base =

@@ -1,4 +1,4 @@
--- Where the first element stands that passes a test, by a search from the start; and indexes of names, made one after another.
+-- Finding the first element that passes a test by a linear scan, and building an index of names along the way.
 use Rattle.std.proofs.Common.{◌≡◌, ℕ, ◌+◌, ◌<◌, List, [], ◌∷◌, ◌++◌, map, take, length, get_or, zero, suc, sym, ap, ◌∙◌, Bool, true, false, Option, Some, None, option_map, arith}
 use Rattle.std.proofs.lemmas.List.{length-map, length-take, map_more}
 use Rattle.std.specs.Option.{option_or}
@@ -17,12 +17,12 @@ here_step false None p i n h =
     let next : i + 1 ≡ suc i = omega arith in
     ap (option_map (λ k. k + 1)) (h n) ∙ ap Some next
 
--- the first elements of a list and one more, by what they are seen as
+-- one more element of a prefix, under a map
 pub mapped_more : {X Y : Type 0} (g : X → Y) (xs : List X) (i : ℕ) (x : X) → i < length xs → x ≡ get_or xs i x →
     map g (take (i + 1) xs) ≡ map g (take i xs) ++ g x ∷ []
 mapped_more g xs i x lt e = map_more g xs i x lt ∙ ap (λ y. map g (take i xs) ++ g y ∷ []) (sym e)
 
--- the one at an index, where none before it passes
+-- the element at an index, if none before it passes
 pub found_here : {X Y : Type 0} (g : X → Y) (test : Y → Bool) (xs : List X) (i : ℕ) (x : X) → i < length xs → x ≡ get_or xs i x →
     first_at test (map g (take i xs)) ≡ None → test (g x) ≡ true → first_at test (map g xs) ≡ Some i
 found_here g test [] i x lt e n t = absurd (omega (arith, lt))
@@ -32,7 +32,7 @@ found_here g test (y ∷ xs) (suc i) x lt e n t =
     here_step (test (g y)) (first_at test (map g (take i xs))) (first_at test (map g xs)) i n
     (λ m. found_here g test xs i x (omega (arith, lt)) e m t)
 
--- none up to an index and none there
+-- none before an index passes, nor does the element there
 pub missed_here : {X Y : Type 0} (g : X → Y) (test : Y → Bool) (xs : List X) (i : ℕ) (x : X) → i < length xs → x ≡ get_or xs i x →
     first_at test (map g (take i xs)) ≡ None → test (g x) ≡ false → first_at test (map g (take (i + 1) xs)) ≡ None
 missed_here g test xs i x lt e n t =
@@ -40,7 +40,7 @@ missed_here g test xs i x lt e n t =
     ∙ ap (λ o. option_or o (if test (g x) then Some (length (map g (take i xs))) else None)) n
     ∙ ap (λ b. if b then Some (length (map g (take i xs))) else None) t
 
--- an index of the names up to a position, and of the one there
+-- an index of the first `i` names, and the name at `i` added
 pub indexed_more : {X : Type 0} (g : X → List ℕ) (old new : NameIndex) (xs : List X) (i : ℕ) (d : X) → i < length xs → IsNameIndex old (map g (take i xs)) →
     place_in new ≡ and_place (place_in old) (g (get_or xs i d)) i → IsNameIndex new (map g (take (i + 1) xs))
 indexed_more g old new xs i d lt h e =

@@ -1,4 +1,4 @@
--- What numbers stand for, where the table has grown.
+-- A type means the same, and stays in bounds, in a longer table.
 use Rattle.std.proofs.Common.{◌≡◌, length, true}
 use Rattle.al_base.specs.Growth.{BeginsWith}
 use Rattle.al_expr_types.specs.Tables.{is_known, objects_of, type_at}

@@ -1,4 +1,4 @@
--- Objects one after another: one more changes none before it, and each is what it is made of.
+-- Tables of objects: appending one leaves those before it as they are, and each means what its definition says.
 use Rattle.std.proofs.Common.{◌≡◌, ◌+◌, ◌<◌, ℕ, List, [], ◌∷◌, ◌++◌, length, get_or, zero, suc, Bool, true, false, refl, sym, ap, ◌∙◌, arith, append_assoc, append-nil}
 use Rattle.std.proofs.lemmas.List.{get_or_at, length-append}
 use Rattle.std.proofs.lemmas.Bool.{and_parts}
@@ -10,7 +10,7 @@ use Rattle.al_expr_types.specs.Types.{are_in_order, is_object_below, no_parts, o
 use Rattle.al_expr_types.specs.declared.objects.Object.{Object}
 use Rattle.al_expr_types.proofs.Below.{has_longer, object_same}
 
--- those behind others
+-- the parts of an appended table
 pub after_append : (ms : List Parts) (xs ys : List Object) → parts_after ms (xs ++ ys) ≡ parts_after ms xs ++ parts_after (ms ++ parts_after ms xs) ys
 after_append ms [] ys = ap (λ l. parts_after l ys) (sym (append-nil ms))
 after_append ms (x ∷ xs) ys =
@@ -22,14 +22,14 @@ pub length_after : (ms : List Parts) (os : List Object) → length (parts_after 
 length_after ms [] = refl
 length_after ms (o ∷ os) = ap suc (length_after (ms ++ object_parts ms o ∷ []) os)
 
--- one more
+-- appending one object
 pub one_more : (os : List Object) (o : Object) → parts_of_all (os ++ o ∷ []) ≡ parts_of_all os ++ object_parts (parts_of_all os) o ∷ []
 one_more os o = after_append [] os (o ∷ [])
 
 pub number_of_more : (ms : List Parts) (p : Parts) (n : ℕ) → length ms ≡ n → object_in (ms ++ p ∷ []) n ≡ p
 number_of_more ms p n e = get_or_at ms p [] no_parts n e
 
--- ---- order
+-- ---- objects in order
 
 one_longer : (ms : List Parts) (p : Parts) → length (ms ++ p ∷ []) ≡ suc (length ms)
 one_longer ms p = length-append ms (p ∷ []) ∙ omega arith
@@ -41,7 +41,7 @@ order_more n m (x ∷ os) o h e k =
     let both = and_parts (is_object_below n x) (are_in_order (suc n) os) h in
     λ d. both.0 d && order_more (suc n) m os o both.1 (omega (arith, e)) k d
 
--- ---- what an object is made of stands before it, and its number stands for what it is made of
+-- ---- each object refers only to those before it, and its number means what the object does
 
 read_after : (ms : List Parts) (n m : ℕ) (os : List Object) (i : ℕ) (o : Object) → n ≡ length ms → m ≡ n + i → are_in_order n os ≡ true → i < length os → o ≡ get_or os i o →
     (is_object_below m o ≡ true) × (get_or (parts_after ms os) i no_parts ≡ object_parts (ms ++ parts_after ms os) o)
@@ -64,7 +64,7 @@ pub read : (os : List Object) (i : ℕ) (o : Object) → are_in_order 0 os ≡ t
     (is_object_below i o ≡ true) × (object_in (parts_of_all os) i ≡ object_parts (parts_of_all os) o)
 read os i o h lt e = read_after [] 0 i os i o refl (omega arith) h lt e
 
--- ---- where memory may be wanting
+-- ---- where allocation may fail
 
 pub grown_if : (ok : Bool) (new old : List Object) (o : Object) → new ≡ (if ok then old ++ o ∷ [] else old) → are_in_order 0 old ≡ true →
     is_object_below (length old) o ≡ true → (are_in_order 0 new ≡ true) × BeginsWith (parts_of_all new) (parts_of_all old)
