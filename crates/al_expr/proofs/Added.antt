@@ -1,4 +1,4 @@
--- Objects that fields are added to, one after another.
+-- Adding fields to an object, one after another.
 use Rattle.std.proofs.Common.{◌≡◌, ℕ, List, [], ◌∷◌, ◌++◌, refl, sym, ap, ◌∙◌, Bool, true, false, Some, None}
 use Rattle.std.specs.Prelude.{if◌then◌else◌, is_none, is_some, not, ◌&&◌}
 use Rattle.al_base.specs.Names.{same_name}
@@ -16,7 +16,7 @@ use Rattle.al_expr_types.proofs.NameIndexes.{none_there}
 use Rattle.al_expr.specs.Trees.{field_parts, listed_parts}
 use Rattle.al_expr.proofs.Firsts.{firsts_more, firsts_old, none_first}
 
--- ---- a field that is put to others
+-- ---- adding one field
 
 pub parts_put : (ts : List TypedName) (p : TypedName) (r : Optional) → parts_with (put_or_fuse ts p) r ≡ fuse_parts (parts_with ts r) (field_parts p)
 parts_put ts p r =
@@ -43,7 +43,7 @@ put_distinct (q ∷ qs) p d =
 
 -- ---- fields one after another
 
--- one that is the first of its name
+-- the first field with its name
 pub added_first : (ts : List TypedName) (p : TypedName) (start old new : Parts) → is_none (name_at ts p.0) ≡ true →
     old ≡ fuse_parts start (listed_parts ts Absent) → new ≡ fuse_parts old (field_parts p) → new ≡ fuse_parts start (listed_parts (ts ++ p ∷ []) Absent)
 added_first ts p start old new first was is =
@@ -51,7 +51,7 @@ added_first ts p start old new first was is =
     is ∙ ap (λ q. fuse_parts q (field_parts p)) was ∙ parts_assoc start (listed_parts ts Absent) (field_parts p)
     ∙ ap (fuse_parts start) (sym (parts_put (firsts ts) p Absent) ∙ ap (λ us. parts_with us Absent) (put_behind (firsts ts) p none ∙ sym (firsts_more ts p)))
 
--- one that isn't
+-- a field whose name came before
 pub added_later : (ts : List TypedName) (p : TypedName) (start old : Parts) → is_none (name_at ts p.0) ≡ false →
     old ≡ fuse_parts start (listed_parts ts Absent) → old ≡ fuse_parts start (listed_parts (ts ++ p ∷ []) Absent)
 added_later ts p start old later was = was ∙ ap (λ us. fuse_parts start (parts_with us Absent)) (sym (firsts_old ts p later))
@@ -62,13 +62,13 @@ added_none start = λ d. (λ n. sym (nothing_last (start.0 n)) d, sym (nothing_l
 
 -- ---- the type of other fields
 
--- an object, and others that it may have
+-- an object, and a type of other fields fused with it
 pub with_rest : (p : Parts) (ts : List TypedName) (r s : Optional) → p ≡ parts_with ts r → parts_with ts (fuse_optional r s) ≡ fuse_parts p (parts_with [] s)
 with_rest p ts r s e =
     (λ d. (λ n. sym (nothing_last (optional (field_at n ts))) d, fuse_optional r s, sym (optional_assoc (common_in ts) r s) d))
     ∙ ap (λ q. fuse_parts q (parts_with [] s)) (sym e)
 
--- fields, and then others
+-- fields, then the type of other fields
 pub whole : (p q new : Parts) (ts : List TypedName) (s : Optional) → q ≡ fuse_parts p (listed_parts ts Absent) → new ≡ fuse_parts q (parts_with [] s) →
     new ≡ fuse_parts p (listed_parts ts s)
 whole p q new ts s e is =

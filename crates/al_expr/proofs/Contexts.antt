@@ -1,4 +1,4 @@
--- What holds of each context, and numbers in a table that has grown.
+-- A predicate that is true of each context is true of all, and types in a longer table.
 use Rattle.std.proofs.Common.{◌≡◌, true, ◌∙◌}
 use Rattle.al_base.specs.Growth.{BeginsWith}
 use Rattle.al_types.specs.Types.{Type'}
@@ -24,7 +24,7 @@ each_context P a b c d e f g h i j k l context.Steps = j
 each_context P a b c d e f g h i j k l context.Matrix = k
 each_context P a b c d e f g h i j k l context.Inputs = l
 
--- what a number stood for it stands for in a longer table
+-- a type means the same in a longer table
 pub stands_still : (new old : Types) (t : Ty) (u : Type') → BeginsWith (objects_of new) (objects_of old) → is_known old t ≡ true → type_at old t ≡ u →
     (is_known new t ≡ true) × (type_at new t ≡ u)
 stands_still new old t u b h e = (known_stays new old t b h, type_stays new old t b h ∙ e)

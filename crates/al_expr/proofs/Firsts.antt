@@ -1,4 +1,4 @@
--- Of fields the first of each name: of distinct ones all, and with one more behind them.
+-- The first field of each name: all fields if the names are distinct, and with one more field appended.
 use Rattle.std.proofs.Common.{◌≡◌, ◌+◌, ℕ, List, [], ◌∷◌, ◌++◌, append_assoc, append-nil, refl, sym, ap, ◌∙◌, Bool, true, false, ◌||◌, Option, Some, None, option_map}
 use Rattle.std.proofs.Math.Bool.{or_assoc}
 use Rattle.std.proofs.lemmas.Bool.{or_parts}
@@ -12,7 +12,7 @@ use Rattle.al_types.proofs.GatheredFields.{firsts_found}
 use Rattle.al_types.proofs.JoinedFields.{first_apart, has_field_at, others_apart, same_turned}
 use Rattle.al_types.proofs.Puts.{put_new_behind, put_new_old}
 
--- ---- where a name stands, and what it finds
+-- ---- the position of a name, and whether a field has it
 
 place_step : (b : Bool) (t : Type') (o : Option ℕ) (f : Option Type') → is_none o ≡ is_none f →
     is_none (if b then Some 0 else option_map (λ i. i + 1) o) ≡ is_none (if b then Some t else f)
@@ -24,7 +24,7 @@ pub none_at : (ts : List TypedName) (n : List ℕ) → is_none (name_at ts n) �
 none_at [] n = refl
 none_at (q ∷ qs) n = place_step (same_name q.0 n) q.1 (name_at qs n) (field_at n qs) (none_at qs n)
 
--- the same of those of which each is the first of its name
+-- a name is missing among the first fields of each name if and only if it is missing among all
 pub none_first : (ts : List TypedName) (n : List ℕ) → is_none (name_at (firsts ts) n) ≡ is_none (name_at ts n)
 none_first ts n = none_at (firsts ts) n ∙ ap is_none (firsts_found ts n) ∙ sym (none_at ts n)
 
@@ -35,14 +35,14 @@ not_some (Some t) = refl
 pub none_named : (ts : List TypedName) (n : List ℕ) → is_none (name_at ts n) ≡ not (has_field n ts)
 none_named ts n = none_at ts n ∙ not_some (field_at n ts) ∙ ap not (has_field_at n ts)
 
--- whether a search found none
+-- whether a search found nothing, as a test
 pub none_if : (o q : Option ℕ) (b r : Bool) → o ≡ q → is_some o ≡ not b → b ≡ r → is_none q ≡ r
 none_if None q true r e s h = ap is_none (sym e) ∙ h
 none_if None q false r e s h = absurd cc
 none_if (Some i) q true r e s h = absurd cc
 none_if (Some i) q false r e s h = ap is_none (sym e) ∙ h
 
--- ---- one more
+-- ---- one more field
 
 put_last : (acc ts : List TypedName) (p : TypedName) → put_all put_new acc (ts ++ p ∷ []) ≡ put_new (put_all put_new acc ts) p
 put_last acc [] p = refl
@@ -51,17 +51,17 @@ put_last acc (q ∷ ts) p = put_last (put_new acc q) ts p
 pub firsts_more : (ts : List TypedName) (p : TypedName) → firsts (ts ++ p ∷ []) ≡ put_new (firsts ts) p
 firsts_more ts p = put_last [] ts p
 
--- whose name is new
+-- its name is new
 pub firsts_new : (ts : List TypedName) (p : TypedName) → is_none (name_at ts p.0) ≡ true → firsts (ts ++ p ∷ []) ≡ firsts ts ++ p ∷ []
 firsts_new ts p e = firsts_more ts p ∙ put_new_behind (firsts ts) p (none_first ts p.0 ∙ e)
 
--- whose name is there
+-- its name is there already
 pub firsts_old : (ts : List TypedName) (p : TypedName) → is_none (name_at ts p.0) ≡ false → firsts (ts ++ p ∷ []) ≡ firsts ts
 firsts_old ts p e = firsts_more ts p ∙ put_new_old (firsts ts) p (none_first ts p.0 ∙ e)
 
--- ---- distinct ones
+-- ---- distinct fields
 
--- of distinct fields one has none of the names before it
+-- A field of distinct fields has none of the names before it.
 has_behind : (n : List ℕ) (ts us : List TypedName) → has_field n (ts ++ us) ≡ has_field n ts || has_field n us
 has_behind n [] us = refl
 has_behind n (q ∷ ts) us = ap (λ b. same_name q.0 n || b) (has_behind n ts us) ∙ sym (or_assoc (same_name q.0 n) (has_field n ts) (has_field n us))

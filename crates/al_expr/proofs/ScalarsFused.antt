@@ -1,4 +1,4 @@
--- Scalars fused with an array or an object: for `fuse_scalar`.
+-- A scalar fused with an array or an object is `Any`; for `fuse_scalar`.
 use Rattle.std.proofs.Common.{◌≡◌, ℕ, List, refl}
 use Rattle.al_types.specs.Types.{Type', Any, ArrayOf, ObjectOf, Optional, fuse_type}
 use Rattle.al_expr_types.specs.Types.{scalar_type}

@@ -1,4 +1,4 @@
--- Objects by their fields as a list.
+-- The view of an object type, by the list of its fields.
 use Rattle.std.proofs.Common.{◌≡◌, ◌∷◌, map, refl, ap, ◌∙◌, Option, Some, None}
 use Rattle.std.specs.Global.{Global}
 use Rattle.std.specs.Prelude.{Box, Vec, string_bytes}

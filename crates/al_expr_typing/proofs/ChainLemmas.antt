@@ -1,4 +1,4 @@
--- An operand more of a chain, and what was joined so far in a table that has grown.
+-- Typing a chain of operands: one more operand, and the type so far in a longer table.
 use Rattle.std.proofs.Common.{◌≡◌, List, [], ◌++◌, true, false, refl, ap, ◌∙◌}
 use Rattle.std.specs.Prelude.{not}
 use Rattle.al_base.specs.Growth.{BeginsWith}
@@ -18,7 +18,7 @@ use Rattle.al_expr_types.specs.declared.types.Types.{Types}
 use Rattle.al_expr_types.proofs.Keeping.{joined_longer, joined_wider, longer}
 use Rattle.al_expr_typing.specs.Chains.{has_operand, is_join_known, type_so_far}
 
--- ---- one more
+-- ---- one more operand
 
 pub more_fused : (o new : Optional) (t : Type') → is_present o ≡ true → new ≡ fuse_optional o (Present t) →
     (or_any (option_of new) ≡ fuse_type (or_any (option_of o)) t) × (is_present new ≡ true)

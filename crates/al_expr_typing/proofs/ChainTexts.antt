@@ -5,7 +5,7 @@ use Rattle.std.specs.Prelude.{find, ◌==◌}
 use Rattle.std.proofs.lemmas.List.Splits.{join_with_byte-slice_split}
 use Rattle.al_base.specs.Ascii.{ascii}
 
--- the parts of a chain, between its dots
+-- the parts of a chain, split at its dots
 abbrev chain_parts : List ℕ → List (List ℕ)
 chain_parts = slice_split (λ b. b == ascii ".")
 
@@ -19,7 +19,7 @@ found_step : (b : Bool) (t : List ℕ) (o : Option (List (List ℕ))) (p : Optio
 found_step true t o p e = ap Some (join_with_byte-slice_split (ascii ".") t)
 found_step false t o p e = e
 
--- the first whose parts pass
+-- The first chain whose parts pass a test, joined again, is the first text whose parts pass it.
 pub text_found : (test : List (List ℕ) → Bool) (ts : List (List ℕ)) → option_map (join_with_byte (ascii ".")) (find test (map chain_parts ts)) ≡ find (λ t. test (chain_parts t)) ts
 text_found test [] = refl
 text_found test (t ∷ ts) = found_step (test (chain_parts t)) t (find test (map chain_parts ts)) _ (text_found test ts)

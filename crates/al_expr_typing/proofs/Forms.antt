@@ -1,4 +1,4 @@
--- Steps from types in arrays, from scalars, and by forms.
+-- Properties and indices of types, by array depth and for scalars.
 use Rattle.std.proofs.Common.{◌≡◌, ℕ, zero, suc, List, [], append-nil, refl, ap, ◌∙◌}
 use Rattle.al_base.specs.declared.faults.Fault.{Fault}
 use Rattle.al_base.specs.declared.faults.Span.{Span}

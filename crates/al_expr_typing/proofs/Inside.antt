@@ -1,4 +1,4 @@
--- Each fault of a meaning lies in the content that its tree lies in.
+-- Each fault that typing an expression gives is within the content of its tree.
 use Rattle.std.proofs.Common.{◌≤◌, ◌+◌, ℕ, List, [], ◌∷◌, ◌++◌, length, drop, arith, Bool, true, false, ◌||◌, ◌&&◌, not, Option, Some, None}
 use Rattle.std.proofs.lemmas.Bool.{cond_both}
 use Rattle.std.specs.List.{AllByRecursion}

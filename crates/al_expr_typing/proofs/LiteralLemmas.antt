@@ -1,4 +1,4 @@
--- The states of the code that reads a text literal give its value.
+-- The state machine that reads a text literal gives its value.
 use Rattle.std.proofs.Common.{◌≡◌, ℕ, List, [], ◌∷◌, ◌++◌, refl, ap, Bool, true, false, cond, drop}
 use Rattle.al_expr_grammar.specs.Tokens.{is_quote}
 use Rattle.al_expr_typing.specs.declared.literals.Quoting.TheVariants.{Opening, Inside, BehindQuote}

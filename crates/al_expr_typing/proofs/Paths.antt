@@ -1,4 +1,4 @@
--- Paths, levels and arguments, item by item.
+-- Typing paths, chains of operands and arguments, one item after another.
 use Rattle.std.proofs.Common.{◌≡◌, ℕ, List, [], ◌∷◌, ◌++◌, Bool, true, map, Option, Some, None, refl, sym, ap, ◌∙◌, append_assoc}
 use Rattle.std.specs.Option.{option_map_or}
 use Rattle.al_base.specs.declared.faults.Fault.{Fault}
@@ -63,7 +63,7 @@ pub meanings_on : (sc : Scope) (safe : Bool) (x : Tree) (xs : List Tree) (t : Ty
     ≡ all_behind given old (meanings sc safe (arguments_of (x ∷ xs)))
 meanings_on sc safe x xs t given old mid e = joined_on given old (meaning sc safe x) (extent x) t mid (meanings sc safe (arguments_of xs)) e
 
--- a call's arguments, then the call
+-- a call's arguments, then the call itself
 pub called_on : (sc : Scope) (b : List ℕ) (s : Span) (f : Option Function) (ts : Arguments) (given : List (Type' × Span))
     (old mid : List Fault) (m : List (Type' × Span) × List Fault) → (given, mid) ≡ all_behind [] old m
     → faults_then mid (call_from sc b s f ts given) ≡ faults_then old (call sc b s f ts m)
@@ -72,17 +72,17 @@ called_on sc b s f ts given old mid m e =
     let q : mid ≡ old ++ m.1 = ap (λ x. x.1) e in
     rw (p, q) (behind-behind old m.1 (call_from sc b s f ts m.0))
 
--- a path's base, then its steps, then what is wrong with the whole
+-- a path's base, then its steps, then the faults of the whole path
 pub path_on : (old m1 m2 new gs : List Fault) (u v : Type') (x : Typed) (go : Type' → Typed) → typed u m1 ≡ faults_then old x → typed v m2
     ≡ faults_then m1 (go u) → new ≡ m2 ++ gs → typed v new ≡ faults_then old (and_then (and_then x go) (λ w. typed w gs))
 path_on old m1 m2 new gs u v x go e f h =
     ap (typed v) h ∙ follows old m2 v (and_then x go) (λ w. typed w gs) (f ∙ follows old m1 u x go e)
 
--- the fault of a chain, where there is one
+-- the fault of a chain, if there is one
 abbrev pub chain_faults : Span → Option (List ℕ) → List Fault
 chain_faults whole o = option_map_or (λ c. expression_fault code.Untrusted whole (c ∷ []) ∷ []) o []
 
--- of a path that begins with a name
+-- for a path that begins with a name
 chain_of : (name : List ℕ) (t : Tree) (ss : PathSteps) → Some name ≡ base_name t → untrusted_faults true t ss
     ≡ chain_faults (extent (Path t ss)) (untrusted_chain (name ∷ parts_of ss))
 chain_of name (Named b s) ss h = cc
@@ -95,7 +95,7 @@ untrusted_is name t ss chain h k =
     ∙ ap (λ ps. chain_faults (extent (Path t (steps_of ss))) (untrusted_chain (name ∷ ps))) (parts_of-steps ss)
     ∙ ap (chain_faults (extent (Path t (steps_of ss)))) (sym k)
 
--- an index that is no text literal
+-- an index that isn't a text literal
 pub indexed_on : (o : Option (List ℕ × Span)) (whole : Span) (u by v : Type') (old mid new : List Fault) (x : Typed) → None ≡ o
     → typed by mid ≡ faults_then old x → typed v new ≡ faults_then mid (index_of whole u by) → typed v new ≡ faults_then old (index_from o whole u x)
 indexed_on None whole u by v old mid new x h e f = f ∙ follows old mid by x (λ w. index_of whole u w) e

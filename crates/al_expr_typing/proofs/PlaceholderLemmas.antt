@@ -1,4 +1,4 @@
--- The states of the code that reads a format text tell which arguments it names.
+-- The state machine that reads a format text tells which arguments it names.
 use Rattle.std.proofs.Common.{◌≡◌, ◌≤◌, ℕ, zero, suc, ◌+◌, ◌*◌, ◌-◌, List, [], ◌∷◌, length, take, drop, refl, sym, ap, ◌∙◌, arith, Bool, true, false, cond, nat_lt, ◌==◌, Option, None}
 use Rattle.std.specs.List.{prefix_len}
 use Rattle.std.proofs.lemmas.Bool.{cond_both}
@@ -15,21 +15,21 @@ use Rattle.al_expr_typing.specs.declared.placeholders.Turn.TheVariants.{To, Name
 use Rattle.al_expr_typing.specs.Placeholders.{Piece, Plain, Argument, NoPiece, argument_piece, piece_of, used_with, used_within}
 use Rattle.al_expr_typing.specs.Private.PlaceholderStates.{after_turn, used_from}
 
--- ---- states
+-- ---- the states and the pieces of a text
 
--- what is read behind a piece
+-- the result for the text that follows a piece
 abbrev behind : List Bool → Piece → Option (List Bool)
 behind used p = used_with (used_from Outside) used p
 
--- one more byte leads to a turn
+-- the result for the text that follows a transition
 abbrev goes : List Bool → List ℕ → Turn → Option (List Bool)
 goes used bs t = after_turn t used (λ p now. used_from p now bs)
 
--- the number that digits write behind those that wrote n
+-- the number that digits give after digits that gave `n`
 abbrev number_on : ℕ → List ℕ → ℕ
 number_on n ds = number_from_digits_after 10 n (map digit_of ds)
 
--- an index that has digits already, of which so many stand at the front
+-- an index whose digits so far gave `n`, where the text that follows begins with `len` digits
 abbrev index_behind : ℕ → ℕ → List ℕ → Piece
 index_behind n len bs = cond (begins_with (ascii "}") (drop len bs)) (Argument (number_on n (take len bs)) (drop 1 (drop len bs))) NoPiece
 
@@ -62,7 +62,7 @@ opening_at used b len bs false true f =
     f ∙ ap (λ n. behind used (index_behind n len bs)) e ∙ ap (λ l. behind used (index_front l (b ∷ bs))) more
 opening_at used b len bs false false f = refl
 
--- behind a `{`
+-- after a `{`
 opening : (used : List Bool) (bs : List ℕ) → used_from BehindOpening used bs
     ≡ behind used (cond (begins_with (ascii "{") bs) (Plain (drop 1 bs)) (index_front (prefix_len is_ascii_digit bs) bs))
 opening used [] = refl
@@ -72,7 +72,7 @@ closing_at : (used : List Bool) (bs : List ℕ) (closes : Bool) → goes used bs
 closing_at used bs true = refl
 closing_at used bs false = refl
 
--- behind a `}`
+-- after a `}`
 closing : (used : List Bool) (bs : List ℕ) → used_from BehindClosing used bs ≡ behind used (cond (begins_with (ascii "}") bs) (Plain (drop 1 bs)) NoPiece)
 closing used [] = refl
 closing used (b ∷ bs) = closing_at used bs (b == ascii "}")
@@ -88,7 +88,7 @@ piece_at used bs false false = refl
 piece : (used : List Bool) (b : ℕ) (bs : List ℕ) → used_from Outside used (b ∷ bs) ≡ behind used (piece_of (b ∷ bs))
 piece used b bs = piece_at used bs (b == ascii "{") (b == ascii "}")
 
--- ---- what stands behind a piece is shorter
+-- ---- the text after a piece is shorter
 
 abbrev IsWithin : ℕ → Piece → Type 0
 IsWithin n NoPiece = Unit {0}
@@ -111,7 +111,7 @@ piece_within b bs n h =
     (λ e. index_within _ (drop (prefix_len is_ascii_digit bs) bs) n (omega (arith, h, length-drop (prefix_len is_ascii_digit bs) bs))))
     (λ e. cond_both (b == ascii "}") _ _ (IsWithin n) (λ e. cond_both (begins_with (ascii "}") bs) _ _ (IsWithin n) (λ e. drop_within bs n h) (λ e. tt)) (λ e. h))
 
--- ---- piece after piece
+-- ---- piece after piece, by induction on the length of the text
 
 abbrev AreWithin : ℕ → Type 0
 AreWithin n = (used : List Bool) (bs : List ℕ) → length bs ≤ n → used_from Outside used bs ≡ used_within n used bs

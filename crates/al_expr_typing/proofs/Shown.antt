@@ -1,4 +1,4 @@
--- What a scope and arguments show, where the table has grown.
+-- The views of a scope and of arguments are the same in a longer table.
 use Rattle.std.proofs.Common.{◌≡◌, List, map, true}
 use Rattle.al_base.specs.Growth.{BeginsWith}
 use Rattle.al_types.specs.Scopes.{available_of}

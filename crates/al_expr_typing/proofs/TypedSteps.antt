@@ -1,4 +1,4 @@
--- A type with its faults, step by step.
+-- A type with the faults found so far, step by step.
 use Rattle.std.proofs.Common.{◌≡◌, List, [], ◌++◌, sym, ap, ◌∙◌, append_assoc, append-nil}
 use Rattle.al_base.specs.declared.faults.Fault.{Fault}
 use Rattle.al_types.specs.Types.{Type'}
@@ -13,7 +13,7 @@ behind-behind fs gs (typed t hs) = ap (typed t) (append_assoc fs gs hs)
 pub behind-and_then : (fs : List Fault) (x : Typed) (go : Type' → Typed) → and_then (faults_then fs x) go ≡ faults_then fs (and_then x go)
 behind-and_then fs (typed t gs) go = behind-behind fs gs (go t)
 
--- what goes on behind a type that was found
+-- Continuing from a type and the faults so far is continuing from the whole typing.
 pub follows : (old mid : List Fault) (t : Type') (x : Typed) (go : Type' → Typed) → typed t mid ≡ faults_then old x → faults_then mid (go t) ≡ faults_then old (and_then x go)
 follows old mid t x go e = ap (λ y. and_then y go) e ∙ behind-and_then old x go
 

@@ -1,4 +1,4 @@
--- What clauses see of the code's literals.
+-- The value and the span of a literal, as contracts see them.
 use Rattle.std.specs.Prelude.{ℕ, List, string_bytes}
 use Rattle.al_base.specs.declared.faults.Span.{Span}
 use Rattle.al_expr_typing.specs.declared.literals.Literal.{Literal}

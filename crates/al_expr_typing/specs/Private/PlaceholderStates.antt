@@ -1,5 +1,5 @@
--- Words of private contracts: the states of the code that reads a format text. What its placeholders are, `Placeholders` says; that the two
--- agree, `proofs/PlaceholderLemmas`.
+-- The states of the code that reads a format text, for private contracts. `Placeholders` defines what its placeholders are, and
+-- `proofs/PlaceholderLemmas` proves that the two agree.
 use Rattle.std.specs.Prelude.{ℕ, ◌+◌, ◌*◌, ◌-◌, List, [], ◌∷◌, Bool, true, ◌==◌, nat_lt, if◌then◌else◌, Option, Some, None, length}
 use Rattle.std.specs.Prelude.{slice_set}
 use Rattle.al_base.specs.Ascii.{ascii}
@@ -9,7 +9,7 @@ use Rattle.al_expr_typing.specs.declared.placeholders.PlaceholderState.TheVarian
 use Rattle.al_expr_typing.specs.declared.placeholders.Turn.{Turn}
 use Rattle.al_expr_typing.specs.declared.placeholders.Turn.TheVariants.{To, Names, Wrong}
 
--- where a byte leads
+-- the transition on a byte
 abbrev pub turn : PlaceholderState → ℕ → Turn
 turn Outside b = if b == ascii "{" then To BehindOpening else if b == ascii "}" then To BehindClosing else To Outside
 turn BehindOpening b = if b == ascii "{" then To Outside else if is_ascii_digit b then To (InIndex (b - ascii "0")) else Wrong

@@ -1,11 +1,11 @@
--- Words of private contracts: the states of the code that reads a text literal. What its value is, `Literals` says; that the two agree,
--- `proofs/LiteralLemmas`.
+-- The states of the code that reads a text literal, for private contracts. `Literals` defines its value, and `proofs/LiteralLemmas` proves
+-- that the two agree.
 use Rattle.std.specs.Prelude.{ℕ, List, [], ◌∷◌, ◌++◌, if◌then◌else◌}
 use Rattle.al_expr_grammar.specs.Tokens.{is_quote}
 use Rattle.al_expr_typing.specs.declared.literals.Quoting.{Quoting}
 use Rattle.al_expr_typing.specs.declared.literals.Quoting.TheVariants.{Opening, Inside, BehindQuote}
 
--- What a character adds to the value: the opening quote nothing, nor the first of two quotes, nor the closing one.
+-- What a character adds to the value. The opening quote, the first of two quotes and the closing quote add nothing.
 abbrev pub adds : Quoting → ℕ → List ℕ
 adds Opening c = []
 adds Inside c = if is_quote c then [] else c ∷ []
