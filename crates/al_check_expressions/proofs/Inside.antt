@@ -1,4 +1,4 @@
--- Each fault of an expression lies in the file.
+-- Each fault of an expression is within the file.
 use Rattle.std.proofs.Common.{◌≡◌, ◌≤◌, ◌<◌, ◌+◌, ◌-◌, ℕ, List, [], ◌∷◌, length, drop, map, arith, Bool, true, false, cond}
 use Rattle.std.proofs.Common.{nat_eq, ◌&&◌, ◌||◌, not, Option, Some, None, refl, inl, inr}
 use Rattle.std.specs.Prelude.{slice_range}
@@ -43,7 +43,7 @@ use Rattle.al_check_expressions.proofs.Places.{places_there}
 abbrev Lies : ℕ → Fault → Type 0
 Lies size f = LiesIn size f.span
 
--- ---- faults of a scalar's text, at their places
+-- ---- the faults of a scalar's text, by their positions in the file
 
 module _ (size : ℕ) (s : Scalar) (at : Span) (there : LiesIn size at) (p : IsPlaced 1048576 s at) (from : IsFrom size s) where
   inside_at : (i : ℕ) → offset_of s i ≤ size

@@ -1,4 +1,4 @@
--- What holds of each scalar of a tree holds of each place that is checked.
+-- What is true of each scalar of a tree is true of each place that is checked.
 use Rattle.std.proofs.Common.{◌≡◌, ◌≤◌, ℕ, zero, suc, List, [], ◌∷◌, length, map, arith, Bool, true, false, cond}
 use Rattle.std.specs.Prelude.{All}
 use Rattle.std.proofs.lemmas.List.{length-map}
@@ -18,7 +18,7 @@ use Rattle.al_check_places.proofs.Scalars.{each_place, places_have_texts, places
 use Rattle.al_check_expressions.specs.Contents.{HasRoom}
 use Rattle.al_check_expressions.specs.Inside.{IsReadable, IsThere}
 
--- ---- offsets of a scalar that is placed
+-- ---- positions of a scalar with an offset
 
 below : (cs : List Cell) (low high end most : ℕ) → AreRising low high cs → high ≤ most → end ≤ most → (i : ℕ) → offset_or cs end i ≤ most
 below [] low high end most r h e i = e
@@ -47,11 +47,11 @@ places_readable kind root w t i d within =
     let r = readable _ _ lies.placed (lies.inside).inside in
     record { utf8 = places_have_texts kind root t i d within; small = r.0; room = r.1 }
 
--- of the places that the code has found
+-- each place that the code found is readable
 pub all_readable : (ps : List rust.Place) (kind : FileKind) (root : Node) → map place_of ps ≡ places_of kind root → IsLaid 1048576 root → HasTexts root → All (λ p. IsReadable (place_of p)) ps
 all_readable ps kind root e w t = all_seen place_of IsReadable ps (All-same IsReadable _ _ e (places_readable kind root w t))
 
--- and where they lie
+-- each place is within the file
 pub places_there : (size : ℕ) (kind : FileKind) (root : Node) → IsLaid size root → AreFrom size root → All (IsThere size) (places_of kind root)
 places_there size kind root w f i d within =
     let lies = places_lie kind size root w i d within in

@@ -1,4 +1,4 @@
--- A text without `${{` has no chunks, and so no fault where it is no condition.
+-- A text without `${{` has no chunks. If it isn't a condition, it has no faults.
 use Rattle.std.proofs.Common.{◌≡◌, ℕ, suc, List, [], ◌∷◌, length, refl, ap, ◌∙◌, true, false, cond, ◌&&◌, not, Some, None, map}
 use Rattle.std.proofs.lemmas.Bool.{or_parts}
 use Rattle.std.specs.Prelude.{option_map}

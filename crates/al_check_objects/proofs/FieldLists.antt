@@ -1,4 +1,4 @@
--- Lists of fields, as more are put to them; and what all of them have in common.
+-- Adding fields to lists of fields, and the common type of all fields.
 use Rattle.std.proofs.Common.{◌≡◌, ◌<◌, ◌+◌, ℕ, List, [], ◌∷◌, ◌++◌, length, map, take, get_or, refl, sym, ap, ◌∙◌, Bool, true, false, Option, Some, None}
 use Rattle.std.proofs.lemmas.List.{get_or_default, map-append}
 use Rattle.std.proofs.lemmas.List.Elements.{filter_map-append}
@@ -15,14 +15,14 @@ use Rattle.al_types.proofs.GatheredFields.{common_put, firsts_found, found_in_bo
 use Rattle.al_expr_types.proofs.Scans.{mapped_more}
 use Rattle.al_check_objects.specs.Objects.{strictly}
 
--- ---- several that are put
+-- ---- adding several fields
 
 pub put_all_more : (put_or_fuse : List TypedName → TypedName → List TypedName) (ts ps qs : List TypedName) → put_all put_or_fuse ts (ps ++ qs) ≡ put_all put_or_fuse (put_all put_or_fuse ts ps) qs
 put_all_more put_or_fuse ts [] qs = refl
 put_all_more put_or_fuse ts (p ∷ ps) qs = put_all_more put_or_fuse (put_or_fuse ts p) ps qs
 
 module _ {X Y : Type 0} (g : X → Y) where
-  -- one more of those that are put
+  -- one more field
   pub put_next : (f : Y → TypedName) (ts : List TypedName) (xs : List X) (i : ℕ) (x : X) → i < length xs → x ≡ get_or xs i x →
       put_all put_new ts (map f (map g (take (i + 1) xs))) ≡ put_new (put_all put_new ts (map f (map g (take i xs)))) (f (g x))
   put_next f ts xs i x lt e =
@@ -30,12 +30,12 @@ module _ {X Y : Type 0} (g : X → Y) where
       ∙ ap (put_all put_new ts) (map-append f (map g (take i xs)) (g x ∷ []))
       ∙ put_all_more put_new ts (map f (map g (take i xs))) (f (g x) ∷ [])
 
-  -- likewise where it is told by its index
+  -- likewise, for the element at an index
   pub put_at : (f : Y → TypedName) (ts : List TypedName) (xs : List X) (i : ℕ) (d : X) → i < length xs →
       put_all put_new ts (map f (map g (take (i + 1) xs))) ≡ put_new (put_all put_new ts (map f (map g (take i xs)))) (f (g (get_or xs i d)))
   put_at f ts xs i d lt = put_next f ts xs i (get_or xs i d) lt (get_or_default xs i d (get_or xs i d) lt)
 
-  -- or none
+  -- likewise, for elements that may give no field
   pub put_if_next : (f : Y → Option TypedName) (ts : List TypedName) (xs : List X) (i : ℕ) (x : X) → i < length xs → x ≡ get_or xs i x →
       put_all put_new ts (filter_map f (map g (take (i + 1) xs)))
       ≡ put_all put_new (put_all put_new ts (filter_map f (map g (take i xs)))) (option_to_list (f (g x)))
@@ -49,9 +49,9 @@ module _ {X Y : Type 0} (g : X → Y) where
       alone None = refl
       alone (Some p) = refl
 
--- ---- strings
+-- ---- string fields
 
--- names, and one more unless it is there
+-- adds a name, unless it is there
 put_name : List (List ℕ) → List ℕ → List (List ℕ)
 put_name [] n = n ∷ []
 put_name (m ∷ ms) n = if same_name m n then m ∷ ms else m ∷ put_name ms n
@@ -84,12 +84,12 @@ common_strings ms (n ∷ ns) =
     ∙ ap (λ o. fuse_optional o (common_in (strings ns))) (ap common_in (sym one) ∙ common_string ms n)
     ∙ optional_assoc (common_in (strings ms)) (Present String) (common_in (strings ns))
 
--- strings of which each name is there once are those of all names
+-- string fields, the first of each name, make the object of all these names
 pub strings_once : (ns : List (List ℕ)) → strictly (firsts (strings ns)) ≡ named_strings ns
 strings_once ns =
     λ d. ObjectOf (λ n. optional (firsts_found (strings ns) n d)) Absent (fuse_optional (common_strings [] ns d) Absent)
 
--- ---- objects of which the fields are put together
+-- ---- objects whose fields are fused
 
 common_put_all : (ts us : List TypedName) → common_in (put_all put_or_fuse ts us) ≡ fuse_optional (common_in ts) (common_in us)
 common_put_all ts [] = sym (nothing_last (common_in ts))
@@ -97,7 +97,7 @@ common_put_all ts (p ∷ us) =
     common_put_all (put_or_fuse ts p) us ∙ ap (λ o. fuse_optional o (common_in us)) (common_put ts p)
     ∙ optional_assoc (common_in ts) (Present p.1) (common_in us)
 
--- an object of the fields of two objects, fused at each name, is what these have in common
+-- fusing the fields of two objects, name by name, is fusing the objects
 pub put_together : (ts us : List TypedName) → are_distinct us ≡ true → strictly (put_all put_or_fuse ts us) ≡ fuse_type (strictly ts) (strictly us)
 put_together ts us h =
     λ d. ObjectOf (found_in_both ts us h d) Absent (all d)

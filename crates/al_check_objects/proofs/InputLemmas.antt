@@ -1,4 +1,4 @@
--- Inputs that are declared have names of their own, so that none is left out of a list of fields.
+-- Declared inputs have distinct names, so none is dropped from a list of fields.
 use Rattle.std.proofs.Common.{◌≡◌, ◌||◌, List, [], ◌∷◌, ◌++◌, ℕ, Bool, true, false, Option, Some, None, refl, sym, ap, ◌∙◌, append-nil, append_assoc, map}
 use Rattle.std.proofs.Math.Bool.{or-false}
 use Rattle.std.proofs.lemmas.Bool.{or_left}
@@ -19,7 +19,7 @@ use Rattle.al_yaml_tree.specs.Node.{Node}
 use Rattle.al_check_objects.specs.Objects.{strictly}
 use Rattle.al_check_objects.proofs.FieldLists.{put_together}
 
--- a field of a name is among some
+-- whether a field has the name
 abbrev has_name : List TypedName → List ℕ → Bool
 has_name ts n = list_any (λ q. same_name q.0 n) ts
 
@@ -31,12 +31,12 @@ last_step : (b had : Bool) (q p : TypedName) (qs more : List TypedName) → (b |
 last_step true had q p qs more e h = absurd cc
 last_step false had q p qs more e h = ap (λ us. q ∷ us) (h e)
 
--- one that is new goes behind the others
+-- a field with a new name is appended
 put_last : (ts : List TypedName) (p : TypedName) → has_name ts p.0 ≡ false → put_new ts p ≡ ts ++ p ∷ []
 put_last [] p e = refl
 put_last (q ∷ qs) p e = last_step (same_name q.0 p.0) (has_name qs p.0) q p qs (put_new qs p) e (put_last qs p)
 
--- the names of fields are among these
+-- all names of the fields are in the list
 abbrev AreAmong : List TypedName → List (List ℕ) → Type 0
 AreAmong ts ns = (n : List ℕ) → has_name ts n ≡ true → named_among ns n ≡ true
 
@@ -85,7 +85,7 @@ once (Some n) = put_named (λ e. input_type (input_of e.1)) [] [] (entries_in n)
 inputs_once : (event : List ℕ) (root : Node) → firsts (event_inputs event root) ≡ event_inputs event root
 inputs_once event root = once (value_below (codes "on" ∷ event ∷ codes "inputs" ∷ []) root)
 
--- what the inputs of two events have in common, as objects
+-- fusing the inputs of two events, as objects
 pub both_events : (a b : List ℕ) (root : Node) →
     fuse_type (strictly (firsts (event_inputs a root))) (strictly (firsts (event_inputs b root)))
     ≡ strictly (put_all put_or_fuse (event_inputs a root) (event_inputs b root))
@@ -97,6 +97,6 @@ itself : (o : Option Node) → o ≡ option_and_then (λ n. Some n) o
 itself None = refl
 itself (Some n) = refl
 
--- the value below one key is that at it
+-- the value below a path of one key is the value at this key
 pub below_itself : (k : List ℕ) (n : Node) → value_at k n ≡ value_below (k ∷ []) n
 below_itself k n = itself (value_at k n)

@@ -1,4 +1,4 @@
--- What numbers stand for, where the table has grown; and lists of fields.
+-- The types of scalars; the meaning of a type and of a list of fields in a longer table, and the length of such a list.
 use Rattle.std.proofs.Common.{◌≡◌, ℕ, List, [], ◌∷◌, length, map, refl, sym, ap, ◌∙◌, arith}
 use Rattle.std.proofs.lemmas.List.{length-map}
 use Rattle.std.proofs.lemmas.Slice.Zip.{seconds-zip}
@@ -53,7 +53,7 @@ pub zip_maps : {X Y Z U : Type 0} (f : X → Y) (g : X → Z) (h : Z → U) (xs 
 zip_maps f g h [] = refl
 zip_maps f g h (x ∷ xs) = ap (λ ys. (f x, h (g x)) ∷ ys) (zip_maps f g h xs)
 
--- ---- how many fields there are
+-- ---- the number of fields
 
 zip_long : (ns : List (List ℕ)) (us : List Type') → length ns ≡ length us → length (zip ns us) ≡ length us
 zip_long ns us e = sym (length-map (zip ns us) (λ p. p.1)) ∙ ap length (seconds-zip ns us (sym e))

@@ -1,4 +1,4 @@
--- The types of nodes that the program holds as a sequence or a mapping, and what combinations add to a matrix.
+-- The types of nodes that the code has as sequences or mappings, and the matrix with its combinations.
 use Rattle.std.proofs.Common.{◌≡◌, ◌<◌, ◌+◌, ℕ, List, [], ◌∷◌, ◌++◌, Bool, Some, None, true, ap, refl, sym, drop, get_or, length, map, take, ◌∙◌}
 use Rattle.std.proofs.lemmas.List.{drop_more}
 use Rattle.std.specs.Option.{option_map_or}
@@ -25,12 +25,12 @@ distinct_fields : (o : Option (List (Node × Node))) → are_distinct (option_ma
 distinct_fields None = refl
 distinct_fields (Some es) = firsts_distinct (fields_of (entries_of es))
 
--- one combination more
+-- one more combination
 include_more : (ts : List TypedName) (ns : List Node) (n : Node) → include_all ts (ns ++ n ∷ []) ≡ put_all put_or_fuse (include_all ts ns) (combination n)
 include_more ts [] n = refl
 include_more ts (m ∷ ns) n = include_more (put_all put_or_fuse ts (combination m)) ns n
 
--- of an object of rows and one of each combination, with one more
+-- fusing the type of the next combination with the type so far
 pub include_next : {X : Type 0} (g : X → Node) (ts : List TypedName) (xs : List X) (i : ℕ) (x : X) (sofar new : Optional) → i < length xs → x ≡ get_or xs i x →
     sofar ≡ Present (strictly (include_all ts (map g (take i xs)))) → new ≡ fuse_optional sofar (Present (strictly (combination (g x)))) →
     new ≡ Present (strictly (include_all ts (map g (take (i + 1) xs))))
@@ -42,9 +42,9 @@ include_next g ts xs i x sofar new lt e old step =
     ∙ ap (λ ns. Present (strictly (include_all ts ns)))
     (sym (mapped_more g xs i x lt e))
 
--- ---- what items have in common
+-- ---- the common type of items
 
--- with one more
+-- one more item
 pub items_next : {X : Type 0} (g : X → Node) (xs : List X) (i : ℕ) (x : X) (sofar new : Optional) → i < length xs → x ≡ get_or xs i x →
     new ≡ fuse_optional sofar (Present (node_type (g x))) →
     items_type new (nodes_of (map g (drop (i + 1) xs))) ≡ items_type sofar (nodes_of (map g (drop i xs)))
@@ -52,7 +52,7 @@ items_next g xs i x sofar new lt e step =
     ap (λ o. items_type o (nodes_of (map g (drop (i + 1) xs)))) step
     ∙ ap (λ ys. items_type sofar (nodes_of (map g ys))) (ap (λ y. y ∷ drop (i + 1) xs) e ∙ sym (drop_more xs i x lt))
 
--- ---- fields of entries, with those of one more
+-- ---- the fields of entries, with one more entry
 
 pub entries_next : (es : List code_entry.Entry) (i : ℕ) (x : code_entry.Entry) (ts us : List TypedName) → i < length es → x ≡ get_or es i x →
     us ≡ put_new ts (key_text (view x.key), node_type (view x.value)) →

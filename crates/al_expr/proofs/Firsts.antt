@@ -61,11 +61,12 @@ firsts_old ts p e = firsts_more ts p ∙ put_new_old (firsts ts) p (none_first t
 
 -- ---- distinct fields
 
--- A field of distinct fields has none of the names before it.
+-- a name is in appended lists of fields if it is in one of them
 has_behind : (n : List ℕ) (ts us : List TypedName) → has_field n (ts ++ us) ≡ has_field n ts || has_field n us
 has_behind n [] us = refl
 has_behind n (q ∷ ts) us = ap (λ b. same_name q.0 n || b) (has_behind n ts us) ∙ sym (or_assoc (same_name q.0 n) (has_field n ts) (has_field n us))
 
+-- a field of distinct fields has none of the names before it
 last_apart : (ts us : List TypedName) (p : TypedName) → are_distinct (ts ++ p ∷ us) ≡ true → has_field p.0 ts ≡ false
 last_apart [] us p d = refl
 last_apart (q ∷ ts) us p d =

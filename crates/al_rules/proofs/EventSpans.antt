@@ -1,4 +1,4 @@
--- Each fault of what stands under `on` lies in the file that the tree was read from.
+-- Each fault of what `on` has is within the file that the tree was read from.
 use Rattle.std.specs.Prelude.{ℕ, not, List, [], ◌∷◌, codes, Option, Some, None}
 use Rattle.std.specs.List.{flat_map}
 use Rattle.std.specs.Option.{option_map_or}

@@ -1,4 +1,4 @@
--- What entries of `needs` give, by labels of the jobs, and where the positions of jobs lie.
+-- The faults of entries of `needs`, by the labels of the jobs' components, and bounds of the positions of jobs.
 use Rattle.std.proofs.Common.{◌≡◌, ℕ, ◌+◌, ◌<◌, Bool, true, false, cond, List, [], ◌∷◌, ◌++◌, All, drop, length, map, Vec}
 use Rattle.std.proofs.Common.{get_or, subst, sym, ap, ◌∙◌, append_assoc, arith, refl, suc, Option, Some, None, ⊎_elim}
 use Rattle.std.proofs.lemmas.Bool.{cases_lt}
@@ -29,7 +29,7 @@ module _ (position : List ℕ → Option ℕ) (Leads : ℕ → ℕ → Type 0) w
   more _ ms _ gs (and_need n ns first rest one are) b =
       subst (AreNeedsFaults position Leads (n ∷ ns ++ ms)) (sym (append_assoc first rest gs)) (and_need n (ns ++ ms) first (rest ++ gs) one (more ns ms rest gs are b))
 
--- a need that an edge leads to is on a cycle just where it has the label of the job that needs it
+-- A need that an edge leads to is on a cycle if and only if it has the same label as the job that needs it.
 module _ (position : List ℕ → Option ℕ) (graph : List (List ℕ)) (labels : List (Option ℕ))
     (exact : (j k : ℕ) → j < length graph → k < length graph
     → (get_or labels j None ≡ get_or labels k None) ↔ StronglyConnected graph j k)
@@ -74,7 +74,7 @@ module _ (position : List ℕ → Option ℕ) (graph : List (List ℕ)) (labels 
       entries_are i (of_key job.0) (needs_of job) inside
       (led_to (λ k. Edge graph i k) (needs_of job) (λ k c. subst (λ (ns : List ℕ). Contains ns k) (sym row) c))
 
-  -- the jobs from one position on, each of which has its row of the graph
+  -- the jobs from position `i` on, each of which has its row of the graph
   jobs_are : (i : ℕ) (jobs : List (Node × Node)) → ((k : ℕ) (x : Node × Node) → k < length jobs → x ≡ get_or jobs k x
       → (i + k < length graph) × (get_or graph (i + k) [] ≡ filter_map (named_by position) (needs_of x)))
       → AreNeedsFaults position (Walk graph) (flat_map needs_in (enumerate_from i jobs))
@@ -97,7 +97,7 @@ module _ (position : List ℕ → Option ℕ) (graph : List (List ℕ)) (labels 
       (more position (Walk graph) (needs_in (i, j)) others (labelled_faults position labels (needs_in (i, j)))
       (labelled_faults position labels others) one rest)
 
--- ---- what is added for one job after another
+-- ---- the faults of one job after another
 
 module _ (position : List ℕ → Option ℕ) (labels : List (Option ℕ)) {X : Type 0} (seen : X → Node × Node) (jobs : List X) where
   pub found_next : (i : ℕ) (x : X) (old new all : List Fault) → i < length jobs → x ≡ get_or jobs i x
@@ -144,7 +144,7 @@ lists_length jobs lists e =
     let d : length (edges_of lists) ≡ length lists = length-map lists _ in
     sym d ∙ ap length e ∙ b
 
--- what a job needs is a job
+-- each job that is needed is one of the jobs
 pub edges_below : (jobs : List (Node × Node)) (lists : List (Vec ℕ Global)) → edges_of lists ≡ needs_lists (name_place (keys_in jobs)) jobs → (j k : ℕ) → Edge (edges_of lists) j k → k < length lists
 edges_below jobs lists e j k has =
     let P : List (List ℕ) → Type 0 = λ ls. Edge ls j k in
@@ -156,7 +156,7 @@ pub lists_same : (jobs : List (Node × Node)) (position : List ℕ → Option �
     → lists ≡ needs_lists position jobs → lists ≡ needs_lists (name_place (keys_in jobs)) jobs
 lists_same jobs position lists p l = l ∙ ap (λ f. needs_lists f jobs) p
 
--- the faults of all
+-- the faults of all jobs
 pub adds_all : (jobs : List (Node × Node)) (position : List ℕ → Option ℕ) (lists : List (Vec ℕ Global)) (labels : List (Option ℕ))
     (old new : List Fault) → position ≡ name_place (keys_in jobs) → edges_of lists ≡ needs_lists position jobs
     → ((j k : ℕ) → j < length lists → k < length lists

@@ -1,4 +1,4 @@
--- The states of the code that reads a pattern say whether characters are items.
+-- The state machine that reads a pattern tells whether characters are items.
 use Rattle.std.proofs.Common.{◌≡◌, ◌≤◌, ◌<◌, ℕ, List, [], ◌∷◌, length, refl, sym, ap, ◌∙◌, arith, Bool, true, false, cond, ◌&&◌, Option, Some, None, ◌==◌, nat_le, nat_lt, ◌+◌, drop, get_or}
 use Rattle.std.proofs.lemmas.Bool.Decides.{nat_tests}
 use Rattle.std.proofs.lemmas.List.{at_drop_all, at_drop_more}
@@ -9,11 +9,11 @@ use Rattle.al_rules_formats.specs.Private.PatternStates.{read, read_all, is_done
 use Rattle.al_rules_formats.specs.declared.patterns.State.{State}
 use Rattle.al_rules_formats.specs.declared.patterns.State.TheVariants.{FirstItem, AfterItem, AfterEscape, ClassFirst, ClassNext, ClassLow, ClassDash}
 
--- whether nothing is left open behind characters that are read from here
+-- whether reading these characters from a state ends in an accepting state
 abbrev done : State → List ℕ → Bool
 done s cs = is_done (read_all s cs)
 
--- one more character leads to a state, or to none
+-- likewise after a transition, if there was one
 abbrev goes : List ℕ → Option State → Bool
 goes cs next = is_done (option_and_then (λ s. read_all s cs) next)
 
@@ -25,7 +25,7 @@ is_dash : (a c : ℕ) (cs : List ℕ) → (c == ascii "-") ≡ true → ascends 
 is_dash a c [] h = refl
 is_dash a c (d ∷ cs) h = ap (λ t. cond t (nat_le a d && ascends cs) (ascends (c ∷ d ∷ cs))) h
 
--- a character further in each state of a class; its tests come as truth values
+-- A transition within a class. The tests of the character are parameters, so that its cases are those of the tests.
 low_at : (a c : ℕ) (cs : List ℕ) (ends dashes : Bool) → (c == ascii "-") ≡ dashes → done AfterItem cs ≡ are_items_from true cs
     → done (ClassDash a) cs ≡ (ascends (a ∷ ascii "-" ∷ before_bracket cs) && goes_on_in_class cs)
     → done (ClassLow c) cs ≡ (ascends (c ∷ before_bracket cs) && goes_on_in_class cs)
@@ -63,7 +63,7 @@ first_at : (c : ℕ) (cs : List ℕ) (ends : Bool)
 first_at c cs true f = refl
 first_at c cs false f = f
 
--- a character outside of a class, behind an item or not
+-- a character outside of a class, after an item or not
 item_at : (has_item : Bool) (cs : List ℕ) (escapes opens marks : Bool) → done AfterItem cs ≡ are_items_from true cs
     → done AfterEscape cs ≡ goes_on_escaped cs → done ClassFirst cs ≡ (is_class (before_bracket cs) && goes_on_in_class cs)
     → goes cs (cond escapes (Some AfterEscape) (cond opens (Some ClassFirst) (cond marks (cond has_item (Some AfterItem) None) (Some AfterItem))))
@@ -75,7 +75,8 @@ item_at true cs false false true i e f = i
 item_at false cs false false true i e f = refl
 item_at has_item cs false false false i e f = i
 
--- Behind an item, behind a `\`, and in a class by what stands before: nothing, nothing that may begin a range, a character, or that and a `-`.
+-- What each state accepts: after an item, after a `\`, and in a class after nothing, after a range, after a character, and after a
+-- character and a `-`.
 abbrev IsRead : List ℕ → Type 0
 IsRead cs =
     (done AfterItem cs ≡ are_items_from true cs) × (done AfterEscape cs ≡ goes_on_escaped cs)
@@ -101,7 +102,7 @@ states_say [] = refl
 states_say (c ∷ cs) =
     let f = is_read cs in item_at false cs (c == ascii "\\") (c == ascii "[") (is_mark c) f.0 f.1 f.2
 
--- the code at its end, and where no character may stand
+-- the loop at the end of the characters, and at a character that isn't allowed
 pub read_to_end : (state : State) (cs : List ℕ) (i : ℕ) → length cs ≤ i → read_all state (drop i cs) ≡ read_all FirstItem cs → is_done (Some state) ≡ are_items_from false cs
 read_to_end state cs i h e = sym (at_drop_all (λ l. is_done (read_all state l)) cs i h) ∙ ap is_done e ∙ states_say cs
 

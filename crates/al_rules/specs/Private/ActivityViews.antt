@@ -1,4 +1,4 @@
--- What the program's own types stand for.
+-- The rows of the table of activities, by the code's types.
 use Rattle.std.specs.Prelude.{ℕ, List, map, find, Option, option_map}
 use Rattle.al_base.specs.Names.{among}
 use Rattle.al_rules.specs.declared.names.Activities.{Activities}

@@ -1,5 +1,5 @@
--- Words of private contracts: the states of the code that reads a filter pattern. What a pattern is, `Patterns` says; that the two agree,
--- `proofs/PatternLemmas`.
+-- The states of the code that reads a filter pattern, for private contracts. `Patterns` defines what a pattern is, and
+-- `proofs/PatternLemmas` proves that the two agree.
 use Rattle.std.specs.Prelude.{ℕ, List, [], ◌∷◌, Bool, true, false, ◌==◌, nat_lt, if◌then◌else◌, Option, Some, None, option_and_then}
 use Rattle.al_base.specs.Ascii.{ascii}
 use Rattle.al_rules_formats.specs.Patterns.{is_mark}
@@ -7,7 +7,7 @@ use Rattle.al_rules_formats.specs.declared.patterns.State.{State}
 use Rattle.al_rules_formats.specs.declared.patterns.State.TheVariants.{FirstItem, AfterItem, AfterEscape, ClassFirst, ClassNext, ClassLow}
 use Rattle.al_rules_formats.specs.declared.patterns.State.TheVariants.{ClassDash}
 
--- outside a class, behind an item or not
+-- the transition outside of a class, after an item or not
 abbrev pub outside : Bool → ℕ → Option State
 outside is_behind c =
     if c == ascii "\\" then Some AfterEscape
@@ -15,7 +15,7 @@ outside is_behind c =
     else if is_mark c then (if is_behind then Some AfterItem else None)
     else Some AfterItem
 
--- one more character, if it may stand there
+-- the transition on a character; none if the character isn't allowed there
 abbrev pub read : State → ℕ → Option State
 read FirstItem c = outside false c
 read AfterItem c = outside true c
@@ -29,7 +29,7 @@ abbrev pub read_all : State → List ℕ → Option State
 read_all s [] = Some s
 read_all s (c ∷ cs) = option_and_then (λ next. read_all next cs) (read s c)
 
--- nothing is left open
+-- whether a state is accepting: nothing is open
 abbrev pub is_done : Option State → Bool
 is_done (Some AfterItem) = true
 is_done _ = false

@@ -1,4 +1,4 @@
--- What the program's ranges stand for.
+-- The code's ranges as the specification has them, and saturating numbers.
 use Rattle.std.specs.Prelude.{ℕ, List, map, nat_lt, if◌then◌else◌}
 use Rattle.std.specs.Int.Digits.{number_from_digits_after}
 use Rattle.al_base.specs.Digits.{digit_of}
@@ -12,10 +12,10 @@ range_name n = (n.name.now, n.number)
 abbrev pub range_of : Range → schedules.Range
 range_of r = record { low = r.low; high = r.high; names = map range_name r.names.now }
 
--- the number that digits write behind those that wrote n
+-- the number that digits give after digits that gave `n`
 abbrev pub number_on : ℕ → List ℕ → ℕ
 number_on n digits = number_from_digits_after 10 n (map digit_of digits)
 
--- a number, or 1,000 for all above
+-- a number, saturating at 1,000
 abbrev pub least_thousand : ℕ → ℕ
 least_thousand n = if nat_lt n 1000 then n else 1000

@@ -9,7 +9,7 @@ use Rattle.al_check_contexts.specs.Answered.{known_of}
 use Rattle.al_check_expressions.specs.FileExpressions.{expression_faults_at}
 use Rattle.al_check_expressions.proofs.expressions.check_each.Goals as goal
 
--- with those of one place more
+-- the faults of one more place
 faults_next : {X : Type 0} (f : Place → List Fault) (g : X → Place) (xs : List X) (i : ℕ) (x : X) (old now : List Fault) → i < length xs → x ≡ get_or xs i x →
     now ≡ old ++ f (g x) → now ++ flat_map f (map g (drop (i + 1) xs)) ≡ old ++ flat_map f (map g (drop i xs))
 faults_next f g xs i x old now lt e step =

@@ -1,4 +1,4 @@
--- The rows compute.
+-- Each row is proved by computation.
 use Rattle.std.proofs.Common.{refl}
 use Rattle.al_expr_typing.proofs.worked.placeholder_rows.Goals as goal
 

@@ -4,7 +4,7 @@ use Rattle.al_yaml_tree.specs.View.{view}
 use Rattle.al_rules.specs.Events.{filter_faults}
 use Rattle.al_rules.proofs.events.check_keys.Given as goal
 
--- what was added, and the faults of what is left, are the faults of all
+-- the faults so far, then those of the elements left, are the faults on entry, then those of all elements
 abbrev pub invariant-loop-key : goal.invariant-loop-key
 invariant-loop-key l =
     l.faults ++ flat_map (filter_faults l.filter (view l.event)) (map (λ n. n.now) (drop l.key-index l.keys))

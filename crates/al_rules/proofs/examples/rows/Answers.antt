@@ -5,7 +5,7 @@ use Rattle.memchr.specs.Find.{matches_from}
 use Rattle.al_rules.proofs.examples.rows.Goals as goal
 use lib.Utf8.{encode}
 
--- each row computes
+-- each row is proved by computation
 pub returns : goal.returns
 unfolding matches_from chars utf8_lossy utf8_valid_len is_utf8 encode
 returns c = record {
