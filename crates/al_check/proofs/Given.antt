@@ -1,4 +1,4 @@
--- What reading a file gave tells what it calls and what it shows.
+-- What reading a file gave determines its calls and its interface.
 use Rattle.std.proofs.Common.{◌≡◌, ◌<◌, ◌∙◌, ℕ, List, [], ◌∷◌, Option, Some, None, length, map, get_or, refl, slice_get, ap, sym, subst, arith, option_map}
 use Rattle.std.specs.Prelude.{Contains, Result, Ok, Err}
 use Rattle.std.specs.List.{AllByRecursion, cons_option}
@@ -33,7 +33,7 @@ use Rattle.al_check.specs.declared.files.ReadFile.{ReadFile}
 use Rattle.al_check.specs.declared.units.Unit.{Unit}
 use Rattle.al_check.specs.declared.units.Unit.TheVariants as unit
 
--- what the reading of some bytes gives, as definitions say it of the bytes
+-- functions of a tree that was read, as the specification defines them on the bytes
 module _ {A : Type 0} (f : FileKind → Node → A) (none : A) where
   abbrev of_reading : FileKind → Result Node FaultAt → A
   of_reading kind read = option_map_or (f kind) (result_ok read) none
@@ -83,7 +83,7 @@ faults_in kind bytes (Err fault) calls is none = ap (map (λ c. c.fault)) none �
 faults_kept : (file : ReadFile) (kind : FileKind) (bytes : List ℕ) → IsRead file kind bytes → map (λ c. c.fault) file.calls.items ≡ file_sites kind bytes
 faults_kept file kind bytes is = faults_in kind bytes file.tree file.calls.items is.given is.calls
 
--- what is kept of a file has its calls
+-- the calls that are kept of a file are its calls
 pub calls_kept_of : (unit : Unit) (kind : FileKind) (bytes : List ℕ) → IsUnit unit kind bytes → HasCalls (calls_kept unit) kind bytes
 calls_kept_of (unit.Whole file) kind bytes is = record { targets = targets_kept file kind bytes is; sites = faults_kept file kind bytes is }
 calls_kept_of (unit.Brief brief) kind bytes is = is.calls
@@ -98,14 +98,14 @@ call_inside calls kind bytes call has lt =
     let all : length (map (λ c. c.target) calls) ≡ length calls = length-map calls (λ c. c.target) in
     omega (arith, lt, kept, all)
 
--- the fault of a call with this number is kept
+-- the fault of the call with this number
 pub site_kept : (calls : List FolderCall) (kind : FileKind) (bytes : List ℕ) (call : ℕ) (found : FolderCall) → HasCalls calls kind bytes → found ≡ get_or calls call found →
     call < length calls → slice_get (file_sites kind bytes) call ≡ Some found.fault
 site_kept calls kind bytes call found has read lt =
     ap (λ l. slice_get l call) (sym has.sites) ∙ slice_get-map (λ c. c.fault) calls call
     ∙ ap (option_map (λ c. c.fault)) (slice_get-get_or calls call found lt ∙ ap Some (sym read))
 
--- it names one text
+-- a fault with one argument
 pub record IsNamed (fault : Fault) : Type 0 where
   pub text : List ℕ
   pub is : fault.args ≡ text ∷ []

@@ -1,4 +1,4 @@
--- Calls that are alike are shown one signature, since answers are told by who calls and by which text.
+-- Calls of the same kind by the same text have the same signature, since the answer depends only on the caller and the text.
 use Rattle.std.proofs.Common.{◌≡◌, List, [], ◌∷◌, Bool, true, false, cond, Option, Some, None, ap, map, option_map, refl, sym}
 use Rattle.std.specs.Prelude.{ℕ, Contains, IfSome, ◌&&◌}
 use Rattle.std.specs.List.{AllByRecursion, cons_option, flat_map}
@@ -26,7 +26,7 @@ use Rattle.al_check_calls.specs.CallFaults.{callable_signature, is_compared}
 use Rattle.al_check_calls.specs.Private.Comparing.{AreToldByUses, CallAlike, Comparison, HaveOneSignature, TellSignatures, call_alike, compared_with}
 use Rattle.al_check_calls.specs.Private.Comparing.{comparison_of, comparisons}
 
--- ---- what equality says
+-- ---- equality tests are exact
 
 kind_exact : (a b : ParameterKind) → kind_eq.ghosts.eq a b ≡ true → a ≡ b
 kind_exact Input Input h = refl
@@ -53,7 +53,7 @@ likeness q r h =
     let t = and_parts by text p.1 in
     record { kind = kind_exact _ _ p.0; by = caller_exact _ _ t.0; text = (bytes_eq-Decides q.call.text r.call.text).0 t.1 }
 
--- ---- what is told
+-- ---- the answer determines the signature
 
 module _ (answer : Caller → List ℕ → Option Interface) where
   abbrev IsTold : Comparison → Type 0
@@ -92,7 +92,7 @@ tell_signatures as' told q r a b =
     let all = All-from_recursion (IsTold told.answer) qs (all_told told.answer as' told.told) in
     pair_told told.answer q r (All-contains (IsTold told.answer) qs q all a) (All-contains (IsTold told.answer) qs r all b)
 
--- ---- what any two of some elements tell
+-- ---- a relation between any two elements of a list
 
 module _ {Y : Type 0} (R : Y → Y → Type 0) where
   abbrev Tell : List Y → Type 0
@@ -101,7 +101,7 @@ module _ {Y : Type 0} (R : Y → Y → Type 0) where
   pub tell_permuted : (xs ys : List Y) → IsPermutation xs ys → Tell xs → Tell ys
   tell_permuted xs ys p tell a b x y = tell a b (Contains-permutation ys xs a (IsPermutation-sym xs ys p) x) (Contains-permutation ys xs b (IsPermutation-sym xs ys p) y)
 
-  -- the one before and the next
+  -- between the element before, if there is one, and the next
   pub tell_next : {X : Type 0} (f : X → Y) (xs : List X) (o : Option X) (one : X) → Tell (map f xs) → IfSome o (λ p. Contains (map f xs) (f p)) →
       Contains (map f xs) (f one) → IfSome o (λ p. R (f p) (f one))
   tell_next f xs None one tell before at = tt

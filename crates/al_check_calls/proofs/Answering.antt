@@ -1,4 +1,4 @@
--- The calls that reading kept, with their answers, are those of the file.
+-- The kept calls with their answers are the file's calls with their answers.
 use Rattle.std.proofs.Common.{◌≡◌, ◌<◌, ◌+◌, ◌++◌, ◌∙◌, ℕ, List, [], ◌∷◌, Option, Some, None, ap, append-nil, append_assoc, drop, get_or, length, map, option_map, refl, sym}
 use Rattle.std.proofs.lemmas.List.{drop_more}
 use Rattle.std.specs.Prelude.{IfSome, slice_get, slice_index_or}
@@ -16,7 +16,7 @@ use Rattle.al_check_interfaces.specs.declared.calls.FolderCall as code
 use Rattle.al_check_calls.specs.Answers.{Answered, answered_by, calls_with_answers}
 use Rattle.al_check_calls.specs.Private.AnswerViews.{answered_at}
 
--- ---- what holds of all calls holds of those with answers
+-- ---- what is true of all calls is true of those with answers
 
 one_answered : (P : Call → Type 0) (c : Call) (o : Option Target) (answer : Option Interface) → P c → IfSome (option_map (λ t. answered_by c answer) o) (λ a. P a.call)
 one_answered P c None answer p = tt
@@ -29,7 +29,7 @@ each_answered P (c ∷ cs) answers p =
     each_cons (λ (a : Answered). P a.call) (option_map (λ t. answered_by c (slice_index_or answers 0 None)) (target_in c.form)) (calls_with_answers cs others)
     (one_answered P c (target_in c.form) (slice_index_or answers 0 None) p.0) (each_answered P cs others p.1)
 
--- ---- those that are kept
+-- ---- the kept calls
 
 abbrev with_answer : List (Option Interface) → Call → Answered
 with_answer answers c = answered_by c (slice_index_or answers 0 None)
@@ -58,7 +58,7 @@ pub all_answered : (kind : FileKind) (root : Node) (kept : List code.FolderCall)
 all_answered kind root kept answers are =
     of_seen (calls_in kind root) kept answers ∙ ap (λ ks. answered_of_kept ks answers) are ∙ of_kept (calls_in kind root) answers
 
--- ---- a call more
+-- ---- one more call
 
 put_next : {X : Type 0} (o : Option X) (old new rest whole : List X) → new ≡ old ++ cons_option o [] → old ++ cons_option o rest ≡ whole → new ++ rest ≡ whole
 put_next None old new rest whole more so_far = ap (λ l. l ++ rest) (more ∙ append-nil old) ∙ so_far

@@ -1,4 +1,4 @@
--- Each fault of a file's calls lies in the file that its tree lies in.
+-- Each fault of a file's calls is within the file.
 use Rattle.std.specs.Prelude.{ℕ, Bool, List, [], ◌∷◌, codes, Option, Some, None, find}
 use Rattle.std.proofs.Common.{cond}
 use Rattle.std.specs.List.{AllByRecursion, flat_map}

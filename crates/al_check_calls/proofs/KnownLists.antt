@@ -1,4 +1,4 @@
--- Lists of names at their positions, as more of them are put behind; the answers whose names stand there.
+-- Lists of output names, stored once for each caller and text: appending a list, and the answers that refer to the lists.
 use Rattle.std.proofs.Common.{◌≡◌, ◌<◌, ◌≤◌, ◌+◌, ◌++◌, ◌∙◌, ℕ, List, [], ◌∷◌, Bool, true, false, cond, Bor, Option, Some, None, refl, sym, ap}
 use Rattle.std.proofs.Common.{append-nil, append_assoc, get_or, length, map, subst, take}
 use Rattle.std.specs.Prelude.{All, if◌then◌else◌, is_some, option_and_then, slice_get}
@@ -50,7 +50,7 @@ same_both _ _ o e = absurd cc
 same_text : (a b : List ℕ) → is_eq (slice_cmp nat_cmp a b) ≡ true → b ≡ a
 same_text a b e = sym ((bytes_eq-Decides a b).0 (sym (is_eq-slice_cmp a b) ∙ e))
 
--- ---- names at a position
+-- ---- the names at a position
 
 pub grown_stands : (lists new added : List Names) (position : Option ℕ) (names : Option Names) → new ≡ lists ++ added → StandsAt lists position names → StandsAt new position names
 grown_stands lists new added position names e stands more =
@@ -69,7 +69,7 @@ pushed_stands items new l position e at more =
     ap (λ ls. slice_get (ls ++ more) position) (pushed_lists items new l e)
     ∙ ap (slice_get ((lists ++ l.now ∷ []) ++ more)) (at ∙ sym (length-map items (λ n. n.now))) ∙ list_there lists l.now more
 
--- ---- what is told at the positions that are known
+-- ---- the names at known positions
 
 pub none_placed : (naming : Naming) (ls : Lists) → ls.positions.entries ≡ [] → ArePlaced naming ls
 unfolding position_of
@@ -88,7 +88,7 @@ put_at naming lists of_step key_step text key_text put position old true same he
     λ more. ap (slice_get (lists ++ more)) at ∙ here more ∙ λ j. naming (sym key.0 j) (sym key.1 j)
 put_at naming lists of_step key_step text key_text put position old false same here there is = there position is
 
--- the names behind the calls by one text more have a position
+-- storing the names for one more caller and text, which get a position
 pub put_takes : (old new : Lists) (key : Key) (names : Names) (put : ℕ) → Updates key_cmp old.positions new.positions key (Some put) →
     lists_of new ≡ lists_of old ++ names ∷ [] → StandsAt (lists_of new) (Some put) (Some names) → Takes old new key.0 key.1.now (Some names) (Some put)
 unfolding position_of
@@ -106,7 +106,7 @@ put_takes old new key names put updates grown stands = record {
   stands = λ naming told before. stands;
 }
 
--- or nothing is put
+-- nothing is stored
 unchanged_takes : (ls : Lists) (of_step : Bool) (text : List ℕ) (names : Option Names) (position : Option ℕ) →
     ((naming : Naming) → naming of_step text ≡ names → ArePlaced naming ls → StandsAt (lists_of ls) position names) → Takes ls ls of_step text names position
 unchanged_takes ls of_step text names position stands = record {
@@ -133,7 +133,7 @@ takes_as {old} {new} {position = position} e f g h = subst (λ (x : Bool × List
 abbrev IsNamed : Naming → Answered → Type 0
 IsNamed naming a = naming (is_some a.call.site.step) a.call.text ≡ outputs_behind a
 
--- of the first of some calls, with names that may be told of all of them
+-- The first `i` calls have these answers, if a naming gives the names of each call.
 abbrev pub AreKnown : List code.Answered → ℕ → Lists → List Answer → Type 0
 AreKnown answered i ls known =
     (naming : Naming) → All (IsNamed naming) (map answered_of answered)
@@ -144,7 +144,7 @@ named_at : (naming : Naming) (answered : List code.Answered) (i : ℕ) (a : code
 named_at naming answered i a named within is =
     All-contains (λ x. IsNamed naming (answered_of x)) answered a (all_seen answered_of (IsNamed naming) answered named) (i, within, sym is)
 
--- one call more
+-- one more call
 pub one_known : (answered : List code.Answered) (i : ℕ) (a : code.Answered) (old new : Lists) (known now : List Answer) (position : Option ℕ) → i < length answered →
     a ≡ get_or answered i a → Takes old new (is_some (answered_of a).call.site.step) (answered_of a).call.text (outputs_behind (answered_of a)) position →
     now ≡ known ++ record { job = a.call.site.job; step = a.call.site.step; names = position } ∷ [] → AreKnown answered i old known → AreKnown answered (i + 1) new now
@@ -177,7 +177,7 @@ naming_of found told of_step text =
     let by = if of_step then caller.Step else caller.Job in
     option_and_then outputs_in (callable_signature by (told.answer by text))
 
--- of all calls
+-- all calls
 pub all_known : (answered : List code.Answered) (i : ℕ) (ls : Lists) (known : List Answer) → length answered ≤ i → AreToldByUses (map answered_of answered) →
     AreKnown answered i ls known → map (behind_of (lists_of ls)) known ≡ map known_of_call (map answered_of answered)
 all_known answered i ls known end told so_far =

@@ -1,4 +1,4 @@
--- Names that are missing, call by call: behind one alike by the same `uses` only what all of them so far have given is looked up.
+-- Missing names, call by call. After a call by the same `uses`, only the parameters that all such calls so far have given are looked up.
 use Rattle.std.proofs.Common.{◌≡◌, ◌∙◌, ◌⊎◌, ⊎_elim, inl, inr, List, [], ◌∷◌, ◌++◌, Bool, true, false, cond, Option, Some, None}
 use Rattle.std.proofs.Common.{ap, append-nil, map, option_map, refl, subst, sym}
 use Rattle.std.specs.Prelude.{Contains}
@@ -34,9 +34,9 @@ use Rattle.al_check_calls.specs.declared.comparisons.Comparison as code
 use Rattle.al_check_calls.proofs.Alike.{likeness, span_exact}
 use Rattle.al_check_calls.proofs.Parts.{in_parts}
 
--- ---- one call more
+-- ---- one more call
 
--- what a choice gives at most
+-- an element of a list that has at most one element
 only : {X : Type 0} (x y : X) (l : List X) → AllByRecursion (λ z. x ≡ z) l → Contains l y → x ≡ y
 only x y l all = All-contains (λ z. x ≡ z) l y (All-from_recursion (λ z. x ≡ z) l all)
 
@@ -74,7 +74,7 @@ module _ (q : Comparison) (left : List Parameter) (old : List Fault) (before : I
     said = λ p at. ⊎_elim (λ l. stays p (gives q p) refl l) (λ o. inr (Contains-append_left old found (missing_fault q p) o)) (before.said p at);
   }
 
--- all that is missing of it is said behind it, and of the rest what it gives is left
+-- All that the call doesn't give is reported, and what it gives is left to look up.
 pub next_found : (q : Comparison) (left : List Parameter) (old new : List Fault) → IsSaid q left old → new ≡ old ++ flat_map (fault_unless_given q) left →
     SameSet new (old ++ missing_of q)
 next_found q left old new before is =
@@ -85,11 +85,11 @@ pub next_said : (q : Comparison) (left after : List Parameter) (old new : List F
 next_said q left after old new before is are =
     subst (λ l. IsSaid q l new) (sym are) (subst (λ l. IsSaid q (flat_map (parameter_if_given q) left) l) (sym is) (then_said q left old before))
 
--- of the first call by a `uses` all is left
+-- for the first call by a `uses`, all mandatory parameters are left to look up
 pub first_said : (q : Comparison) (left : List Parameter) (out : List Fault) → left ≡ mandatory_for q → IsSaid q left out
 first_said q left out are = subst (λ l. IsSaid q l out) (sym are) (record { among = λ p at. at; said = λ p at. inl at })
 
--- ---- calls alike by one `uses`
+-- ---- calls by the same `uses`
 
 same_fault : (q r : Comparison) → is_by_same_uses q r ≡ true → HaveOneSignature q r → (p : Parameter) → missing_fault q p ≡ missing_fault r p
 same_fault q r h tells p =
@@ -106,7 +106,7 @@ same_fault q r h tells p =
       args = map utf8_lossy (p.name ∷ option_map_or (λ n. n) (one i).name (text i) ∷ []);
     }
 
--- what is said of one is said of the other
+-- what is reported for one of them is reported for the other
 pub alike_said : (q r : Comparison) (left : List Parameter) (out : List Fault) → is_by_same_uses q r ≡ true → HaveOneSignature q r → IsSaid q left out → IsSaid r left out
 alike_said q r left out h tells said =
     let alike = likeness q r (and_parts (call_alike q r) (span_eq.ghosts.eq q.call.at r.call.at) h).0 in
@@ -118,7 +118,7 @@ alike_said q r left out h tells said =
       said = λ p c. ⊎_elim (λ l. inl l) (λ o. inr (subst (λ f. Contains out f) (same_fault q r h tells p) o)) (said.said p (subst (λ l. Contains l p) (sym same) c));
     }
 
--- those that were put in order
+-- sorting the calls changes no fault
 pub order_found : (calls sorted : List code.Comparison) (old new : List Fault) → IsPermutation calls sorted →
     SameSet new (old ++ flat_map missing_of (map compared_of sorted)) → SameSet new (old ++ flat_map missing_of (map compared_of calls))
 order_found calls sorted old new order is =
@@ -127,7 +127,7 @@ order_found calls sorted old new order is =
     set_trans new (old ++ behind) (old ++ before) is
     (set_behind old behind before (set_permuted missing_of (map compared_of calls) (map compared_of sorted) (IsPermutation-map compared_of calls sorted order)))
 
--- ---- of all calls, both what isn't declared and what is missing
+-- ---- undefined and missing names of all calls
 
 put_first : (f : Comparison → List Fault) (o : Option Comparison) (more : List Comparison) → flat_map f (cons_option o more) ≡ option_map_or f o [] ++ flat_map f more
 put_first f None more = refl

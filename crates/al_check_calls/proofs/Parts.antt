@@ -1,4 +1,4 @@
--- What is found of all in one part, and then in another, is what both parts say of each.
+-- The faults of one kind for all elements, then those of another kind, are as a set both kinds for each element.
 use Rattle.std.proofs.Common.{◌≡◌, List, ◌++◌, append_assoc}
 use Rattle.std.specs.List.{flat_map}
 use Rattle.al_base.proofs.Growing.{same_set}

@@ -37,7 +37,7 @@ mutual
   short_entries no_entries w t = tt
   short_entries (entry k v es) w t = (short_all k w.0 t.0, short_all v w.1 t.1, short_entries es w.2 t.2)
 
--- ---- what a node has, the nodes in it have
+-- ---- what is true of a node is true of the nodes in it
 
 items_short : (ns : Nodes) → ItemsShort ns → AllByRecursion AreShort (nodes ns)
 items_short no_nodes h = tt
@@ -59,19 +59,19 @@ calls_short k root h = calls_kept short_kept (λ at. Unit {0}) (λ t p. tt) k ro
 abbrev AnsweredIsShort : Answered → Type 0
 AnsweredIsShort a = CallIsShort a.call
 
--- of the calls that the code has found, with their answers
+-- the calls that the code found, with their answers
 pub all_short : (as' : List code.Answered) (k : FileKind) (root : Node) (answers : List (Option Interface)) →
     map answered_of as' ≡ calls_with_answers (calls_in k root) answers → IsLaid 1048576 root → HasTexts root → All (λ (a : code.Answered). AreShort (view a.call.site.node.now)) as'
 all_short as' k root answers e w t i d within =
     let all = All-from_recursion AnsweredIsShort _ (each_answered CallIsShort (calls_in k root) answers (calls_short k root (short_all root w t))) in
     (all_seen answered_of AnsweredIsShort as' (All-same AnsweredIsShort _ _ e all) i d within).1
 
--- of the members that the code has found under a key of a node
+-- the members that the code found under a key of a node
 pub members_short : (ms : List Member) (k : List ℕ) (n : Node) → map member_of ms ≡ entries_at k n → AreShort n → All (λ (m : Member). AreShort (member_of m).1) ms
 members_short ms k n e h i d within =
     let all = All-from_recursion (Pair AreShort) _ (entries_kept short_kept k n h) in
     (all_seen member_of (Pair AreShort) ms (All-same (Pair AreShort) _ _ e all) i d within).1
 
--- the scalar that a node is
+-- the scalar of a scalar node
 pub scalar_short : (n : Node) (s : Scalar) → scalar_in n ≡ Some s → AreShort n → IsShort s
 scalar_short n s e h = subst (λ o. IfSome o IsShort) e (scalar_kept short_kept n h)

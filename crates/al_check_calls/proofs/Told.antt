@@ -1,4 +1,4 @@
--- The answers of a file's calls are told by who calls and by the text of `uses`, since these tell what is called.
+-- The answers of a file's calls depend only on the caller and the text of `uses`, since these determine what is called.
 use Rattle.std.proofs.Common.{◌≡◌, ◌∙◌, ℕ, List, [], ◌∷◌, Option, Some, None, ap, drop, map, option_map, refl, subst, sym}
 use Rattle.std.specs.Prelude.{codes, option_and_then, slice_index_or}
 use Rattle.std.specs.List.{AllByRecursion, cons_option, filter_map}
@@ -30,7 +30,7 @@ sites_formed : (sites : List Site) → AllByRecursion IsFormed (filter_map call_
 sites_formed [] = tt
 sites_formed (s ∷ sites) = put_formed s (text_at_key (codes "uses") s.node) (filter_map call_at sites) (sites_formed sites)
 
--- ---- what answers
+-- ---- the answers
 
 module _ (answer : Target → Option Interface) where
   abbrev answer_by : Caller → List ℕ → Option Interface
@@ -39,7 +39,7 @@ module _ (answer : Target → Option Interface) where
   abbrev IsTold : Answered → Type 0
   IsTold a = a.answer ≡ answer_by (site_caller a.call.site) a.call.text
 
-  -- of the answers the first is that of the first call, and the others are those of the others
+  -- the first answer is that of the first call, the others are those of the other calls
   put_told : (c : Call) (o : Option Target) (rest : List Target) (more : List (Option Interface) → List Answered) → target_in c.form ≡ o → IsFormed c →
       AllByRecursion IsTold (more (map answer rest)) →
       AllByRecursion IsTold (cons_option (option_map (λ t. answered_by c (slice_index_or (map answer (cons_option o rest)) 0 None)) o)

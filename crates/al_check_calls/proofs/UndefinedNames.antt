@@ -1,4 +1,4 @@
--- What is said of names that aren't declared, one after another: of one that is the same as the one before it nothing more.
+-- Faults of undefined names, one after another. A name that equals the one before it adds no fault.
 use Rattle.std.proofs.Common.{◌≡◌, ◌∙◌, List, [], ◌∷◌, ◌++◌, true, cond, ap, map, refl, subst, sym}
 use Rattle.std.specs.Prelude.{Contains, ◌&&◌, ◌||◌}
 use Rattle.std.specs.List.{flat_map}
@@ -47,7 +47,7 @@ tell_names qs tell n m a b =
     (λ r at' c'. subst (λ x. HaveOneSignature x m.by) (given_by_one q (given_by q.kind q.call.site.node) n c)
     (subst (λ y. HaveOneSignature q y) (given_by_one r (given_by r.kind r.call.site.node) m c') (tell q r at at'))) b) a
 
--- those that were found, put in order
+-- the names found, after sorting
 pub names_told : (qs : List Comparison) (found given : List code.GivenName) → map name_of found ≡ flat_map names_by qs → IsPermutation found given →
     TellSignatures qs → TellSignaturesBy (map name_of given)
 names_told qs found given are order tell =
@@ -63,11 +63,11 @@ names_found qs found given old new are order is =
     (set_behind old (flat_map undefined_at (map name_of given)) (flat_map undefined_of qs)
     (set_trans (flat_map undefined_at (map name_of given)) (flat_map undefined_at (map name_of found)) (flat_map undefined_of qs) moved (same_set _ _ all)))
 
--- what was added is there
+-- faults that were added are in the list
 pub added_there : (old new more : List Fault) → SameSet new (old ++ more) → AreThere more new
 added_there old new more s f c = (s f).1 (Contains-append_right old more f c)
 
--- ---- one name at one place
+-- ---- the same name at the same position
 
 same_name : (n m : GivenName) → HaveOneSignature n.by m.by → is_same_name_given n m ≡ true → undefined_at n ≡ undefined_at m
 same_name n m tells h =

@@ -1,4 +1,4 @@
--- Values with types of a table, where it has grown.
+-- Values with types of a table, in a longer table.
 use Rattle.std.proofs.Common.{◌≡◌, ◌<◌, ◌+◌, ◌∷◌, ◌++◌, ◌∙◌, ℕ, List, [], Option, get_or, length, map, take, true, ap, refl, sym}
 use Rattle.std.proofs.lemmas.List.{map-append, take_more}
 use Rattle.al_base.specs.Growth.{BeginsWith}
@@ -25,14 +25,14 @@ values_stay : (new old : Types) (vs : List Value) → BeginsWith (objects_of new
 values_stay new old vs b h =
     same_mapped (λ v. is_known old v.ty) (given_at new) (given_at old) (λ v k d. (member_of v.member, type_stays new old v.ty b k d)) vs h
 
--- one value more is known
+-- one more value whose type is known
 pub known_more : (new old : Types) (vs now : List Value) (v : Value) → BeginsWith (objects_of new) (objects_of old) → are_values_known old vs ≡ true →
     is_known new v.ty ≡ true → now ≡ vs ++ v ∷ [] → are_values_known new now ≡ true
 known_more new old vs now v b h k pushed =
     ap (are_values_known new) pushed
     ∙ all_more (λ x. is_known new x.ty) vs v (all_weaker (λ x. is_known old x.ty) (λ x. is_known new x.ty) (λ x e. known_stays new old x.ty b e) vs h) k
 
--- and is what its member gives
+-- one more value has the type that its member gives
 pub value_more : (new old : Types) (type_of : Node → Scalar → Type') (given : List Member) (i : ℕ) (m : Member) (t : Ty) (vs now : List Value) →
     i < length given → m ≡ get_or given i m → BeginsWith (objects_of new) (objects_of old) → are_values_known old vs ≡ true →
     type_at new t ≡ given_type type_of (member_of m) → now ≡ vs ++ record { member = m; ty = t } ∷ [] →
@@ -48,7 +48,7 @@ value_more new old type_of given i m t vs now room is b h ty pushed so_far =
     ∙ sym (ap (λ l. values_of type_of (map member_of l)) members ∙ ap (values_of type_of) (map-append member_of (take i given) (m ∷ []))
     ∙ map-append given_by (map member_of (take i given)) (member_of m ∷ []))
 
--- what a step gives is not looked at
+-- the values that a step gives aren't compared
 pub values_of_step : (by : Caller) (c : Call) (vs ws : List Given) (o : Option Signature) → by ≡ caller.Step → values_against by c vs o ≡ values_against by c ws o
 values_of_step caller.Step c vs ws o e = refl
 values_of_step caller.Job c vs ws o e = absurd cc

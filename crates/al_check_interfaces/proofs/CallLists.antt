@@ -1,4 +1,4 @@
--- The calls of files of the folder, a call further.
+-- The list of calls of files in the folder: appending one call, and its targets and faults.
 use Rattle.std.proofs.Common.{◌≡◌, ◌<◌, ◌+◌, ◌∙◌, ℕ, List, [], ◌∷◌, ◌++◌, Option, Some, None, ap, get_or, length, map, refl, slice_get, sym}
 use Rattle.std.specs.Prelude.{option_map}
 use Rattle.std.specs.List.{cons_option, filter_map}
@@ -15,7 +15,7 @@ use Rattle.al_check_interfaces.specs.declared.forms.Form.TheVariants.{Local}
 pub at_number : {A X : Type 0} (v : A → X) (xs : List A) (i : ℕ) (x : A) → i < length xs → x ≡ get_or xs i x → slice_get (map v xs) i ≡ Some (v x)
 at_number v xs i x room is = slice_get-map v xs i ∙ ap (option_map v) (slice_get-get_or xs i x room ∙ ap Some (sym is))
 
--- a call that is kept
+-- a call of a file in the folder is appended
 pub local_added : (c : Call) (t : Target) (number : ℕ) (fault : Fault) (all : List Call) (old new : List code_calls.FolderCall) → c.form ≡ Local t → slice_get all number ≡ Some c →
     fault ≡ that_uses code.CallCycle c → new ≡ old ++ record { number = number; target = t; fault = fault } ∷ [] →
     map (folder_call all) new ≡ map (folder_call all) old ++ cons_option (as_folder_call c) []
@@ -23,7 +23,7 @@ local_added c t number fault all old new form at said more =
     ap (map (folder_call all)) more ∙ map-append (folder_call all) old (record { number = number; target = t; fault = fault } ∷ []) ∙ (λ i. map (folder_call all) old ++ (at i, t, said i) ∷ [])
     ∙ ap (λ f. map (folder_call all) old ++ cons_option (option_map (λ x. (Some c, x, that_uses code.CallCycle c)) (target_in f)) []) (sym form)
 
--- what kept calls call, and what is said of them
+-- mapping the calls of files in the folder, directly or from all calls
 of_kept : {X : Type 0} (f : FolderCall → X) (g : Call → Option X) → ((c : Call) → option_map f (as_folder_call c) ≡ g c) → (cs : List Call) → map f (filter_map as_folder_call cs) ≡ filter_map g cs
 of_kept f g h [] = refl
 of_kept f g h (c ∷ cs) = put (as_folder_call c) (of_kept f g h cs) ∙ ap (λ o. cons_option o (filter_map g cs)) (h c)

@@ -1,4 +1,4 @@
--- The parts of a text up to a byte, a byte further; and which bytes cut it.
+-- The loop that looks for the byte which separates a REF from the parts before it: one more byte of the text.
 use Rattle.std.specs.Prelude.{◌≡◌, ℕ, ◌+◌, ◌-◌, ◌<◌, ◌≤◌, ◌==◌, Bool, false, ◌&&◌, ◌||◌, List, [], ◌∷◌, ◌++◌, drop, take, length, get_or, slice_range}
 use Rattle.std.proofs.Common.{arith, ap, cond, sym, refl, ◌∙◌, append_assoc, append-nil}
 use Rattle.std.proofs.Math.Bool.{and-true}
@@ -12,7 +12,7 @@ use Rattle.al_check_interfaces.specs.Forms.{is_cut, is_cut_at, is_some_text}
 pub all_more : (ds : List (List ℕ)) (l : List ℕ) → list_all is_some_text (ds ++ l ∷ []) ≡ (list_all is_some_text ds && is_some_text l)
 all_more ds l = list_all-append is_some_text ds (l ∷ []) ∙ ap (λ b. list_all is_some_text ds && b) (and-true (is_some_text l))
 
--- parts, with these bytes before the first
+-- puts bytes in front of the first part
 abbrev pub onto : List ℕ → List (List ℕ) → List (List ℕ)
 onto [] ps = ps
 onto (b ∷ bs) ps = onto_first b (onto bs ps)
@@ -25,7 +25,7 @@ onto_more : (last : List ℕ) (b : ℕ) (ps : List (List ℕ)) → onto last (on
 onto_more [] b ps = refl
 onto_more (c ∷ cs) b ps = ap (onto_first c) (onto_more cs b ps)
 
--- before these bytes end, these parts did, and one goes on
+-- The bytes give the parts `done` and the beginning `last` of another part, whatever bytes follow.
 abbrev pub ArePassed : List ℕ → List (List ℕ) → List ℕ → Type 0
 ArePassed bytes done last = (rest : List ℕ) → parts (bytes ++ rest) ≡ done ++ onto last (parts rest)
 
@@ -46,7 +46,7 @@ module _ (text : List ℕ) (i : ℕ) (done : List (List ℕ)) (start : ℕ) (roo
       one_more rest ∙ ap (λ b. done ++ onto last (parts (b ∷ rest))) is ∙ ap (λ l. done ++ l) (onto_empty last (parts rest)) ∙ sym (append_assoc done (last ∷ []) (parts rest))
       ∙ (λ j. sym m j ++ onto (take (sym none j) (drop from text)) (parts rest))
 
-  -- another byte makes it longer
+  -- another byte extends the last part
   pub other_passed : start ≤ i → (byte == ascii "/") ≡ false → ArePassed (take (i + 1) text) done (slice_range text start (i + 1))
   other_passed below other rest =
       let long : i - start < length (drop start text) = omega (arith, below, room, length-drop start text) in
@@ -58,7 +58,7 @@ module _ (text : List ℕ) (i : ℕ) (done : List (List ℕ)) (start : ℕ) (roo
       one_more rest ∙ ap (λ t. done ++ onto last (cond t ([] ∷ parts rest) (onto_first byte (parts rest)))) other
       ∙ ap (λ l. done ++ l) (onto_more last byte (parts rest)) ∙ ap (λ l. done ++ onto l (parts rest)) (sym longer)
 
-  -- whether this byte, or a later one, cuts the text
+  -- whether the byte at `i`, or a later one, is such a separator
   pub cuts_from : (test : List (List ℕ) → Bool) (before : List (List ℕ)) (cut : Bool) → before ≡ done ++ last ∷ [] → is_cut test before byte (slice_range text (i + 1) (length text)) ≡ cut →
       list_any (is_cut_at test text) (enumerate_from i (drop i text)) ≡ (cut || list_any (is_cut_at test text) (enumerate_from (i + 1) (drop (i + 1) text)))
   cuts_from test before cut are is =

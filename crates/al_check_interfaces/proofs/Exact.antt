@@ -1,4 +1,4 @@
--- Interfaces that compare equal are the same.
+-- Interfaces that compare equal are equal.
 use Rattle.std.specs.Prelude.{◌≡◌, ℕ, List, [], ◌∷◌, Bool, true, ◌&&◌, Option, Some, None, bytes_eq}
 use Rattle.std.proofs.Common.{refl, ap}
 use mathlib.Core.Bool.{beq}

@@ -1,4 +1,4 @@
--- The calls of a file lie in it.
+-- The calls of a file are within the file.
 use Rattle.std.specs.Prelude.{ℕ, List}
 use Rattle.std.specs.List.{AllByRecursion, flat_map}
 use Rattle.al_base.proofs.Elements.{each_of}
@@ -23,7 +23,7 @@ inside_kept size = each_kept (λ s at. LiesIn size at) (LiesAround size) (AtLies
 pub calls_lie : CallsLie
 calls_lie size kind root i = calls_kept (inside_kept size) (LiesIn size) (λ t p. p) kind root i
 
--- what is said of a `uses` that names nothing lies where it stands
+-- a fault of a `uses` that names nothing is at this `uses`
 
 wrong_lies : (size : ℕ) (f : Form) (c : Call) → LiesIn size c.at → AllByRecursion (λ (x : Fault). LiesIn size x.span) (wrong_by f c)
 wrong_lies size Wrong c at = (at, tt)

@@ -1,4 +1,4 @@
--- What holds of a node and of all that is in it holds of the calls of a file.
+-- What is true of a node and of all nodes in it is true of the calls of a file.
 use Rattle.std.specs.Prelude.{ℕ, List, [], codes, Option, Some, None}
 use Rattle.std.specs.List.{AllByRecursion, enumerate_from}
 use Rattle.al_base.proofs.Elements.{each_as, each_either, each_of, each_some, map_or, map_some}

@@ -14,6 +14,6 @@ when_no_text false bs o h = refl
 pub no_text : (bs : List ℕ) → (IsUtf8 bs → ⊥) → None ≡ path_in bs
 no_text bs h = when_no_text (is_utf8 bs) bs (path_fault_of bs) (λ e. h (IsUtf8-from_is_utf8 bs e))
 
--- bytes that are text are a path where they have no fault
+-- UTF-8 bytes are a path if and only if they have no path fault
 pub as_text : (bs : List ℕ) → IsUtf8 bs → path_in bs ≡ cond (is_none (path_fault_of bs)) (Some bs) None
 as_text bs u = ap (λ b. cond (b && is_none (path_fault_of bs)) (Some bs) None) (is_utf8-from_IsUtf8 bs u)

@@ -1,4 +1,4 @@
--- A tree without its places shows what the tree does: for the law `interfaces_of_trees`.
+-- A tree without spans has the same interface as the tree; for the law `interfaces_of_trees`.
 use Rattle.std.proofs.Common.{◌≡◌, ℕ, List, [], ◌∷◌, ◌++◌, map, Bool, true, false, not, refl, ap, ◌∙◌, Option, Some, None, option_map}
 use Rattle.std.specs.Prelude.{codes, cond, find, if◌then◌else◌, is_some, option_and_then, ◌||◌}
 use Rattle.std.specs.Bool.{then_some}
@@ -27,7 +27,7 @@ use Rattle.al_check_interfaces.specs.declared.interfaces.Role.TheVariants as rol
 use Rattle.al_check_interfaces.specs.declared.signatures.Declaring.{Declaring}
 use Rattle.al_check_interfaces.specs.declared.signatures.Declaring.TheVariants as declared
 
--- texts stay
+-- the texts are the same
 
 bytes_same : (cs : List Cell) → map (λ (c : Cell). c.0) (map (λ (c : Cell). (c.0, 0)) cs) ≡ map (λ (c : Cell). c.0) cs
 bytes_same [] = refl
@@ -36,7 +36,7 @@ bytes_same (c ∷ cs) = ap (λ xs. c.0 ∷ xs) (bytes_same cs)
 text_same : (s : Scalar) → text_of (placeless_scalar s) ≡ text_of s
 text_same s = bytes_same s.cells
 
--- ---- what is made of the parts of a node, where it is made of their texts
+-- ---- functions of the parts of a node that depend only on texts
 
 module _ {X : Type 0} (f : Option Scalar → X) (same : (s : Scalar) → f (Some (placeless_scalar s)) ≡ f (Some s)) where
   of_scalar : (n : Node) → f (scalar_in (placeless n)) ≡ f (scalar_in n)
@@ -84,7 +84,7 @@ of_text_at : {X : Type 0} (f : Option (Scalar × Span) → X) → ((s : Scalar) 
     (k : List ℕ) (n : Node) → f (option_and_then text_in (value_at k (placeless n))) ≡ f (option_and_then text_in (value_at k n))
 of_text_at f same k n = of_value (λ o. f (option_and_then text_in o)) (of_text f same) k n
 
--- ---- what is declared: of equal names the first
+-- ---- declared names: the first of equal ones
 
 abbrev placeless_entry : Node × Node → Node × Node
 placeless_entry e = (placeless e.0, placeless e.1)
@@ -121,7 +121,7 @@ module _ {X : Type 0} (f : Node × Node → X) (same : (e : Node × Node) → f 
   of_declared : (ks : List (List ℕ)) (n : Node) → map f (declared_below ks (placeless n)) ≡ map f (declared_below ks n)
   of_declared = of_below (λ o. map f (option_map_or declared_in o [])) (λ n. ap (map f) (declared_same n) ∙ of_entries (declared_in n))
 
--- ---- what is shown of it
+-- ---- interfaces
 
 required_same : (n : Node) → is_required (placeless n) ≡ is_required n
 required_same =
@@ -207,7 +207,7 @@ no_places k (mapping es at) = ap Readable (signature_same k (mapping es at))
 no_places k (scalar s at) = refl
 no_places k (sequence ns at) = refl
 
--- ---- what stands under other keys of a declared name
+-- ---- other keys of a declared name don't matter
 
 default_by : (by : Declaring) (m n : Node) → value_at (codes "default") m ≡ value_at (codes "default") n → has_default by m ≡ has_default by n
 default_by declared.CallInputs m n e = ap is_some e

@@ -1,4 +1,4 @@
--- Where inputs and secrets stand by their names, and which of them has a name.
+-- The positions of inputs and secrets by their names, and whether a name is declared.
 use Rattle.std.proofs.Common.{◌≡◌, ℕ, ◌+◌, ◌<◌, List, [], ◌∷◌, Bool, true, false, ◌||◌, Option, Some, None, map, length, get_or, option_map, is_some, refl, ap, sym, ◌∙◌}
 use Rattle.std.specs.Prelude.{find, if◌then◌else◌}
 use Rattle.al_base.specs.Names.{same_name}
@@ -13,7 +13,7 @@ place_step true o more h = refl
 place_step false None more h = h
 place_step false (Some i) more h = h
 
--- a name has a place among names where one of them is the name
+-- a name has a position in a list of names if and only if it is in the list
 pub has_place : (ns : List (List ℕ)) (name : List ℕ) → is_some (name_place ns name) ≡ named_among ns name
 has_place [] name = refl
 has_place (n ∷ ns) name = place_step (same_name n name) (name_place ns name) (named_among ns name) (has_place ns name)
@@ -26,7 +26,7 @@ place_of [] name = refl
 place_of (p ∷ ps) name = ap (λ o. if same_name p.name name then Some 0 else option_map (λ i. i + 1) o) (place_of ps name)
 
 module _ (ps : List Parameter) (positions : List ℕ → Option ℕ) (name : List ℕ) (are : positions ≡ name_place (names_of ps)) where
-  -- what stands at the position of a name
+  -- the position of a name is within the list of parameters
   pub position_within : (i : ℕ) → Some i ≡ positions name → i < length ps
   position_within i e = found_within (λ (p : Parameter). p.name) (λ n. same_name n name) ps i (sym (e ∙ ap (λ f. f name) are))
 
@@ -37,6 +37,6 @@ module _ (ps : List Parameter) (positions : List ℕ → Option ℕ) (name : Lis
   pub not_named : None ≡ positions name → None ≡ find (is_parameter name) ps
   not_named e = found_nowhere (is_parameter name) ps (sym (e ∙ ap (λ f. f name) are ∙ place_of ps name))
 
-  -- a name has a position where one of the parameters has it
+  -- a name has a position if and only if a parameter has it
   pub is_named : is_some (positions name) ≡ named_among (names_of ps) name
   is_named = ap (λ f. is_some (f name)) are ∙ has_place (names_of ps) name

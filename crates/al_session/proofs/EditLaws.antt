@@ -27,7 +27,7 @@ use Rattle.al_session.proofs.Linted.{affected_same}
 abbrev InOrder : Folder → Type 0
 InOrder f = IsStrictlySortedBy (slice_cmp nat_cmp) (paths_of f)
 
--- the bytes at all paths tell a folder
+-- Folders in order with the same bytes at each path are equal.
 below : (p : List ℕ) (es : Folder) → AllByRecursion (λ q. slice_cmp nat_cmp p q ≡ Less) (paths_of es) → below_all (slice_cmp nat_cmp) p es ≡ true
 below p [] all = refl
 below p (e ∷ es) all = rw all.0 (below p es all.1)

@@ -1,4 +1,4 @@
--- The graph of calls that a session keeps, where a file is put.
+-- The graph of calls that a session keeps, after a put.
 use Rattle.std.proofs.Common.{◌≡◌, ℕ, Bool, List, Option, Some, None, Result, Ok, Err, IfOk, OnErr, sym, subst}
 use Rattle.std.specs.Option.{option_map}
 use Rattle.al_session_folder.specs.Meaning.{Meaning}
@@ -17,19 +17,19 @@ graph_by : {I : Type 0} (m : Meaning I) (f g : Folder) → HasSameCalls m f g �
 graph_by m f g same None is = tt
 graph_by m f g same (Some calls) is = graph_still m f g same calls.graph.items calls.labels.items is
 
--- where the file that is there calls what the new one calls, the graph stays
+-- The graph stays if the old file at the path makes the same calls as the new one.
 pub graph_put : {U I : Type 0} (m : Meaning I) (is_unit : U → List ℕ → List ℕ → Type 0) (files : Files U I) (p : List ℕ) (file : KeptFile U I) (calls : Option CallGraph) →
     AreKept m is_unit files → IsKept m is_unit p file → option_map (λ (kept : KeptFile U I). kept.calls.targets.items) (file_at files p) ≡ Some file.calls.targets.items →
     IsGraphIf m (folder_of files) calls → IsGraphIf m (with_file (folder_of files) p file.bytes.items) calls
 graph_put m is_unit files p file calls kept one same is =
     graph_by m (folder_of files) (with_file (folder_of files) p file.bytes.items) (put_same_calls m is_unit files p file kept one same) calls is
 
--- the graph that was found
+-- a graph that is there is the graph of calls
 pub graph_found : {I : Type 0} (m : Meaning I) (f : Folder) (calls : Option CallGraph) (found : CallGraph) → calls ≡ Some found → IsGraphIf m f calls →
     IsCallGraph m f found.graph.items found.labels.items
 graph_found m f calls found is graph = subst (IsGraphIf m f) is graph
 
--- whether the edit stands or is undone
+-- whether the edit succeeded or was undone
 pub graph_after : {U I E : Type 0} (eq : I → I → Bool) (m : Meaning I) (is_unit : U → List ℕ → List ℕ → Type 0) (r : Result (List (List ℕ)) E) (before now : IndexedFiles U I) (wanted : Folder)
     (k n : ℕ) (calls : Option CallGraph) → IfOk r (λ paths. IsEdited eq m is_unit before wanted k paths now n) →
     OnErr r (IsUndone eq m is_unit before wanted k now n) → IsGraphIf m (folder_in before) calls → IsGraphIf m wanted calls → IsGraphIf m (folder_in now) calls

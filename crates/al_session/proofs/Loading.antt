@@ -1,4 +1,4 @@
--- Files that are kept without a check, and checked once all of them are there.
+-- Files that are kept without a check, and are checked once all of them are there.
 use Rattle.std.proofs.Common.{◌≡◌, ℕ, true, false, true≢false, List, [], ◌∷◌, length, map, get_or}
 use Rattle.std.proofs.Common.{String, Vec, refl, sym, ◌∙◌, ap, arith}
 use Rattle.std.specs.Prelude.{string_bytes, bytes_eq, IsSome}
@@ -24,7 +24,7 @@ use Rattle.al_session.specs.Private.Lists.{with_lists}
 use Rattle.al_session.proofs.Giving.{all_checked, folder_of-with_lists, given_kept}
 use Rattle.al_session.proofs.Linted.{all_there}
 
--- the files of a folder, once lists of their faults were made for all paths, and given
+-- the files of a folder, once the faults of all paths are computed and stored
 module _ {U I S R : Type 0} (m : Meaning I) (is_unit : U → List ℕ → List ℕ → Type 0) (es : Files U I) (callers : Callers S R) (paths : List (List ℕ)) (loaded : AreLoaded m is_unit es callers)
     (are : paths ≡ paths_of (folder_of es)) where
   pub each_there : AllByRecursion (λ q. IsSome (bytes_at (folder_of es) q)) paths
@@ -58,7 +58,7 @@ pub calls_kept : {U I : Type 0} (m : Meaning I) (is_unit : U → List ℕ → Li
 calls_kept m is_unit files q kept =
     part_at (λ file. file.calls.targets.items) (m.calls q) files q (λ file found. (kept_at m is_unit files q file kept found).calls.targets)
 
--- what is kept of no file
+-- what is kept of an empty folder
 pub empty_loaded : {U I S R : Type 0} (m : Meaning I) (is_unit : U → List ℕ → List ℕ → Type 0) (es : Files U I) (callers : Callers S R)
     → es ≡ [] → callers.entries ≡ [] → AreLoaded m is_unit es callers
 unfolding IsStrictlySortedBy
@@ -67,7 +67,7 @@ empty_loaded m is_unit es callers none lacks = rw none (record {
   index = λ c q. ap (λ l. option_map_or (λ known. contains_text known q) (lookup (λ k. bytes_eq c (string_bytes k)) l) false) lacks;
 })
 
--- no file has its faults to be told
+-- in an empty folder all files are checked
 pub empty_linted : {U I S R : Type 0} (m : Meaning I) (is_unit : U → List ℕ → List ℕ → Type 0) (es : Files U I) (callers : Callers S R)
     → es ≡ [] → callers.entries ≡ [] → AreLinted m is_unit es callers
 empty_linted m is_unit es callers none lacks =

@@ -1,4 +1,4 @@
--- What the program's calls, values and answers stand for.
+-- The code's calls, values and answers as the specification has them.
 use Rattle.std.specs.Prelude.{ℕ, List, [], ◌∷◌, Bool, drop, Option, option_map, slice_get, slice_index_or, None}
 use Rattle.std.specs.List.{cons_option, list_all}
 use Rattle.std.specs.Option.{option_copied}
@@ -29,7 +29,7 @@ given_in ms v = (member_of v.member, type_in ms v.ty)
 abbrev pub given_at : Types → code_values.Value → Given
 given_at types v = given_in (objects_of types) v
 
--- whether the types of values are those of the table
+-- whether the types of values are known to the table
 abbrev pub are_values_known : Types → List code_values.Value → Bool
 are_values_known types vs = list_all (λ v. is_known types v.ty) vs
 
@@ -42,11 +42,11 @@ compared_of q = record { kind = q.kind; call = call_of q.call; signature = q.sig
 abbrev pub name_of : code_names.GivenName → GivenName
 name_of n = record { by = compared_of n.by; entry = member_of n.member }
 
--- the types of what the calls of a file give
+-- the types that the calls of a file give
 abbrev pub typing_in : File → Typing
 typing_in f = typing f.kind (known_of f.known) (view f.root.now)
 
--- the calls with some numbers, with their answers
+-- the calls with these numbers, with their answers
 abbrev pub answered_at : List Call → List ℕ → List (Option Interface) → List Answered
 answered_at calls [] answers = []
 answered_at calls (number ∷ more) answers =

@@ -1,4 +1,4 @@
--- The faults of a call by itself; and how those of names are found, for all calls of a file together.
+-- The faults of a call by itself, and the faults of names for all calls of a file together.
 use Rattle.std.specs.Prelude.{◌≡◌, ◌⊎◌, List, [], ◌∷◌, ◌++◌, Bool, ◌&&◌, Contains, map, Option, option_map, if◌then◌else◌}
 use Rattle.std.specs.Prelude.{ℕ}
 use Rattle.std.specs.List.{AllByRecursion, cons_option, flat_map}
@@ -23,7 +23,7 @@ use Rattle.al_check_calls.specs.Answers.{Answered, Typing, values_in}
 use Rattle.al_check_calls.specs.CallFaults.{call_fault, called_name, given_by, missing_code, missing_name, name_faults}
 use Rattle.al_check_calls.specs.CallFaults.{names_against, signature_for, undefined_name, uses_faults, value_faults}
 
--- all but those of names
+-- all faults except those of names
 abbrev pub faults_but_names : Typing → Answered → List Fault
 faults_but_names typing a = uses_faults a.call a.answer ++ value_faults a.call (values_in typing a.call) a.answer
 
@@ -32,7 +32,7 @@ faults_of_names a = name_faults a.call a.answer
 
 -- ---- calls whose names are compared
 
--- a call whose names of a kind are compared with what a file shows
+-- a call whose names of a kind are compared with a signature
 pub record Comparison : Type 0 where
   pub kind : ParameterKind
   pub call : Call
@@ -56,19 +56,19 @@ undefined_of q = flat_map (undefined_name q.kind q.call q.signature) (given_by q
 abbrev pub missing_of : Comparison → List Fault
 missing_of q = flat_map (missing_name q.kind q.call q.signature) (mandatory_of (parameters_of q.kind q.signature))
 
--- who calls, and by which text, tells what is shown
+-- calls with the same caller and text have the same signature
 abbrev pub HaveOneSignature : Comparison → Comparison → Type 0
 HaveOneSignature q r = site_caller q.call.site ≡ site_caller r.call.site → q.call.text ≡ r.call.text → q.signature ≡ r.signature
 
 abbrev pub TellSignatures : List Comparison → Type 0
 TellSignatures qs = (q r : Comparison) → Contains qs q → Contains qs r → HaveOneSignature q r
 
--- calls whose answers are told so
+-- calls whose answers depend only on the caller and the text
 pub record AreToldByUses (found : List Answered) : Type 0 where
   pub answer : Caller → List ℕ → Option Interface
   pub told : AllByRecursion (λ a. a.answer ≡ answer (site_caller a.call.site) a.call.text) found
 
--- steps, or jobs, that call by one text
+-- calls with the same kind of names, caller and text
 abbrev pub call_alike : Comparison → Comparison → Bool
 call_alike q r =
     kinds.ghosts.eq q.kind r.kind
@@ -98,7 +98,7 @@ undefined_at n = undefined_name n.by.kind n.by.call n.by.signature n.entry
 abbrev pub TellSignaturesBy : List GivenName → Type 0
 TellSignaturesBy ns = (n m : GivenName) → Contains ns n → Contains ns m → HaveOneSignature n.by m.by
 
--- calls alike give one name at one place
+-- the same name at the same position, given by such calls
 abbrev pub is_same_name_given : GivenName → GivenName → Bool
 is_same_name_given n m =
     call_alike n.by m.by && (bytes_eq (key_of n.entry) (key_of m.entry) && span.ghosts.eq (span_of n.entry.0) (span_of m.entry.0))
@@ -108,7 +108,7 @@ AreThere faults all = (f : Fault) → Contains faults f → Contains all f
 
 -- ---- names that are missing
 
--- calls alike by one `uses`
+-- calls with the same kind of names, caller and text at the same `uses`
 abbrev pub is_by_same_uses : Comparison → Comparison → Bool
 is_by_same_uses q r = call_alike q r && span.ghosts.eq q.call.at r.call.at
 
@@ -127,7 +127,7 @@ parameter_if_given q p = if gives q p then p ∷ [] else []
 abbrev pub mandatory_for : Comparison → List Parameter
 mandatory_for q = mandatory_of (parameters_of q.kind q.signature)
 
--- What a call has to give is left to be looked up, or it is said that it is missing at this `uses`.
+-- Each mandatory parameter is left to look up, or is reported as missing at this `uses`.
 pub record IsSaid (q : Comparison) (left : List Parameter) (out : List Fault) : Type 0 where
   pub among : (p : Parameter) → Contains left p → Contains (mandatory_for q) p
   pub said : (p : Parameter) → Contains (mandatory_for q) p → Contains left p ⊎ Contains out (missing_fault q p)

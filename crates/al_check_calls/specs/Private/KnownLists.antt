@@ -1,4 +1,4 @@
--- The lists of the names of outputs behind calls, and their positions.
+-- Lists of output names, stored once for each caller and text, and their positions.
 use Rattle.std.specs.Prelude.{◌≡◌, ◌++◌, ℕ, List, Bool, Option, Some, map, option_and_then, slice_get}
 use Rattle.std.specs.BTreeMap.{get_by}
 use Rattle.std.specs.Cmp.Lexicographic.{slice_cmp}
@@ -7,28 +7,28 @@ use Rattle.al_check_contexts.specs.Answered.{Behind, behind_of}
 use Rattle.al_check_calls.specs.declared.known.KnownOutputs.{KnownOutputs}
 use Rattle.al_check_calls.specs.declared.known.Lists.{Lists}
 
--- names that are told by whether a step calls, and by which text
+-- the names by whether a step calls, and by the text of its `uses`
 abbrev pub Naming : Type 0
 Naming = Bool → List ℕ → Option (List (List ℕ))
 
 abbrev pub lists_of : Lists → List (List (List ℕ))
 lists_of ls = map (λ l. l.now) ls.lists.items
 
--- the position that is known for the calls by a text, if one is
+-- the stored position for a caller and a text, if there is one
 unfoldable pub position_of : Lists → Bool → List ℕ → Option ℕ
 position_of ls of_step text = get_by (λ k. ordering_then (bool_cmp of_step k.0) (slice_cmp nat_cmp text k.1.now)) ls.positions
 
--- at a position stand these names, whichever lists are put behind
+-- the names at a position, whatever lists are appended
 abbrev pub StandsAt : List (List (List ℕ)) → Option ℕ → Option (List (List ℕ)) → Type 0
 StandsAt lists position names = (more : List (List (List ℕ))) → option_and_then (slice_get (lists ++ more)) position ≡ names
 
--- at each position that is known stand the names that are told
+-- each stored position has the names that the naming gives
 pub record ArePlaced (naming : Naming) (ls : Lists) : Type 0 where
   pub at : (of_step : Bool) (text : List ℕ) (position : ℕ) → position_of ls of_step text ≡ Some position
       → StandsAt (lists_of ls) (Some position) (naming of_step text)
 
--- The names behind the calls by a text have this position from now on, behind all lists that were there unless it was known; so wherever
--- names are told, they still are at the positions that are known.
+-- The names for a caller and a text are at this position: a list is appended unless they are stored already. Stored positions stay right
+-- for each naming that gives these names.
 pub record Takes (old new : Lists) (of_step : Bool) (text : List ℕ) (names : Option (List (List ℕ))) (position : Option ℕ) : Type 0 where
   pub added : List (List (List ℕ))
   pub grown : lists_of new ≡ lists_of old ++ added

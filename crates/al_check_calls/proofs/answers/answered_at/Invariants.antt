@@ -5,7 +5,7 @@ use Rattle.al_check_calls.specs.Private.AnswerViews as views
 use Rattle.al_check_calls.specs.Private.AnswerViews.{answered_of}
 use Rattle.al_check_calls.proofs.answers.answered_at.Given as goal
 
--- the calls so far, and the others with the answers that are left
+-- the calls so far, then the calls left with the answers left
 abbrev pub invariant-loop-call : goal.invariant-loop-call
 invariant-loop-call l =
     map answered_of l.found.items

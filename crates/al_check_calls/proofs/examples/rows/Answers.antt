@@ -4,7 +4,7 @@ use Rattle.std.specs.Str.Lossy.{utf8_lossy, utf8_valid_len}
 use Rattle.al_check_calls.proofs.examples.rows.Goals as goal
 use lib.Utf8.{encode}
 
--- each row computes
+-- each row is proved by computation
 pub returns : goal.returns
 unfolding utf8_lossy utf8_valid_len is_utf8 chars encode
 returns c = record {

@@ -5,7 +5,7 @@ use Rattle.al_check_interfaces.specs.Forms.{is_cut_at, is_remote, is_some_cut, i
 use Rattle.al_check_interfaces.proofs.Cuts.{ArePassed}
 use Rattle.al_check_interfaces.proofs.forms.is_some_cut.Given as goal
 
--- the parts of what was passed, of which one goes on, and the bytes that are left
+-- The parts of the bytes so far, of which the last is unfinished, and whether one of the bytes left is a separator.
 abbrev pub invariant-loop-i : goal.invariant-loop-i
 invariant-loop-i l = record {
   start : l.start ≤ l.i;

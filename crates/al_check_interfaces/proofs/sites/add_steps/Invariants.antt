@@ -5,7 +5,7 @@ use Rattle.al_check_interfaces.specs.CallViews.{bytes_of, call_of}
 use Rattle.al_check_interfaces.specs.Uses.{call_at, step_sites}
 use Rattle.al_check_interfaces.proofs.sites.add_steps.Given as goal
 
--- the calls so far, and those of the steps that are left
+-- the calls so far, then those of the steps left
 abbrev pub invariant-loop-number : goal.invariant-loop-number
 invariant-loop-number l =
     map call_of l.out.items
