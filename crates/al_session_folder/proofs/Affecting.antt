@@ -1,4 +1,4 @@
--- Which files a change of one path can affect.
+-- The files that a change of one path can affect.
 use Rattle.std.proofs.Math.Bool.{or-false, or_comm}
 use Rattle.std.proofs.lemmas.Map.Lookups.{btree_set_from_contains, exact_bytes}
 use Rattle.std.proofs.lemmas.Map.Keys.{sorted_tail}
@@ -52,7 +52,7 @@ module _ {I : Type 0} (m : Meaning I) (p : List ℕ) (f : Folder) (now : Option 
   abbrev IsStill : Type 0
   IsStill = interface_in m f p ≡ interface_in m (with_bytes_at f p now) p
 
-  -- a change at p leaves what each path offers, but at p
+  -- A change at `p` leaves the interfaces at other paths as they are.
   offers : (q : List ℕ) → (bytes_eq p q ≡ true → IsStill) → interface_in m After q ≡ interface_in m f q
   offers q still = by (bytes_eq q p) refl
     where
@@ -60,7 +60,7 @@ module _ {I : Type 0} (m : Meaning I) (p : List ℕ) (f : Folder) (now : Option 
       by true a = rw (bytes_same q p a) (sym (still (eq_flipped q p true a)))
       by false a = rw (bytes_changed p q f now ordered, a)
 
-  -- so it leaves the answer of a call that has no candidate p, or where p offers what it offered
+  -- The answer of a call is the same if `p` isn't one of its candidates, or if the interface at `p` is the same.
   among_still : (ps : List (List ℕ)) → (list_any (bytes_eq p) ps ≡ true → IsStill) → find_map (interface_in m After) ps ≡ find_map (interface_in m f) ps
   among_still [] still = refl
   among_still (q ∷ ps) still = rw (offers q (λ a. still (or_left _ _ a)), among_still ps (λ a. still (or_right _ _ a)))
@@ -75,7 +75,7 @@ module _ {I : Type 0} (m : Meaning I) (p : List ℕ) (f : Folder) (now : Option 
     same_answers (t ∷ ts) still =
         rw (among_still (candidates t) (λ a. still (or_left _ _ a)), same_as_itself eq itself (find_map (interface_in m f) (candidates t))) (same_answers ts (λ a. still (or_right _ _ a)))
 
-    -- a file at another path is affected just where it is there and one of its calls has another answer
+    -- a file at another path is affected if and only if it is there and one of its calls has another answer
     elsewhere : (q : List ℕ) → bytes_eq q p ≡ false → is_affected eq m f After q ≡ option_map_or (λ b. not (AllSame (m.calls q b))) (bytes_at f q) false
     unfolding is_untouched
     elsewhere q far = rw (bytes_changed p q f now ordered, far) (by (bytes_at f q))
@@ -84,7 +84,7 @@ module _ {I : Type 0} (m : Meaning I) (p : List ℕ) (f : Folder) (now : Option 
         by None = refl
         by (Some b) = rw (bytes_self b)
 
-    -- one that has no call with the candidate p is not affected, nor is any where p offers what it offered
+    -- A file isn't affected if none of its calls has the candidate `p`, or if the interface at `p` is the same.
     unaffected : (q : List ℕ) → bytes_eq q p ≡ false → (option_map_or (λ b. is_candidate (m.calls q b) p) (bytes_at f q) false ≡ true → IsStill) → is_affected eq m f After q ≡ false
     unaffected q far still = elsewhere q far ∙ by (bytes_at f q) still
       where
@@ -95,7 +95,7 @@ module _ {I : Type 0} (m : Meaning I) (p : List ℕ) (f : Folder) (now : Option 
     pub none_affected : IsStill → (q : List ℕ) → not (bytes_eq q p) && is_affected eq m f After q ≡ false
     none_affected still q = let far = λ (a : bytes_eq q p ≡ false). unaffected q a (λ _. still) in grind (arith, nat_tests, far)
 
-    -- the file that is put is affected where it has not these bytes
+    -- the file at the changed path is affected if its bytes differ from before
     pub affected_itself : (q : List ℕ) → bytes_eq q p ≡ true → (now ≡ bytes_at f p → ⊥) → is_affected eq m f After q ≡ is_some now
     unfolding is_untouched
     affected_itself q same other = rw (bytes_same q p same, bytes_changed p p f now ordered, bytes_self p) (by now other)
@@ -104,7 +104,7 @@ module _ {I : Type 0} (m : Meaning I) (p : List ℕ) (f : Folder) (now : Option 
         by None other = refl
         by (Some b) other = rw (false_from_ne_true (option_eq bytes_eq (bytes_at f p) (Some b)) (λ is. other (sym (same_answer_exact bytes_eq bytes_same (bytes_at f p) (Some b) is))))
 
-    -- the path of the change, and those of its callers that it affects, are all that it affects
+    -- Exactly the changed path and those of its callers that the change affects are affected.
     pub affected_members : (q : List ℕ) (any : Bool) → any ≡ option_map_or (λ b. is_candidate (m.calls q b) p) (bytes_at f q) false → (now ≡ bytes_at f p → ⊥)
         → (any && (not (bytes_eq q p) && is_affected eq m f After q)) || is_among q (cond (is_some now) (p ∷ []) []) ≡ is_affected eq m f After q
     affected_members q any calls other =
@@ -117,7 +117,7 @@ module _ {I : Type 0} (m : Meaning I) (p : List ℕ) (f : Folder) (now : Option 
         first true = or-false (bytes_eq q p)
         first false = refl
 
--- Strictly sorted lists with the same members are the same
+-- Strictly sorted lists with the same members are equal.
 
 pub same_members : (ps qs : List (List ℕ)) → IsStrictlySortedBy (slice_cmp nat_cmp) ps → IsStrictlySortedBy (slice_cmp nat_cmp) qs
     → ((q : List ℕ) → is_among q ps ≡ is_among q qs) → ps ≡ qs
@@ -128,7 +128,7 @@ same_members ps qs s t same =
     by_order q [] = refl
     by_order q (r ∷ rs) = rw (is_eq-slice_cmp q r, by_order q rs)
 
--- The affected files, as members
+-- Membership in the list of affected files.
 
 module _ (T : List ℕ × List ℕ → Bool) where
   pub all_kept : (P : List ℕ → Type 0) (g : Folder) → AllByRecursion P (paths_of g) → AllByRecursion P (paths_of (filter T g))
@@ -160,7 +160,7 @@ module _ (T : List ℕ × List ℕ → Bool) where
       filtered true = refl
       filtered false = refl
 
--- paths in order have the members that they had
+-- sorting keeps the members of a list of paths
 pub among_ordered : (q : List ℕ) (ps : List (List ℕ)) → is_among q (in_order (slice_cmp nat_cmp) ps) ≡ is_among q ps
 among_ordered q ps = same_from_decides (is_among q (in_order (slice_cmp nat_cmp) ps)) (is_among q ps) (
   λ h. Contains-from_in_order nat_list_cmp_total exact_bytes ps q (Contains-from_any bytes_same q (in_order (slice_cmp nat_cmp) ps) h),
@@ -171,7 +171,7 @@ among_ordered q ps = same_from_decides (is_among q (in_order (slice_cmp nat_cmp)
 among_last : (q n : List ℕ) (ps : List (List ℕ)) → is_among q (ps ++ n ∷ []) ≡ bytes_eq q n || is_among q ps
 among_last q n ps = list_any-append (bytes_eq q) ps (n ∷ []) ∙ or_comm (is_among q ps) (is_among q (n ∷ [])) ∙ ap (λ t. t || is_among q ps) (or-false (bytes_eq q n))
 
--- One path more among affected ones
+-- One more path among the affected ones.
 
 pub members_more : (q n p : List ℕ) (aff : List ℕ → Bool) (old new : List (List ℕ)) → new ≡ cond (not (bytes_eq n p) && aff n) (old ++ n ∷ []) old
     → is_among q new ≡ (bytes_eq q n && (not (bytes_eq q p) && aff q)) || is_among q old
@@ -193,7 +193,7 @@ module _ {I : Type 0} (eq : I → I → Bool) (m : Meaning I) (f g : Folder) (or
   unfolding affected_paths
   affected_member q = member_kept (λ e. not (is_untouched eq m f g e.0 e.1)) g q ordered
 
-  -- the paths in order that have just the affected files
+  -- a sorted list whose members are exactly the affected files
   pub affected_is : (paths : List (List ℕ)) → IsStrictlySortedBy (slice_cmp nat_cmp) paths → ((q : List ℕ) → is_among q paths ≡ is_affected eq m f g q) → paths ≡ affected_paths eq m f g
   affected_is paths s members = same_members paths (affected_paths eq m f g) s affected_sorted (λ q. members q ∙ sym (affected_member q))
 
@@ -221,7 +221,7 @@ some_kept : {U I : Type 0} (now : Option (Bor (KeptFile U I))) → is_some now �
 some_kept None = refl
 some_kept (Some file) = refl
 
--- A change of kept files, and the folder's change that contracts see
+-- A change of kept files, and the change of the folder that contracts see.
 module _ {U I : Type 0} (m : Meaning I) (is_unit : U → List ℕ → List ℕ → Type 0) (eq : I → I → Bool) (itself : (x : I) → eq x x ≡ true) (files : Files U I) (p : List ℕ)
     (next : Option (Bor (KeptFile U I))) (change : FolderChange) (view : change_of files p (option_copied next) ≡ change) (is : IsChange m is_unit files p (option_copied next)) where
   abbrev Bytes : Option (List ℕ)
@@ -253,7 +253,7 @@ module _ {U I : Type 0} (m : Meaning I) (is_unit : U → List ℕ → List ℕ �
         let all = affected_members m p (folder_of files) Bytes is.view.kept.ordered eq itself q (any q) (calls q ∙ rw (← view) at (index p q)) (rw (← view) at other) in
         grind (arith, nat_tests, here, all)))
 
-    -- put in order
+    -- after sorting
     pub affected_found : (any : List ℕ → Bool) → ((q : List ℕ) → any q ≡ is_caller callers p q) → (paths : List (List ℕ))
         → ((q : List ℕ) → is_among q paths ≡ ((not (bytes_eq q change.path) && is_affected eq m change.before (changed_by change) q) && any q) || is_among q start)
         → in_order (slice_cmp nat_cmp) paths ≡ affected_by eq m change

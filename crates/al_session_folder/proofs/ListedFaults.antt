@@ -36,20 +36,20 @@ use Rattle.al_session_folder.specs.Report.{status_of, report_of}
 use Rattle.al_session_folder.specs.Checked.{AllChecked}
 use Rattle.al_session_folder.specs.Printing.{AreNumbered, ArePrintable, joined_faults, joined_or_own, numbered_lines}
 
--- ---- faults that are joined
+-- ---- joining faults
 
--- the faults of a kept file with this number
+-- the faults of the kept file with this number
 pub checked_number : {U I : Type 0} (m : Meaning I) (f : Folder) (files : Files U I) (i : ℕ) (e : String Global × KeptFile U I) → AllChecked m f files → slice_get files i ≡ Some e →
     e.1.faults.items ≡ faults_in m f (string_bytes e.0) e.1.bytes.items
 checked_number m f files i e h at = each_at (λ e. e.1.faults.items ≡ faults_in m f (string_bytes e.0) e.1.bytes.items) files i e h at
 
 module _ {I : Type 0} (m : Meaning I) (ordered : (p b : List ℕ) (given : List (Option I)) → IsStrictlySortedBy fault_cmp (m.faults p b given)) (f : Folder) where
-  -- where no call is on a cycle, a file's own faults are listed
+  -- If no call is on a call cycle, the file's own faults are listed.
   pub own_reported : (i : ℕ) (p b : List ℕ) (faults : List Fault) → faults ≡ faults_in m f p b → loop_faults m f i p b ≡ [] → faults ≡ report_faults m f i p b
   unfolding report_faults faults_in
   own_reported i p b faults is none = is ∙ sym (rw none (fault_list-sorted (m.faults p b (answers m f p b)) (ordered p b (answers m f p b))))
 
--- ---- they lie in the file
+-- ---- the faults are within the file
 
 module _ {I : Type 0} (m : Meaning I) (f : Folder) (i : ℕ) (size : ℕ) where
   looping_inside : (ts : List Target) (ss : List Fault) → AllByRecursion (λ (s : Fault). LiesIn size s.span) ss →
@@ -110,7 +110,7 @@ module _ {I : Type 0} (m : Meaning I) (f : Folder) where
   abbrev LoopAt : ℕ × (List ℕ × List ℕ) → Bool
   LoopAt x = not (length (loop_faults m f x.0 x.1.0 x.1.1) == 0)
 
-  -- a file has something to report just where a call of it is on a call cycle, or it has faults of its own
+  -- A file has faults to report if and only if one of its calls is on a call cycle or it has faults of its own.
   any_reported : {U : Type 0} (n : ℕ) (es : Files U I) → AllChecked m f es
       → list_any (λ (x : ℕ × (List ℕ × List ℕ)). not (length (report_faults m f x.0 x.1.0 x.1.1) == 0)) (enumerate_from n (folder_of es))
       ≡ (list_any LoopAt (enumerate_from n (folder_of es)) || list_any (λ (e : String Global × KeptFile U I). not (length e.1.faults.items == 0)) es)
@@ -132,7 +132,7 @@ module _ {U I : Type 0} (m : Meaning I) (files : Files U I) (checked : AllChecke
   unfolding status_of
   status_loops some h s = rw (any_reported m (folder_of files) 0 files checked, h, s) (grind (arith, nat_tests))
 
--- ---- faults in order by references to them
+-- ---- sorting references to faults
 
 pub ordered_faults : (xs sorted out : List (Bor Fault)) → IsPermutation xs sorted → IsSorted (λ x y. derived.ghosts.cmp x.now y.now) sorted →
     out ≡ dedup (λ (x y : Bor Fault). derived_eq.ghosts.eq x.now y.now) sorted → referents out ≡ fault_list (referents xs)
@@ -144,7 +144,7 @@ pub all-referred : (P : Fault → Type 0) (xs : List (Bor Fault)) (i : ℕ) (r :
 all-referred P xs i r all lt is =
     rw (get_or-map (λ (x : Bor Fault). x.now) xs i r, ← is) at (All-from_recursion P (referents xs) all i r.now (rw length-map lt))
 
--- a list of the program joins the file's own faults to those of its loops
+-- The code's list joins the file's own faults and those of its calls on call cycles.
 pub listed_both : {U I : Type 0} (m : Meaning I) (files : Files U I) (i : ℕ) (e : String Global × KeptFile U I) (all : List Fault)
     (list : List (Bor Fault)) → AllChecked m (folder_of files) files → slice_get files i ≡ Some e →
     all ≡ e.1.faults.items ++ loop_faults m (folder_of files) i (string_bytes e.0) e.1.bytes.items → referents list ≡ fault_list all →
@@ -156,7 +156,7 @@ listed_both m files i e all list checked at a o =
     o ∙ ap fault_list (a ∙ ap (λ x. x ++ looping) (checked_number m (folder_of files) files i e checked at))
     ∙ fault_list-permutation (own ++ looping) (looping ++ own) (IsPermutation-append_comm own looping)
 
--- what is listed of a file
+-- the faults that are listed for a file
 module _ {U I : Type 0} (m : Meaning I) (ordered : (p b : List ℕ) (given : List (Option I)) → IsStrictlySortedBy fault_cmp (m.faults p b given)) (files : Files U I) (i : ℕ)
     (e : String Global × KeptFile U I) (own loops : List Fault) (joined : List (Bor Fault)) (checked : AllChecked m (folder_of files) files) (at : slice_get files i ≡ Some e)
     (is : own ≡ e.1.faults.items) (all : loops ≡ loop_faults m (folder_of files) i (string_bytes e.0) e.1.bytes.items) (now : referents joined ≡ joined_faults own loops) where
@@ -178,7 +178,7 @@ module _ {U I : Type 0} (m : Meaning I) (ordered : (p b : List ℕ) (given : Lis
           let no : (length joined == 0) ≡ false = let length_is = ap length put in grind (arith, nat_tests, long, length_is, in_order_too, both, some) in
           rw no (listed_both m files i e (own ++ loops) joined checked at (rw (is, all)) put)
 
--- ---- elements by their numbers
+-- ---- numbered elements
 
 module _ {X : Type 0} (P : ℕ → X → Type 0) where
   pub numbered_none : (all : List X) → all ≡ [] → AreNumbered P 0 all

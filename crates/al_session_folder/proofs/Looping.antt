@@ -1,4 +1,4 @@
--- Which calls are on a call cycle.
+-- The calls that are on a call cycle.
 use Rattle.al_session_folder.proofs.Places.{each_at}
 use Rattle.std.proofs.lemmas.List.Elements.{Contains-get_or, recursion_from_All}
 use Rattle.std.proofs.lemmas.List.Quantifiers.{position-Some}
@@ -31,11 +31,11 @@ use Rattle.al_session_folder.specs.CallGraphs.{IsCallGraph, IsCalledBy, TellLoop
 use Rattle.al_session_folder.specs.declared.kept.KeptFile.{KeptFile}
 use Rattle.al_session_folder.specs.declared.lint.Target.{Target}
 
--- what is said of a call, where it is on a call cycle
+-- the fault of a call, if it is on a call cycle
 abbrev pub fault_if : Bool → Fault → List Fault
 fault_if looping fault = cond looping (fault ∷ []) []
 
--- of these calls of the file with this number, what is said of those on a call cycle
+-- the faults of those calls of the file with this number that are on a call cycle
 abbrev pub looping : List (List ℕ) → Folder → ℕ → List Target → List Fault → List Fault
 looping graph f file ts ss = flat_map (λ x. fault_if (is_on_cycle graph file (callee f x.0)) x.1) (zip ts ss)
 
@@ -72,7 +72,7 @@ module _ {I : Type 0} (m : Meaning I) (f : Folder) where
       get_or_from_slice_get (calls_graph m f) i (filter_map (callee f) (m.calls p b)) []
       (slice_get-map (λ (e : List ℕ × List ℕ). filter_map (callee f) (m.calls e.0 e.1)) f i ∙ ap (option_map (λ (e : List ℕ × List ℕ). filter_map (callee f) (m.calls e.0 e.1))) e)
 
-  -- a call makes an edge
+  -- a call gives an edge
   pub call_edge : (i at : ℕ) (p b : List ℕ) (t : Target) → slice_get f i ≡ Some (p, b) → at < length (m.calls p b) → t ≡ get_or (m.calls p b) at t → IsCalledBy (calls_graph m f) i (callee f t)
   call_edge i at p b t e lt is = by (callee f t) refl
     where
@@ -104,13 +104,13 @@ numbered xs i x e = slice_get_read (enumerate_from 0 xs) (length xs) i (i, x) (s
 
 -- ---- calls on a cycle
 
--- labels tell which calls do
+-- an edge is on a cycle if and only if both ends have the same label
 pub labels_tell : (graph : List (List ℕ)) (labels : List (Option ℕ)) (i to : ℕ) (r : Bool) → TellLoops graph labels → Edge graph i to →
     ((r ≡ true → get_or labels to None ≡ get_or labels i None) × (get_or labels to None ≡ get_or labels i None → r ≡ true)) → r ≡ leads graph to i
 labels_tell graph labels i to r c edge says =
     same_from_decides r (leads graph to i) (λ h. (c.1 i to edge).0 (says.0 h), λ w. says.1 ((c.1 i to edge).1 w)) (leads_tells graph to i)
 
--- a call more
+-- one more call
 module _ (graph : List (List ℕ)) (f : Folder) (i : ℕ) (ts : List Target) (ss : List Fault) (at : ℕ) (done whole : List Fault)
     (so_far : done ++ looping graph f i (drop at ts) (drop at ss) ≡ whole) where
   pub looping_next : (more : List Fault) (t : Target) (s : Fault) → at < length ts → t ≡ get_or ts at t → slice_get ss at ≡ Some s →
@@ -122,7 +122,7 @@ module _ (graph : List (List ℕ)) (f : Folder) (i : ℕ) (ts : List Target) (ss
   pub looping_end : length ts ≤ at → done ≡ whole
   looping_end past = sym (append-nil done) ∙ rw (drop_all at ts past) at so_far
 
--- the graph, one file further
+-- the edges of one more file
 pub graph_next : {X : Type 0} (H : X → List ℕ) (xs : List X) (i : ℕ) (x : X) (old new : List (Vec ℕ Global)) (v : Vec ℕ Global) → i < length xs → x ≡ get_or xs i x →
     edges_of old ≡ map H (take i xs) → new ≡ old ++ v ∷ [] → v.items ≡ H x → edges_of new ≡ map H (take (i + 1) xs)
 graph_next H xs i x old new v lt read is more same = rw (more, map_push (λ (w : Vec ℕ Global). w.items) old v, is, same, map_more H xs i x lt, ← read)
@@ -138,7 +138,7 @@ entry_number files i e at = slice_get-map entry_of files i ∙ ap (option_map en
 pub one_entry : {X : Type 0} (xs : List X) (i : ℕ) (a b : X) → slice_get xs i ≡ Some a → slice_get xs i ≡ Some b → a ≡ b
 one_entry xs i a b x y = same_Some a b (sym x ∙ y)
 
--- its calls, and what reading it gave, by the path and the bytes that the folder has at this number
+-- the calls and the unit of a kept file, by the path and the bytes of the folder at its number
 pub entry_calls : {U I : Type 0} (m : Meaning I) (is_unit : U → List ℕ → List ℕ → Type 0) (files : Files U I) (i : ℕ) (e : String Global × KeptFile U I) → AllKept m is_unit files →
     slice_get files i ≡ Some e → (p b : List ℕ) → slice_get (folder_of files) i ≡ Some (p, b) → (e.1.calls.targets.items ≡ m.calls p b) × is_unit e.1.unit p b
 entry_calls m is_unit files i e kept at p b there =
@@ -146,7 +146,7 @@ entry_calls m is_unit files i e kept at p b there =
     let same = one_entry (folder_of files) i (string_bytes e.0, e.1.bytes.items) (p, b) (entry_number files i e at) there in
     (one.calls.targets ∙ ap (λ (x : List ℕ × List ℕ). m.calls x.0 x.1) same, subst (λ (x : List ℕ × List ℕ). is_unit e.1.unit x.0 x.1) same one.unit)
 
--- made of the kept files one after another
+-- the graph of the kept files is that of the folder
 pub graph_kept : {U I : Type 0} (m : Meaning I) (is_unit : U → List ℕ → List ℕ → Type 0) (h : Target → Option ℕ) (files : Files U I) → AllKept m is_unit files →
     map (λ (e : String Global × KeptFile U I). filter_map h e.1.calls.targets.items) files ≡ map (λ (e : List ℕ × List ℕ). filter_map h (m.calls e.0 e.1)) (folder_of files)
 graph_kept m is_unit h [] kept = refl
@@ -180,7 +180,7 @@ module _ {I : Type 0} (m : Meaning I) (f : Folder) (items seen : List (Vec ℕ G
 
 -- ---- files with a call on a cycle
 
--- a call of a file is on a cycle just where something is said of one
+-- there is a fault if and only if a call of the file is on a cycle
 looping_any : (graph : List (List ℕ)) (f : Folder) (i : ℕ) (ts : List Target) (ss : List Fault) → length ss ≡ length ts →
     not (length (looping graph f i ts ss) == 0) ≡ list_any (λ k. leads graph k i) (filter_map (callee f) ts)
 looping_any graph f i [] ss n = refl
@@ -201,7 +201,7 @@ any_agree : {X : Type 0} (P Q : X → Bool) (xs : List X) → AllByRecursion (λ
 any_agree P Q [] all = refl
 any_agree P Q (x ∷ xs) all = rw (all.0, any_agree P Q xs all.1)
 
--- a file by its row of the program's graph: whether one of its calls leads to a file with its label of the program's graph
+-- whether one of a file's calls leads to a file with the same label, by the file's row of the code's graph
 module _ {I : Type 0} (m : Meaning I) (f : Folder) (edges : List (Vec ℕ Global)) (labels seen : List (Option ℕ)) (row : List ℕ) (v : Vec ℕ Global) (i : ℕ)
     (calls : IsCallGraph m f edges labels) (below : i < length f) (read : v ≡ get_or edges i v) (is : row ≡ v.items) (same : seen ≡ labels) where
   row_is : row ≡ get_or (calls_graph m f) i []
@@ -219,11 +219,11 @@ module _ {I : Type 0} (m : Meaning I) (f : Folder) (edges : List (Vec ℕ Global
       let all : length seen ≡ length labels = ap length same in
       omega (arith, inside, size, all)
 
-  -- the labels of the file and of one that it calls are the same just where that call is on a call cycle
+  -- the file and one that it calls have the same label if and only if that call is on a call cycle
   label_tells : (k : ℕ) → Contains row k → option_eq nat_eq (get_or seen k None) (get_or seen i None) ≡ leads (calls_graph m f) k i
   label_tells k there = labels_tell (calls_graph m f) labels i k _ calls.tell (edge k there) (rw (← same) (labels_same (get_or seen k None) (get_or seen i None) _ refl))
 
-  -- such a call is there just where a fault of it is told
+  -- there is such a call if and only if the file has a fault of a call on a cycle
   pub row_tells : (r : Bool) → r ≡ list_any (λ k. option_eq nat_eq (get_or seen k None) (get_or seen i None)) row → (p b : List ℕ) → slice_get f i ≡ Some (p, b) →
       length (m.sites p b) ≡ length (m.calls p b) → r ≡ not (length (loop_faults m f i p b) == 0)
   row_tells r told p b at sited =

@@ -1,4 +1,4 @@
--- What is missing of a folder: a path is among it just where it isn't there and a call has it as a candidate.
+-- A path is missing from a folder if and only if it isn't there and is a candidate of a call.
 use Rattle.std.proofs.Common.{◌≡◌, ℕ, ◌&&◌, List, [], ◌∷◌, refl, sym, ◌∙◌, ap, arith}
 use Rattle.std.proofs.lemmas.Bool.Decides.{nat_tests}
 use Rattle.std.specs.Prelude.{bytes_eq}

@@ -1,4 +1,4 @@
--- The candidates that are missing, and paths that are put in order.
+-- The candidates that aren't in the folder, and sorting paths.
 use Rattle.std.proofs.lemmas.Map.Lookups.{exact_bytes}
 use Rattle.std.proofs.Common.{map, ◌≡◌, ℕ, ◌+◌, ◌<◌, Bool, List, [], ◌∷◌, ◌++◌, length, get_or, take}
 use Rattle.std.proofs.Common.{filter, String, refl, sym, ◌∙◌, ap}
@@ -30,7 +30,7 @@ use Rattle.al_base.proofs.InOrder.{IsStrictlySortedBy-in_order}
 use Rattle.al_session_folder.specs.declared.lint.Target.{Target}
 use Rattle.al_session_folder.proofs.Referring.{ordered_mapped}
 
--- those of one call more
+-- one more call
 pub next_absent : (f : Folder) (ps so_far more : List (List ℕ)) (ts : List Target) (i : ℕ) (t : Target) → i < length ts → t ≡ get_or ts i t
     → so_far ≡ ps ++ absent_candidates f (take i ts) → more ≡ so_far ++ filter (is_absent f) (candidates t)
     → more ≡ ps ++ absent_candidates f (take (i + 1) ts)
@@ -46,12 +46,12 @@ next_absent f ps so_far more ts i t within read before now =
       filter-append (is_absent f) (flat_map candidates (take i ts)) (candidates t),
     )
 
--- those of one file more
+-- one more file
 pub next_missing : {X : Type 0} (part : X → List (List ℕ)) (so_far more : List (List ℕ)) (xs : List X) (i : ℕ) (x : X) → i < length xs → x ≡ get_or xs i x
     → so_far ≡ flat_map part (take i xs) → more ≡ so_far ++ part x → more ≡ flat_map part (take (i + 1) xs)
 next_missing part so_far more xs i x within read before now = rw (now, before, take_more xs i x within, ← read, flat_map-append part (take i xs) (x ∷ []), append-nil (part x))
 
--- over kept files, and over the folder that they make
+-- over kept files, and over their folder
 pub missing_is : {U I : Type 0} (m : Meaning I) (is_unit : U → List ℕ → List ℕ → Type 0) (f : Folder) (files : Files U I) → AllKept m is_unit files
     → flat_map (λ (e : String Global × KeptFile U I). absent_candidates f e.1.calls.targets.items) files ≡ flat_map (λ e. absent_candidates f (m.calls e.0 e.1)) (folder_of files)
 missing_is m is_unit f [] kept = refl
@@ -61,18 +61,18 @@ pub nothing_sorted : IsStrictlySortedBy (slice_cmp nat_cmp) []
 unfolding IsStrictlySortedBy
 nothing_sorted = tt
 
--- what is missing of all files
+-- the missing candidates of all files
 pub missing_of : {U I : Type 0} (m : Meaning I) (is_unit : U → List ℕ → List ℕ → Type 0) (files : Files U I) (paths : List (List ℕ)) → AllKept m is_unit files
     → paths ≡ in_order (slice_cmp nat_cmp) (flat_map (λ (e : String Global × KeptFile U I). absent_candidates (folder_of files) e.1.calls.targets.items) files) → paths ≡ missing_in m (folder_of files)
 unfolding missing_in
 missing_of m is_unit files paths kept is = is ∙ ap (in_order (slice_cmp nat_cmp)) (missing_is m is_unit (folder_of files) files kept)
 
--- what is missing stands in order
+-- the missing candidates are sorted
 pub missing_sorted : {I : Type 0} (m : Meaning I) (f : Folder) → IsStrictlySortedBy (slice_cmp nat_cmp) (missing_in m f)
 unfolding missing_in
 missing_sorted m f = IsStrictlySortedBy-in_order nat_list_cmp_total exact_bytes (flat_map (λ e. absent_candidates f (m.calls e.0 e.1)) f)
 
--- what a sort by the order of paths and then a `dedup` leave, of paths or of references to them
+-- Sorting paths, or references to them, and then removing duplicates.
 pub ordered_by : {Y F : Type 0} (v : Y → List ℕ) {g : Mut F (Bor Y × (Bor Y × Unit {0})) Ordering} {f : F} (ys sorted out : List Y)
     → IsPermutation ys sorted → ((lt : Y → Y → Bool) → IsStrictWeakOrder lt → ComparesAs g lt f → IsSortedBy lt sorted)
     → ((a : Bor Y × (Bor Y × Unit {0})) (r : Ordering) (f' : F) → Called g f a r f' → (r ≡ slice_cmp nat_cmp (v a.0.now) (v a.1.0.now)) × (f' ≡ f))

@@ -1,4 +1,4 @@
--- Lists that are put in order by a value of each element, such as what a reference refers to, each value once.
+-- Sorting lists by a value of each element, such as what a reference refers to, and removing duplicates of that value.
 use Rattle.std.proofs.Common.{map, ◌≡◌, ℕ, ◌+◌, Bool, List, [], ◌∷◌, ◌++◌, ◌<◌, length, get_or, take, refl, ◌∙◌, ap, arith}
 use Rattle.std.specs.Borrow.{Bor}
 use Rattle.std.specs.Cmp.{IsTotalOrder}
@@ -30,13 +30,13 @@ module _ {X Y : Type 0} (v : Y → X) where
       let n = length-map (y ∷ ys) v in
       rw (get_or-map v (y ∷ ys) (k + 1) y d (omega (arith, n, high)), get_or-map v (y ∷ ys) k y d (omega (arith, n, high))) (s k y low (omega (arith, n, high)))
 
-  -- what a sort and then a `dedup` leave
+  -- the result of a sort followed by a `dedup`
   pub ordered_mapped : {cmp : X → X → Ordering} → IsTotalOrder cmp → IsAntisymmetric cmp → (E : X → X → Bool) → ((x y : X) → E x y ≡ eq_by_cmp cmp x y) →
       (ys sorted out : List Y) → IsPermutation ys sorted → IsSorted (λ x y. cmp (v x) (v y)) sorted → out ≡ dedup (λ (x y : Y). E (v x) (v y)) sorted → map v out ≡ in_order cmp (map v ys)
   ordered_mapped {cmp} total same E ties ys sorted out moved s is =
       ap (map v) is ∙ dedup_mapped E sorted ∙ dedup-in_order total same E ties (map v ys) (map v sorted) (IsPermutation-map v ys sorted moved) (sorted_mapped cmp sorted s)
 
--- what one more refers to, in a list that takes them in turn
+-- one more reference is followed
 pub next_referred : {X : Type 0} (xs : List (Bor X)) (i : ℕ) (x : Bor X) (old new : List X) (y : X) → i < length xs → x ≡ get_or xs i x → y ≡ x.now →
     old ≡ take i (referents xs) → new ≡ old ++ y ∷ [] → new ≡ take (i + 1) (referents xs)
 next_referred {X} xs i x old new y within read is before now =

@@ -1,4 +1,4 @@
--- What the kept faults of a folder's files say of its report and status.
+-- A folder's report and status, by the faults kept of its files.
 use Rattle.std.proofs.lemmas.List.Folds.{list_any_at, list_any_more}
 use Rattle.std.proofs.lemmas.Option.{get_or_from_slice_get, same_Some, slice_get_within}
 use Rattle.std.proofs.lemmas.Bool.{or_from}
@@ -17,7 +17,7 @@ use Rattle.al_session_folder.specs.Kept.{Files, folder_of, file_at, AllKept}
 use Rattle.al_session_folder.specs.Checked.{AllChecked}
 use Rattle.al_session_folder.specs.declared.kept.KeptFile.{KeptFile}
 
--- the list that is kept at a path
+-- the faults that are kept at a path
 pub list_kept : {U I : Type 0} (m : Meaning I) (f : Folder) (files : Files U I) (q : List ℕ) (file : KeptFile U I) → AllChecked m f files → file_at files q ≡ Some file
     → file.faults.items ≡ faults_in m f q file.bytes.items
 list_kept m f files q file checked found = holds_at (λ q file. file.faults.items ≡ faults_in m f q file.bytes.items) files q file checked found
@@ -26,7 +26,7 @@ pub faults_kept : {U I : Type 0} (m : Meaning I) (f : Folder) (files : Files U I
     → option_map (λ (file : KeptFile U I). file.faults.items) (file_at files q) ≡ option_map (faults_in m f q) (bytes_at (folder_of files) q)
 faults_kept m f files q checked = part_at (λ file. file.faults.items) (faults_in m f q) files q (λ file. list_kept m f files q file checked)
 
--- the faults that are kept at a path are in order
+-- the faults that are kept at a path are sorted
 pub order_kept : {U I : Type 0} (m : Meaning I)
     → ((p b : List ℕ) (given : List (Option I)) → IsStrictlySortedBy fault_cmp (m.faults p b given))
     → (files : Files U I) (q : List ℕ) (faults : List Fault) (file : KeptFile U I) → AllChecked m (folder_of files) files → Some file ≡ file_at files q → faults ≡ file.faults.items
@@ -35,7 +35,7 @@ unfolding faults_in
 order_kept m law files q faults file checked found same =
     rw (same, list_kept m (folder_of files) files q file checked (sym found)) (law q file.bytes.items (answers m (folder_of files) q file.bytes.items))
 
--- the faults that are kept at a path lie in the file
+-- the faults that are kept at a path are within the file
 pub spans_kept : {U I : Type 0} (m : Meaning I) (is_unit : U → List ℕ → List ℕ → Type 0)
     → ((p b : List ℕ) (given : List (Option I)) → length b ≤ 1048576 → AllByRecursion (λ (fault : Fault). LiesIn (length b) fault.span) (m.faults p b given))
     → (files : Files U I) (q b : List ℕ) (faults : List Fault) (file : KeptFile U I) → AllKept m is_unit files

@@ -1,4 +1,4 @@
--- Folders whose files have the same paths and call the same have the same graph of calls.
+-- Folders whose files have the same paths and the same calls have the same graph of calls.
 use Rattle.std.proofs.lemmas.Bool.{and_parts}
 use Rattle.std.proofs.Common.{◌≡◌, ℕ, zero, suc, ◌+◌, ◌<◌, true, false, List, [], ◌∷◌, length, map, get_or, set, slice_get, take, Option, Some, None}
 use Rattle.std.proofs.Common.{Vec, refl, sym, ◌∙◌, ap, subst, ◌&&◌, true≢false}
@@ -23,7 +23,7 @@ use Rattle.al_session_folder.specs.declared.lint.Target.{Target}
 use Rattle.al_session_folder.specs.declared.lint.Target.TheVariants.{FirstOf, Only}
 use Rattle.al_session_folder.proofs.Views.{bytes_kept, bytes_same, bytes_self, kept_at, place_of}
 
--- ---- calls that are compared
+-- ---- comparing calls
 
 pub differ : {P : Type 0} → (P → ⊥) → Decides false P
 differ apart = (λ h. absurd (true≢false (sym h)), λ p. absurd (apart p))
@@ -39,13 +39,13 @@ same_itself : (t : Target) → is_same_target t t ≡ true
 same_itself (Only p) = bytes_self p
 same_itself (FirstOf p q) = ap (λ b. b && bytes_eq q q) (bytes_self p) ∙ bytes_self q
 
--- fronts that are the same, one element further
+-- equal prefixes, extended by equal elements
 pub take_same : {X : Type 0} (xs ys : List X) (i : ℕ) (x y : X) → i < length xs → i < length ys → x ≡ get_or xs i x → y ≡ get_or ys i y → x ≡ y →
     take i xs ≡ take i ys → take (i + 1) xs ≡ take (i + 1) ys
 take_same {X} xs ys i x y lt below is at same before =
     take_more_same xs ys i x lt below before (sym is ∙ subst (λ (z : X). z ≡ get_or ys i z) (sym same) at)
 
--- lists that differ at a place are not the same
+-- lists that differ at an index aren't equal
 pub apart : (xs ys : List Target) (i : ℕ) (x y : Target) → i < length xs → x ≡ get_or xs i x → y ≡ get_or ys i y → is_same_target x y ≡ false → xs ≡ ys → ⊥
 apart xs ys i x y lt is at other e =
     let same : x ≡ y = get_or_read xs i x lt is y ∙ sym (at ∙ ap (λ l. get_or l i y) (sym e)) in
@@ -61,14 +61,14 @@ module _ {I : Type 0} (m : Meaning I) (f g : Folder) (same : HasSameCalls m f g)
       ∙ (λ i. map (filter_map (λ t. find_map (λ p. position (bytes_eq p) (same.paths i)) (candidates t))) (same.calls i))
       ∙ map-map (filter_map (callee f)) calls f
 
-  -- what is the graph of the one is that of the other
+  -- the graph of the one folder is that of the other
   pub graph_still : (graph : List (Vec ℕ Global)) (labels : List (Option ℕ)) → IsCallGraph m f graph labels → IsCallGraph m g graph labels
   graph_still graph labels is = record {
     edges = is.edges ∙ sym graph_same;
     tell = subst (λ (l : List (List ℕ)). TellLoops l labels) (sym graph_same) is.tell;
   }
 
--- ---- a put of a file that calls the same
+-- ---- putting a file with the same calls
 
 module _ {I : Type 0} (m : Meaning I) where
   set_calls : (f : Folder) (i : ℕ) (p old now : List ℕ) → slice_get f i ≡ Some (p, old) → m.calls p now ≡ m.calls p old → HasSameCalls m f (set f i (p, now))

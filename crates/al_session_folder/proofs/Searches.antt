@@ -1,4 +1,4 @@
--- A binary search among paths in order answers the path's place.
+-- A binary search among sorted paths gives the position of the path.
 use Rattle.std.proofs.lemmas.Map.Keys.{sorted_tail, Less-from_sorted}
 use Rattle.std.proofs.Common.{◌≡◌, ℕ, zero, suc, ◌+◌, ◌<◌, ◌≤◌, List, [], ◌∷◌, length, map, get_or, Result, Ok, Err, refl, sym, ◌∙◌, ap, subst, arith}
 use Rattle.std.specs.List.Sorted.{IsStrictlySortedBy, IsSearchInRange, IsBinarySearchResult, IsNonDecreasingBy}
@@ -45,7 +45,7 @@ module _ {X : Type 0} (key : X → List ℕ) (p : List ℕ) where
       let rest = place_between xs i d (omega arith) (λ k l. below (suc k) (omega arith)) (λ k l m. above (suc k) (omega arith) (omega arith)) in
       rw (flipped (key x) p Less (below 0 (omega arith)), rest)
 
-  -- the comparisons with p rise along the list
+  -- the results of comparing with `p` don't decrease along the list
   rises : (xs : List X) → IsStrictlySortedBy (slice_cmp nat_cmp) (map key xs) → IsNonDecreasingBy (λ x. ordering_index (slice_cmp nat_cmp (key x) p)) xs
   rises xs s = searchable_from_sorted nat_list_cmp_total key xs p (λ k d low high.
       let less = Less-from_sorted cmp (map key xs) k (k + 1) (key d) s (omega arith) (rw length-map high) in
@@ -60,7 +60,7 @@ module _ {X : Type 0} (key : X → List ℕ) (p : List ℕ) where
       let parted = found (rises (x ∷ xs) s) in
       sym (place_between (x ∷ xs) i x within (λ k l. parted.0 k x (omega arith) l) (λ k l m. parted.1 k x l m))
 
--- the same of the entries of a map
+-- likewise for the entries of a map
 pub place_from_entries : {V : Type 0} (p : List ℕ) {F : Type 0} {g : Mut F (Bor (String Global) × (Bor V × Unit {0})) Ordering} {f : F}
     (es : List (String Global × V)) (ps : List (List ℕ)) (r : Result ℕ ℕ)
     → map (λ (e : String Global × V). string_bytes e.0) es ≡ ps → IsStrictlySortedBy (slice_cmp nat_cmp) ps → IsSearchInRange r (length es)

@@ -1,4 +1,4 @@
--- What look-ups among kept files say of the folder that they make, and of that folder after a change.
+-- Look-ups among kept files as look-ups in their folder, also after a change.
 use Rattle.std.specs.FinMap.Entries.{find, put, find-put}
 use Rattle.std.proofs.lemmas.List.{set-get_or}
 use Rattle.std.proofs.lemmas.Map.Keys.{IsDistinct-from_sorted}
@@ -35,7 +35,7 @@ bytes_same p q h = (bytes_eq-Decides p q).0 h
 pub bytes_self : (p : List ℕ) → bytes_eq p p ≡ true
 bytes_self p = (bytes_eq-Decides p p).1 refl
 
--- a file that was put is there, and one at another path stays
+-- A file that was put can be looked up, and files at other paths stay.
 with_is : (f : Folder) (p b : List ℕ) → with_file f p b ≡ put (slice_cmp nat_cmp) p b f
 with_is [] p b = refl
 with_is (e ∷ es) p b = by_ordering (slice_cmp nat_cmp p e.0) (λ a. rw a) (λ a. rw a) (λ a. rw (a, with_is es p b))
@@ -55,13 +55,13 @@ bytes_put p q f b same = bytes_with p q f b ∙ cond-true _ _ _ same
 pub bytes_put_other : (p q : List ℕ) (f : Folder) (b : List ℕ) → bytes_eq q p ≡ false → bytes_at (with_file f p b) q ≡ bytes_at f q
 bytes_put_other p q f b apart = bytes_with p q f b ∙ cond-false _ _ _ apart
 
--- where the first path is q, no further file has it
+-- no later file has the path of the first one
 pub none_behind : (q : List ℕ) (e : List ℕ × List ℕ) (es : Folder) → q ≡ e.0 → IsStrictlySortedBy (slice_cmp nat_cmp) (paths_of (e ∷ es)) → bytes_at es q ≡ None
 none_behind q e es same s =
     lookup-none _ es (none_past_head (eq_by_cmp_equiv nat_list_cmp_total) q e es (IsDistinct-from_sorted _ _ s)
     (is_eq-slice_cmp q e.0 ∙ ap (bytes_eq q) (sym same) ∙ bytes_self q))
 
--- a file that was taken out is gone, and one at another path stays
+-- A file that was deleted is gone, and files at other paths stay.
 pub bytes_gone : (p q : List ℕ) (f : Folder) → IsStrictlySortedBy (slice_cmp nat_cmp) (paths_of f) → bytes_at (without_file f p) q ≡ cond (bytes_eq q p) None (bytes_at f q)
 bytes_gone p q f s =
     let laws = eq_by_cmp_equiv nat_list_cmp_total in
@@ -92,14 +92,14 @@ module _ {U I : Type 0} where
   bytes_after files p q now s =
       rw (bytes_changed p q (folder_of files) (option_map (λ (file : KeptFile U I). file.bytes.items) now) s, bytes_kept files q) (grind (arith, nat_tests))
 
-  -- what holds of each kept file holds of the one that is found at a path
+  -- what is true of each kept file is true of the one at a path
   pub holds_at : (P : List ℕ → KeptFile U I → Type 0) (files : Files U I) (q : List ℕ) (file : KeptFile U I)
       → AllByRecursion (λ (e : String Global × KeptFile U I). P (string_bytes e.0) e.1) files → file_at files q ≡ Some file → P q file
   holds_at P files q file all h =
       let there = place_from_lookup (λ k. bytes_eq q (string_bytes k)) files file h in
       rw (bytes_same q (string_bytes there.1) there.3) (each_at (λ (e : String Global × KeptFile U I). P (string_bytes e.0) e.1) files there.0 (there.1, file) all there.2)
 
-  -- a part of each kept file that its path and bytes tell
+  -- a part of each kept file that is determined by its path and bytes
   pub part_at : {A : Type 0} (v : KeptFile U I → A) (w : List ℕ → A) (files : Files U I) (q : List ℕ) → ((file : KeptFile U I) → file_at files q ≡ Some file → v file ≡ w file.bytes.items)
       → option_map v (file_at files q) ≡ option_map w (bytes_at (folder_of files) q)
   part_at v w files q tells = rw (bytes_kept files q) (by (file_at files q) tells)
@@ -110,7 +110,7 @@ module _ {U I : Type 0} where
       by (Some file) tells = ap Some (tells file refl)
 
   module _ (m : Meaning I) (is_unit : U → List ℕ → List ℕ → Type 0) where
-    -- a file that was found is kept
+    -- the file at a path satisfies the invariant of kept files
     pub kept_at : (files : Files U I) (q : List ℕ) (file : KeptFile U I) → AllKept m is_unit files → file_at files q ≡ Some file → IsKept m is_unit q file
     kept_at files q file all h = holds_at (IsKept m is_unit) files q file all h
 
@@ -123,7 +123,7 @@ module _ {U I : Type 0} where
         by None true a next h = absurd (none-some file h)
         by (Some kept) true a next h = rw (bytes_same q p a, ← same_Some kept file h) next
 
--- a file that is there has a place, where a put sets it
+-- a file that is in the folder has a position, and a put replaces the entry there
 pub place_of : (p b : List ℕ) (f : Folder) → IsStrictlySortedBy (slice_cmp nat_cmp) (paths_of f) → bytes_at f p ≡ Some b
     → (i : ℕ) × (slice_get f i ≡ Some (p, b)) × ((now : List ℕ) → set f i (p, now) ≡ with_file f p now)
 place_of p b f s there = by (path_place (paths_of f) p) refl
@@ -132,18 +132,18 @@ place_of p b f s there = by (path_place (paths_of f) p) refl
     by (Err i) h = absurd (none-some b (sym (absent f p i s h) ∙ there))
     by (Ok i) h = let r = found p f i h in (i, r.entry ∙ ap (λ x. Some (p, x)) (same_Some r.bytes b (sym r.finds ∙ there)), r.puts)
 
--- a file that is put with the bytes that it has
+-- putting a file with the bytes that it has changes nothing
 pub put_same : (p b : List ℕ) (f : Folder) → IsStrictlySortedBy (slice_cmp nat_cmp) (paths_of f) → bytes_at f p ≡ Some b → with_file f p b ≡ f
 put_same p b f s there =
     let at = place_of p b f s there in
     sym (at.2 b) ∙ ap (set f at.0) (sym (get_or_from_slice_get f at.0 (p, b) (p, b) at.1)) ∙ set-get_or f at.0 (p, b)
 
--- each file of a folder in order is found in it
+-- each file of a sorted folder is found by its path
 pub all_in : (f : Folder) → IsStrictlySortedBy (slice_cmp nat_cmp) (paths_of f) → AllByRecursion (λ x. bytes_at f x.0 ≡ Some x.1) f
 all_in f s = recursion_from_All (λ (x : List ℕ × List ℕ). bytes_at f x.0 ≡ Some x.1) f
     (λ i d within. lookup_from_place (eq_by_cmp_equiv nat_list_cmp_total) f i _ _ (IsDistinct-from_sorted _ _ s) (slice_get-get_or f i d within))
 
--- what holds of a value that is there holds of a reference to it
+-- what is true of a value is true of a reference to it
 pub holds_copied : {X : Type 0} (P : X → Type 0) (o : Option X) (r : Option (Bor X)) → option_copied r ≡ o → ((x : X) → o ≡ Some x → P x) → IfSome r (λ x. P x.now)
 holds_copied P o None is each = tt
 holds_copied P o (Some x) is each = each x.now (sym is)
