@@ -1,4 +1,4 @@
--- Files put one after another, none at a path that is there.
+-- Putting files one after another, each at a path where no file is.
 use Rattle.std.proofs.Common.{◌≡◌, ℕ, true, false, List, [], ◌∷◌, ◌++◌, None, refl, sym, ap, ◌∙◌, subst, arith}
 use Rattle.std.specs.Prelude.{is_some, unwrap_or, bytes_eq}
 use Rattle.std.specs.List.{AllByRecursion}
@@ -14,25 +14,25 @@ use Rattle.al_cli.proofs.Putting.{taken_more, with_more}
 abbrev IsThere : Folder → List ℕ → Type 0
 IsThere f q = is_some (bytes_at f q) ≡ true
 
--- a path at which a file is isn't one at which none is
+-- a path where a file is differs from one where no file is
 apart : (f : Folder) (p q : List ℕ) → bytes_at f p ≡ None → IsThere f q → bytes_eq q p ≡ false
 apart f p q none there =
     let gone : bytes_eq q p ≡ true → is_some (bytes_at f q) ≡ false = λ h. ap (λ x. is_some (bytes_at f x)) (bytes_same q p h) ∙ ap is_some none in
     grind (arith, nat_tests, gone)
 
--- one more file that is put where none is
+-- one more file at a path where no file is
 new_more : (f : Folder) (es : List (List ℕ × List ℕ)) (e : List ℕ × List ℕ) → AreNew f es → bytes_at (folder_with f es) e.0 ≡ None → AreNew f (es ++ e ∷ [])
 new_more f [] e new none = (none, tt)
 new_more f (x ∷ xs) e new none = (new.0, new_more (with_file f x.0 x.1) xs e new.1 none)
 
 module _ (f : Folder) (p b : List ℕ) where
-  -- the bytes of those that are there stay
+  -- the entries of the files that are there stay
   entries_put : (ps : List (List ℕ)) → bytes_at f p ≡ None → AllByRecursion (IsThere f) ps
       → entries_in (with_file f p b) (ps ++ p ∷ []) ≡ entries_in f ps ++ (p, b) ∷ []
   entries_put [] none all = rw (bytes_put p p f b (bytes_self p)) refl
   entries_put (q ∷ qs) none all = rw (bytes_put_other p q f b (apart f p q none all.0)) (ap (λ l. (q, unwrap_or (bytes_at f q) []) ∷ l) (entries_put qs none all.1))
 
-  -- they and the new one are there
+  -- all of them are in the folder, and so is the new one
   there_put : (ps : List (List ℕ)) → bytes_at f p ≡ None → AllByRecursion (IsThere f) ps → AllByRecursion (IsThere (with_file f p b)) (ps ++ p ∷ [])
   there_put [] none all = (ap is_some (bytes_put p p f b (bytes_self p)), tt)
   there_put (q ∷ qs) none all =
@@ -53,7 +53,7 @@ module _ (f : Folder) (p b : List ℕ) where
         unchecked = same ∙ kept.unchecked;
       }
 
--- what is kept of files, opened
+-- the parts of `AreKept`, which is opaque
 pub parts_of : (f : Folder) (c : ℕ) (ps : List (List ℕ)) → AreKept f c ps → KeptFiles f c ps
 unfolding AreKept
 parts_of f c ps kept = kept
@@ -62,7 +62,7 @@ pub kept_of : (f : Folder) (c : ℕ) (ps : List (List ℕ)) → KeptFiles f c ps
 unfolding AreKept
 kept_of f c ps parts = parts
 
--- one more file that is put where none is
+-- putting one more file at a path where no file is
 pub kept_more : (f g : Folder) (p text b : List ℕ) (c d : ℕ) (ps qs : List (List ℕ)) → AreKept f c ps → bytes_at (folder_with [] (entries_in f ps)) p ≡ None
     → text ≡ p → put_refusal linting f text b ≡ None → g ≡ with_file f text b → d ≡ c → qs ≡ ps ++ p ∷ []
     → AreKept g d qs × (entries_in g qs ≡ entries_in f ps ++ (p, b) ∷ [])
@@ -74,13 +74,13 @@ kept_more f g p text b c d ps qs kept alone same_text right made same more =
       rw (more, with) (entries_put f p b ps none parts.there),
     )
 
--- what is kept, told by the list of the files
+-- the kept files, by their list of entries
 pub kept_as : (f : Folder) (c : ℕ) (ps : List (List ℕ)) (es : List (List ℕ × List ℕ)) → AreKept f c ps → entries_in f ps ≡ es
     → AreGathered es × (f ≡ folder_with [] es) × (c ≡ 0)
 kept_as f c ps es kept is =
     let parts = parts_of f c ps kept in
     (subst AreGathered is parts.gathered, parts.made ∙ ap (folder_with []) is, parts.unchecked)
 
--- no file, put into no folder
+-- no files, in an empty folder
 pub kept_none : AreKept [] 0 []
 kept_none = kept_of [] 0 [] (record { gathered = record { taken = tt; new = tt }; made = refl; there = tt; unchecked = refl })

@@ -1,4 +1,4 @@
--- Writes to a writer that has refused others.
+-- Writes to a writer that refused earlier ones.
 use Rattle.std.proofs.Common.{ℕ, List, ◌++◌, take, ap, ◌∙◌, Option, None, Some, Result, Ok, Err}
 use Rattle.std.specs.Io.KnownBytes.{Appends, Keeps, WriteAppends}
 use Rattle.std.proofs.KnownBytes.{Keeps-trans}
@@ -9,7 +9,7 @@ appended_behind (Some x) None c bs p q = absurd p
 appended_behind (Some x) (Some y) None bs p q = absurd q
 appended_behind (Some x) (Some y) (Some z) bs p q = q ∙ ap (λ l. l ++ bs) p
 
--- a write behind those that were refused adds what it answers
+-- after refused writes, a write appends what its result says
 pub written_behind : {E : Type 0} (a b c : Option (List ℕ)) (r : Result ℕ E) (bs : List ℕ) → Keeps a b → WriteAppends b c r bs → WriteAppends a c r bs
 written_behind a b c (Ok n) bs p q = appended_behind a b c (take n bs) p q
 written_behind a b c (Err e) bs p q = Keeps-trans a b c p q

@@ -1,4 +1,4 @@
--- The commands that wait are answered one after another.
+-- Answering the commands among the waiting bytes, one after another.
 use Rattle.std.proofs.Common.{◌≡◌, ℕ, ◌+◌, ◌-◌, List, ◌++◌, length, take, drop, subst, ap, ◌∙◌, Option, rules, codes}
 use Rattle.std.proofs.lemmas.Grind.{common_steps}
 use Rattle.std.proofs.Math.Seq.{drop-drop}
@@ -13,7 +13,7 @@ use Rattle.al_cli_scripts.specs.Private.Answered.{IsStuck}
 use Rattle.al_cli_scripts.proofs.Serving.{Served-one, Served-more, Served-then}
 use Rattle.al_cli_scripts.proofs.Outputs.{Prefix-after, Prefix-bad, Prefix-replies}
 
--- the first `done` bytes that wait are commands, and these replies were written
+-- the first `done` of the waiting bytes are commands, and the replies to them were written
 pub record Answering {F : Type 0} (steps : Steps F) (start folder : F) (waiting : List ℕ) (done : ℕ) (wrote now : Option (List ℕ)) : Type 0 where
   pub replies : List ℕ
   pub served : Served steps start waiting folder replies (drop done waiting)
@@ -40,7 +40,7 @@ module _ {F : Type 0} {steps : Steps F} {start folder : F} {waiting : List ℕ} 
     written = Appends-trans wrote now then s.replies (steps.reply folder c) s.written w;
   }
 
-  -- the run stops in a reply
+  -- the run stops while writing a reply
   pub IsStuck-in_reply : (c : Command) (n : ℕ) → IsFirst (take (length waiting - done) (drop done waiting)) c n → AppendsPrefix now then (steps.reply folder c)
       → IsStuck steps start waiting wrote then
   IsStuck-in_reply c n first w = λ more.

@@ -1,4 +1,4 @@
--- Whether bytes begin with a command is decided: the texts of such a command are parts of the bytes, and these are finitely many.
+-- Whether bytes begin with a command is decidable: the command's texts are parts of the bytes, of which there are finitely many.
 use Rattle.std.proofs.Common.{◌≡◌, ◌≢◌, ℕ, zero, suc, ◌<◌, ◌^◌, ◌⊎◌, inl, inr, Bool, true, false, List, [], ◌∷◌, ◌++◌, length, take, drop}
 use Rattle.std.proofs.Common.{refl, sym, ap, subst, ◌∙◌, arith, append_assoc, length-append, codes}
 use Rattle.std.specs.Prelude.{bytes_eq, decimal}
@@ -71,7 +71,7 @@ line l = alike (λ h. let s = h.1 in record { words = h.0; short = omega (arith,
 last_or_below : (k n : ℕ) → k < suc n → (k ≡ n) ⊎ (k < n)
 last_or_below k n h = grind arith
 
--- whether there is one of the first n numbers
+-- whether one of the first `n` numbers satisfies a decidable predicate
 among : (n : ℕ) (P : ℕ → Type 0) → ((k : ℕ) → Decided (P k)) → Decided ((k : ℕ) × (k < n) × P k)
 among zero P d = inr (λ h. let l = h.1 in omega (arith, l))
 among (suc n) P d = alike {P = P n ⊎ ((k : ℕ) × (k < n) × P k)}
@@ -87,7 +87,7 @@ module _ (bytes : List ℕ) where
   first : (c : Command) → Decided (First c)
   first c = both (line (line_of c)) (same bytes (command_bytes c ++ drop (length (command_bytes c)) bytes))
 
-  -- a part of the bytes is such a text
+  -- some part of the bytes satisfies the predicate
   abbrev Somewhere : (List ℕ → Type 0) → Type 0
   Somewhere Q = (i : ℕ) × (i < suc (length bytes)) × ((k : ℕ) × (k < suc (length bytes)) × Q (take k (drop i bytes)))
 
@@ -111,7 +111,7 @@ module _ (bytes : List ℕ) where
       e ∙ ap (λ l. command_bytes c ++ l)
       (sym (ap (drop (length (command_bytes c))) e ∙ drop_at (command_bytes c) more (length (command_bytes c)) refl))
 
-  -- one of the commands that parts of the bytes make stands first
+  -- the bytes begin with one of the commands made of parts of them
   abbrev OneOfThem : Type 0
   OneOfThem = First Report ⊎ (Somewhere (λ path. First (Delete path)) ⊎ Somewhere (λ path. Somewhere (λ put. First (Put path put))))
 

@@ -1,4 +1,4 @@
--- At most one command begins given bytes, and a wrong rest never becomes one.
+-- Bytes begin with at most one command, and bytes that are wrong never become a command.
 use Rattle.std.proofs.Common.{◌≡◌, ◌≢◌, ℕ, ◌+◌, ◌%◌, ◌^◌, ◌≤◌, ◌<◌, inl, inr, List, [], ◌∷◌, ◌++◌, length, get_or, take}
 use Rattle.std.proofs.Common.{drop, All, refl, sym, ap, subst, ◌∙◌, arith, append_assoc, codes, length-append, rules}
 use Rattle.std.proofs.lemmas.List.{length-take, get_or-take, get_or_append_left}
@@ -10,7 +10,7 @@ use Rattle.std.proofs.lemmas.List.Elements.{All-tail, All-append, All-cons, All-
 use Rattle.al_cli_scripts.specs.Script.{Command, Put, Delete, Report, ScriptLine, PutLine, DeleteLine, ReportLine, IsLine, line_bytes, line_of}
 use Rattle.al_cli_scripts.specs.Script.{body_of, HasNoBreak, command_bytes, IsCommand, IsWrong, BeginsWithCommand}
 
--- the first k of a list splits it in one way
+-- the first occurrence of `k` splits a list in only one way
 pub first_unique : (k : ℕ) (xs ys u v : List ℕ) → All (λ b. b ≢ k) xs → All (λ b. b ≢ k) ys → xs ++ k ∷ u ≡ ys ++ k ∷ v → (xs ≡ ys) × (u ≡ v)
 first_unique k [] [] u v p q e = (refl, cc)
 first_unique k [] (y ∷ ys) u v p q e = absurd (q 0 y (omega arith) cc)
@@ -24,7 +24,7 @@ pub has_none : (k : ℕ) (q y : List ℕ) → All (λ b. b ≢ k) (q ++ k ∷ y)
 has_none k [] y p = p 0 k (omega arith) refl
 has_none k (b ∷ q) y p = has_none k q y (All-tail (λ d. d ≢ k) b (q ++ k ∷ y) p)
 
--- so does the last one
+-- so does the last occurrence
 pub last_unique : (k : ℕ) (p q x y : List ℕ) → All (λ b. b ≢ k) x → All (λ b. b ≢ k) y → p ++ k ∷ x ≡ q ++ k ∷ y → (p ≡ q) × (x ≡ y)
 last_unique k [] [] x y a b e = (refl, cc)
 last_unique k [] (c ∷ q) x y a b e = let f : x ≡ q ++ k ∷ y = cc in absurd (has_none k q y (subst (All (λ d. d ≢ k)) f a))
@@ -97,7 +97,7 @@ command_unique c d x y p q e =
     let s = first_unique 10 (line_bytes (line_of c)) (line_bytes (line_of d)) (body_of c ++ x) (body_of d ++ y) (line_unbroken (line_of c) p) (line_unbroken (line_of d) q) f in
     body_unique c d x y (line_unique (line_of c) (line_of d) p q s.0) s.1
 
--- a list whose first m elements aren't k, and that goes on, has no k where it would have to stand
+-- a list whose first `m` elements aren't `k` can't have its first `k` before them, whatever is appended
 pub no_early : (k m : ℕ) (bytes more line rest : List ℕ) → m ≤ length bytes → All (λ b. b ≢ k) (take m bytes) → length line < m → bytes ++ more ≡ line ++ k ∷ rest → ⊥
 no_early k m bytes more line rest long none short e =
     let n : ℕ = length line in

@@ -1,4 +1,4 @@
--- A script has one output: its commands are its own, and so is its end.
+-- A script has exactly one output, since its commands and its end are determined.
 use Rattle.std.proofs.Common.{◌≡◌, ◌≢◌, ℕ, zero, suc, ◌+◌, ◌<◌, ◌≤◌, List, [], ◌∷◌, ◌++◌, length, sym, subst, ap, ◌∙◌, refl, arith, append_assoc, length-append, All, inl, inr, codes, Option}
 use Rattle.std.proofs.lemmas.List.{take-append-le}
 use Rattle.std.proofs.lemmas.List.Elements.{All-tail}
@@ -31,7 +31,7 @@ wrong_stays bytes more w = elim w [
   ]
 ]
 
--- a command has bytes
+-- removing a command leaves fewer bytes
 pub command_shorter : (c : Command) (bytes more : List ℕ) → bytes ≡ command_bytes c ++ more → length more < length bytes
 command_shorter c bytes more e =
     let line : List ℕ = line_bytes (line_of c) in
@@ -86,7 +86,7 @@ module _ {F : Type 0} {steps : Steps F} where
       let ends = ends_one steps p.folder p.rest p.last q.last a a' p.ends (rw (folder, same.1) q.ends) in
       (p.whole ∙ ap (λ l. l ++ p.last) replies ∙ ap (λ l. q.replies ++ l) ends.0 ∙ sym q.whole, ends.1)
 
-  -- the output of a script that ends here, and of one that was begun
+  -- the output of a script that ends here, and of one that begins with commands
   pub Puts-end : (f : F) (r out : List ℕ) (a : ℕ) → Ends steps f r out a → Puts steps f r out a
   Puts-end f r out a e = record { folder = f; replies = []; rest = r; last = out; served = Served-none f r; ends = e; whole = refl }
 
@@ -104,7 +104,7 @@ module _ {F : Type 0} {steps : Steps F} where
     whole = ap (λ l. replies ++ l) p.whole ∙ sym (append_assoc replies p.replies p.last);
   }
 
-  -- a script of fewer than n bytes has an output
+  -- a script of fewer than `n` bytes has an output
   some_within : (n : ℕ) (f : F) (r : List ℕ) → length r < n → (out : List ℕ) × (a : ℕ) × Puts steps f r out a
   some_within zero f r h = absurd (omega arith)
   some_within (suc n) f [] h = ([], steps.status f, Puts-end f [] _ _ (inl (refl, refl, refl)))
@@ -123,7 +123,7 @@ module _ {F : Type 0} {steps : Steps F} where
   pub Prefix-all : {f : F} {r out : List ℕ} {a : ℕ} (wrote now : Option (List ℕ)) → Puts steps f r out a → AppendsPrefix wrote now out → PutsPrefix steps f r wrote now
   Prefix-all wrote now p w = λ out a q. rw (one_output q p).0 w
 
-  -- of the replies to what was served, or of what follows them
+  -- a prefix of the replies, or the replies and a prefix of what follows
   pub Prefix-replies : {f g : F} {r replies rest : List ℕ} (wrote now : Option (List ℕ)) → Served steps f r g replies rest → AppendsPrefix wrote now replies
       → PutsPrefix steps f r wrote now
   Prefix-replies {g = g} {replies = replies} {rest = rest} wrote now s w =

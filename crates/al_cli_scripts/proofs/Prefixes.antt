@@ -1,4 +1,4 @@
--- What the beginning of the bytes that wait shows: a command, a wrong line, or neither yet.
+-- What the beginning of the waiting bytes shows: a whole command, a wrong line, or neither yet.
 use Rattle.std.proofs.Common.{◌≡◌, ◌≢◌, ℕ, ◌+◌, ◌-◌, ◌^◌, ◌≤◌, ◌<◌, inl, inr, List, [], ◌∷◌, ◌++◌, length, get_or, take, drop, All}
 use Rattle.std.proofs.Common.{refl, sym, ap, subst, ◌∙◌, arith, append_assoc, append-nil, length-append, length-take, length-drop, rules}
 use Rattle.std.proofs.Common.{decimal}
@@ -15,7 +15,7 @@ use Rattle.std.proofs.lemmas.Str.{IsUtf8-from_ascii}
 use Rattle.std.specs.Str.{IsUtf8}
 use Rattle.std.specs.Str.Parse.{ParsesUnsigned}
 
--- a list is what stands before an element, the element, and the rest
+-- a list split at an element
 pub cut_at : (xs : List ℕ) (k d : ℕ) → k < length xs → get_or xs k 0 ≡ d → xs ≡ take k xs ++ d ∷ drop (k + 1) xs
 cut_at xs k d h e =
     let rest : drop k xs ≡ d ∷ drop (k + 1) xs = rw (drop_more xs k 0 h, e) in
@@ -28,7 +28,7 @@ no_break bytes l r p e = has_none 10 l r (subst HasNoBreak e p)
 begins_is : (bytes : List ℕ) (c : Command) (more : List ℕ) → bytes ≡ command_bytes c ++ more → bytes ≡ line_bytes (line_of c) ++ 10 ∷ (body_of c ++ more)
 begins_is bytes c more e = e ∙ append_assoc (line_bytes (line_of c)) (10 ∷ body_of c) more
 
--- few bytes without an LF are no command yet
+-- up to 2048 bytes without an LF may still become a command
 pub pending_short : (bytes : List ℕ) → HasNoBreak (take 2049 bytes) → length bytes ≤ 2048 → IsPending bytes
 pending_short bytes p short =
     let plain : HasNoBreak bytes = subst HasNoBreak (take_all 2049 bytes (omega arith)) p in
@@ -44,7 +44,7 @@ pending_short bytes p short =
       ];
     }
 
--- a line that is no command's
+-- a line that isn't a command's
 pub wrong_here : (bytes : List ℕ) (end : ℕ) → end < length bytes → get_or bytes end 0 ≡ 10 → HasNoBreak (take end bytes)
     → ((l : ScriptLine) → IsLine l → take end bytes ≢ line_bytes l) → IsWrong bytes
 wrong_here bytes end h lf plain never = inl (take end bytes, drop (end + 1) bytes, cut_at bytes end 10 h lf, plain, never)
@@ -63,13 +63,13 @@ module _ (bytes : List ℕ) (end : ℕ) (path : List ℕ) (len : ℕ) (within : 
   put_split : bytes ≡ line_bytes (PutLine path len) ++ 10 ∷ drop (end + 1) bytes
   put_split = cut_at bytes end 10 within lf ∙ ap (λ l. l ++ 10 ∷ drop (end + 1) bytes) shown
 
-  -- another line and LF at the beginning are this line
+  -- if the bytes begin with some line and an LF, it is this line
   same_line : (l : ScriptLine) (rest : List ℕ) → IsLine l → bytes ≡ line_bytes l ++ 10 ∷ rest → (PutLine path len ≡ l) × (drop (end + 1) bytes ≡ rest)
   same_line l rest okl e =
       let s = first_unique 10 (line_bytes (PutLine path len)) (line_bytes l) (drop (end + 1) bytes) rest (line_unbroken (PutLine path len) ok) (line_unbroken l okl) (sym put_split ∙ e) in
       (line_unique (PutLine path len) l ok okl s.0, s.1)
 
-  -- put's bytes are still to come
+  -- the bytes of the put aren't complete
   pub put_pending : (body : List ℕ) → body ≡ drop (end + 1) bytes → length body ≤ len → IsPending bytes
   put_pending body be short = record {
     unfinished = λ b.
@@ -101,7 +101,7 @@ module _ (bytes : List ℕ) (end : ℕ) (path : List ℕ) (len : ℕ) (within : 
   taken : (body : List ℕ) → len < length body → length (take len body) ≡ len
   taken body long = search (rules, common_steps)
 
-  -- a byte other than LF stands after put's bytes
+  -- the byte after those of the put isn't LF
   pub put_wrong : (body : List ℕ) → body ≡ drop (end + 1) bytes → len < length body → get_or body len 0 ≢ 10 → IsWrong bytes
   put_wrong body be long ne =
       let n : length (take len body) ≡ len = taken body long in
@@ -156,16 +156,16 @@ not_parsed ds text r x p t q n h e = let f : r ≡ Ok n = parse-decimal 32 n tex
 pub parsed_is : {E : Type 0} (ds text : List ℕ) (r : Result ℕ E) (k : ℕ) → ParsesUnsigned 32 10 text r → text ≡ ds → r ≡ Ok k → (n : ℕ) → n < 10 ^ 7 → ds ≡ decimal n → k ≡ n
 parsed_is ds text r k p t q n h e = let f : r ≡ Ok n = parse-decimal 32 n text r (omega arith) (omega arith) (t ∙ e) p in cc
 
--- bytes without a space are no path, space and length
+-- bytes without a space aren't a path, a space and a length
 pub no_space : (rest : List ℕ) → All (λ b. b ≢ 32) rest → (path : List ℕ) (len : ℕ) → IsPathText path → len < 10 ^ 7 → rest ≢ path ++ 32 ∷ decimal len
 no_space rest p path len ok h e = has_none 32 path (decimal len) (subst (All (λ b. b ≢ 32)) e p)
 
--- the last space parts a path and its length
+-- the last space separates the path and the length
 pub put_parts : (rest : List ℕ) (at : ℕ) → at < length rest → get_or rest at 0 ≡ 32 → All (λ b. b ≢ 32) (drop (at + 1) rest)
     → (path : List ℕ) (len : ℕ) → len < 10 ^ 7 → rest ≡ path ++ 32 ∷ decimal len → (take at rest ≡ path) × (drop (at + 1) rest ≡ decimal len)
 put_parts rest at h e none path len n f =
     last_unique 32 (take at rest) path (drop (at + 1) rest) (decimal len) none (digits_without 32 len (omega arith) (omega arith)) (sym (cut_at rest at 32 h e) ∙ f)
 
--- what follows a prefix of such bytes has no LF either
+-- the rest of a line after a prefix has no LF either
 pub unbroken_rest : (line prefix rest : List ℕ) → HasNoBreak line → line ≡ prefix ++ rest → HasNoBreak rest
 unbroken_rest line prefix rest p e = subst HasNoBreak (search (rules, common_steps)) (All-drop (λ b. b ≢ 10) (length prefix) (prefix ++ rest) (subst HasNoBreak e p))

@@ -1,4 +1,4 @@
--- What it says of an edit that the run stops at its reply when memory runs out.
+-- Why memory ran out, if a run stops at the reply to an edit out of memory.
 use Rattle.std.proofs.Common.{◌≡◌, inl, inr, List, ℕ, Option, None, Result, Err, sym, arith}
 use Rattle.std.proofs.lemmas.Bool.Decides.{nat_tests}
 use Rattle.std.proofs.lemmas.Grind.{common_steps}
@@ -22,7 +22,7 @@ wanted_memory r reply refusal old new s q e =
       | inr x ↦ let w : stops.Memory ≡ stops.WriteFault = x.0 in absurd cc
     ]
 
--- no other reason is running out of memory
+-- the edit isn't refused for any other reason
 module _ {I T : Type 0} (m : Meaning I) (folder : Folder) (path : List ℕ) (r : Result T Stop) (reply : Result Edit Refused) (old new : Option (List ℕ))
     (stopped : IfErr r (ReplyStops reply old new)) (memory : r ≡ Err stops.Memory) where
   pub put_allowed : (bytes : List ℕ) → IfErr reply (λ x. x ≡ refusal_or_memory (put_refusal m folder path bytes)) → put_refusal m folder path bytes ≡ None

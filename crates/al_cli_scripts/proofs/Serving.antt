@@ -1,4 +1,4 @@
--- What was served of a script: one command, more bytes behind it, one part and then the next.
+-- Serving the commands of a script: one command, more bytes appended, and one part after another.
 use Rattle.std.proofs.Common.{◌≡◌, ℕ, List, [], ◌∷◌, ◌++◌, sym, ap, ◌∙◌, refl, append_assoc, append-nil}
 use Rattle.std.proofs.lemmas.Grind.{flat_map-append}
 use Rattle.std.proofs.lemmas.List.Elements.{All-append, All-cons, All-nil}
@@ -12,7 +12,7 @@ replies_to-append steps f [] ds = refl
 replies_to-append steps f (c ∷ cs) ds = ap (λ l. steps.reply f c ++ l) (replies_to-append steps (steps.after f c) cs ds) ∙ sym (append_assoc (steps.reply f c) _ _)
 
 module _ {F : Type 0} {steps : Steps F} where
-  -- nothing served yet
+  -- no command yet
   pub Served-none : (f : F) (bytes : List ℕ) → Served steps f bytes f [] bytes
   Served-none f bytes = record { commands = []; each = All-nil IsCommand; whole = refl; leaves = refl; answered = refl }
 
@@ -25,7 +25,7 @@ module _ {F : Type 0} {steps : Steps F} where
     answered = sym (append-nil (steps.reply f c));
   }
 
-  -- more bytes come
+  -- more bytes are appended
   pub Served-more : {f g : F} {bytes replies rest : List ℕ} (more : List ℕ) → Served steps f bytes g replies rest → Served steps f (bytes ++ more) g replies (rest ++ more)
   Served-more {rest = rest} more s = record {
     commands = s.commands;
@@ -35,7 +35,7 @@ module _ {F : Type 0} {steps : Steps F} where
     answered = s.answered;
   }
 
-  -- and then commands of the rest
+  -- then the commands of the rest
   pub Served-then : {f g h : F} {bytes rest last replies more : List ℕ} → Served steps f bytes g replies rest → Served steps g rest h more last
       → Served steps f bytes h (replies ++ more) last
   Served-then {f} {last = last} {more = more} s t = record {

@@ -1,4 +1,4 @@
--- How a turn's clauses follow, and how the turns of a run join.
+-- The contract of a turn from those of its parts, and that of a run from its turns.
 use Rattle.std.proofs.Common.{◌≡◌, ◌≢◌, ℕ, max, List, [], ◌++◌, sym, subst, ap, ◌∙◌, arith, Option, None, Some, inl, inr, refl}
 use Rattle.std.proofs.Common.{Result, Err, OnOk, append_assoc, append-nil, codes, ◌⊎◌}
 use Rattle.std.specs.Prelude.{IfSome}
@@ -17,27 +17,27 @@ use Rattle.al_cli_scripts.proofs.Serving.{Served-none, Served-more, Served-then}
 use Rattle.al_cli_scripts.proofs.Outputs.{unbegun_empty, Puts-after, Puts-bad, Puts-end, Prefix-after, Prefix-all, Prefix-replies}
 use Rattle.al_cli_scripts.proofs.Laws.{wrong_never, wrong_nonempty}
 
--- what is known of a count of failures where a run stops as its last turn did
+-- the count of failures, if a run stops with the stop of its last turn
 pub counted_stop : {S T : Type 0} (q : Result S Stop) (r : Result T Stop) (e stop : Stop) (a b c : ℕ) → q ≡ Err e → r ≡ Err e → b ≡ a → CountsFailures q stop b c → CountsFailures r stop a c
 counted_stop {S} {T} q r e stop a b c was is same counts =
     let P : Result T Stop → Type 0 = λ x. OnOk x (c ≡ a) in
     record { answered = subst P (sym is) tt; stopped = λ h. subst (λ k. HasRisen k c) same (counts.stopped cc) }
 
--- the most that was asked for, after a read of 65,536 bytes
+-- the largest read asked for so far, after one more read of 65,536 bytes
 pub asked_again : (a b n : ℕ) → max b 65536 ≡ max a 65536 → n ≡ max b 65536 → max n 65536 ≡ max a 65536
 asked_again a b n same asked = ap (λ k. max k 65536) (asked ∙ same) ∙ max-eq_left {n = max a 65536} {m = 65536} (le-max_right a 65536)
 
 pub pending_none : IsPending []
 pending_none = record { unfinished = unbegun_empty; hopeful = λ w. wrong_nonempty [] [] w refl }
 
--- what a reader had left is what was read, and what it has left
+-- what a reader had left is what was read, then what is left now
 by_read : (P : List ℕ → Type 0) (left then : Option (List ℕ)) (read : List ℕ) → Consumes left then read → ((rest : List ℕ) → then ≡ Some rest → P (read ++ rest)) → IfSome left P
 by_read P None then read k h = tt
 by_read P (Some x) None read k h = absurd k
 by_read P (Some x) (Some y) read k h = subst P (sym k) (h y refl)
 
 module _ {F : Type 0} (steps : Steps F) where
-  -- ---- a turn
+  -- ---- one turn
 
   -- nothing more is read
   pub turn_end : (f : F) (waiting last : List ℕ) (a : ℕ) (left then wrote now : Option (List ℕ)) → Consumes left then [] → IsAtEnd then
@@ -59,7 +59,7 @@ module _ {F : Type 0} (steps : Steps F) where
 
   -- these bytes are read
   module _ (f : F) (waiting read : List ℕ) (left then : Option (List ℕ)) (k : Consumes left then read) where
-    -- what holds of the script if it does of what waits, what was read, and the rest
+    -- a predicate on the rest of the script, by the waiting bytes, those that are read, and those that are left
     by_all : (P : List ℕ → Type 0) → ((rest : List ℕ) → P ((waiting ++ read) ++ rest)) → IfSome left (λ s. P (waiting ++ s))
     by_all P h = by_read (λ s. P (waiting ++ s)) left then read k (λ rest e. subst P (append_assoc waiting read rest) (h rest))
 
@@ -85,13 +85,13 @@ module _ {F : Type 0} (steps : Steps F) where
     | inr m ↦ subst (TurnStops steps old new) (sym m) cut
   ]
 
-  -- no turn stops for too many reads
+  -- a turn never stops because of too many turns
   pub not_too_many : {T : Type 0} (r : Result T Stop) (old new : RunState F) (e : Stop) → r ≡ Err e → r ≡ Err TooManyTurns → TurnStops steps old new e → ⊥
   not_too_many r old new e is many turn = let same : e ≡ TooManyTurns = cc in subst (TurnStops steps old new) same turn
 
   -- ---- the turns of a run
 
-  -- the start of a run
+  -- before the first turn
   pub Paused-none : (f : F) (left wrote : Option (List ℕ)) → PausesAfter steps f f [] left left wrote wrote []
   Paused-none f left wrote = record { replies = []; consumed = Consumes-nil left; served = Served-none f []; pending = pending_none; written = Appends-nil wrote }
 
@@ -101,12 +101,12 @@ module _ {F : Type 0} (steps : Steps F) where
     Runs-after a final r = by_read _ left mid read p.consumed (λ rest e. let o = rw e at r in
         (p.replies ++ o.0, Puts-after (Served-more rest p.served) o.1, Appends-trans wrote now final p.replies o.0 p.written o.2))
 
-    -- the folder that it leaves
+    -- the folder after the run
     pub Leaves-after : (h : F) → LeavesFolder steps g waited mid h → LeavesFolder steps f [] left h
     Leaves-after h r = by_read _ left mid read p.consumed (λ rest e. let o = rw e at r in
         (p.replies ++ o.0, o.1, Served-then (Served-more rest p.served) o.2, o.3))
 
-    -- and what it read last
+    -- the last read of the run
     pub Last-after : (then : Option (List ℕ)) → ReadsLast steps g waited mid then → ReadsNoFurther steps f left then
     Last-after then t = record {
       folder = g;
@@ -121,13 +121,13 @@ module _ {F : Type 0} (steps : Steps F) where
       decisive = t.3;
     }
 
-    -- a turn stops it
+    -- a turn stops the run
     Cut-after : (final : Option (List ℕ)) → IsCutShort steps g waited mid now final → IsCutShort steps f [] left wrote final
     Cut-after final r = by_read (λ s. PutsPrefix steps f s wrote final) left mid read p.consumed (λ rest e.
         Prefix-after wrote now final (Served-more rest p.served) p.written (rw e at r))
 
   module _ {f : F} {read : List ℕ} {left wrote : Option (List ℕ)} (old new : RunState F) (p : PausesAfter steps f old.folder old.waiting left old.left wrote old.wrote read) where
-    -- a turn goes on
+    -- the run continues after a turn
     pub Paused-more : (t : GoesOn steps old new) → PausesAfter steps f new.folder new.waiting left new.left wrote new.wrote (read ++ t.read)
     Paused-more t = record {
       replies = p.replies ++ t.replies;

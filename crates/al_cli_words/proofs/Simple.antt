@@ -1,4 +1,4 @@
--- The linter's command line needs nothing but the simple part of clap's definitions.
+-- The linter's command line needs only the simple part of clap's definitions.
 use Rattle.std.proofs.Common.{refl, true, ◌≡◌}
 use Rattle.clap.specs.Words.{is_simple, is_simple_and_free}
 use Rattle.clap.proofs.OnLiterals.{clap_on_literals}

@@ -1,11 +1,11 @@
--- What is kept of files that were put one after another.
+-- The folder of files that were put one after another.
 use Rattle.std.specs.Prelude.{◌≡◌, ℕ, List, [], true, is_some, map, unwrap_or}
 use Rattle.std.specs.List.{AllByRecursion}
 use Rattle.al_session.specs.Folder.{Folder, bytes_at}
 use Rattle.al_cli.specs.Linted.{folder_with}
 use Rattle.al_cli.specs.Taken.{AreGathered}
 
--- a path, with the bytes that a folder has there
+-- a path with its bytes in a folder
 abbrev pub entry_in : Folder → List ℕ → List ℕ × List ℕ
 entry_in folder path = (path, unwrap_or (bytes_at folder path) [])
 
@@ -18,7 +18,7 @@ pub record KeptFiles (folder : Folder) (checks : ℕ) (paths : List (List ℕ)) 
   pub there : AllByRecursion (λ p. is_some (bytes_at folder p) ≡ true) paths
   pub unchecked : checks ≡ 0
 
--- A folder of files that were put one after another, none of which is checked. It stays closed: an equation of a folder with what is made
--- of that folder has no end for a tactic.
+-- A folder of files that were put one after another, none of which is checked. It is opaque by default: `made` equates the folder with a
+-- term that contains the folder, so rewriting by it doesn't terminate.
 unfoldable pub AreKept : Folder → ℕ → List (List ℕ) → Type 0
 AreKept folder checks paths = KeptFiles folder checks paths

@@ -12,7 +12,7 @@ abbrev pub IsStopped : ℕ → Option Refused → Fatal → Type 0
 IsStopped index refusal (fatal.Refused at refused) = (at ≡ index) × (refusal ≡ Some refused)
 IsStopped index refusal (fatal.Stopped stop) = stop ≡ Memory
 
--- the first file that is refused was, or memory ran out
+-- this file is the first that is refused, or memory ran out
 abbrev pub PutsStop : Folder → List (List ℕ × List ℕ) → Fatal → Type 0
 PutsStop folder files (fatal.Refused index refused) = IsFirstRefused folder files index refused
 PutsStop folder files (fatal.Stopped stop) = stop ≡ Memory

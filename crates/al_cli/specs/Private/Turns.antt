@@ -1,4 +1,4 @@
--- What each turn of a run takes.
+-- The files that each step of a run takes.
 use Rattle.std.specs.Prelude.{◌≡◌, ◌⊎◌, ℕ, true, if◌then◌else◌, List, [], ◌∷◌, ◌++◌, Option, None, Some, slice_get, string_bytes, String}
 use Rattle.std.specs.Global.{Global}
 use Rattle.std.specs.List.{AllByRecursion}
@@ -10,34 +10,34 @@ use Rattle.al_cli.specs.Taken.{AreCalled, called_by}
 use Rattle.al_cli.specs.declared.gathering.Found.{Found}
 use Rattle.al_cli.specs.declared.gathering.Found.TheVariants.{File, Absent, Outside}
 
--- a file behind these, unless one of them has its path
+-- appends a file, unless one with its path is there
 abbrev pub with_entry : List (List ℕ × List ℕ) → List ℕ × List ℕ → List (List ℕ × List ℕ)
 with_entry files e = if is_among e.0 (paths_of files) then files else files ++ e ∷ []
 
--- what is found at a path is taken, where it is a file that wasn't
+-- If a file was found at the path, it is taken, unless it is there already.
 abbrev pub IsTakenAs : Found → List ℕ → List (List ℕ × List ℕ) → List (List ℕ × List ℕ) → Type 0
 IsTakenAs File path old new = (bytes : List ℕ) × (new ≡ with_entry old (path, bytes))
 IsTakenAs Absent path old new = new ≡ old
 IsTakenAs Outside path old new = new ≡ old
 
--- the file of a path is taken, if it is there and wasn't
+-- the file at the path is taken, or nothing changes
 abbrev pub IsTakenIfThere : List ℕ → List (List ℕ × List ℕ) → List (List ℕ × List ℕ) → Type 0
 IsTakenIfThere path old new = (new ≡ old) ⊎ ((bytes : List ℕ) × (new ≡ with_entry old (path, bytes)))
 
--- the calls of a file
+-- the calls of a file, if there is one
 abbrev pub calls_of_entry : Option (List ℕ × List ℕ) → List Target
 calls_of_entry None = []
 calls_of_entry (Some e) = linting.calls e.0 e.1
 
--- those of the file of this number; none where there is no such file
+-- the calls of the file with this number, if there is one
 abbrev pub calls_at : List (List ℕ × List ℕ) → ℕ → List Target
 calls_at files number = calls_of_entry (slice_get files number)
 
--- each of these texts stands among the paths
+-- each of these texts is one of the paths
 abbrev pub AreAmong : List (List ℕ) → List (String Global) → Type 0
 AreAmong paths texts = AllByRecursion (λ text. is_among (string_bytes text) paths ≡ true) texts
 
--- files behind the first ones, each called by one before it, and the candidates that wait, each called by one of all these
+-- The files after the first ones are each called by a file before them, and each pending text is a candidate of a call of these files.
 pub record IsCalling (first : List (List ℕ × List ℕ)) (files : List (List ℕ × List ℕ)) (texts : List (String Global)) : Type 0 where
   pub behind : List (List ℕ × List ℕ)
   pub all : files ≡ first ++ behind

@@ -6,7 +6,7 @@ use Rattle.al_cli.specs.Private.Kept.{entries_in}
 use Rattle.al_cli.proofs.Keeping.{kept_more}
 use Rattle.al_cli.proofs.taken.put_behind.Goals as goal
 
--- a push for which there was room
+-- a push succeeds if there is room, and appends the element
 pushed : {T E A : Type 0} (r : Result T E) (fails pushes : Bool) (len room : ℕ) (old between new : List A) (x : A) → fails ≡ false → is_ok r ≡ not fails
     → OnOk r (len + 1 ≤ room) → (len < room → pushes ≡ true) → between ≡ old
     → new ≡ (if pushes then between ++ x ∷ [] else between) → new ≡ old ++ x ∷ []

@@ -8,7 +8,7 @@ use Rattle.al_session.specs.Session.{SessionState}
 use Rattle.al_check.specs.Linting.{linting}
 use Rattle.al_cli_scripts.proofs.run.reply_to_report.Goals as goal
 
--- the number may be named otherwise
+-- the status by an equal number
 status_front : (old new : Option (List ℕ)) (m n : ℕ) → m ≡ n → AppendsPrefix old new (codes "status " ++ decimal m ++ codes "\n") → AppendsPrefix old new (codes "status " ++ decimal n ++ codes "\n")
 status_front old new m n e w = subst (λ k. AppendsPrefix old new (codes "status " ++ decimal k ++ codes "\n")) e w
 

@@ -1,4 +1,4 @@
--- The rows compute.
+-- Each row is proved by computation.
 use Rattle.std.proofs.Common.{refl}
 use Rattle.clap.proofs.OnLiterals.{clap_on_literals}
 use Rattle.al_cli_words.specs.Words.{kinds_in, linter_app, rows_in}

@@ -7,7 +7,7 @@ use Rattle.clap.specs.declared.builder.command.Command.{Command}
 use Rattle.al_cli_words.specs.Words.{linter_app}
 use Rattle.al_cli_words.proofs.words.linter_command.Goals as goal
 
--- a command takes the rules of the arguments that are added to it
+-- the rules of a command are those of the arguments that were added to it
 with_args : (old new : Command) (args : List Arg) → AllByRecursion (λ (a : Arg). a.global ≡ false) args → AddsInTurn AddsArg old args new
     → app_of new ≡ fold with_rule (app_of old) (map rule_of args)
 with_args old new [] local is = ap app_of (sym is)
