@@ -36,7 +36,7 @@ use Rattle.al_check_calls.proofs.Parts.{in_parts}
 
 -- ---- one more call
 
--- an element of a list that has at most one element
+-- an element of a list whose elements all equal `x`
 only : {X : Type 0} (x y : X) (l : List X) → AllByRecursion (λ z. x ≡ z) l → Contains l y → x ≡ y
 only x y l all = All-contains (λ z. x ≡ z) l y (All-from_recursion (λ z. x ≡ z) l all)
 

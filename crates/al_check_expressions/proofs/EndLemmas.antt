@@ -1,4 +1,4 @@
--- Each position at or after the end of the text is the scalar's end.
+-- Each position at or after the end of the text has the offset of the scalar's end.
 use Rattle.std.proofs.Common.{◌≡◌, ℕ, ◌≤◌, length, sym, ◌∙◌, arith}
 use Rattle.std.proofs.lemmas.List.{length-map}
 use Rattle.al_scalar.proofs.Locating.{offset_or-end}

@@ -18,7 +18,7 @@ use Rattle.al_check_places.proofs.Scalars.{each_place, places_have_texts, places
 use Rattle.al_check_expressions.specs.Contents.{HasRoom}
 use Rattle.al_check_expressions.specs.Inside.{IsReadable, IsThere}
 
--- ---- positions of a scalar with an offset
+-- ---- bounds of the offsets in a scalar
 
 below : (cs : List Cell) (low high end most : ℕ) → AreRising low high cs → high ≤ most → end ≤ most → (i : ℕ) → offset_or cs end i ≤ most
 below [] low high end most r h e i = e

@@ -23,7 +23,7 @@ local_added c t number fault all old new form at said more =
     ap (map (folder_call all)) more ∙ map-append (folder_call all) old (record { number = number; target = t; fault = fault } ∷ []) ∙ (λ i. map (folder_call all) old ++ (at i, t, said i) ∷ [])
     ∙ ap (λ f. map (folder_call all) old ++ cons_option (option_map (λ x. (Some c, x, that_uses code.CallCycle c)) (target_in f)) []) (sym form)
 
--- mapping the calls of files in the folder, directly or from all calls
+-- mapping the folder calls among `cs` is one `filter_map` over `cs`
 of_kept : {X : Type 0} (f : FolderCall → X) (g : Call → Option X) → ((c : Call) → option_map f (as_folder_call c) ≡ g c) → (cs : List Call) → map f (filter_map as_folder_call cs) ≡ filter_map g cs
 of_kept f g h [] = refl
 of_kept f g h (c ∷ cs) = put (as_folder_call c) (of_kept f g h cs) ∙ ap (λ o. cons_option o (filter_map g cs)) (h c)

@@ -1,4 +1,4 @@
--- Why memory ran out, if a run stops at the reply to an edit out of memory.
+-- If a run stops at the reply to an edit because memory ran out, the edit is refused for no other reason.
 use Rattle.std.proofs.Common.{◌≡◌, inl, inr, List, ℕ, Option, None, Result, Err, sym, arith}
 use Rattle.std.proofs.lemmas.Bool.Decides.{nat_tests}
 use Rattle.std.proofs.lemmas.Grind.{common_steps}

@@ -17,7 +17,7 @@ scalar_object _ p = refl
 pub object_scalar : (p : Parts) (a : Scalar) → fuse_type (object_type p) (scalar_type a) ≡ Any
 object_scalar p a = fuse_turned (object_type p) (scalar_type a) ∙ scalar_object a p
 
--- A base type, which is no array, fused with an array is `Any`, and one can be assigned to the other only if the base type is `Any`.
+-- A base type fused with an array is `Any`. Either can be assigned to the other if and only if the base type is `Any`.
 pub beside_array : (ms : List Parts) (b : Base) (a : Type') →
     (fuse_type (base_type ms b) (ArrayOf a) ≡ Any) × (assignable_type (base_type ms b) (ArrayOf a) ≡ is_any b) × (assignable_type (ArrayOf a) (base_type ms b) ≡ is_any b)
 beside_array ms (base.Scalar scalar.Any) a = (refl, refl, refl)

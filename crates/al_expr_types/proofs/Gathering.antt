@@ -70,7 +70,7 @@ common_push (x ∷ xs) t = ap (fuse_optional (Present x)) (common_push xs t) ∙
 pub types_more : {X : Type 0} (g : X → Type') (xs : List X) (x : X) → common_of (map g (xs ++ x ∷ [])) ≡ fuse_optional (common_of (map g xs)) (Present (g x))
 types_more g xs x = ap common_of (map-append g xs (x ∷ [])) ∙ common_push (map g xs) (g x)
 
--- the types of named fields, whatever their names are
+-- the common type of fields doesn't depend on their names
 pub common_zipped : {X : Type 0} (g : X → Type') (ns : List (List ℕ)) (xs : List X) → length xs ≤ length ns →
     common_in (zip ns (map g xs)) ≡ common_of (map g xs)
 common_zipped g [] [] h = refl
@@ -80,7 +80,7 @@ common_zipped g (n ∷ ns) (x ∷ xs) h = ap (fuse_optional (Present (g x))) (co
 
 -- ---- objects one after another
 
--- An object may be replaced by the one read from the table, and its parts by their meaning.
+-- a part of one more object, which the code read as `x`
 pub of_object : (ms : List Parts) (part : Part) (start new : Optional) (p : Parts) (o x : Object) → p ≡ object_parts ms o → o ≡ x →
     new ≡ fuse_optional start (part_in part (object_parts ms x)) → new ≡ fuse_optional start (part_in part p)
 of_object ms part start new p o x is made e = e ∙ ap (λ q. fuse_optional start (part_in part q)) (sym (is ∙ ap (object_parts ms) made))

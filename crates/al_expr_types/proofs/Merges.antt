@@ -115,7 +115,7 @@ joined_within m name i at = let lt = first_within (λ n. same_name n name) (name
 pub all_set : {X : Type 0} (test : X → Bool) (xs : List X) (i : ℕ) (x : X) → list_all test xs ≡ true → test x ≡ true → list_all test (set xs i x) ≡ true
 all_set test xs i x h k = list_all-from_AllPass test (set xs i x) (All-set (λ y. test y ≡ true) xs i x k (AllPass-from_list_all test xs h))
 
--- An object may be replaced by the one read from the table, and its parts by their meaning.
+-- the fields of one more object, which the code read as `x`
 pub of_object : (ms : List Parts) (start new : List ℕ → Optional) (p : Parts) (o x : Object) → p ≡ object_parts ms o → o ≡ x →
     new ≡ (λ n. fuse_optional (start n) ((object_parts ms x).0 n)) → new ≡ (λ n. fuse_optional (start n) (p.0 n))
 of_object ms start new p o x is made e = e ∙ ap (λ q n. fuse_optional (start n) (q.0 n)) (sym (is ∙ ap (object_parts ms) made))

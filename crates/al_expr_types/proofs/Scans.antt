@@ -17,7 +17,7 @@ here_step false None p i n h =
     let next : i + 1 ≡ suc i = omega arith in
     ap (option_map (λ k. k + 1)) (h n) ∙ ap Some next
 
--- one more element of a prefix, under a map
+-- a prefix with one more element, under a map
 pub mapped_more : {X Y : Type 0} (g : X → Y) (xs : List X) (i : ℕ) (x : X) → i < length xs → x ≡ get_or xs i x →
     map g (take (i + 1) xs) ≡ map g (take i xs) ++ g x ∷ []
 mapped_more g xs i x lt e = map_more g xs i x lt ∙ ap (λ y. map g (take i xs) ++ g y ∷ []) (sym e)

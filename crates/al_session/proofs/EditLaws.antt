@@ -27,7 +27,7 @@ use Rattle.al_session.proofs.Linted.{affected_same}
 abbrev InOrder : Folder → Type 0
 InOrder f = IsStrictlySortedBy (slice_cmp nat_cmp) (paths_of f)
 
--- Folders in order with the same bytes at each path are equal.
+-- a folder in order is sorted by the test that `same_entries` takes
 below : (p : List ℕ) (es : Folder) → AllByRecursion (λ q. slice_cmp nat_cmp p q ≡ Less) (paths_of es) → below_all (slice_cmp nat_cmp) p es ≡ true
 below p [] all = refl
 below p (e ∷ es) all = rw all.0 (below p es all.1)
@@ -37,6 +37,7 @@ unfolding IsStrictlySortedBy
 rises [] s = refl
 rises (e ∷ es) s = rw (below e.0 es s.0) (rises es s.1)
 
+-- folders in order with the same bytes at each path are equal
 one_folder : (f g : Folder) → InOrder f → InOrder g → ((q : List ℕ) → bytes_at f q ≡ bytes_at g q) → f ≡ g
 one_folder f g s t same =
     same_entries (slice_cmp nat_cmp) nat_list_cmp_total exact_bytes f g (rw (rises f s) tt) (rw (rises g t) tt) (λ q. sym (at_is f q) ∙ same q ∙ at_is g q)

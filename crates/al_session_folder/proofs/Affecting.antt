@@ -95,7 +95,7 @@ module _ {I : Type 0} (m : Meaning I) (p : List ℕ) (f : Folder) (now : Option 
     pub none_affected : IsStill → (q : List ℕ) → not (bytes_eq q p) && is_affected eq m f After q ≡ false
     none_affected still q = let far = λ (a : bytes_eq q p ≡ false). unaffected q a (λ _. still) in grind (arith, nat_tests, far)
 
-    -- the file at the changed path is affected if its bytes differ from before
+    -- If the bytes at the changed path differ from before, the file there, if there is one, is affected.
     pub affected_itself : (q : List ℕ) → bytes_eq q p ≡ true → (now ≡ bytes_at f p → ⊥) → is_affected eq m f After q ≡ is_some now
     unfolding is_untouched
     affected_itself q same other = rw (bytes_same q p same, bytes_changed p p f now ordered, bytes_self p) (by now other)
@@ -104,7 +104,7 @@ module _ {I : Type 0} (m : Meaning I) (p : List ℕ) (f : Folder) (now : Option 
         by None other = refl
         by (Some b) other = rw (false_from_ne_true (option_eq bytes_eq (bytes_at f p) (Some b)) (λ is. other (sym (same_answer_exact bytes_eq bytes_same (bytes_at f p) (Some b) is))))
 
-    -- Exactly the changed path and those of its callers that the change affects are affected.
+    -- Each affected file is the one at the changed path or one of its callers.
     pub affected_members : (q : List ℕ) (any : Bool) → any ≡ option_map_or (λ b. is_candidate (m.calls q b) p) (bytes_at f q) false → (now ≡ bytes_at f p → ⊥)
         → (any && (not (bytes_eq q p) && is_affected eq m f After q)) || is_among q (cond (is_some now) (p ∷ []) []) ≡ is_affected eq m f After q
     affected_members q any calls other =

@@ -34,7 +34,7 @@ pub each_at : {X : Type 0} (P : X → Type 0) (xs : List X) (i : ℕ) (x : X) �
 each_at P xs i x all at = subst P (get_or_from_slice_get xs i x x at) (All-from_recursion P xs all i x (slice_get_within xs i x at))
 
 module _ (p : List ℕ) where
-  -- at the position Ok i is the entry of the path, and a look-up finds it
+  -- `Ok i`: the entry of the path is at `i`, and a look-up finds it
   pub record IsFound (es : Folder) (i : ℕ) : Type 0 where
     pub within : i < length es
     pub bytes : List ℕ
@@ -42,7 +42,7 @@ module _ (p : List ℕ) where
     pub finds : bytes_at es p ≡ Some bytes
     pub puts : (b : List ℕ) → set es i (p, b) ≡ with_file es p b
 
-  -- at the position Err i the path can be inserted, and it isn't in the folder
+  -- `Err i`: the path isn't in the folder, and would be inserted at `i`
   pub record IsGap (es : Folder) (i : ℕ) : Type 0 where
     pub within : i ≤ length es
     pub puts : (b : List ℕ) → insert es i (p, b) ≡ with_file es p b
@@ -52,7 +52,7 @@ module _ (p : List ℕ) where
   IsPlaced es (Ok i) = IsFound es i
   IsPlaced es (Err i) = IsGap es i
 
-  -- after an entry whose path is less
+  -- the position after a first entry whose path is less than `p`
   behind : (e : List ℕ × List ℕ) (es : Folder) (r : Result ℕ ℕ) → slice_cmp nat_cmp p e.0 ≡ Greater → IsPlaced es r → IsPlaced (e ∷ es) (one_further r)
   behind e es (Ok i) a r = record {
     within = omega (arith, r.within);
@@ -93,7 +93,7 @@ module _ (p : List ℕ) where
         sorted_put es b s.1,
       ))
 
--- a path without a position isn't in the folder
+-- a path whose position is `Err` isn't in the folder
 pub absent : (es : Folder) (p : List ℕ) (i : ℕ) → IsStrictlySortedBy (slice_cmp nat_cmp) (paths_of es) → path_place (paths_of es) p ≡ Err i → bytes_at es p ≡ None
 absent es p i s h = lookup-none _ es ((gap p es i h).lacks s)
 

@@ -36,7 +36,7 @@ module _ {X Y : Type 0} (v : Y → X) where
   ordered_mapped {cmp} total same E ties ys sorted out moved s is =
       ap (map v) is ∙ dedup_mapped E sorted ∙ dedup-in_order total same E ties (map v ys) (map v sorted) (IsPermutation-map v ys sorted moved) (sorted_mapped cmp sorted s)
 
--- one more reference is followed
+-- the values of the first `i` references, and of one more
 pub next_referred : {X : Type 0} (xs : List (Bor X)) (i : ℕ) (x : Bor X) (old new : List X) (y : X) → i < length xs → x ≡ get_or xs i x → y ≡ x.now →
     old ≡ take i (referents xs) → new ≡ old ++ y ∷ [] → new ≡ take (i + 1) (referents xs)
 next_referred {X} xs i x old new y within read is before now =
