@@ -8,7 +8,7 @@ in the order of paths: that is named here with its cost.
 
 Reports are over 4,096 workflows that call one another. Each stands beside the report of as many workflows without calls, with as many
 faults, each as far into its line, whose printed lines are as long. Every workflow has a fault of its own, so that the status behind a
-report, which then looks for no loop, takes nothing; two folders without one show what both take. The session keeps the graph of calls from
+report, which then looks for no call cycle, takes nothing; two folders without one show what both take. The session keeps the graph of calls from
 one report to the next, so reports are timed with nothing between them, behind a put of a workflow that calls what it called, and behind one
 with a call more or less; what the puts take is taken off.
 """
@@ -72,7 +72,7 @@ def workflow(number, calls, is_round, faults):
     """A workflow that calls those behind it: its path and its text."""
     called = [number + step for step in range(1, calls + 1) if is_round or number + step < FILES]
     jobs = "".join(f"  c{it}:\n    uses: ./.github/workflows/{it % FILES:04}.yml\n" for it in called)
-    # keys that aren't known, whose faults stand as far into their lines as those of calls in a loop and print lines as long
+    # keys that aren't known, whose faults stand as far into their lines as those of calls on a call cycle and print lines as long
     keys = "".join(" " * 10 + "x" * (len(LOOP_LINE) - len(OWN_LINE) - 2) + f"{it:02}: 1\n" for it in range(faults))
     unknown = f"defaults:\n{keys}" if faults else ""
     return f".github/workflows/{number:04}.yml", f"{unknown}on: workflow_call\njobs:" + (f"\n{jobs}" if jobs else " {}\n")
@@ -149,11 +149,11 @@ def print_reports(way):
     """Prints a line for each folder: the time of its report, and its ratio to that without calls."""
     print(f"reports of {FILES} workflows, {way}, beside those of as many without calls, with as many faults")
     for name, (calls, is_round, faults) in FOLDERS.items():
-        loops = calls if is_round else 0
-        folders = [(calls, is_round, faults), (0, False, faults + loops)]
+        on_cycles = calls if is_round else 0
+        folders = [(calls, is_round, faults), (0, False, faults + on_cycles)]
         puts = [put_folder(*it) for it in folders]
         counts = [count_faults(it) for it in puts]
-        if counts != [FILES * (faults + loops)] * 2:
+        if counts != [FILES * (faults + on_cycles)] * 2:
             sys.exit(f"{name}: the reports have {counts} lines")
         with_calls, without = report_times([(it, edits_between(way, *folder)) for it, folder in zip(puts, folders)])
         print(f"  {name:24} {counts[0]:6} faults {with_calls * 1000:10.2f} ms {with_calls / without:8.2f} times {without * 1000:.2f} ms")

@@ -6,7 +6,7 @@ The files are workflows, reusable workflows and actions, one of them behind anot
 with other inputs and outputs, with other calls alone, with the bytes that are there, or with bytes that no reader takes, or it deletes
 a file. After each edit the report is compared with that of a fresh run over the folder on the disk, and the reply's number with that of
 the files that the edit affects, counted here by the definition: files that are new or differ, or one of whose calls has another answer.
-The report's lines on calls that lead back to their own file are compared with those that walks along the calls find here. Some edits
+The report's lines on calls on call cycles are compared with those that walks along the calls find here. Some edits
 have to move such lines of files that they don't affect. Prints a line for each case, as tests/program.py does.
 """
 
@@ -18,7 +18,7 @@ from running import REPORT, SCRIPT, WORKFLOWS, delete, differences_of, each, edi
 
 EDITS = 200
 SEED = 3
-IN_A_LOOP = b" leads back to this file ["
+ON_A_CYCLE = b" leads back to this file ["
 
 
 def called(folder, candidates):
@@ -39,8 +39,8 @@ def leads_back(folder, path, candidates):
     return False
 
 
-def loops(folder):
-    """The report's lines on calls in loops: those of the lines that call a file which leads back to theirs."""
+def cycle_lines(folder):
+    """The report's lines on calls on call cycles: those of the lines that call a file from which calls lead to theirs."""
     for path in sorted(folder):
         for row, text in enumerate(folder[path].text().decode().split("\n"), 1):
             before, uses, name = text.partition("uses: ")
@@ -50,15 +50,15 @@ def loops(folder):
                 yield f'{path}:{row}:{column}: call of "{name}" leads back to this file [{kind}]\n'.encode()
 
 
-def loop_lines(reported):
-    """The lines on calls in loops that a report has."""
-    return [it for it in reported.splitlines(True) if IN_A_LOOP in it]
+def reported_cycle_lines(reported):
+    """A report's lines on calls on call cycles."""
+    return [it for it in reported.splitlines(True) if ON_A_CYCLE in it]
 
 
-def moved_loops(old, new):
-    """Whether an edit moves lines on calls in loops of files that it doesn't affect."""
+def moved_cycle_lines(old, new):
+    """Whether an edit changes the lines on call cycles of files that it doesn't affect."""
     unaffected = [path.encode() + b":" for path in set(old) & set(new) - set(affected(old, new))]
-    of_those = lambda folder: [it for it in loops(folder) if it.startswith(tuple(unaffected))]
+    of_those = lambda folder: [it for it in cycle_lines(folder) if it.startswith(tuple(unaffected))]
     return of_those(old) != of_those(new)
 
 
@@ -96,8 +96,8 @@ def differences(place, command, old, new, told):
         wanted = b"ok %d" % len(affected(old, new))
     place.fresh({path: file.text() for path, file in new.items()}, [WORKFLOWS])
     wrong = differences_of(place.run(["--oneline", "--root", ".", *new]), status, reported, b"")
-    if loop_lines(reported) != list(loops(new)):
-        wrong.append(f"lines on loops were {loop_lines(reported)}, and should be {list(loops(new))}")
+    if reported_cycle_lines(reported) != list(cycle_lines(new)):
+        wrong.append(f"lines on call cycles were {reported_cycle_lines(reported)}, and should be {list(cycle_lines(new))}")
     return wrong if reply == wanted else wrong + [f"the reply was {reply!r}, and should be {wanted!r}"]
 
 
@@ -116,8 +116,8 @@ def edits(place):
         report("edits", ran.returncode, [f"stdout was {show(ran.stdout)}, stderr {show(ran.stderr)}"])
         return
     each("edits", enumerate((differences(place, *it) for it in zip(commands, folders, folders[1:], told)), 1))
-    moving = sum(moved_loops(*it) for it in zip(folders, folders[1:]))
-    report("edits-that-move-loops-of-other-files", moving, [] if moving else ["no edit does"])
+    moving = sum(moved_cycle_lines(*it) for it in zip(folders, folders[1:]))
+    report("edits-that-change-cycles-of-other-files", moving, [] if moving else ["no edit does"])
 
 
 if __name__ == "__main__":

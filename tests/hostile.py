@@ -198,7 +198,7 @@ def folder_of_4096(place):
     place.case("folder-of-4096-files", 0, wanted, NO, SCRIPT, stdin=script)
 
 
-# ---- calls that lead back to their own file
+# ---- calls on call cycles
 
 
 def calling(number):
@@ -206,8 +206,8 @@ def calling(number):
     return b"on:\n  workflow_call:\njobs:\n  a:\n    uses: ./%s/%04d.yml\n" % (WORKFLOWS.encode(), number)
 
 
-def leading_back(path, row, column, text, kind):
-    """The line on a call that leads back to its own file."""
+def cycle_line(path, row, column, text, kind):
+    """The line on a call on a call cycle."""
     return f'{path}:{row}:{column}: call of "{text}" leads back to this file [{kind}]\n'.encode()
 
 
@@ -220,9 +220,9 @@ def ring_of_4096(place):
     script += REPORT + delete(paths[1]) + REPORT
     # a file that comes before the one that it calls lacks it until it is there
     replies = b"ok 1\n" * (FILES - 1) + b"ok 2\n"
-    loops = b"".join(leading_back(path, 5, 11, f"./{other}", "workflow-call") for path, other in zip(paths, following))
+    lines = b"".join(cycle_line(path, 5, 11, f"./{other}", "workflow-call") for path, other in zip(paths, following))
     absent = f'{paths[0]}:5:11: workflow "./{paths[1]}" is not in the folder [workflow-call]\n'.encode()
-    wanted = replies + loops + b"status 1\nok 1\n" + absent + b"status 1\n"
+    wanted = replies + lines + b"status 1\nok 1\n" + absent + b"status 1\n"
     place.case("ring-of-4096-files", 1, wanted, NO, SCRIPT, stdin=script)
 
 
@@ -231,8 +231,8 @@ def calls_of_one_file(place):
     place.fresh()
     count = 30_000
     data = b"name: A\ndescription: d\nruns:\n  using: composite\n  steps:\n" + b"    - uses: ./x\n" * count
-    loops = b"".join(leading_back("x/action.yml", 6 + number, 13, "./x", "action") for number in range(count))
-    place.case("action-that-calls-itself-30000-times", 1, b"ok 1\n" + loops + b"status 1\n", NO, SCRIPT,
+    lines = b"".join(cycle_line("x/action.yml", 6 + number, 13, "./x", "action") for number in range(count))
+    place.case("action-that-calls-itself-30000-times", 1, b"ok 1\n" + lines + b"status 1\n", NO, SCRIPT,
                stdin=put("x/action.yml", data) + REPORT)
 
 

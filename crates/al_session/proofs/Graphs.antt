@@ -6,7 +6,7 @@ use Rattle.al_session_folder.specs.Folder.{Folder, with_file}
 use Rattle.al_session_folder.specs.Kept.{AreKept, Files, IsKept, file_at, folder_of}
 use Rattle.al_session_folder.specs.CallGraphs.{HasSameCalls, IsCallGraph}
 use Rattle.al_session_folder.specs.declared.kept.KeptFile.{KeptFile}
-use Rattle.al_session_folder.specs.declared.loops.CallGraph.{CallGraph}
+use Rattle.al_session_folder.specs.declared.cycles.CallGraph.{CallGraph}
 use Rattle.al_session_folder.proofs.SameCalls.{graph_still, put_same_calls}
 use Rattle.al_session.specs.Session.{folder_in}
 use Rattle.al_session.specs.declared.indexed.IndexedFiles.{IndexedFiles}

@@ -28,8 +28,8 @@ use crate::indexed::IndexedFiles;
 use crate::refused::put_refused;
 use al_base::{Fault, Output, Path, Stop, path_fault};
 use al_session_folder::{
-    CallGraph, LinkedFiles, Lint, Paths, Refused, find_loops, has_faults, has_loops, join_files,
-    missing_paths, write_files,
+    CallGraph, LinkedFiles, Lint, Paths, Refused, find_cycle_faults, has_call_cycles, has_faults,
+    join_files, missing_paths, write_files,
 };
 use indexmap::IndexMap;
 use std::alloc::{AllocError, Global};
@@ -257,7 +257,7 @@ impl<L: Lint> Session<L> {
         }
         find_graph::<L>(self.kept.alloc, &self.kept.files, &mut self.calls)?;
         let linked = LinkedFiles::new(&self.kept.files, found_graph(&self.calls));
-        let some = has_loops::<L>(&linked);
+        let some = has_call_cycles::<L>(&linked);
         if some {
             return Ok(1);
         }
@@ -292,8 +292,8 @@ impl<L: Lint> Session<L> {
     {
         find_graph::<L>(self.kept.alloc, &self.kept.files, &mut self.calls)?;
         let linked = LinkedFiles::new(&self.kept.files, found_graph(&self.calls));
-        let loops = find_loops(&self.lint, self.kept.alloc, &linked)?;
-        let joined = join_files::<L>(self.kept.alloc, &self.kept.files, &loops)?;
+        let cycle_faults = find_cycle_faults(&self.lint, self.kept.alloc, &linked)?;
+        let joined = join_files::<L>(self.kept.alloc, &self.kept.files, &cycle_faults)?;
         write_files::<L, W>(writer, &self.kept.files, &joined, oneline)
     }
 

@@ -28,10 +28,10 @@ use Rattle.al_base.specs.declared.faults.Fault.{Fault}
 use Rattle.al_session_folder.specs.Meaning.{Meaning}
 use Rattle.al_session_folder.specs.Folder.{Folder, answers, faults_in}
 use Rattle.al_session_folder.specs.Kept.{Files, folder_of, referents, AllKept}
-use Rattle.al_session_folder.specs.Loops.{calls_graph, callee, is_on_cycle, loop_faults, report_faults}
+use Rattle.al_session_folder.specs.Cycles.{calls_graph, callee, is_on_cycle, cycle_faults, report_faults}
 use Rattle.al_session_folder.specs.declared.kept.KeptFile.{KeptFile}
 use Rattle.al_session_folder.specs.declared.lint.Target.{Target}
-use Rattle.al_session_folder.proofs.Looping.{fault_if, kept_number, looping}
+use Rattle.al_session_folder.proofs.CallCycles.{fault_if, kept_number, faults_on_cycles}
 use Rattle.al_session_folder.specs.Report.{status_of, report_of}
 use Rattle.al_session_folder.specs.Checked.{AllChecked}
 use Rattle.al_session_folder.specs.Printing.{AreNumbered, ArePrintable, joined_faults, joined_or_own, numbered_lines}
@@ -45,20 +45,20 @@ checked_number m f files i e h at = each_at (λ e. e.1.faults.items ≡ faults_i
 
 module _ {I : Type 0} (m : Meaning I) (ordered : (p b : List ℕ) (given : List (Option I)) → IsStrictlySortedBy fault_cmp (m.faults p b given)) (f : Folder) where
   -- If no call is on a call cycle, the file's own faults are listed.
-  pub own_reported : (i : ℕ) (p b : List ℕ) (faults : List Fault) → faults ≡ faults_in m f p b → loop_faults m f i p b ≡ [] → faults ≡ report_faults m f i p b
+  pub own_reported : (i : ℕ) (p b : List ℕ) (faults : List Fault) → faults ≡ faults_in m f p b → cycle_faults m f i p b ≡ [] → faults ≡ report_faults m f i p b
   unfolding report_faults faults_in
   own_reported i p b faults is none = is ∙ sym (rw none (fault_list-sorted (m.faults p b (answers m f p b)) (ordered p b (answers m f p b))))
 
 -- ---- the faults are within the file
 
 module _ {I : Type 0} (m : Meaning I) (f : Folder) (i : ℕ) (size : ℕ) where
-  looping_inside : (ts : List Target) (ss : List Fault) → AllByRecursion (λ (s : Fault). LiesIn size s.span) ss →
-      AllByRecursion (λ (fault : Fault). LiesIn size fault.span) (looping (calls_graph m f) f i ts ss)
-  looping_inside [] ss h = tt
-  looping_inside (t ∷ ts) [] h = tt
-  looping_inside (t ∷ ts) (s ∷ ss) h =
-      each_both _ (fault_if (is_on_cycle (calls_graph m f) i (callee f t)) s) (looping (calls_graph m f) f i ts ss)
-      (each_either _ (is_on_cycle (calls_graph m f) i (callee f t)) (s ∷ []) [] (h.0, tt) tt) (looping_inside ts ss h.1)
+  on_cycles_inside : (ts : List Target) (ss : List Fault) → AllByRecursion (λ (s : Fault). LiesIn size s.span) ss →
+      AllByRecursion (λ (fault : Fault). LiesIn size fault.span) (faults_on_cycles (calls_graph m f) f i ts ss)
+  on_cycles_inside [] ss h = tt
+  on_cycles_inside (t ∷ ts) [] h = tt
+  on_cycles_inside (t ∷ ts) (s ∷ ss) h =
+      each_both _ (fault_if (is_on_cycle (calls_graph m f) i (callee f t)) s) (faults_on_cycles (calls_graph m f) f i ts ss)
+      (each_either _ (is_on_cycle (calls_graph m f) i (callee f t)) (s ∷ []) [] (h.0, tt) tt) (on_cycles_inside ts ss h.1)
 
 module _ {I : Type 0} (m : Meaning I)
     (inside : (p b : List ℕ) (given : List (Option I)) → length b ≤ 1048576 → AllByRecursion (λ (fault : Fault). LiesIn (length b) fault.span) (m.faults p b given))
@@ -66,8 +66,8 @@ module _ {I : Type 0} (m : Meaning I)
   reported_inside : (f : Folder) (i : ℕ) (p b : List ℕ) → length b ≤ 1048576 → AllByRecursion (λ (fault : Fault). LiesIn (length b) fault.span) (report_faults m f i p b)
   unfolding report_faults faults_in
   reported_inside f i p b small =
-      AllByRecursion-fault_list (λ (fault : Fault). LiesIn (length b) fault.span) (loop_faults m f i p b ++ m.faults p b (answers m f p b))
-      (each_both _ (loop_faults m f i p b) (m.faults p b (answers m f p b)) (looping_inside m f i (length b) (m.calls p b) (m.sites p b) (sites p b small)) (inside p b (answers m f p b) small))
+      AllByRecursion-fault_list (λ (fault : Fault). LiesIn (length b) fault.span) (cycle_faults m f i p b ++ m.faults p b (answers m f p b))
+      (each_both _ (cycle_faults m f i p b) (m.faults p b (answers m f p b)) (on_cycles_inside m f i (length b) (m.calls p b) (m.sites p b) (sites p b small)) (inside p b (answers m f p b) small))
 
   pub printable : {U : Type 0} (is_unit : U → List ℕ → List ℕ → Type 0) (files : Files U I) → AllKept m is_unit files → ArePrintable m files
   printable is_unit files kept i e at =
@@ -107,30 +107,30 @@ some_of_both : (a b : List Fault) → not (length (a ++ b) == 0) ≡ (not (lengt
 some_of_both a b = let all = length-append a b in grind (arith, nat_tests, all)
 
 module _ {I : Type 0} (m : Meaning I) (f : Folder) where
-  abbrev LoopAt : ℕ × (List ℕ × List ℕ) → Bool
-  LoopAt x = not (length (loop_faults m f x.0 x.1.0 x.1.1) == 0)
+  abbrev IsOnCycleAt : ℕ × (List ℕ × List ℕ) → Bool
+  IsOnCycleAt x = not (length (cycle_faults m f x.0 x.1.0 x.1.1) == 0)
 
   -- A file has faults to report if and only if one of its calls is on a call cycle or it has faults of its own.
   any_reported : {U : Type 0} (n : ℕ) (es : Files U I) → AllChecked m f es
       → list_any (λ (x : ℕ × (List ℕ × List ℕ)). not (length (report_faults m f x.0 x.1.0 x.1.1) == 0)) (enumerate_from n (folder_of es))
-      ≡ (list_any LoopAt (enumerate_from n (folder_of es)) || list_any (λ (e : String Global × KeptFile U I). not (length e.1.faults.items == 0)) es)
+      ≡ (list_any IsOnCycleAt (enumerate_from n (folder_of es)) || list_any (λ (e : String Global × KeptFile U I). not (length e.1.faults.items == 0)) es)
   unfolding report_faults
   any_reported n [] checked = refl
   any_reported n (e ∷ es) checked =
-      let loops = loop_faults m f n (string_bytes e.0) e.1.bytes.items in
+      let on_cycles = cycle_faults m f n (string_bytes e.0) e.1.bytes.items in
       let own = faults_in m f (string_bytes e.0) e.1.bytes.items in
       let rest = any_reported (n + 1) es checked.1 in
-      rw (checked.0, some_in_order (loops ++ own), some_of_both loops own, rest) (grind (arith, nat_tests))
+      rw (checked.0, some_in_order (on_cycles ++ own), some_of_both on_cycles own, rest) (grind (arith, nat_tests))
 
 module _ {U I : Type 0} (m : Meaning I) (files : Files U I) (checked : AllChecked m (folder_of files) files) where
   pub status_faults : list_any (λ (e : String Global × KeptFile U I). not (length e.1.faults.items == 0)) files ≡ true → 1 ≡ status_of m (folder_of files)
   unfolding status_of
   status_faults h = rw (any_reported m (folder_of files) 0 files checked, h) (grind (arith, nat_tests))
 
-  pub status_loops : (some : Bool) → list_any (λ (e : String Global × KeptFile U I). not (length e.1.faults.items == 0)) files ≡ false
-      → some ≡ list_any (LoopAt m (folder_of files)) (enumerate_from 0 (folder_of files)) → cond some 1 0 ≡ status_of m (folder_of files)
+  pub status_cycles : (some : Bool) → list_any (λ (e : String Global × KeptFile U I). not (length e.1.faults.items == 0)) files ≡ false
+      → some ≡ list_any (IsOnCycleAt m (folder_of files)) (enumerate_from 0 (folder_of files)) → cond some 1 0 ≡ status_of m (folder_of files)
   unfolding status_of
-  status_loops some h s = rw (any_reported m (folder_of files) 0 files checked, h, s) (grind (arith, nat_tests))
+  status_cycles some h s = rw (any_reported m (folder_of files) 0 files checked, h, s) (grind (arith, nat_tests))
 
 -- ---- sorting references to faults
 
@@ -147,36 +147,36 @@ all-referred P xs i r all lt is =
 -- The code's list joins the file's own faults and those of its calls on call cycles.
 pub listed_both : {U I : Type 0} (m : Meaning I) (files : Files U I) (i : ℕ) (e : String Global × KeptFile U I) (all : List Fault)
     (list : List (Bor Fault)) → AllChecked m (folder_of files) files → slice_get files i ≡ Some e →
-    all ≡ e.1.faults.items ++ loop_faults m (folder_of files) i (string_bytes e.0) e.1.bytes.items → referents list ≡ fault_list all →
+    all ≡ e.1.faults.items ++ cycle_faults m (folder_of files) i (string_bytes e.0) e.1.bytes.items → referents list ≡ fault_list all →
     referents list ≡ report_faults m (folder_of files) i (string_bytes e.0) e.1.bytes.items
 unfolding report_faults
 listed_both m files i e all list checked at a o =
     let own = faults_in m (folder_of files) (string_bytes e.0) e.1.bytes.items in
-    let looping = loop_faults m (folder_of files) i (string_bytes e.0) e.1.bytes.items in
-    o ∙ ap fault_list (a ∙ ap (λ x. x ++ looping) (checked_number m (folder_of files) files i e checked at))
-    ∙ fault_list-permutation (own ++ looping) (looping ++ own) (IsPermutation-append_comm own looping)
+    let on_cycles = cycle_faults m (folder_of files) i (string_bytes e.0) e.1.bytes.items in
+    o ∙ ap fault_list (a ∙ ap (λ x. x ++ on_cycles) (checked_number m (folder_of files) files i e checked at))
+    ∙ fault_list-permutation (own ++ on_cycles) (on_cycles ++ own) (IsPermutation-append_comm own on_cycles)
 
 -- the faults that are listed for a file
 module _ {U I : Type 0} (m : Meaning I) (ordered : (p b : List ℕ) (given : List (Option I)) → IsStrictlySortedBy fault_cmp (m.faults p b given)) (files : Files U I) (i : ℕ)
-    (e : String Global × KeptFile U I) (own loops : List Fault) (joined : List (Bor Fault)) (checked : AllChecked m (folder_of files) files) (at : slice_get files i ≡ Some e)
-    (is : own ≡ e.1.faults.items) (all : loops ≡ loop_faults m (folder_of files) i (string_bytes e.0) e.1.bytes.items) (now : referents joined ≡ joined_faults own loops) where
+    (e : String Global × KeptFile U I) (own on_cycles : List Fault) (joined : List (Bor Fault)) (checked : AllChecked m (folder_of files) files) (at : slice_get files i ≡ Some e)
+    (is : own ≡ e.1.faults.items) (all : on_cycles ≡ cycle_faults m (folder_of files) i (string_bytes e.0) e.1.bytes.items) (now : referents joined ≡ joined_faults own on_cycles) where
   pub listed_is : joined_or_own e.1 joined ≡ report_faults m (folder_of files) i (string_bytes e.0) e.1.bytes.items
-  listed_is = by (length loops == 0) refl
+  listed_is = by (length on_cycles == 0) refl
     where
       long : length (referents joined) ≡ length joined
       long = length-map joined (λ (r : Bor Fault). r.now)
 
-      by : (b : Bool) → (length loops == 0) ≡ b → joined_or_own e.1 joined ≡ report_faults m (folder_of files) i (string_bytes e.0) e.1.bytes.items
+      by : (b : Bool) → (length on_cycles == 0) ≡ b → joined_or_own e.1 joined ≡ report_faults m (folder_of files) i (string_bytes e.0) e.1.bytes.items
       by true none =
           let empty : length joined ≡ 0 = sym long ∙ ap length (rw none at now) in
           rw empty (own_reported m ordered (folder_of files) i (string_bytes e.0) e.1.bytes.items e.1.faults.items
-          (checked_number m (folder_of files) files i e checked at) (sym all ∙ none_of loops none))
+          (checked_number m (folder_of files) files i e checked at) (sym all ∙ none_of on_cycles none))
       by false some =
-          let put : referents joined ≡ fault_list (own ++ loops) = rw some at now in
-          let in_order_too = some_in_order (own ++ loops) in
-          let both = some_of_both own loops in
+          let put : referents joined ≡ fault_list (own ++ on_cycles) = rw some at now in
+          let in_order_too = some_in_order (own ++ on_cycles) in
+          let both = some_of_both own on_cycles in
           let no : (length joined == 0) ≡ false = let length_is = ap length put in grind (arith, nat_tests, long, length_is, in_order_too, both, some) in
-          rw no (listed_both m files i e (own ++ loops) joined checked at (rw (is, all)) put)
+          rw no (listed_both m files i e (own ++ on_cycles) joined checked at (rw (is, all)) put)
 
 -- ---- numbered elements
 

@@ -16,8 +16,8 @@ use Rattle.std.proofs.lemmas.Simd.{map-map}
 use Rattle.al_session_folder.specs.Meaning.{Meaning, candidates}
 use Rattle.al_session_folder.specs.Folder.{Folder, bytes_at, find_map, paths_of, with_file}
 use Rattle.al_session_folder.specs.Kept.{AreKept, Files, IsKept, file_at, folder_of}
-use Rattle.al_session_folder.specs.Loops.{callee, calls_graph}
-use Rattle.al_session_folder.specs.CallGraphs.{HasSameCalls, IsCallGraph, TellLoops, is_same_target}
+use Rattle.al_session_folder.specs.Cycles.{callee, calls_graph}
+use Rattle.al_session_folder.specs.CallGraphs.{HasSameCalls, IsCallGraph, TellCycles, is_same_target}
 use Rattle.al_session_folder.specs.declared.kept.KeptFile.{KeptFile}
 use Rattle.al_session_folder.specs.declared.lint.Target.{Target}
 use Rattle.al_session_folder.specs.declared.lint.Target.TheVariants.{FirstOf, Only}
@@ -65,7 +65,7 @@ module _ {I : Type 0} (m : Meaning I) (f g : Folder) (same : HasSameCalls m f g)
   pub graph_still : (graph : List (Vec ℕ Global)) (labels : List (Option ℕ)) → IsCallGraph m f graph labels → IsCallGraph m g graph labels
   graph_still graph labels is = record {
     edges = is.edges ∙ sym graph_same;
-    tell = subst (λ (l : List (List ℕ)). TellLoops l labels) (sym graph_same) is.tell;
+    tell = subst (λ (l : List (List ℕ)). TellCycles l labels) (sym graph_same) is.tell;
   }
 
 -- ---- putting a file with the same calls

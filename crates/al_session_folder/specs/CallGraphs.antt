@@ -5,7 +5,7 @@ use Rattle.al_graph.specs.Graphs.{Edge, Walk, edges_of}
 use Rattle.al_session_folder.specs.Meaning.{Meaning}
 use Rattle.al_session_folder.specs.Folder.{Folder, paths_of}
 use Rattle.al_session_folder.specs.Kept.{AreKept, Files, folder_of}
-use Rattle.al_session_folder.specs.Loops.{calls_graph}
+use Rattle.al_session_folder.specs.Cycles.{calls_graph}
 use Rattle.al_session_folder.specs.declared.lint.Target.{Target}
 use Rattle.al_session_folder.specs.declared.lint.Target.TheVariants.{FirstOf, Only}
 
@@ -15,14 +15,14 @@ IsCalledBy graph file None = Unit {0}
 IsCalledBy graph file (Some to) = Edge graph file to
 
 -- labels of files: if a call leads from one file to another, the two have the same label if and only if the call is on a cycle
-abbrev pub TellLoops : List (List ℕ) → List (Option ℕ) → Type 0
-TellLoops graph labels = (length labels ≡ length graph) × ((j k : ℕ) → Edge graph j k →
+abbrev pub TellCycles : List (List ℕ) → List (Option ℕ) → Type 0
+TellCycles graph labels = (length labels ≡ length graph) × ((j k : ℕ) → Edge graph j k →
     (slice_index_or labels k None ≡ slice_index_or labels j None) ↔ Walk graph k j)
 
 -- The graph of a folder's calls, as the program keeps it, and labels that tell which of them are on a cycle.
 pub record IsCallGraph {I : Type 0} (m : Meaning I) (f : Folder) (graph : List (Vec ℕ Global)) (labels : List (Option ℕ)) : Type 0 where
   pub edges : edges_of graph ≡ calls_graph m f
-  pub tell : TellLoops (calls_graph m f) labels
+  pub tell : TellCycles (calls_graph m f) labels
 
 -- The second folder has the paths of the first, and each file has the same calls: so they have the same graph.
 pub record HasSameCalls {I : Type 0} (m : Meaning I) (f g : Folder) : Type 0 where

@@ -12,14 +12,14 @@ use Rattle.al_base.specs.Spans.{LiesIn}
 use Rattle.al_base.specs.Limits.{largest_file}
 use Rattle.al_session_folder.specs.Meaning.{Meaning}
 use Rattle.al_session_folder.specs.Folder.{Folder}
-use Rattle.al_session_folder.specs.Loops.{loop_faults, report_faults}
+use Rattle.al_session_folder.specs.Cycles.{cycle_faults, report_faults}
 use Rattle.al_session_folder.specs.declared.kept.KeptFile.{KeptFile}
 use Rattle.al_session_folder.specs.Kept.{Files, folder_of, referents}
 
 -- a file's own faults and those of its calls on a call cycle, in the order of reports, each once; empty if no call is
 -- on one
 abbrev pub joined_faults : List Fault → List Fault → List Fault
-joined_faults own loops = cond (length loops == 0) [] (fault_list (own ++ loops))
+joined_faults own on_cycles = cond (length on_cycles == 0) [] (fault_list (own ++ on_cycles))
 
 -- the listed faults of a kept file: the joined ones, or its own if there are none
 abbrev pub joined_or_own : {U I : Type 0} → KeptFile U I → List (Bor Fault) → List Fault
@@ -50,11 +50,11 @@ pub record AreNumbered {X : Type 0} (P : ℕ → X → Type 0) (count : ℕ) (al
   pub each : (i : ℕ) (x : X) → i < count → x ≡ slice_index_or all i x → P i x
 
 -- the faults of the calls of the file with this number that are on a call cycle
-abbrev pub IsLoops : {I : Type 0} → Meaning I → Folder → ℕ → Vec Fault Global → Type 0
-IsLoops m f i loops = (p b : List ℕ) → slice_get f i ≡ Some (p, b) → loops.items ≡ loop_faults m f i p b
+abbrev pub IsCycleFaults : {I : Type 0} → Meaning I → Folder → ℕ → Vec Fault Global → Type 0
+IsCycleFaults m f i faults = (p b : List ℕ) → slice_get f i ≡ Some (p, b) → faults.items ≡ cycle_faults m f i p b
 
-abbrev pub AreLoops : {I : Type 0} → Meaning I → Folder → List (Vec Fault Global) → Type 0
-AreLoops m f all = AreNumbered (IsLoops m f) (length f) all
+abbrev pub AreCycleFaults : {I : Type 0} → Meaning I → Folder → List (Vec Fault Global) → Type 0
+AreCycleFaults m f all = AreNumbered (IsCycleFaults m f) (length f) all
 
 -- the listed faults of the file with this number are those that a report lists
 abbrev pub IsListed : {U I : Type 0} → Meaning I → Files U I → ℕ → Vec (Bor Fault) Global → Type 0

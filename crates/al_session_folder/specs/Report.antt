@@ -4,7 +4,7 @@ use Rattle.std.specs.List.{enumerate_from, flat_map, list_any}
 use Rattle.al_text.specs.Snippets.{fault_text}
 use Rattle.al_session_folder.specs.Meaning.{Meaning}
 use Rattle.al_session_folder.specs.Folder.{Folder}
-use Rattle.al_session_folder.specs.Loops.{report_faults}
+use Rattle.al_session_folder.specs.Cycles.{report_faults}
 
 -- 0 if no file has a fault or a call on a call cycle, otherwise 1
 unfoldable pub status_of : {I : Type 0} → Meaning I → Folder → ℕ

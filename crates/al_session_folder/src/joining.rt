@@ -4,9 +4,9 @@ ghost use Rattle.std.specs.Prelude.{◌≡◌, ◌++◌, ◌==◌, IfOk, OnOk, l
 ghost use Rattle.std.specs.List.{enumerate_from, list_any};
 ghost use Rattle.al_base.specs.FaultLists.{fault_list};
 ghost use Rattle.al_session_folder.specs.Kept.{folder_of, referents};
-ghost use Rattle.al_session_folder.specs.Loops as loops;
+ghost use Rattle.al_session_folder.specs.Cycles as cycles;
 ghost use Rattle.al_session_folder.specs.Checked.{AllChecked};
-ghost use Rattle.al_session_folder.specs.Printing.{AreListed, AreLoops, joined_faults};
+ghost use Rattle.al_session_folder.specs.Printing.{AreListed, AreCycleFaults, joined_faults};
 
 use crate::{Files, LinkedFiles, Lint, file_number};
 use al_base::Fault;
@@ -34,17 +34,17 @@ fn put_in_order(faults: &mut Vec<&Fault>)
 fn join_faults<'a>(
     alloc: Global,
     own: &'a [Fault],
-    loops: &'a [Fault],
+    cycle_faults: &'a [Fault],
 ) -> Result<Vec<&'a Fault>, AllocError>
-    ensures { IfOk result (λ joined. referents joined.items ≡ joined_faults own.now loops.now) }
+    ensures { IfOk result (λ joined. referents joined.items ≡ joined_faults own.now cycle_faults.now) }
 {
     let mut joined = Vec::new(alloc);
-    if loops.is_empty() {
+    if cycle_faults.is_empty() {
         return Ok(joined);
     }
     // The file's own faults are sorted, and few come after its first call, so appending the others makes sorting fast.
     add_references(own, &mut joined)?;
-    add_references(loops, &mut joined)?;
+    add_references(cycle_faults, &mut joined)?;
     put_in_order(&mut joined);
     Ok(joined)
 }
@@ -54,18 +54,18 @@ fn join_faults<'a>(
 /// # Errors
 ///
 /// [`AllocError`] if memory runs out.
-pub fn find_loops<L: Lint>(
+pub fn find_cycle_faults<L: Lint>(
     lint: &L,
     alloc: Global,
     linked: &LinkedFiles<'_, L>,
 ) -> Result<Vec<Vec<Fault>>, AllocError>
-    ensures { IfOk result (λ loops. AreLoops L.meaning linked.now loops.items) }
+    ensures { IfOk result (λ all. AreCycleFaults L.meaning linked.now all.items) }
 {
-    let mut loops = Vec::with_capacity(alloc, linked.count())?;
+    let mut all = Vec::with_capacity(alloc, linked.count())?;
     for index in 0..linked.count() {
-        loops.push(linked.loop_faults(lint, alloc, index)?)?;
+        all.push(linked.cycle_faults(lint, alloc, index)?)?;
     }
-    Ok(loops)
+    Ok(all)
 }
 
 /// What a report lists of each file, in order of path, given the faults of calls on a call cycle. Empty for a file without such faults,
@@ -77,28 +77,28 @@ pub fn find_loops<L: Lint>(
 pub fn join_files<'a, L: Lint>(
     alloc: Global,
     files: &'a Files<L::Unit, L::Iface>,
-    loops: &'a [Vec<Fault>],
+    cycle_faults: &'a [Vec<Fault>],
 ) -> Result<Vec<Vec<&'a Fault>>, AllocError>
     requires checked { AllChecked L.meaning (folder_of files.now.entries) files.now.entries }
-    requires loops { AreLoops L.meaning (folder_of files.now.entries) loops.now }
+    requires cycle_faults { AreCycleFaults L.meaning (folder_of files.now.entries) cycle_faults.now }
     ensures { IfOk result (λ joined. AreListed L.meaning files.now.entries joined.items) }
 {
     let mut joined = Vec::with_capacity(alloc, files.len())?;
     for index in 0..files.len() {
         let (_, file) = file_number(files, index);
-        joined.push(join_faults(alloc, &file.faults, &loops[index])?)?;
+        joined.push(join_faults(alloc, &file.faults, &cycle_faults[index])?)?;
     }
     Ok(joined)
 }
 
 /// Whether any file has a call on a call cycle. Doesn't allocate.
-pub fn has_loops<L: Lint>(linked: &LinkedFiles<'_, L>) -> bool
+pub fn has_call_cycles<L: Lint>(linked: &LinkedFiles<'_, L>) -> bool
     ensures { result ≡ list_any
-        (λ x. not (length (loops.loop_faults L.meaning linked.now x.0 x.1.0 x.1.1) == 0))
+        (λ x. not (length (cycles.cycle_faults L.meaning linked.now x.0 x.1.0 x.1.1) == 0))
         (enumerate_from 0 linked.now) }
 {
     for index in 0..linked.count() {
-        if linked.is_on_loop(index) {
+        if linked.has_call_on_cycle(index) {
             return true;
         }
     }

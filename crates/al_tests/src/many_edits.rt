@@ -122,10 +122,10 @@ fn is_of(
 struct Seen {
     reports: u32,
     with_faults: u32,
-    with_loops: u32,
+    with_cycles: u32,
 }
 
-fn is_with_loop(report: &[u8]) -> bool {
+fn is_with_cycle(report: &[u8]) -> bool {
     report
         .windows(10)
         .any(|window| window == b"leads back".as_slice())
@@ -136,8 +136,8 @@ fn see(seen: &mut Seen, report: &(u8, Vec<u8>)) {
     if report.0 == 1 {
         seen.with_faults = seen.with_faults.saturating_add(1);
     }
-    if is_with_loop(&report.1) {
-        seen.with_loops = seen.with_loops.saturating_add(1);
+    if is_with_cycle(&report.1) {
+        seen.with_cycles = seen.with_cycles.saturating_add(1);
     }
 }
 
@@ -181,7 +181,7 @@ fn follows(
     let mut seen = Seen {
         reports: 0,
         with_faults: 0,
-        with_loops: 0,
+        with_cycles: 0,
     };
     let mut number = 1;
     for _ in 0..edits {
@@ -202,7 +202,7 @@ fn follows_anew(alloc: Global, edits: u32) -> Result<Option<Seen>, Stop> {
 fn two_hundred_edits(rt: HostRuntime) -> Result<(), Stop> {
     match follows_anew(rt.alloc(), 200)? {
         Some(seen) => {
-            assert!(rt; seen.reports == 200 && seen.with_faults >= 100 && seen.with_loops >= 20);
+            assert!(rt; seen.reports == 200 && seen.with_faults >= 100 && seen.with_cycles >= 20);
         }
         None => panic!(rt; "a wrong report"),
     }

@@ -130,7 +130,7 @@ fn calls_are_answered(rt: HostRuntime) -> Result<(), Stop> {
 
 const LATER_ABSENT: &[u8] = b"b.toy:1:1: unexpected key \"c.toy\" [syntax-check]\n";
 
-const LOOP: &[u8] = b"a.toy:1:1: call of \"b.toy\" leads back to this file [workflow-call]
+const CYCLE: &[u8] = b"a.toy:1:1: call of \"b.toy\" leads back to this file [workflow-call]
 b.toy:1:1: call of \"c.toy\" leads back to this file [workflow-call]
 c.toy:1:1: call of \"a.toy\" leads back to this file [workflow-call]
 ";
@@ -152,17 +152,17 @@ static CHAIN: [Step; 3] = [
 static RING: [Step; 1] = [(
     Change::Put("c.toy", b"need a.toy\nhave x"),
     &["c.toy"],
-    LOOP,
+    CYCLE,
 )];
 
-// A file of the loop that calls what it called, a call into the loop, and a file of the loop that goes.
+// A file of a call cycle that calls what it called, a call into the cycle, and a file of the cycle that is deleted.
 static BESIDE_THE_RING: [Step; 3] = [
     (
         Change::Put("c.toy", b"need a.toy\nhave x\n# e"),
         &["c.toy"],
-        LOOP,
+        CYCLE,
     ),
-    (Change::Put("d/a.toy", b"need a.toy"), &["d/a.toy"], LOOP),
+    (Change::Put("d/a.toy", b"need a.toy"), &["d/a.toy"], CYCLE),
     (Change::Delete("b.toy"), &["a.toy"], ABSENT),
 ];
 
@@ -186,7 +186,7 @@ fn is_faultless(session: &Session<Toy>, path: &str) -> bool {
     }
 }
 
-// Whether a loop is told as it closes, which moves no file's own faults.
+// Whether a call cycle is reported when it closes, which changes no file's own faults.
 fn tells_of_the_ring(alloc: Global, session: &mut Session<Toy>) -> Result<bool, Stop> {
     Ok(
         follows(alloc, session, ring())?
@@ -196,7 +196,7 @@ fn tells_of_the_ring(alloc: Global, session: &mut Session<Toy>) -> Result<bool, 
     )
 }
 
-fn tells_loops(alloc: Global, session: &mut Session<Toy>) -> Result<bool, Stop> {
+fn finds_call_cycles(alloc: Global, session: &mut Session<Toy>) -> Result<bool, Stop> {
     Ok(
         follows(alloc, session, chain())?
             && status(session)? == 0
@@ -205,14 +205,14 @@ fn tells_loops(alloc: Global, session: &mut Session<Toy>) -> Result<bool, Stop> 
     )
 }
 
-fn tells_loops_anew(alloc: Global) -> Result<bool, Stop> {
+fn finds_call_cycles_anew(alloc: Global) -> Result<bool, Stop> {
     let mut session = open(alloc);
-    tells_loops(alloc, &mut session)
+    finds_call_cycles(alloc, &mut session)
 }
 
 #[test]
 fn loops_are_told(rt: HostRuntime) -> Result<(), Stop> {
-    assert!(rt; tells_loops_anew(rt.alloc())?);
+    assert!(rt; finds_call_cycles_anew(rt.alloc())?);
     Ok(())
 }
 
@@ -395,7 +395,7 @@ fn files_that_stopped_calling_are_not_checked(rt: HostRuntime) -> Result<(), Sto
     Ok(())
 }
 
-const OWN_LOOP: &[u8] = b"r.toy:1:1: call of \"r.toy\" leads back to this file [workflow-call]\n";
+const OWN_CYCLE: &[u8] = b"r.toy:1:1: call of \"r.toy\" leads back to this file [workflow-call]\n";
 
 const OWN_CALL: &[u8] = b"r.toy:1:1: wrong kind of value for \"r.toy\" [syntax-check]
 r.toy:1:1: call of \"r.toy\" leads back to this file [workflow-call]
@@ -405,7 +405,7 @@ static CALLS_ITSELF: [Step; 3] = [
     (
         Change::Put("r.toy", b"need r.toy\nhave x"),
         &["r.toy"],
-        OWN_LOOP,
+        OWN_CYCLE,
     ),
     (Change::Put("r.toy", b"need r.toy"), &["r.toy"], OWN_CALL),
     (Change::Delete("r.toy"), &[], b""),

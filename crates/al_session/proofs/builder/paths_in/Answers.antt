@@ -7,7 +7,7 @@ use Rattle.std.proofs.lemmas.List.{map_more, take_all}
 use Rattle.std.proofs.lemmas.Option.{get_or_from_slice_get, slice_get_within}
 use Rattle.al_session_folder.specs.declared.kept.KeptFile.{KeptFile}
 use Rattle.al_session_folder.proofs.Places.{paths_of-folder_of}
-use Rattle.al_session_folder.proofs.Looping.{kept_number}
+use Rattle.al_session_folder.proofs.CallCycles.{kept_number}
 use Rattle.al_session.proofs.builder.paths_in.Goals as goal
 
 pub owned_path-requires : goal.owned_path-requires

@@ -7,7 +7,7 @@ use Rattle.std.proofs.lemmas.List.FromFn.{length-enumerate_from}
 use Rattle.al_base.proofs.Bytes.{Appends-next, AppendsPrefix-next}
 use Rattle.al_session_folder.specs.Kept.{folder_of}
 use Rattle.al_session_folder.specs.declared.kept.KeptFile.{KeptFile}
-use Rattle.al_session_folder.proofs.Looping.{numbered_read}
+use Rattle.al_session_folder.proofs.CallCycles.{numbered_read}
 use Rattle.al_session_folder.specs.Printing.{numbered_lines}
 use Rattle.al_session_folder.proofs.report.write_files.Goals as goal
 
