@@ -41,7 +41,7 @@ syntax number = row number "syntax-check"
 abbrev pub expression : ℕ → Text → Text → Text → CodeRow
 expression number = row number "expression"
 
--- of faults with one number, a job's come before a step's
+-- of faults with the same number, a job's come before a step's
 abbrev pub turn : Caller → ℕ
 turn caller.Job = 0
 turn caller.Step = 1

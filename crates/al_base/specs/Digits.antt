@@ -1,9 +1,9 @@
--- The number that decimal digits are.
+-- The number that is written in decimal digits.
 use Rattle.std.specs.Prelude.{ℕ, ◌-◌, List, map}
 use Rattle.std.specs.Int.Digits.{number_from_digits}
 use Rattle.al_base.specs.Ascii.{ascii}
 
--- what a digit stands for
+-- the value of a digit
 abbrev pub digit_of : ℕ → ℕ
 digit_of b = b - ascii "0"
 

@@ -13,11 +13,11 @@ most_files = 4096
 abbrev pub longest_path : ℕ
 longest_path = 1024
 
--- The most nodes of a file, those behind aliases counted at each alias.
+-- The most nodes of a file, where each alias counts as all nodes in the node that it refers to.
 abbrev pub most_nodes : ℕ
 most_nodes = 100000
 
--- The most bytes of a file's texts behind aliases.
+-- The most bytes of text in the nodes that a file's aliases refer to.
 abbrev pub most_alias_text : ℕ
 most_alias_text = 1048576
 
@@ -29,7 +29,7 @@ deepest_collection = 64
 abbrev pub longest_key : ℕ
 longest_key = 1024
 
--- The most bytes of a text that may have expressions; no file gives a longer one.
+-- The most bytes of a text that may have expressions; no file has a longer one.
 abbrev pub longest_text : ℕ
 longest_text = 4194304
 

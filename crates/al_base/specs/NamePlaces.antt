@@ -37,6 +37,6 @@ is_first_text p = is_own p.places.items
 unfoldable pub is_first_name : NamePositions → ℕ → Bool
 is_first_name p = is_own p.places.items
 
--- a test tells which positions of a list have the first occurrence of their text, by where texts are found
+-- first is true of a position of the list exactly if place finds the text there at this position
 abbrev pub TellsFirsts : (List ℕ → Option ℕ) → List (List ℕ) → (ℕ → Bool) → Type 0
 TellsFirsts place ts first = (i : ℕ) → i < length ts → first i ≡ option_eq nat_eq (place (slice_index_or ts i [])) (Some i)

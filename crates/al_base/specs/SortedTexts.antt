@@ -22,7 +22,7 @@ sort_key text = (tail_number text, text)
 abbrev pub key_cmp : Key → Key → Ordering
 key_cmp a b = ordering_then (nat_cmp a.0 b.0) (slice_cmp nat_cmp a.1 b.1)
 
--- whether a list of first positions has a position at that position itself
+-- whether a list of first positions has i at index i
 abbrev pub is_own : List ℕ → ℕ → Bool
 is_own places i = nat_lt i (length places) && nat_eq (slice_index places i) i
 
@@ -53,6 +53,6 @@ module _ {T : Type 0} (bytes : T → List ℕ) where
   abbrev pub StandIn : List (Entry T) → Type 0
   StandIn es = (ts : List (List ℕ)) × (length ts ≡ length es) × AreOf ts es
 
-  -- numbers that tell the first position of the text at each position
+  -- places has, at the position of each entry, the position in the first entry with its text
   abbrev pub TellPlaces : List (Entry T) → List ℕ → Type 0
   TellPlaces es places = (length places ≡ length es) × All (λ e. place_of es e ≡ Some (slice_index places e.position)) es

@@ -5,7 +5,7 @@ use Rattle.al_base.specs.Counted.{AppendsPrefix}
 use Rattle.al_base.specs.declared.streams.Input.{Input}
 use Rattle.al_base.specs.declared.streams.Output.{Output}
 
--- the bytes that reads will give from here on, if the reader tells them
+-- the bytes that are still to be read, if the reader knows them
 abbrev pub bytes_left : {R : Type 0} → (R → Option (List ℕ)) → Input R → Option (List ℕ)
 bytes_left remaining input = remaining input.inner
 
@@ -21,7 +21,7 @@ read_failures input = input.failures
 abbrev pub largest_ask : {R : Type 0} → Input R → ℕ
 largest_ask input = input.largest_ask
 
--- the bytes written so far, if the writer tells them
+-- the bytes written so far, if the writer knows them
 abbrev pub bytes_written : {W : Type 0} → (W → Option (List ℕ)) → Output W → Option (List ℕ)
 bytes_written contents output = contents output.inner
 

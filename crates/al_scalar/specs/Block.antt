@@ -17,13 +17,13 @@ is_digit b = nat_le 49 b && nat_le b 57
 abbrev pub chomping_of : ℕ → Chomping
 chomping_of b = if b == ascii "+" then Keep else Strip
 
--- Behind the indicators only blanks, and a comment after a blank.
+-- After the indicators, only blanks and, after a blank, a comment.
 abbrev pub header_end : Header → List Cell → Result Header FaultAt
 header_end h cs =
     if is_empty (after_blanks cs) || (begins_blank cs && is_comment cs) then Ok h
     else fault yaml.WrongBlockHeader (place (after_blanks cs) 0)
 
--- The header from behind these indicators, whose end is at: a digit and a sign, each at most once and in either order.
+-- The header after the indicators read so far, which end at this offset: a digit and a sign, each at most once and in either order.
 abbrev pub header : Option ℕ → Option Chomping → ℕ → List Cell → Result Header FaultAt
 header digit sign at [] = header_end (record { digit = digit; chomping = unwrap_or sign Clip; end = at }) []
 header digit sign at (c ∷ cs) =
@@ -32,7 +32,7 @@ header digit sign at (c ∷ cs) =
     else header_end (record { digit = digit; chomping = unwrap_or sign Clip; end = at }) (c ∷ cs))
 
 -- The content indent (8.1.1.1): what the digit says, or the indent of the first line that isn't all blanks, if it
--- is at least within; None where there is no content.
+-- is at least within; None if there is no content.
 abbrev pub found_indent : ℕ → List Line → Option ℕ
 found_indent within [] = None
 found_indent within (l ∷ ls) =
@@ -44,12 +44,12 @@ abbrev pub content_indent : Option ℕ → ℕ → List Line → Option ℕ
 content_indent (Some d) within ls = Some (d + (within - 1))
 content_indent None within ls = found_indent within ls
 
--- A line of the scalar: its text behind the indent, and its break.
+-- A line of the scalar: its text after the indent, and its break.
 pub record BlockLine : Type 0 where
   pub text : List Cell
   pub break : List ℕ
 
--- The row that a line is, None where it ends the scalar. found says that the line that gave the indent has come.
+-- The text of a line after the indent, or None if the line ends the scalar. found says that the digit or an earlier line set the indent.
 abbrev pub row_of : Option ℕ → Bool → List Cell → Option (List Cell)
 row_of None found text = if is_all_blank text then Some [] else None
 row_of (Some m) found text =
@@ -57,7 +57,7 @@ row_of (Some m) found text =
     else (if nat_le m (indent text) then Some (drop m text)
     else (if is_all_blank text then Some [] else None))
 
--- The rows, and the lines left. The last line is no row unless it has text, and nothing is left behind it but the file's end.
+-- The rows, and the lines left. After the file's last line only the file's end is left.
 pub record Rows : Type 0 where
   pub rows : List BlockLine
   pub left : List Line
@@ -78,7 +78,7 @@ rows_at m found (l ∷ ls) =
           else with_row (record { text = text; break = l.end ∷ [] }) below)
     ]
 
--- The breaks that stay at the end (8.1.1.2): of the last line with text, and of the empty lines behind it.
+-- The breaks that are kept at the end (8.1.1.2): that of the last line with text, and those of the empty lines after it.
 abbrev pub final_breaks : Chomping → List ℕ → List ℕ → List Cell
 final_breaks Strip own empties = []
 final_breaks Clip own empties = feeds own
@@ -87,20 +87,20 @@ final_breaks Keep own empties = feeds (own ++ empties)
 abbrev pub own_break : Option BlockLine → List ℕ
 own_break last = option_map_or (λ r. r.break) last []
 
--- Between two lines that begin with no blank the break is folded (8.1.3).
+-- The break between two lines that don't begin with a blank is folded (8.1.3).
 abbrev pub between_rows : List ℕ → List ℕ → List Cell
 between_rows [] empties = feeds empties
 between_rows (at ∷ ats) empties = folded_break at empties
 
--- What the breaks between the last line with text, if there is one, and the next one give: all of them in literal
--- style (8.1.2), beside a line that begins with a blank, and before the first line with text.
+-- The text of the breaks between the last line with text, if there is one, and the next one: all of them are kept in literal
+-- style (8.1.2), next to a line that begins with a blank, and before the first line with text.
 abbrev pub joint : Bool → Option BlockLine → List ℕ → BlockLine → List Cell
 joint is_literal None empties next = feeds empties
 joint is_literal (Some r) empties next =
     if is_literal || begins_blank r.text || begins_blank next.text then feeds (r.break ++ empties)
     else between_rows r.break empties
 
--- The text of rows behind the last line with text; empties are the breaks of the empty lines since.
+-- The text of the rows after the last line with text; empties are the breaks of the empty lines since then.
 abbrev pub text_after : Bool → Chomping → Option BlockLine → List ℕ → List BlockLine → List Cell
 text_after is_literal k last empties [] = final_breaks k (own_break last) empties
 text_after is_literal k last empties (r ∷ rs) =
@@ -112,7 +112,7 @@ abbrev pub last_end : List Cell → ℕ → ℕ
 last_end [] at = at
 last_end (c ∷ cs) at = last_end cs (c.1 + 1)
 
--- the end of the last line's text that isn't empty
+-- the end of the last text that isn't empty
 abbrev pub rows_end : ℕ → List BlockLine → ℕ
 rows_end at [] = at
 rows_end at (r ∷ rs) = rows_end (last_end r.text at) rs

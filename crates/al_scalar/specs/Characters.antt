@@ -4,7 +4,7 @@ use Rattle.std.specs.List.{prefix_len}
 use Rattle.al_base.specs.Positions.{begins_char}
 use Rattle.al_base.specs.declared.faults.Span.{Span}
 
--- how many bytes the first character has; nothing stands at the file's end
+-- how many bytes the first character has; 0 at the file's end
 abbrev pub character_length : List ℕ → ℕ
 character_length [] = 0
 character_length (b ∷ bs) = 1 + prefix_len (λ byte. not (begins_char byte)) bs

@@ -38,11 +38,11 @@ abbrev pub are_digits : Base → List ℕ → Bool
 are_digits base [] = false
 are_digits base (b ∷ bs) = list_all (is_digit_in base) (b ∷ bs)
 
--- behind [0-9]*
+-- after [0-9]*
 abbrev pub after_digits : List ℕ → List ℕ
 after_digits bs = drop (prefix_len is_ascii_digit bs) bs
 
--- behind [-+]?
+-- after [-+]?
 abbrev pub without_sign : List ℕ → List ℕ
 without_sign bs = if first_is is_sign bs then drop 1 bs else bs
 

@@ -5,7 +5,7 @@ use Rattle.al_base.specs.Ascii.{ascii}
 use Rattle.al_scalar.specs.Line.{Cell, Line, cut, is_all_blank}
 use Rattle.al_scalar.specs.Places.{first_end, lines_at, text_at}
 
--- so many bytes from an offset on, with their offsets
+-- n bytes from an offset on, with their offsets
 abbrev pub cells_at : List ℕ → ℕ → ℕ → List Cell
 cells_at bytes i zero = []
 cells_at bytes i (suc n) = (slice_index bytes i, i) ∷ cells_at bytes (suc i) n
@@ -32,13 +32,13 @@ pub record SameLine (xs ys : List Line) : Type 0 where
   pub last : first_last xs ≡ first_last ys
   pub later : later xs ≡ later ys
 
--- an offset further on in the same line
+-- an offset at or after another one in the same line
 pub record OnLine (bytes : List ℕ) (at to : ℕ) : Type 0 where
   pub from : at ≤ to
   pub inside : to ≤ length bytes
   pub same : SameLine (lines_at bytes at) (lines_at bytes to)
 
--- a line that has no text left and a break at an offset
+-- a line with no text left, and with a break at an offset
 abbrev pub broken_line : ℕ → Line
 broken_line at = record { text = []; end = at; last = false }
 
@@ -65,12 +65,12 @@ IsLineEnd bytes at = at < length bytes → IsBreakByte (slice_index bytes at)
 abbrev pub IsBreakAt : List ℕ → ℕ → Type 0
 IsBreakAt bytes at = (at < length bytes) × IsBreakByte (slice_index bytes at)
 
--- the end of a line of which only blanks are left
+-- the end of a line, if only blanks are left of it
 abbrev pub BlankTo : List ℕ → ℕ → Option ℕ → Type 0
 BlankTo bytes at None = is_all_blank (text_at bytes at) ≡ false
 BlankTo bytes at (Some end) = (is_all_blank (text_at bytes at) ≡ true) × IsLineEnd bytes end × OnLine bytes at end
 
--- the first byte of what is left of a line
+-- the first byte of the rest of a line
 abbrev pub FirstByte : List ℕ → ℕ → Option ℕ → Type 0
 FirstByte bytes at None = text_at bytes at ≡ []
 FirstByte bytes at (Some b) = (text_at bytes at ≡ (b, at) ∷ text_at bytes (at + 1)) × OnLine bytes at (at + 1)

@@ -26,21 +26,21 @@ abbrev pub begins_flow_indicator : List Cell → Bool
 begins_flow_indicator [] = false
 begins_flow_indicator (c ∷ cs) = is_flow_indicator c.0
 
--- what may stand after a colon that parts a key from its value
+-- what may follow the colon between a key and its value
 abbrev pub ends_key : Context → List Cell → Bool
 ends_key p cs = is_blank_or_end cs || (is_flow p && begins_flow_indicator cs)
 
--- a colon that parts a key from its value
+-- the colon between a key and its value
 abbrev pub is_value_colon : Context → List Cell → Bool
 is_value_colon p [] = false
 is_value_colon p (c ∷ cs) = (c.0 == ascii ":") && ends_key p cs
 
--- The scalar ends before these cells; after_blank says that a blank or a break stands before them.
+-- Whether the scalar ends before these cells; after_blank says whether a blank or a break is before them.
 abbrev pub ends_plain : Context → Bool → List Cell → Bool
 ends_plain p after_blank cs = is_empty cs || is_value_colon p cs || (begins (ascii "#") cs && after_blank)
     || (is_flow p && begins_flow_indicator cs)
 
--- A part of a line: the cells of the scalar without trailing blanks, and the cells behind them.
+-- A part of a line: the cells of the scalar without trailing blanks, and the cells after them.
 abbrev pub plain_part : Context → Bool → List Cell → List Cell × List Cell
 plain_part p after_blank [] = ([], [])
 plain_part p after_blank (c ∷ cs) =
@@ -53,12 +53,12 @@ abbrev pub continues : Context → List Cell → Bool
 continues flow text = not (ends_plain flow true (after_blanks text))
 continues (block within) text = nat_le within (indent text) && not (is_comment text) && not (is_document_marker text)
 
--- what was read of a scalar up to where what is left of a line begins
+-- a scalar that ends before the rest of a line, without its text
 abbrev pub ended_before : List Cell → Line → List Line → Taken
 ended_before rest l ls = record { text = []; end = place rest l.end; left = cut rest l ls }
 
--- The lines after a part of the scalar that ended its line with a break: what they add, folded, and where the scalar
--- ends. Empty lines belong to it only if a line that continues it follows; empties are the breaks of those since.
+-- The lines after a part of the scalar that ends with a break: their text, folded, and where the scalar ends. Empty lines
+-- belong to it only if a line that continues it follows; empties are the breaks of the empty lines since then.
 abbrev pub plain_lines : Context → Taken → ℕ → List ℕ → List Line → Result Taken FaultAt
 plain_lines p here break empties [] = Ok here
 plain_lines p here break empties (l ∷ ls) =

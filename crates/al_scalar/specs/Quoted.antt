@@ -10,8 +10,8 @@ use Rattle.al_scalar.specs.Line.{Cell, Line, cut, is_blank, after_blanks, is_emp
 use Rattle.al_scalar.specs.Taken.{Taken, ◌>>=◌, before, fault, folding_space}
 use Rattle.al_scalar.specs.declared.faults.FaultAt.{FaultAt}
 
--- How a quoted scalar leaves a line: it is closed, with the cells behind the quote; it goes on after the break;
--- it goes on after an escaped break; or the line ends within the escape at a place.
+-- How a line of a quoted scalar ends: at the closing quote, with the offset and the cells after it; at a break;
+-- at an escaped break; or within the escape at an offset.
 pub data QuotedEnd : Type 0 where
   closed : ℕ → List Cell → QuotedEnd
   broken escaped : QuotedEnd
@@ -29,15 +29,15 @@ is_broken _ = false
 abbrev pub with_cells : List Cell → QuotedLine → QuotedLine
 with_cells cs p = record { text = cs ++ p.text; stop = p.stop }
 
--- A cell that stands for itself. A blank before a break goes.
+-- A cell that isn't escaped. A blank before a break is dropped.
 abbrev pub with_own : Cell → QuotedLine → QuotedLine
 with_own c p = if is_blank c && is_empty p.text && is_broken p.stop then p else with_cells (c ∷ []) p
 
--- a quote that closes, and the cells behind it
+-- the closing quote, and the cells after it
 abbrev pub closed_by : Cell → List Cell → QuotedLine
 closed_by c cs = record { text = []; stop = closed (c.1 + 1) cs }
 
--- Single quotes: two quotes are a quote.
+-- Single quotes: `''` is a quote.
 abbrev pub single_part : List Cell → QuotedLine
 single_part [] = record { text = []; stop = broken }
 single_part (c ∷ []) = if c.0 == ascii "'" then closed_by c [] else with_own c (single_part [])
@@ -61,7 +61,7 @@ hex_digit b = if nat_lt (digit_value b) 16 then Some (digit_value b) else None
 abbrev pub is_scalar_value : ℕ → Bool
 is_scalar_value c = nat_lt c 0xd800 || (nat_le 0xe000 c && nat_lt c 0x110000)
 
--- the bytes of a character, all from one offset
+-- the bytes of a character, all with one offset
 abbrev pub character_cells : ℕ → ℕ → List Cell
 character_cells at code = map (λ b. (b, at)) (encode_utf8 code)
 
@@ -71,7 +71,7 @@ part_before cs part = part >>= (λ p. Ok (with_cells cs p))
 abbrev pub own_before : Cell → Result QuotedLine FaultAt → Result QuotedLine FaultAt
 own_before c part = part >>= (λ p. Ok (with_own c p))
 
--- the character that an escape gives by its number, and what stands behind it
+-- the character with the code point of an escape, and what follows the escape
 abbrev pub escape_character : ℕ → ℕ → Result QuotedLine FaultAt → Result QuotedLine FaultAt
 escape_character at code behind = if is_scalar_value code then part_before (character_cells at code) behind else fault yaml.WrongEscape at
 
@@ -84,7 +84,7 @@ abbrev mutual
       else if c.0 == ascii "\\" then escape c.1 cs
       else own_before c (double_part cs)
 
-  -- behind the backslash of an escape, which stands at an offset
+  -- an escape, from after its backslash, which is at this offset
   pub escape : ℕ → List Cell → Result QuotedLine FaultAt
   escape at [] = Ok (record { text = []; stop = escaped })
   escape at (c ∷ cs) =
@@ -96,7 +96,7 @@ abbrev mutual
         ]
       ]
 
-  -- a digit of an escape behind those that make a value, and so many more
+  -- the next digit of an escape, where the digits before it have this value and so many follow it
   pub escape_digits : ℕ → ℕ → ℕ → List Cell → Result QuotedLine FaultAt
   escape_digits at more value [] = Ok (record { text = []; stop = cut_short at })
   escape_digits at zero value (c ∷ cs) =
@@ -107,7 +107,7 @@ abbrev mutual
   escape_digits at (suc n) value (c ∷ cs) =
       elim (hex_digit c.0) [ None ↦ fault yaml.WrongEscape at | Some d ↦ escape_digits at n (16 * value + d) cs ]
 
--- What a line gives, by how the scalar leaves it; its break is folded unless it is escaped. quote is the opening quote.
+-- The result at a line, by how it ends; its break is folded unless it is escaped. quote is the offset of the opening quote.
 abbrev pub line_given : ℕ → List Cell → QuotedLine → Line → List Line → (Option ℕ → Result Taken FaultAt) → Result Taken FaultAt
 line_given quote space p l ls below =
     elim p.stop [
@@ -120,7 +120,7 @@ line_given quote space p l ls below =
 abbrev pub is_empty_line : QuotedLine → Line → Bool
 is_empty_line p l = is_empty p.text && is_broken p.stop && not l.last
 
--- The lines after the first: leading blanks go, an empty line gives an LF and no space stays before it.
+-- The lines after the first: leading blanks are dropped, an empty line is folded to an LF, and no space is left before it.
 abbrev pub quoted_lines : (List Cell → Result QuotedLine FaultAt) → ℕ → Option ℕ → List Line → Result Taken FaultAt
 quoted_lines part quote break [] = fault yaml.UnclosedQuote quote
 quoted_lines part quote break (l ∷ ls) =
@@ -129,7 +129,7 @@ quoted_lines part quote break (l ∷ ls) =
     if is_empty_line p l then before ((ascii "\n", l.end) ∷ []) (below None)
     else line_given quote (folding_space break) p l ls below)
 
--- a quoted scalar, from behind its opening quote
+-- a quoted scalar, from after its opening quote
 abbrev pub quoted_scalar : (List Cell → Result QuotedLine FaultAt) → ℕ → List Line → Result Taken FaultAt
 quoted_scalar part quote [] = fault yaml.UnclosedQuote quote
 quoted_scalar part quote (l ∷ ls) = part l.text >>= (λ p. line_given quote [] p l ls (λ b. quoted_lines part quote b ls))

@@ -20,7 +20,7 @@ reading_at places.Empty ls = Ok (value.empty_at ls)
 abbrev pub read_of : List ℕ → ScalarRead → value.ScalarRead
 read_of bytes r = record { scalar = r.scalar; span = r.span; left = lines_at bytes r.next }
 
--- a fault with a span, as the definitions tell it: by the character that it is at
+-- a fault as the definitions have it: its code and where its span starts
 abbrev pub placed_fault : YamlFault → FaultAt
 placed_fault f = record { code = f.code; at = f.span.start }
 
@@ -29,7 +29,7 @@ GivesScalar bytes at place (Ok r) = reading_at place (lines_at bytes at) ≡ Ok 
 GivesScalar bytes at place (Err f) =
     (reading_at place (lines_at bytes at) ≡ Err (placed_fault f)) × (f.span ≡ character_at bytes f.span.start)
 
--- the scalar begins at the offset, and ends before what is left, within the file; a fault is not before it
+-- the scalar begins at the offset and ends no later than the next one to read, which is in the file; a fault isn't before the offset
 abbrev pub LiesBehind : List ℕ → ℕ → Result ScalarRead YamlFault → Type 0
 LiesBehind bytes at (Ok r) = (r.span.start ≡ at) × (at ≤ r.span.end) × (r.span.end ≤ r.next) × (r.next ≤ length bytes)
 LiesBehind bytes at (Err f) = (at ≤ f.span.start) × (f.span.start ≤ length bytes)

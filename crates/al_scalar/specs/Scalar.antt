@@ -16,20 +16,20 @@ use Rattle.al_scalar.specs.declared.styles.Class.TheVariants as class
 use Rattle.al_base.specs.Spans.{span}
 use Rattle.al_base.specs.declared.faults.Span.{Span}
 
--- the end is that of the written form, where `locate` is at the length of the text
+-- the end is that of the written form, which `locate` returns for the length of the text
 pub record Scalar : Type 0 where
   pub style : Style
   pub class : Class
   pub cells : List Cell
   pub end : ℕ
 
--- what reading a scalar gives: the span of its written form, and the lines left
+-- a scalar that was read, the span of its written form, and the lines left
 pub record ScalarRead : Type 0 where
   pub scalar : Scalar
   pub span : Span
   pub left : List Line
 
--- only a plain scalar has a class of its own (10.3.2)
+-- the class of a plain scalar is that of its text; all others are strings (10.3.2)
 abbrev pub class_in : Style → List Cell → Class
 class_in style.Plain cs = class_of (map (λ (c : Cell). c.0) cs)
 class_in _ cs = class.Str
@@ -41,7 +41,7 @@ read_as style at taken = taken >>= (λ t. Ok (record {
   left = t.left;
 }))
 
--- The first character says the style (7.3.1, 7.3.2, 8.1); block scalars stand in no flow collection.
+-- The first character determines the style (7.3.1, 7.3.2, 8.1); there are no block scalars in flow collections.
 abbrev pub style_at : Context → List Cell → Style
 style_at p text =
     if begins (ascii "'") text then style.SingleQuoted
@@ -54,7 +54,7 @@ abbrev pub within_of : Context → ℕ
 within_of flow = 0
 within_of (block within) = within
 
--- the lines behind their first character
+-- the lines after their first character
 abbrev pub after_first : List Line → List Line
 after_first [] = []
 after_first (l ∷ ls) = cut (drop 1 l.text) l ls
@@ -81,7 +81,7 @@ empty_scalar at = record { style = style.Plain; class = class.Null; cells = []; 
 abbrev pub empty_at : List Line → ScalarRead
 empty_at ls = record { scalar = empty_scalar (start ls); span = span (start ls) (start ls); left = ls }
 
--- the offset of cell i, and an end behind the last one
+-- the offset of cell i, or the end if there are no more cells
 abbrev pub offset_or : List Cell → ℕ → ℕ → ℕ
 offset_or cs end i = slice_index_or (map (λ (c : Cell). c.1) cs) i end
 
