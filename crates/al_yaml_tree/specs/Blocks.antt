@@ -14,23 +14,23 @@ use Rattle.al_yaml_tree.specs.Content.{block_fault, unless_code, is_flow_start, 
 use Rattle.al_yaml_tree.specs.Flow.{CollectionReader, empty_node, property, flow_collection}
 use Rattle.al_yaml_tree.specs.Keys.{Key, key_here, has_colon, is_block_start, is_on_key, no_entry, entry_key}
 
--- Where a node begins: on a line of its own; behind a dash, an anchor or both, with the first tab before it; behind a
--- key on its line.
+-- Where a node begins: on a line of its own; after a dash, an anchor or both, with the offset of the first tab before it;
+-- after a key on its line.
 pub data Spot : Type 0 where
   own_line : Spot
   compact : Option ℕ → Spot
   behind_key : Spot
 
 -- What surrounds a node: its spot; the least indent of its further lines, one more than that of the enclosing
--- collection and 0 at the root; whether it is the value of a mapping's entry; where an empty node would stand in its
--- place.
+-- collection and 0 at the root; whether it is the value of a mapping's entry; the offset of the empty node that
+-- takes its place if there is none.
 pub record Slot : Type 0 where
   pub spot : Spot
   pub within : ℕ
   pub in_mapping : Bool
   pub empty : ℕ
 
--- Reads the node of this depth at the first character, which stands in this column.
+-- Reads the node of this depth at the first character, which is in this column.
 abbrev pub BlockReader : Type 0
 BlockReader = Slot → ℕ → ℕ → List Line → Reading (Part Node)
 
@@ -47,7 +47,7 @@ abbrev pub unless_tab : {A : Type 0} → Option ℕ → Reading A → Reading A
 unless_tab (Some at) r = fails yaml.TabInIndentation at
 unless_tab None r = r
 
--- the spot behind blanks on the line
+-- the spot after blanks on the line
 abbrev pub spot_behind : List Cell → Spot → Spot
 spot_behind text own_line = compact (tab_among text)
 spot_behind text (compact None) = compact (tab_among text)
@@ -68,15 +68,15 @@ node_below node slot depth ls = do
   found ← of_result (content ls)
   node_found node slot depth ls found
 
--- The node behind a dash, a colon or an anchor; the column is that of ls, of which rest is left.
+-- The node after a dash, a colon or an anchor; the column is that of ls, of which rest is left.
 abbrev pub rest_node : BlockReader → Slot → ℕ → ℕ → List Line → List Line → Reading (Part Node)
 rest_node node slot depth column ls rest =
     let left = blanks_dropped rest in
     if is_skipped (first_text rest) then node_below node slot depth (whole_lines rest)
     else node (record slot { spot = spot_behind (first_text rest) slot.spot }) depth (column + characters (start left) (first_text ls)) left
 
--- The rest of a collection in the column, given what was read of it so far: more reads from its next line on, and a line with less indent
--- closes it.
+-- The rest of a collection in the column, given what was read of it so far: more reads from its next line on, and a line with less
+-- indent closes it.
 abbrev pub rest_found : {A : Type 0} → ℕ → Part A → (Part A → List Line → Reading (Part A)) → Next → Reading (Part A)
 rest_found column done more ended = gives done
 rest_found column done more (at_line i left) = if i == column then more done left
@@ -87,11 +87,11 @@ rest_below column done more = do
   found ← of_result (content done.left)
   rest_found column done more found
 
--- An entry of a sequence (8.2.1): what stands behind its dash.
+-- The slot of a sequence's entry (8.2.1), after its dash.
 abbrev pub entry_slot : ℕ → ℕ → Slot
 entry_slot column at = record { spot = compact None; within = column + 1; in_mapping = false; empty = at }
 
--- The entries of a sequence behind those done, from a dash on. A line at its indent that has no dash closes it if it is the value of a
+-- The entries of a sequence after those done, from a dash on. A line at its indent that has no dash closes it if it is the value of a
 -- mapping's entry. turns bounds their number.
 unfoldable pub sequence_entries : BlockReader → CollectionReader → ℕ → Bool → ℕ → ℕ → Nodes → List Line → Reading (Part Nodes)
 sequence_entries node collection zero in_mapping column depth done ls = fails yaml.UnexpectedCharacter 0
@@ -101,11 +101,11 @@ sequence_entries node collection (suc turns) in_mapping column depth done ls = d
       if is_dash (first_text left) then sequence_entries node collection turns in_mapping column depth now.value left
       else (if in_mapping then gives now else no_entry collection depth left))
 
--- A value (8.2.2): what stands behind its key's colon.
+-- The slot of a value (8.2.2), after its key's colon.
 abbrev pub value_slot : ℕ → ℕ → Slot
 value_slot column at = record { spot = behind_key; within = column + 1; in_mapping = true; empty = at }
 
--- The entries of a mapping behind those done, from behind a key on.
+-- The entries of a mapping after those done, from the end of a key on.
 unfoldable pub mapping_entries : BlockReader → CollectionReader → ℕ → ℕ → ℕ → Entries → Key → Reading (Part Entries)
 mapping_entries node collection zero column depth done key = fails yaml.UnexpectedCharacter 0
 mapping_entries node collection (suc turns) column depth done key = do
@@ -113,20 +113,20 @@ mapping_entries node collection (suc turns) column depth done key = do
   rest_below column (part (with_entry done (scalar_node key.scalar) x.value) x.end x.left) (λ now left.
       entry_key collection depth left >>= (λ k. mapping_entries node collection turns column depth now.value k))
 
--- a node behind which nothing else stands on its line, and the whole lines left
+-- a node with nothing after it on its line, and the whole lines left
 abbrev pub ending_line : Part Node → Reading (Part Node)
 ending_line x = do
   left ← of_result (line_ended x.left)
   gives (part x.value x.end left)
 
--- A scalar, and the whole lines behind its line; a block scalar ends with its last line.
+-- A scalar, and the whole lines after its line; a block scalar ends with its last line.
 abbrev pub scalar_node_at : ℕ → List Line → Reading (Part Node)
 scalar_node_at within ls =
     starting_scalar (start ls) (do
       r ← of_result (scalar_at (block within) ls)
       (if is_block_start (first_text ls) then gives else ending_line) (part (scalar_node r) r.span.end r.left))
 
--- a flow collection in block context: behind it no colon may stand that would make it a key
+-- a flow collection in block context: a colon after it would make it a key, and is a fault
 abbrev pub flow_at : CollectionReader → Spot → ℕ → List Line → Reading (Part Node)
 flow_at collection spot depth ls = do
   x ← collection depth ls
@@ -162,19 +162,19 @@ block_content node collection turns slot depth column ls =
       found ← of_result (key_here ls)
       elim found [ None ↦ scalar_node_at slot.within ls | Some key ↦ block_mapping node collection turns slot.spot depth column ls key ]))))
 
--- an alias, or an anchor and its node, on no key
+-- an alias, or an anchor and its node, not on a key
 unfoldable pub block_property : BlockReader → BlockReader
 block_property content slot depth column ls =
     property (not (is_behind_key slot.spot) && is_on_key ls) ending_line (rest_node content slot depth column ls) depth ls
 
--- Nodes nested less deep than the bound, each with fewer parts; the file's length and one is always enough.
+-- Nodes with a depth of nesting below the bound, each with fewer parts than it; the file's length plus one is always enough.
 unfoldable pub block_node : ℕ → BlockReader
 block_node zero slot depth column ls = fails yaml.UnexpectedCharacter 0
 block_node (suc bound) slot depth column ls =
     let content = block_content (block_node bound) (flow_collection (suc bound)) (suc bound) in
     if is_property (first_text ls) then block_property content slot depth column ls else content slot depth column ls
 
--- a node of such a bound without properties
+-- a node within such a bound, without properties
 abbrev pub bare_node : ℕ → BlockReader
 bare_node zero slot depth column ls = fails yaml.UnexpectedCharacter 0
 bare_node (suc bound) slot depth column ls = block_content (block_node bound) (flow_collection (suc bound)) (suc bound) slot depth column ls

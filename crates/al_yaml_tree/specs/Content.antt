@@ -17,12 +17,12 @@ use Rattle.al_scalar.specs.Block.{at_end}
 use Rattle.al_scalar.specs.Scalar.{ScalarRead}
 use Rattle.al_yaml_tree.specs.Reading.{Reading, fails}
 
--- The whole lines behind the first one. What is left is never without a line: behind the file's last line stands its empty end.
+-- The whole lines after the first one. There is always a line left: after the file's last line, its empty end.
 abbrev pub whole_lines : List Line → List Line
 whole_lines [] = []
 whole_lines (l ∷ ls) = if l.last then at_end l else ls
 
--- the lines behind k cells of the first
+-- the lines after k cells of the first
 abbrev pub behind : ℕ → List Line → List Line
 behind k [] = []
 behind k (l ∷ ls) = cut (drop k l.text) l ls
@@ -43,11 +43,11 @@ text_line (l ∷ ls) =
     let below = text_line ls in
     if is_skipped l.text then (if l.last then at_end l else below) else l ∷ ls
 
--- whether the file ends behind such lines or a gap
+-- whether the file ends after such lines or a gap
 abbrev pub is_file_end : List Line → Bool
 is_file_end ls = is_empty (first_text ls)
 
--- The first content line of whole lines. A document marker ends the document (9.1.2), and no tab stands between the
+-- The first content line of whole lines. A document marker ends the document (9.1.2), and there is no tab between the
 -- indent and the content (6.1).
 abbrev pub content_line : List Line → Result Next FaultAt
 content_line ls =
@@ -63,7 +63,7 @@ content ls = let left = text_line ls in if is_file_end left then Ok ended else c
 abbrev pub ends_line : List Cell → Bool
 ends_line text = is_all_blank text || (begins_blank text && is_comment text)
 
--- Behind a node on its line nothing else may stand. Gives the whole lines left.
+-- Nothing else may follow a node on its line. Returns the whole lines left.
 abbrev pub line_ended : List Line → Result (List Line) FaultAt
 line_ended ls = if ends_line (first_text ls) then Ok (whole_lines ls) else fault yaml.UnexpectedCharacter (start (blanks_dropped ls))
 
@@ -85,7 +85,7 @@ is_reserved b =
     (b == ascii ",") || (b == ascii "]") || (b == ascii "}") || (b == ascii "%") || (b == ascii "@")
     || (b == ascii "`")
 
--- alone says that a blank or the line's end stands behind the character
+-- alone says whether a blank or the line's end follows the character
 abbrev pub start_fault : ℕ → Bool → Option YamlCode
 start_fault b alone =
     if b == ascii "!" then Some yaml.Tag
@@ -97,7 +97,7 @@ abbrev pub block_fault : List Cell → Option YamlCode
 block_fault [] = None
 block_fault (c ∷ cs) = start_fault c.0 (is_blank_or_end cs)
 
--- in a flow collection also these; closed says that a flow indicator stands behind the character
+-- in a flow collection also these; closed says whether a flow indicator follows the character
 abbrev pub is_flow_misplaced : ℕ → Bool → Bool → Bool
 is_flow_misplaced b alone closed =
     if (b == ascii "|") || (b == ascii ">") || (b == ascii "#") then true
@@ -109,7 +109,7 @@ flow_fault (c ∷ cs) =
     let misplaced = is_flow_misplaced c.0 (is_blank_or_end cs) (begins_flow_indicator cs) in
     option_or (start_fault c.0 (is_blank_or_end cs)) (if misplaced then Some yaml.UnexpectedCharacter else None)
 
--- goes on where the first character is allowed
+-- continues if the first character is allowed
 abbrev pub unless_code : {A : Type 0} → Option YamlCode → ℕ → Reading A → Reading A
 unless_code None at r = r
 unless_code (Some code) at r = fails code at
@@ -124,7 +124,7 @@ starts_quoted cs = begins (ascii "'") cs || begins (ascii "\"") cs
 abbrev pub is_property : List Cell → Bool
 is_property cs = begins (ascii "&") cs || begins (ascii "*") cs
 
--- the name behind the indicator (6.9.2, ns-anchor-name), up to a blank, the line's end or a flow indicator
+-- the name after the indicator (6.9.2, ns-anchor-name), up to a blank, the line's end or a flow indicator
 abbrev pub anchor_cells : List Cell → List Cell
 anchor_cells [] = []
 anchor_cells (c ∷ cs) =
@@ -138,18 +138,18 @@ ends_name cs = is_blank_or_end cs || begins_flow_indicator cs
 abbrev pub anchor_name : List Line → List ℕ
 anchor_name ls = map (λ (c : Cell). c.0) (anchor_cells (drop 1 (first_text ls)))
 
--- the lines behind the name of an anchor or alias
+-- the lines after the name of an anchor or alias
 abbrev pub behind_name : List Line → List Line
 behind_name ls = behind (length (anchor_cells (drop 1 (first_text ls))) + 1) ls
 
 abbrev pub has_no_name : List Line → Bool
 has_no_name ls = is_empty (anchor_cells (drop 1 (first_text ls)))
 
--- Whether two rests are of the same line.
+-- Whether both begin in the same line.
 abbrev pub same_line : List Line → List Line → Bool
 same_line xs ys = first_end xs == first_end ys
 
--- characters before the offset
+-- the number of characters before the offset
 abbrev pub characters : ℕ → List Cell → ℕ
 characters end [] = 0
 characters end (c ∷ cs) =
@@ -160,6 +160,6 @@ characters end (c ∷ cs) =
 abbrev pub is_short_key : List Line → ScalarRead → Bool
 is_short_key ls r = nat_le (characters r.span.end (first_text ls)) longest_key
 
--- and it stands on one line
+-- and it is on one line
 abbrev pub is_simple_key : List Line → ScalarRead → Bool
 is_simple_key ls r = same_line ls r.left && is_short_key ls r

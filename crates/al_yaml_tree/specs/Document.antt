@@ -13,7 +13,7 @@ use Rattle.al_yaml_tree.specs.Reading.{Start, HaveNoAlias, Reading, no_anchors, 
 use Rattle.al_yaml_tree.specs.Content.{text_line, is_file_end, line_ended, behind}
 use Rattle.al_yaml_tree.specs.Blocks.{Slot, own_line, node_below, block_node}
 
--- The whole lines from the first content line on, behind the marker `---` if that is one. No directive stands there
+-- The whole lines from the first content line on, or after it if it is the marker `---`. A directive there is a fault
 -- (6.8).
 abbrev pub first_line : List Line → Result (List Line) FaultAt
 first_line ls =
@@ -23,13 +23,13 @@ first_line ls =
 abbrev pub document_start : List Line → Result (List Line) FaultAt
 document_start ls = first_line (text_line ls)
 
--- Behind `...` no content stands.
+-- No content may follow `...`.
 abbrev pub ended_behind : List Line → Result (Unit {0}) FaultAt
 ended_behind ls =
     let left = text_line ls in
     if is_file_end left then Ok tt else fault yaml.SecondDocument (start (blanks_dropped left))
 
--- Behind the root only `...` may stand.
+-- Only `...` may follow the root.
 abbrev pub last_line : List Line → Result (Unit {0}) FaultAt
 last_line ls =
     let left = spaces_dropped ls in
@@ -55,11 +55,11 @@ document size ls = do
   rest ← of_result (document_end x.left)
   gives x.value
 
--- The tree that a file is whose bytes have no fault, or its first fault.
+-- The tree of a file whose bytes have no fault, or its first fault.
 abbrev pub document_of : List ℕ → Result Node FaultAt
 document_of bs = within_limits 0 0 (document (length bs) (file_lines bs) no_anchors)
 
--- The tree that a file is, or its first fault.
+-- The tree of a file, or its first fault.
 abbrev pub tree_of : List ℕ → Result Node FaultAt
 tree_of bs = unless_fault (byte_fault bs) (document_of bs)
 

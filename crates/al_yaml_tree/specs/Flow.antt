@@ -1,4 +1,4 @@
--- Flow collections (YAML 1.2.2, 7.4) and what stands in them.
+-- Flow collections (YAML 1.2.2, 7.4) and the nodes in them.
 use Rattle.std.specs.Prelude.{ℕ, zero, suc, ◌+◌, List, [], ◌∷◌, Bool, true, false, not, ◌&&◌}
 use Rattle.std.specs.Prelude.{◌||◌, if◌then◌else◌, Option, Some, None, Result, Ok}
 use Rattle.al_base.specs.declared.codes.YamlCode.TheVariants as yaml
@@ -18,8 +18,8 @@ use Rattle.al_yaml_tree.specs.Reading.{gives_with_anchor, alias, Part, part, wit
 use Rattle.al_yaml_tree.specs.Content.{behind, is_file_end, flow_fault, unless_code, is_flow_start, starts_quoted, is_property}
 use Rattle.al_yaml_tree.specs.Content.{anchor_name, behind_name, has_no_name, same_line, is_simple_key}
 
--- What surrounds a node in a flow collection: the collection's opening bracket, and where an empty node would stand
--- in its place, if one may.
+-- What surrounds a node in a flow collection: the offset of the collection's opening bracket, and that of the empty node
+-- that takes its place if there is none, if this is allowed.
 pub record FlowSlot : Type 0 where
   pub opening : ℕ
   pub empty : Option ℕ
@@ -32,22 +32,22 @@ FlowReader = FlowSlot → ℕ → List Line → Reading (Part Node)
 abbrev pub CollectionReader : Type 0
 CollectionReader = ℕ → List Line → Reading (Part Node)
 
--- what a gap takes to its end: a line without text but blanks, or a comment after a blank or at a line's start
+-- the lines that a gap skips: with nothing but blanks, or with a comment after a blank or at the line's start
 abbrev pub is_gap_line : Bool → List Cell → Bool
 is_gap_line at_start text = is_empty (after_blanks text) || (begins (ascii "#") (after_blanks text) && (at_start || begins_blank text))
 
--- Blanks, breaks and comments are skipped (6.7). Behind them no text is left at the file's end alone.
+-- Blanks, breaks and comments are skipped (6.7). Text is left after them, except at the file's end.
 abbrev pub gap : Bool → List Line → List Line
 gap at_start [] = []
 gap at_start (l ∷ ls) =
     let below = gap true ls in
     if is_gap_line at_start l.text then (if l.last then at_end l else below) else cut (after_blanks l.text) l ls
 
--- an empty node at a place
+-- an empty node at an offset
 abbrev pub empty_node : ℕ → List Line → Reading (Part Node)
 empty_node at left = starting_scalar at (gives (part (scalar (empty_scalar at) (span at at)) at left))
 
--- The rest of a collection, given all its items or entries so far and the lines behind the last one: behind a comma more reads on.
+-- The rest of a collection, given all its items or entries so far and the lines after the last one: after a comma, more reads the next.
 abbrev pub rest_behind : {A : Type 0} → ℕ → (List Line → Reading (Part A)) → ℕ → A → List Line → Reading (Part A)
 rest_behind close more opening done left =
     let ls = gap false left in
@@ -56,7 +56,7 @@ rest_behind close more opening done left =
     else (if begins close (first_text ls) then gives (part done (start ls + 1) (behind 1 ls))
     else fails yaml.UnexpectedCharacter (start ls)))
 
--- Items behind those done, from the first character of an item or the closer. turns bounds their number.
+-- Items after those done, from the first character of an item or the closer. turns bounds their number.
 unfoldable pub flow_items : FlowReader → ℕ → ℕ → ℕ → Nodes → List Line → Reading (Part Nodes)
 flow_items node zero opening depth done ls = fails yaml.UnexpectedCharacter 0
 flow_items node (suc turns) opening depth done ls =
@@ -67,7 +67,7 @@ flow_items node (suc turns) opening depth done ls =
       rest_behind (ascii "]") (λ left. flow_items node turns opening depth (with_item done x.value) left) opening
           (with_item done x.value) x.left))
 
--- The lines behind a key's colon, if one stands on its line. Behind a quoted key it needs nothing behind it.
+-- The lines after a key's colon, if there is one on its line. After a quoted key, anything may follow the colon.
 abbrev pub is_key_colon : Bool → List Line → Bool
 is_key_colon after_quote ls = (after_quote && begins (ascii ":") (first_text ls)) || is_value_colon flow (after_blanks (first_text ls))
 
@@ -82,7 +82,7 @@ flow_value node slot depth ls =
     then elim slot.empty [ None ↦ fails yaml.UnexpectedCharacter (start ls) | Some at ↦ empty_node at ls ]
     else node slot depth ls)
 
--- A key, and the lines behind its colon if it has one.
+-- A key, and the lines after its colon if it has one.
 pub record FlowKey : Type 0 where
   pub scalar : ScalarRead
   pub behind : Option (List Line)
@@ -91,8 +91,8 @@ pub record FlowKey : Type 0 where
 abbrev pub is_late_colon : List Line → Bool
 is_late_colon left = begins (ascii ":") (first_text (gap false left)) && not (same_line left (gap false left))
 
--- The lines behind the colon of the key that a scalar is, which stands on one line. A colon that begins a later line is
--- refused at the key.
+-- The lines after the colon of a scalar that is a key, which must be on one line. A colon that begins a later line is a
+-- fault at the key.
 abbrev pub unless_late : List Line → ScalarRead → Option (List Line) → Result (Option (List Line)) FaultAt
 unless_late ls r (Some left) = Ok (Some left)
 unless_late ls r None = if is_late_colon r.left then fault yaml.WrongKey (start ls) else Ok None
@@ -122,7 +122,7 @@ flow_entry_value node opening depth key =
       | Some left ↦ flow_value node (record { opening = opening; empty = Some (start left) }) depth (gap false left)
     ]
 
--- Entries behind those done, from the first character of an entry or the closer.
+-- Entries after those done, from the first character of an entry or the closer.
 unfoldable pub flow_entries : FlowReader → CollectionReader → ℕ → ℕ → ℕ → Entries → List Line → Reading (Part Entries)
 flow_entries node collection zero opening depth done ls = fails yaml.UnexpectedCharacter 0
 flow_entries node collection (suc turns) opening depth done ls =
@@ -145,8 +145,8 @@ flow_content collection slot depth ls =
       r ← of_result (scalar_at flow ls)
       gives (part (scalar_node r) r.span.end r.left))))
 
--- An alias, or an anchor and its node (6.9.2, 7.1), none of which stands on a key: ending reads on behind an alias, node behind an
--- anchor's name.
+-- An alias, or an anchor and its node (6.9.2, 7.1), not on a key: ending continues after an alias, node after an anchor's
+-- name.
 abbrev pub property : Bool → (Part Node → Reading (Part Node)) → (List Line → Reading (Part Node)) → ℕ → List Line → Reading (Part Node)
 property on_key ending node depth ls =
     let at = start ls in
@@ -172,7 +172,7 @@ flow_node_over collection slot depth ls =
     if is_property (first_text ls) then flow_property collection slot depth ls
     else flow_content collection slot depth ls
 
--- Collections nested less deep than the bound, each with fewer parts; the file's length and one is always enough.
+-- Collections with a depth of nesting below the bound, each with fewer parts than it; the file's length plus one is always enough.
 unfoldable pub flow_collection : ℕ → CollectionReader
 flow_collection zero depth ls = fails yaml.UnexpectedCharacter 0
 flow_collection (suc bound) depth ls =

@@ -14,7 +14,7 @@ use Rattle.al_yaml_tree.specs.Content.{is_skipped, behind, is_dash, block_fault,
 use Rattle.al_yaml_tree.specs.Content.{is_property, behind_name, has_no_name, same_line, is_simple_key}
 use Rattle.al_yaml_tree.specs.Flow.{CollectionReader}
 
--- A key, and the lines behind its colon.
+-- A key, and the lines after its colon.
 pub record Key : Type 0 where
   pub scalar : ScalarRead
   pub behind : List Line
@@ -24,28 +24,28 @@ abbrev pub one_line : List Line → List Line
 one_line [] = []
 one_line (l ∷ ls) = record { text = l.text; end = l.end; last = true } ∷ []
 
--- the rest of the first line, before the lines behind it
+-- the rest of the first line, and the lines after it
 abbrev pub with_lines : List Line → List Line → List Line
 with_lines rest [] = []
 with_lines rest (l ∷ ls) = cut (first_text rest) l ls
 
--- a plain scalar as far as it stands on its line
+-- the part of a plain scalar that is on its first line
 abbrev pub plain_on_line : List Line → Result ScalarRead FaultAt
 plain_on_line ls = elim (scalar_at (block 0) (one_line ls)) [ Ok r ↦ Ok (record r { left = with_lines r.left ls }) | Err f ↦ Err f ]
 
--- a scalar as far as it tells whether a key begins here: a plain one on its line, a quoted one whole
+-- the scalar that may be a key: a plain one on its first line only, a quoted one whole
 abbrev pub key_scalar : List Line → Result ScalarRead FaultAt
 key_scalar ls = if starts_quoted (first_text ls) then scalar_at (block 0) ls else plain_on_line ls
 
--- whether a colon follows that parts a key from its value
+-- whether the colon between a key and its value follows
 abbrev pub has_colon : List Line → Bool
 has_colon ls = is_value_colon (block 0) (after_blanks (first_text ls))
 
--- the key that a scalar is, if a colon follows
+-- a scalar as a key, if a colon follows
 abbrev pub key_before_colon : ScalarRead → Option Key
 key_before_colon r = if has_colon r.left then Some (record { scalar = r; behind = behind 1 (blanks_dropped r.left) }) else None
 
--- The key that begins here, if one does: a scalar with a colon behind it. It may be too long or span lines yet.
+-- The key that begins here, if one does: a scalar with a colon after it. It may still be too long or span lines.
 abbrev pub key_here : List Line → Result (Option Key) FaultAt
 key_here ls = elim (key_scalar ls) [ Ok r ↦ Ok (key_before_colon r) | Err f ↦ Err f ]
 
@@ -59,19 +59,19 @@ begins_key ls = elim (key_here ls) [ Ok (Some key) ↦ same_line ls key.scalar.l
 abbrev pub is_key_start : List Cell → Bool
 is_key_start cs = not (is_skipped cs || is_dash cs || is_property cs || is_block_start cs || is_flow_start cs || is_some (block_fault cs))
 
--- Keys have no anchors and are no aliases here, though YAML allows both (6.9.2, 7.1). Whether an anchor or alias stands
--- on a key: the alias itself, or what follows the anchor on its line.
+-- Keys have no anchors and are no aliases here, though YAML allows both (6.9.2, 7.1). Whether an anchor or alias is on a
+-- key: the alias itself, or what follows the anchor on its line.
 abbrev pub is_on_key : List Line → Bool
 is_on_key ls =
     let left = blanks_dropped (behind_name ls) in
     if begins (ascii "*") (first_text ls) then has_colon (behind_name ls)
     else is_key_start (first_text left) && begins_key left
 
--- the fault of an anchor or alias where an entry of an open mapping is due
+-- the fault of an anchor or alias where an entry of an open mapping is expected
 abbrev pub property_fault : List Line → YamlCode
 property_fault ls = if not (has_no_name ls) && is_on_key ls then yaml.AnchorOrAlias else yaml.UnexpectedCharacter
 
--- the fault of a flow collection that begins a line but no entry of the open mapping: it is a key if a colon stands behind it
+-- the fault of a flow collection that begins a line but no entry of the open mapping: it is a key if a colon follows it
 abbrev pub collection_fault : List Line → YamlCode
 collection_fault left = if has_colon left then yaml.WrongKey else yaml.UnexpectedCharacter
 
@@ -89,7 +89,7 @@ no_entry collection depth ls =
       fails yaml.UnexpectedCharacter at)
     else fails yaml.UnexpectedCharacter at)))
 
--- a key that was found where a further entry is due
+-- a key that was found where a further entry is expected
 abbrev pub found_key : List Line → Option Key → Reading Key
 found_key ls None = fails yaml.UnexpectedCharacter (start ls)
 found_key ls (Some key) = if is_simple_key ls key.scalar then starting_scalar (start ls) (gives key) else fails yaml.WrongKey (start ls)

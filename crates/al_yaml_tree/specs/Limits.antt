@@ -1,4 +1,4 @@
--- The limits on nodes, on text behind aliases and on nesting, which are the profile's own.
+-- The limits on nodes, on the text of aliases' nodes and on nesting, which are the profile's own.
 use Rattle.std.specs.Prelude.{ℕ, ◌+◌, List, [], ◌∷◌, ◌||◌, min, nat_lt, if◌then◌else◌, Option, Some, None, Result, Err}
 use Rattle.al_base.specs.Limits.{deepest_collection, most_alias_text, most_nodes}
 use Rattle.al_base.specs.declared.codes.YamlCode.TheVariants as yaml
@@ -9,7 +9,7 @@ use Rattle.al_yaml_tree.specs.Reading.{Start, Outcome}
 abbrev pub most_counted : ℕ → ℕ
 most_counted n = min n 4294967295
 
--- The first start that breaks a limit, after so many nodes and so many bytes of text behind aliases; at one place
+-- The first start that breaks a limit, after so many nodes and so many bytes of text of aliases' nodes; at one offset,
 -- too many nodes, or too much text, come before too deep a nesting.
 abbrev pub broken_limit : ℕ → ℕ → List Start → Option FaultAt
 broken_limit nodes text [] = None
@@ -27,11 +27,11 @@ abbrev pub text_listed : List Start → ℕ
 text_listed [] = 0
 text_listed (s ∷ ss) = s.text + text_listed ss
 
--- the fault that comes first, or else the answer: a broken limit stands before every later fault
+-- the first fault, or else the result: a broken limit comes before every later fault
 abbrev pub unless_fault : {A : Type 0} → Option FaultAt → Result A FaultAt → Result A FaultAt
 unless_fault None r = r
 unless_fault (Some f) r = Err f
 
--- the answer behind so many nodes and so many bytes of text, unless a limit is broken
+-- the result after so many nodes and so many bytes of text, unless a limit is broken
 abbrev pub within_limits : {A : Type 0} → ℕ → ℕ → Outcome A → Result A FaultAt
 within_limits nodes text o = unless_fault (broken_limit nodes text o.starts) o.answer

@@ -1,5 +1,5 @@
--- What reading nodes gives: the starts of nodes in reading order, then a value or the first fault. On the way it
--- knows the anchors of the nodes that are complete.
+-- The result of reading nodes: the starts of nodes in reading order, then a value or the first fault. Reading knows the
+-- anchors of the nodes that are complete.
 use Rattle.std.specs.Prelude.{◌≡◌, ℕ, zero, suc, ◌+◌, List, [], ◌∷◌, ◌++◌, Bool, true, false}
 use Rattle.std.specs.Prelude.{nat_lt, if◌then◌else◌, Option, Some, None, Result, Ok, Err}
 use Rattle.std.specs.Str.{bytes_eq}
@@ -11,7 +11,7 @@ use Rattle.al_base.specs.Spans.{span}
 use Rattle.al_base.specs.declared.faults.Span.{Span}
 use Rattle.al_yaml_tree.specs.Node.{Node, nodes_in, text_size, levels_in}
 
--- A start of so many nodes at a place: one, but two for a block mapping and its first key, and all those of its node
+-- A start of so many nodes at an offset: one, but two for a block mapping and its first key, and all those in its node
 -- for an alias, which also counts the bytes of their texts. The depth is that of the deepest collection that starts
 -- there, 0 if none does; alias says whether it is an alias's.
 pub record Start : Type 0 where
@@ -25,7 +25,7 @@ abbrev pub HaveNoAlias : List Start → Type 0
 HaveNoAlias [] = Unit {0}
 HaveNoAlias (s ∷ ss) = (s.alias ≡ false) × HaveNoAlias ss
 
--- An anchored node (6.9.2) that is complete, and where its indicator & stands.
+-- An anchored node (6.9.2) that is complete, and the offset of its indicator &.
 pub record Anchor : Type 0 where
   pub name : List ℕ
   pub at : ℕ
@@ -71,7 +71,7 @@ infixl 10 ◌>>=◌
 abbrev pub ◌>>=◌ : {A B : Type 0} → Reading A → (A → Reading B) → Reading B
 ◌>>=◌ r f known = next (r known) f
 
--- a start before what is read there
+-- a start, and then what is read there
 abbrev pub with_start : {A : Type 0} → Start → Reading A → Reading A
 with_start s r known = after (s ∷ []) (r known)
 
@@ -83,7 +83,7 @@ start_of at nodes depth = record { at = at; nodes = nodes; text = 0; depth = dep
 abbrev pub starting_scalar : {A : Type 0} → ℕ → Reading A → Reading A
 starting_scalar at r = with_start (start_of at 1 0) r
 
--- of two anchors of a name the one whose & stands later: an alias refers to the latest (7.1)
+-- of two anchors with the same name, the one whose & is later: an alias refers to the latest (7.1)
 abbrev pub later_of : Anchor → Option Anchor → Option Anchor
 later_of a None = Some a
 later_of a (Some b) = if nat_lt a.at b.at then Some b else Some a
@@ -92,7 +92,7 @@ later_of a (Some b) = if nat_lt a.at b.at then Some b else Some a
 abbrev pub with_anchor : Anchor → KnownAnchors → KnownAnchors
 with_anchor a known name = if bytes_eq a.name name then later_of a (known name) else known name
 
--- A node is complete with its anchor (6.9.2).
+-- An anchor is known once its node is complete (6.9.2).
 abbrev pub gives_with_anchor : {A : Type 0} → Anchor → A → Reading A
 gives_with_anchor a x known = record { starts = []; answer = Ok x; known = with_anchor a known }
 
@@ -101,7 +101,7 @@ abbrev pub deepest : ℕ → ℕ → ℕ
 deepest depth zero = 0
 deepest depth (suc levels) = depth + levels
 
--- An alias starts, at its indicator *, all nodes of its node (7.1), which have the depths that they have there.
+-- All nodes in the node that an alias refers to (7.1) start at its indicator *, and their depths are counted from there.
 abbrev pub alias_start : ℕ → ℕ → Node → Start
 alias_start at depth n =
     record { at = at; nodes = nodes_in n; text = text_size n; depth = deepest depth (levels_in n); alias = true }
@@ -111,7 +111,7 @@ abbrev pub alias_of : Option Anchor → ℕ → ℕ → Reading Node
 alias_of None at depth = fails yaml.UnknownAlias at
 alias_of (Some a) at depth = with_start (alias_start at depth a.node) (gives a.node)
 
--- An alias (7.1) stands for the node of its anchor, with the spans of that node.
+-- An alias (7.1) refers to the node of its anchor, and has the spans of that node.
 abbrev pub alias : List ℕ → ℕ → ℕ → Reading Node
 alias name at depth known = alias_of (known name) at depth known
 

@@ -1,4 +1,4 @@
--- Where nodes lie: each in the node around it and behind the one before it, and all of them in the file.
+-- The spans of nodes: each in the node around it and after the node before it, and all of them in the file.
 use Rattle.std.specs.Prelude.{ℕ, ◌≤◌}
 use Rattle.al_scalar.specs.Offsets.{IsFrom, IsPlaced}
 use Rattle.al_base.specs.Spans.{LiesIn}
@@ -14,7 +14,7 @@ pub record IsBetween (low high : ℕ) (at : Span) : Type 0 where
   pub to : at.end ≤ high
 
 -- A node lies between two offsets of a file of so many bytes, and what is in it lies in its own span, in order; so does each
--- scalar's text, but that the line feeds at a block scalar's end may come from behind its span.
+-- scalar's text, but the line feeds at a block scalar's end may come from after its span.
 abbrev mutual
   pub IsPlacedIn : ℕ → ℕ → ℕ → Node → Type 0
   IsPlacedIn size low high (scalar s at) = IsBetween low high at × IsPlaced size s at
@@ -26,7 +26,7 @@ abbrev mutual
   ArePlacedIn size low high no_nodes = Unit {0}
   ArePlacedIn size low high (item n ns) = IsPlacedIn size low high n × ArePlacedIn size (span_of n).end high ns
 
-  -- likewise each value behind its key, and each key behind the value before it
+  -- likewise each value after its key, and each key after the value before it
   pub EntriesPlacedIn : ℕ → ℕ → ℕ → Entries → Type 0
   EntriesPlacedIn size low high no_entries = Unit {0}
   EntriesPlacedIn size low high (entry k v es) = IsPlacedIn size low high k × IsPlacedIn size (span_of k).end high v
@@ -57,8 +57,8 @@ ItemsFrom size = EachItem (λ s at. IsFrom size s) (λ at inner. inner)
 abbrev pub EntriesFrom : ℕ → Entries → Type 0
 EntriesFrom size = EachEntry (λ s at. IsFrom size s) (λ at inner. inner)
 
--- The same without an order, as an alias stands for a node elsewhere in the file: each span of a node lies in the first size bytes of a
--- file of so many, and each scalar's text lies against its span as above.
+-- The same without an order, as an alias refers to a node elsewhere in the file: each span of a node lies in the first size bytes of a
+-- file of so many, and each scalar's text relates to its span as above.
 abbrev pub IsLaidIn : ℕ → ℕ → Node → Type 0
 IsLaidIn most size = Each (λ s at. LiesIn size at × IsPlaced most s at) (LiesAround size)
 

@@ -1,4 +1,4 @@
--- The tree that a `Node` of the code is.
+-- The tree of a `Node` of the code.
 use Rattle.std.specs.Prelude.{List, [], ◌∷◌}
 use Rattle.al_base.specs.declared.faults.Span.{Span}
 use Rattle.al_yaml_tree.specs.Node as tree
