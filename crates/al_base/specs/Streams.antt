@@ -17,7 +17,7 @@ turns_of input = input.turns
 abbrev pub read_failures : {R : Type 0} → Input R → ℕ
 read_failures input = input.failures
 
--- the length of the largest buffer that a read was given so far
+-- the length of the largest buffer that was passed to a read so far
 abbrev pub largest_ask : {R : Type 0} → Input R → ℕ
 largest_ask input = input.largest_ask
 

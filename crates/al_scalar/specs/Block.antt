@@ -17,7 +17,7 @@ is_digit b = nat_le 49 b && nat_le b 57
 abbrev pub chomping_of : ℕ → Chomping
 chomping_of b = if b == ascii "+" then Keep else Strip
 
--- After the indicators, only blanks and, after a blank, a comment.
+-- After the indicators there are only blanks and, after a blank, a comment.
 abbrev pub header_end : Header → List Cell → Result Header FaultAt
 header_end h cs =
     if is_empty (after_blanks cs) || (begins_blank cs && is_comment cs) then Ok h

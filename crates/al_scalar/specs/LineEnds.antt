@@ -26,7 +26,7 @@ abbrev pub later : List Line → List Line
 later [] = []
 later (l ∷ ls) = ls
 
--- two rests of the same line
+-- two lists of lines that begin in the same line
 pub record SameLine (xs ys : List Line) : Type 0 where
   pub end : first_end xs ≡ first_end ys
   pub last : first_last xs ≡ first_last ys

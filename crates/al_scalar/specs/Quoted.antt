@@ -37,7 +37,7 @@ with_own c p = if is_blank c && is_empty p.text && is_broken p.stop then p else 
 abbrev pub closed_by : Cell → List Cell → QuotedLine
 closed_by c cs = record { text = []; stop = closed (c.1 + 1) cs }
 
--- Single quotes: `''` is a quote.
+-- A line in single quotes, where `''` is a quote.
 abbrev pub single_part : List Cell → QuotedLine
 single_part [] = record { text = []; stop = broken }
 single_part (c ∷ []) = if c.0 == ascii "'" then closed_by c [] else with_own c (single_part [])
@@ -76,7 +76,7 @@ abbrev pub escape_character : ℕ → ℕ → Result QuotedLine FaultAt → Resu
 escape_character at code behind = if is_scalar_value code then part_before (character_cells at code) behind else fault yaml.WrongEscape at
 
 abbrev mutual
-  -- Double quotes.
+  -- A line in double quotes.
   pub double_part : List Cell → Result QuotedLine FaultAt
   double_part [] = Ok (record { text = []; stop = broken })
   double_part (c ∷ cs) =

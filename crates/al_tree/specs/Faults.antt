@@ -1,4 +1,4 @@
--- The faults of a node against the shape of its place.
+-- The faults of a node, by the shape that it should have.
 use Rattle.std.specs.Prelude.{ℕ, List, [], ◌∷◌, ◌++◌, ◌==◌, Bool, true, false, codes, map, Option, Some, None, ◌||◌, ◌&&◌, not}
 use Rattle.std.specs.Prelude.{if◌then◌else◌, find, nat_eq, length, option_map, option_and_then}
 use Rattle.std.specs.Bool.{then_some}
@@ -31,14 +31,14 @@ use Rattle.al_tree.specs.declared.table.Trigger.TheVariants.{Events, Event}
 use Rattle.al_tree.specs.declared.table.ScalarSet.{ScalarSet}
 use Rattle.al_tree.specs.declared.table.ScalarSet.TheVariants.{NoScalar, AnyScalar, NotNull, Bools, Numbers, Chunks}
 
--- A fault that names these texts. Its arguments are UTF-8: bytes that aren't, of which reading a file gives none, are U+FFFD.
+-- A fault with these texts as arguments, which are UTF-8: bytes that aren't become U+FFFD, but no file that was read has any.
 abbrev pub key_fault : codes_key.KeyCode → Span → List (List ℕ) → Fault
 key_fault key at texts = record { span = at; code = code.Key key; args = map utf8_lossy texts }
 
 abbrev pub one_fault : codes_key.KeyCode → Span → List ℕ → List Fault
 one_fault key at text = key_fault key at (text ∷ []) ∷ []
 
--- the text has a `${{`
+-- whether the text has a `${{`
 abbrev pub has_chunk : List ℕ → Bool
 has_chunk [] = false
 has_chunk (b ∷ bs) = starts_with nat_eq (b ∷ bs) (codes "${{") || has_chunk bs

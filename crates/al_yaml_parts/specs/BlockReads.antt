@@ -1,4 +1,4 @@
--- How contracts speak of keys and slots of block collections.
+-- Terms of contracts for keys and slots of block collections.
 use Rattle.std.specs.Prelude.{ℕ, ◌<◌, ◌≤◌, List, length, ◌==◌, nat_lt, if◌then◌else◌, Option, Some, None, IfSome, Result, Ok}
 use Rattle.al_base.specs.declared.codes.YamlCode.TheVariants as yaml
 use Rattle.al_scalar.specs.Line.{Line, start, blanks_dropped}
@@ -31,11 +31,11 @@ abbrev pub IsOptionKey : List ℕ → ℕ → Option Key → Type 0
 IsOptionKey bytes at None = Unit {0}
 IsOptionKey bytes at (Some key) = IsKeyBehind bytes at key
 
--- the lines behind the colon that follows a scalar
+-- the lines after the colon that follows a scalar
 abbrev pub behind_colon_in_block : List Line → Option (List Line)
 behind_colon_in_block ls = if keys.has_colon ls then Some (content.behind 1 (blanks_dropped ls)) else None
 
--- what is left behind a scalar: a block scalar ends with its last line
+-- the lines left after a scalar: a block scalar ends with its last line
 abbrev pub scalar_left : List Line → List Line → Result (List Line) FaultAt
 scalar_left ls left = if keys.is_block_start (first_text ls) then Ok left else content.line_ended left
 
@@ -53,6 +53,6 @@ spot_of spot.BehindKey = block.behind_key
 abbrev pub slot_of : Slot → block.Slot
 slot_of s = record { spot = spot_of s.spot; within = s.within; in_mapping = s.in_mapping; empty = s.empty }
 
--- the tab before a compact collection stands in the file
+-- the tab before a compact collection is in the file
 abbrev pub IsTabInside : ℕ → Spot → Type 0
 IsTabInside size s = IfSome (block.tab_before (spot_of s)) (λ tab. tab ≤ size)

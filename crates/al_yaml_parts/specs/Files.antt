@@ -1,4 +1,4 @@
--- How contracts speak of a file: how long it is, and the lines that are left from an offset on.
+-- Terms of contracts for a file: its length, and the lines from an offset on.
 use Rattle.std.specs.Prelude.{ℕ, List, length}
 use Rattle.al_scalar.specs.Line.{Line}
 use Rattle.al_scalar.specs.Places.{lines_at}

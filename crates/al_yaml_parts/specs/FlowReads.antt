@@ -1,4 +1,4 @@
--- How contracts speak of keys and nodes of flow collections that are read up to a bracket.
+-- Terms of contracts for keys and nodes of flow collections that are read up to a bracket.
 use Rattle.std.specs.Prelude.{◌≡◌, ℕ, ◌<◌, ◌≤◌, List, length, true, Option, Some, None, Result, Ok, Err}
 use Rattle.al_base.specs.declared.codes.YamlCode.TheVariants as yaml
 use Rattle.al_scalar.specs.ReadScalar.{read_of}
@@ -30,7 +30,7 @@ pub record IsKeyInside (bytes : List ℕ) (at : ℕ) (key : FlowKey) : Type 0 wh
   pub read : IsReadInside bytes at key.read
   pub colon : IsColonInside key.read.next (length bytes) key.colon
 
--- ---- what stands at an offset, whatever reads collections
+-- ---- what is found at an offset, for any reader of collections
 
 -- a node that was read whole, or the bracket of a collection
 abbrev pub Finds : List ℕ → (CollectionReader → Reading (Part tree.Node)) → ℕ → State → Result FoundNode ReadError → State → Type 0
@@ -48,7 +48,7 @@ FindsKey bytes at reading depth before (Ok found_key.Opens) after =
     ≡ run after (c depth (lines_at bytes at) >>= (λ _. fails yaml.WrongKey at))
 FindsKey bytes at reading depth before (Err e) after = (c : CollectionReader) → FailsWith (reading c) before e
 
--- where it stands: a bracket in the file
+-- a bracket in the file, at or after low
 pub record IsBracket (bytes : List ℕ) (low at : ℕ) : Type 0 where
   pub from : low ≤ at
   pub inside : at < length bytes
@@ -67,6 +67,6 @@ abbrev pub IsFoundKey : List ℕ → ℕ → FoundKey → Type 0
 IsFoundKey bytes at (found_key.Key k) = IsKeyInside bytes at k
 IsFoundKey bytes at found_key.Opens = IsBracket bytes at at
 
--- where a node is due
+-- where a node is expected
 abbrev pub flow_slot : FlowSlot → flow.FlowSlot
 flow_slot slot = record { opening = slot.opening; empty = slot.empty }

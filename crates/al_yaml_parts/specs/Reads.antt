@@ -19,7 +19,7 @@ use Rattle.al_yaml_parts.specs.declared.faults.ReadError.TheVariants as stop
 use Rattle.al_yaml_parts.specs.declared.limits.State as state
 use Rattle.al_yaml_parts.specs.declared.part.Part as code
 
--- What came before: so many nodes, so many bytes of text behind aliases, and the anchors.
+-- What was read so far: the number of nodes, the number of bytes of text of aliases' nodes, and the anchors.
 pub record State : Type 0 where
   pub nodes : ℕ
   pub text : ℕ
@@ -35,28 +35,28 @@ state_after s o = record { nodes = s.nodes + nodes_listed o.starts; text = s.tex
 abbrev pub run_outcome : {A : Type 0} → State → Outcome A → Result (A × State) FaultAt
 run_outcome s o = with_state (state_after s o) (within_limits s.nodes s.text o)
 
--- What is read from a state on, with the state behind it, or the fault or broken limit that is met first.
+-- What is read from a state on, with the state after it, or the fault or broken limit that is met first.
 unfoldable pub run : {A : Type 0} → State → Reading A → Result (A × State) FaultAt
 run s r = run_outcome s (r s.known)
 
--- at a file's start
+-- the state at a file's start
 abbrev pub at_start : State
 at_start = record { nodes = 0; text = 0; known = no_anchors }
 
--- a start with so many bytes of text behind an alias, as limits count it
+-- a start with so many bytes of text of an alias's node, as the limits count it
 abbrev pub start_with : ℕ → ℕ → ℕ → ℕ → Start
 start_with at nodes text depth = record { at = at; nodes = nodes; text = text; depth = depth; alias = false }
 
--- whether an anchor stands behind an offset
+-- whether an anchor is after an offset
 abbrev pub is_later : ℕ → Option Anchor → Bool
 is_later at None = false
 is_later at (Some a) = nat_lt at a.at
 
--- with so many nodes more
+-- the state with so many more nodes
 abbrev pub with_nodes : ℕ → State → State
 with_nodes more s = record { nodes = s.nodes + more; text = s.text; known = s.known }
 
--- with one more anchor
+-- the state with one more anchor
 abbrev pub state_with_anchor : Anchor → State → State
 state_with_anchor a s = record { nodes = s.nodes; text = s.text; known = with_anchor a s.known }
 
@@ -66,14 +66,14 @@ anchor_seen name a = record { name = name; at = a.at; node = view a.node.value }
 unfoldable pub last_anchor : Anchors → List ℕ → Option AnchoredNode
 last_anchor anchors name = get_by (λ k. slice_cmp nat_cmp name k.items) anchors.latest
 
--- what the code knows of anchors: of each name the one that stands last
+-- the anchors that the code knows: of those with the same name the last
 abbrev pub anchors_view : Anchors → KnownAnchors
 anchors_view anchors name = option_map (anchor_seen name) (last_anchor anchors name)
 
 abbrev pub state_of : state.State → State
 state_of s = record { nodes = s.nodes; text = s.text; known = anchors_view s.anchors }
 
--- the anchor whose indicator stands at an offset, before a node
+-- the anchor of a node, whose indicator is at an offset
 abbrev pub anchor_at : List ℕ → ℕ → tree.Node → Anchor
 anchor_at bytes at n = record { name = anchor_name (lines_at bytes at); at = at; node = n }
 
@@ -94,17 +94,17 @@ IsRead seen reading before (Err e) after = FailsWith reading before e
 abbrev pub part_of : List ℕ → code.Part → Part tree.Node
 part_of bytes p = part (view p.node) p.end (lines_at bytes p.next)
 
--- what is left lies behind an offset; it and the end of what was read lie in the file
+-- the next offset to read isn't before this one; it and the end of what was read are in the file
 pub record IsBehind (bytes : List ℕ) (at : ℕ) (p : code.Part) : Type 0 where
   pub from : at ≤ p.next
   pub inside : p.next ≤ length bytes
   pub end : p.end ≤ length bytes
 
--- what an alias that begins the lines stands for, and where it ends
+-- the node that the alias at the beginning of the lines refers to, and where the alias ends
 abbrev pub alias_part : ℕ → List Line → Reading (Part tree.Node)
 alias_part depth ls = alias (anchor_name ls) (start ls) depth >>= (λ n. gives (part n (start (behind_name ls)) (behind_name ls)))
 
--- what is asked ends with a fault, unless memory runs out
+-- the definition's result is this fault, unless memory runs out
 abbrev pub Refuses : {B : Type 0} → Result B FaultAt → ReadError → Type 0
 Refuses asked (stop.Fault f) = asked ≡ Err f
 Refuses asked stop.Memory = Unit {0}
@@ -113,7 +113,7 @@ abbrev pub Answers : {A B : Type 0} → (A → B) → Result B FaultAt → Resul
 Answers seen asked (Ok x) = asked ≡ Ok (seen x)
 Answers seen asked (Err e) = Refuses asked e
 
--- a fault stands in the file, or at its end
+-- a fault is in the file, or at its end
 abbrev pub IsStopInside : ℕ → ReadError → Type 0
 IsStopInside size (stop.Fault f) = f.at ≤ size
 IsStopInside size stop.Memory = Unit {0}

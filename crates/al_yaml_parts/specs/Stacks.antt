@@ -1,4 +1,4 @@
--- A stack of open collections as two lists, the innermost first: flow collections stand inside block collections.
+-- A stack of open collections as two lists, the innermost first: flow collections are inside block collections.
 use Rattle.std.specs.Prelude.{◌≡◌, ℕ, ◌+◌, ◌<◌, List, [], ◌∷◌, length}
 use Rattle.al_yaml_parts.specs.declared.frames.BlockFrame.{BlockFrame}
 use Rattle.al_yaml_parts.specs.declared.frames.FlowFrame.{FlowFrame}
@@ -13,7 +13,7 @@ pub record OpenCollections : Type 0 where
 abbrev pub depth_in : OpenCollections → ℕ
 depth_in now = length now.blocks + 1
 
--- what is open is block collections, and one more can be
+-- only block collections are open, and one more can be opened
 pub record HasRoom (now : OpenCollections) : Type 0 where
   pub outside : now.flows ≡ []
   pub room : length now.blocks < 64
@@ -31,7 +31,7 @@ blocks_of (frame.Block f ∷ fs) = f ∷ blocks_of fs
 abbrev pub opened_of : List Frame → OpenCollections
 opened_of fs = record { flows = flows_of fs; blocks = blocks_of fs }
 
--- no block collection stands in a flow collection
+-- no block collection is in a flow collection
 abbrev pub AreOutside : List Frame → Type 0
 AreOutside [] = Unit {0}
 AreOutside (frame.Flow f ∷ fs) = AreOutside fs

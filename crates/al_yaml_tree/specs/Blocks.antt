@@ -105,7 +105,7 @@ sequence_entries node collection (suc turns) in_mapping column depth done ls = d
 abbrev pub value_slot : ℕ → ℕ → Slot
 value_slot column at = record { spot = behind_key; within = column + 1; in_mapping = true; empty = at }
 
--- The entries of a mapping after those done, from the end of a key on.
+-- The entries of a mapping after those done, the first of which has this key.
 unfoldable pub mapping_entries : BlockReader → CollectionReader → ℕ → ℕ → ℕ → Entries → Key → Reading (Part Entries)
 mapping_entries node collection zero column depth done key = fails yaml.UnexpectedCharacter 0
 mapping_entries node collection (suc turns) column depth done key = do
@@ -167,7 +167,7 @@ unfoldable pub block_property : BlockReader → BlockReader
 block_property content slot depth column ls =
     property (not (is_behind_key slot.spot) && is_on_key ls) ending_line (rest_node content slot depth column ls) depth ls
 
--- Nodes with a depth of nesting below the bound, each with fewer parts than it; the file's length plus one is always enough.
+-- Nodes with a depth of nesting below the bound, each with fewer parts than the bound; the file's length plus one is always enough.
 unfoldable pub block_node : ℕ → BlockReader
 block_node zero slot depth column ls = fails yaml.UnexpectedCharacter 0
 block_node (suc bound) slot depth column ls =

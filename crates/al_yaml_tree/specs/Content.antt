@@ -145,7 +145,7 @@ behind_name ls = behind (length (anchor_cells (drop 1 (first_text ls))) + 1) ls
 abbrev pub has_no_name : List Line → Bool
 has_no_name ls = is_empty (anchor_cells (drop 1 (first_text ls)))
 
--- Whether both begin in the same line.
+-- Whether both lists begin in the same line.
 abbrev pub same_line : List Line → List Line → Bool
 same_line xs ys = first_end xs == first_end ys
 

@@ -19,7 +19,7 @@ use Rattle.al_yaml_tree.specs.Content.{behind, is_file_end, flow_fault, unless_c
 use Rattle.al_yaml_tree.specs.Content.{anchor_name, behind_name, has_no_name, same_line, is_simple_key}
 
 -- What surrounds a node in a flow collection: the offset of the collection's opening bracket, and that of the empty node
--- that takes its place if there is none, if this is allowed.
+-- that takes its place if there is none, where an empty node is allowed.
 pub record FlowSlot : Type 0 where
   pub opening : ℕ
   pub empty : Option ℕ
@@ -172,7 +172,7 @@ flow_node_over collection slot depth ls =
     if is_property (first_text ls) then flow_property collection slot depth ls
     else flow_content collection slot depth ls
 
--- Collections with a depth of nesting below the bound, each with fewer parts than it; the file's length plus one is always enough.
+-- Collections with a depth of nesting below the bound, each with fewer parts than the bound; the file's length plus one is always enough.
 unfoldable pub flow_collection : ℕ → CollectionReader
 flow_collection zero depth ls = fails yaml.UnexpectedCharacter 0
 flow_collection (suc bound) depth ls =

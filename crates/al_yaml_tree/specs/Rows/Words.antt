@@ -1,4 +1,4 @@
--- How the worked rows speak of what was read.
+-- Terms of worked rows for what was read.
 use Rattle.std.specs.Prelude.{ℕ, List, [], ◌∷◌, Option, Some, None, Result, Ok, Err}
 use Rattle.al_base.specs.declared.codes.YamlCode.{YamlCode}
 use Rattle.al_scalar.specs.declared.faults.FaultAt.{FaultAt}
@@ -9,7 +9,7 @@ use Rattle.al_yaml_tree.specs.Document.{tree_of}
 abbrev pub fault_at : YamlCode → ℕ → Option FaultAt
 fault_at code at = Some (record { code = code; at = at })
 
--- the fault, and none for a tree
+-- the fault, or none for a tree
 abbrev pub fault_in : Result Node FaultAt → Option FaultAt
 fault_in (Ok n) = None
 fault_in (Err f) = Some f
