@@ -30,7 +30,7 @@ abbrev pub scope_of : code.Scope → Scope
 scope_of s =
     record { types = type_of_context s.types; available = available_of s.available; in_run = s.in_run }
 
--- the types in a table that the types of the contexts have
+-- the types of the contexts, as types in a table
 pub record StandFor (types : Types) (ns : numbers.ContextTypes) (ts : ContextTypes) : Type 0 where
   pub known : (c : Context) → is_known types (context_number ns c) ≡ true
   pub are : (c : Context) → type_at types (context_number ns c) ≡ type_of_context ts c

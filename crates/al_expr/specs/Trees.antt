@@ -1,4 +1,4 @@
--- What contracts see of trees: the type that each stands for.
+-- What contracts see of trees: the type that each of them represents.
 use Rattle.std.specs.Prelude.{List, [], ◌∷◌, Option, Some, None, Box, string_bytes}
 use Rattle.std.specs.Global.{Global}
 use Rattle.al_types.specs.Puts.{TypedName, firsts}

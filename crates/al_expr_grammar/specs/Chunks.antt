@@ -1,8 +1,8 @@
 -- The chunks of a text, `${{ .. }}` (GitHub, "Evaluate expressions in workflows and actions").
 --
--- A text splits into what stands before its first `${{`, that opening, a content, the closing `}}` and the rest, whose chunks follow. The
--- closing is the first `}}` outside quotes: an even number of single quotes stands in the content before it. So at most one splitting is
--- right, and the chunks are the only ones.
+-- A text splits into the bytes before its first `${{`, that opening, a content, the closing `}}` and the rest, whose chunks follow. The
+-- closing is the first `}}` outside quotes: the content before it has an even number of single quotes. So at most one split is right, and
+-- the chunks are unique.
 use Rattle.std.specs.Prelude.{◌≡◌, ℕ, zero, suc, ◌+◌, ◌-◌, List, [], ◌∷◌, Bool, true, ◌&&◌, not, if◌then◌else◌, length}
 use Rattle.std.specs.Prelude.{codes, drop, find, nat_eq, slice_range, take, Option, Some, None, option_map}
 use Rattle.std.specs.List.{range_with_len, starts_with}

@@ -10,7 +10,7 @@ use Rattle.al_expr_grammar.specs.Tree.{Operands, NoOperand, OperandThen}
 abbrev pub across : Span → Span → Span
 across a b = span a.start b.end
 
--- up to the end of a path's last step, from what stands before the steps
+-- from the span of what is before a path's steps up to the end of the last step
 abbrev pub with_steps : Span → PathSteps → Span
 with_steps x NoStep = x
 with_steps x (PropertyThen d b s ss) = with_steps (across x s) ss

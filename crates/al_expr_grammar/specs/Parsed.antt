@@ -16,18 +16,18 @@ use Rattle.al_expr_grammar.specs.Grammar.{Nonterminal, Binary, Unary, Postfix, P
 use Rattle.al_expr_grammar.specs.View.{expr_view, step_of}
 use Rattle.al_expr_grammar.specs.Table.{Verdict, Early, Unexpected, TooDeep, E, O, Frame, Call, outside, scan}
 
--- No negation stands open in the innermost bracket where a chain of operators begins.
+-- No negation is open in the innermost bracket where a chain of operators begins.
 abbrev pub StartsAt : Nonterminal → ℕ → Type 0
 StartsAt (Binary l) k = k ≡ 0
 StartsAt _ k = Unit {0}
 
--- No path goes on.
+-- The path doesn't continue.
 abbrev pub EndsPath : List TokenKind → Type 0
 EndsPath (Dot ∷ ts) = ⊥
 EndsPath (OpenIndex ∷ ts) = ⊥
 EndsPath _ = Unit {0}
 
--- Neither a path goes on nor an operator of this level or a tighter one.
+-- The path doesn't continue, and no operator of this level or a tighter one follows.
 abbrev pub EndsLevel : ℕ → List TokenKind → Type 0
 EndsLevel l (Dot ∷ ts) = ⊥
 EndsLevel l (OpenIndex ∷ ts) = ⊥
@@ -47,19 +47,19 @@ pub record Parsed (p : Nonterminal) (room : ℕ) (ts : List Lexeme) (t : Tree) (
   pub stops : EndsRule p (kinds rest)
   pub shorter : length rest < length ts
 
--- Unless memory ran out, the table comes to this fault.
+-- Unless memory ran out, the verdict of the table is this fault.
 abbrev pub IsVerdict : ParseError → Verdict → Type 0
 IsVerdict error.Memory v = Unit {0}
 IsVerdict error.Early v = v ≡ Early
 IsVerdict (error.Unexpected left) v = v ≡ Unexpected left
 IsVerdict (error.TooDeep left) v = v ≡ TooDeep left
 
--- From where an operand is expected it does.
+-- Where an operand is expected, the verdict is this fault.
 abbrev pub Refused : Nonterminal → ℕ → List Lexeme → ParseError → Type 0
 Refused p room ts e = (k : ℕ) (st : List Frame) → StartsAt p k → k + outside st + room ≡ deepest_expression
     → IsVerdict e (scan E k st (kinds ts))
 
--- The result of parsing an expression: a tree of this kind at the front of the tokens, with those left, or the fault.
+-- The result of parsing an expression: a tree of this kind for a prefix of the tokens, with the tokens left, or the fault.
 abbrev pub Parses : Nonterminal → ℕ → List Lexeme → Result (Expr × Bor (List Token)) ParseError → Type 0
 Parses p room ts result =
     MatchResult result (λ x. Parsed p room ts (expr_view x.0) (map seen x.1.now)) (λ e. Refused p room ts e)
@@ -84,7 +84,7 @@ pub record PartOfCall (room : ℕ) (ts : List Lexeme) (more : List Tree) (rest :
   pub stops : EndsLevel 3 (kinds rest)
   pub shorter : length rest ≤ length ts
 
--- A path goes on.
+-- The path continues.
 abbrev pub GoesOn : List TokenKind → Type 0
 GoesOn (Dot ∷ ts) = Unit {0}
 GoesOn (OpenIndex ∷ ts) = Unit {0}
@@ -96,7 +96,7 @@ pub record StepRead (room : ℕ) (ts : List Lexeme) (s : StepTree) (rest : List 
   pub goes : (k : ℕ) (st : List Frame) → k + outside st + room ≡ deepest_expression → scan O k st (kinds ts) ≡ scan O k st (kinds rest)
   pub shorter : length rest < length ts
 
--- After an operand, the table comes to this fault.
+-- After an operand, the verdict of the table is this fault.
 abbrev pub StepRefused : ℕ → List Lexeme → ParseError → Type 0
 StepRefused room ts e = (k : ℕ) (st : List Frame) → k + outside st + room ≡ deepest_expression → IsVerdict e (scan O k st (kinds ts))
 

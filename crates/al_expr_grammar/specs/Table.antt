@@ -10,12 +10,12 @@ use Rattle.al_expr_grammar.specs.declared.token.TokenKind.TheVariants.{Comma, St
 pub data Mode : Type 0 where
   E A I S D O N : Mode
 
--- an open bracket, with the negations that stood open before it in its own bracket
+-- an open bracket, with the number of negations that were open before it in the bracket around it
 pub data Frame : Type 0 where
   Group Call Index : ℕ → Frame
 
--- What a token leads to: nothing; a mode with this many negations open in the innermost bracket, and the open brackets; or the same one
--- level deeper.
+-- What a token leads to: nothing, as it isn't allowed; a mode with this many negations open in the innermost bracket, and the open
+-- brackets; or the same one level deeper.
 pub data Transition : Type 0 where
   Stuck : Transition
   Go Deeper : Mode → ℕ → List Frame → Transition

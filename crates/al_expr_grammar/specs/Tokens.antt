@@ -1,7 +1,7 @@
 -- The tokens of a content.
 --
--- A content splits into what stands first and the rest behind it, whose tokens follow: a blank, or a token, the longest that begins there.
--- Else its first character begins none, or a text is never closed.
+-- A content splits into a first part and the rest, whose tokens follow: the part is a blank, or a token, the longest that begins there.
+-- Otherwise the first character begins no token, or a text is never closed.
 use Rattle.al_base.specs.Ascii.{ascii, is_sign}
 use Rattle.al_base.specs.FirstBytes.{first_is, begins_with}
 use Rattle.al_expr_grammar.specs.declared.token.Operator.TheVariants.{Or, And, Equal, NotEqual, Less, LessEqual, Greater, GreaterEqual}
@@ -131,7 +131,7 @@ then_token t other = other
 abbrev pub character_span : ℕ → List ℕ → Span
 character_span at bs = span at (at + 1 + prefix_len (is_in_range 128 191) (drop 1 bs))
 
--- what bytes begin with, and the rest after it
+-- the tokens of bytes, given the part that they begin with
 abbrev pub with_first : (ℕ → List ℕ → Lexed) → Read → ℕ → List ℕ → Lexed
 with_first rest Blank at bs = rest (at + 1) (drop 1 bs)
 with_first rest (Token k n) at bs = then_token (lexeme k (take n bs) (span at (at + n))) (rest (at + n) (drop n bs))

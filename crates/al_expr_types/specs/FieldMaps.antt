@@ -10,6 +10,6 @@ use Rattle.al_expr_types.specs.declared.fields.FieldMap.{FieldMap}
 abbrev pub fields_in : List Parts → FieldMap → List TypedName
 fields_in ms m = named_types ms (names_in m.names) m.types.items
 
--- whether the objects of their types are there
+-- whether their types refer only to objects with numbers below n
 abbrev pub is_map_below : ℕ → FieldMap → Bool
 is_map_below n m = list_all (is_below n) m.types.items

@@ -15,7 +15,7 @@ join_in ms join.Nothing = Absent
 join_in ms (join.One t) = Present (type_in ms t)
 join_in ms (join.Objects s) = Present (object_join_type ms s)
 
--- whether its objects are there
+-- whether it refers only to objects with numbers below n
 abbrev pub is_join_below : ℕ → Join → Bool
 is_join_below n join.Nothing = true
 is_join_below n (join.One t) = is_below n t

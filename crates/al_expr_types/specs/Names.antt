@@ -1,4 +1,4 @@
--- How names are seen: as their bytes.
+-- Names as their bytes.
 use Rattle.std.specs.Prelude.{ℕ, List, map}
 use Rattle.al_expr_types.specs.declared.names.Names.{Names}
 

@@ -11,7 +11,7 @@ use Rattle.al_expr_types.specs.declared.name_index.NameIndex.{NameIndex}
 unfoldable pub place_in : NameIndex → List ℕ → Option ℕ
 place_in index name = get_by (λ k. key_cmp (sort_key (lower_case name)) (k.0, k.1.items)) index.positions
 
--- an index that gives the first position of each name in a list
+-- an index of the first position of each name in a list
 abbrev pub IsNameIndex : NameIndex → List (List ℕ) → Type 0
 IsNameIndex index ns = place_in index ≡ name_place ns
 

@@ -93,7 +93,7 @@ parts_after ms (o ∷ os) = let p = object_parts ms o in p ∷ parts_after (ms +
 abbrev pub parts_of_all : List Object → List Parts
 parts_of_all os = parts_after [] os
 
--- ---- numbers of objects that are there
+-- ---- whether only objects with numbers below n are referred to
 
 abbrev pub is_base_below : ℕ → Base → Bool
 is_base_below n (base.Scalar s) = true

@@ -27,7 +27,7 @@ use Rattle.al_expr_grammar.specs.Tree.{Tree, sign, Constant, Named, Call, Group,
 use Rattle.al_expr_grammar.specs.Tree.{PropertyThen, AllThen, IndexThen, Operands, NoOperand}
 use Rattle.al_expr_grammar.specs.Tree.{OperandThen, Arguments, NoArgument, ArgumentThen}
 
--- a type with the faults found on the way
+-- a type, and the faults that were found
 pub data Typed : Type 0 where
   typed : Type' → List Fault → Typed
 
@@ -167,8 +167,8 @@ call_from sc b s (Some f) ts as' =
 abbrev pub call : Scope → List ℕ → Span → Option Function → Arguments → List (Type' × Span) × List Fault → Typed
 call sc b s f ts given = faults_then given.1 (call_from sc b s f ts given.0)
 
--- The type of an expression, with its faults. The flag tells whether X19 isn't reported, as in an argument of a
--- function that only tests it, or an operand of a comparison or of `!`.
+-- The type of an expression, with its faults. The flag says that X19 isn't reported, as in an argument of a function
+-- that only tests it, or in an operand of a comparison or of `!`.
 abbrev mutual
   pub meaning : Scope → Bool → Tree → Typed
   meaning sc safe (Constant w s) = typed (type_of_keyword w) []

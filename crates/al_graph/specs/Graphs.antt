@@ -6,11 +6,11 @@ use Rattle.std.specs.declared.alloc.Global.{Global}
 abbrev pub edges_of : List (Vec ℕ Global) → List (List ℕ)
 edges_of = map (λ v. v.items)
 
--- an edge leads from one node to another
+-- there is an edge from one node to another
 abbrev pub Edge : List (List ℕ) → ℕ → ℕ → Type 0
 Edge graph j k = Contains (slice_index_or graph j []) k
 
--- a walk leads from one node to another, possibly without a step
+-- a walk from one node to another, possibly without edges
 pub data Walk (graph : List (List ℕ)) (from : ℕ) : ℕ → Type 0 where
   here : Walk graph from from
   onward : (j k : ℕ) → Walk graph from j → Edge graph j k → Walk graph from k

@@ -20,7 +20,7 @@ pub record Scope : Type 0 where
   pub available : Available
   pub in_run : Bool
 
--- the functions that tell the status of the job so far
+-- the status check functions
 abbrev pub status : List Function
 status = Always ∷ Cancelled ∷ Success ∷ Failure ∷ []
 

@@ -1,4 +1,4 @@
--- What rows of tokens are written with.
+-- Terms for rows of tokens.
 use Rattle.std.specs.Prelude.{ℕ, ◌+◌, List, length}
 use Rattle.al_expr_grammar.specs.declared.token.Keyword.TheVariants as keyword
 use Rattle.al_expr_grammar.specs.declared.token.Operator.TheVariants as operator
@@ -7,7 +7,7 @@ use Rattle.al_expr_grammar.specs.declared.token.TokenKind.TheVariants as kind
 use Rattle.al_expr_grammar.specs.Lexeme.{Lexeme, lexeme}
 use Rattle.al_base.specs.Spans.{span}
 
--- a token of such a kind and text at a place
+-- a token of this kind with this text, at an offset
 abbrev pub token : TokenKind → List ℕ → ℕ → Lexeme
 token k text at = lexeme k text (span at (at + length text))
 

@@ -1,11 +1,11 @@
--- What rows of trees are written with.
+-- Terms for rows of trees.
 use Rattle.std.specs.Prelude.{ℕ, ◌+◌, List, length}
 use Rattle.al_base.specs.declared.faults.Span.{Span}
 use Rattle.al_base.specs.Spans.{span}
 use Rattle.al_expr_grammar.specs.declared.token.Operator.{Operator}
 use Rattle.al_expr_grammar.specs.Tree.{Sign, sign, Tree, Named, Path, Chain, StepTree, Property, steps_of, operands_of}
 
--- where a mark of one byte stands
+-- the span of a mark of one byte
 abbrev pub mark_at : ℕ → Span
 mark_at at = span at (at + 1)
 
@@ -15,7 +15,7 @@ name_at at text = Named text (span at (at + length text))
 abbrev pub property_at : ℕ → List ℕ → StepTree
 property_at at text = Property (mark_at at) text (span (at + 1) (at + 1 + length text))
 
--- an operator from and to these places, with the operand behind it
+-- an operator with this start and end, and the operand after it
 abbrev pub operation : Operator → ℕ → ℕ → Tree → Sign × Tree
 operation o start end t = (sign o (span start end), t)
 
