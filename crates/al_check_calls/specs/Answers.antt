@@ -26,7 +26,7 @@ calls_with_answers (c ∷ cs) answers =
     cons_option (option_map (λ t. answered_by c (slice_index_or answers 0 None)) (target_in c.form))
     (calls_with_answers cs (option_map_or (λ t. drop 1 answers) (target_in c.form) answers))
 
--- the type of a value given at a call, by its key and its scalar
+-- the type of a value that a call passes, by its key and its scalar
 abbrev pub Typing : Type 0
 Typing = Site → Node → Scalar → Type'
 

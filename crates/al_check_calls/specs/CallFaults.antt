@@ -65,7 +65,7 @@ callable_signature by answer = None
 abbrev pub called_name : Call → Signature → List ℕ
 called_name c s = option_map_or (λ n. n) s.name c.text
 
--- the parameters of each kind that a call gives, and their faults: a name that isn't declared is C2 or C5, one that is missing C3 or C6
+-- the parameters of each kind that a call passes, and their faults: a name that isn't declared is C2 or C5, one that is missing C3 or C6
 abbrev pub given_by : ParameterKind → Node → List (Node × Node)
 given_by kind.Input n = entries_at (codes "with") n
 given_by kind.Secret n = entries_at (codes "secrets") n
@@ -78,7 +78,7 @@ abbrev pub missing_code : ParameterKind → CallCode
 missing_code kind.Input = code.MissingInput
 missing_code kind.Secret = code.MissingSecret
 
--- what a step gives to a container needs no input of the called file
+-- what a step passes to a container needs no input of the called file
 abbrev pub is_free_for : ParameterKind → Caller → List ℕ → Bool
 is_free_for kind.Input caller.Step name = named_among (codes "args" ∷ codes "entrypoint" ∷ []) name
 is_free_for kind.Input caller.Job name = false
@@ -130,7 +130,7 @@ type_faults c e t i =
     if assignable_type t (input_type i.takes) then []
     else call_fault code.WrongInput c (span_of e.1) (i.name ∷ type_name i.takes ∷ []) ∷ []
 
--- a given value with its type, which is any if the value isn't a scalar
+-- a value that a call passes, with its type, which is any if the value isn't a scalar
 abbrev pub Given : Type 0
 Given = (Node × Node) × Type'
 

@@ -21,7 +21,7 @@ use Rattle.al_check_calls.specs.Answers.{Answered, Typing, calls_with_answers, a
 use Rattle.al_check_calls.specs.Outputs.{outputs_behind}
 use Rattle.al_check_calls.specs.Types.{type_of_given}
 
--- what is known of the outputs behind calls
+-- what is known of the outputs of a call
 abbrev pub known_of_call : Answered → Behind
 known_of_call a = record { job = a.call.site.job; step = a.call.site.step; names = outputs_behind a }
 
@@ -38,7 +38,7 @@ place_of_value job key s =
 abbrev pub value_type_in_job : FileKind → OutputNames → Node → List ℕ → Node → Scalar → Type'
 value_type_in_job kind known root job key s = type_of_given (scope_at kind known root (place_of_value job key s)) s
 
--- the types of the values that calls give; those of steps aren't used
+-- the types of the values that calls pass; those of steps aren't used
 abbrev pub typing : FileKind → OutputNames → Node → Typing
 typing kind known root site = value_type_in_job kind known root (unwrap_or site.job [])
 

@@ -7,11 +7,11 @@ use Rattle.al_check_interfaces.specs.declared.interfaces.Role.TheVariants as rol
 use Rattle.al_check_calls.specs.Answers.{Answered}
 use Rattle.al_check_calls.specs.CallFaults.{callable_signature}
 
--- only the code of an action of another kind tells what it sets
+-- which outputs an action that isn't composite sets depends on its code
 abbrev pub shows_outputs : Role → Bool
 shows_outputs role.Action = false
 shows_outputs r = true
 
--- the outputs behind a call
+-- the outputs of a call, if they are known
 abbrev pub outputs_behind : Answered → Option (List (List ℕ))
 outputs_behind a = option_and_then (λ s. then_some (shows_outputs s.role) s.outputs) (callable_signature (site_caller a.call.site) a.answer)

@@ -1,4 +1,4 @@
--- The type of a scalar that is given to an input.
+-- The type of a scalar that is passed to an input.
 use Rattle.std.specs.Prelude.{ℕ, List, ◌-◌, length, Option, None, Some, slice_range, if◌then◌else◌}
 use Rattle.std.specs.Option.{option_map_or}
 use Rattle.al_scalar.specs.Scalar.{Scalar, text_of}

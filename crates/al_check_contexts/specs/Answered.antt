@@ -1,4 +1,4 @@
--- What is known of the outputs behind calls, as a list.
+-- What is known of the outputs of calls, as a list.
 use Rattle.std.specs.Prelude.{ℕ, List, Bool, ◌&&◌, ◌==◌, Option, option_and_then, find, map, slice_get}
 use Rattle.std.specs.Option.{option_copied, option_eq}
 use Rattle.std.specs.Str.{bytes_eq}
@@ -12,11 +12,11 @@ pub record Behind : Type 0 where
   pub step : Option ℕ
   pub names : Option (List (List ℕ))
 
--- it is known at this place
+-- whether it is about this job and step
 abbrev pub is_at : Option (List ℕ) → Option ℕ → Behind → Bool
 is_at job step b = option_eq (λ i k. i == k) b.step step && option_eq bytes_eq b.job job
 
--- the names of the first answer at a place
+-- the names in the first answer for a job or a step
 abbrev pub known_in : List Behind → OutputNames
 known_in bs job step = option_and_then (λ b. b.names) (find (is_at job step) bs)
 

@@ -25,7 +25,7 @@ use Rattle.al_types.specs.Strings.{named_strings}
 use Rattle.al_check_objects.specs.Objects.{strictly, loose_strings, loose_any}
 use Rattle.al_types.specs.Puts.{TypedName, firsts}
 
--- What is known of the names of outputs behind calls: of a job by its key, of a step by its index and the key of its job, or without a
+-- What is known of the names of the outputs of calls: of a job by its key, of a step by its index and the key of its job, or without a
 -- key in an action. None if nothing is known.
 abbrev pub OutputNames : Type 0
 OutputNames = Option (List ℕ) → Option ℕ → Option (List (List ℕ))

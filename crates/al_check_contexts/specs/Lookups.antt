@@ -12,7 +12,7 @@ use Rattle.al_check_contexts.specs.Contexts.{OutputNames, job_field, step_type}
 use Rattle.al_check_objects.specs.Objects.{loose_any, loose_strings, strictly}
 use Rattle.al_check_contexts.specs.declared.known.Outputs.{Outputs}
 
--- the names at a place, if there is an answer there; Some None if nothing is known of them
+-- the names in the answer for a job or a step, if there is one; Some None if nothing is known of them
 abbrev pub Found : Type 0
 Found = Option (List ℕ) → Option ℕ → Option (Option (List (List ℕ)))
 
@@ -28,7 +28,7 @@ found_at o job step =
     option_map (option_and_then (list_at o)) (get_by
     (λ k. ordering_then (option_cmp (slice_cmp nat_cmp) job (option_copied k.0)) (option_cmp nat_cmp step k.1)) o.positions)
 
--- with one more answer at the front
+-- with one more answer before the others
 abbrev pub and_found : Behind → Found → Found
 and_found b found job step = if is_at job step b then Some b.names else found job step
 

@@ -17,7 +17,7 @@ first_fields known o k = firsts (filter_map (step_field known o.0) (enumerate_fr
 abbrev pub IsCount : List TypedName → ℕ → List TypedName → Type 0
 IsCount ts n us = (n ≤ length ts) × (take n ts ≡ us)
 
--- there is a count for each prefix of some steps, which gives the fields of the prefix
+-- each prefix of some steps has a count: as many first fields are the fields of the prefix
 pub record AreSteps (types : Types) (known : OutputNames) (o : Owner) (s : StepFields) : Type 0 where
   pub all : length s.counts.items ≡ length o.1 + 1
   pub counts : (k : ℕ) → k < length s.counts.items →

@@ -18,7 +18,7 @@ use Rattle.al_expr_typing.specs.Meaning.{faults_found, meaning_of, type_found}
 use Rattle.al_tree.specs.Faults.{has_chunk}
 use Rattle.al_check_places.specs.Places.{Place}
 
--- the chunks of a text with this many bytes are a single one, from its start to its end
+-- whether a text with this many bytes is a single chunk, from its start to its end
 abbrev pub is_whole_span : ℕ → List Span → Bool
 is_whole_span len (s ∷ []) = (s.start == 3) && (s.end + 2 == len)
 is_whole_span len _ = false
@@ -40,7 +40,7 @@ span_in_file s i j =
 abbrev pub fault_in_file : Scalar → ℕ → Fault → Fault
 fault_in_file s by f = record f { span = span_in_file s (by + f.span.start) (by + f.span.end) }
 
--- X18: an object or array beside other text, or where only a scalar is accepted
+-- X18: an object or array with other text around it, or where only a scalar is accepted
 abbrev pub collection_faults : Bool → Bool → Type' → Tree → List Fault
 collection_faults is_alone is_scalar_only t tree =
     if is_collection t && (not is_alone || is_scalar_only) then expression_fault code.NotText (extent tree) [] ∷ [] else []

@@ -12,7 +12,7 @@ is_parameter name p = same_name p.name name
 abbrev pub has_parameter : List Parameter → List ℕ → Bool
 has_parameter ps = named_among (map (λ p. p.name) ps)
 
--- a parameter is mandatory: each call has to give it
+-- a parameter is mandatory: each call has to pass it
 abbrev pub is_mandatory : Parameter → Bool
 is_mandatory p = p.required && not p.has_default
 

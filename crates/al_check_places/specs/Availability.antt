@@ -63,7 +63,7 @@ abbrev pub longer : Option Row → Row → Option Row
 longer None r = Some r
 longer (Some q) r = if nat_lt (length q.path) (length r.path) then Some r else Some q
 
--- the row with the longest path that begins the keys; None if everything is available
+-- the row with the longest path that is a prefix of the keys; None if everything is available
 abbrev pub availability : List (List ℕ) → Option Row
 availability ks = fold longer None (filter (λ r. is_path_prefix r.path ks) table)
 

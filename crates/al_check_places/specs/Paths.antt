@@ -16,7 +16,7 @@ abbrev pub path : String → Path
 path text =
     map (λ k. if bytes_eq k (codes "*") then None else Some k) (slice_split (nat_eq 46) (codes text))
 
--- the keys begin with the path
+-- whether the path is a prefix of the keys
 abbrev pub is_path_prefix : Path → List (List ℕ) → Bool
 is_path_prefix [] ks = true
 is_path_prefix (p ∷ ps) [] = false

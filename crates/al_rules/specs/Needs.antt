@@ -37,7 +37,7 @@ all_needs jobs = flat_map needs_in (enumerate_from 0 jobs)
 abbrev pub cycle_fault : NeedEntry → Fault
 cycle_fault n = rule_fault NeedsCycle n.text.span (n.key.text ∷ n.text.text ∷ [])
 
--- The fault of an entry: its job isn't defined; a walk of needs leads from it back to this job; or none.
+-- The fault of an entry: its job isn't defined; there is a walk of needs from that job back to this one; or none.
 pub data IsNeedFaults (Leads : ℕ → ℕ → Type 0) (n : NeedEntry) : Option ℕ → List Fault → Type 0 where
   undefined_job : IsNeedFaults Leads n None (about UndefinedJob n.text)
   leads_back : (j : ℕ) → Leads j n.job → IsNeedFaults Leads n (Some j) (cycle_fault n ∷ [])

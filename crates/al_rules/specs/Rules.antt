@@ -120,7 +120,7 @@ AreRuleFaults kind.Action root found = found ≡ action_faults root
 abbrev pub IsRuleFaults : Tree → List Fault → Type 0
 IsRuleFaults file found = AreRuleFaults (kind_in file) (root_of file) found
 
--- The list begins with what it held, and now has the faults of the rules.
+-- The faults of the rules are added to the list.
 pub record AddsRules (file : Tree) (old new : List Fault) : Type 0 where
   pub found : List Fault
   pub rules : IsRuleFaults file found

@@ -32,7 +32,7 @@ abbrev pub day_names : List (List ℕ × ℕ)
 day_names =
     (codes "sun", 0) ∷ (codes "mon", 1) ∷ (codes "tue", 2) ∷ (codes "wed", 3) ∷ (codes "thu", 4) ∷ (codes "fri", 5) ∷ (codes "sat", 6) ∷ []
 
--- the number that these digits are
+-- the number with these decimal digits
 abbrev pub written_number : List ℕ → Option ℕ
 written_number bs = then_some (nat_lt 0 (length bs) && list_all is_ascii_digit bs) (decimal bs)
 

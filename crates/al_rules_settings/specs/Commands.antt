@@ -16,7 +16,7 @@ place_behind at = if nat_lt at (2 ^ 32 - 1) then at + 1 else at
 abbrev pub part_span : Scalar → ℕ → ℕ → Span
 part_span s i n = record { start = offset_of s i; end = place_behind (offset_of s (i + n - 1)) }
 
--- a command: the text that gives it, and its name
+-- a command: the text that it begins with, and its name
 abbrev pub commands : List (List ℕ × List ℕ)
 commands =
     (codes "::set-output name=", codes "set-output") ∷ (codes "::save-state name=", codes "save-state")

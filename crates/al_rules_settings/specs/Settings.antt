@@ -62,7 +62,7 @@ credentials_faults container = option_map_or password_faults (value_below (codes
 abbrev pub script_faults : Option (Scalar × Span) → List Fault
 script_faults run = option_map_or (λ s. command_faults s.0) run []
 
--- a condition that is always true: an expression, with other text beside it
+-- a condition that is always true: an expression with other text around it
 abbrev pub is_always_true : List ℕ → Bool
 is_always_true text = has_chunk text && not (is_lone_chunk Blanks text)
 

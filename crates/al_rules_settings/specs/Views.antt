@@ -12,6 +12,6 @@ named_of n = record { text = n.text.now; span = n.span }
 abbrev pub named_scalar : ScalarNode → Named
 named_scalar s = of_scalar (scalar_node_of s)
 
--- the text that gives a command, and its name
+-- the text that a command begins with, and its name
 abbrev pub command_of : Command → List ℕ × List ℕ
 command_of c = (c.needle.now, c.name.now)

@@ -21,7 +21,7 @@ of_key n = record { text = key_text n; span = span_of n }
 abbrev pub of_scalar : Scalar × Span → Named
 of_scalar s = record { text = text_of s.0; span = s.1 }
 
--- A fault that names these texts. Its arguments are UTF-8: bytes that aren't, of which reading a file gives none, are U+FFFD.
+-- A fault with these texts as arguments, which are UTF-8: bytes that aren't become U+FFFD, but no file that was read has any.
 abbrev pub rule_fault : RuleCode → Span → List (List ℕ) → Fault
 rule_fault rule at texts = record { span = at; code = code.Rule rule; args = map utf8_lossy texts }
 

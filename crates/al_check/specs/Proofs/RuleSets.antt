@@ -1,4 +1,4 @@
--- The faults of rules as a function of the tree are those that the relation of the rules gives.
+-- The faults of rules as a function of the tree satisfy the relation of the rules.
 use Rattle.std.proofs.Common.{◌≡◌, ℕ, suc, List, [], ◌∷◌, length, refl, sym, ◌∙◌, Bool, true, false, cond, Option, Some, None}
 use Rattle.std.specs.List.{flat_map}
 use Rattle.std.proofs.lemmas.Bool.{false≢true}

@@ -18,7 +18,7 @@ use Rattle.al_check_calls.specs.Answers.{call_faults_in}
 abbrev pub found : CallCode → Caller → Span → List (List ℕ) → Fault
 found c by span args = record { span = span; code = code_of.Call c by; args = args }
 
--- the faults of the calls of a workflow, where what is given has one type
+-- the faults of the calls of a workflow, where all values that are passed have one type
 abbrev pub faults_with : Type' → Node → List (Option Interface) → List Fault
 faults_with t root answers = call_faults_in kind.Workflow (λ site key s. t) root answers
 

@@ -1,4 +1,4 @@
--- Words to write small files and their places with.
+-- Terms for small files and their places.
 use Rattle.std.specs.Prelude.{ℕ, ◌+◌, ◌==◌, List, [], ◌∷◌, Bool, true, false, ◌&&◌, not, length, map}
 use Rattle.std.specs.List.{list_all, list_any}
 use Rattle.std.specs.Option.{option_map_or}
@@ -12,7 +12,7 @@ use Rattle.al_scalar.specs.declared.styles.Style.TheVariants.{Plain}
 use Rattle.al_yaml_tree.specs.Node.{Node, scalar}
 use Rattle.al_tree.specs.declared.files.FileKind.{FileKind}
 
--- bytes that stand one behind another from an offset on
+-- bytes at consecutive offsets from this one on
 abbrev pub run : List ℕ → ℕ → List Cell
 run [] i = []
 run (b ∷ bs) i = (b, i) ∷ run bs (i + 1)
@@ -28,7 +28,7 @@ abbrev pub word : List ℕ → ℕ → Node
 word = plain Str
 
 -- where a place starts, whether it takes only a scalar, is a condition, is a script, and how many contexts (99: all) and special
--- functions stand there
+-- functions are available there
 abbrev pub Row : Type 0
 Row = ℕ × Bool × Bool × Bool × ℕ × ℕ
 

@@ -1,4 +1,4 @@
--- Small files, as their trees, and how the worked rows write them. Each stands as its text above its tree.
+-- Small files, as their trees, and how the worked rows write them. The text of each is above its tree.
 use Rattle.std.specs.Prelude.{ℕ, ◌+◌, List, [], ◌∷◌, codes, length}
 use Rattle.al_scalar.specs.Line.{Cell}
 use Rattle.al_scalar.specs.declared.styles.Class.{Class}

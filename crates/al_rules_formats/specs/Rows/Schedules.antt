@@ -3,7 +3,7 @@ use Rattle.std.specs.Prelude.{ℕ, List, [], ◌∷◌, codes, Bool, false, not,
 use Rattle.al_rules_formats.specs.Schedules.{is_too_often, schedule_of}
 use Rattle.al_rules_formats.specs.declared.schedules.Item.{Item}
 
--- the numbers from one to another, each so many further
+-- the numbers from low to high, in steps
 abbrev pub every : ℕ → ℕ → ℕ → Item
 every low high step = record { low = low; high = high; step = step }
 
