@@ -29,7 +29,7 @@ FUNCTION = re.compile(r"^( *)(?:pub(?:\([a-z]+\))? )?(?:(?:const|unsafe|async) )
 OWNER = re.compile(r"^(?:unsafe )?(?:impl|trait)\b(?:<[^>]*>)? *([\w:]+)(?:<[^{]*>)?(?: for ([\w:]+))?", re.MULTILINE)
 CYCLE = re.compile(r"#\[cycle\((\w+)\)\]")
 # what a check says of a function one of whose goals has no answer, and of a place of a proof that is wrong
-FAILED = re.compile(r"^fn (\S+): no proof: expected answers in ", re.MULTILINE)
+FAILED = re.compile(r"^fn (\S+): (?:no proof: expected answers in |not proved$)", re.MULTILINE)
 WRONG = re.compile(r"^(?:note: )?(?:\./)?proofs/(\S+)/\w+\.antt:\d+:\d+: error(.*)$", re.MULTILINE)
 # a proof that names what an edit took away tells nothing of the contract
 TAKEN = re.compile(r"has no field|is not in scope|has no `|was not admitted")

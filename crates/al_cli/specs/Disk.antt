@@ -1,4 +1,4 @@
--- What a run gets from a disk.
+-- What a run reads from a disk.
 use Rattle.std.specs.Prelude.{◌≤◌, ◌+◌, length}
 use Rattle.al_base.specs.Limits.{largest_file}
 use Rattle.al_cli.specs.declared.disk.Entry.{Entry}

@@ -23,7 +23,7 @@ pub record AreGathered (files : List (List ℕ × List ℕ)) : Type 0 where
 
 -- Which files are taken, and in which order
 
--- these with a path at the end, unless it is among them
+-- these with a path appended, unless it is among them
 abbrev pub with_path : List (List ℕ) → List ℕ → List (List ℕ)
 with_path paths p = if is_among p paths then paths else paths ++ p ∷ []
 

@@ -15,7 +15,7 @@ use Rattle.al_check_interfaces.specs.contracts.interfaces.InterfacePartialEq.The
 use Rattle.al_cli_scripts.specs.Script.{Command, Put, Delete, Report}
 use Rattle.al_cli_scripts.specs.Runs.{Steps}
 
--- the number that a reply gives
+-- the number of a refusal in its reply
 abbrev pub refusal_number : Refused → ℕ
 refusal_number BadPath = 1
 refusal_number NotAccepted = 2
@@ -52,7 +52,7 @@ reply_to oneline folder (Put path bytes) = edit_reply (put_refusal linting folde
 reply_to oneline folder (Delete path) = edit_reply (delete_refusal linting folder path) folder (without_file folder path)
 reply_to oneline folder Report = report_of oneline linting folder ++ (codes "status " ++ decimal (status_of linting folder) ++ codes "\n")
 
--- why a command is refused, other than for lack of memory
+-- why a command is refused, unless it is because memory ran out
 abbrev pub refusal_of : Folder → Command → Option Refused
 refusal_of folder (Put path bytes) = put_refusal linting folder path bytes
 refusal_of folder (Delete path) = delete_refusal linting folder path

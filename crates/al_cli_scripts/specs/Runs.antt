@@ -21,7 +21,7 @@ abbrev pub replies_to : {F : Type 0} → Steps F → F → List Command → List
 replies_to steps folder [] = []
 replies_to steps folder (c ∷ cs) = steps.reply folder c ++ replies_to steps (steps.after folder c) cs
 
--- these bytes are whole commands and then rest; with the replies to them, and the folder after them
+-- these bytes are whole commands and then rest, with the replies to the commands, and the folder after them
 pub record Served {F : Type 0} (steps : Steps F) (start : F) (bytes : List ℕ) (folder : F) (replies rest : List ℕ) : Type 0 where
   pub commands : List Command
   pub each : All IsCommand commands
@@ -48,9 +48,9 @@ pub record Puts {F : Type 0} (steps : Steps F) (start : F) (script out : List �
 abbrev pub PutsPrefix : {F : Type 0} → Steps F → F → List ℕ → Option (List ℕ) → Option (List ℕ) → Type 0
 PutsPrefix steps start script wrote now = (out : List ℕ) (answer : ℕ) → Puts steps start script out answer → AppendsPrefix wrote now out
 
--- ---- what a run leaves; left and then are what the reader has left, before and after, wrote and now what the writer holds
+-- ---- the result of a run; left and then are the reader's remaining bytes before and after, wrote and now the writer's bytes
 
--- the run wrote the whole output of the waiting bytes and what the reader has left
+-- the run wrote the whole output for the waiting bytes and the reader's remaining bytes
 abbrev pub RunsToEnd : {F : Type 0} → Steps F → F → List ℕ → Option (List ℕ) → Option (List ℕ) → Option (List ℕ) → ℕ → Type 0
 RunsToEnd steps start waiting left wrote now answer =
     IfSome left (λ script. (out : List ℕ) × Puts steps start (waiting ++ script) out answer × Appends wrote now out)
@@ -85,7 +85,7 @@ Stops steps start left then wrote now TooManyTurns = Pauses steps start left the
 Stops steps start left then wrote now WriteFault = IsCutShort steps start [] left wrote now
 Stops steps start left then wrote now Memory = IsCutShort steps start [] left wrote now
 
--- a read after which the run ends: it gave nothing, or made the waiting bytes wrong
+-- a read after which the run ends: it returned nothing, or made the waiting bytes wrong
 abbrev pub IsDecisive : {F : Type 0} → Steps F → F → List ℕ → List ℕ → Type 0
 IsDecisive {F} steps folder waiting last = (last ≡ []) ⊎ ((after : F) × (replies : List ℕ) × (rest : List ℕ)
     × Served steps folder (waiting ++ last) after replies rest × IsWrong rest)
@@ -95,7 +95,7 @@ abbrev pub ReadsLast : {F : Type 0} → Steps F → F → List ℕ → Option (L
 ReadsLast steps folder waiting left then =
     (last : List ℕ) × (length last ≤ largest_read) × Consumes left then last × IsDecisive steps folder waiting last
 
--- all reads but the last gave whole commands and the beginning of one, and the run ended after the last: it read
+-- all reads but the last returned whole commands and the beginning of one, and the run ended after the last: it read
 -- nothing else
 pub record ReadsNoFurther {F : Type 0} (steps : Steps F) (start : F) (left then : Option (List ℕ)) : Type 0 where
   pub folder : F
@@ -129,7 +129,7 @@ pub record Runs {F R W : Type 0} (steps : Steps F) (start : F) (remaining : R �
 
 -- ---- one turn
 
--- The state of a run between two reads: the folder, the waiting bytes, what the reader has left and what the writer holds.
+-- The state of a run between two reads: the folder, the waiting bytes, the reader's remaining bytes and the writer's bytes.
 pub record RunState (F : Type 0) : Type 0 where
   pub folder : F
   pub waiting : List ℕ

@@ -36,7 +36,7 @@ linter_app = fold with_rule bare_app
 unfoldable pub rows_in : List Text → List Row
 rows_in words = matches_of linter_app words
 
--- a flag has the value that its text says
+-- a flag is false if it is unset, otherwise the value of its text
 pub record IsFlag (text : Option Text) (flag : Bool) : Type 0 where
   pub unset : text ≡ None → flag ≡ false
   pub on : text ≡ Some (codes "true") → flag ≡ true

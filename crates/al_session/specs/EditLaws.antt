@@ -1,4 +1,4 @@
--- What an edit changes of a folder, and what it leaves.
+-- What an edit changes in a folder, and what it leaves unchanged.
 use Rattle.std.specs.Prelude.{◌≡◌, ◌≢◌, ℕ, Bool, false, List, [], Some}
 use Rattle.std.specs.List.Sorted.{IsStrictlySortedBy}
 use Rattle.std.specs.Ordering.{nat_cmp}

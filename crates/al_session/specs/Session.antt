@@ -28,7 +28,7 @@ abbrev pub IsLinted : {U I : Type 0} → Meaning I → (U → List ℕ → List 
 IsLinted m is_unit kept = AreLinted m is_unit kept.files.entries kept.callers
 
 -- What a put of these bytes adds to the count of reads: at most one; none if the file already has these bytes, and one if it doesn't and
--- only lack of memory can refuse them.
+-- the put can be refused only because memory ran out.
 pub record ReadsForPut {I : Type 0} (m : Meaning I) (f : Folder) (path bytes : List ℕ) (before now : ℕ) : Type 0 where
   pub at_most : IsUpTo before now 1
   pub there : bytes_at f path ≡ Some bytes → now ≡ before

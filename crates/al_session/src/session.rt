@@ -28,8 +28,8 @@ use crate::indexed::IndexedFiles;
 use crate::refused::put_refused;
 use al_base::{Fault, Output, Path, Stop, path_fault};
 use al_session_folder::{
-    CallGraph, LinkedFiles, Lint, Paths, Refused, find_cycle_faults, has_call_cycles, has_faults,
-    join_files, missing_paths, write_files,
+    CallGraph, LinkedFiles, Lint, Paths, Refused, find_call_cycle_faults, has_call_cycles,
+    has_faults, join_files, missing_paths, write_files,
 };
 use indexmap::IndexMap;
 use std::alloc::{AllocError, Global};
@@ -292,8 +292,8 @@ impl<L: Lint> Session<L> {
     {
         find_graph::<L>(self.kept.alloc, &self.kept.files, &mut self.calls)?;
         let linked = LinkedFiles::new(&self.kept.files, found_graph(&self.calls));
-        let cycle_faults = find_cycle_faults(&self.lint, self.kept.alloc, &linked)?;
-        let joined = join_files::<L>(self.kept.alloc, &self.kept.files, &cycle_faults)?;
+        let call_cycle_faults = find_call_cycle_faults(&self.lint, self.kept.alloc, &linked)?;
+        let joined = join_files::<L>(self.kept.alloc, &self.kept.files, &call_cycle_faults)?;
         write_files::<L, W>(writer, &self.kept.files, &joined, oneline)
     }
 

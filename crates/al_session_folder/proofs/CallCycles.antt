@@ -26,7 +26,7 @@ use Rattle.al_graph.proofs.Lists.{none_in}
 use Rattle.al_session_folder.specs.Meaning.{Meaning, candidates}
 use Rattle.al_session_folder.specs.Folder.{Folder, find_map, paths_of}
 use Rattle.al_session_folder.specs.Kept.{Files, folder_of, entry_of, AllKept, IsKept}
-use Rattle.al_session_folder.specs.Cycles.{callee, calls_graph, is_on_cycle, cycle_faults, number_of_path}
+use Rattle.al_session_folder.specs.Cycles.{callee, calls_graph, is_on_cycle, call_cycle_faults, number_of_path}
 use Rattle.al_session_folder.specs.CallGraphs.{IsCallGraph, IsCalledBy, TellCycles}
 use Rattle.al_session_folder.specs.declared.kept.KeptFile.{KeptFile}
 use Rattle.al_session_folder.specs.declared.lint.Target.{Target}
@@ -225,7 +225,7 @@ module _ {I : Type 0} (m : Meaning I) (f : Folder) (edges : List (Vec ℕ Global
 
   -- there is such a call if and only if the file has a fault of a call on a cycle
   pub row_tells : (r : Bool) → r ≡ list_any (λ k. option_eq nat_eq (get_or seen k None) (get_or seen i None)) row → (p b : List ℕ) → slice_get f i ≡ Some (p, b) →
-      length (m.sites p b) ≡ length (m.calls p b) → r ≡ not (length (cycle_faults m f i p b) == 0)
+      length (m.sites p b) ≡ length (m.calls p b) → r ≡ not (length (call_cycle_faults m f i p b) == 0)
   row_tells r told p b at sited =
       told ∙ any_agree _ (λ k. leads (calls_graph m f) k i) row (recursion_from_All _ row (λ j d lt. label_tells (get_or row j d) (Contains-get_or row j d lt)))
       ∙ ap (list_any (λ k. leads (calls_graph m f) k i)) (row_is ∙ at_file m f i p b at) ∙ sym (any_on_cycle (calls_graph m f) f i (m.calls p b) (m.sites p b) sited)

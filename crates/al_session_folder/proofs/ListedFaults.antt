@@ -28,7 +28,7 @@ use Rattle.al_base.specs.declared.faults.Fault.{Fault}
 use Rattle.al_session_folder.specs.Meaning.{Meaning}
 use Rattle.al_session_folder.specs.Folder.{Folder, answers, faults_in}
 use Rattle.al_session_folder.specs.Kept.{Files, folder_of, referents, AllKept}
-use Rattle.al_session_folder.specs.Cycles.{calls_graph, callee, is_on_cycle, cycle_faults, report_faults}
+use Rattle.al_session_folder.specs.Cycles.{calls_graph, callee, is_on_cycle, call_cycle_faults, report_faults}
 use Rattle.al_session_folder.specs.declared.kept.KeptFile.{KeptFile}
 use Rattle.al_session_folder.specs.declared.lint.Target.{Target}
 use Rattle.al_session_folder.proofs.CallCycles.{fault_if, kept_number, faults_on_cycles}
@@ -45,7 +45,7 @@ checked_number m f files i e h at = each_at (λ e. e.1.faults.items ≡ faults_i
 
 module _ {I : Type 0} (m : Meaning I) (ordered : (p b : List ℕ) (given : List (Option I)) → IsStrictlySortedBy fault_cmp (m.faults p b given)) (f : Folder) where
   -- If no call is on a call cycle, the file's own faults are listed.
-  pub own_reported : (i : ℕ) (p b : List ℕ) (faults : List Fault) → faults ≡ faults_in m f p b → cycle_faults m f i p b ≡ [] → faults ≡ report_faults m f i p b
+  pub own_reported : (i : ℕ) (p b : List ℕ) (faults : List Fault) → faults ≡ faults_in m f p b → call_cycle_faults m f i p b ≡ [] → faults ≡ report_faults m f i p b
   unfolding report_faults faults_in
   own_reported i p b faults is none = is ∙ sym (rw none (fault_list-sorted (m.faults p b (answers m f p b)) (ordered p b (answers m f p b))))
 
@@ -66,8 +66,8 @@ module _ {I : Type 0} (m : Meaning I)
   reported_inside : (f : Folder) (i : ℕ) (p b : List ℕ) → length b ≤ 1048576 → AllByRecursion (λ (fault : Fault). LiesIn (length b) fault.span) (report_faults m f i p b)
   unfolding report_faults faults_in
   reported_inside f i p b small =
-      AllByRecursion-fault_list (λ (fault : Fault). LiesIn (length b) fault.span) (cycle_faults m f i p b ++ m.faults p b (answers m f p b))
-      (each_both _ (cycle_faults m f i p b) (m.faults p b (answers m f p b)) (on_cycles_inside m f i (length b) (m.calls p b) (m.sites p b) (sites p b small)) (inside p b (answers m f p b) small))
+      AllByRecursion-fault_list (λ (fault : Fault). LiesIn (length b) fault.span) (call_cycle_faults m f i p b ++ m.faults p b (answers m f p b))
+      (each_both _ (call_cycle_faults m f i p b) (m.faults p b (answers m f p b)) (on_cycles_inside m f i (length b) (m.calls p b) (m.sites p b) (sites p b small)) (inside p b (answers m f p b) small))
 
   pub printable : {U : Type 0} (is_unit : U → List ℕ → List ℕ → Type 0) (files : Files U I) → AllKept m is_unit files → ArePrintable m files
   printable is_unit files kept i e at =
@@ -108,7 +108,7 @@ some_of_both a b = let all = length-append a b in grind (arith, nat_tests, all)
 
 module _ {I : Type 0} (m : Meaning I) (f : Folder) where
   abbrev IsOnCycleAt : ℕ × (List ℕ × List ℕ) → Bool
-  IsOnCycleAt x = not (length (cycle_faults m f x.0 x.1.0 x.1.1) == 0)
+  IsOnCycleAt x = not (length (call_cycle_faults m f x.0 x.1.0 x.1.1) == 0)
 
   -- A file has faults to report if and only if one of its calls is on a call cycle or it has faults of its own.
   any_reported : {U : Type 0} (n : ℕ) (es : Files U I) → AllChecked m f es
@@ -117,7 +117,7 @@ module _ {I : Type 0} (m : Meaning I) (f : Folder) where
   unfolding report_faults
   any_reported n [] checked = refl
   any_reported n (e ∷ es) checked =
-      let on_cycles = cycle_faults m f n (string_bytes e.0) e.1.bytes.items in
+      let on_cycles = call_cycle_faults m f n (string_bytes e.0) e.1.bytes.items in
       let own = faults_in m f (string_bytes e.0) e.1.bytes.items in
       let rest = any_reported (n + 1) es checked.1 in
       rw (checked.0, some_in_order (on_cycles ++ own), some_of_both on_cycles own, rest) (grind (arith, nat_tests))
@@ -147,19 +147,19 @@ all-referred P xs i r all lt is =
 -- The code's list joins the file's own faults and those of its calls on call cycles.
 pub listed_both : {U I : Type 0} (m : Meaning I) (files : Files U I) (i : ℕ) (e : String Global × KeptFile U I) (all : List Fault)
     (list : List (Bor Fault)) → AllChecked m (folder_of files) files → slice_get files i ≡ Some e →
-    all ≡ e.1.faults.items ++ cycle_faults m (folder_of files) i (string_bytes e.0) e.1.bytes.items → referents list ≡ fault_list all →
+    all ≡ e.1.faults.items ++ call_cycle_faults m (folder_of files) i (string_bytes e.0) e.1.bytes.items → referents list ≡ fault_list all →
     referents list ≡ report_faults m (folder_of files) i (string_bytes e.0) e.1.bytes.items
 unfolding report_faults
 listed_both m files i e all list checked at a o =
     let own = faults_in m (folder_of files) (string_bytes e.0) e.1.bytes.items in
-    let on_cycles = cycle_faults m (folder_of files) i (string_bytes e.0) e.1.bytes.items in
+    let on_cycles = call_cycle_faults m (folder_of files) i (string_bytes e.0) e.1.bytes.items in
     o ∙ ap fault_list (a ∙ ap (λ x. x ++ on_cycles) (checked_number m (folder_of files) files i e checked at))
     ∙ fault_list-permutation (own ++ on_cycles) (on_cycles ++ own) (IsPermutation-append_comm own on_cycles)
 
 -- the faults that are listed for a file
 module _ {U I : Type 0} (m : Meaning I) (ordered : (p b : List ℕ) (given : List (Option I)) → IsStrictlySortedBy fault_cmp (m.faults p b given)) (files : Files U I) (i : ℕ)
     (e : String Global × KeptFile U I) (own on_cycles : List Fault) (joined : List (Bor Fault)) (checked : AllChecked m (folder_of files) files) (at : slice_get files i ≡ Some e)
-    (is : own ≡ e.1.faults.items) (all : on_cycles ≡ cycle_faults m (folder_of files) i (string_bytes e.0) e.1.bytes.items) (now : referents joined ≡ joined_faults own on_cycles) where
+    (is : own ≡ e.1.faults.items) (all : on_cycles ≡ call_cycle_faults m (folder_of files) i (string_bytes e.0) e.1.bytes.items) (now : referents joined ≡ joined_faults own on_cycles) where
   pub listed_is : joined_or_own e.1 joined ≡ report_faults m (folder_of files) i (string_bytes e.0) e.1.bytes.items
   listed_is = by (length on_cycles == 0) refl
     where

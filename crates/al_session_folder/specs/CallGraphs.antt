@@ -1,4 +1,4 @@
--- The graph of calls, labels that tell which calls are on a cycle, and what the graph depends on.
+-- The graph of calls, labels that decide which calls are on a cycle, and what the graph depends on.
 use Rattle.std.specs.Prelude.{ℕ, ◌≡◌, ◌↔◌, ◌&&◌, Bool, false, List, Option, Some, None, Vec, bytes_eq, length, map, slice_index_or}
 use Rattle.std.specs.Global.{Global}
 use Rattle.al_graph.specs.Graphs.{Edge, Walk, edges_of}
@@ -9,17 +9,17 @@ use Rattle.al_session_folder.specs.Cycles.{calls_graph}
 use Rattle.al_session_folder.specs.declared.lint.Target.{Target}
 use Rattle.al_session_folder.specs.declared.lint.Target.TheVariants.{FirstOf, Only}
 
--- the graph has an edge from the file with this number to the one that a call leads to
+-- the graph has an edge from the file with this number to the callee of a call, if there is one
 abbrev pub IsCalledBy : List (List ℕ) → ℕ → Option ℕ → Type 0
 IsCalledBy graph file None = Unit {0}
 IsCalledBy graph file (Some to) = Edge graph file to
 
--- labels of files: if a call leads from one file to another, the two have the same label if and only if the call is on a cycle
+-- labels of files: a call is on a cycle if and only if its file and its callee have the same label
 abbrev pub TellCycles : List (List ℕ) → List (Option ℕ) → Type 0
 TellCycles graph labels = (length labels ≡ length graph) × ((j k : ℕ) → Edge graph j k →
     (slice_index_or labels k None ≡ slice_index_or labels j None) ↔ Walk graph k j)
 
--- The graph of a folder's calls, as the program keeps it, and labels that tell which of them are on a cycle.
+-- The graph of a folder's calls, as the program keeps it, and labels that decide which of them are on a cycle.
 pub record IsCallGraph {I : Type 0} (m : Meaning I) (f : Folder) (graph : List (Vec ℕ Global)) (labels : List (Option ℕ)) : Type 0 where
   pub edges : edges_of graph ≡ calls_graph m f
   pub tell : TellCycles (calls_graph m f) labels

@@ -61,7 +61,7 @@ faults_at m f p = option_map (faults_in m f p) (bytes_at f p)
 
 -- Edits
 
--- why a put is refused, other than for lack of memory
+-- why a put is refused, unless it is because memory ran out
 unfoldable pub put_refusal : {I : Type 0} → Meaning I → Folder → List ℕ → List ℕ → Option Refused
 put_refusal m f p b =
     if is_some (path_fault_of p) then Some BadPath
@@ -70,7 +70,7 @@ put_refusal m f p b =
     else if nat_le most_files (length f) && not (is_some (bytes_at f p)) then Some Full
     else None
 
--- why a delete is refused, other than for lack of memory
+-- why a delete is refused, unless it is because memory ran out
 unfoldable pub delete_refusal : {I : Type 0} → Meaning I → Folder → List ℕ → Option Refused
 delete_refusal m f p =
     if is_some (path_fault_of p) then Some BadPath

@@ -1,4 +1,4 @@
--- What a linter computes: the data of each linter that the folder's definitions take.
+-- What a linter computes, as the definitions of folders use it.
 use Rattle.std.specs.Prelude.{◌≡◌, ℕ, ◌≤◌, Bool, List, [], ◌∷◌, Option, bytes_eq, map}
 use Rattle.std.specs.List.{list_any}
 use Rattle.al_base.specs.Counted.{count_after}
@@ -28,7 +28,7 @@ candidates (FirstOf p q) = p ∷ q ∷ []
 abbrev pub is_candidate : List Target → List ℕ → Bool
 is_candidate ts c = list_any (λ t. list_any (bytes_eq c) (candidates t)) ts
 
--- Answers of calls as a folder gives them, one for each in order: calls with the same target have the same answer.
+-- Answers of a folder's calls, one for each in order: calls with the same target have the same answer.
 pub record AreAnswers {I : Type 0} (targets : List Target) (given : List (Option I)) : Type 0 where
   pub answer : Target → Option I
   pub are : given ≡ map answer targets

@@ -12,7 +12,7 @@ use Rattle.al_base.specs.Spans.{LiesIn}
 use Rattle.al_base.specs.Limits.{largest_file}
 use Rattle.al_session_folder.specs.Meaning.{Meaning}
 use Rattle.al_session_folder.specs.Folder.{Folder}
-use Rattle.al_session_folder.specs.Cycles.{cycle_faults, report_faults}
+use Rattle.al_session_folder.specs.Cycles.{call_cycle_faults, report_faults}
 use Rattle.al_session_folder.specs.declared.kept.KeptFile.{KeptFile}
 use Rattle.al_session_folder.specs.Kept.{Files, folder_of, referents}
 
@@ -51,7 +51,7 @@ pub record AreNumbered {X : Type 0} (P : ℕ → X → Type 0) (count : ℕ) (al
 
 -- the faults of the calls of the file with this number that are on a call cycle
 abbrev pub IsCycleFaults : {I : Type 0} → Meaning I → Folder → ℕ → Vec Fault Global → Type 0
-IsCycleFaults m f i faults = (p b : List ℕ) → slice_get f i ≡ Some (p, b) → faults.items ≡ cycle_faults m f i p b
+IsCycleFaults m f i faults = (p b : List ℕ) → slice_get f i ≡ Some (p, b) → faults.items ≡ call_cycle_faults m f i p b
 
 abbrev pub AreCycleFaults : {I : Type 0} → Meaning I → Folder → List (Vec Fault Global) → Type 0
 AreCycleFaults m f all = AreNumbered (IsCycleFaults m f) (length f) all

@@ -208,7 +208,7 @@ impl<'a, L: Lint> LinkedFiles<'a, L> {
     pub fn has_call_on_cycle(&self, index: usize) -> bool
         requires { index < length self.now }
         ensures { (p b : List ℕ) → slice_get self.now index ≡ Some (p, b) → result
-            ≡ not (length (cycles.cycle_faults L.meaning self.now index p b) == 0) }
+            ≡ not (length (cycles.call_cycle_faults L.meaning self.now index p b) == 0) }
     {
         let row = self.calls.graph[index].as_slice();
         has_label_of(row, &self.calls.labels, index)
@@ -223,7 +223,7 @@ impl<'a, L: Lint> LinkedFiles<'a, L> {
     ) -> Result<(), AllocError>
         requires { index < length self.now }
         ensures { (p b : List ℕ) → slice_get self.now index ≡ Some (p, b) → OnOk result (faults.new
-            ≡ faults.old ++ cycles.cycle_faults L.meaning self.now index p b) }
+            ≡ faults.old ++ cycles.call_cycle_faults L.meaning self.now index p b) }
     {
         let (_, file) = file_number(self.files, index);
         let targets = file.calls.targets.as_slice();
@@ -241,7 +241,7 @@ impl<'a, L: Lint> LinkedFiles<'a, L> {
     /// # Errors
     ///
     /// [`AllocError`] if memory runs out.
-    pub fn cycle_faults(
+    pub fn call_cycle_faults(
         &self,
         lint: &L,
         alloc: Global,
@@ -250,7 +250,7 @@ impl<'a, L: Lint> LinkedFiles<'a, L> {
         requires { index < length self.now }
         ensures { (p b : List ℕ) → slice_get self.now index ≡ Some (p, b)
             → IfOk result (λ faults. faults.items
-            ≡ cycles.cycle_faults L.meaning self.now index p b) }
+            ≡ cycles.call_cycle_faults L.meaning self.now index p b) }
     {
         if !self.has_call_on_cycle(index) {
             return Ok(Vec::new(alloc));

@@ -34,17 +34,17 @@ fn put_in_order(faults: &mut Vec<&Fault>)
 fn join_faults<'a>(
     alloc: Global,
     own: &'a [Fault],
-    cycle_faults: &'a [Fault],
+    call_cycle_faults: &'a [Fault],
 ) -> Result<Vec<&'a Fault>, AllocError>
-    ensures { IfOk result (λ joined. referents joined.items ≡ joined_faults own.now cycle_faults.now) }
+    ensures { IfOk result (λ joined. referents joined.items ≡ joined_faults own.now call_cycle_faults.now) }
 {
     let mut joined = Vec::new(alloc);
-    if cycle_faults.is_empty() {
+    if call_cycle_faults.is_empty() {
         return Ok(joined);
     }
     // The file's own faults are sorted, and few come after its first call, so appending the others makes sorting fast.
     add_references(own, &mut joined)?;
-    add_references(cycle_faults, &mut joined)?;
+    add_references(call_cycle_faults, &mut joined)?;
     put_in_order(&mut joined);
     Ok(joined)
 }
@@ -54,7 +54,7 @@ fn join_faults<'a>(
 /// # Errors
 ///
 /// [`AllocError`] if memory runs out.
-pub fn find_cycle_faults<L: Lint>(
+pub fn find_call_cycle_faults<L: Lint>(
     lint: &L,
     alloc: Global,
     linked: &LinkedFiles<'_, L>,
@@ -63,7 +63,7 @@ pub fn find_cycle_faults<L: Lint>(
 {
     let mut all = Vec::with_capacity(alloc, linked.count())?;
     for index in 0..linked.count() {
-        all.push(linked.cycle_faults(lint, alloc, index)?)?;
+        all.push(linked.call_cycle_faults(lint, alloc, index)?)?;
     }
     Ok(all)
 }
@@ -77,16 +77,16 @@ pub fn find_cycle_faults<L: Lint>(
 pub fn join_files<'a, L: Lint>(
     alloc: Global,
     files: &'a Files<L::Unit, L::Iface>,
-    cycle_faults: &'a [Vec<Fault>],
+    call_cycle_faults: &'a [Vec<Fault>],
 ) -> Result<Vec<Vec<&'a Fault>>, AllocError>
     requires checked { AllChecked L.meaning (folder_of files.now.entries) files.now.entries }
-    requires cycle_faults { AreCycleFaults L.meaning (folder_of files.now.entries) cycle_faults.now }
+    requires call_cycle_faults { AreCycleFaults L.meaning (folder_of files.now.entries) call_cycle_faults.now }
     ensures { IfOk result (λ joined. AreListed L.meaning files.now.entries joined.items) }
 {
     let mut joined = Vec::with_capacity(alloc, files.len())?;
     for index in 0..files.len() {
         let (_, file) = file_number(files, index);
-        joined.push(join_faults(alloc, &file.faults, &cycle_faults[index])?)?;
+        joined.push(join_faults(alloc, &file.faults, &call_cycle_faults[index])?)?;
     }
     Ok(joined)
 }
@@ -94,7 +94,7 @@ pub fn join_files<'a, L: Lint>(
 /// Whether any file has a call on a call cycle. Doesn't allocate.
 pub fn has_call_cycles<L: Lint>(linked: &LinkedFiles<'_, L>) -> bool
     ensures { result ≡ list_any
-        (λ x. not (length (cycles.cycle_faults L.meaning linked.now x.0 x.1.0 x.1.1) == 0))
+        (λ x. not (length (cycles.call_cycle_faults L.meaning linked.now x.0 x.1.0 x.1.1) == 0))
         (enumerate_from 0 linked.now) }
 {
     for index in 0..linked.count() {

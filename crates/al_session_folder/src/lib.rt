@@ -20,7 +20,7 @@ pub use affected::PlannedChange;
 pub use callers::{CandidateChange, drop_callers, reindex};
 pub use calls::calls_of;
 pub use cycles::{CallGraph, LinkedFiles, call_graph};
-pub use joining::{find_cycle_faults, has_call_cycles, join_files};
+pub use joining::{find_call_cycle_faults, has_call_cycles, join_files};
 pub use kept::{Callers, Calls, Files, KeptFile};
 pub use lint::{Lint, Refused, Site, Target};
 pub use missing::missing_paths;

@@ -20,8 +20,8 @@ loop-index-preserved g c =
     let same = one_entry files c.loop-index.index own e c.file_number.ensures at in
     listed_is g.L.Lint.meaning g.met.L.Lint.ordered files c.loop-index.index e _ _ _ c.requires.checked at
     (c.deref.ensures.value ∙ ap (λ x. x.1.faults.items) same)
-    (c.deref-in-loop-index.ensures.value ∙ c.requires.cycle_faults.each c.loop-index.index _
-    (omega (arith, length-folder_of files, c.len-index-end.ensures.len, c.loop-index-test.true)) c.index-cycle_faults-index.is (string_bytes e.0) e.1.bytes.items
+    (c.deref-in-loop-index.ensures.value ∙ c.requires.call_cycle_faults.each c.loop-index.index _
+    (omega (arith, length-folder_of files, c.len-index-end.ensures.len, c.loop-index-test.true)) c.index-call_cycle_faults-index.is (string_bytes e.0) e.1.bytes.items
     (entry_number files c.loop-index.index e at))
     c.in_ok-join_faults.ensures)
     c.in_ok-push.ensures.items

@@ -1,7 +1,7 @@
 use Rattle.std.proofs.Common.{arith, subst, ℕ}
 use Rattle.al_session_folder.specs.Printing.{AreNumbered, IsCycleFaults}
 use Rattle.al_session_folder.proofs.ListedFaults.{numbered_more, numbered_none}
-use Rattle.al_session_folder.proofs.joining.find_cycle_faults.Goals as goal
+use Rattle.al_session_folder.proofs.joining.find_call_cycle_faults.Goals as goal
 
 pub loop-index-init : goal.loop-index-init
 loop-index-init g c = numbered_none (IsCycleFaults g.L.Lint.meaning c.args.linked.now) _ c.in_ok-all.ensures.items
@@ -9,7 +9,7 @@ loop-index-init g c = numbered_none (IsCycleFaults g.L.Lint.meaning c.args.linke
 pub loop-index-preserved : goal.loop-index-preserved
 loop-index-preserved g c =
     numbered_more (IsCycleFaults g.L.Lint.meaning c.args.linked.now) c.loop-index.index c.loop-index.all.items c.push.new.self.items _ c.loop-index.invariant
-    (λ p b at. c.in_ok-cycle_faults.ensures p b at)
+    (λ p b at. c.in_ok-call_cycle_faults.ensures p b at)
     c.in_ok-push.ensures.items
 
 pub returns : goal.returns
