@@ -23,7 +23,7 @@ use Rattle.al_check_interfaces.proofs.CallLists.{kept_faults, kept_targets}
 use Rattle.al_check_interfaces.specs.Interfaces.{interface_of}
 use Rattle.al_check_interfaces.specs.declared.interfaces.Interface.TheVariants.{Unreadable}
 use Rattle.al_check_interfaces.specs.Uses as uses
-use Rattle.al_check_interfaces.specs.Uses.{calls_in, call_cycle_faults, target_in, that_uses}
+use Rattle.al_check_interfaces.specs.Uses.{calls_in, cycle_faults, target_in, that_uses}
 use Rattle.al_check_interfaces.specs.declared.calls.FolderCall.{FolderCall}
 use Rattle.al_check.specs.Calling.{call_targets, file_interface, file_targets, shown_by, shown_read, targets_read}
 use Rattle.al_check.specs.Reading.{CallsGiven, IsGiven, IsRead}
@@ -48,7 +48,7 @@ abbrev targets_in_tree : FileKind → Node → List Target
 targets_in_tree kind root = uses.targets_of (calls_in kind root)
 
 abbrev sites_in_tree : FileKind → Node → List Fault
-sites_in_tree kind root = call_cycle_faults (calls_in kind root)
+sites_in_tree kind root = cycle_faults (calls_in kind root)
 
 targets_are : (kind : FileKind) (bytes : List ℕ) (read : Result Tree YamlFault) → IsGiven kind bytes read → targets_read read ≡ file_targets kind bytes
 targets_are kind bytes (Ok t) is = of_tree targets_in_tree [] kind bytes t is
@@ -110,16 +110,16 @@ pub record IsNamed (fault : Fault) : Type 0 where
   pub text : List ℕ
   pub is : fault.args ≡ text ∷ []
 
-loops_named : (cs : List uses.Call) → AllByRecursion IsNamed (call_cycle_faults cs)
-loops_named [] = tt
-loops_named (c ∷ cs) = put (target_in c.form) (loops_named cs)
+cycles_named : (cs : List uses.Call) → AllByRecursion IsNamed (cycle_faults cs)
+cycles_named [] = tt
+cycles_named (c ∷ cs) = put (target_in c.form) (cycles_named cs)
   where
-    put : (o : Option Target) → AllByRecursion IsNamed (call_cycle_faults cs) → AllByRecursion IsNamed (cons_option (option_map (λ t. that_uses CallCycle c) o) (call_cycle_faults cs))
+    put : (o : Option Target) → AllByRecursion IsNamed (cycle_faults cs) → AllByRecursion IsNamed (cons_option (option_map (λ t. that_uses CallCycle c) o) (cycle_faults cs))
     put None rest = rest
     put (Some t) rest = (record { text = utf8_lossy c.text; is = refl }, rest)
 
 sites_named : (kind : FileKind) (read : Result Node FaultAt) → AllByRecursion IsNamed (of_reading sites_in_tree [] kind read)
-sites_named kind (Ok root) = loops_named (calls_in kind root)
+sites_named kind (Ok root) = cycles_named (calls_in kind root)
 sites_named kind (Err fault) = tt
 
 pub site_named : (calls : List FolderCall) (kind : FileKind) (bytes : List ℕ) (call : ℕ) (found : FolderCall) → HasCalls calls kind bytes → found ≡ get_or calls call found →

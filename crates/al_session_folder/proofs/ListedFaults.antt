@@ -67,7 +67,8 @@ module _ {I : Type 0} (m : Meaning I)
   unfolding report_faults faults_in
   reported_inside f i p b small =
       AllByRecursion-fault_list (λ (fault : Fault). LiesIn (length b) fault.span) (call_cycle_faults m f i p b ++ m.faults p b (answers m f p b))
-      (each_both _ (call_cycle_faults m f i p b) (m.faults p b (answers m f p b)) (on_cycles_inside m f i (length b) (m.calls p b) (m.sites p b) (sites p b small)) (inside p b (answers m f p b) small))
+      (each_both _ (call_cycle_faults m f i p b) (m.faults p b (answers m f p b)) (on_cycles_inside m f i (length b) (m.calls p b) (m.sites p b) (sites p b small))
+      (inside p b (answers m f p b) small))
 
   pub printable : {U : Type 0} (is_unit : U → List ℕ → List ℕ → Type 0) (files : Files U I) → AllKept m is_unit files → ArePrintable m files
   printable is_unit files kept i e at =

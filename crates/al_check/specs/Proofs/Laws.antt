@@ -23,7 +23,7 @@ use Rattle.al_yaml_tree.specs.Laws.{IsTreeLaid}
 use Rattle.al_check_expressions.proofs.Inside.{expression_faults_lie}
 use Rattle.al_check_expressions.specs.FileExpressions.{expression_faults}
 use Rattle.al_base.specs.declared.codes.CallCode.TheVariants.{CallCycle}
-use Rattle.al_check_interfaces.specs.Uses.{Call, calls_in, call_cycle_faults, target_in, targets_of, that_uses}
+use Rattle.al_check_interfaces.specs.Uses.{Call, calls_in, cycle_faults, target_in, targets_of, that_uses}
 use Rattle.al_check_interfaces.proofs.Inside.{calls_lie, wrong_uses_lie}
 use Rattle.al_session_folder.specs.declared.lint.Target.{Target}
 use Rattle.al_check.specs.Calling.{file_targets}
@@ -116,17 +116,17 @@ faults_ordered kind bytes answers = given_ordered kind bytes answers (tree_of by
 
 -- each call has a site
 
-sited_calls : (cs : List Call) → length (call_cycle_faults cs) ≡ length (targets_of cs)
+sited_calls : (cs : List Call) → length (cycle_faults cs) ≡ length (targets_of cs)
 sited_calls [] = refl
 sited_calls (c ∷ cs) = put (target_in c.form) (sited_calls cs)
   where
-    put : (o : Option Target) → length (call_cycle_faults cs) ≡ length (targets_of cs) →
-        length (cons_option (option_map (λ t. that_uses CallCycle c) o) (call_cycle_faults cs)) ≡ length (cons_option o (targets_of cs))
+    put : (o : Option Target) → length (cycle_faults cs) ≡ length (targets_of cs) →
+        length (cons_option (option_map (λ t. that_uses CallCycle c) o) (cycle_faults cs)) ≡ length (cons_option o (targets_of cs))
     put None h = h
     put (Some t) h = ap suc h
 
 given_sited : (kind : FileKind) (read : Result Node FaultAt) →
-    length (option_map_or (λ root. call_cycle_faults (calls_in kind root)) (result_ok read) [])
+    length (option_map_or (λ root. cycle_faults (calls_in kind root)) (result_ok read) [])
     ≡ length (option_map_or (λ root. targets_of (calls_in kind root)) (result_ok read) [])
 given_sited kind (Ok root) = sited_calls (calls_in kind root)
 given_sited kind (Err fault) = refl
@@ -136,18 +136,18 @@ each_sited kind bytes = given_sited kind (tree_of bytes)
 
 -- and it lies in the file
 
-loops_lie : (size : ℕ) (cs : List Call) → AllByRecursion (CallLies size) cs → AllLie size (call_cycle_faults cs)
-loops_lie size [] h = tt
-loops_lie size (c ∷ cs) h = put (target_in c.form) (loops_lie size cs h.1)
+cycles_lie : (size : ℕ) (cs : List Call) → AllByRecursion (CallLies size) cs → AllLie size (cycle_faults cs)
+cycles_lie size [] h = tt
+cycles_lie size (c ∷ cs) h = put (target_in c.form) (cycles_lie size cs h.1)
   where
-    put : (o : Option Target) → AllLie size (call_cycle_faults cs) →
-        AllLie size (cons_option (option_map (λ t. that_uses CallCycle c) o) (call_cycle_faults cs))
+    put : (o : Option Target) → AllLie size (cycle_faults cs) →
+        AllLie size (cons_option (option_map (λ t. that_uses CallCycle c) o) (cycle_faults cs))
     put None rest = rest
     put (Some t) rest = (h.0.0, rest)
 
 given_sites_lie : (kind : FileKind) (bytes : List ℕ) (read : Result Node FaultAt) → IfOk read (IsInside (length bytes)) →
-    AllLie (length bytes) (option_map_or (λ root. call_cycle_faults (calls_in kind root)) (result_ok read) [])
-given_sites_lie kind bytes (Ok root) i = loops_lie (length bytes) (calls_in kind root) (calls_lie (length bytes) kind root i)
+    AllLie (length bytes) (option_map_or (λ root. cycle_faults (calls_in kind root)) (result_ok read) [])
+given_sites_lie kind bytes (Ok root) i = cycles_lie (length bytes) (calls_in kind root) (calls_lie (length bytes) kind root i)
 given_sites_lie kind bytes (Err fault) i = tt
 
 pub sites_inside : (kind : FileKind) (bytes : List ℕ) → AllLie (length bytes) (file_sites kind bytes)
