@@ -1,3 +1,4 @@
 pub mod Nodes
 pub mod Scalars
 pub mod Prefixes
+pub mod Passed

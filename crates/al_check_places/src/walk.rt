@@ -1,4 +1,5 @@
 //! The walk that finds the scalars with expressions.
+ghost use Rattle.std.specs.List.{list_any};
 ghost use Rattle.std.specs.Prelude.{◌≡◌, ◌++◌, ◌∷◌, [], false, map, option_map, IfOk, OnOk};
 ghost use Rattle.al_tree.specs.Faults.{standing_view};
 ghost use Rattle.al_tree.specs.Keys.{key_of as key_in, keys_in};
@@ -8,6 +9,7 @@ ghost use Rattle.al_check_places.specs.Availability.{row_view};
 ghost use Rattle.al_check_places.specs.Places as places;
 ghost use Rattle.al_check_places.specs.Places.{row_of_way, entry_places, place_of, places_of_node, places_of_entries};
 ghost use Rattle.al_check_places.specs.Places.{places_of_items, places_of, rule_or_any, scalar_places};
+ghost use Rattle.al_check_places.specs.Private.Walks as walks;
 ghost use Rattle.al_check_places.specs.Private.Walks.{places_in, way_in};
 ghost use Rattle.al_check_places.specs.Ways.{under, way_step_view};
 ghost use Rattle.al_tree.specs.Files.{shape_of as file_shape};
@@ -199,6 +201,23 @@ fn find_items<'a>(shape: Shape, nodes: &'a [Node], walk: &mut Walk<'a>) -> Resul
     Ok(())
 }
 
+/// Whether an entry may have an expression: a scalar without `${{` has none, unless its key may be that of a condition.
+fn may_have_expression(entry: &Entry) -> bool
+    ensures { result ≡ walks.may_have_expression (entry_view entry.now) }
+{
+    match entry.value.scalar() {
+        None => true,
+        Some(scalar) => key_of(entry).ends_with(b"if") || contains_chunk(scalar.text()),
+    }
+}
+
+/// Whether one of some entries may have an expression. Most mappings need no further tests.
+fn may_have_expressions(entries: &[Entry]) -> bool
+    ensures { result ≡ list_any (λ e. walks.may_have_expression (entry_view e)) entries.now }
+{
+    entries.iter().any(may_have_expression)
+}
+
 /// Adds the places of the entries of a mapping that accepts these keys.
 #[cycle(finds)]
 fn find_entries<'a>(
@@ -213,11 +232,16 @@ fn find_entries<'a>(
     ensures way { OnOk result (walk.new.way.steps.items ≡ walk.old.way.steps.items) }
     ensures kind { OnOk result (walk.new.kind ≡ walk.old.kind) }
 {
+    if !may_have_expressions(entries) {
+        return Ok(());
+    }
     let index = KeyIndex::of(walk.alloc, entries)?;
     let all = index.first(entries.len());
     for (i, entry) in entries.iter().enumerate() {
-        let standing = standing_of(takes, index.key_at(i), all);
-        find_entry(standing, entry, walk)?;
+        if may_have_expression(entry) {
+            let standing = standing_of(takes, index.key_at(i), all);
+            find_entry(standing, entry, walk)?;
+        }
     }
     Ok(())
 }
