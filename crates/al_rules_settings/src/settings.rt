@@ -2,6 +2,7 @@
 
 ghost use Rattle.al_rules_formats.specs.Chunks.{is_lone_chunk as lone_chunk};
 ghost use Rattle.al_rules_formats.specs.declared.chunks.Around.TheVariants.{Nothing};
+ghost use Rattle.al_rules_formats.specs.Names.{is_variable as variable};
 ghost use Rattle.al_rules_settings.specs.Settings.{all_permissions_faults, condition_faults, credentials_faults, env_faults};
 ghost use Rattle.al_rules_settings.specs.Settings.{is_always_true as always_true, is_password as password};
 ghost use Rattle.al_rules_settings.specs.Settings.{is_shell as shell, password_faults};
@@ -10,9 +11,10 @@ ghost use Rattle.al_rules_settings.specs.Settings.{script_faults, shell_faults};
 ghost use Rattle.al_rules_settings.specs.Settings.{variable_faults};
 ghost use Rattle.al_scalar.specs.Scalar.{text_of};
 ghost use Rattle.al_tree.specs.Faults.{is_null};
-ghost use Rattle.al_tree.specs.Values.{member_of, scalar_node_of};
-ghost use Rattle.al_yaml_tree.specs.View.{view};
-ghost use Rattle.std.specs.List.{flat_map};
+ghost use Rattle.al_tree.specs.Keys.{key_of as key_in};
+ghost use Rattle.al_tree.specs.Values.{entries_in, member_of, scalar_node_of};
+ghost use Rattle.al_yaml_tree.specs.View.{entry_view, view};
+ghost use Rattle.std.specs.List.{flat_map, list_all};
 ghost use Rattle.std.specs.Prelude.{◌≡◌, ◌++◌, ◌||◌, false, map, option_map, IfOk, OnOk};
 
 use crate::commands::check_commands;
@@ -22,10 +24,10 @@ use al_base::{Code, FaultSink, RuleCode, is_among};
 use al_rules_formats::{Around, has_part, is_lone_chunk, is_variable};
 use al_scalar::Scalar;
 use al_tree::{
-    Member, ScalarNode, contains_chunk, is_null_scalar, members, members_under, text, value,
+    Member, ScalarNode, contains_chunk, is_null_scalar, key_of, members, text, value,
     value_below_two,
 };
-use al_yaml_tree::Node;
+use al_yaml_tree::{Entry, Node};
 use std::alloc::{AllocError, Global};
 
 /// Whether a text is accepted as a shell: it has an expression or `{0}`, the place of the script, or is a known name.
@@ -132,14 +134,38 @@ fn check_variables(variables: &[Member<'_>], faults: &mut FaultSink) -> Result<(
     Ok(())
 }
 
+/// Whether all keys of a mapping are names of environment variables.
+fn are_variables(entries: &[Entry]) -> bool
+    ensures { result ≡ list_all (λ e. variable (key_in (entry_view e))) entries.now }
+{
+    entries.iter().all(|entry| is_variable(key_of(entry)))
+}
+
+/// Adds the faults of a node of environment variables. If all names are valid it has none, whichever keys are repeated.
+fn check_all_variables(node: &Node, faults: &mut FaultSink) -> Result<(), AllocError>
+    ensures { OnOk result (faults.new ≡ faults.old
+        ++ flat_map variable_faults (entries_in (view node.now))) }
+{
+    let Some(entries) = node.mapping() else {
+        return Ok(());
+    };
+    if are_variables(entries) {
+        return Ok(());
+    }
+    let variables = members(faults.alloc(), node)?;
+    check_variables(variables.as_slice(), faults)
+}
+
 /// Adds the faults of `env` of a section: invalid names of environment variables.
 ///
 /// Fails with `AllocError` when out of memory.
 pub fn check_env(section: &Node, faults: &mut FaultSink) -> Result<(), AllocError>
     ensures { OnOk result (faults.new ≡ faults.old ++ env_faults (view section.now)) }
 {
-    let variables = members_under(faults.alloc(), section, "env")?;
-    check_variables(variables.as_slice(), faults)
+    match value(section, "env") {
+        None => Ok(()),
+        Some(node) => check_all_variables(node, faults),
+    }
 }
 
 /// Whether a scalar is null or one expression.
