@@ -189,7 +189,7 @@ fn check_excluded(
     Ok(())
 }
 
-/// Adds the faults of the keys of `exclude`, given the rows.
+/// Adds the faults of the keys of `exclude`, given the rows. Most matrices have none, and the rows aren't looked up.
 fn check_excludes(
     rows: &[Member<'_>],
     items: &[Node],
@@ -199,6 +199,9 @@ fn check_excludes(
         ++ flat_map (exclude_faults (name_place (names_of_rows (map member_of rows.now))))
         (exclude_keys (map view items.now))) }
 {
+    if items.is_empty() {
+        return Ok(());
+    }
     let alloc = faults.alloc();
     let names = row_names(alloc, rows)?;
     let positions = NamePositions::of(alloc, names.as_slice())?;
