@@ -15,11 +15,11 @@ pub fn is_among(text: &[u8], others: &[&str]) -> bool
     false
 }
 
-/// Whether two names or texts are equal, ignoring ASCII case.
+/// Whether two names or texts are equal, ignoring ASCII case. Most equal names are written alike, which takes less time to find.
 pub fn is_same_name(a: &[u8], b: &[u8]) -> bool
     ensures { result ≡ same_name a.now b.now }
 {
-    end_alike(a, b) && a.eq_ignore_ascii_case(b)
+    end_alike(a, b) && (a == b || a.eq_ignore_ascii_case(b))
 }
 
 /// Whether two texts have the same length and last bytes, as equal ones do. This rules out most others.
