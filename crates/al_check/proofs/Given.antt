@@ -5,7 +5,7 @@ use Rattle.std.specs.List.{AllByRecursion, cons_option}
 use Rattle.std.specs.Option.{option_map_or}
 use Rattle.std.specs.Result.{result_ok}
 use Rattle.std.specs.Str.Lossy.{utf8_lossy}
-use Rattle.std.proofs.lemmas.List.{length-map}
+use Rattle.std.proofs.lemmas.List.{length-map, nil_from_length}
 use Rattle.std.proofs.lemmas.List.Elements.{All-contains, All-from_recursion}
 use Rattle.std.proofs.lemmas.Option.{slice_get-get_or, slice_get-map}
 use Rattle.al_base.proofs.Sets.{mapped_in}
@@ -87,10 +87,16 @@ faults_kept file kind bytes is = faults_in kind bytes file.tree file.calls.items
 pub calls_kept_of : (unit : Unit) (kind : FileKind) (bytes : List ℕ) → IsUnit unit kind bytes → HasCalls (calls_kept unit) kind bytes
 calls_kept_of (unit.Whole file) kind bytes is = record { targets = targets_kept file kind bytes is; sites = faults_kept file kind bytes is }
 calls_kept_of (unit.Brief brief) kind bytes is = is.calls
+calls_kept_of (unit.Clean interface) kind bytes is = is.1.calls
+
+-- a file that was read without a call of a file in the folder
+pub none_called : (file : ReadFile) (kind : FileKind) (bytes : List ℕ) → IsRead file kind bytes → length file.calls.items ≡ 0 → HasCalls [] kind bytes
+none_called file kind bytes is none = let has = calls_kept_of (unit.Whole file) kind bytes is in rw (nil_from_length file.calls.items none) at has
 
 pub interface_kept_of : (unit : Unit) (kind : FileKind) (bytes : List ℕ) → IsUnit unit kind bytes → interface_kept unit ≡ file_interface kind bytes
 interface_kept_of (unit.Whole file) kind bytes is = interface_shown file kind bytes is
 interface_kept_of (unit.Brief brief) kind bytes is = is.interface
+interface_kept_of (unit.Clean interface) kind bytes is = is.0
 
 pub call_inside : (calls : List FolderCall) (kind : FileKind) (bytes : List ℕ) (call : ℕ) → HasCalls calls kind bytes → call < length (file_targets kind bytes) → call < length calls
 call_inside calls kind bytes call has lt =

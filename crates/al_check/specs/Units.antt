@@ -1,9 +1,10 @@
 -- What a session keeps of a file that was read.
-use Rattle.std.specs.Prelude.{◌≡◌, ℕ, List, map}
+use Rattle.std.specs.Prelude.{◌≡◌, ℕ, List, [], map}
 use Rattle.al_tree.specs.declared.files.FileKind.{FileKind}
 use Rattle.al_check_interfaces.specs.declared.calls.FolderCall.{FolderCall}
 use Rattle.al_check_interfaces.specs.declared.interfaces.Interface.{Interface}
 use Rattle.al_check.specs.Calling.{file_interface, file_targets, shown_by}
+use Rattle.al_check.specs.FileFaults.{file_faults}
 use Rattle.al_check.specs.Reading.{IsRead}
 use Rattle.al_check.specs.Sites.{file_sites}
 use Rattle.al_check.specs.declared.units.Brief.{Brief}
@@ -19,14 +20,22 @@ pub record IsBriefOf (brief : Brief) (kind : FileKind) (bytes : List ℕ) : Type
   pub interface : brief.interface ≡ file_interface kind bytes
   pub calls : HasCalls brief.calls.items kind bytes
 
+-- a file of this kind with these bytes calls no file in the folder and has no faults
+pub record IsClean (kind : FileKind) (bytes : List ℕ) : Type 0 where
+  pub calls : HasCalls [] kind bytes
+  pub faults : file_faults kind bytes [] ≡ []
+
 abbrev pub IsUnit : Unit → FileKind → List ℕ → Type 0
 IsUnit (unit.Whole file) kind bytes = IsRead file kind bytes
 IsUnit (unit.Brief brief) kind bytes = IsBriefOf brief kind bytes
+IsUnit (unit.Clean interface) kind bytes = (interface ≡ file_interface kind bytes) × IsClean kind bytes
 
 abbrev pub calls_kept : Unit → List FolderCall
 calls_kept (unit.Whole file) = file.calls.items
 calls_kept (unit.Brief brief) = brief.calls.items
+calls_kept (unit.Clean interface) = []
 
 abbrev pub interface_kept : Unit → Interface
 interface_kept (unit.Whole file) = shown_by file
 interface_kept (unit.Brief brief) = brief.interface
+interface_kept (unit.Clean interface) = interface

@@ -7,8 +7,8 @@ ghost use Rattle.al_check_interfaces.proofs.Exact.{exact};
 ghost use Rattle.al_check.specs.Proofs.Laws.{each_sited, faults_inside, faults_ordered, sites_inside};
 ghost use Rattle.al_session_folder.specs.Sites.{site_fault};
 
-use crate::files::{Source, read_file};
-use crate::units::{Unit, brief_of, call_at, unit_faults, unit_interface, unit_targets};
+use crate::files::{Source, file_interface, read_file};
+use crate::units::{Unit, brief_of, call_at, is_clean, unit_faults, unit_interface, unit_targets};
 use al_base::{Args, Fault};
 use al_check_interfaces::{FolderCall, Interface};
 use al_session_folder::{Lint, Site, Target};
@@ -62,9 +62,10 @@ impl Actions {
         }
     }
 
-    /// A linter that has read and checked nothing, for one report on a folder. It keeps the trees of the first files it
-    /// reads, up to 2,097,152 bytes of files. Of later files it keeps only what a report and their callers need, and
-    /// reads them again to check them; these reads aren't counted. Doesn't allocate.
+    /// A linter that has read and checked nothing, for one report on a folder. Of a file that calls no file in the folder
+    /// and has no faults, it keeps no tree. It keeps the trees of the first other files it reads, up to 2,097,152 bytes of
+    /// files. Of later files it keeps only what a report and their callers need, and reads them again to check them; these
+    /// reads aren't counted. Doesn't allocate.
     pub fn for_one_report() -> Actions
         ensures checks { result.checks ≡ 0 }
         ensures reads { result.reads ≡ 0 }
@@ -112,7 +113,11 @@ impl Lint for Actions {
     fn read(&mut self, alloc: Global, path: &str, bytes: &[u8]) -> Result<Unit, AllocError> {
         self.reads = self.reads.saturating_add(1);
         let kind = file_kind(path.as_bytes());
-        let file = read_file(alloc, Source { kind, bytes })?;
+        let source = Source { kind, bytes };
+        let file = read_file(alloc, source)?;
+        if self.room.is_some() && is_clean(alloc, source, &file)? {
+            return Ok(Unit::Clean(file_interface(alloc, &file)?));
+        }
         if self.keeps_tree(bytes.len()) {
             Ok(Unit::Whole(file))
         } else {

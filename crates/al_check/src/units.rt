@@ -1,5 +1,5 @@
 //! What is kept of files after they were read.
-ghost use Rattle.std.specs.Prelude.{◌≡◌, ◌<◌, ◌≤◌, ℕ, List, length, map, slice_index_or, IfOk};
+ghost use Rattle.std.specs.Prelude.{◌≡◌, ◌<◌, ◌≤◌, ℕ, List, length, map, slice_index_or, IfOk, IsTrue};
 ghost use Rattle.std.specs.Option.{option_copied};
 ghost use Rattle.al_base.specs.Limits.{largest_file};
 ghost use Rattle.al_session_folder.specs.Meaning.{AreAnswers};
@@ -7,7 +7,7 @@ ghost use Rattle.al_tree.specs.declared.files.FileKind.{FileKind};
 ghost use Rattle.al_check.specs.Calling as calling;
 ghost use Rattle.al_check.specs.FileFaults as faults;
 ghost use Rattle.al_check.specs.Reading.{IsRead};
-ghost use Rattle.al_check.specs.Units.{calls_kept, interface_kept, IsBriefOf, IsUnit};
+ghost use Rattle.al_check.specs.Units.{calls_kept, interface_kept, IsBriefOf, IsClean, IsUnit};
 
 use crate::files::{ReadFile, Source, file_faults, file_interface, read_file, targets};
 use al_base::Fault;
@@ -29,6 +29,8 @@ pub enum Unit {
     Whole(ReadFile),
     /// Only what a report and the file's callers need; to check the file, it is read again.
     Brief(Brief),
+    /// Only the interface of a file that calls no file in the folder and has no faults.
+    Clean(Interface),
 }
 
 /// The part of this file that a report and its callers need.
@@ -43,6 +45,24 @@ pub(crate) fn brief_of(alloc: Global, file: ReadFile) -> Result<Brief, AllocErro
     })
 }
 
+/// Whether a file that was read from this source calls no file in the folder and has no faults. If it has faults of its
+/// own, its expressions aren't checked.
+pub(crate) fn is_clean(
+    alloc: Global,
+    source: Source<'_>,
+    file: &ReadFile,
+) -> Result<bool, AllocError>
+    requires { IsRead file.now source.kind source.bytes.now }
+    ensures { IfOk result
+        (λ clean. IsTrue clean → IsClean (source.entry).kind (source.entry).bytes.now) }
+{
+    if !file.calls.is_empty() || !file.own.is_empty() {
+        return Ok(false);
+    }
+    let faults = file_faults(alloc, source, file, &[])?;
+    Ok(faults.is_empty())
+}
+
 /// The calls of files in the folder.
 pub(crate) fn calls_of(unit: &Unit) -> &[FolderCall]
     ensures { result.now ≡ calls_kept unit.now }
@@ -50,6 +70,7 @@ pub(crate) fn calls_of(unit: &Unit) -> &[FolderCall]
     match unit {
         Unit::Whole(file) => file.calls.as_slice(),
         Unit::Brief(brief) => brief.calls.as_slice(),
+        Unit::Clean(_) => &[],
     }
 }
 
@@ -58,10 +79,7 @@ pub(crate) fn call_at(unit: &Unit, number: usize) -> &FolderCall
     requires { number < length (calls_kept unit.now) }
     ensures { result.now ≡ slice_index_or (calls_kept unit.now) number result.now }
 {
-    match unit {
-        Unit::Whole(file) => &file.calls[number],
-        Unit::Brief(brief) => &brief.calls[number],
-    }
+    &calls_of(unit)[number]
 }
 
 /// The files in the folder that a file calls, in order.
@@ -78,6 +96,7 @@ pub(crate) fn unit_interface(alloc: Global, unit: &Unit) -> Result<Interface, Al
     match unit {
         Unit::Whole(file) => file_interface(alloc, file),
         Unit::Brief(brief) => brief.interface.copy(alloc),
+        Unit::Clean(interface) => interface.copy(alloc),
     }
 }
 
@@ -116,5 +135,6 @@ pub(crate) fn unit_faults(
     match unit {
         Unit::Whole(file) => file_faults(alloc, source, file, answers),
         Unit::Brief(_) => faults_read_again(alloc, source, answers),
+        Unit::Clean(_) => Ok(Vec::new(alloc)),
     }
 }
