@@ -5,7 +5,7 @@ ghost use Rattle.al_base.specs.Growth.{SameSet};
 ghost use Rattle.al_check_calls.specs.Answers.{Typing, answered_faults};
 ghost use Rattle.al_check_calls.specs.Private.AnswerViews.{answered_of, typing_in};
 ghost use Rattle.al_check_calls.specs.Private.Comparing.{AreToldByUses, faults_but_names};
-ghost use Rattle.al_check_contexts.specs.Standing.{Stands};
+ghost use Rattle.al_check_contexts.specs.Environments.{HasMoved, IsAtPosition, file_of};
 ghost use Rattle.al_check_calls.specs.FileCalls.{AreShort};
 ghost use Rattle.al_yaml_tree.specs.View.{view};
 
@@ -14,23 +14,22 @@ use crate::calls::check_call;
 use crate::names::check_names;
 use crate::values::job_values;
 use al_base::FaultSink;
-use al_check_contexts::{Env, File};
+use al_check_contexts::Env;
 use std::alloc::AllocError;
 
 /// Adds the faults of a job's call, except those of names.
 fn check_job<'a>(
-    file: File<'a>,
     env: &mut Env<'a>,
     answered: Answered<'a>,
     faults: &mut FaultSink,
 ) -> Result<(), AllocError>
-    requires stands { Stands file env.old }
+    requires at { IsAtPosition env.old }
     requires short { AreShort (view answered.call.site.node.now) }
-    ensures stands { OnOk result (Stands file.entry env.new) }
+    ensures moved { OnOk result (HasMoved env.new env.old) }
     ensures faults { OnOk result (faults.new ≡ faults.old
-        ++ faults_but_names (typing_in file.entry) (answered_of answered.entry)) }
+        ++ faults_but_names (typing_in (file_of env.old)) (answered_of answered.entry)) }
 {
-    let values = job_values(faults.alloc(), file, env, answered.call)?;
+    let values = job_values(env, answered.call)?;
     check_call(answered, values.as_slice(), faults)?;
     Ok(())
 }
@@ -47,55 +46,52 @@ fn check_step(answered: Answered<'_>, faults: &mut FaultSink) -> Result<(), Allo
 
 /// Adds the faults of a call, except those of names.
 fn check_one<'a>(
-    file: File<'a>,
     env: &mut Env<'a>,
     answered: Answered<'a>,
     faults: &mut FaultSink,
 ) -> Result<(), AllocError>
-    requires stands { Stands file env.old }
+    requires at { IsAtPosition env.old }
     requires short { AreShort (view answered.call.site.node.now) }
-    ensures stands { OnOk result (Stands file.entry env.new) }
+    ensures moved { OnOk result (HasMoved env.new env.old) }
     ensures faults { OnOk result (faults.new ≡ faults.old
-        ++ faults_but_names (typing_in file.entry) (answered_of answered.entry)) }
+        ++ faults_but_names (typing_in (file_of env.old)) (answered_of answered.entry)) }
 {
     match answered.call.site.step {
         Some(_) => check_step(answered, faults),
-        None => check_job(file, env, answered, faults),
+        None => check_job(env, answered, faults),
     }
 }
 
 /// Adds the faults of some calls, except those of names. Moves the environment to them.
 fn check_each<'a>(
-    file: File<'a>,
     env: &mut Env<'a>,
     answered: &[Answered<'a>],
     faults: &mut FaultSink,
 ) -> Result<(), AllocError>
-    requires stands { Stands file env.old }
+    requires at { IsAtPosition env.old }
     requires short { All (λ a. AreShort (view a.call.site.node.now)) answered.now }
     ensures { OnOk result (faults.new ≡ faults.old
-        ++ flat_map (faults_but_names (typing_in file.entry)) (map answered_of answered.now)) }
+        ++ flat_map (faults_but_names (typing_in (file_of env.old))) (map answered_of answered.now)) }
 {
     for one in answered {
-        check_one(file, env, *one, faults)?;
+        check_one(env, *one, faults)?;
     }
     Ok(())
 }
 
-/// Adds the faults of some calls of a file, and moves the environment to them. Of equal faults, as of calls behind aliases, at least one
-/// is added.
+/// Adds the faults of some calls of the environment's file, and moves the environment to them. Of equal faults, as of calls behind
+/// aliases, at least one is added.
 pub(crate) fn check_calls<'a>(
-    file: File<'a>,
     env: &mut Env<'a>,
     answered: &[Answered<'a>],
     faults: &mut FaultSink,
 ) -> Result<(), AllocError>
-    requires stands { Stands file env.old }
+    requires at { IsAtPosition env.old }
     requires short { All (λ a. AreShort (view a.call.site.node.now)) answered.now }
     requires answers { AreToldByUses (map answered_of answered.now) }
     ensures { OnOk result (SameSet faults.new (faults.old
-        ++ flat_map (answered_faults (typing_in file.entry)) (map answered_of answered.now))) }
+        ++ flat_map (answered_faults (typing_in (file_of env.old))) (map answered_of answered.now))) }
 {
-    check_each(file, env, answered, faults)?;
+    check_each(env, answered, faults)?;
     check_names(answered, faults)
 }

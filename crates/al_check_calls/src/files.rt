@@ -44,8 +44,8 @@ fn check_file<'a>(
         ++ flat_map (answered_faults (typing_in f)) (map answered_of answered.now)))) }
 {
     let mut env = Env::new(faults.alloc(), file)?;
-    expression_faults(file, &mut env, faults)?;
-    check_calls(file, &mut env, answered, faults)?;
+    expression_faults(&mut env, faults)?;
+    check_calls(&mut env, answered, faults)?;
     Ok(())
 }
 

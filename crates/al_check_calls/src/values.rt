@@ -1,30 +1,29 @@
 //! The values under `with` of a job, each with its type.
 ghost use Rattle.std.specs.Prelude.{◌≡◌, [], map, true, unwrap_or, IfOk, OnOk};
 ghost use Rattle.std.specs.Option.{option_copied};
-ghost use Rattle.al_base.specs.Growth.{BeginsWith};
 ghost use Rattle.al_check_calls.specs.Private.AnswerViews.{given_at, typing_in};
 ghost use Rattle.al_check_interfaces.specs.CallViews.{call_of};
 ghost use Rattle.al_check_contexts.specs.Answered.{known_of};
-ghost use Rattle.al_check_contexts.specs.Standing.{Stands};
+ghost use Rattle.al_check_contexts.specs.Environments.{HasMoved, IsAtPosition, file_of};
 ghost use Rattle.al_check_calls.specs.FileCalls as file_calls;
 ghost use Rattle.al_check_calls.specs.FileCalls.{AreShort, value_type_in_job};
 ghost use Rattle.al_check_calls.specs.Answers.{values_in};
 ghost use Rattle.al_check_calls.specs.CallFaults.{given_type};
 ghost use Rattle.al_check_places.specs.Places.{place_of};
-ghost use Rattle.al_expr_types.specs.Tables.{is_known, objects_of, type_at};
+ghost use Rattle.al_expr_types.specs.Tables.{is_known, type_at};
 ghost use Rattle.al_tree.specs.Values.{member_of};
 ghost use Rattle.al_yaml_tree.specs.View.{view};
 
 use crate::types::scalar_type;
 use crate::wrong_types::Value;
-use al_check_contexts::{Env, File};
+use al_check_contexts::Env;
 use al_check_interfaces::Call;
 use al_check_places::{Place, Position, Section, Seen, available};
 use al_expr_types::Ty;
 use al_scalar::Scalar;
 use al_tree::{Member, key_text, members_under};
 use al_yaml_tree::Node;
-use std::alloc::{AllocError, Global};
+use std::alloc::AllocError;
 
 /// A value under `with` of a job, with its key.
 #[derive(Clone, Copy)]
@@ -53,30 +52,23 @@ fn place_of_value<'a>(job: &'a [u8], key: &'a Node, scalar: &'a Scalar) -> Place
 }
 
 /// The type of a value under a key: any type if it isn't a scalar.
-#[tactic(auto, using(al_base::proofs::Growing::growth, al_check_contexts::proofs::Standing::standing))]
-fn value_type<'a>(
-    alloc: Global,
-    file: File<'a>,
-    env: &mut Env<'a>,
-    given: JobInput<'a>,
-) -> Result<Ty, AllocError>
-    requires stands { Stands file env.old }
+#[tactic(auto, using(al_base::proofs::Growing::growth))]
+fn value_type<'a>(env: &mut Env<'a>, given: JobInput<'a>) -> Result<Ty, AllocError>
+    requires at { IsAtPosition env.old }
     requires short { AreShort (member_of given.member).1 }
-    ensures stands { OnOk result (Stands file.entry env.new) }
-    ensures ty { let f = file.entry in let g = given.entry in IfOk result
+    ensures moved { OnOk result (HasMoved env.new env.old) }
+    ensures ty { let f = file_of env.old in let g = given.entry in IfOk result
         (λ t. type_at (env.new).types t
         ≡ given_type (value_type_in_job f.kind (known_of f.known) (view f.root.now) g.job.now)
         (member_of g.member)) }
     ensures known { IfOk result (λ t. is_known (env.new).types t ≡ true) }
-    ensures kept { OnOk result
-        (BeginsWith (objects_of (env.new).types) (objects_of (env.old).types)) }
 {
     match given.member.value.scalar() {
         None => Ok(Ty::ANY),
         Some(scalar) => {
             let place = place_of_value(given.job, given.member.key, scalar);
-            env.go_to(alloc, file, place)?;
-            let ty = scalar_type(alloc, &mut env.types, &env.scope, scalar)?;
+            env.go_to(place)?;
+            let ty = scalar_type(env.alloc(), &mut env.types, &env.scope, scalar)?;
             Ok(ty)
         }
     }
@@ -94,23 +86,22 @@ fn text_or_empty<'a>(text: Option<&'a [u8]>) -> &'a [u8]
 
 /// The values that a job's call gives, each with its type. Moves the environment to the values.
 pub(crate) fn job_values<'a>(
-    alloc: Global,
-    file: File<'a>,
     env: &mut Env<'a>,
     call: Call<'a>,
 ) -> Result<Vec<Value<'a>>, AllocError>
-    requires stands { Stands file env.old }
+    requires at { IsAtPosition env.old }
     requires short { AreShort (view call.site.node.now) }
-    ensures stands { OnOk result (Stands file.entry env.new) }
+    ensures moved { OnOk result (HasMoved env.new env.old) }
     ensures values { IfOk result (λ v. map (given_at (env.new).types) v.items
-        ≡ values_in (typing_in file.entry) (call_of call.entry)) }
+        ≡ values_in (typing_in (file_of env.old)) (call_of call.entry)) }
 {
+    let alloc = env.alloc();
     let job = text_or_empty(call.site.job);
     let given = members_under(alloc, call.site.node, "with")?;
     let mut values = Vec::new(alloc);
     for member in &given {
         let member = *member;
-        let ty = value_type(alloc, file, env, JobInput { job, member })?;
+        let ty = value_type(env, JobInput { job, member })?;
         values.push(Value { member, ty })?;
     }
     Ok(values)

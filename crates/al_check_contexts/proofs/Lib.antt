@@ -3,4 +3,4 @@ pub mod Kept
 pub mod TableLemmas
 pub mod StepLemmas
 pub mod JobLemmas
-pub mod Standing
+pub mod Environments

@@ -6,6 +6,6 @@ pub mod Caches
 pub mod Made
 pub mod Steps
 pub mod Table
-pub mod Standing
+pub mod Environments
 pub mod Private
 pub mod Rows

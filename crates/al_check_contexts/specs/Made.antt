@@ -26,10 +26,10 @@ pub record KeepsJobs (types : Types) (known : Outputs) (js : List (Node × Node)
 
 -- the jobs of a basis, and what is known in it
 abbrev pub jobs_from : Basis → List (Node × Node)
-jobs_from b = map member_of b.jobs.now.members.items
+jobs_from b = map member_of b.jobs.members.items
 
 abbrev pub known_from : Basis → OutputNames
-known_from b = known_by b.outputs.now
+known_from b = known_by b.outputs
 
 abbrev pub KeepsJobsOf : Types → Basis → JobTypes → Type 0
-KeepsJobsOf types b m = KeepsJobs types b.outputs.now (jobs_from b) m
+KeepsJobsOf types b m = KeepsJobs types b.outputs (jobs_from b) m

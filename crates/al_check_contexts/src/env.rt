@@ -1,15 +1,11 @@
 //! The types of contexts along a walk through a file.
 ghost use Rattle.std.specs.Prelude.{◌≡◌, IfOk, OnOk, IsTrue};
-ghost use Rattle.al_base.specs.Growth.{BeginsWith};
 ghost use Rattle.al_check_contexts.specs.Scopes as scopes;
 ghost use Rattle.al_check_places.specs.Places.{place_of};
-ghost use Rattle.al_check_places.specs.Positions.{position_view, section_view};
+ghost use Rattle.al_check_places.specs.Positions.{section_view};
 ghost use Rattle.al_check_contexts.specs.Answered.{known_of};
-ghost use Rattle.al_check_contexts.specs.Contexts.{context_type_at};
-ghost use Rattle.al_check_contexts.specs.Lookups.{known_by};
-ghost use Rattle.al_check_contexts.specs.Standing.{Stands};
+ghost use Rattle.al_check_contexts.specs.Environments.{HasMoved, IsAtPosition, file_of, types_at};
 ghost use Rattle.al_check_contexts.specs.Table.{Shows, position};
-ghost use Rattle.al_expr_types.specs.Tables.{objects_of};
 ghost use Rattle.al_expr_typing.specs.Scopes.{IsShown, scope_view};
 ghost use Rattle.al_yaml_tree.specs.View.{view};
 
@@ -23,8 +19,8 @@ use crate::sections::{owner_at, section_types};
 use crate::start::first_types;
 use crate::steps::StepFields;
 use al_check_objects::strategy_type;
-use al_check_places::{Place, Position, Section, Seen};
-use al_expr_types::{Ty, Types};
+use al_check_places::{Place, Section, Seen};
+use al_expr_types::Types;
 use al_expr_typing::Scope;
 use al_tree::FileKind;
 use al_types::Available;
@@ -42,15 +38,11 @@ pub struct File<'a> {
 /// The types of contexts at a position, and the table that they refer to. From one position to the next, only what changes is made anew.
 #[derive(Drop)]
 pub struct Env<'a> {
+    basis: Basis<'a>,
     section: Section<'a>,
     seen: usize,
-    jobs: JobList<'a>,
-    /// What is known of the outputs behind calls.
-    outputs: Outputs<'a>,
     /// The fields of `steps` in the section.
     steps: StepFields<'a>,
-    /// The type of `strategy` in jobs.
-    strategy: Ty,
     job_types: JobTypes,
     /// The types of steps, by the position of their lists of outputs.
     step_types: TypeCache,
@@ -80,111 +72,13 @@ fn is_same_section(a: Section<'_>, b: Section<'_>) -> bool
     }
 }
 
-/// Moves to another section, to where no step is seen.
-#[tactic(auto, using(al_base::proofs::Growing::growth))]
-fn enter_section<'a>(
-    alloc: Global,
-    file: File<'a>,
-    env: &mut Env<'a>,
-    section: Section<'a>,
-) -> Result<(), AllocError>
-    requires { Stands file env.old }
-    ensures stands { OnOk result (Stands file.entry env.new) }
-    ensures same { OnOk result (section_view (env.new).section ≡ section_view section.entry) }
-    ensures kept { OnOk result
-        (BeginsWith (objects_of (env.new).types) (objects_of (env.old).types)) }
-{
-    let basis = Basis {
-        alloc,
-        jobs: &env.jobs,
-        outputs: &env.outputs,
-        strategy: env.strategy,
-    };
-    let job = env.jobs.job_of(section);
-    let owner = owner_at(file.kind, file.root, job);
-    let made = section_types(&mut env.types, &basis, &mut env.job_types, section, job)?;
-    let mut steps = StepFields::of(&mut env.types, &basis, &mut env.step_types, owner)?;
-    let none_seen = steps.first(&mut env.types, 0)?;
-    env.scope.types.strategy = made.strategy;
-    env.scope.types.needs = made.needs;
-    env.scope.types.jobs = made.jobs;
-    env.scope.types.matrix = made.matrix;
-    env.scope.types.steps = none_seen;
-    env.steps = steps;
-    env.seen = 0;
-    env.section = section;
-    Ok(())
-}
-
-/// Moves to a section.
-fn enter<'a>(
-    alloc: Global,
-    file: File<'a>,
-    env: &mut Env<'a>,
-    section: Section<'a>,
-) -> Result<(), AllocError>
-    requires { Stands file env.old }
-    ensures stands { OnOk result (Stands file.entry env.new) }
-    ensures same { OnOk result (section_view (env.new).section ≡ section_view section.entry) }
-    ensures kept { OnOk result
-        (BeginsWith (objects_of (env.new).types) (objects_of (env.old).types)) }
-{
-    if is_same_section(env.section, section) {
-        return Ok(());
-    }
-    enter_section(alloc, file, env, section)
-}
-
-/// Moves to where these steps are seen, in the same section.
-fn see<'a>(file: File<'a>, env: &mut Env<'a>, seen: Seen) -> Result<(), AllocError>
-    requires { Stands file env.old }
-    ensures stands { OnOk result (Stands file.entry env.new) }
-    ensures same { OnOk result (section_view (env.new).section ≡ section_view (env.old).section) }
-    ensures shows { OnOk result
-        (Shows (env.new).types (env.new).scope.types
-        (context_type_at (file.entry).kind (known_by (env.new).outputs) (view (file.entry).root.now)
-        (position (section_view (env.old).section) seen))) }
-    ensures kept { OnOk result
-        (BeginsWith (objects_of (env.new).types) (objects_of (env.old).types)) }
-{
-    let count = env.steps.seen_count(seen);
-    if count == env.seen {
-        return Ok(());
-    }
-    let steps = env.steps.first(&mut env.types, count)?;
-    env.scope.types.steps = steps;
-    env.seen = count;
-    Ok(())
-}
-
-/// Moves to a position of the file.
-#[tactic(auto, using(al_base::proofs::Growing::growth))]
-fn go<'a>(
-    alloc: Global,
-    file: File<'a>,
-    env: &mut Env<'a>,
-    position: Position<'a>,
-) -> Result<(), AllocError>
-    requires { Stands file env.old }
-    ensures stands { OnOk result (Stands file.entry env.new) }
-    ensures shows { OnOk result
-        (Shows (env.new).types (env.new).scope.types
-        (context_type_at (file.entry).kind (known_of (file.entry).known) (view (file.entry).root.now)
-        (position_view position.entry))) }
-    ensures kept { OnOk result
-        (BeginsWith (objects_of (env.new).types) (objects_of (env.old).types)) }
-{
-    enter(alloc, file, env, position.section)?;
-    see(file, env, position.seen)?;
-    Ok(())
-}
-
 impl<'a> Env<'a> {
     /// The environment at the start of a file: outside its jobs, where no step is seen and nothing is available.
     ///
     /// Fails with `AllocError` when out of memory.
     pub fn new(alloc: Global, file: File<'a>) -> Result<Env<'a>, AllocError>
-        ensures { IfOk result (λ e. Stands file.entry e) }
+        ensures at { IfOk result (λ e. IsAtPosition e) }
+        ensures file { IfOk result (λ e. file_of e ≡ file.entry) }
     {
         let jobs = JobList::of(alloc, file.root)?;
         let outputs = Outputs::of(alloc, file.known)?;
@@ -196,8 +90,9 @@ impl<'a> Env<'a> {
         let strategy = strategy_type(alloc, &mut types)?;
         let basis = Basis {
             alloc,
-            jobs: &jobs,
-            outputs: &outputs,
+            file,
+            jobs,
+            outputs,
             strategy,
         };
         let owner = owner_at(file.kind, file.root, None);
@@ -205,12 +100,10 @@ impl<'a> Env<'a> {
         let none_seen = steps.first(&mut types, 0)?;
         let contexts = first_types(alloc, &mut types, file, none_seen)?;
         Ok(Env {
+            basis,
             section: Section::Apart,
             seen: 0,
-            jobs,
-            outputs,
             steps,
-            strategy,
             job_types,
             step_types,
             types,
@@ -225,27 +118,79 @@ impl<'a> Env<'a> {
         })
     }
 
+    /// The allocator, for whatever else a check of the file allocates.
+    pub fn alloc(&self) -> Global {
+        self.basis.alloc
+    }
+
+    /// The file.
+    pub fn file(&self) -> File<'a>
+        ensures { result ≡ file_of self.now }
+    {
+        self.basis.file
+    }
+
+    /// Moves to a section: to where no step is seen, unless it is there already.
+    #[tactic(auto, using(al_base::proofs::Growing::growth))]
+    fn enter(&mut self, section: Section<'a>) -> Result<(), AllocError>
+        requires { IsAtPosition self.old }
+        ensures moved { OnOk result (HasMoved self.new self.old) }
+        ensures same { OnOk result (section_view (self.new).section ≡ section_view section.entry) }
+    {
+        if is_same_section(self.section, section) {
+            return Ok(());
+        }
+        let basis = &self.basis;
+        let job = basis.jobs.job_of(section);
+        let owner = owner_at(basis.file.kind, basis.file.root, job);
+        let made = section_types(&mut self.types, basis, &mut self.job_types, section, job)?;
+        let mut steps = StepFields::of(&mut self.types, basis, &mut self.step_types, owner)?;
+        let none_seen = steps.first(&mut self.types, 0)?;
+        self.scope.types.strategy = made.strategy;
+        self.scope.types.needs = made.needs;
+        self.scope.types.jobs = made.jobs;
+        self.scope.types.matrix = made.matrix;
+        self.scope.types.steps = none_seen;
+        self.steps = steps;
+        self.seen = 0;
+        self.section = section;
+        Ok(())
+    }
+
+    /// Moves to where these steps are seen, in the same section.
+    fn see(&mut self, seen: Seen) -> Result<(), AllocError>
+        requires { IsAtPosition self.old }
+        ensures moved { OnOk result (HasMoved self.new self.old) }
+        ensures shows { OnOk result (Shows (self.new).types (self.new).scope.types
+            (types_at (file_of self.new) (position (section_view (self.old).section) seen))) }
+    {
+        let count = self.steps.seen_count(seen);
+        if count == self.seen {
+            return Ok(());
+        }
+        let steps = self.steps.first(&mut self.types, count)?;
+        self.scope.types.steps = steps;
+        self.seen = count;
+        Ok(())
+    }
+
     /// Moves to a place of the file: `scope` is then what an expression can refer to there. Only what changes is made anew, which is
     /// least if places come in the order of the file. Types made before stay valid.
     ///
     /// Fails with `AllocError` when out of memory; the environment can't be used any more then.
-    pub fn go_to(
-        &mut self,
-        alloc: Global,
-        file: File<'a>,
-        place: Place<'a>,
-    ) -> Result<(), AllocError>
-        requires { Stands file self.old }
-        ensures stands { OnOk result (Stands file.entry self.new) }
+    #[tactic(auto, using(crate::proofs::Environments::moved_further))]
+    pub fn go_to(&mut self, place: Place<'a>) -> Result<(), AllocError>
+        requires { IsAtPosition self.old }
+        ensures moved { OnOk result (HasMoved self.new self.old) }
         ensures shown { OnOk result (IsShown (self.new).types (self.new).scope) }
-        ensures scope { OnOk result
-            (scope_view (self.new).types (self.new).scope ≡ scopes.scope_at (file.entry).kind
-            (known_of (file.entry).known) (view (file.entry).root.now) (place_of place.entry)) }
-        ensures kept { OnOk result
-            (BeginsWith (objects_of (self.new).types) (objects_of (self.old).types)) }
+        ensures scope { let f = file_of self.old in OnOk result
+            (scope_view (self.new).types (self.new).scope
+            ≡ scopes.scope_at f.kind (known_of f.known) (view f.root.now) (place_of place.entry)) }
     {
-        go(alloc, file, self, place.position)?;
-        self.scope.available = available_at(file.kind, place.available, place.is_condition);
+        self.enter(place.position.section)?;
+        self.see(place.position.seen)?;
+        let kind = self.basis.file.kind;
+        self.scope.available = available_at(kind, place.available, place.is_condition);
         self.scope.in_run = place.is_script;
         Ok(())
     }

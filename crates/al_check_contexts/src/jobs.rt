@@ -58,13 +58,13 @@ fn shown_with(alloc: Global, types: &mut Types<'_>, outputs: Ty) -> Result<Ty, A
 #[tactic(auto, using(al_base::proofs::Growing::growth))]
 fn called_type<'a>(
     types: &mut Types<'a>,
-    basis: &Basis<'_, 'a>,
+    basis: &Basis<'a>,
     made: &mut TypeCache,
     position: usize,
 ) -> Result<Ty, AllocError>
-    requires { Keeps types.old (called_at basis.now.outputs.now) made.old }
-    ensures ty { IfOk result (λ t. Means types.new t (called_at basis.now.outputs.now position)) }
-    ensures keeps { OnOk result (Keeps types.new (called_at basis.now.outputs.now) made.new) }
+    requires { Keeps types.old (called_at basis.now.outputs) made.old }
+    ensures ty { IfOk result (λ t. Means types.new t (called_at basis.now.outputs position)) }
+    ensures keeps { OnOk result (Keeps types.new (called_at basis.now.outputs) made.new) }
     ensures kept { OnOk result (BeginsWith (objects_of types.new) (objects_of types.old)) }
 {
     if let Some(ty) = made.get(position) {
@@ -140,15 +140,15 @@ impl JobTypes {
     fn type_of<'a>(
         &mut self,
         types: &mut Types<'a>,
-        basis: &Basis<'_, 'a>,
+        basis: &Basis<'a>,
         job: Member<'a>,
     ) -> Result<Ty, AllocError>
-        requires calls { Keeps types.old (called_at basis.now.outputs.now) (self.old).calls }
+        requires calls { Keeps types.old (called_at basis.now.outputs) (self.old).calls }
         requires bare { KeepsBare types.old (self.old).bare }
         ensures ty { IfOk result
             (λ t. Means types.new t (job_field (known_from basis.now) (member_of job.entry)).1) }
         ensures keeps { OnOk result
-            (Keeps types.new (called_at basis.now.outputs.now) (self.new).calls) }
+            (Keeps types.new (called_at basis.now.outputs) (self.new).calls) }
         ensures bare { OnOk result (KeepsBare types.new (self.new).bare) }
         ensures shown { (self.new).shown ≡ (self.old).shown }
         ensures all { (self.new).all ≡ (self.old).all }
@@ -167,13 +167,13 @@ impl JobTypes {
     fn get<'a>(
         &mut self,
         types: &mut Types<'a>,
-        basis: &Basis<'_, 'a>,
+        basis: &Basis<'a>,
         i: usize,
     ) -> Result<Ty, AllocError>
         requires keeps { KeepsJobsOf types.old basis.now self.old }
-        requires inside { i < length basis.now.jobs.now.members.items }
+        requires inside { i < length basis.now.jobs.members.items }
         ensures ty { IfOk result
-            (λ t. Means types.new t (shown_at basis.now.outputs.now (jobs_from basis.now) i)) }
+            (λ t. Means types.new t (shown_at basis.now.outputs (jobs_from basis.now) i)) }
         ensures keeps { OnOk result (KeepsJobsOf types.new basis.now self.new) }
         ensures kept { OnOk result (BeginsWith (objects_of types.new) (objects_of types.old)) }
     {
@@ -189,7 +189,7 @@ impl JobTypes {
     fn object_of_jobs<'a>(
         &mut self,
         types: &mut Types<'a>,
-        basis: &Basis<'_, 'a>,
+        basis: &Basis<'a>,
     ) -> Result<Ty, AllocError>
         requires { KeepsJobsOf types.old basis.now self.old }
         ensures ty { IfOk result
@@ -212,7 +212,7 @@ impl JobTypes {
     pub(crate) fn jobs_type<'a>(
         &mut self,
         types: &mut Types<'a>,
-        basis: &Basis<'_, 'a>,
+        basis: &Basis<'a>,
     ) -> Result<Ty, AllocError>
         requires { KeepsJobsOf types.old basis.now self.old }
         ensures ty { IfOk result
@@ -232,7 +232,7 @@ impl JobTypes {
     fn and_dependency<'a>(
         &mut self,
         types: &mut Types<'a>,
-        basis: &Basis<'_, 'a>,
+        basis: &Basis<'a>,
         name: &[u8],
         fields: FieldList<'a>,
     ) -> Result<FieldList<'a>, AllocError>
@@ -258,7 +258,7 @@ impl JobTypes {
     pub(crate) fn needs_type<'a>(
         &mut self,
         types: &mut Types<'a>,
-        basis: &Basis<'_, 'a>,
+        basis: &Basis<'a>,
         job: &'a Node,
     ) -> Result<Ty, AllocError>
         requires { KeepsJobsOf types.old basis.now self.old }

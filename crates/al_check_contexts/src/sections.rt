@@ -67,7 +67,7 @@ fn matrix_at<'a>(
 
 fn needs_at<'a>(
     types: &mut Types<'a>,
-    basis: &Basis<'_, 'a>,
+    basis: &Basis<'a>,
     made: &mut JobTypes,
     job: Option<Member<'a>>,
 ) -> Result<Ty, AllocError>
@@ -90,7 +90,7 @@ fn needs_at<'a>(
 /// The type of `jobs` in a section.
 fn jobs_at<'a>(
     types: &mut Types<'a>,
-    basis: &Basis<'_, 'a>,
+    basis: &Basis<'a>,
     made: &mut JobTypes,
     section: Section<'a>,
 ) -> Result<Ty, AllocError>
@@ -110,7 +110,7 @@ fn jobs_at<'a>(
 #[tactic(auto, using(al_base::proofs::Growing::growth))]
 pub(crate) fn section_types<'a>(
     types: &mut Types<'a>,
-    basis: &Basis<'_, 'a>,
+    basis: &Basis<'a>,
     made: &mut JobTypes,
     section: Section<'a>,
     job: Option<Member<'a>>,

@@ -82,13 +82,13 @@ pub(crate) fn outputs_type<'a>(
 #[tactic(auto, using(al_base::proofs::Growing::growth))]
 fn step_type<'a>(
     types: &mut Types<'a>,
-    basis: &Basis<'_, 'a>,
+    basis: &Basis<'a>,
     made: &mut TypeCache,
     position: usize,
 ) -> Result<Ty, AllocError>
-    requires { Keeps types.old (step_at basis.now.outputs.now) made.old }
-    ensures ty { IfOk result (λ t. Means types.new t (step_at basis.now.outputs.now position)) }
-    ensures keeps { OnOk result (Keeps types.new (step_at basis.now.outputs.now) made.new) }
+    requires { Keeps types.old (step_at basis.now.outputs) made.old }
+    ensures ty { IfOk result (λ t. Means types.new t (step_at basis.now.outputs position)) }
+    ensures keeps { OnOk result (Keeps types.new (step_at basis.now.outputs) made.new) }
     ensures kept { OnOk result (BeginsWith (objects_of types.new) (objects_of types.old)) }
 {
     if let Some(ty) = made.get(position) {
@@ -103,18 +103,18 @@ fn step_type<'a>(
 /// Appends the field of a step, if the step has an id and no field has it.
 fn and_step<'a>(
     types: &mut Types<'a>,
-    basis: &Basis<'_, 'a>,
+    basis: &Basis<'a>,
     made: &mut TypeCache,
     step: Step<'a>,
     fields: FieldList<'a>,
 ) -> Result<FieldList<'a>, AllocError>
-    requires { Keeps types.old (step_at basis.now.outputs.now) made.old }
+    requires { Keeps types.old (step_at basis.now.outputs) made.old }
     ensures fields { IfOk result
         (λ l. (ts : List TypedName) → Lists types.old fields.entry ts → Lists types.new l
         (put_all put_new ts (option_to_list
         (step_field (known_from basis.now) (option_copied (step.entry).job)
         ((step.entry).index, view (step.entry).node.now))))) }
-    ensures keeps { OnOk result (Keeps types.new (step_at basis.now.outputs.now) made.new) }
+    ensures keeps { OnOk result (Keeps types.new (step_at basis.now.outputs) made.new) }
     ensures kept { OnOk result (BeginsWith (objects_of types.new) (objects_of types.old)) }
 {
     match text_under(step.node, "id") {
@@ -143,15 +143,15 @@ impl<'a> StepFields<'a> {
     /// The fields for the steps of an owner, if there is one.
     pub(crate) fn of(
         types: &mut Types<'a>,
-        basis: &Basis<'_, 'a>,
+        basis: &Basis<'a>,
         made: &mut TypeCache,
         owner: Option<Owner<'a>>,
     ) -> Result<StepFields<'a>, AllocError>
-        requires { Keeps types.old (step_at basis.now.outputs.now) made.old }
+        requires { Keeps types.old (step_at basis.now.outputs) made.old }
         ensures steps { IfOk result (λ s.
             AreStepsOf types.new (known_from basis.now) (option_map owner_view owner.entry) s) }
         ensures prefixes { IfOk result (λ s. ArePrefixes types.new s) }
-        ensures keeps { OnOk result (Keeps types.new (step_at basis.now.outputs.now) made.new) }
+        ensures keeps { OnOk result (Keeps types.new (step_at basis.now.outputs) made.new) }
         ensures kept { OnOk result (BeginsWith (objects_of types.new) (objects_of types.old)) }
     {
         match owner {
@@ -169,15 +169,15 @@ impl<'a> StepFields<'a> {
     /// The fields for the steps of an owner.
     fn of_owner(
         types: &mut Types<'a>,
-        basis: &Basis<'_, 'a>,
+        basis: &Basis<'a>,
         made: &mut TypeCache,
         owner: Owner<'a>,
     ) -> Result<StepFields<'a>, AllocError>
-        requires { Keeps types.old (step_at basis.now.outputs.now) made.old }
+        requires { Keeps types.old (step_at basis.now.outputs) made.old }
         ensures steps { IfOk result
             (λ s. AreSteps types.new (known_from basis.now) (owner_view owner.entry) s) }
         ensures prefixes { IfOk result (λ s. ArePrefixes types.new s) }
-        ensures keeps { OnOk result (Keeps types.new (step_at basis.now.outputs.now) made.new) }
+        ensures keeps { OnOk result (Keeps types.new (step_at basis.now.outputs) made.new) }
         ensures kept { OnOk result (BeginsWith (objects_of types.new) (objects_of types.old)) }
     {
         let steps = owner.steps;

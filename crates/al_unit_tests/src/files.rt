@@ -39,7 +39,7 @@ pub(crate) fn env_at<'a>(
     let mut env = Env::new(alloc, file)?;
     let found = places(alloc, file.kind, file.root)?;
     for place in found.as_slice() {
-        env.go_to(alloc, file, *place)?;
+        env.go_to(*place)?;
         if place.scalar.text() == text.as_bytes() {
             return Ok(Some(env));
         }

@@ -2,6 +2,8 @@ use Rattle.std.proofs.Common.{ap, arith, ◌∙◌, map, sym}
 use Rattle.std.proofs.lemmas.List.{take_all}
 use Rattle.std.proofs.lemmas.List.Elements.{All-contains}
 use Rattle.al_check_contexts.specs.Answered.{known_of}
+use Rattle.al_check_contexts.specs.Environments.{file_of}
+use Rattle.al_check_contexts.proofs.Environments.{moved_further}
 use Rattle.al_tree.specs.Values.{member_of}
 use Rattle.al_yaml_tree.specs.View.{view}
 use Rattle.al_check_calls.specs.FileCalls.{AreShort, value_type_in_job}
@@ -17,19 +19,21 @@ value_type-requires-clause-short c =
 
 pub loop-member-preserved : goal.loop-member-preserved
 loop-member-preserved c =
-    let file = c.args.file in
+    let file = file_of c.args.env.now in
+    let was = c.loop-member.invariant in
+    let made = c.in_ok-ty.ensures in
     let now = c.loop-member.env.types in
     let next = c.value_type.new.env.types in
     let vs = c.loop-member.values.items in
     let m = c.member-item.result in
     let t = c.in_ok-ty.ty in
     record {
-      stands = c.in_ok-ty.ensures.stands;
-      known = known_more next now vs c.push.new.self.items (record { member = m; ty = t }) c.in_ok-ty.ensures.kept c.loop-member.invariant.known
-          c.in_ok-ty.ensures.known c.in_ok-push.ensures.items;
+      moved = moved_further _ _ _ was.moved made.moved;
+      known = known_more next now vs c.push.new.self.items (record { member = m; ty = t }) made.moved.kept was.known made.known
+          c.in_ok-push.ensures.items;
       values = value_more next now (value_type_in_job file.kind (known_of file.known) (view file.root.now) c.text_or_empty-job.result.now)
           c.deref-member-items.result.now c.loop-member.member-index m t vs c.push.new.self.items c.loop-member-test.true c.member-item.is
-          c.in_ok-ty.ensures.kept c.loop-member.invariant.known c.in_ok-ty.ensures.ty c.in_ok-push.ensures.items c.loop-member.invariant.values;
+          made.moved.kept was.known (rw was.moved.file at made.ty) c.in_ok-push.ensures.items was.values;
     }
 
 pub returns-clause-values : goal.returns-clause-values

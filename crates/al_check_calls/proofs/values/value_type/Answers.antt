@@ -6,19 +6,20 @@ use Rattle.al_tree.specs.Values.{member_of}
 use Rattle.al_yaml_tree.specs.View.{view}
 use Rattle.al_check_calls.specs.Types.{type_of_given}
 use Rattle.al_check_calls.proofs.Short.{scalar_short}
-use Rattle.al_check_contexts.proofs.Standing.{stands_stays}
+use Rattle.al_check_contexts.specs.Environments.{file_of}
+use Rattle.al_check_contexts.proofs.Environments.{moved_and_grown}
 use Rattle.al_check_calls.proofs.values.value_type.Goals as goal
 
 pub scalar_type-requires-clause-utf8 : goal.scalar_type-requires-clause-utf8
 scalar_type-requires-clause-utf8 c =
     (scalar_short (member_of c.args.given.member).1 c.in-Some.scalar.now (sym c.scalar.ensures ∙ ap option_copied c.in-Some.is) c.requires.short).0
 
-pub returns-in_ok-ty-in-Some-clause-stands : goal.returns-in_ok-ty-in-Some-clause-stands
-returns-in_ok-ty-in-Some-clause-stands c =
-    stands_stays c.args.file c.go_to.new.self c.scalar_type.new.types c.in_ok-go_to-in-Some.ensures.stands c.in_ok-ty-in-Some.ensures.kept
+pub returns-in_ok-ty-in-Some-clause-moved : goal.returns-in_ok-ty-in-Some-clause-moved
+returns-in_ok-ty-in-Some-clause-moved c =
+    moved_and_grown c.go_to.new.self _ c.scalar_type.new.types c.in_ok-go_to-in-Some.ensures.moved c.in_ok-ty-in-Some.ensures.kept
 
 pub returns-in_ok-ty-in-Some-clause-ty : goal.returns-in_ok-ty-in-Some-clause-ty
 returns-in_ok-ty-in-Some-clause-ty c =
-    let there = c.in_ok-go_to-in-Some.ensures.scope
-    ∙ ap (λ p. scope_at c.args.file.kind (known_of c.args.file.known) (view c.args.file.root.now) p) c.place_of_value-place.ensures in
+    let file = file_of c.args.env.now in
+    let there = c.in_ok-go_to-in-Some.ensures.scope ∙ ap (scope_at file.kind (known_of file.known) (view file.root.now)) c.place_of_value-place.ensures in
     rw (← c.scalar.ensures, c.in-Some.is) (c.in_ok-ty-in-Some.ensures.ty ∙ ap (λ sc. type_of_given sc c.in-Some.scalar.now) there)

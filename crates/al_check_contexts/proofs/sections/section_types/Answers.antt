@@ -22,5 +22,5 @@ returns-clause-types c =
 
 pub returns-clause-keeps : goal.returns-clause-keeps
 returns-clause-keeps c =
-    keeps_jobs_stay c.matrix_at.new.types c.jobs_at.new.types c.args.basis.now.outputs.now (jobs_from c.args.basis.now) c.jobs_at.new.made
+    keeps_jobs_stay c.matrix_at.new.types c.jobs_at.new.types c.args.basis.now.outputs (jobs_from c.args.basis.now) c.jobs_at.new.made
     c.in_ok-matrix.ensures.kept c.in_ok-jobs.ensures.keeps

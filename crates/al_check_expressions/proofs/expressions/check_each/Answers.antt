@@ -1,11 +1,12 @@
 use Rattle.std.proofs.Common.{◌≡◌, ◌<◌, ◌+◌, ◌++◌, ℕ, List, ap, sym, ◌∙◌, append_assoc, drop, get_or, length, map}
 use Rattle.std.specs.List.{flat_map}
-use Rattle.al_base.proofs.Growing.{begins_trans}
 use Rattle.al_base.specs.declared.faults.Fault.{Fault}
 use Rattle.al_yaml_tree.specs.View.{view}
 use Rattle.al_tree.proofs.Lists.{left_next}
 use Rattle.al_check_places.specs.Places.{Place, place_of}
 use Rattle.al_check_contexts.specs.Answered.{known_of}
+use Rattle.al_check_contexts.specs.Environments.{file_of}
+use Rattle.al_check_contexts.proofs.Environments.{moved_further}
 use Rattle.al_check_expressions.specs.FileExpressions.{expression_faults_at}
 use Rattle.al_check_expressions.proofs.expressions.check_each.Goals as goal
 
@@ -20,9 +21,9 @@ pub loop-place-preserved : goal.loop-place-preserved
 loop-place-preserved c =
     let was = c.loop-place.invariant in
     let made = c.in_ok-check_at.ensures in
+    let file = file_of c.args.env.now in
     record {
-      stands = made.stands;
-      all = faults_next (expression_faults_at c.args.file.kind (known_of c.args.file.known) (view c.args.file.root.now)) place_of c.args.places.now c.loop-place.place-index
-          c.place-item.result _ _ c.loop-place-test.true c.place-item.is made.faults ∙ was.all;
-      kept = begins_trans _ _ _ was.kept made.kept;
+      moved = moved_further _ _ _ was.moved made.moved;
+      all = faults_next (expression_faults_at file.kind (known_of file.known) (view file.root.now)) place_of c.args.places.now c.loop-place.place-index
+          c.place-item.result _ _ c.loop-place-test.true c.place-item.is (rw was.moved.file at made.faults) ∙ was.all;
     }

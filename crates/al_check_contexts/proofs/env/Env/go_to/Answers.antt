@@ -1,25 +1,19 @@
+use Rattle.std.proofs.Common.{ap, ◌∙◌}
+use Rattle.al_check_places.specs.Places.{place_of}
+use Rattle.al_check_contexts.specs.Answered.{known_of}
+use Rattle.al_check_contexts.specs.Scopes.{scope_at}
 use Rattle.al_check_contexts.proofs.env.Env.go_to.Goals as goal
-
-pub returns-clause-stands : goal.returns-clause-stands
-returns-clause-stands c =
-    let was = c.in_ok-go.ensures.stands in
-    record {
-      members = was.members;
-      known = was.known;
-      shows = was.shows;
-      steps = was.steps;
-      prefixes = was.prefixes;
-      strategy = was.strategy;
-      job_types = was.job_types;
-      step_types = was.step_types;
-    }
+use Rattle.al_yaml_tree.specs.View.{view}
 
 pub returns-clause-shown : goal.returns-clause-shown
-returns-clause-shown c = record { known = λ x. (c.in_ok-go.ensures.shows.each x).known }
+returns-clause-shown c = record { known = λ x. (c.in_ok-see.ensures.shows.each x).known }
 
 pub returns-clause-scope : goal.returns-clause-scope
-returns-clause-scope c = λ i. record {
-  types = λ x. (c.in_ok-go.ensures.shows.each x).is i;
-  available = c.available_at-self.ensures i;
-  in_run = c.args.place.is_script;
-}
+returns-clause-scope c =
+    let shows = rw c.in_ok-enter.ensures.same at c.in_ok-see.ensures.shows in
+    (λ i. record {
+      types = λ x. (shows.each x).is i;
+      available = c.available_at-self.ensures i;
+      in_run = c.args.place.is_script;
+    })
+    ∙ ap (λ f. scope_at f.kind (known_of f.known) (view f.root.now) (place_of c.args.place)) (c.in_ok-see.ensures.moved.file ∙ c.in_ok-enter.ensures.moved.file)

@@ -11,9 +11,9 @@ pub returns : goal.returns
 returns c =
     let entry = c.args.types.now in
     let now = c.type_of.new.types in
-    let at = shown_at c.args.basis.now.outputs.now (jobs_from c.args.basis.now) in
+    let at = shown_at c.args.basis.now.outputs (jobs_from c.args.basis.now) in
     let made = c.in_ok-ty.ensures in
-    let means = means_as now c.in_ok-ty.ty _ _ (shown_there c.args.basis.now.outputs.now (jobs_from c.args.basis.now) c.args.i _ c.job_at.ensures) made.ty in
+    let means = means_as now c.in_ok-ty.ty _ _ (shown_there c.args.basis.now.outputs (jobs_from c.args.basis.now) c.args.i _ c.job_at.ensures) made.ty in
     record {
       ty = means;
       keeps = record {

@@ -29,5 +29,5 @@ returns-clause-ty c =
 
 pub returns-clause-keeps : goal.returns-clause-keeps
 returns-clause-keeps c =
-    keeps_jobs_stay c.into_type.new.types c.loop-name.types c.args.basis.now.outputs.now (jobs_from c.args.basis.now) c.loop-name.self
+    keeps_jobs_stay c.into_type.new.types c.loop-name.types c.args.basis.now.outputs (jobs_from c.args.basis.now) c.loop-name.self
     c.in_ok-ty.ensures.kept c.loop-name.invariant.keeps

@@ -22,7 +22,7 @@ loop-i-preserved c =
     let now = c.get.new.types in
     let sofar = put_all put_new [] (map field (map member_of (take i members))) in
     let there = same_there member_of members js i x c.as_slice-members.ensures c.loop-i-test.true c.index-members-i.is in
-    let means = means_as now c.in_ok-ty.ty _ _ (sym (shown_there c.args.basis.now.outputs.now js i (member_of x) there)) c.in_ok-ty.ensures.ty in
+    let means = means_as now c.in_ok-ty.ty _ _ (sym (shown_there c.args.basis.now.outputs js i (member_of x) there)) c.in_ok-ty.ensures.ty in
     let lists = lists_stay now before c.loop-i.fields sofar c.in_ok-ty.ensures.kept c.loop-i.invariant.fields in
     record {
       fields = rw (put_next member_of field [] members i x c.loop-i-test.true c.index-members-i.is)
@@ -37,5 +37,5 @@ returns-clause-ty c =
 
 pub returns-clause-keeps : goal.returns-clause-keeps
 returns-clause-keeps c =
-    keeps_jobs_stay c.into_type.new.types c.loop-i.types c.args.basis.now.outputs.now (jobs_from c.args.basis.now) c.loop-i.self
+    keeps_jobs_stay c.into_type.new.types c.loop-i.types c.args.basis.now.outputs (jobs_from c.args.basis.now) c.loop-i.self
     c.in_ok-ty-2.ensures.kept c.loop-i.invariant.keeps

@@ -21,4 +21,4 @@ returns-clause-ty c =
 
 pub returns-clause-keeps : goal.returns-clause-keeps
 returns-clause-keeps c =
-    keeps_stays c.own_type.new.types c.args.types.now (called_at c.args.basis.now.outputs.now) c.args.self.now.calls c.in_ok-ty-2.ensures.kept c.requires.calls
+    keeps_stays c.own_type.new.types c.args.types.now (called_at c.args.basis.now.outputs) c.args.self.now.calls c.in_ok-ty-2.ensures.kept c.requires.calls

@@ -15,6 +15,6 @@ invariant-loop-i l = record {
   all : length l.counts.items ≡ l.i + 1;
   counts : (k : ℕ) → k < length l.counts.items →
       IsCount (first_fields (known_from l.basis) (owner_view l.owner) l.i) (get_or l.counts.items k 0) (first_fields (known_from l.basis) (owner_view l.owner) k);
-  keeps : Keeps l.types (step_at l.basis.outputs.now) l.made;
+  keeps : Keeps l.types (step_at l.basis.outputs) l.made;
   kept : BeginsWith (objects_of l.types) (objects_of l.fn.types);
 }
