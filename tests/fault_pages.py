@@ -20,7 +20,7 @@ CALL_KIND = re.compile(r'^call_kind caller\.\w+ = "(.*)"$', re.MULTILINE)
 LETTERS = {"Yaml": "Y", "Key": "K", "Rule": "G", "Expression": "X", "Call": "C"}
 NO_ROW = "", "", []
 SUBJECTS = {"Y": "the file isn't YAML as this program reads it", "K": "keys and values that GitHub's syntax doesn't have",
-            "G": "what GitHub refuses, or takes and never does", "X": "what stands in `${{ .. }}` and in conditions",
+            "G": "what GitHub refuses, or accepts and never does", "X": "expressions in `${{ .. }}` and in conditions",
             "C": "calls of the folder's actions and workflows"}
 OF_JOBS = {"C1", "C4", "C5", "C6"}  # faults that only a job's call has
 BY_CODE = "| Faults of | Entries |\n|---|---|\n"

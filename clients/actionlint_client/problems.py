@@ -102,14 +102,14 @@ def _wants(wanted: str) -> Callable[..., bool]:
 
 
 SLIPS = (
-    Slip("K2", lambda problem, key: key in ("run", "uses"), "A step has `run` or `uses`."),
-    Slip("K4", _wants("list"), "A list is wanted, each entry in a line with a dash."),
-    Slip("K4", _wants("mapping"), "A mapping is wanted, in lines `KEY: VALUE`."),
+    Slip("K2", lambda problem, key: key in ("run", "uses"), "A step needs `run` or `uses`."),
+    Slip("K4", _wants("list"), "A list is expected, with each entry on its own line after a dash."),
+    Slip("K4", _wants("mapping"), "A mapping is expected, as lines of the form `KEY: VALUE`."),
     Slip("K5", lambda problem, key: key == "on", "`on` needs an event."),
-    Slip("K5", _wants("number"), "A number is wanted, without quotes."),
-    Slip("K5", _wants("flag"), "`true` or `false` is wanted, without quotes."),
+    Slip("K5", _wants("number"), "A number is expected, without quotes."),
+    Slip("K5", _wants("flag"), "`true` or `false` is expected, without quotes."),
     Slip("G3", lambda problem, pattern: pattern.removeprefix("!").startswith("./"),
          "Paths begin at the repository's root, without `./` in front."),
-    Slip("X13", lambda problem, name: _is_behind(problem, "needs"), "A job names in its own `needs` each job whose results it reads."),
-    Slip("C7", _lacks_ref, "An action or a workflow of another repository has `@REF` behind it: a branch, a tag or a commit."),
+    Slip("X13", lambda problem, name: _is_behind(problem, "needs"), "A job must list in its own `needs` each job whose results it reads."),
+    Slip("C7", _lacks_ref, "An action or a workflow in another repository needs `@REF` at its end: a branch, a tag or a commit."),
 )

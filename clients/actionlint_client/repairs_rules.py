@@ -1,4 +1,4 @@
-"""Repairs of what a file says by itself that GitHub refuses, or takes and never does."""
+"""Repairs of what a file says by itself that GitHub refuses, or accepts and never does."""
 from __future__ import annotations
 
 import re

@@ -27,7 +27,7 @@ BROKEN = """.github/workflows/release.yml:4:5: unexpected key "branch" [syntax-c
   4 |     branch: [main]
     |     ^~~~~~
   did you mean "branches"?
-  Look for the key in its section: it is misspelled, or it stands one level too high or too deep.
+  Look for the key in its section: it is misspelled, or it is one level too high or too deep.
 
 .github/workflows/release.yml:11:13: condition is always true [if-cond, G18]
   11 |         if: ${{ github.event_name == 'push' }} && success()
@@ -47,40 +47,40 @@ BROKEN = """.github/workflows/release.yml:4:5: unexpected key "branch" [syntax-c
 .github/workflows/release.yml:21:15: required input "channel" of "Announce" is missing [action, C3]
   21 |       - uses: ./announce
      |               ^~~~~~~~~~
-  Give the input under `with`, or give it a `default` in the called file where it can be left out.
+  Set the input under `with`, or give it a `default` in the called file if it can be left out.
 
 5 faults in 1 file
 """
 STEP = "on: push\njobs:\n  a:\n    runs-on: ubuntu-latest\n    steps:\n      - "
 # The commonest slips, each with what a person is told first.
 ADVICE = {
-    'on: {push: {branches: [**/x]}}\n': 'Y18: A text that begins with `*`, as a pattern of branches does, needs quotes.',
-    "on: push\njobs:\n  a:\n    if: !cancelled()\n": "Y8: A text that begins with `!` needs quotes, as a pattern",
-    "on: push\nname: {x} y\n": "Y13: A text that begins with `[`, `{`, `*`, `@`, `%` or a backtick, or holds `: `, needs quotes, and",
-    "on:\n  push:\n    branches:\n      - *\n": "Y13: A text that begins with `[`, `{`, `*`, `@`, `%` or a backtick, or holds `: `, needs",
-    "on: push\nname: a\n  b: c\n": "Y13: A text that begins with `[`, `{`, `*`, `@`, `%` or a backtick, or holds `: `, needs quotes, and",
-    "on: push\n&x jobs: {}\n": "Y7: A text that begins with `*` or `&` needs quotes.",
-    STEP + 'run: echo ${{ github.ref == "a" }}\n': "X1: A text stands in single quotes, a choice is written `TEST && THIS || THAT`, and equality `==`.",
-    STEP + "run: echo ${{ needs.build.result }}\n": "X13: A job names in its own `needs` each job whose results it reads.",
-    STEP + "run: echo ${{ needs['build'].result }}\n": "X13: A job names in its own `needs` each job whose results it reads.",
+    'on: {push: {branches: [**/x]}}\n': 'Y18: Text that begins with `*`, such as a branch pattern, needs quotes.',
+    "on: push\njobs:\n  a:\n    if: !cancelled()\n": "Y8: Text that begins with `!` needs quotes, such as a pattern",
+    "on: push\nname: {x} y\n": "Y13: Text that begins with `[`, `{`, `*`, `@`, `%` or a backtick, or contains `: `, needs quotes, and",
+    "on:\n  push:\n    branches:\n      - *\n": "Y13: Text that begins with `[`, `{`, `*`, `@`, `%` or a backtick, or contains `: `, needs",
+    "on: push\nname: a\n  b: c\n": "Y13: Text that begins with `[`, `{`, `*`, `@`, `%` or a backtick, or contains `: `, needs quotes, and",
+    "on: push\n&x jobs: {}\n": "Y7: Text that begins with `*` or `&` needs quotes.",
+    STEP + 'run: echo ${{ github.ref == "a" }}\n': "X1: Write a string in single quotes, a choice as `TEST && THIS || THAT`, and equality as `==`.",
+    STEP + "run: echo ${{ needs.build.result }}\n": "X13: A job must list in its own `needs` each job whose results it reads.",
+    STEP + "run: echo ${{ needs['build'].result }}\n": "X13: A job must list in its own `needs` each job whose results it reads.",
     STEP + "run: echo ${{ github.build }}\n": "X13: Write a property that the context has here.",
-    STEP + "uses: actions/checkout\n": "C7: An action or a workflow of another repository has `@REF` behind it: a branch, a tag or a commit.",
+    STEP + "uses: actions/checkout\n": "C7: An action or a workflow in another repository needs `@REF` at its end: a branch, a tag or a commit.",
     STEP + "uses: checkout\n": "C7: Write `OWNER/REPO@REF`, `./FOLDER` or `docker://IMAGE` for a step, `./.github/workflows/FILE` or",
     "on: {schedule: [{cron: '0 0 * *'}]}\njobs: {}\n": "G4: Write five fields: minute, hour, day of the month, month, day of the week.",
-    "on: push\njobs:\n  a:\n    runs-on: x\n    steps: make\n": "K4: A list is wanted, each entry in a line with a dash.",
-    "on: push\njobs:\n  a:\n    runs-on: x\n    steps:\n      -run: make\n": "K4: A list is wanted, each entry in a line with a dash.",
-    "on: push\njobs:\n  a:\n    runs-on: x\n    steps:\n      run: make\n": "K4: A list is wanted, each entry in a line with a dash.",
-    "on: push\njobs: [make]\n": "K4: A mapping is wanted, in lines `KEY: VALUE`.",
-    "on: push\njobs:\n  - make\n": "K4: A mapping is wanted, in lines `KEY: VALUE`.",
-    "on: push\njobs:\n  a:\n    runs-on: x\n    steps:\n      - make\n": "K4: Write the value as its section takes it.",
-    "on: push\njobs: make\n": "K4: A mapping is wanted, in lines `KEY: VALUE`.",
-    "on: push\njobs:\n  a:\n    runs-on: x\n    steps: [make]\n": "K4: Write the value as its section takes it.",
-    "on: push\njobs: {a: {runs-on: x, timeout-minutes: ten}}\n": "K5: A number is wanted, without quotes.",
-    "on: push\njobs: {a: {runs-on: x, continue-on-error: 'true'}}\n": "K5: `true` or `false` is wanted, without quotes.",
+    "on: push\njobs:\n  a:\n    runs-on: x\n    steps: make\n": "K4: A list is expected, with each entry on its own line",
+    "on: push\njobs:\n  a:\n    runs-on: x\n    steps:\n      -run: make\n": "K4: A list is expected, with each entry on its own line",
+    "on: push\njobs:\n  a:\n    runs-on: x\n    steps:\n      run: make\n": "K4: A list is expected, with each entry on its own line",
+    "on: push\njobs: [make]\n": "K4: A mapping is expected, as lines of the form `KEY: VALUE`.",
+    "on: push\njobs:\n  - make\n": "K4: A mapping is expected, as lines of the form `KEY: VALUE`.",
+    "on: push\njobs:\n  a:\n    runs-on: x\n    steps:\n      - make\n": "K4: Write a value of the kind that its section takes.",
+    "on: push\njobs: make\n": "K4: A mapping is expected, as lines of the form `KEY: VALUE`.",
+    "on: push\njobs:\n  a:\n    runs-on: x\n    steps: [make]\n": "K4: Write a value of the kind that its section takes.",
+    "on: push\njobs: {a: {runs-on: x, timeout-minutes: ten}}\n": "K5: A number is expected, without quotes.",
+    "on: push\njobs: {a: {runs-on: x, continue-on-error: 'true'}}\n": "K5: `true` or `false` is expected, without quotes.",
     "on:\njobs: {}\n": "K5: `on` needs an event.",
     "on: {push: {paths: [./src]}}\njobs: {}\n": "G3: Paths begin at the repository's root, without `./` in front.",
-    "on: {push: {branches: ['a b']}}\njobs: {}\n": "G3: Write the pattern by GitHub's cheat sheet: `*` is any text without a slash, `**` any text,",
-    STEP + "name: x\n": "K2: A step has `run` or `uses`.",
+    "on: {push: {branches: ['a b']}}\njobs: {}\n": "G3: Write the pattern as in GitHub's cheat sheet: `*` matches any text without a slash,",
+    STEP + "name: x\n": "K2: A step needs `run` or `uses`.",
     "on: push\njobs: {a: {steps: []}}\n": "K2: Add the key to the mapping that begins at this place.",
 }
 
@@ -182,7 +182,7 @@ def github(program: str) -> None:
     lines = said.splitlines()
     assert (status, errors, len(lines), lines[-1]) == (1, "", 6, "5 faults in 1 file"), said
     assert lines[0] == ('::error file=.github/workflows/release.yml,line=4,endLine=4,col=5,endColumn=11,title=K1::unexpected key "branch" '
-                        '[syntax-check]%0Adid you mean "branches"?%0ALook for the key in its section: it is misspelled, or it stands one '
+                        '[syntax-check]%0Adid you mean "branches"?%0ALook for the key in its section: it is misspelled, or it is one '
                         "level too high or too deep."), lines[0]
 
 
