@@ -36,7 +36,7 @@ FORMS = (
 FIELD = re.compile(r'(may|must|not_beside|either|field (?:optional|\(unless [^)]*\)\)) \((?:after|beside) [^)]*\)\))((?: "[^"]+")+) (\w+)')
 SCALARS = {"AnyScalar": "text", "NotNull": "text that is not null", "Bools": "flag", "Numbers": "number", "Chunks": "expression",
            "NoScalar": None}
-OTHER_KEYS = {"wrong": [], "events": [("any other", "an *event* where it is the name of one, else anything", "")],
+OTHER_KEYS = {"wrong": [], "events": [("any other", "an *event* if it is the name of one, else anything", "")],
               "unchecked": [("any other", "anything, and repeated keys too", "")]}
 # Of the table of places: the rows of some paths, and a list that rows name.
 PLACES = re.compile(r"(?:^| \+\+ )rows ")
@@ -57,13 +57,13 @@ LIMITED = {
     "largest_file": ("bytes of a file", "E3"),
     "most_files": ("files of a folder", "E4"),
     "longest_path": ("bytes of a path", "E1"),
-    "most_nodes": ("nodes of a file, those that aliases stand for counted at each alias", "Y15"),
-    "most_alias_text": ("bytes of text in the nodes that aliases stand for, texts of keys too", "Y15"),
-    "deepest_collection": ("collections inside one another, the root counted", "Y14"),
+    "most_nodes": ("nodes of a file, including those that aliases stand for, counted at each alias", "Y15"),
+    "most_alias_text": ("bytes of text in the nodes that aliases stand for, including keys", "Y15"),
+    "deepest_collection": ("nested collections, including the root", "Y14"),
     "longest_key": ("characters of a key as written", "Y17"),
     "longest_text": ("bytes of a text that may have expressions", "no file gives more"),
     "longest_expression": ("bytes of an expression", "X5"),
-    "deepest_expression": ("brackets and `!` of an expression inside one another", "X6"),
+    "deepest_expression": ("nested brackets and `!` in an expression", "X6"),
     "longest_line": ("bytes of a command's line in a script", "`bad command`"),
     "most_reads": ("reads of a script", "S4"),
     "largest_read": ("bytes that a read of a script asks for", ""),

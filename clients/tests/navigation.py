@@ -65,7 +65,7 @@ HOVERED = {
     "      - if: steps.list.out|come == 'success' && always()": ("`outcome`", "before `continue-on-error`"),
     "      - if: steps.list.outcome == 'success' && alw|ays()": ("`always()` gives bool", "True"),
     "      - run: echo ${{ contai|ns(github.ref, 'x') }} ${{ runner.os }} ${{ hashFiles('a') }}":
-        ("`contains(any but object, any but object and array)` gives bool", "Whether a text holds another one"),
+        ("`contains(any but object, any but object and array)` gives bool", "Whether a string contains another one"),
     "          wh|o: ${{ github.actor }}": ("`who`", "Whom to greet."),
     "        uses: ./gre|et": ("`./greet`: action", "Says hello."),
     "        she|ll: bash": ("`shell`: text", "The shell of the script"),
