@@ -50,20 +50,24 @@ def repairs(project: Project, fault: Fault) -> list[Repair]:
 
 def fixes(words: list[str], timeout: float, project: Project, faults: Iterable[Fault], earlier: Iterable[Fault] = ()) -> list[Fix]:
     """For the first 20 faults, the repairs after which the linter no longer reports the fault, and none that it didn't report before, as
-    many as can be tried in a second. `words` start the linter. While a file isn't valid YAML, `earlier` are the faults that it had when it
-    last was; these may come back."""
+    many as can be tried in a second, and at least one. `words` start the linter. While a file isn't valid YAML, `earlier` are the faults
+    that it had when it last was; these may come back."""
     deadline = time.monotonic() + MAX_SECONDS
     mended: list[Fix] = []
     trial = None
     try:
         for fault in islice(faults, MAX_FAULTS):
-            if time.monotonic() > deadline or len(project.read(fault.path) or b"") > MAX_FILE_BYTES:
+            if trial and time.monotonic() > deadline or len(project.read(fault.path) or b"") > MAX_FILE_BYTES:
                 break
-            found = repairs(project, fault)
-            if found and trial is None:
-                trial = Trial(words, timeout, project, fault.path)
-                trial.earlier = _counted(earlier)
-            right = [repair for repair in found if trial and time.monotonic() < deadline and trial.mends(repair, fault)]
+            right = []
+            for repair in repairs(project, fault):
+                if trial is None:
+                    trial = Trial(words, timeout, project, fault.path)
+                    trial.earlier = _counted(earlier)
+                elif time.monotonic() > deadline:
+                    break
+                if trial.mends(repair, fault):
+                    right.append(repair)
             mended += [Fix(fault, repair) for repair in _to_show(right)]
     except (LinterEnded, ReportTooLong):
         pass

@@ -99,7 +99,7 @@ WRONG_VERSIONS = {
     "a_folder_that_went_is_still_shown": WrongVersion(
         "repository.py", "editor.publish(uri, None, [])", "pass", ("promises.py", "several_folders")),
     "fixes_are_not_tried": WrongVersion(
-        "fixes.py", " and trial.mends(repair, fault)]", "]", ("fixes.py", "random_slips")),
+        "fixes.py", "if trial.mends(repair, fault):", "if True:", ("fixes.py", "random_slips")),
     "fixes_may_bring_faults": WrongVersion(
         "fixes.py", " and not after - self.before - self.earlier", "", ("fixes.py", "random_slips")),
     "a_trial_knows_no_callers": WrongVersion(
