@@ -1,4 +1,4 @@
-//! Shows what a reader answers: the first word names it, standard input is what it reads, and one line of JSON is printed.
+//! Prints as one line of JSON what a reader makes of standard input. The first argument names the reader.
 #![tactic(auto)]
 
 mod json;
@@ -19,7 +19,7 @@ use std::process::ExitCode;
 use std::{env, io};
 use trees::push_expr;
 
-/// The readers that a word can name.
+/// The readers that an argument can name.
 #[derive(Clone, Copy)]
 enum Reader {
     /// The tree of an expression, or its fault.
@@ -42,7 +42,7 @@ fn reader_named(word: &str) -> Option<Reader> {
     }
 }
 
-/// The reader that the first word names.
+/// The reader that the first argument names.
 fn chosen(rt: &HostRuntime) -> Option<Reader> {
     let mut words = env::args(rt).ok()?;
     words.next();
@@ -69,7 +69,7 @@ fn expression_line(alloc: Global, content: &str) -> Result<String, AllocError> {
     Ok(line)
 }
 
-/// The chunks of a text, and the fault at its end. Nothing is shown of a text that is too long.
+/// The chunks of a text, and the fault at its end. A text above the size limit prints nothing.
 fn chunks_line(alloc: Global, text: &str) -> Result<String, AllocError> {
     let mut line = String::new(alloc);
     if text.len() > LONGEST_TEXT {
@@ -87,7 +87,7 @@ fn chunks_line(alloc: Global, text: &str) -> Result<String, AllocError> {
     Ok(line)
 }
 
-/// The scalar at a file's start, or its fault. Nothing is shown of a file that is too long.
+/// The scalar at a file's start, or its fault. A file above the size limit prints nothing.
 fn scalar_line(alloc: Global, file: &[u8]) -> Result<String, AllocError> {
     let mut line = String::new(alloc);
     if file.len() > LARGEST_FILE {
@@ -107,7 +107,7 @@ fn scalar_line(alloc: Global, file: &[u8]) -> Result<String, AllocError> {
     Ok(line)
 }
 
-/// The tree of a file, or its fault. Nothing is shown of a file that is too long.
+/// The tree of a file, or its fault. A file above the size limit prints nothing.
 fn yaml_line(alloc: Global, file: &[u8]) -> Result<String, AllocError> {
     let mut line = String::new(alloc);
     if file.len() > LARGEST_FILE {

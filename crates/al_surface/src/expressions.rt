@@ -67,7 +67,7 @@ fn is_step_to_b(step: &PathStep<'_>) -> bool {
     }
 }
 
-/// Whether it is the property `b` of `a`.
+/// Whether an expression is the property `b` of `a`.
 fn is_property(expr: &Expr<'_>) -> bool {
     match expr {
         Expr::Path(base, steps) => match steps.as_slice() {
@@ -158,7 +158,7 @@ fn is_chunk(found: &[Chunk], content: &str, start: u32, end: u32) -> bool {
     }
 }
 
-/// Whether a text has one chunk, of the bytes 5 to 12, and no fault.
+/// Whether a text has one chunk, at bytes 5 to 12, and no fault.
 fn has_one_chunk(alloc: Global, text: &str) -> Result<bool, AllocError> {
     if text.len() > 4_194_304 {
         return Ok(false);
@@ -202,7 +202,7 @@ fn signatures_by_name(rt: HostRuntime) {
     }
 }
 
-/// Whether a number and a string are a string, and null and a number are any.
+/// Whether a number and a string have the type string in common, and null and a number the type any.
 fn fuses(alloc: Global) -> Result<bool, AllocError> {
     let text = fuse(alloc, Ty::Number, Ty::String)?;
     let unknown = fuse(alloc, Ty::Null, Ty::Number)?;
@@ -293,7 +293,7 @@ fn typed() -> &'static [(
     &TYPED
 }
 
-/// Whether an expression that was read has one fault when it is typed, of this code and these texts.
+/// Whether typing an expression finds one fault, with this code and these texts.
 fn has_one(
     alloc: Global,
     expr: &Expr<'_>,

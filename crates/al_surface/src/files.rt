@@ -1,6 +1,6 @@
 //! Files that several tests lint.
 
-// The functions without a contract tell a test's proof nothing: none computes what a call does with a file.
+// Functions without a contract keep the proofs of tests from computing what a call does with a file.
 
 pub(crate) const CALLER: &str = ".github/workflows/c.yml";
 
@@ -30,7 +30,7 @@ runs:
 "
 }
 
-/// The report of the two, without snippets.
+/// The report on both, without snippets.
 pub(crate) fn missing_input() -> &'static [u8] {
     b".github/workflows/c.yml:6:15: required input \"who\" of \"A\" is missing [action]\n"
 }

@@ -1,5 +1,5 @@
-//! Public calls of the nine crates that others build on, each made once, by its name and with its parameters in their order, over these
-//! crates alone.
+//! Calls each public function of the nine public crates once, by its name and with its parameters in order. Depends on these crates
+//! alone.
 #![tactic(auto)]
 
 #[cfg(test)]

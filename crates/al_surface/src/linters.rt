@@ -1,4 +1,4 @@
-//! `al_check`: the linter by itself.
+//! `al_check`: the linter on its own.
 
 use crate::files::{ACTION, action};
 use al_check::{Actions, Answers, Env, File, Iface, Parameters, Role};
@@ -9,7 +9,7 @@ use al_tree::{Tree, read_workflow};
 use al_yaml::{Doc, read_yaml};
 use std::alloc::{AllocError, Global};
 
-/// The most bytes of a file.
+/// The maximum size of a file, in bytes.
 const MOST: usize = 1_048_576;
 
 const LOOP: &str = ".github/workflows/r.yml";
@@ -34,7 +34,7 @@ fn shows_required(alloc: Global, iface: &Iface) -> Result<bool, AllocError> {
     }
 }
 
-/// Whether the linter shows of an action what it is to its callers, by one read and no check.
+/// Whether the linter gives the interface of an action, with one read and no check.
 fn shows(alloc: Global, lint: &mut Actions, path: &str, bytes: &[u8]) -> Result<bool, AllocError> {
     if bytes.len() > MOST {
         return Ok(false);
@@ -51,7 +51,7 @@ fn calls_path(calls: &[Target], path: &str) -> bool {
     }
 }
 
-/// Whether a file's one call is of itself.
+/// Whether the only call of a file is of the file itself.
 fn is_on_cycle(
     alloc: Global,
     lint: &mut Actions,
@@ -79,14 +79,14 @@ fn lints(alloc: Global) -> Result<bool, AllocError> {
     )
 }
 
-/// Whether a call is that of a file that calls itself, on its fifth line.
+/// Whether a call is the one on the fifth line of a file that calls itself.
 fn is_own_call(site: &Site<'_>) -> bool {
     site.code == Code::Call(CallCode::CallCycle, Caller::Job)
         && site.span == Span { start: 42, end: 67 }
         && site.text == "./.github/workflows/r.yml"
 }
 
-/// Whether a file's one call is that one.
+/// Whether the only call of a file is that one.
 fn has_own_call(
     alloc: Global,
     lint: &mut Actions,
@@ -111,7 +111,7 @@ fn the_site_of_a_call(rt: HostRuntime) -> Result<(), AllocError> {
     Ok(())
 }
 
-/// Whether these are the faults of a file that is empty but for a comment.
+/// Whether these are the faults of a file with only a comment.
 fn are_of_comment(faults: &[Fault]) -> bool {
     match faults {
         [fault] => fault.code == Code::Key(KeyCode::EmptyFile)
@@ -120,7 +120,7 @@ fn are_of_comment(faults: &[Fault]) -> bool {
     }
 }
 
-/// Whether the linter finds these faults in a file that calls nothing, by one check.
+/// Whether the linter finds these faults in a file without calls, with one check.
 fn finds_empty(
     alloc: Global,
     lint: &mut Actions,
@@ -151,7 +151,7 @@ fn a_linter_by_itself(rt: HostRuntime) -> Result<(), AllocError> {
     Ok(())
 }
 
-/// The document that a file is. None has a fault as YAML or is too long to be read.
+/// The document of a file. The files here are valid YAML within the size limit.
 fn document(alloc: Global, file: &[u8]) -> Result<Doc, AllocError> {
     if file.len() > MOST {
         return Err(AllocError);
@@ -162,7 +162,7 @@ fn document(alloc: Global, file: &[u8]) -> Result<Doc, AllocError> {
     }
 }
 
-/// Nothing is known of the outputs behind any call.
+/// The answers of a file without calls: nothing is known of any outputs.
 fn nothing_known() -> Answers<'static> {
     Answers {
         answers: &[],
@@ -170,7 +170,7 @@ fn nothing_known() -> Answers<'static> {
     }
 }
 
-/// Whether `secrets` is an object outside the jobs of a workflow, where an expression at no place yet can name none.
+/// Whether, at the start of a workflow, `secrets` has the type of an object but isn't available.
 fn knows_secrets(alloc: Global, tree: &Tree, known: Answers<'_>) -> Result<bool, AllocError> {
     let kind = tree.kind();
     let root = tree.root();

@@ -1,4 +1,4 @@
-//! `al_cli`: words, scripts, and the files of a folder of the disk.
+//! `al_cli`: command lines, scripts, and the files of a folder on disk.
 
 use crate::files::{CALLER, action, caller, missing_input};
 use al_check::Actions;
@@ -84,7 +84,7 @@ fn run_over(
     )
 }
 
-/// Whether a script has the folder that the one before it left.
+/// Whether a script starts with the folder that the one before it left.
 fn goes_on(alloc: Global, first: &[u8], second: &[u8], wanted: &[u8]) -> Result<bool, Stop> {
     let mut session = Session::open(alloc, Actions::new());
     let mut output = Vec::new(alloc);
@@ -128,7 +128,7 @@ fn make_folder<R: Files + AllocGlobal>(rt: &R) -> Result<(), Fail> {
     Ok(())
 }
 
-/// The report of files, and its status.
+/// The report on files, and its status.
 fn report(alloc: Global, files: &[(Path, Vec<u8>)]) -> Result<(u8, Vec<u8>), Fatal> {
     let mut listed: Vec<(&str, &[u8])> = Vec::new(alloc);
     for (path, bytes) in files {
@@ -157,7 +157,7 @@ fn is_reported(alloc: Global, files: &[(Path, Vec<u8>)], wanted: &[u8]) -> bool 
     }
 }
 
-/// Whether the files of the folder are its workflow, which alone is listed, and the action that this calls, and their report this one.
+/// Whether the files of the folder are its only workflow and the action that this calls, and their report is this one.
 fn gathers<R: Files + AllocGlobal + Clone + Drop>(rt: &R, wanted: &[u8]) -> bool {
     let words = Words {
         oneline: true,
@@ -171,7 +171,7 @@ fn gathers<R: Files + AllocGlobal + Clone + Drop>(rt: &R, wanted: &[u8]) -> bool
     }
 }
 
-/// Whether a folder that isn't there can't be listed.
+/// Whether listing a missing folder fails.
 fn is_unread<R: Files + AllocGlobal + Clone + Drop>(rt: &R) -> bool {
     let words = Words {
         oneline: true,

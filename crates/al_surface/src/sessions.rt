@@ -1,4 +1,4 @@
-//! `al_session`: a folder that is edited, linted by `al_check`.
+//! `al_session`: edits of a folder that is linted by `al_check`.
 
 use crate::files::{ACTION, CALLER, action, caller, missing_input};
 use al_check::Actions;

@@ -39,7 +39,7 @@ fn texts_are_paths_or_not(rt: HostRuntime) {
     }
 }
 
-/// So many letters.
+/// This many letters.
 fn letters(alloc: Global, count: u32) -> Result<String, AllocError> {
     let mut text = String::new(alloc);
     for _ in 0..count {

@@ -1,4 +1,4 @@
-//! `al_tree` and `al_rules`: workflows, actions, and their faults of keys and of rules.
+//! `al_tree` and `al_rules`: workflows and actions, and the faults of their keys and those that rules find.
 
 use al_rules::rules;
 use al_text::{Code, Fault, KeyCode, RuleCode, fault_list};
@@ -6,18 +6,16 @@ use al_tree::{Tree, read_action, read_workflow};
 use al_yaml::{Doc, read_yaml};
 use std::alloc::{AllocError, Global};
 
-// A fault's code, and where its span starts.
-type Told = (Code, u32);
+// The code of a fault, and the start of its span.
+type Expected = (Code, u32);
 
-fn are_told(found: &[Fault], wanted: &[Told]) -> bool {
+fn are_expected(found: &[Fault], wanted: &[Expected]) -> bool {
     found.len() == wanted.len()
-        && found
-            .iter()
-            .zip(wanted)
-            .all(|(fault, told)| (fault.code, fault.span.start) == *told)
+        && found.iter().zip(wanted).all(|(fault, expected)| (fault.code, fault.span.start)
+            == *expected)
 }
 
-/// The document that a file is. None has a fault as YAML or is too long to be read.
+/// The document of a file. The files here are valid YAML within the size limit.
 fn document(alloc: Global, file: &[u8]) -> Result<Doc, AllocError> {
     if file.len() > 1_048_576 {
         return Err(AllocError);
@@ -32,14 +30,14 @@ fn step_without_work() -> &'static [u8] {
     b"on: push\njobs:\n  a:\n    steps:\n      - nam: x\n"
 }
 
-// A step begins in line 5, a job's keys in line 4.
-static OF_THE_STEP: [Told; 3] = [
+// The keys of the job begin in line 4, and the step in line 5.
+static OF_THE_STEP: [Expected; 3] = [
     (Code::Key(KeyCode::Missing), 24),
     (Code::Key(KeyCode::Missing), 39),
     (Code::Key(KeyCode::Unexpected), 39),
 ];
 
-fn of_the_step() -> &'static [Told] {
+fn of_the_step() -> &'static [Expected] {
     &OF_THE_STEP
 }
 
@@ -47,23 +45,23 @@ fn composite() -> &'static [u8] {
     b"name: A\nruns:\n  using: composite\n"
 }
 
-static OF_THE_ACTION: [Told; 2] = [
+static OF_THE_ACTION: [Expected; 2] = [
     (Code::Key(KeyCode::Missing), 0),
     (Code::Key(KeyCode::Missing), 16),
 ];
 
-fn of_the_action() -> &'static [Told] {
+fn of_the_action() -> &'static [Expected] {
     &OF_THE_ACTION
 }
 
-fn breaks_workflow(alloc: Global, file: &[u8], wanted: &[Told]) -> Result<bool, AllocError> {
+fn breaks_workflow(alloc: Global, file: &[u8], wanted: &[Expected]) -> Result<bool, AllocError> {
     let (_, faults) = read_workflow(alloc, document(alloc, file)?)?;
-    Ok(are_told(&fault_list(faults), wanted))
+    Ok(are_expected(&fault_list(faults), wanted))
 }
 
-fn breaks_action(alloc: Global, file: &[u8], wanted: &[Told]) -> Result<bool, AllocError> {
+fn breaks_action(alloc: Global, file: &[u8], wanted: &[Expected]) -> Result<bool, AllocError> {
     let (_, faults) = read_action(alloc, document(alloc, file)?)?;
-    Ok(are_told(&fault_list(faults), wanted))
+    Ok(are_expected(&fault_list(faults), wanted))
 }
 
 #[test]
@@ -77,13 +75,13 @@ fn often() -> &'static [u8] {
     b"on:\n  schedule:\n    - cron: '0,3 * * * *'\njobs: {}\n"
 }
 
-static OF_THE_SCHEDULE: [Told; 1] = [(Code::Rule(RuleCode::ScheduleTooOften), 28)];
+static OF_THE_SCHEDULE: [Expected; 1] = [(Code::Rule(RuleCode::ScheduleTooOften), 28)];
 
-fn of_the_schedule() -> &'static [Told] {
+fn of_the_schedule() -> &'static [Expected] {
     &OF_THE_SCHEDULE
 }
 
-/// The faults of a workflow's rules alone.
+/// The faults that rules alone find in a workflow.
 fn rules_of(alloc: Global, file: &[u8]) -> Result<Vec<Fault>, AllocError> {
     let (workflow, _) = read_workflow(alloc, document(alloc, file)?)?;
     let mut out = Vec::new(alloc);
@@ -94,6 +92,6 @@ fn rules_of(alloc: Global, file: &[u8]) -> Result<Vec<Fault>, AllocError> {
 #[test]
 fn rules_of_a_file(rt: HostRuntime) -> Result<(), AllocError> {
     let found = rules_of(rt.alloc(), often())?;
-    assert!(rt; are_told(&found, of_the_schedule()));
+    assert!(rt; are_expected(&found, of_the_schedule()));
     Ok(())
 }

@@ -5,11 +5,11 @@ use al_text::YamlCode;
 use al_yaml::{Class, Doc, Kind, Node, Scalar, Style, YamlFault, read_yaml};
 use std::alloc::{AllocError, Global};
 
-/// The most bytes of a file.
+/// The maximum size of a file, in bytes.
 const MOST: usize = 1_048_576;
 
-/// A scalar of a mapping in block context at the fourth byte of a file: its text, the offset of each byte and of its end, and where the
-/// rest begins.
+/// A scalar at the fourth byte of a file, in a block mapping: its text, the offsets of its bytes and of its end, and the offset at which
+/// the rest begins.
 struct Row {
     file: &'static [u8],
     style: Style,
@@ -58,7 +58,7 @@ fn comes_from(scalar: &Scalar, offsets: &[u32]) -> bool {
     true
 }
 
-fn is_as_told(read: &ScalarRead, row: &Row) -> bool {
+fn is_as_expected(read: &ScalarRead, row: &Row) -> bool {
     read.scalar.style() == row.style
         && read.scalar.class() == Class::Str
         && read.scalar.text() == row.text
@@ -72,7 +72,7 @@ fn reads_scalar(alloc: Global, row: &Row) -> Result<bool, AllocError> {
         return Ok(false);
     }
     match read_scalar(alloc, row.file, 3, ScalarContext::BlockFromIndent(1))? {
-        Ok(read) => Ok(is_as_told(&read, row)),
+        Ok(read) => Ok(is_as_expected(&read, row)),
         Err(_) => Ok(false),
     }
 }
@@ -85,7 +85,7 @@ fn scalars_by_themselves(rt: HostRuntime) -> Result<(), AllocError> {
     Ok(())
 }
 
-/// What reading a file answers; out of memory for one that is too long to be read.
+/// The result of reading a file; out of memory for one above the size limit.
 fn read(alloc: Global, file: &[u8]) -> Result<Result<Doc, YamlFault>, AllocError> {
     if file.len() > MOST {
         return Err(AllocError);
@@ -93,7 +93,7 @@ fn read(alloc: Global, file: &[u8]) -> Result<Result<Doc, YamlFault>, AllocError
     read_yaml(alloc, file)
 }
 
-/// Anchors and aliases that would stand for more than a hundred thousand nodes.
+/// Anchors and aliases that stand for more than 100,000 nodes.
 const ALIASES: &[u8] = b"x0: &x0 [1, 1, 1, 1, 1, 1, 1, 1, 1, 1]
 x1: &x1 [*x0, *x0, *x0, *x0, *x0, *x0, *x0, *x0, *x0, *x0]
 x2: &x2 [*x1, *x1, *x1, *x1, *x1, *x1, *x1, *x1, *x1, *x1]
@@ -179,7 +179,7 @@ fn are_of_classes(node: &Node, wanted: &[Class]) -> bool {
     }
 }
 
-/// Whether the value of the first entry has items of these classes, from the bracket to the bracket.
+/// Whether the value of the first entry is a flow sequence with items of these classes, and its span includes the brackets.
 fn holds(root: &Node, wanted: &[Class]) -> bool {
     match &root.kind {
         Kind::Mapping(entries) => match entries.first() {

@@ -16,7 +16,7 @@ use std::test::Fail;
 // A folder's files, by their paths and bytes.
 type Files = &'static [(&'static str, &'static [u8])];
 
-// A disk in memory, which keeps the paths that it is asked for. A file that holds `outside` stands for a link out of the folder.
+// A disk in memory that records the paths it is asked for. A file with the content `outside` stands for a link out of the folder.
 #[derive(Drop)]
 struct Held {
     files: Files,
@@ -55,8 +55,8 @@ fn entry_of(alloc: Global, bytes: &[u8]) -> Result<Entry, DiskError>
     Ok(Entry::File(Vec::from_slice(alloc, &bytes[..most])?))
 }
 
-// A workflow that calls two actions, the second of which calls the first's neighbour and itself. The first lies
-// outside, and so does another workflow, which a job calls.
+// A workflow that calls two actions, the second of which calls itself and an action beside the first. The first action is
+// outside the folder, and so is a workflow that a job calls.
 static FOLDER: [(&str, &[u8]); 6] = [
     (
         ".github/workflows/a.yml",
@@ -79,7 +79,7 @@ fn folder() -> Files {
     &FOLDER
 }
 
-// The workflows first; then at each turn the first candidate that wasn't tried, each once.
+// First the workflows, then, one after another, the first candidate in order of path that hasn't been tried.
 static READS: [&str; 8] = [
     ".github/workflows/a.yml",
     ".github/workflows/b.yml",
@@ -95,7 +95,7 @@ fn reads() -> &'static [&'static str] {
     &READS
 }
 
-// What leads out, in the order in which it was read.
+// The paths that lead out of the folder, in the order in which they were read.
 static OUTSIDE: [&str; 2] = [".github/workflows/b.yml", "y/action.yml"];
 
 fn outside() -> &'static [&'static str] {
@@ -152,7 +152,7 @@ fn named<'a>(alloc: Global, files: &[&'a str]) -> Result<Words<'a>, AllocError> 
     })
 }
 
-// Whether the files of these paths were taken, and none was checked: the session that is made of them checks each of its files once.
+// Whether the files at these paths were taken, and none was checked: the session built from them checks each file once.
 fn are_taken(gathered: Gathered, paths: &[&str]) -> Result<bool, AllocError> {
     for path in paths {
         if gathered.files.bytes(path).is_none() {
@@ -163,7 +163,7 @@ fn are_taken(gathered: Gathered, paths: &[&str]) -> Result<bool, AllocError> {
     Ok(session.meter() == paths.len() as u64)
 }
 
-// Two files that are named, of which the first calls another.
+// Two named files, the first of which calls another.
 fn takes_named(alloc: Global) -> Result<bool, AllocError> {
     let mut disk = Held {
         files: folder(),
@@ -182,7 +182,7 @@ fn named_and_called_files_are_taken(rt: HostRuntime) -> Result<(), AllocError> {
     Ok(())
 }
 
-// Whether a run whose one file has this path stops at it, with no read, for this reason.
+// Whether a run on a file with this path stops for this reason, without reading it.
 fn is_refused_unread(alloc: Global, path: &str, wanted: Refused) -> Result<bool, AllocError> {
     let mut disk = Held {
         files: folder(),
@@ -223,7 +223,7 @@ fn a_file_that_is_named_twice_is_read_once(rt: HostRuntime) -> Result<(), AllocE
 
 const LARGE: &str = "al_tests_folder/action.yml";
 
-// A comment of so many bytes.
+// A comment with this many bytes.
 fn comment(alloc: Global, length: u32) -> Result<Vec<u8>, AllocError> {
     let mut bytes = Vec::new(alloc);
     for _ in 0..length {
@@ -240,7 +240,7 @@ fn write_large<R: DiskFiles + AllocGlobal>(rt: &R, length: u32) -> Result<(), Fa
     Ok(())
 }
 
-// Which answer a run has whose one file is the large one.
+// The result of a run on the large file.
 #[derive(Clone, Copy, PartialEq, Eq)]
 enum Answer {
     Taken(usize),

@@ -1,4 +1,4 @@
-//! Readers and writers that fail once and then go on: no failure is passed over.
+//! Readers and writers that fail once and then work again: no failure goes unnoticed.
 
 use crate::fakes::{FailsOnce, Pieces};
 use al_base::{Input, Output, Stop};
@@ -6,7 +6,7 @@ use al_cli_scripts::run_session;
 use std::alloc::Global;
 use std::io::{Read, Write};
 
-// The functions without a contract tell a test's proof nothing: none computes what a run of a script does.
+// Functions without a contract keep the proofs of tests from computing what a run of a script does.
 
 fn script() -> &'static [u8] {
     b"report\nput .github/workflows/a.yml 0\n\nreport\n"
@@ -28,7 +28,7 @@ fn is_front(output: &[u8]) -> bool {
     replies().starts_with(output)
 }
 
-/// Whether a run stops at the read behind so many, and asks for no other.
+/// Whether a run stops at the first failing read, after this many others, and makes no further read.
 fn stops_at_read(alloc: Global, before: u32) -> bool {
     let mut reader = Input::new(FailsOnce::new(alloc, script(), before));
     let mut output = Vec::new(alloc);
@@ -38,7 +38,7 @@ fn stops_at_read(alloc: Global, before: u32) -> bool {
         && is_front(&output)
 }
 
-// The 45 bytes of the script are read in 15 reads, and the one behind them gives none.
+// The 45 bytes of the script take 15 reads; the next read returns no bytes.
 #[test]
 fn no_failed_read_is_tried_again(rt: HostRuntime) {
     for before in 0..16 {
@@ -46,12 +46,12 @@ fn no_failed_read_is_tried_again(rt: HostRuntime) {
     }
 }
 
-/// How a run ends whose writer fails behind so many calls.
+/// How a run ends if its writer fails after this many calls.
 #[derive(Clone, Copy, PartialEq, Eq)]
 enum End {
-    /// It has fewer calls, and puts out all replies.
+    /// It makes fewer calls, and writes all replies.
     Whole,
-    /// It stops at that call, with a prefix of the replies.
+    /// It stops at the failing call, having written a prefix of the replies.
     Stopped,
     Wrong,
 }
@@ -72,7 +72,7 @@ fn end_with(alloc: Global, before: u32) -> End {
     end_of(answer, failures, &fails)
 }
 
-/// How many calls a run makes of its writer; none where one of them fails unseen.
+/// How many calls a run makes of its writer; `None` if a failure goes unnoticed.
 fn calls(alloc: Global) -> Option<u32> {
     for before in 0..1_000 {
         match end_with(alloc, before) {
@@ -84,7 +84,7 @@ fn calls(alloc: Global) -> Option<u32> {
     None
 }
 
-// Each reply is at least one write, and each read but the first comes behind a flush.
+// Each reply takes at least one write, and each read but the first follows a flush.
 #[test]
 fn no_failed_write_or_flush_is_passed_over(rt: HostRuntime) {
     match calls(rt.alloc()) {
@@ -93,7 +93,7 @@ fn no_failed_write_or_flush_is_passed_over(rt: HostRuntime) {
     }
 }
 
-/// How many reads a run makes to its end of a script that is read so many bytes a time.
+/// How many reads a run makes of a script if each returns at most this many bytes.
 fn turns_of(alloc: Global, step: usize) -> Option<u64> {
     let mut reader = Input::new(Pieces {
         bytes: script(),
@@ -107,7 +107,7 @@ fn turns_of(alloc: Global, step: usize) -> Option<u64> {
     }
 }
 
-/// The pieces of the script, and one read that gives nothing.
+/// The pieces of the script, and one read that returns no bytes.
 fn pieces(step: usize) -> u64 {
     let length = script().len();
     match (length.checked_div(step), length.checked_rem(step)) {

@@ -1,4 +1,4 @@
-//! After each of many edits a session reports what its files give that are linted from nothing.
+//! After each of many edits, a session's report is that of its files linted from scratch.
 
 use al_base::{Output, Stop};
 use al_check::Actions;
@@ -33,7 +33,7 @@ static FILES: [&[u8]; 12] = [
     b"",
 ];
 
-// The functions without a contract tell a test's proof nothing: none computes what a session does with a file.
+// Functions without a contract keep the proofs of tests from computing what a session does with a file.
 
 fn paths() -> &'static [&'static str] {
     &PATHS
@@ -43,15 +43,15 @@ fn files() -> &'static [&'static [u8]] {
     &FILES
 }
 
-// The bytes that each path has.
+// The bytes at each path.
 type Held = Vec<Option<&'static [u8]>>;
 
-// The number behind this one in a row of numbers without order (a linear congruential generator).
+// The next number of a linear congruential generator.
 fn next_number(number: u32) -> u32 {
     number.wrapping_mul(1_664_525).wrapping_add(1_013_904_223)
 }
 
-// The edit that a number stands for: of each path a put of a file, or its delete.
+// The edit that a number stands for: it puts a file at a path, or deletes the one there.
 fn edit_by(number: u32) -> (usize, Option<&'static [u8]>) {
     let path = (number >> 16) as usize % 7;
     let file = (number >> 20) as usize % 15;
@@ -61,7 +61,7 @@ fn edit_by(number: u32) -> (usize, Option<&'static [u8]>) {
     }
 }
 
-// Makes an edit, which is refused where it deletes what isn't there.
+// Makes an edit, which is refused if it deletes a file that isn't there.
 fn is_made(
     session: &mut Session<Actions>,
     path: &str,
@@ -84,7 +84,7 @@ fn report(alloc: Global, session: &mut Session<Actions>) -> Result<(u8, Vec<u8>)
     Ok((session.status()?, bytes))
 }
 
-// The files that are held, in order of path.
+// The files that are present, in order of path.
 fn listed(
     alloc: Global,
     held: &[Option<&'static [u8]>],
@@ -104,7 +104,7 @@ fn from_nothing(alloc: Global, files: &[(&str, &[u8])]) -> Result<(u8, Vec<u8>),
     Ok((status, bytes))
 }
 
-// Whether the report is that of the files that are held, linted from nothing.
+// Whether the report is that of the files that are present, linted from scratch.
 fn is_of(
     alloc: Global,
     report: &(u8, Vec<u8>),
@@ -117,7 +117,7 @@ fn is_of(
     }
 }
 
-// What the reports were: how many there were, how many had faults, and how many told of a call on a call cycle.
+// How many reports there were, how many had faults, and how many had a call on a call cycle.
 #[derive(Clone, Copy, PartialEq, Eq)]
 struct Seen {
     reports: u32,
@@ -149,7 +149,7 @@ fn none_held(alloc: Global) -> Result<Held, AllocError> {
     Ok(held)
 }
 
-// Makes one edit; whether the report behind it is that of its files.
+// Makes one edit; returns whether the report after it is that of the files.
 fn follows_one(
     alloc: Global,
     session: &mut Session<Actions>,
@@ -171,7 +171,7 @@ fn follows_one(
     Ok(is_of(alloc, &report, held)?)
 }
 
-// Makes edits; what their reports were, none where one is wrong.
+// Makes edits; returns the counts of their reports, or `None` if a report is wrong.
 fn follows(
     alloc: Global,
     session: &mut Session<Actions>,

@@ -1,4 +1,4 @@
-//! A printed fault, whose arguments have control bytes.
+//! A printed fault whose arguments have control bytes.
 
 use al_base::{Args, Code, Fault, KeyCode, Output, Span, Stop};
 use al_text::write_fault;

@@ -1,4 +1,4 @@
-//! Interfaces of files, and the reports of folders whose files call one another, with ample memory.
+//! Interfaces of files, and reports of folders whose files call one another, with ample memory.
 
 use al_base::Output;
 use al_check_interfaces::{Interface, interface_of};
@@ -7,7 +7,7 @@ use al_tree::FileKind;
 use al_yaml::read_yaml;
 use std::alloc::{AllocError, Global};
 
-/// A file by its path and its bytes.
+/// The path and the bytes of a file.
 type File = (&'static str, &'static [u8]);
 
 /// The files of a folder, and its report.
@@ -166,7 +166,7 @@ static ROWS: [Row; 13] = [
         b".github/workflows/c.yml:6:15: required input \"who\" of \"A\" is missing [action]
 ",
     ),
-    // The first of the files that a step names answers.
+    // A step calls the first of its candidates that is in the folder.
     (
         &[STEP, ACTION, ACTION_WITHOUT_INPUTS],
         b".github/workflows/c.yml:6:15: required input \"who\" of \"A\" is missing [action]
@@ -188,7 +188,7 @@ static ROWS: [Row; 13] = [
         b".github/workflows/r.yml:4:11: \"./.github/workflows/d.yml\" cannot be called here [workflow-call]
 ",
     ),
-    // Nothing is said of a call of a file that can't be read.
+    // A call of a file that can't be read has no fault.
     (
         &[JOB, NO_MAPPING],
         b".github/workflows/d.yml:1:1: wrong kind of value for \"file\" [syntax-check]
@@ -219,14 +219,13 @@ static ROWS: [Row; 13] = [
     (&[ACTION, ACTION_WITHOUT_INPUTS], b""),
 ];
 
-// The functions without a contract tell a test's proof nothing, and the rows stand in a static behind such a function: no proof computes
-// what the faults of its files are.
+// Functions without a contract return the rows, which are statics: so no proof of a test computes the faults of their files.
 
 fn rows() -> &'static [Row] {
     &ROWS
 }
 
-// Whether the report of a folder is this one, and its status 1 where that says something.
+// Whether the report of a folder is this one, and its status is 1 exactly if the report isn't empty.
 fn is_reported(alloc: Global, files: &[File], report: &[u8]) -> bool {
     let mut written = Vec::new(alloc);
     let status = lint_all(alloc, files, &mut Output::new(&mut written), true);
@@ -241,7 +240,7 @@ fn faults_of_calls(rt: HostRuntime) {
     }
 }
 
-// What an action shows; none where it has a fault.
+// The interface of an action; `None` if it has a fault.
 fn shown(alloc: Global, file: &File) -> Result<Option<Interface>, AllocError> {
     let text = file.1;
     if text.len() > 1_048_576 {
@@ -253,7 +252,7 @@ fn shown(alloc: Global, file: &File) -> Result<Option<Interface>, AllocError> {
     }
 }
 
-// Whether two actions show the same, neither of which has a fault.
+// Whether two actions have no fault and equal interfaces.
 fn show_the_same(alloc: Global, one: &File, other: &File) -> Result<Option<bool>, AllocError> {
     let Some(one) = shown(alloc, one)? else {
         return Ok(None);

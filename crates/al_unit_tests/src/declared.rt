@@ -25,20 +25,20 @@ static INPUTS: [(&str, InputType); 4] = [
     ("plain", InputType::String),
 ];
 
-fn told_inputs() -> &'static [(&'static str, InputType)] {
+fn expected_inputs() -> &'static [(&'static str, InputType)] {
     &INPUTS
 }
 
-fn is_told(input: &Member<'_>, name: &str, ty: InputType) -> bool {
+fn is_expected(input: &Member<'_>, name: &str, ty: InputType) -> bool {
     key_text(input.key) == name.as_bytes() && input_of(input.value) == ty
 }
 
-fn are_told(found: &[Member<'_>], told: &[(&str, InputType)]) -> bool {
-    if found.len() != told.len() {
+fn are_expected(found: &[Member<'_>], expected: &[(&str, InputType)]) -> bool {
+    if found.len() != expected.len() {
         return false;
     }
-    for (input, (name, ty)) in found.iter().zip(told) {
-        if !is_told(input, name, *ty) {
+    for (input, (name, ty)) in found.iter().zip(expected) {
+        if !is_expected(input, name, *ty) {
             return false;
         }
     }
@@ -47,7 +47,7 @@ fn are_told(found: &[Member<'_>], told: &[(&str, InputType)]) -> bool {
 
 fn has_inputs(alloc: Global, root: &Node) -> Result<bool, AllocError> {
     let below = value_below_three(root, "on", "workflow_call", "inputs");
-    Ok(are_told(&declared_at(alloc, below)?, told_inputs()))
+    Ok(are_expected(&declared_at(alloc, below)?, expected_inputs()))
 }
 
 fn has_no_push(alloc: Global, root: &Node) -> Result<bool, AllocError> {

@@ -6,8 +6,8 @@ use al_yaml::read_yaml;
 use al_yaml_tree::{Doc, Node};
 use std::alloc::{AllocError, Global};
 
-/// A file whose root has one entry, and of that entry's value the text, the offset of each byte and the end's, and the
-/// end of its span.
+/// A file whose root has one entry; the text of that entry's value, the offsets of its bytes and of its end, and the end of its
+/// span.
 struct Valued {
     file: &'static [u8],
     text: &'static [u8],
@@ -40,7 +40,7 @@ fn valued_rows() -> &'static [Valued] {
     &VALUED
 }
 
-/// The document that a file is; none where it has a fault.
+/// The document of a file; `None` if it has a fault.
 pub(crate) fn document(alloc: Global, file: &[u8]) -> Result<Option<Doc>, AllocError> {
     if file.len() > 1_048_576 {
         return Ok(None);
@@ -62,14 +62,14 @@ fn first_value(doc: &Doc) -> Option<&Node> {
     }
 }
 
-fn is_as_told(scalar: &Scalar, row: &Valued) -> bool {
+fn is_as_expected(scalar: &Scalar, row: &Valued) -> bool {
     scalar.text() == row.text && comes_from(scalar, row.offsets)
 }
 
 fn is_valued(value: &Node, row: &Valued) -> bool {
     let span = value.span();
     match value.scalar() {
-        Some(scalar) => span.start == 3 && span.end == row.end && is_as_told(scalar, row),
+        Some(scalar) => span.start == 3 && span.end == row.end && is_as_expected(scalar, row),
         None => false,
     }
 }

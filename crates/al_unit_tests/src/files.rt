@@ -1,4 +1,4 @@
-//! Files as their trees, and environments at places by their texts.
+//! The trees of files, and the environment at the place with a given text.
 
 ghost use Rattle.std.specs.Prelude.{IfOk, IfSome};
 ghost use Rattle.al_expr_typing.specs.Scopes.{IsShown};
@@ -9,7 +9,7 @@ use al_yaml::read_yaml;
 use al_yaml_tree::Doc;
 use std::alloc::{AllocError, Global};
 
-/// Nothing is known of the outputs behind any call.
+/// The answers of a file without calls: nothing is known of any outputs.
 pub(crate) fn nothing_known() -> Answers<'static> {
     Answers {
         answers: &[],
@@ -17,7 +17,7 @@ pub(crate) fn nothing_known() -> Answers<'static> {
     }
 }
 
-/// The document that a text is; none where it has a fault.
+/// The document of a text; `None` if it has a fault.
 pub(crate) fn document(alloc: Global, text: &[u8]) -> Result<Option<Doc>, AllocError> {
     if text.len() > 1_048_576 {
         return Ok(None);
@@ -28,7 +28,7 @@ pub(crate) fn document(alloc: Global, text: &[u8]) -> Result<Option<Doc>, AllocE
     }
 }
 
-/// The environment at the first place of a file whose scalar says a text, gone to from place to place; none where there is no such place.
+/// The environment at the first place of a file whose scalar has this text, reached from place to place; `None` if there is none.
 pub(crate) fn env_at<'a>(
     alloc: Global,
     file: File<'a>,

@@ -6,10 +6,10 @@ use al_rules_formats::{
 };
 use std::alloc::{AllocError, Global};
 
-/// A text, and two answers that it is to have.
+/// A text, and two expected answers.
 type Row = (&'static str, bool, bool);
 
-/// Patterns, and whether each is one for branches and tags, and for paths.
+/// Texts, and whether each is a pattern for branches and tags, and one for paths.
 static PATTERNS: [Row; 24] = [
     ("main", true, true),
     ("releases/**", true, true),
@@ -70,15 +70,15 @@ static SCHEDULES: [(&str, Schedule); 22] = [
     ("", Schedule::Wrong),
 ];
 
-fn told_patterns() -> &'static [Row] {
+fn expected_patterns() -> &'static [Row] {
     &PATTERNS
 }
 
-fn told_schedules() -> &'static [(&'static str, Schedule)] {
+fn expected_schedules() -> &'static [(&'static str, Schedule)] {
     &SCHEDULES
 }
 
-// What a text is as a schedule, by the library.
+// What the library says a text is as a schedule.
 fn read_schedule(alloc: Global, text: &str) -> Result<Schedule, AllocError> {
     let Some(items) = schedule(alloc, text.as_bytes())? else {
         return Ok(Schedule::Wrong);
@@ -90,7 +90,7 @@ fn read_schedule(alloc: Global, text: &str) -> Result<Schedule, AllocError> {
     }
 }
 
-fn is_pattern_as_told(alloc: Global, row: &Row) -> Result<bool, AllocError> {
+fn is_pattern_as_expected(alloc: Global, row: &Row) -> Result<bool, AllocError> {
     let (text, names, paths) = row;
     let bytes = text.as_bytes();
     Ok(
@@ -101,21 +101,21 @@ fn is_pattern_as_told(alloc: Global, row: &Row) -> Result<bool, AllocError> {
 
 #[test]
 fn patterns(rt: HostRuntime) -> Result<(), AllocError> {
-    for row in told_patterns() {
-        assert!(rt; is_pattern_as_told(rt.alloc(), row)?);
+    for row in expected_patterns() {
+        assert!(rt; is_pattern_as_expected(rt.alloc(), row)?);
     }
     Ok(())
 }
 
 #[test]
 fn schedules(rt: HostRuntime) -> Result<(), AllocError> {
-    for (text, told) in told_schedules() {
-        assert!(rt; read_schedule(rt.alloc(), text)? == *told);
+    for (text, expected) in expected_schedules() {
+        assert!(rt; read_schedule(rt.alloc(), text)? == *expected);
     }
     Ok(())
 }
 
-/// Texts, and whether each is one expression alone, and one between blanks.
+/// Texts, and whether each is one expression and nothing else, and one expression between blanks.
 static LONE: [Row; 6] = [
     ("${{ secrets.P }}", true, true),
     (" ${{ secrets.P }}\n", false, true),
@@ -125,11 +125,11 @@ static LONE: [Row; 6] = [
     ("a", false, false),
 ];
 
-fn told_lone() -> &'static [Row] {
+fn expected_lone() -> &'static [Row] {
     &LONE
 }
 
-fn is_lone_as_told(alloc: Global, row: &Row) -> Result<bool, AllocError> {
+fn is_lone_as_expected(alloc: Global, row: &Row) -> Result<bool, AllocError> {
     let (text, alone, between_blanks) = row;
     let bytes = text.as_bytes();
     Ok(
@@ -140,13 +140,13 @@ fn is_lone_as_told(alloc: Global, row: &Row) -> Result<bool, AllocError> {
 
 #[test]
 fn lone_expressions(rt: HostRuntime) -> Result<(), AllocError> {
-    for row in told_lone() {
-        assert!(rt; is_lone_as_told(rt.alloc(), row)?);
+    for row in expected_lone() {
+        assert!(rt; is_lone_as_expected(rt.alloc(), row)?);
     }
     Ok(())
 }
 
-/// Texts, and whether each is an id, and a variable's name.
+/// Texts, and whether each is an id, and the name of a variable.
 static NAMES: [Row; 8] = [
     ("build", true, true),
     ("_build-2", true, true),
@@ -158,19 +158,19 @@ static NAMES: [Row; 8] = [
     ("a&b", false, false),
 ];
 
-fn told_names() -> &'static [Row] {
+fn expected_names() -> &'static [Row] {
     &NAMES
 }
 
-fn is_name_as_told(row: &Row) -> bool {
+fn is_name_as_expected(row: &Row) -> bool {
     let bytes = row.0.as_bytes();
     is_id(bytes) == row.1 && is_variable(bytes) == row.2
 }
 
 #[test]
 fn names(rt: HostRuntime) {
-    for row in told_names() {
-        assert!(rt; is_name_as_told(row));
+    for row in expected_names() {
+        assert!(rt; is_name_as_expected(row));
     }
 }
 

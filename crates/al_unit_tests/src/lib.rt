@@ -1,5 +1,5 @@
-//! Tests of what no contract below sessions says: that calls find memory, and that definitions mean what the pages of YAML and of GitHub
-//! say.
+//! Tests, for the crates below sessions, of what no contract says: that calls succeed with ample memory, and that definitions mean what
+//! the YAML specification and GitHub's pages say.
 #![tactic(auto)]
 
 #[cfg(test)]

@@ -1,15 +1,15 @@
-//! The longest text that a scalar can have: a file of 1,048,576 bytes, almost all of them escapes of two bytes that give
-//! three bytes each.
+//! The longest text that a scalar can have: a file of 1,048,576 bytes, almost all of them two-byte escapes for characters of three
+//! bytes.
 
 use al_scalar::{Scalar, ScalarContext, read_scalar};
 use al_yaml::read_yaml;
 use al_yaml_tree::Doc;
 use std::alloc::{AllocError, Global};
 
-/// How many escapes there is room for between the quotes.
+/// How many escapes fit between the quotes.
 const ESCAPES: usize = 524_287;
 
-/// U+2028, which `\L` stands for.
+/// U+2028, which is written `\L`.
 const SEPARATOR: [u8; 3] = [0xe2, 0x80, 0xa8];
 
 fn longest(alloc: Global) -> Result<String, AllocError> {
@@ -26,7 +26,7 @@ fn is_separator_at(i: usize, byte: u8) -> bool {
     byte == SEPARATOR[i % 3]
 }
 
-/// Whether each byte is that of the character, and comes from the backslash of its escape; behind them all is the file's end.
+/// Whether each byte is the character's and has the offset of the backslash of its escape, and the end has that of the file's end.
 fn is_longest(scalar: &Scalar) -> bool {
     let text = scalar.text();
     for (i, byte) in text.iter().enumerate() {
@@ -72,7 +72,7 @@ fn is_longest_root(doc: &Doc) -> bool {
     }
 }
 
-// Whether the root of a file is the longest scalar, and its text, which the reader promises to be one, these characters.
+// Whether the root of a file is the longest scalar, and its text, which the reader promises to be UTF-8, has these characters.
 fn reads_longest_root(alloc: Global, file: &[u8]) -> Result<bool, AllocError> {
     if file.len() > 1_048_576 {
         return Ok(false);
@@ -97,7 +97,7 @@ fn longest_root(rt: HostRuntime) -> Result<(), AllocError> {
     Ok(())
 }
 
-// Whether a file's root has no text, and its first key this one.
+// Whether a file's root has no text, and its first key has this one.
 fn has_key(doc: &Doc, text: &[u8]) -> bool {
     let Some(entries) = doc.root.mapping() else {
         return false;
@@ -129,7 +129,7 @@ fn key() -> &'static [u8] {
     "A\u{e9}".as_bytes()
 }
 
-/// Texts of keys and values, as text.
+/// The texts of keys and values, as `str`.
 #[test]
 fn texts_of_keys(rt: HostRuntime) -> Result<(), AllocError> {
     assert!(rt; has_key_alone(rt.alloc(), file_with_a_key(), key())?);

@@ -1,4 +1,4 @@
-//! Faults of the rules of whole files.
+//! The faults that rules find in whole files.
 
 use al_base::{Code, Fault, RuleCode, position};
 use al_rules::{rules, spans};
@@ -8,10 +8,10 @@ use al_yaml_tree::Doc;
 use std::alloc::{AllocError, Global};
 
 /// A fault: its line and column, its code and its arguments.
-type Told = (u32, u32, RuleCode, &'static [&'static str]);
+type Expected = (u32, u32, RuleCode, &'static [&'static str]);
 
-/// A file, what it is read as, and the faults of its rules, in any order.
-type File = (FileKind, &'static [u8], &'static [Told]);
+/// A file, its kind, and the faults that rules find in it, in any order.
+type File = (FileKind, &'static [u8], &'static [Expected]);
 
 static FILES: [File; 4] = [
     (
@@ -94,7 +94,7 @@ fn files() -> &'static [File] {
     &FILES
 }
 
-// The tree of a file; none where it is no document.
+// The tree of a file; `None` if it isn't YAML.
 fn tree(alloc: Global, kind: FileKind, text: &[u8]) -> Result<Option<Tree>, AllocError> {
     if text.len() > 1_048_576 {
         return Ok(None);
@@ -105,7 +105,7 @@ fn tree(alloc: Global, kind: FileKind, text: &[u8]) -> Result<Option<Tree>, Allo
     }
 }
 
-// The tree that a document is.
+// The tree of a document.
 fn tree_of(alloc: Global, kind: FileKind, doc: Doc) -> Result<Tree, AllocError> {
     match kind {
         FileKind::Workflow => Ok(Tree::Workflow(read_workflow(alloc, doc)?.0)),
@@ -113,9 +113,9 @@ fn tree_of(alloc: Global, kind: FileKind, doc: Doc) -> Result<Tree, AllocError> 
     }
 }
 
-// Whether a text is the one that is told at this index, or there is none where none is told.
-fn is_text(found: Option<&str>, told: &[&str], index: usize) -> bool {
-    match told.get(index) {
+// Whether a text is the expected one at this index, or both are missing.
+fn is_text(found: Option<&str>, expected: &[&str], index: usize) -> bool {
+    match expected.get(index) {
         Some(text) => match found {
             Some(found) => found == *text,
             None => false,
@@ -135,30 +135,30 @@ fn is_at(text: &[u8], start: u32, line: u32, column: u32) -> bool {
         && position(text, start) == (line, column)
 }
 
-// Whether a fault is the one that is told.
-fn is_told(text: &[u8], fault: &Fault, told: &Told) -> bool {
-    fault.code == Code::Rule(told.2)
-        && is_at(text, fault.span.start, told.0, told.1)
-        && has_args(fault, told.3)
+// Whether a fault is the expected one.
+fn is_expected(text: &[u8], fault: &Fault, expected: &Expected) -> bool {
+    fault.code == Code::Rule(expected.2)
+        && is_at(text, fault.span.start, expected.0, expected.1)
+        && has_args(fault, expected.3)
 }
 
-// Whether one of some faults is the one that is told.
-fn has_told(text: &[u8], faults: &[Fault], told: &Told) -> bool {
+// Whether one of some faults is the expected one.
+fn has_expected(text: &[u8], faults: &[Fault], expected: &Expected) -> bool {
     for fault in faults {
-        if is_told(text, fault, told) {
+        if is_expected(text, fault, expected) {
             return true;
         }
     }
     false
 }
 
-fn have_told(text: &[u8], faults: &[Fault], told: &[Told]) -> bool {
-    for row in told {
-        if !has_told(text, faults, row) {
+fn have_expected(text: &[u8], faults: &[Fault], expected: &[Expected]) -> bool {
+    for row in expected {
+        if !has_expected(text, faults, row) {
             return false;
         }
     }
-    faults.len() == told.len()
+    faults.len() == expected.len()
 }
 
 fn faults_of(alloc: Global, tree: &Tree) -> Result<Vec<Fault>, AllocError> {
@@ -168,9 +168,9 @@ fn faults_of(alloc: Global, tree: &Tree) -> Result<Vec<Fault>, AllocError> {
 }
 
 fn has_faults(alloc: Global, file: &File) -> Result<bool, AllocError> {
-    let (kind, text, told) = file;
+    let (kind, text, expected) = file;
     match tree(alloc, *kind, text)? {
-        Some(tree) => Ok(have_told(text, &faults_of(alloc, &tree)?, told)),
+        Some(tree) => Ok(have_expected(text, &faults_of(alloc, &tree)?, expected)),
         None => Ok(false),
     }
 }

@@ -4,7 +4,7 @@ use al_base::YamlCode;
 use al_scalar::{Class, Scalar, ScalarContext, Style, read_scalar};
 use std::alloc::{AllocError, Global};
 
-/// A scalar that is to be read, the offset of each byte of its text and of its end, and where the rest begins.
+/// A scalar, the offsets of the bytes of its text and of its end, and the offset at which the rest begins.
 struct Case {
     file: &'static [u8],
     at: usize,
@@ -103,7 +103,7 @@ fn cases() -> &'static [Case] {
     &CASES
 }
 
-/// Whether the bytes of a scalar's text, and its end, come from these offsets.
+/// Whether the bytes of a scalar's text, and its end, have these offsets.
 pub(crate) fn comes_from(scalar: &Scalar, offsets: &[u32]) -> bool {
     if offsets.len() != scalar.text().len() + 1 {
         return false;
@@ -116,7 +116,7 @@ pub(crate) fn comes_from(scalar: &Scalar, offsets: &[u32]) -> bool {
     true
 }
 
-fn is_as_told(scalar: &Scalar, case: &Case) -> bool {
+fn is_as_expected(scalar: &Scalar, case: &Case) -> bool {
     scalar.style() == case.style
         && scalar.class() == case.class
         && scalar.text() == case.text
@@ -133,7 +133,7 @@ fn reads(alloc: Global, case: &Case) -> Result<bool, AllocError> {
             read.span.start as usize == case.at
                 && Some(&read.span.end) == case.offsets.last()
                 && read.next == case.next
-                && is_as_told(&read.scalar, case),
+                && is_as_expected(&read.scalar, case),
         ),
         Err(_) => Ok(false),
     }
@@ -147,7 +147,7 @@ fn reads_scalars(rt: HostRuntime) -> Result<(), AllocError> {
     Ok(())
 }
 
-/// A file, where in it a scalar begins, and the fault inside: its code, and the offsets of the character that it is at.
+/// A file, the offset at which a scalar begins, and the fault in it: its code, and the span of the character it is at.
 type Faulty = (&'static [u8], usize, YamlCode, u32, u32);
 
 static FAULTS: [Faulty; 5] = [
@@ -183,7 +183,7 @@ fn finds_faults(rt: HostRuntime) -> Result<(), AllocError> {
     Ok(())
 }
 
-/// How long the text of a plain scalar over all the lines of a file is.
+/// The length of the text of a plain scalar that spans all lines of a file.
 fn length_of_text(alloc: Global, file: &[u8]) -> Result<Option<usize>, AllocError> {
     if file.len() > 1_048_576 {
         return Ok(None);
@@ -202,7 +202,7 @@ fn repeated(alloc: Global, part: &[u8], times: usize) -> Result<Vec<u8>, AllocEr
     Ok(whole)
 }
 
-// Whether the text of a scalar of so many times a part has this length.
+// Whether the text of a scalar that repeats a part this many times has this length.
 fn has_length(alloc: Global, part: &[u8], times: usize, length: usize) -> Result<bool, AllocError> {
     let file = repeated(alloc, part, times)?;
     Ok(length_of_text(alloc, &file)? == Some(length))

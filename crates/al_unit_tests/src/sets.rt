@@ -1,4 +1,4 @@
-//! Which contexts and special functions stand at places.
+//! Which contexts and special functions are available at places.
 
 use crate::files::{document, env_at, nothing_known};
 use al_check_contexts::File;
@@ -48,24 +48,24 @@ fn count_of_functions(available: &Available) -> usize {
     count
 }
 
-/// A place's text, how many contexts it has, how many special functions, and whether it is a script.
-type Told = (&'static str, usize, usize, bool);
+/// The text of a place, how many contexts and special functions are available there, and whether it is a script.
+type Expected = (&'static str, usize, usize, bool);
 
-fn is_told(scope: &Scope, told: &Told) -> bool {
-    count_of_contexts(&scope.available) == told.1
-        && count_of_functions(&scope.available) == told.2
-        && scope.in_run == told.3
+fn is_expected(scope: &Scope, expected: &Expected) -> bool {
+    count_of_contexts(&scope.available) == expected.1
+        && count_of_functions(&scope.available) == expected.2
+        && scope.in_run == expected.3
 }
 
-fn has_set(alloc: Global, file: File<'_>, told: &Told) -> Result<bool, AllocError> {
-    match env_at(alloc, file, told.0)? {
-        Some(env) => Ok(is_told(&env.scope, told)),
+fn has_set(alloc: Global, file: File<'_>, expected: &Expected) -> Result<bool, AllocError> {
+    match env_at(alloc, file, expected.0)? {
+        Some(env) => Ok(is_expected(&env.scope, expected)),
         None => Ok(false),
     }
 }
 
-fn have_sets(alloc: Global, file: File<'_>, told: &[Told]) -> Result<bool, AllocError> {
-    for row in told {
+fn have_sets(alloc: Global, file: File<'_>, expected: &[Expected]) -> Result<bool, AllocError> {
+    for row in expected {
         if !has_set(alloc, file, row)? {
             return Ok(false);
         }
@@ -73,7 +73,12 @@ fn have_sets(alloc: Global, file: File<'_>, told: &[Told]) -> Result<bool, Alloc
     Ok(true)
 }
 
-fn has_sets(alloc: Global, kind: FileKind, text: &[u8], told: &[Told]) -> Result<bool, AllocError> {
+fn has_sets(
+    alloc: Global,
+    kind: FileKind,
+    text: &[u8],
+    expected: &[Expected],
+) -> Result<bool, AllocError> {
     match document(alloc, text)? {
         Some(doc) => {
             let file = File {
@@ -81,13 +86,13 @@ fn has_sets(alloc: Global, kind: FileKind, text: &[u8], told: &[Told]) -> Result
                 root: &doc.root,
                 known: nothing_known(),
             };
-            have_sets(alloc, file, told)
+            have_sets(alloc, file, expected)
         }
         None => Ok(false),
     }
 }
 
-static OF_A_WORKFLOW: [Told; 8] = [
+static OF_A_WORKFLOW: [Expected; 8] = [
     ("${{ anything }}", 12, 0, false),
     ("${{ in-run-name }}", 3, 0, false),
     ("in-job-if", 4, 4, false),
@@ -98,27 +103,27 @@ static OF_A_WORKFLOW: [Told; 8] = [
     ("in-step-if", 10, 5, false),
 ];
 
-static OF_AN_ACTION: [Told; 2] = [("${{ in-run }}", 11, 1, true), ("in-if", 11, 5, false)];
+static OF_AN_ACTION: [Expected; 2] = [("${{ in-run }}", 11, 1, true), ("in-if", 11, 5, false)];
 
-fn told_of_a_workflow() -> &'static [Told] {
+fn expected_of_a_workflow() -> &'static [Expected] {
     &OF_A_WORKFLOW
 }
 
-fn told_of_an_action() -> &'static [Told] {
+fn expected_of_an_action() -> &'static [Expected] {
     &OF_AN_ACTION
 }
 
 #[test]
 fn of_a_workflow(rt: HostRuntime) -> Result<(), AllocError> {
-    let told = told_of_a_workflow();
-    assert!(rt; has_sets(rt.alloc(), FileKind::Workflow, WORKFLOW, told)?);
+    let expected = expected_of_a_workflow();
+    assert!(rt; has_sets(rt.alloc(), FileKind::Workflow, WORKFLOW, expected)?);
     Ok(())
 }
 
 #[test]
 fn of_an_action(rt: HostRuntime) -> Result<(), AllocError> {
-    let told = told_of_an_action();
-    assert!(rt; has_sets(rt.alloc(), FileKind::Action, ACTION, told)?);
+    let expected = expected_of_an_action();
+    assert!(rt; has_sets(rt.alloc(), FileKind::Action, ACTION, expected)?);
     Ok(())
 }
 

@@ -55,7 +55,7 @@ fn show_rest(rest: &Option<Box<Ty>>, is_first: bool, out: &mut String) -> Result
     out.push_str("}")
 }
 
-/// A type of a table as a text.
+/// The text of a type in a table.
 pub(crate) fn shown(
     alloc: Global,
     types: &Types<'_>,

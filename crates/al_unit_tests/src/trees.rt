@@ -1,4 +1,4 @@
-//! Trees of workflows and actions: their faults, and what stands under their keys.
+//! Trees of workflows and actions: their faults, and the values under their keys.
 
 use crate::documents::document;
 use al_base::{Code, Fault, KeyCode, position};
@@ -10,10 +10,10 @@ use al_yaml_tree::Node;
 use std::alloc::{AllocError, Global};
 
 /// A fault: its line and column, its code and its first argument.
-type Told = (u32, u32, KeyCode, &'static str);
+type Expected = (u32, u32, KeyCode, &'static str);
 
-/// A file, what it is read as, and its faults in the order of reports.
-type File = (FileKind, &'static [u8], &'static [Told]);
+/// A file, its kind, and its faults in report order.
+type File = (FileKind, &'static [u8], &'static [Expected]);
 
 static FILES: [File; 4] = [
     (
@@ -62,18 +62,18 @@ fn has_first(fault: &Fault, text: &str) -> bool {
     }
 }
 
-fn is_told(text: &[u8], fault: &Fault, told: &Told) -> bool {
-    fault.code == Code::Key(told.2)
-        && is_at(text, fault.span.start, told.0, told.1)
-        && has_first(fault, told.3)
+fn is_expected(text: &[u8], fault: &Fault, expected: &Expected) -> bool {
+    fault.code == Code::Key(expected.2)
+        && is_at(text, fault.span.start, expected.0, expected.1)
+        && has_first(fault, expected.3)
 }
 
-fn are_told(text: &[u8], faults: &[Fault], told: &[Told]) -> bool {
-    if faults.len() != told.len() {
+fn are_expected(text: &[u8], faults: &[Fault], expected: &[Expected]) -> bool {
+    if faults.len() != expected.len() {
         return false;
     }
-    for (fault, told) in faults.iter().zip(told) {
-        if !is_told(text, fault, told) {
+    for (fault, expected) in faults.iter().zip(expected) {
+        if !is_expected(text, fault, expected) {
             return false;
         }
     }
@@ -81,9 +81,9 @@ fn are_told(text: &[u8], faults: &[Fault], told: &[Told]) -> bool {
 }
 
 fn has_faults(alloc: Global, file: &File) -> Result<bool, AllocError> {
-    let (kind, text, told) = file;
+    let (kind, text, expected) = file;
     match document(alloc, text)? {
-        Some(doc) => Ok(are_told(text, &document_faults(alloc, *kind, &doc)?, told)),
+        Some(doc) => Ok(are_expected(text, &document_faults(alloc, *kind, &doc)?, expected)),
         None => Ok(false),
     }
 }
@@ -126,7 +126,7 @@ runs: {using: docker, image: D, entrypoint: e, pre-entrypoint: f, post-entrypoin
 branding: {icon: k}
 ";
 
-// What the file above is read as, and how many faults it has; none where it is no document.
+// The tree of the file above, and how many faults it has; `None` if it isn't YAML.
 fn workflow(alloc: Global) -> Result<Option<(Tree, usize)>, AllocError> {
     let Some(doc) = document(alloc, WORKFLOW)? else {
         return Ok(None);
@@ -143,7 +143,7 @@ fn action(alloc: Global) -> Result<Option<(Tree, usize)>, AllocError> {
     Ok(Some((Tree::Action(action), faults.len())))
 }
 
-// Whether a text is this one; one that isn't there is as an empty one.
+// Whether a text is this one; a missing text counts as empty.
 fn says(word: Option<ScalarNode<'_>>, text: &str) -> bool {
     match word {
         Some(word) => word.scalar.text() == text.as_bytes(),
@@ -169,7 +169,7 @@ fn push_of(root: &Node) -> Option<&Node> {
     value(value(root, "on")?, "push")
 }
 
-// Whether the branches are there, but for the one that is null.
+// Whether all branches are there except the one that is null.
 fn has_branches(alloc: Global, root: &Node) -> Result<bool, AllocError> {
     match push_of(root) {
         Some(push) => {
@@ -180,7 +180,7 @@ fn has_branches(alloc: Global, root: &Node) -> Result<bool, AllocError> {
     }
 }
 
-// Whether the one step is there, of whose equal keys the first counts.
+// Whether the step is there; of its equal keys the first counts.
 fn has_step(job: &Node) -> bool {
     match items_under(job, "steps") {
         [only] => says(text_under(only, "run"), "make") && says(text_under(only, "uses"), ""),
@@ -188,7 +188,7 @@ fn has_step(job: &Node) -> bool {
     }
 }
 
-// Whether the two jobs are there, of whose equal keys the first counts.
+// Whether both jobs are there; of equal keys the first counts.
 fn has_jobs(alloc: Global, root: &Node) -> Result<bool, AllocError> {
     match members_under(alloc, root, "jobs")?.as_slice() {
         [test, call] => Ok(

@@ -11,8 +11,8 @@ use al_tree::FileKind;
 use al_types::Context;
 use std::alloc::{AllocError, Global};
 
-/// A place's text, a context, and its type there.
-type Told = (&'static str, Context, &'static str);
+/// The text of a place, a context, and its type there.
+type Expected = (&'static str, Context, &'static str);
 
 const BUILD: &[u8] = b"on:
   workflow_call:
@@ -73,7 +73,7 @@ runs:
 const DOCKER: &[u8] = b"runs: {using: docker, image: '${{ in-docker }}'}
 ";
 
-/// The type of a context as it is shown.
+/// The type of a context, as text.
 fn type_text(alloc: Global, env: &Env<'_>, context: Context) -> Result<String, AllocError>
     requires { IsShown env.now.types env.now.scope }
 {
@@ -81,23 +81,23 @@ fn type_text(alloc: Global, env: &Env<'_>, context: Context) -> Result<String, A
     shown(alloc, &env.types, ty)
 }
 
-/// Whether the type of a context is shown so.
+/// Whether the type of a context has this text.
 fn is_shown(alloc: Global, env: &Env<'_>, context: Context, text: &str) -> Result<bool, AllocError>
     requires { IsShown env.now.types env.now.scope }
 {
     Ok(type_text(alloc, env, context)?.as_str() == text)
 }
 
-fn has_type(alloc: Global, file: File<'_>, told: &Told) -> Result<bool, AllocError> {
-    let (at, context, ty) = told;
+fn has_type(alloc: Global, file: File<'_>, expected: &Expected) -> Result<bool, AllocError> {
+    let (at, context, ty) = expected;
     match env_at(alloc, file, at)? {
         Some(env) => is_shown(alloc, &env, *context, ty),
         None => Ok(false),
     }
 }
 
-fn have_types(alloc: Global, file: File<'_>, told: &[Told]) -> Result<bool, AllocError> {
-    for row in told {
+fn have_types(alloc: Global, file: File<'_>, expected: &[Expected]) -> Result<bool, AllocError> {
+    for row in expected {
         if !has_type(alloc, file, row)? {
             return Ok(false);
         }
@@ -105,18 +105,18 @@ fn have_types(alloc: Global, file: File<'_>, told: &[Told]) -> Result<bool, Allo
     Ok(true)
 }
 
-/// Whether contexts have these types in a file that calls what is known.
+/// Whether contexts have these types in a file with these answers of calls.
 fn has_types(
     alloc: Global,
     kind: FileKind,
     text: &[u8],
     known: Answers<'_>,
-    told: &[Told],
+    expected: &[Expected],
 ) -> Result<bool, AllocError> {
     match document(alloc, text)? {
         Some(doc) => {
             let root = &doc.root;
-            have_types(alloc, File { kind, root, known }, told)
+            have_types(alloc, File { kind, root, known }, expected)
         }
         None => Ok(false),
     }
@@ -128,7 +128,7 @@ const ALL_JOBS: &str =
     "{first: {result: string, outputs: {one: string, two: string}}, called: {result: string, outputs: {*: any}}, \
      last: {result: string, outputs: {}}}";
 
-static OF_A_WORKFLOW: [Told; 19] = [
+static OF_A_WORKFLOW: [Expected; 19] = [
     ("${{ in-env }}", Context::Inputs, INPUTS),
     ("${{ in-env }}", Context::Needs, "any"),
     ("${{ in-env }}", Context::Jobs, "any"),
@@ -170,14 +170,22 @@ static OF_A_WORKFLOW: [Told; 19] = [
     ),
 ];
 
-fn told_of_a_workflow() -> &'static [Told] {
+fn expected_of_a_workflow() -> &'static [Expected] {
     &OF_A_WORKFLOW
 }
 
 #[test]
 fn of_a_workflow(rt: HostRuntime) -> Result<(), AllocError> {
-    let told = told_of_a_workflow();
-    assert!(rt; has_types(rt.alloc(), FileKind::Workflow, BUILD, nothing_known(), told)?);
+    let expected = expected_of_a_workflow();
+    assert!(rt;
+        has_types(
+            rt.alloc(),
+            FileKind::Workflow,
+            BUILD,
+            nothing_known(),
+            expected
+        )?
+    );
     Ok(())
 }
 
@@ -186,7 +194,7 @@ const STEP_A: &str = "{a: {conclusion: string, outcome: string, outputs: {*: str
 const STEPS_A_B: &str = "{a: {conclusion: string, outcome: string, outputs: {*: string}}, \
      b: {conclusion: string, outcome: string, outputs: {path: string}}}";
 
-static OF_STEPS: [Told; 9] = [
+static OF_STEPS: [Expected; 9] = [
     ("${{ in-first }}", Context::Steps, "{}"),
     ("${{ step-none }}", Context::Steps, "{}"),
     ("${{ step-a }}", Context::Steps, STEP_A),
@@ -202,7 +210,7 @@ static OF_STEPS: [Told; 9] = [
     ),
 ];
 
-fn told_of_steps() -> &'static [Told] {
+fn expected_of_steps() -> &'static [Expected] {
     &OF_STEPS
 }
 
@@ -215,7 +223,7 @@ fn name_list(alloc: Global, names: &[&[u8]]) -> Result<NameList, AllocError> {
     NameList::new(alloc, kept)
 }
 
-fn has_types_of_steps(alloc: Global, told: &[Told]) -> Result<bool, AllocError> {
+fn has_types_of_steps(alloc: Global, expected: &[Expected]) -> Result<bool, AllocError> {
     let path = name_list(alloc, &[b"path"])?;
     let made = name_list(alloc, &[b"made"])?;
     let lists = [&path, &made];
@@ -235,12 +243,12 @@ fn has_types_of_steps(alloc: Global, told: &[Told]) -> Result<bool, AllocError> 
         answers: &answers,
         lists: &lists,
     };
-    has_types(alloc, FileKind::Workflow, BUILD, known, told)
+    has_types(alloc, FileKind::Workflow, BUILD, known, expected)
 }
 
 #[test]
 fn of_steps(rt: HostRuntime) -> Result<(), AllocError> {
-    assert!(rt; has_types_of_steps(rt.alloc(), told_of_steps())?);
+    assert!(rt; has_types_of_steps(rt.alloc(), expected_of_steps())?);
     Ok(())
 }
 
@@ -271,12 +279,12 @@ const NEEDS_OF_SHARED: &str =
     "{first: {result: string, outputs: {made: string}}, own: {result: string, outputs: {path: string}}, \
      second: {result: string, outputs: {made: string}}, third: {result: string, outputs: {*: any}}}";
 
-static OF_SHARED: [Told; 2] = [
+static OF_SHARED: [Expected; 2] = [
     ("${{ step-last }}", Context::Steps, STEPS_OF_SHARED),
     ("${{ in-last }}", Context::Needs, NEEDS_OF_SHARED),
 ];
 
-fn told_of_shared() -> &'static [Told] {
+fn expected_of_shared() -> &'static [Expected] {
     &OF_SHARED
 }
 
@@ -289,7 +297,7 @@ fn answer(job: &'static [u8], step: Option<usize>, names: Option<usize>) -> Answ
     }
 }
 
-fn has_types_of_shared(alloc: Global, told: &[Told]) -> Result<bool, AllocError> {
+fn has_types_of_shared(alloc: Global, expected: &[Expected]) -> Result<bool, AllocError> {
     let path = name_list(alloc, &[b"path"])?;
     let made = name_list(alloc, &[b"made"])?;
     let lists = [&path, &made];
@@ -307,17 +315,17 @@ fn has_types_of_shared(alloc: Global, told: &[Told]) -> Result<bool, AllocError>
         answers: &answers,
         lists: &lists,
     };
-    has_types(alloc, FileKind::Workflow, SHARED, known, told)
+    has_types(alloc, FileKind::Workflow, SHARED, known, expected)
 }
 
-/// Steps, and jobs, that call one file, one whose name was there, and one of which nothing is known.
+/// Steps and jobs, several of which have the same outputs, and one has unknown outputs.
 #[test]
 fn of_shared_lists(rt: HostRuntime) -> Result<(), AllocError> {
-    assert!(rt; has_types_of_shared(rt.alloc(), told_of_shared())?);
+    assert!(rt; has_types_of_shared(rt.alloc(), expected_of_shared())?);
     Ok(())
 }
 
-static OF_OPEN_MATRICES: [Told; 5] = [
+static OF_OPEN_MATRICES: [Expected; 5] = [
     ("${{ open-include }}", Context::Matrix, "{*: any}"),
     ("${{ open-entry }}", Context::Matrix, "{*: any}"),
     ("${{ open-matrix }}", Context::Matrix, "{*: any}"),
@@ -325,14 +333,22 @@ static OF_OPEN_MATRICES: [Told; 5] = [
     ("${{ mapped-include }}", Context::Matrix, "{os: string}"),
 ];
 
-fn told_of_open_matrices() -> &'static [Told] {
+fn expected_of_open_matrices() -> &'static [Expected] {
     &OF_OPEN_MATRICES
 }
 
 #[test]
 fn of_open_matrices(rt: HostRuntime) -> Result<(), AllocError> {
-    let told = told_of_open_matrices();
-    assert!(rt; has_types(rt.alloc(), FileKind::Workflow, OPEN, nothing_known(), told)?);
+    let expected = expected_of_open_matrices();
+    assert!(rt;
+        has_types(
+            rt.alloc(),
+            FileKind::Workflow,
+            OPEN,
+            nothing_known(),
+            expected
+        )?
+    );
     Ok(())
 }
 
@@ -341,7 +357,7 @@ const STEP_ONE: &str = "{one: {conclusion: string, outcome: string, outputs: {*:
 const STEPS_ONE_TWO: &str = "{one: {conclusion: string, outcome: string, outputs: {*: string}}, \
      two: {conclusion: string, outcome: string, outputs: {*: string}}}";
 
-static OF_AN_ACTION: [Told; 7] = [
+static OF_AN_ACTION: [Expected; 7] = [
     ("${{ in-input }}", Context::Inputs, "{a: string, b: string}"),
     ("${{ in-input }}", Context::Steps, "{}"),
     ("${{ in-output }}", Context::Steps, STEPS_ONE_TWO),
@@ -351,27 +367,43 @@ static OF_AN_ACTION: [Told; 7] = [
     ("${{ in-two }}", Context::Matrix, "any"),
 ];
 
-static OF_A_CONTAINER: [Told; 1] = [("${{ in-docker }}", Context::Steps, "any")];
+static OF_A_CONTAINER: [Expected; 1] = [("${{ in-docker }}", Context::Steps, "any")];
 
-fn told_of_an_action() -> &'static [Told] {
+fn expected_of_an_action() -> &'static [Expected] {
     &OF_AN_ACTION
 }
 
-fn told_of_a_container() -> &'static [Told] {
+fn expected_of_a_container() -> &'static [Expected] {
     &OF_A_CONTAINER
 }
 
 #[test]
 fn of_an_action(rt: HostRuntime) -> Result<(), AllocError> {
-    let told = told_of_an_action();
-    assert!(rt; has_types(rt.alloc(), FileKind::Action, ACTION, nothing_known(), told)?);
+    let expected = expected_of_an_action();
+    assert!(rt;
+        has_types(
+            rt.alloc(),
+            FileKind::Action,
+            ACTION,
+            nothing_known(),
+            expected
+        )?
+    );
     Ok(())
 }
 
 #[test]
 fn of_a_container(rt: HostRuntime) -> Result<(), AllocError> {
-    let told = told_of_a_container();
-    assert!(rt; has_types(rt.alloc(), FileKind::Action, DOCKER, nothing_known(), told)?);
+    let expected = expected_of_a_container();
+    assert!(rt;
+        has_types(
+            rt.alloc(),
+            FileKind::Action,
+            DOCKER,
+            nothing_known(),
+            expected
+        )?
+    );
     Ok(())
 }
 

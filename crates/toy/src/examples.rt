@@ -4,7 +4,7 @@ ghost use Rattle.std.specs.Prelude.{◌≡◌, [], ◌∷◌, ◌++◌, codes, t
 ghost use Rattle.al_session.specs.Report.{report_of, status_of};
 ghost use Rattle.toy.specs.Toy.{toy};
 
-/// What some folders report, as the definitions give it. Does nothing at run time.
+/// The reports of some folders, by the definitions. Does nothing at run time.
 pub fn rows()
     ensures own { report_of true toy ((codes "a.toy", codes "need a.toy\nhave x") ∷ [])
         ≡ codes "a.toy:1:1: call of \"a.toy\" leads back to this file [workflow-call]\n" }

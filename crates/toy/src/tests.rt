@@ -1,15 +1,15 @@
-//! Tests of a session over the small linter.
+//! Tests of sessions with the small linter.
 
 use crate::linter::Toy;
 use al_base::{Output, Path, Stop};
 use al_session::{Change, Refused, Session, apply_change, apply_changes};
 use std::alloc::{AllocError, Global};
 
-// An edit, the files that it checks again, and the report then.
+// An edit, the files it rechecks, and the report afterwards.
 type Step = (Change<'static>, &'static [&'static str], &'static [u8]);
 
-// The functions without a contract tell a test's proof nothing, and the rows stand in statics behind such functions: no proof computes
-// what a session does with them. A test holds no session: one that is let go at each way out makes its proof ten times as long.
+// Functions without a contract return the rows, which are statics: so no proof of a test computes what a session does with them. No test
+// holds a session, which would be dropped at each exit and make the proof ten times as long.
 
 fn open(alloc: Global) -> Session<Toy> {
     Session::open(alloc, Toy::new())
@@ -52,7 +52,7 @@ fn refuses_put(session: &mut Session<Toy>, path: &str, bytes: &[u8], wanted: Ref
     refuses(session, &Change::Put(path, bytes), wanted)
 }
 
-// Whether an edit was accepted and checked just these files again, each with one check.
+// Whether an edit was accepted and rechecked exactly these files, each with one check.
 fn rechecks(session: &mut Session<Toy>, edit: &Change, wanted: &[&str]) -> bool {
     let checks = session.meter();
     match apply_change(session, edit) {
@@ -82,7 +82,7 @@ fn follows_both(
     Ok(follows(alloc, session, first)? && follows(alloc, session, then)?)
 }
 
-// Whether a new session takes these steps and those behind them, and has this status then.
+// Whether a new session follows these steps, and then has this status.
 fn ends(alloc: Global, first: &[Step], then: &[Step], wanted: u8) -> Result<bool, Stop> {
     let mut session = open(alloc);
     Ok(follows_both(alloc, &mut session, first, then)? && status(&mut session)? == wanted)
@@ -155,7 +155,7 @@ static RING: [Step; 1] = [(
     CYCLE,
 )];
 
-// A file of a call cycle that calls what it called, a call into the cycle, and a file of the cycle that is deleted.
+// A file of a call cycle is changed and calls the same, a call into the cycle is added, and a file of the cycle is deleted.
 static BESIDE_THE_RING: [Step; 3] = [
     (
         Change::Put("c.toy", b"need a.toy\nhave x\n# e"),
@@ -178,7 +178,7 @@ fn beside_the_ring() -> &'static [Step] {
     &BESIDE_THE_RING
 }
 
-// Whether a file is there and has no faults of its own.
+// Whether a file exists and has no faults of its own.
 fn is_faultless(session: &Session<Toy>, path: &str) -> bool {
     match session.faults(path) {
         Some(faults) => faults.is_empty(),
@@ -211,7 +211,7 @@ fn finds_call_cycles_anew(alloc: Global) -> Result<bool, Stop> {
 }
 
 #[test]
-fn loops_are_told(rt: HostRuntime) -> Result<(), Stop> {
+fn call_cycles_are_reported(rt: HostRuntime) -> Result<(), Stop> {
     assert!(rt; finds_call_cycles_anew(rt.alloc())?);
     Ok(())
 }
@@ -313,7 +313,7 @@ const ABSENT_CALL: &[u8] = b"c.toy:1:1: unexpected key \"d/a.toy\" [syntax-check
 
 const EMPTY_CALL: &[u8] = b"c.toy:1:1: wrong kind of value for \"d/a.toy\" [syntax-check]\n";
 
-// A call of an absent file, which then comes, with nothing to offer. A file without calls stands beside them.
+// A call of a missing file, which is then put and offers nothing, beside a file without calls.
 static CALLED: [Step; 3] = [
     (Change::Put("z.toy", b"have z"), &["z.toy"], b""),
     (Change::Put("c.toy", CALLER), &["c.toy"], ABSENT_CALL),
@@ -447,7 +447,7 @@ fn text_at(number: u32) -> &'static [u8] {
     TEXTS[(number % 7) as usize]
 }
 
-// Makes an edit that a number stands for, and tells whether it was accepted.
+// Makes the edit that a number stands for, and returns whether it was accepted.
 fn edit(session: &mut Session<Toy>, number: u32) -> bool {
     let name = name_at(number >> 8);
     if (number >> 24) % 4 == 0 {
@@ -480,7 +480,7 @@ fn misses_the_same(one: &Session<Toy>, other: &Session<Toy>) -> Result<bool, All
     )
 }
 
-// Whether both have the same report and status, and name the same paths as missing.
+// Whether both have the same report, status and missing paths.
 fn are_alike(
     alloc: Global,
     one: &mut Session<Toy>,
@@ -499,7 +499,7 @@ fn is_as_anew(alloc: Global, session: &mut Session<Toy>) -> Result<bool, Stop> {
     are_alike(alloc, session, &mut other)
 }
 
-// Whether a session is as a new one after each of so many edits.
+// Whether, after each of this many edits, a session equals a new one with the same files.
 fn stays_as_anew(alloc: Global, session: &mut Session<Toy>, edits: u32) -> Result<bool, Stop> {
     let mut state: u32 = 7;
     for _ in 0..edits {
