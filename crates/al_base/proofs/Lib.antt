@@ -1,4 +1,5 @@
 pub mod Bytes
+pub mod Writing
 pub mod Counting
 pub mod LineStarts
 pub mod LineBegins

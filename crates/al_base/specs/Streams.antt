@@ -1,7 +1,9 @@
 -- What contracts see of an input and an output: the inner reader or writer, and the counts.
-use Rattle.std.specs.Prelude.{ℕ, List, Option}
+use Rattle.std.specs.Prelude.{◌≡◌, ℕ, List, Option, Result, OnOk, OnErr, IsOkUnless}
 use Rattle.std.specs.Io.KnownBytes.{Appends}
-use Rattle.al_base.specs.Counted.{AppendsPrefix}
+use Rattle.al_base.specs.Counted.{AppendsPrefix, HasRisen}
+use Rattle.al_base.specs.declared.stops.Stop.{Stop}
+use Rattle.al_base.specs.declared.stops.Stop.TheVariants.{WriteFault}
 use Rattle.al_base.specs.declared.streams.Input.{Input}
 use Rattle.al_base.specs.declared.streams.Output.{Output}
 
@@ -36,3 +38,12 @@ Writes contents old new bytes = Appends (bytes_written contents old) (bytes_writ
 -- it wrote a prefix of them
 abbrev pub WritesPrefix : {W : Type 0} → (W → Option (List ℕ)) → Output W → Output W → List ℕ → Type 0
 WritesPrefix contents old new bytes = AppendsPrefix (bytes_written contents old) (bytes_written contents new) bytes
+
+-- A call that returns this result writes all of these bytes, or fails after a prefix of them. It fails exactly if the writer does.
+pub record WritesOrFails {W T : Type 0} (contents : W → Option (List ℕ)) (old new : Output W) (result : Result T Stop) (bytes : List ℕ)
+    : Type 0 where
+  pub all : OnOk result (Writes contents old new bytes)
+  pub prefix : OnErr result (WritesPrefix contents old new bytes)
+  pub failures : OnOk result (write_failures new ≡ write_failures old)
+  pub failed : OnErr result (HasRisen (write_failures old) (write_failures new))
+  pub err : IsOkUnless result WriteFault

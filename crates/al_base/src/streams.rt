@@ -3,8 +3,8 @@ ghost use Rattle.std.specs.Prelude.{◌≡◌, ◌+◌, ◌<◌, ◌≤◌, leng
 ghost use Rattle.std.specs.Io.{ReadsAtMost};
 ghost use Rattle.std.specs.Io.KnownBytes.{Keeps, ReadConsumes};
 ghost use Rattle.al_base.specs.Counted.{count_after, HasRisen};
-ghost use Rattle.al_base.specs.Streams.{bytes_left, turns_of, read_failures, largest_ask, bytes_written, write_failures, Writes};
-ghost use Rattle.al_base.specs.Streams.{WritesPrefix};
+ghost use Rattle.al_base.specs.Streams.{Writes, WritesOrFails, bytes_left, bytes_written, largest_ask, read_failures, turns_of};
+ghost use Rattle.al_base.specs.Streams.{write_failures};
 
 use super::stops::Stop;
 use std::io::{Read, Write};
@@ -113,12 +113,7 @@ impl<W: Write> Output<W> {
     ///
     /// [`Stop::WriteFault`] if a write failed; a prefix of the bytes has then been written.
     pub fn write_all(&mut self, bytes: &[u8]) -> Result<(), Stop>
-        ensures all { OnOk result (Writes W.contents self.old self.new bytes.now) }
-        ensures prefix { OnErr result (WritesPrefix W.contents self.old self.new bytes.now) }
-        ensures failures { OnOk result (write_failures self.new ≡ write_failures self.old) }
-        ensures failed { OnErr result
-            (HasRisen (write_failures self.old) (write_failures self.new)) }
-        ensures err { IsOkUnless result Stop.WriteFault }
+        ensures { WritesOrFails W.contents self.old self.new result bytes.now }
     {
         let mut done = 0;
         while done < bytes.len() {

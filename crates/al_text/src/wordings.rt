@@ -2,6 +2,7 @@
 ghost use Rattle.std.specs.Prelude.{◌≡◌, [], codes};
 ghost use Rattle.al_base.specs.Codes.{code_row, call_kind};
 ghost use Rattle.al_base.specs.declared.codes.Code.TheVariants as code;
+ghost use Rattle.al_text.specs.Private.Wordings.{IsRowOf};
 
 use al_base::{CallCode, Caller, Code, ExpressionCode, KeyCode, RuleCode, YamlCode};
 
@@ -22,10 +23,7 @@ pub fn kind(code: Code) -> &'static str
 }
 
 pub(crate) fn row_of(code: Code) -> CodeRow
-    ensures kind { result.kind.now ≡ (code_row code).kind }
-    ensures head { result.head.now ≡ (code_row code).head }
-    ensures middle { result.middle.now ≡ (code_row code).middle }
-    ensures tail { result.tail.now ≡ (code_row code).tail }
+    ensures { IsRowOf code result }
 {
     match code {
         Code::Yaml(fault) => yaml_row(fault),
@@ -37,10 +35,7 @@ pub(crate) fn row_of(code: Code) -> CodeRow
 }
 
 fn yaml_row(fault: YamlCode) -> CodeRow
-    ensures kind { result.kind.now ≡ (code_row (code.Yaml fault)).kind }
-    ensures head { result.head.now ≡ (code_row (code.Yaml fault)).head }
-    ensures middle { result.middle.now ≡ (code_row (code.Yaml fault)).middle }
-    ensures tail { result.tail.now ≡ (code_row (code.Yaml fault)).tail }
+    ensures { IsRowOf (code.Yaml fault) result }
 {
     let kind = "syntax-check";
     match fault {
@@ -66,10 +61,7 @@ fn yaml_row(fault: YamlCode) -> CodeRow
 }
 
 fn key_row(fault: KeyCode) -> CodeRow
-    ensures kind { result.kind.now ≡ (code_row (code.Key fault)).kind }
-    ensures head { result.head.now ≡ (code_row (code.Key fault)).head }
-    ensures middle { result.middle.now ≡ (code_row (code.Key fault)).middle }
-    ensures tail { result.tail.now ≡ (code_row (code.Key fault)).tail }
+    ensures { IsRowOf (code.Key fault) result }
 {
     let kind = "syntax-check";
     match fault {
@@ -84,10 +76,7 @@ fn key_row(fault: KeyCode) -> CodeRow
 }
 
 fn rule_row(fault: RuleCode) -> CodeRow
-    ensures kind { result.kind.now ≡ (code_row (code.Rule fault)).kind }
-    ensures head { result.head.now ≡ (code_row (code.Rule fault)).head }
-    ensures middle { result.middle.now ≡ (code_row (code.Rule fault)).middle }
-    ensures tail { result.tail.now ≡ (code_row (code.Rule fault)).tail }
+    ensures { IsRowOf (code.Rule fault) result }
 {
     match fault {
         RuleCode::UnknownEvent => row("events", "unknown event \"", "\"", ""),
@@ -131,10 +120,7 @@ fn rule_row(fault: RuleCode) -> CodeRow
 }
 
 fn expression_row(fault: ExpressionCode) -> CodeRow
-    ensures kind { result.kind.now ≡ (code_row (code.Expression fault)).kind }
-    ensures head { result.head.now ≡ (code_row (code.Expression fault)).head }
-    ensures middle { result.middle.now ≡ (code_row (code.Expression fault)).middle }
-    ensures tail { result.tail.now ≡ (code_row (code.Expression fault)).tail }
+    ensures { IsRowOf (code.Expression fault) result }
 {
     let kind = "expression";
     match fault {
@@ -172,10 +158,7 @@ fn expression_row(fault: ExpressionCode) -> CodeRow
 }
 
 fn call_row(fault: CallCode, caller: Caller) -> CodeRow
-    ensures kind { result.kind.now ≡ (code_row (code.Call fault caller)).kind }
-    ensures head { result.head.now ≡ (code_row (code.Call fault caller)).head }
-    ensures middle { result.middle.now ≡ (code_row (code.Call fault caller)).middle }
-    ensures tail { result.tail.now ≡ (code_row (code.Call fault caller)).tail }
+    ensures { IsRowOf (code.Call fault caller) result }
 {
     let kind = kind_of_call(caller);
     match fault {

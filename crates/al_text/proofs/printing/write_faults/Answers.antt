@@ -1,15 +1,14 @@
 use Rattle.std.proofs.Common.{arith, ◌∙◌}
-use Rattle.std.proofs.lemmas.Result.{err_from_is_err_and}
+use Rattle.al_base.proofs.Bytes.{Appends-next}
+use Rattle.al_base.proofs.Writing.{fails_in_element}
 use Rattle.al_text.specs.Snippets.{fault_text}
-use Rattle.al_base.proofs.Bytes.{Appends-next, AppendsPrefix-next}
 use Rattle.al_text.proofs.printing.write_faults.Goals as goal
 
-pub returns-in_err-write_fault_at-clause-prefix : goal.returns-in_err-write_fault_at-clause-prefix
-returns-in_err-write_fault_at-clause-prefix g c =
-    let p = err_from_is_err_and c.from_residual.result c.from_residual.ensures.1 in
-    rw p.1 (AppendsPrefix-next (fault_text c.args.oneline c.args.path.now c.args.bytes.now) c.args.faults.now c.loop-fault.fault-index
-    c.fault-item.result (omega (arith, c.loop-fault-test.true)) c.fault-item.is _ _ _ c.loop-fault.invariant.appended
-    c.in_err-write_fault_at.ensures.prefix)
+pub returns-in_err-write_fault_at : goal.returns-in_err-write_fault_at
+returns-in_err-write_fault_at g c =
+    fails_in_element _ _ _ _ (fault_text c.args.oneline c.args.path.now c.args.bytes.now) c.args.faults.now c.loop-fault.fault-index
+    c.fault-item.result (omega (arith, c.loop-fault-test.true)) c.fault-item.is c.loop-fault.invariant.appended c.loop-fault.invariant.unfailed
+    _ _ c.from_residual.ensures.1 c.in_err-write_fault_at.ensures
 
 pub loop-fault-preserved : goal.loop-fault-preserved
 loop-fault-preserved g c = record {

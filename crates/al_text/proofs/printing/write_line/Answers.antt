@@ -1,8 +1,6 @@
 use Rattle.std.proofs.Common.{◌≡◌, ◌++◌, ◌∷◌, [], ℕ, List, subst, append_assoc}
-use Rattle.std.proofs.lemmas.Result.{on_ok_weaker, on_err_weaker}
-use Rattle.std.specs.Io.KnownBytes.{Appends}
-use Rattle.al_base.specs.Counted.{AppendsPrefix}
 use Rattle.al_base.specs.Printable.{printable}
+use Rattle.al_base.specs.Streams.{WritesOrFails}
 use Rattle.al_text.proofs.printing.write_line.Goals as goal
 
 -- the appended parts, reassociated to the left
@@ -11,8 +9,8 @@ line_is : (p l c h f m s t k : List ℕ) →
     ≡ p ++ 58 ∷ [] ++ l ++ 58 ∷ [] ++ c ++ 58 ∷ 32 ∷ [] ++ (h ++ f ++ m ++ s ++ t) ++ 32 ∷ 91 ∷ (k ++ 93 ∷ 10 ∷ [])
 line_is p l c h f m s t k = simp append_assoc
 
-pub returns-clause-all : goal.returns-clause-all
-returns-clause-all g c =
+pub returns : goal.returns
+returns g c =
     let w = rw (
       c.as_bytes.ensures.value,
       c.as_bytes-2.ensures.value,
@@ -21,24 +19,7 @@ returns-clause-all g c =
       c.as_bytes-5.ensures.value,
       c.as_bytes-6.ensures.value,
       c.as_bytes-7.ensures.value,
-    ) at c.write_fragments.ensures.all in
+    ) at c.write_fragments.ensures in
     let a = c.args in
-    on_ok_weaker c.write_fragments.result
-    (λ x. subst (Appends _ _) (line_is a.place.path.now a.place.line.now a.place.column.now a.row.head.now (printable a.first.now)
-    a.row.middle.now (printable a.second.now) a.row.tail.now a.row.kind.now) x) w
-
-pub returns-clause-prefix : goal.returns-clause-prefix
-returns-clause-prefix g c =
-    let w = rw (
-      c.as_bytes.ensures.value,
-      c.as_bytes-2.ensures.value,
-      c.as_bytes-3.ensures.value,
-      c.as_bytes-4.ensures.value,
-      c.as_bytes-5.ensures.value,
-      c.as_bytes-6.ensures.value,
-      c.as_bytes-7.ensures.value,
-    ) at c.write_fragments.ensures.prefix in
-    let a = c.args in
-    on_err_weaker c.write_fragments.result
-    (λ x. subst (AppendsPrefix _ _) (line_is a.place.path.now a.place.line.now a.place.column.now a.row.head.now (printable a.first.now)
-    a.row.middle.now (printable a.second.now) a.row.tail.now a.row.kind.now) x) w
+    subst (WritesOrFails _ _ _ _) (line_is a.place.path.now a.place.line.now a.place.column.now a.row.head.now (printable a.first.now)
+    a.row.middle.now (printable a.second.now) a.row.tail.now a.row.kind.now) w

@@ -1,15 +1,15 @@
-use Rattle.std.proofs.Common.{◌≡◌, ◌≤◌, ℕ, List, Option, length}
-use Rattle.std.specs.Io.KnownBytes.{Appends}
-use Rattle.al_base.specs.Counted.{AppendsPrefix}
+use Rattle.std.proofs.Common.{◌≤◌, length, Result}
 use Rattle.al_base.specs.Printable.{printable}
+use Rattle.al_base.specs.Streams.{WritesOrFails}
+use Rattle.al_base.specs.declared.stops.Stop.{Stop}
+use Rattle.al_base.specs.declared.streams.Output.{Output}
 use Rattle.al_text.proofs.printing.write_printable.Given as goal
 
 abbrev pub invariant-loop-at : goal.invariant-loop-at
 invariant-loop-at g l = record {
   shorter : length l.rest ≤ length l.text;
-  all : (b : Option (List ℕ)) → Appends (g.W.Write.contents l.writer.inner) b (printable l.rest) → Appends (g.W.Write.contents l.fn.writer.inner) b (printable l.text);
-  prefix : (b : Option (List ℕ)) → AppendsPrefix (g.W.Write.contents l.writer.inner) b (printable l.rest) → AppendsPrefix (g.W.Write.contents l.fn.writer.inner) b (printable l.text);
-  unfailed : l.writer.failures ≡ l.fn.writer.failures;
+  goes_on : (new : Output g.row.W.Denot) (r : Result (Unit {0}) Stop) → WritesOrFails g.W.Write.contents l.writer new r (printable l.rest)
+      → WritesOrFails g.W.Write.contents l.fn.writer new r (printable l.text);
 }
 
 abbrev pub decreases-loop-at : goal.decreases-loop-at
