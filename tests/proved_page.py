@@ -24,7 +24,7 @@ LAWS = re.compile(r"^impl Lint for Actions \{(.*?)^\}", re.DOTALL | re.MULTILINE
 CLAUSE = re.compile(r"\b(?:ensures|ghost) (\w+) (?:\{|=)")
 RECORD = re.compile(r"^pub record (\w+).*? where\n((?:  [^\n]*\n)+)", re.DOTALL | re.MULTILINE)
 FIELD = re.compile(r"^  pub (\w+) :", re.MULTILINE)
-CITED = re.compile(r"\bensures \w+ \{ (\w+)\b")
+CITED = re.compile(r"\bensures (?:\w+ )?\{ (\w+)\b")
 NAME = re.compile(r"`(?:\w+::)?([\w ]+)`")
 CLAUSES = re.compile(r" \((`\w+`(?:, `\w+`)*)\)")
 LOGIC = re.compile(r"\blogic ([0-9a-f]{16})\b")
@@ -74,10 +74,10 @@ def rows_of(page):
     return found
 
 
-def wrong_in(crate, rows):
-    """What a crate's rows say that isn't so."""
+def wrong_in(crate, rows, definitions):
+    """What a crate's rows say that isn't so, given the definitions of all crates."""
     source = sources(crate)
-    there, clauses_of = items_of(source), contracts(source, sources(crate, "specs/**/*.antt"))
+    there, clauses_of = items_of(source), contracts(source, definitions)
     for items, text in rows:
         clauses = {it for names in CLAUSES.findall(items) for it in re.findall(r"\w+", names)}
         names = [it.split("::")[-1] for it in re.findall(r"`([\w:]+)`", CLAUSES.sub("", items))]
@@ -92,7 +92,8 @@ def differences(top):
     page = (top / "docs/PROVED.md").read_text(encoding="utf-8")
     rows = ROW.findall(page[: page.index("## Crate by crate")])
     crates = sorted((top / "crates").glob("al_*"))
-    known = contracts(*("\n".join(sources(it, files) for it in crates) for files in ("src/**/*.rt", "specs/**/*.antt")))
+    source, definitions = ("\n".join(sources(it, files) for it in crates) for files in ("src/**/*.rt", "specs/**/*.antt"))
+    known = contracts(source, definitions)
     found = [it for _, _, named in rows for it in missing(named, known)]
     numbered = [(number, promise) for number, promise, _ in rows if number]
     readme = (top / "README.md").read_text(encoding="utf-8").partition("## What it promises")[2].partition("\n## ")[0]
@@ -102,7 +103,7 @@ def differences(top):
     wanted = {it for it in all_below(built, PROGRAM) if it != PROGRAM} | {"toy"}
     found += [f"no row of {it}" for it in sorted(wanted - set(listed))]
     found += [f"no crate {it}" for it in sorted(set(listed) - set(built))]
-    found += [f"{name}: {it}" for name, of_crate in listed.items() for it in wrong_in(top / "crates" / name, of_crate)]
+    found += [f"{name}: {it}" for name, of_crate in listed.items() for it in wrong_in(top / "crates" / name, of_crate, definitions)]
     if shutil.which("rt"):
         version = subprocess.run(["rt", "version"], capture_output=True, text=True, check=True).stdout.strip()
         found += [] if LOGIC.findall(page) == LOGIC.findall(version) != [] else [f"what is trusted is {version}"]
