@@ -15,7 +15,7 @@ ghost use Rattle.al_expr_grammar.specs.Private.TextTails.{tail_from};
 ghost use Rattle.al_expr_grammar.specs.Refusal.{fault_of_lexed};
 
 use crate::faults::{plain_fault, unclosed_text};
-use crate::number::{digit, number};
+use crate::number::{is_digit, number_len};
 use crate::token::{Keyword, Operator, Token, TokenKind};
 use al_base::{ExpressionCode, Fault, Span};
 use std::alloc::{AllocError, Global};
@@ -42,28 +42,28 @@ enum LexError {
 }
 
 /// Whether a byte separates tokens: a blank or a part of a break.
-fn blank(b: u8) -> bool
+fn is_blank(b: u8) -> bool
     ensures { result ≡ is_blank_byte b }
 {
     b == b' ' || b == b'\t' || b == b'\n' || b == b'\r'
 }
 
-fn sign(b: u8) -> bool
+fn is_sign(b: u8) -> bool
     ensures { result ≡ is_sign b }
 {
     b == b'+' || b == b'-'
 }
 
-fn name_start(b: u8) -> bool
+fn begins_name(b: u8) -> bool
     ensures { result ≡ begins_name b }
 {
     (b'A' <= b && b <= b'Z') || (b'a' <= b && b <= b'z') || b == b'_'
 }
 
-fn name_part(b: u8) -> bool
+fn continues_name(b: u8) -> bool
     ensures { result ≡ goes_on_name b }
 {
-    name_start(b) || digit(b) || b == b'-'
+    begins_name(b) || is_digit(b) || b == b'-'
 }
 
 /// The length of the name at the front.
@@ -71,7 +71,7 @@ fn name_len(bytes: &[u8]) -> usize
     ensures value { result ≡ prefix_len goes_on_name bytes.now }
     ensures within { result ≤ length bytes.now }
 {
-    bytes.iter().take_while(|b| name_part(**b)).count()
+    bytes.iter().take_while(|b| continues_name(**b)).count()
 }
 
 /// The number of bytes at the front that continue a character.
@@ -155,7 +155,7 @@ fn name_at(bytes: &[u8]) -> Read
 fn number_at(bytes: &[u8]) -> Read
     ensures { result ≡ number_read (number_len bytes.now) }
 {
-    match number(bytes) {
+    match number_len(bytes) {
         0 => Read::BadCharacter,
         len => Read::Token(TokenKind::Number, len),
     }
@@ -189,13 +189,13 @@ fn read_at(bytes: &[u8]) -> Read
     let Some((first, rest)) = split(bytes) else {
         return Read::BadCharacter;
     };
-    if blank(first) {
+    if is_blank(first) {
         Read::Blank
-    } else if name_start(first) {
+    } else if begins_name(first) {
         name_at(bytes)
     } else if first == b'\'' {
         text_at(rest)
-    } else if digit(first) || sign(first) {
+    } else if is_digit(first) || is_sign(first) {
         number_at(bytes)
     } else {
         mark_at(bytes)

@@ -7,37 +7,37 @@ ghost use Rattle.al_expr_grammar.specs.Tokens.{with_digits, fraction_len, expone
 ghost use Rattle.al_expr_grammar.specs.Tokens.{unsigned_len, number_len};
 
 /// Whether a byte is a decimal digit.
-pub fn digit(b: u8) -> bool
+pub fn is_digit(b: u8) -> bool
     ensures { result ≡ is_ascii_digit b }
 {
     b'0' <= b && b <= b'9'
 }
 
 /// Whether a byte is a hexadecimal digit, of either case.
-fn hex_digit(b: u8) -> bool
+fn is_hex_digit(b: u8) -> bool
     ensures { result ≡ is_ascii_hexdigit b }
 {
-    digit(b) || (b'A' <= b && b <= b'F') || (b'a' <= b && b <= b'f')
+    is_digit(b) || (b'A' <= b && b <= b'F') || (b'a' <= b && b <= b'f')
 }
 
 /// The number of digits at the front.
-fn digits(bytes: &[u8]) -> usize
+fn digits_len(bytes: &[u8]) -> usize
     ensures value { result ≡ prefix_len is_ascii_digit bytes.now }
     ensures within { result ≤ length bytes.now }
 {
-    bytes.iter().take_while(|b| digit(**b)).count()
+    bytes.iter().take_while(|b| is_digit(**b)).count()
 }
 
 /// The number of hexadecimal digits at the front.
-fn hex_digits(bytes: &[u8]) -> usize
+fn hex_digits_len(bytes: &[u8]) -> usize
     ensures value { result ≡ prefix_len is_ascii_hexdigit bytes.now }
     ensures within { result ≤ length bytes.now }
 {
-    bytes.iter().take_while(|b| hex_digit(**b)).count()
+    bytes.iter().take_while(|b| is_hex_digit(**b)).count()
 }
 
 /// The length of a part that needs at least one digit: this many bytes, then digits.
-fn with(lead: usize, digits: usize) -> usize
+fn with_digits(lead: usize, digits: usize) -> usize
     requires { lead + digits < 2 ^ 64 }
     ensures { result ≡ with_digits lead digits }
 {
@@ -45,70 +45,70 @@ fn with(lead: usize, digits: usize) -> usize
 }
 
 /// The length of a dot with digits at the front, or 0.
-fn fraction(bytes: &[u8]) -> usize
+fn fraction_len(bytes: &[u8]) -> usize
     ensures value { result ≡ fraction_len bytes.now }
     ensures within { result ≤ length bytes.now }
 {
     match bytes {
-        [b'.', rest @ ..] => with(1, digits(rest)),
+        [b'.', rest @ ..] => with_digits(1, digits_len(rest)),
         _ => 0,
     }
 }
 
 /// The length of an exponent at the front, or 0.
-fn exponent(bytes: &[u8]) -> usize
+fn exponent_len(bytes: &[u8]) -> usize
     ensures value { result ≡ exponent_len bytes.now }
     ensures within { result ≤ length bytes.now }
 {
     match bytes {
         [b'e' | b'E', rest @ ..] => match rest {
-            [b'+' | b'-', rest @ ..] => with(2, digits(rest)),
-            _ => with(1, digits(rest)),
+            [b'+' | b'-', rest @ ..] => with_digits(2, digits_len(rest)),
+            _ => with_digits(1, digits_len(rest)),
         },
         _ => 0,
     }
 }
 
 /// The length of a hexadecimal number at the front, or 0.
-fn hexadecimal(bytes: &[u8]) -> usize
+fn hex_len(bytes: &[u8]) -> usize
     ensures value { result ≡ hex_len bytes.now }
     ensures within { result ≤ length bytes.now }
 {
     match bytes {
-        [b'0', b'x', rest @ ..] => with(2, hex_digits(rest)),
+        [b'0', b'x', rest @ ..] => with_digits(2, hex_digits_len(rest)),
         _ => 0,
     }
 }
 
 /// The length of a decimal number at the front, or 0.
-fn decimal(bytes: &[u8]) -> usize
+fn decimal_len(bytes: &[u8]) -> usize
     ensures value { result ≡ decimal_len bytes.now }
     ensures within { result ≤ length bytes.now }
 {
-    let whole = digits(bytes);
+    let whole = digits_len(bytes);
     if whole == 0 {
         return 0;
     }
     let rest = &bytes[whole..];
-    let part = fraction(rest);
-    whole + part + exponent(&rest[part..])
+    let part = fraction_len(rest);
+    whole + part + exponent_len(&rest[part..])
 }
 
 /// The length of a number without a sign at the front, or 0.
-fn unsigned(bytes: &[u8]) -> usize
+fn unsigned_len(bytes: &[u8]) -> usize
     ensures value { result ≡ unsigned_len bytes.now }
     ensures within { result ≤ length bytes.now }
 {
-    hexadecimal(bytes).max(decimal(bytes))
+    hex_len(bytes).max(decimal_len(bytes))
 }
 
 /// The length of the longest number at the front, or 0 if there is none.
-pub fn number(bytes: &[u8]) -> usize
+pub fn number_len(bytes: &[u8]) -> usize
     ensures value { result ≡ number_len bytes.now }
     ensures within { result ≤ length bytes.now }
 {
     match bytes {
-        [b'+' | b'-', rest @ ..] => with(1, unsigned(rest)),
-        _ => unsigned(bytes),
+        [b'+' | b'-', rest @ ..] => with_digits(1, unsigned_len(rest)),
+        _ => unsigned_len(bytes),
     }
 }

@@ -121,7 +121,7 @@ fn with_operands<'a>(
 }
 
 /// The first token, which must be of this kind, and the rest.
-fn past<'t, 'a>(
+fn expect<'t, 'a>(
     tokens: &'t [Token<'a>],
     kind: TokenKind,
 ) -> Result<(Token<'a>, &'t [Token<'a>]), ParseError>
@@ -162,7 +162,7 @@ fn operator<'t, 'a>(
 }
 
 /// The first token, if it is of this kind, and the rest.
-fn after<'t, 'a>(tokens: &'t [Token<'a>], kind: TokenKind) -> Option<(Token<'a>, &'t [Token<'a>])>
+fn accept<'t, 'a>(tokens: &'t [Token<'a>], kind: TokenKind) -> Option<(Token<'a>, &'t [Token<'a>])>
     ensures { MatchOption result
         ((rest : List TokenKind) → kinds (map seen tokens.now) ≢ kind ∷ rest)
         (λ x. (map seen tokens.now ≡ seen x.0 ∷ map seen x.1.now) × (kind_of (seen x.0) ≡ kind)) }
@@ -225,7 +225,7 @@ fn primary<'t, 'a>(
         TokenKind::Number => Ok((Expr::Number(word(first)), rest)),
         TokenKind::Text => Ok((Expr::Text(word(first)), rest)),
         TokenKind::Open => group(alloc, first, rest, room),
-        TokenKind::Name => match after(rest, TokenKind::Open) {
+        TokenKind::Name => match accept(rest, TokenKind::Open) {
             Some((bracket, inner)) => call(alloc, first, bracket, inner, room),
             None => Ok((Expr::Name(word(first)), rest)),
         },
@@ -246,7 +246,7 @@ fn group<'t, 'a>(
 {
     let inner = deeper(room, tokens.len() + 1)?;
     let (expr, left) = binary(alloc, LOOSEST, tokens, inner)?;
-    let (close, rest) = past(left, TokenKind::Close)?;
+    let (close, rest) = expect(left, TokenKind::Close)?;
     Ok((
         Expr::Group(Box::new(alloc, expr)?, bracket.span, close.span),
         rest,
@@ -269,11 +269,11 @@ fn call<'t, 'a>(
 {
     let inner = deeper(room, tokens.len() + 1)?;
     let function = word(name);
-    if let Some((close, rest)) = after(tokens, TokenKind::Close) {
+    if let Some((close, rest)) = accept(tokens, TokenKind::Close) {
         return Ok((Expr::Call(function, Vec::new(alloc), close.span), rest));
     }
     let (given, left) = arguments(alloc, tokens, inner)?;
-    let (close, rest) = past(left, TokenKind::Close)?;
+    let (close, rest) = expect(left, TokenKind::Close)?;
     Ok((Expr::Call(function, given, close.span), rest))
 }
 
@@ -292,7 +292,7 @@ fn arguments<'t, 'a>(
     let (first, mut left) = binary(alloc, LOOSEST, tokens, room)?;
     let mut given = Vec::new(alloc);
     given.push(first)?;
-    'list: while let Some((_, next)) = after(left, TokenKind::Comma) {
+    'list: while let Some((_, next)) = accept(left, TokenKind::Comma) {
         let (argument, rest) = binary(alloc, LOOSEST, next, room)?;
         given.push(argument)?;
         left = rest;
@@ -352,12 +352,12 @@ fn index<'t, 'a>(
     ensures { ParsesStep room (seen bracket.entry ∷ map seen tokens.now) result }
 {
     let inner = deeper(room, tokens.len() + 1)?;
-    if let Some((_, left)) = after(tokens, TokenKind::Star) {
-        let (close, rest) = past(left, TokenKind::CloseIndex)?;
+    if let Some((_, left)) = accept(tokens, TokenKind::Star) {
+        let (close, rest) = expect(left, TokenKind::CloseIndex)?;
         return Ok((PathStep::All(bracket.span, close.span), rest));
     }
     let (expr, left) = binary(alloc, LOOSEST, tokens, inner)?;
-    let (close, rest) = past(left, TokenKind::CloseIndex)?;
+    let (close, rest) = expect(left, TokenKind::CloseIndex)?;
     Ok((PathStep::Index(bracket.span, expr, close.span), rest))
 }
 
@@ -370,7 +370,7 @@ fn unary<'t, 'a>(
 ) -> Result<(Expr<'a>, &'t [Token<'a>]), ParseError>
     ensures { Parses Unary room (map seen tokens.now) result }
 {
-    let Some((bang, inner)) = after(tokens, TokenKind::Bang) else {
+    let Some((bang, inner)) = accept(tokens, TokenKind::Bang) else {
         return postfix(alloc, tokens, room);
     };
     let within = deeper(room, tokens.len())?;

@@ -15,8 +15,8 @@ primary-returns-in_default t c = rw c.in_default.ensures (λ k st a h. refl)
 pub primary-returns-in-Open : goal.primary-returns-in-Open
 primary-returns-in-Open t c = rw c.in-Some.ensures c.group.ensures
 
-pub primary-returns-in-Some-after : goal.primary-returns-in-Some-after
-primary-returns-in-Some-after t c = rw (c.in-Some.ensures, c.in-Some-after.ensures.0) c.call.ensures
+pub primary-returns-in-Some-accept : goal.primary-returns-in-Some-accept
+primary-returns-in-Some-accept t c = rw (c.in-Some.ensures, c.in-Some-accept.ensures.0) c.call.ensures
 
 pub primary-returns-in-Keyword : goal.primary-returns-in-Keyword
 primary-returns-in-Keyword t c = rw (c.in-Some.ensures, c.in-Keyword.is, tree_of-Keyword) (constant_read _ _ _ _ _)
