@@ -9,6 +9,11 @@ use Rattle.al_base.specs.declared.stops.Stop.{Stop}
 use Rattle.al_base.specs.declared.streams.Output.{Output}
 use Rattle.al_base.proofs.Bytes.{AppendsPrefix-after, AppendsPrefix-part, AppendsPrefix-wider}
 
+-- A call that succeeds after all of xs.
+pub succeeds : {W T : Type 0} (contents : W → Option (List ℕ)) (old new : Output W) (x : T) (xs : List ℕ)
+    → Writes contents old new xs → write_failures new ≡ write_failures old → WritesOrFails contents old new (Ok x) xs
+succeeds contents old new x xs all unfailed = record { all = all; prefix = tt; failures = unfailed; failed = tt; err = tt }
+
 -- A failure before all of xs ++ ys, returned by the caller.
 pub fails_early : {W T U : Type 0} (contents : W → Option (List ℕ)) (old new : Output W) (r : Result U Stop) (e : Stop) (xs ys : List ℕ) → IsErrAnd r (λ y. y ≡ e)
     → WritesOrFails {T = T} contents old new (Err e) xs → WritesOrFails contents old new r (xs ++ ys)

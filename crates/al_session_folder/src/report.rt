@@ -1,10 +1,8 @@
 //! What a report prints of a folder's files.
 
-ghost use Rattle.std.specs.Prelude.{◌≡◌, not, length, ◌==◌, OnOk, OnErr, IsOkUnless};
+ghost use Rattle.std.specs.Prelude.{◌≡◌, not, length, ◌==◌};
 ghost use Rattle.std.specs.List.{enumerate_from, flat_map, list_any};
-ghost use Rattle.std.specs.Io.KnownBytes.{Appends};
-ghost use Rattle.al_base.specs.Counted.{HasRisen, AppendsPrefix};
-ghost use Rattle.al_base.specs.Streams.{bytes_written, write_failures};
+ghost use Rattle.al_base.specs.Streams.{WritesOrFails};
 ghost use Rattle.al_session_folder.specs.Kept.{folder_of, referents};
 ghost use Rattle.al_session_folder.specs.Printing.{AreListed, ArePrintable, IsPrintable, lines_of, joined_or_own, numbered_lines};
 
@@ -47,18 +45,9 @@ pub fn write_files<L: Lint, W: Write>(
 ) -> Result<(), Stop>
     requires listed { AreListed L.meaning files.now.entries joined.now }
     requires printable { ArePrintable L.meaning files.now.entries }
-    ensures all { OnOk result
-        (Appends (bytes_written W.contents writer.old) (bytes_written W.contents writer.new)
+    ensures { WritesOrFails W.contents writer.old writer.new result
         (flat_map (numbered_lines oneline L.meaning (folder_of files.now.entries))
-        (enumerate_from 0 files.now.entries))) }
-    ensures prefix { OnErr result
-        (AppendsPrefix (bytes_written W.contents writer.old) (bytes_written W.contents writer.new)
-        (flat_map (numbered_lines oneline L.meaning (folder_of files.now.entries))
-        (enumerate_from 0 files.now.entries))) }
-    ensures failures { OnOk result (write_failures writer.new ≡ write_failures writer.old) }
-    ensures failed { OnErr result
-        (HasRisen (write_failures writer.old) (write_failures writer.new)) }
-    ensures err { IsOkUnless result Stop.WriteFault }
+        (enumerate_from 0 files.now.entries)) }
 {
     for index in 0..files.len() {
         let (path, file) = file_number(files, index);
@@ -87,18 +76,9 @@ fn write_file<U, I, W: Write>(
     joined: &[&Fault],
 ) -> Result<(), Stop>
     requires { IsPrintable listing.now.file.now (joined_or_own listing.now.file.now joined.now) }
-    ensures all { OnOk result
-        (Appends (bytes_written W.contents writer.old) (bytes_written W.contents writer.new)
+    ensures { WritesOrFails W.contents writer.old writer.new result
         (lines_of listing.now.oneline listing.now.path.now listing.now.file.now
-        (joined_or_own listing.now.file.now joined.now))) }
-    ensures prefix { OnErr result
-        (AppendsPrefix (bytes_written W.contents writer.old) (bytes_written W.contents writer.new)
-        (lines_of listing.now.oneline listing.now.path.now listing.now.file.now
-        (joined_or_own listing.now.file.now joined.now))) }
-    ensures failures { OnOk result (write_failures writer.new ≡ write_failures writer.old) }
-    ensures failed { OnErr result
-        (HasRisen (write_failures writer.old) (write_failures writer.new)) }
-    ensures err { IsOkUnless result Stop.WriteFault }
+        (joined_or_own listing.now.file.now joined.now)) }
 {
     if !joined.is_empty() {
         return write_referred(writer, listing, joined);
@@ -121,18 +101,9 @@ fn write_referred<U, I, W: Write>(
     faults: &[&Fault],
 ) -> Result<(), Stop>
     requires { IsPrintable listing.now.file.now (referents faults.now) }
-    ensures all { OnOk result
-        (Appends (bytes_written W.contents writer.old) (bytes_written W.contents writer.new)
+    ensures { WritesOrFails W.contents writer.old writer.new result
         (lines_of listing.now.oneline listing.now.path.now listing.now.file.now
-        (referents faults.now))) }
-    ensures prefix { OnErr result
-        (AppendsPrefix (bytes_written W.contents writer.old) (bytes_written W.contents writer.new)
-        (lines_of listing.now.oneline listing.now.path.now listing.now.file.now
-        (referents faults.now))) }
-    ensures failures { OnOk result (write_failures writer.new ≡ write_failures writer.old) }
-    ensures failed { OnErr result
-        (HasRisen (write_failures writer.old) (write_failures writer.new)) }
-    ensures err { IsOkUnless result Stop.WriteFault }
+        (referents faults.now)) }
 {
     let bytes = listing.file.bytes.as_slice();
     let mut at = 0;

@@ -1,10 +1,10 @@
 use Rattle.std.proofs.Common.{arith, ◌∙◌, length}
 use Rattle.std.proofs.lemmas.List.{take_all}
 use Rattle.std.proofs.lemmas.List.Folds.{flat_map-map}
-use Rattle.std.proofs.lemmas.Result.{err_from_is_err_and}
 use Rattle.al_base.specs.declared.faults.Fault.{Fault}
 use Rattle.al_base.specs.Spans.{LiesIn}
-use Rattle.al_base.proofs.Bytes.{Appends-next, AppendsPrefix-next}
+use Rattle.al_base.proofs.Bytes.{Appends-next}
+use Rattle.al_base.proofs.Writing.{fails_in_element, succeeds}
 use Rattle.al_text.specs.Snippets.{fault_text}
 use Rattle.al_session_folder.proofs.ListedFaults.{all-referred}
 use Rattle.al_session_folder.proofs.report.write_referred.Goals as goal
@@ -22,13 +22,12 @@ write_fault_at-requires-clause-within g c =
     (rw (← c.as_slice-bytes.ensures.value) at c.requires.inside)
     (omega (arith, c.loop-fault-test.true)) c.fault-item.is
 
-pub returns-in_err-write_fault_at-clause-prefix : goal.returns-in_err-write_fault_at-clause-prefix
-returns-in_err-write_fault_at-clause-prefix g c =
-    let p = err_from_is_err_and c.from_residual.result c.from_residual.ensures.1 in
-    let so_far = AppendsPrefix-next (λ r. fault_text c.args.listing.now.oneline c.args.listing.now.path.now c.as_slice-bytes.result.now r.now) c.args.faults.now c.loop-fault.fault-index
-    c.fault-item.result (omega (arith, c.loop-fault-test.true)) c.fault-item.is _ _ _ c.loop-fault.invariant.appended
-    c.in_err-write_fault_at.ensures.prefix in
-    rw (p.1, ← c.as_slice-bytes.ensures.value, flat_map-map (fault_text c.args.listing.now.oneline c.args.listing.now.path.now c.as_slice-bytes.result.now) _ c.args.faults.now) so_far
+pub returns-in_err-write_fault_at : goal.returns-in_err-write_fault_at
+returns-in_err-write_fault_at g c =
+    let text = fault_text c.args.listing.now.oneline c.args.listing.now.path.now c.as_slice-bytes.result.now in
+    rw (← c.as_slice-bytes.ensures.value, flat_map-map text _ c.args.faults.now)
+    (fails_in_element _ _ _ _ (λ r. text r.now) c.args.faults.now c.loop-fault.fault-index c.fault-item.result (omega (arith, c.loop-fault-test.true)) c.fault-item.is
+    c.loop-fault.invariant.appended c.loop-fault.invariant.unfailed _ _ c.from_residual.ensures.1 c.in_err-write_fault_at.ensures)
 
 pub loop-fault-preserved : goal.loop-fault-preserved
 loop-fault-preserved g c = record {
@@ -41,8 +40,8 @@ loop-fault-preserved g c = record {
   start = c.location_after-location.ensures.start;
 }
 
-pub returns-clause-all : goal.returns-clause-all
-returns-clause-all g c =
+pub returns : goal.returns
+returns g c =
     let whole = take_all c.loop-fault.fault-index c.args.faults.now (omega (arith, c.loop-fault-test.false)) in
-    rw (← c.as_slice-bytes.ensures.value, flat_map-map (fault_text c.args.listing.now.oneline c.args.listing.now.path.now c.as_slice-bytes.result.now) _ c.args.faults.now)
-    (rw whole at c.loop-fault.invariant.appended)
+    let text = fault_text c.args.listing.now.oneline c.args.listing.now.path.now c.as_slice-bytes.result.now in
+    rw (← c.as_slice-bytes.ensures.value, flat_map-map text _ c.args.faults.now) (succeeds _ _ _ _ _ (rw whole at c.loop-fault.invariant.appended) c.loop-fault.invariant.unfailed)
