@@ -16,7 +16,7 @@ from pathlib import Path
 from cases import Cases
 from clones_and_releases import PATH
 from editor import Editor
-from repositories import ACTION, CLIENTS, FILE, FILES, UNDEFINED, write
+from repositories import ACTION, CLIENTS, FILE, FILES, TOP, UNDEFINED, write
 
 CASES = Cases("lookup")
 WHERE = "--program or the variable ACTIONLINT names the linter"
@@ -123,6 +123,15 @@ def names(_: str) -> None:
     done = subprocess.run([link], stdout=subprocess.PIPE, env=tree.environment, text=True, check=True)
     assert done.stdout == f"{tree.room}/a prefix/bin/actionlint\n", done.stdout
     tree.remove()
+
+
+@CASES.case
+def its_own_tests(_: str) -> None:
+    """`clients/test` asks the finder beside it, wherever CDPATH leads."""
+    done = subprocess.run(["clients/test", "/nowhere"], cwd=TOP, env={**os.environ, "CDPATH": "."}, stdout=subprocess.PIPE,
+                          stderr=subprocess.PIPE, text=True, check=False)
+    said = f"cannot start /nowhere: there is no such program; {WHERE}\n"
+    assert (done.returncode, done.stdout, done.stderr) == (3, "", said), done
 
 
 @CASES.case
