@@ -197,6 +197,9 @@ def test_prebuilt(copy):
     expect("built-goes-before-carried", copy.run("x"), out="built x\n", calls=[], err="")
     copy.forget()
     expect("carried-is-run", copy.run("x"), status=0, out="carried x\n", calls=["version"], err=is_a_line_with("--build-anew"))
+    for name, where in (("closed", "2>&-"), ("full", "2> /dev/full")):
+        words = ["-c", f'"$0" x {where}', touched(copy)]
+        expect(f"carried-is-run-with-errors-{name}", copy.run(*words, by="sh"), status=0, out="carried x\n", calls=["version"], err="")
     expect("carried-is-run-at-once", copy.run("x"), status=0, out="carried x\n", calls=[], err="")
     os.utime(copy.source())
     expect("same-bytes-still-fit", copy.run("x"), out="carried x\n", calls=["version"])

@@ -17,7 +17,8 @@ esac
 why="no program was built from these sources"
 news=
 
-say() { printf 'actionlint: %s\n' "$1" >&2; }
+# Tells the user something, if standard error takes it.
+say() { printf 'actionlint: %s\n' "$1" >&2 || :; }
 
 has() { command -v "$1" > /dev/null; }
 

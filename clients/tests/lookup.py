@@ -251,6 +251,10 @@ def options_of_the_server(program: str) -> None:
     assert run("--version")[:2] == (0, "actionlint-lsp without a version\n"), run("--version")
     status, said, errors = run()
     assert (status, said) == (3, "") and "apt-get install python3-pylsp-jsonrpc python3-yaml" in errors and errors.count("\n") == 1, errors
+    for word in ("--help", "--version"):
+        done = subprocess.run(["sh", "-c", 'exec "$@" > /dev/full', "sh", server, word], stderr=subprocess.PIPE, text=True, check=False)
+        said = "actionlint-lsp: cannot write standard output: No space left on device\n"
+        assert (done.returncode, done.stderr) == (3, said), done
     for seconds in ("0", "-1", "nan", "inf", "x"):
         status, said, errors = run(f"--timeout={seconds}")
         assert (status, said) == (2, "") and "argument --timeout" in errors, (seconds, errors)

@@ -143,6 +143,16 @@ def the_editor_is_gone(program: str) -> None:
 
 
 @CASES.case
+def closed_streams(program: str) -> None:
+    """A server that has no editor says so in one line."""
+    for where in ("<&-", ">&-"):
+        done = subprocess.run(["sh", "-c", f'exec "$@" {where}', "sh", sys.executable, str(SERVER), "--program", program],
+                              stdin=subprocess.DEVNULL, stdout=subprocess.PIPE, stderr=subprocess.PIPE, text=True, check=False)
+        said = "actionlint-lsp: standard input or standard output is closed\n"
+        assert (done.returncode, done.stdout, done.stderr) == (3, "", said), (where, done)
+
+
+@CASES.case
 def an_editor_that_reads_nothing(program: str) -> None:
     """A message that can't be sent doesn't end the server before its input does."""
     reading, writing = os.pipe()

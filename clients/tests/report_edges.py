@@ -170,14 +170,32 @@ def odd_files_to_write(program: str) -> None:
                 assert opened.read() == "old"
 
 
+def redirected(program: str, folder: str, where: str, words: list[str]) -> tuple[int, str, str]:
+    """The status and both streams of actionlint-report, of which a shell has redirected some."""
+    done = subprocess.run(["sh", "-c", f'exec "$@" {where}', "sh", sys.executable, REPORT, "--program", program, *words], cwd=folder,
+                          stdout=subprocess.PIPE, stderr=subprocess.PIPE, text=True, check=False)
+    return done.returncode, done.stdout, done.stderr
+
+
 @CASES.case
-def closed_output(program: str) -> None:
-    """A report that nobody can read isn't lost silently."""
+def closed_or_full_output(program: str) -> None:
+    """What nobody can read isn't lost silently."""
     with new_folder(FILES) as folder:
-        for words in (["--form", "text"], ["--form", "jsonl"], ["--explain", "K1"]):
-            done = subprocess.run(["sh", "-c", 'exec "$@" >&-', "sh", sys.executable, REPORT, "--program", program, *words], cwd=folder,
-                                  stderr=subprocess.PIPE, text=True, check=False)
-            assert (done.returncode, done.stderr) == (3, "actionlint-report: cannot write standard output: Bad file descriptor\n"), done
+        for words in (["--form", "text"], ["--form", "jsonl"], ["--explain", "K1"], ["--help"], ["--version"]):
+            for where, why in ((">&-", "Bad file descriptor"), ("> /dev/full", "No space left on device")):
+                said = f"actionlint-report: cannot write standard output: {why}\n"
+                assert redirected(program, folder, where, words) == (3, "", said), (where, words)
+            assert redirected(program, folder, ">&- 2>&-", words) == (3, "", ""), words
+
+
+@CASES.case
+def closed_or_full_errors(program: str) -> None:
+    """Standard error that takes nothing changes neither the report nor the status."""
+    with new_folder(FILES) as folder:
+        for words in (["--form", "jsonl", "--ignore", "K1"], ["--form", "jsonl", "--ignore", "X13"], ["no.yml"], ["--bogus"], ["--out", "x"]):
+            status, text, _ = run(program, folder, *words)
+            for where in ("2>&-", "2> /dev/full", "<&- 2>&-"):
+                assert redirected(program, folder, where, words) == (status, text, ""), (where, words)
 
 
 @CASES.case
