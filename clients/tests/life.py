@@ -11,8 +11,11 @@ import shutil
 import sys
 import tempfile
 import time
+import traceback
+from typing import Callable
 
 from cases import Cases
+from clones_and_releases import NOBODY
 from editor import Editor, children
 from promises import end, save, start
 from repositories import ACTION, CALLED, FILE, FILES, RIGHT, UNDEFINED, WORKFLOWS, WRONG, write
@@ -264,6 +267,58 @@ def pipes_and_devices(program: str) -> None:
     assert editor.texts("pipe/action.yml") == [NOT_REGULAR], editor.diagnostics()
     assert set(editor.diagnostics()) == {FILE, CALLED, "pipe/action.yml"}, editor.diagnostics()
     end(editor)
+
+
+@CASES.case
+def what_may_not_be_read(_: str) -> None:
+    """What the linter can't read is unreadable here too, and a link out of the folder is skipped whether or not it can be followed."""
+    with tempfile.TemporaryDirectory(prefix="actionlint-test-") as top:
+        root = top + "/folder"
+        listed, outside = WORKFLOWS + "b.yml", WORKFLOWS + "c.yml"
+        write(root, {FILE: RIGHT, listed: RIGHT, ACTION: FILES[ACTION]})
+        write(top, {"hidden/c.yml": RIGHT, "closed.yml": RIGHT, "other/.github/workflows/a.yml": RIGHT})
+        link(os.fsencode(root), outside, top + "/hidden/c.yml")
+        link(os.fsencode(root), "out/action.yml", top + "/closed.yml")
+        os.chmod(top, 0o755)
+        for closed in (f"{root}/{listed}", root + "/a", top + "/hidden", top + "/closed.yml", top + "/other/.github/workflows"):
+            os.chmod(closed, 0)
+        as_nobody(lambda: check_unreadable(top, listed, outside))
+
+
+def check_unreadable(top: str, listed: str, outside: str) -> None:
+    said: list[str] = []
+    looked_at = Disk(os.fsencode(top + "/folder"), said.append)
+    looked_at.rescan()
+    assert looked_at.workflows == {FILE, listed, outside}, looked_at.workflows
+    assert looked_at.file(FILE).data == RIGHT.encode()
+    for path in (listed, ACTION, "a/action.yaml"):
+        assert looked_at.file(path).error == "cannot read this file: Permission denied", (path, looked_at.file(path))
+    for path in (outside, "out/action.yml"):
+        assert looked_at.file(path).is_outside and looked_at.file(path).error is None, (path, looked_at.file(path))
+    assert looked_at.file("out/action.yaml").error is None, "there is none"
+    assert len(said) == 2 and all(OUTSIDE in one for one in said), said
+    for _ in range(2):
+        Disk(os.fsencode(top + "/other"), said.append).rescan()
+    assert said[2:] == ["passed over, since it can't be listed (Permission denied): '.github/workflows'"] * 2, said
+
+
+def as_nobody(check: Callable[[], None]) -> None:
+    """Runs a check as a user who may not read everything, as root may."""
+    if os.geteuid():
+        check()
+        return
+    child = os.fork()
+    if child == 0:
+        try:
+            os.setgroups([])
+            os.setgid(NOBODY)
+            os.setuid(NOBODY)
+            check()
+            os._exit(0)
+        except BaseException:
+            traceback.print_exc()
+            os._exit(1)
+    assert os.waitpid(child, 0)[1] == 0, "see standard error"
 
 
 @CASES.case
