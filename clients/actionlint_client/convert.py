@@ -147,6 +147,8 @@ def _options(words: list[str]) -> argparse.Namespace:
     end = words.index("--") if "--" in words else len(words)
     options = parser.parse_intermixed_args(words[:end])
     options.files += words[end + 1:]
+    if options.out == "":
+        parser.error("argument --out: it names no file")
     options.program = find_program(options.program)
     options.docs = options.docs and options.docs.rstrip("/")
     return options
