@@ -238,6 +238,18 @@ def a_python_without_libyaml(program: str) -> None:
 
 
 @CASES.case
+def a_module_of_the_current_folder(program: str) -> None:
+    """Where PYTHONPATH puts one before a library, the library is found all the same. (The input is empty, so the server ends at once.)"""
+    tree = Tree()
+    write(str(tree.room), {"yaml.py": ""})
+    done = subprocess.run([sys.executable, tree.without(CLIENTS / "actionlint-lsp", (), sys.executable), "--program", program], cwd=tree.room,
+                          env={**os.environ, "PYTHONPATH": "."}, stdin=subprocess.DEVNULL, stdout=subprocess.PIPE, stderr=subprocess.PIPE,
+                          timeout=20, text=True, check=False)
+    assert (done.returncode, done.stdout, done.stderr) == (1, "", ""), done
+    tree.remove()
+
+
+@CASES.case
 def options_of_the_server(program: str) -> None:
     """Help and version need no library; without the libraries one line names their packages. An editor may say `--stdio`."""
     tree = Tree()
