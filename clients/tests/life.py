@@ -12,6 +12,7 @@ import sys
 import tempfile
 import time
 import traceback
+from types import SimpleNamespace
 from typing import Callable
 
 from cases import Cases
@@ -22,6 +23,7 @@ from repositories import ACTION, CALLED, FILE, FILES, RIGHT, UNDEFINED, WORKFLOW
 
 from actionlint_client.disk import NOT_REGULAR, OPENED, Disk
 from actionlint_client.uris import path_of
+from actionlint_client.workspace import Workspace
 
 CASES = Cases("life")
 OUTSIDE = "its real path is outside of the folder"
@@ -119,6 +121,18 @@ def many_descriptors(program: str) -> None:
     editor.settle()
     assert len(editor.diagnostics()) == 30 and not editor.messages, editor.messages
     end(editor)
+
+
+@CASES.case
+def the_first_pause_that_ends(_: str) -> None:
+    """Of the folders whose linters are paused, the one that may start first isn't kept waiting for the others."""
+    pauses = {b"/nowhere/a": 9.0, b"/nowhere/b": 0.5, b"/nowhere/c": 0.0}
+    workspace = Workspace(lambda root: SimpleNamespace(folder=SimpleNamespace(delay=lambda: pauses[root])),
+                          SimpleNamespace(watches=lambda: True), SimpleNamespace())
+    workspace.add_folders(list(pauses))
+    assert workspace.wait_seconds() == 0.5
+    pauses.update(dict.fromkeys(pauses, 0.0))
+    assert workspace.wait_seconds() is None
 
 
 @CASES.case
