@@ -209,7 +209,7 @@ def report(place: Place) -> None:
 
 @in_each_place(CASES)
 def many(place: Place) -> None:
-    names = [f"r{number}" for number in range(4)]
+    names = ["r0", "r 1 ", "it's", "-r", r"a\b"]
     files = {f"{name}/{path}": text for name in names for path, text in FILES.items()}
     with place.repository({**files, "folders.txt": "".join(name + "\n" for name in names)}) as room:
         assert run_lines(place, "many", room) == [123]
