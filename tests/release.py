@@ -131,6 +131,13 @@ def installed(folder, program, prefix, archived):
         [] if lines[:-1] == said else [f"it said {lines}"])
 
 
+def cloned_with_crlf(folder, room):
+    """A clone has the committed bytes where git would end each line with CRLF."""
+    wrong = failed(run(["git", "clone", "-q", "-c", "core.autocrlf=true", folder, room / "cloned"]))
+    here, there = ({name: it for name, it in files_of(it).items() if not name.startswith(".git/")} for it in (folder, room / "cloned"))
+    return wrong + ([] if here == there else [f"differing: {sorted(name for name in here if here[name] != there.get(name))[:5]}"])
+
+
 def from_a_hook(folder, program, archive):
     """By relative paths where CDPATH leads elsewhere, in a hook of another repository: the same archive."""
     room = folder.parent
@@ -208,6 +215,7 @@ def cases(program, room):
     other, wrong = made(second, program, room / "out-b")
     same = not wrong and archive.read_bytes() == other.read_bytes()
     yield "same-bytes-from-another-folder", wrong + ([] if same else ["the bytes differ"])
+    yield "clone-with-crlf", cloned_with_crlf(first, room)
     yield "from-a-hook", from_a_hook(first, program, archive)
     yield "checksum", failed(run(["sha256sum", "-c", f"{archive.name}.sha256"], cwd=archive.parent))
     yield "what-is-in-it", contents(archive)
