@@ -110,7 +110,7 @@ def steps_of_the_page(archive, room):
     (folder / WORKFLOWS / "actionlint.yml").write_text(block, encoding="utf-8")
     wrong = [] if steps else ["docs/CI.md shows no steps"]
     for step in steps:
-        wrong += failed(run(["bash", "-e", "-c", step], cwd=folder))
+        wrong += failed(run(["bash", "-e", "-c", step], cwd=folder, env=os.environ | {"status": "7"}))
     return wrong
 
 
