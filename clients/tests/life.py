@@ -21,6 +21,7 @@ from editor import Editor, children
 from promises import end, save, start
 from repositories import ACTION, CALLED, FILE, FILES, RIGHT, UNDEFINED, WORKFLOWS, WRONG, write
 
+from actionlint_client.actions_on_disk import actions_below
 from actionlint_client.disk import NOT_REGULAR, OPENED, Disk
 from actionlint_client.uris import path_of
 from actionlint_client.workspace import Workspace
@@ -281,6 +282,25 @@ def pipes_and_devices(program: str) -> None:
     assert editor.texts("pipe/action.yml") == [NOT_REGULAR], editor.diagnostics()
     assert set(editor.diagnostics()) == {FILE, CALLED, "pipe/action.yml"}, editor.diagnostics()
     end(editor)
+
+
+@CASES.case
+def actions_that_can_be_called(_: str) -> None:
+    """What is offered after `uses` are actions that the linter reads, by names that a call can have."""
+    with tempfile.TemporaryDirectory(prefix="actionlint-test-") as top:
+        names = ("a", "b c", "é", "it's", "back\\slash", "esc\x1b", "line\nfeed", "${{ x }}", "node_modules", ".hidden")
+        write(top + "/folder", {f"{name}/action.yml": "name: A\n" for name in names})
+        write(top, {"action.yml": "name: A\n"})
+        root = os.fsencode(top + "/folder")
+        os.makedirs(root + b"/\xff")
+        shutil.copy(root + b"/a/action.yml", root + b"/\xff/action.yml")
+        os.makedirs(root + b"/pipe")
+        os.mkfifo(root + b"/pipe/action.yml")
+        os.makedirs(root + b"/folder/action.yml")
+        for path, target in (("out", "../../action.yml"), ("loose", "nowhere"), ("link", "../a/action.yml")):
+            link(root, f"{path}/action.yml", target)
+        os.symlink("..", root + b"/a/above")
+        assert actions_below(root) == [f"{name}/action.yml" for name in ("a", "b c", "it's", "link", "é")], actions_below(root)
 
 
 @CASES.case
