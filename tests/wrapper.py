@@ -262,6 +262,9 @@ def test_missing_commands(copy):
     expect("carried-that-does-not-run", copy.run("x", PATH=both), status=3, out="", err=is_a_line_with("glibc 2.34"))
     expect("which-of-one-that-does-not-run", copy.run("--which", PATH=both), status=3, out="", err=is_a_line_with("glibc 2.34"))
     (copy.top / "prebuilt/actionlint").write_text(CARRIED)
+    (copy.top / "prebuilt/actionlint").chmod(0o644)
+    expect("carried-that-is-not-executable", copy.run("x", PATH=both), status=3, out="", err=is_a_line_with("isn't executable, as `chmod +x`"))
+    (copy.top / "prebuilt/actionlint").chmod(0o755)
     copy.source().write_text("// two\n")
     for name, path in (("python3", copy.without("python3")), ("rt", copy.without("rt")), ("python3 or rt", both)):
         said = is_a_line_with(f"would prove and build one, but there is no {name} on the PATH; prebuilt/actionlint can be run by its "

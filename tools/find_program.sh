@@ -71,6 +71,10 @@ kit_of_prebuilt() {
 
 # Whether the carried program fits. If not, `why` may say more. In a kit's identity, the words after the first one name the logic.
 prebuilt_fits() {
+  if [ -f "$top/$prebuilt" ] && ! [ -x "$top/$prebuilt" ]; then
+    why="$prebuilt isn't executable, as \`chmod +x\` makes it"
+    return 1
+  fi
   kit=$(kit_of_prebuilt 2> /dev/null) || return 1
   if has rt; then
     here=$(rt version)
