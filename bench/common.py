@@ -46,10 +46,13 @@ def run_seconds(command, data=b"", folder=None, output=subprocess.PIPE):
 
 
 def least_in_turns(runs, measures):
-    """The least answer of each measure in so many rounds. The measures take turns, so that all of them see the same load of the machine."""
+    """The least answer of each measure in so many rounds. The measures take turns, so that all of them see the same load of the machine,
+    and each round begins with the next one: what a run finds in caches depends on the one before it."""
     least = [float("inf")] * len(measures)
-    for _ in range(runs):
-        least = [min(before, measure()) for before, measure in zip(least, measures)]
+    for first in range(runs):
+        for turn in range(len(measures)):
+            which = (first + turn) % len(measures)
+            least[which] = min(least[which], measures[which]())
     return least
 
 

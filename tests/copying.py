@@ -4,17 +4,25 @@ import os
 import pathlib
 import shutil
 import subprocess
+import sys
 
 TOP = pathlib.Path(__file__).resolve().parent.parent
 COMMITTED = {"GIT_AUTHOR_DATE": "2026-01-02T03:04:05Z", "GIT_COMMITTER_DATE": "2026-01-02T03:04:05Z", "GIT_CONFIG_GLOBAL": "/dev/null"}
 AS = ["-c", "user.name=a", "-c", "user.email=a@example.com"]
 HASH = 'top=$0; . "$0/tools/find_program.sh"; sources=$(list_sources); hash_of_sources "$1"'
 
+# A test may run in a hook of git, which names its repository to each git below it. That of a test must not change it.
+for name in ("GIT_DIR", "GIT_WORK_TREE", "GIT_INDEX_FILE"):
+    os.environ.pop(name, None)
+
 
 def copy_files(folder, is_wanted=lambda name: True):
     """Copies the files that git knows or would take, those that are wanted by their path from the top."""
     given = ["git", "-C", TOP, "ls-files", "-z", "--cached", "--others", "--exclude-standard"]
-    names = subprocess.run(given, capture_output=True, check=True).stdout.decode().split("\0")
+    listed = subprocess.run(given, capture_output=True, check=False)
+    if listed.returncode:
+        sys.exit(f"a copy takes the files that git knows, and git says: {listed.stderr.decode()}")
+    names = listed.stdout.decode().split("\0")
     for name in filter(None, names):
         if is_wanted(name) and (TOP / name).is_file():
             (folder / name).parent.mkdir(parents=True, exist_ok=True)

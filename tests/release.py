@@ -1,10 +1,10 @@
 """Tests ./release over a commit of this tree: release.py PROGRAM.
 
-The archive has the same bytes from two folders, names in order and no owner, and its checksum is right; what it holds is the program, the
-pages, whose links lead to what is there, and the clients; the executable starts in an empty root that has nothing but the libraries
-which it loads (as a user this takes `unshare`); `--install` puts the same files there, over older ones too, which it names, and changes
-nothing where something else is in the way; a clone of another user is told as git tells it, and one that can't be written gives the program
-that it carries; the steps that docs/CI.md shows for an archive run; wrong words are refused. Prints one line for each case.
+The archive has the same bytes from two folders and in a hook of git, names in order and no owner, and its checksum is right; what it holds
+is the program, the pages, whose links lead to what is there, and the clients; the executable starts in an empty root that has nothing but
+the libraries which it loads (as a user this takes `unshare`); `--install` puts the same files there, over older ones too, which it names,
+and changes nothing where something else is in the way; a clone of another user is told as git tells it, and one that can't be written gives
+the program that it carries; the steps that docs/CI.md shows for an archive run; wrong words are refused. Prints one line for each case.
 """
 
 import os
@@ -110,7 +110,7 @@ def steps_of_the_page(archive, room):
     (folder / WORKFLOWS / "actionlint.yml").write_text(block, encoding="utf-8")
     wrong = [] if steps else ["docs/CI.md shows no steps"]
     for step in steps:
-        wrong += failed(run(["bash", "-e", "-c", step], cwd=folder))
+        wrong += failed(run(["bash", "-e", "-c", step], cwd=folder, env=os.environ | {"status": "7"}))
     return wrong
 
 
@@ -129,6 +129,26 @@ def installed(folder, program, prefix, archived):
     kept = found.pop("bin/other", None)
     return failed(ran) + ([] if kept and found == files_of(archived) else ["other files than in the archive"]) + (
         [] if lines[:-1] == said else [f"it said {lines}"])
+
+
+def cloned_with_crlf(folder, room):
+    """A clone has the committed bytes where git would end each line with CRLF."""
+    wrong = failed(run(["git", "clone", "-q", "-c", "core.autocrlf=true", folder, room / "cloned"]))
+    here, there = ({name: it for name, it in files_of(it).items() if not name.startswith(".git/")} for it in (folder, room / "cloned"))
+    return wrong + ([] if here == there else [f"differing: {sorted(name for name in here if here[name] != there.get(name))[:5]}"])
+
+
+def from_a_hook(folder, program, archive):
+    """By relative paths where CDPATH leads elsewhere, in a hook of another repository: the same archive."""
+    room = folder.parent
+    other = room / "other"
+    for name in (folder.name, "out-c"):
+        (other / name).mkdir(parents=True)
+    (other / "another's").write_text("")
+    commit(other)
+    hook = {"CDPATH": str(other), "GIT_DIR": str(other / ".git"), "GIT_INDEX_FILE": str(other / ".git/index")}
+    ran = run([f"{folder.name}/release", "--program", program, "--to", "out-c"], cwd=room, env=os.environ | hook)
+    return failed(ran) or failed(run(["cmp", archive, room / "out-c" / archive.name]))
 
 
 def in_the_way(folder, program, room):
@@ -195,6 +215,8 @@ def cases(program, room):
     other, wrong = made(second, program, room / "out-b")
     same = not wrong and archive.read_bytes() == other.read_bytes()
     yield "same-bytes-from-another-folder", wrong + ([] if same else ["the bytes differ"])
+    yield "clone-with-crlf", cloned_with_crlf(first, room)
+    yield "from-a-hook", from_a_hook(first, program, archive)
     yield "checksum", failed(run(["sha256sum", "-c", f"{archive.name}.sha256"], cwd=archive.parent))
     yield "what-is-in-it", contents(archive)
     (room / "here").mkdir()

@@ -197,6 +197,9 @@ def test_prebuilt(copy):
     expect("built-goes-before-carried", copy.run("x"), out="built x\n", calls=[], err="")
     copy.forget()
     expect("carried-is-run", copy.run("x"), status=0, out="carried x\n", calls=["version"], err=is_a_line_with("--build-anew"))
+    for name, where in (("closed", "2>&-"), ("full", "2> /dev/full")):
+        words = ["-c", f'"$0" x {where}', touched(copy)]
+        expect(f"carried-is-run-with-errors-{name}", copy.run(*words, by="sh"), status=0, out="carried x\n", calls=["version"], err="")
     expect("carried-is-run-at-once", copy.run("x"), status=0, out="carried x\n", calls=[], err="")
     os.utime(copy.source())
     expect("same-bytes-still-fit", copy.run("x"), out="carried x\n", calls=["version"])
@@ -259,6 +262,9 @@ def test_missing_commands(copy):
     expect("carried-that-does-not-run", copy.run("x", PATH=both), status=3, out="", err=is_a_line_with("glibc 2.34"))
     expect("which-of-one-that-does-not-run", copy.run("--which", PATH=both), status=3, out="", err=is_a_line_with("glibc 2.34"))
     (copy.top / "prebuilt/actionlint").write_text(CARRIED)
+    (copy.top / "prebuilt/actionlint").chmod(0o644)
+    expect("carried-that-is-not-executable", copy.run("x", PATH=both), status=3, out="", err=is_a_line_with("isn't executable, as `chmod +x`"))
+    (copy.top / "prebuilt/actionlint").chmod(0o755)
     copy.source().write_text("// two\n")
     for name, path in (("python3", copy.without("python3")), ("rt", copy.without("rt")), ("python3 or rt", both)):
         said = is_a_line_with(f"would prove and build one, but there is no {name} on the PATH; prebuilt/actionlint can be run by its "

@@ -17,7 +17,8 @@ esac
 why="no program was built from these sources"
 news=
 
-say() { printf 'actionlint: %s\n' "$1" >&2; }
+# Tells the user something, if standard error takes it.
+say() { printf 'actionlint: %s\n' "$1" >&2 || :; }
 
 has() { command -v "$1" > /dev/null; }
 
@@ -70,6 +71,10 @@ kit_of_prebuilt() {
 
 # Whether the carried program fits. If not, `why` may say more. In a kit's identity, the words after the first one name the logic.
 prebuilt_fits() {
+  if [ -f "$top/$prebuilt" ] && ! [ -x "$top/$prebuilt" ]; then
+    why="$prebuilt isn't executable, as \`chmod +x\` makes it"
+    return 1
+  fi
   kit=$(kit_of_prebuilt 2> /dev/null) || return 1
   if has rt; then
     here=$(rt version)

@@ -3,7 +3,7 @@ from __future__ import annotations
 
 import os
 
-from .paths import ACTION_NAMES
+from .paths import ACTION_NAMES, is_below, is_path
 
 MAX_FOLDERS = 2_000
 PASSED_OVER = (b"node_modules", b"target", b"vendor")
@@ -17,9 +17,16 @@ def actions_below(root: bytes) -> list[str]:
             break
         folders[:] = sorted(name for name in folders if name not in PASSED_OVER and (not name.startswith(b".") or name == b".github"))
         for action in ACTION_NAMES:
-            if action.encode() in names:
-                try:
-                    found.append(os.path.relpath(os.path.join(folder, action.encode()), root).decode("utf-8"))
-                except UnicodeDecodeError:
-                    pass
+            file = os.path.join(folder, action.encode())
+            if action.encode() in names and _can_be_called(file, root):
+                found.append(os.path.relpath(file, root).decode("utf-8"))
     return found
+
+
+def _can_be_called(file: bytes, root: bytes) -> bool:
+    """Whether the linter reads an action, and a `uses` can name it."""
+    try:
+        path = os.path.relpath(file, root).decode("utf-8")
+    except UnicodeDecodeError:
+        return False
+    return is_path(path) and "${{" not in path and os.path.isfile(file) and is_below(os.path.realpath(file), os.path.realpath(root))

@@ -12,6 +12,7 @@ from typing import BinaryIO
 
 from . import library, shellcheck
 from .characters import terminal_text
+from .console import add_help_and_version
 from .entries import entries, explained
 from .forms import Annotations, CodeQuality, Form, JsonLines, Outcome
 from .ignoring import Ignored, WrongRule, rules_in
@@ -23,7 +24,6 @@ from .program import WHICH, find_program
 from .report import BadReport
 from .sarif import Sarif, left_out_line
 from .terminal import Text, has_color
-from .version import version
 
 WRONG_WORDS = 2
 FORMS: dict[str, type[Form]] = {
@@ -127,7 +127,8 @@ def _say(form: Form, outcome: Outcome) -> None:
 
 def _options(words: list[str]) -> argparse.Namespace:
     parser = argparse.ArgumentParser(prog="actionlint-report", description=__doc__.split("\n")[0], allow_abbrev=False,
-                                     usage="%(prog)s [OPTION]... [--] [FILE]...")
+                                     usage="%(prog)s [OPTION]... [--] [FILE]...", add_help=False)
+    add_help_and_version(parser)
     parser.add_argument("--form", choices=tuple(FORMS), default="sarif", help="the format of the report (default: %(default)s)")
     parser.add_argument("--root", metavar="DIR", help="the top folder of the repository (default: the current folder)")
     parser.add_argument("--program", help=f"the linter (default: {WHICH})")
@@ -141,12 +142,13 @@ def _options(words: list[str]) -> argparse.Namespace:
                         help="a file with a CODE[:PATH] on each line; may be repeated")
     parser.add_argument("--shellcheck", action="store_true", help="also show shellcheck's notes on scripts")
     parser.add_argument("--explain", metavar="CODE", help="explain a fault, and lint nothing")
-    parser.add_argument("--version", action="version", version=f"%(prog)s {version() or 'without a version'}")
     parser.add_argument("files", nargs="*", metavar="FILE",
                         help="workflows and actions below DIR (default: all workflows, and what they call)")
     end = words.index("--") if "--" in words else len(words)
     options = parser.parse_intermixed_args(words[:end])
     options.files += words[end + 1:]
+    if options.out == "":
+        parser.error("argument --out: it names no file")
     options.program = find_program(options.program)
     options.docs = options.docs and options.docs.rstrip("/")
     return options

@@ -1,6 +1,7 @@
 """The workflows and actions of a repository as they are on disk."""
 from __future__ import annotations
 
+import errno
 import os
 import stat
 from dataclasses import dataclass
@@ -14,6 +15,8 @@ MAX_TOLD = 10
 # Pipes, devices and kernel logs are opened without waiting, and no terminal becomes this program's.
 OPENED = os.O_RDONLY | os.O_NONBLOCK | os.O_NOCTTY | os.O_CLOEXEC
 NOT_REGULAR = "cannot read this file: it is not a regular one"
+# The errors of a path at which there is no file.
+ABSENT = (errno.ENOENT, errno.ENOTDIR, errno.ELOOP, errno.ENAMETOOLONG)
 
 
 @dataclass
@@ -64,7 +67,9 @@ class Disk:
         try:
             with os.scandir(os.path.join(self._root, WORKFLOWS.encode())) as entries:
                 return list(entries)
-        except OSError:
+        except OSError as error:
+            if error.errno not in ABSENT:
+                self._pass_over(WORKFLOWS, f"it can't be listed ({error.strerror})")
             return []
 
     def _workflow_path(self, entry: os.DirEntry) -> str | None:
@@ -90,11 +95,7 @@ class Disk:
     def _update(self, path: str) -> SavedFile:
         whole = os.path.join(self._root, path.encode("utf-8", "surrogatepass"))
         known = self._files.get(path)
-        try:
-            found = os.stat(whole)
-            stamp: tuple = (found.st_mtime_ns, found.st_ctime_ns, found.st_size, found.st_dev, found.st_ino, found.st_mode)
-        except (OSError, ValueError):
-            stamp = ()
+        stamp = _stamp_of(whole)
         if known is None or known.stamp != stamp:
             known = self._files[path] = _read(whole, stamp, self._real_root)
             if known.is_outside:
@@ -103,16 +104,28 @@ class Disk:
 
 
 def _is_file(entry: os.DirEntry) -> bool:
+    """Whether an entry is a regular file or a link to one, or a link to what can't be looked at."""
     try:
         return entry.is_file()
-    except OSError:
-        return False
+    except OSError as error:
+        return error.errno not in ABSENT
+
+
+def _stamp_of(whole: bytes) -> tuple:
+    """The mode of a file, and what differs once it changed. Without a mode if it can't be looked at, and empty if there is none."""
+    try:
+        found = os.stat(whole)
+    except ValueError:
+        return ()
+    except OSError as error:
+        return () if error.errno in ABSENT else (None, error.errno)
+    return (found.st_mode, found.st_mtime_ns, found.st_ctime_ns, found.st_size, found.st_dev, found.st_ino)
 
 
 def _read(whole: bytes, stamp: tuple, real_root: bytes) -> SavedFile:
     if not stamp:
         return SavedFile(stamp, None)
-    if not stat.S_ISREG(stamp[-1]):
+    if stamp[0] is not None and not stat.S_ISREG(stamp[0]):
         return SavedFile(stamp, None, NOT_REGULAR)
     try:
         opened = os.open(whole, OPENED)
@@ -128,6 +141,8 @@ def _read(whole: bytes, stamp: tuple, real_root: bytes) -> SavedFile:
     except (FileNotFoundError, NotADirectoryError):
         return SavedFile(stamp, None)
     except OSError as error:
+        if not is_below(os.path.realpath(whole), real_root):
+            return SavedFile(stamp, None, is_outside=True)
         return SavedFile(stamp, None, f"cannot read this file: {error.strerror}")
 
 

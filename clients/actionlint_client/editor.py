@@ -3,6 +3,8 @@ from __future__ import annotations
 
 from typing import Callable
 
+from .characters import terminal_text
+
 WARNING = 2
 WATCHED = ("**/.github/workflows/*.{yml,yaml}", "**/action.{yml,yaml}")
 
@@ -58,7 +60,7 @@ class Editor:
 
     def say(self, text: str) -> None:
         """Shows a message to the user."""
-        self._notify("window/showMessage", {"type": WARNING, "message": f"actionlint: {text}"})
+        self._notify("window/showMessage", {"type": WARNING, "message": terminal_text(f"actionlint: {text}")})
 
 
 def _format(taken: list[str] | None) -> str:

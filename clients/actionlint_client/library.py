@@ -15,12 +15,12 @@ DEBIAN_PACKAGES = {"pylsp_jsonrpc": "python3-pylsp-jsonrpc", "yaml.cyaml": "pyth
 
 def missing(names: Iterable[str] = DEBIAN_PACKAGES) -> str:
     """Says which modules can't be imported, and is empty if all can. If only the system's Python has them all, this doesn't return: that
-    Python runs the program, with the same arguments, from its start."""
+    Python runs the program, with the same arguments, from its start. It takes nothing from PYTHONPATH, which may be why one is missing."""
     absent = [name for name in names if not _is_here(name)]
     if not absent:
         return ""
-    if _system_python_has(names):
-        os.execv(SYSTEM_PYTHON, [SYSTEM_PYTHON, *sys.argv])
+    if not sys.flags.ignore_environment and _system_python_has(names):
+        os.execv(SYSTEM_PYTHON, [SYSTEM_PYTHON, "-E", *sys.argv])
     packages = " ".join(DEBIAN_PACKAGES[name] for name in absent)
     return f"{sys.executable} has no {', '.join(absent)} (Debian: apt-get install {packages})"
 
@@ -35,7 +35,7 @@ def _is_here(name: str) -> bool:
 
 def _system_python_has(names: Iterable[str]) -> bool:
     # Modules of the current folder, which may be a stranger's, aren't imported.
-    words = [SYSTEM_PYTHON, "-c", f"import {', '.join(names)}"]
+    words = [SYSTEM_PYTHON, "-E", "-c", f"import {', '.join(names)}"]
     try:
         return subprocess.run(words, cwd="/", stdin=subprocess.DEVNULL, stderr=subprocess.DEVNULL, check=False).returncode == 0
     except OSError:

@@ -57,15 +57,19 @@ class LintRun:
         self._said.close()
 
     def __iter__(self) -> Iterator[Reported]:
-        cut = None
+        cut, has_faults = None, False
         for lines in self._groups():
             if len(lines) != self._group_length() or not lines[-1].endswith(b"\n"):
                 cut = lines[0]
             else:
+                has_faults = True
                 yield self._reported([line[:-1] for line in lines])
         self._end()
         if cut is not None and self.status != CANNOT_GO_ON:
             raise BadReport(f"it reported {cut[:SHOWN_OF_A_LINE].decode('utf-8', 'replace')!r}")
+        # A program that can't be loaded ends with status 1 too.
+        if self.status in (0, 1) and self.status != has_faults:
+            raise BadReport(f"it ended with status {self.status}, but reported {'faults' if has_faults else 'none: ' + self.errors.strip()}")
 
     def _group_length(self) -> int:
         """How many lines a fault has."""
@@ -96,4 +100,6 @@ class LintRun:
         self.errors = self._said.read().decode("utf-8", "replace")
         if status < 0:
             self.errors = self.errors or f"actionlint: ended by signal {-status}\n"
-        self.status = status if status >= 0 else CANNOT_GO_ON
+        elif status > CANNOT_GO_ON:
+            self.errors = self.errors or f"actionlint: ended with status {status}\n"
+        self.status = status if 0 <= status <= CANNOT_GO_ON else CANNOT_GO_ON

@@ -3,15 +3,17 @@ from __future__ import annotations
 
 import argparse
 
+from .console import add_help_and_version
 from .program import WHICH, find_program
-from .version import version
 
 MAX_SECONDS = 3_600
 
 
 def options(words: list[str] | None = None) -> argparse.Namespace:
     """The options, by default those of the command line. Ends the program if they are wrong or ask for help."""
-    parser = argparse.ArgumentParser(prog="actionlint-lsp", description="A language server that shows the faults of actionlint.")
+    parser = argparse.ArgumentParser(prog="actionlint-lsp", description="A language server that shows the faults of actionlint.",
+                                     add_help=False)
+    add_help_and_version(parser)
     parser.add_argument("--program", help=f"the linter (default: {WHICH})")
     parser.add_argument("--docs", metavar="ADDRESS",
                         help="the address of the pages of faults, for links (default: the folder docs beside clients)")
@@ -21,7 +23,6 @@ def options(words: list[str] | None = None) -> argparse.Namespace:
     parser.add_argument("--timeout", metavar="SECONDS", type=_seconds, default=20.0,
                         help="how long the linter may take to answer (default: %(default)s)")
     parser.add_argument("--stdio", action="store_true", help="use standard input and output, which is the default")
-    parser.add_argument("--version", action="version", version=f"%(prog)s {version() or 'without a version'}")
     given = parser.parse_args(words)
     given.program = find_program(given.program)
     given.docs = given.docs and given.docs.rstrip("/")

@@ -55,7 +55,9 @@ class SourceFile:
 def notes(root: str, files: list[str], refused: set[str], say: Callable[[str], None]) -> Iterator[Problem]:
     """The notes on all scripts of the files and of what they call, or of all workflows, in the order of the scripts. Files that aren't
     valid YAML for the linter are skipped, and `say` is told about those that can't be read here."""
-    found = _scripts(Disk(os.fsencode(root), say), files, refused, say)
+    # (the linter has already told which links it passed over)
+    disk = Disk(os.fsencode(root), lambda _: None)
+    found = _scripts(disk, files, refused, say)
     while some := list(islice(found, SCRIPTS_OF_A_RUN)):
         for note in sorted(_said_of([script for _, script in some]), key=lambda one: (int(one["file"]), one["line"], one["column"])):
             yield _problem(note, *some[int(note["file"])])

@@ -92,9 +92,9 @@ class Workspace:
     def wait_seconds(self) -> float | None:
         """How long to wait for a message before looking at the disk, if the editor doesn't watch it, or before starting a linter again that
         ended too often."""
-        delays = [repository.folder.delay() for repository in self._repositories.values()]
-        if any(delays):
-            return max(*delays, LEAST_WAIT_SECONDS)
+        delays = [delay for repository in self._repositories.values() if (delay := repository.folder.delay())]
+        if delays:
+            return max(min(delays), LEAST_WAIT_SECONDS)
         # An editor watches the folders of its workspace.
         watched = set(self._folders.values()) if self._editor.watches() else set()
         return None if all(root in watched for root in self._repositories) else RESCAN_SECONDS

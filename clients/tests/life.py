@@ -11,14 +11,20 @@ import shutil
 import sys
 import tempfile
 import time
+import traceback
+from types import SimpleNamespace
+from typing import Callable
 
 from cases import Cases
+from clones_and_releases import NOBODY
 from editor import Editor, children
 from promises import end, save, start
 from repositories import ACTION, CALLED, FILE, FILES, RIGHT, UNDEFINED, WORKFLOWS, WRONG, write
 
+from actionlint_client.actions_on_disk import actions_below
 from actionlint_client.disk import NOT_REGULAR, OPENED, Disk
 from actionlint_client.uris import path_of
+from actionlint_client.workspace import Workspace
 
 CASES = Cases("life")
 OUTSIDE = "its real path is outside of the folder"
@@ -116,6 +122,18 @@ def many_descriptors(program: str) -> None:
     editor.settle()
     assert len(editor.diagnostics()) == 30 and not editor.messages, editor.messages
     end(editor)
+
+
+@CASES.case
+def the_first_pause_that_ends(_: str) -> None:
+    """Of the folders whose linters are paused, the one that may start first isn't kept waiting for the others."""
+    pauses = {b"/nowhere/a": 9.0, b"/nowhere/b": 0.5, b"/nowhere/c": 0.0}
+    workspace = Workspace(lambda root: SimpleNamespace(folder=SimpleNamespace(delay=lambda: pauses[root])),
+                          SimpleNamespace(watches=lambda: True), SimpleNamespace())
+    workspace.add_folders(list(pauses))
+    assert workspace.wait_seconds() == 0.5
+    pauses.update(dict.fromkeys(pauses, 0.0))
+    assert workspace.wait_seconds() is None
 
 
 @CASES.case
@@ -264,6 +282,77 @@ def pipes_and_devices(program: str) -> None:
     assert editor.texts("pipe/action.yml") == [NOT_REGULAR], editor.diagnostics()
     assert set(editor.diagnostics()) == {FILE, CALLED, "pipe/action.yml"}, editor.diagnostics()
     end(editor)
+
+
+@CASES.case
+def actions_that_can_be_called(_: str) -> None:
+    """What is offered after `uses` are actions that the linter reads, by names that a call can have."""
+    with tempfile.TemporaryDirectory(prefix="actionlint-test-") as top:
+        names = ("a", "b c", "é", "it's", "back\\slash", "esc\x1b", "line\nfeed", "${{ x }}", "node_modules", ".hidden")
+        write(top + "/folder", {f"{name}/action.yml": "name: A\n" for name in names})
+        write(top, {"action.yml": "name: A\n"})
+        root = os.fsencode(top + "/folder")
+        os.makedirs(root + b"/\xff")
+        shutil.copy(root + b"/a/action.yml", root + b"/\xff/action.yml")
+        os.makedirs(root + b"/pipe")
+        os.mkfifo(root + b"/pipe/action.yml")
+        os.makedirs(root + b"/folder/action.yml")
+        for path, target in (("out", "../../action.yml"), ("loose", "nowhere"), ("link", "../a/action.yml")):
+            link(root, f"{path}/action.yml", target)
+        os.symlink("..", root + b"/a/above")
+        assert actions_below(root) == [f"{name}/action.yml" for name in ("a", "b c", "it's", "link", "é")], actions_below(root)
+
+
+@CASES.case
+def what_may_not_be_read(_: str) -> None:
+    """What the linter can't read is unreadable here too, and a link out of the folder is skipped whether or not it can be followed."""
+    with tempfile.TemporaryDirectory(prefix="actionlint-test-") as top:
+        root = top + "/folder"
+        listed, outside = WORKFLOWS + "b.yml", WORKFLOWS + "c.yml"
+        write(root, {FILE: RIGHT, listed: RIGHT, ACTION: FILES[ACTION]})
+        write(top, {"hidden/c.yml": RIGHT, "closed.yml": RIGHT, "other/.github/workflows/a.yml": RIGHT})
+        link(os.fsencode(root), outside, top + "/hidden/c.yml")
+        link(os.fsencode(root), "out/action.yml", top + "/closed.yml")
+        os.chmod(top, 0o755)
+        for closed in (f"{root}/{listed}", root + "/a", top + "/hidden", top + "/closed.yml", top + "/other/.github/workflows"):
+            os.chmod(closed, 0)
+        as_nobody(lambda: check_unreadable(top, listed, outside))
+
+
+def check_unreadable(top: str, listed: str, outside: str) -> None:
+    said: list[str] = []
+    looked_at = Disk(os.fsencode(top + "/folder"), said.append)
+    looked_at.rescan()
+    assert looked_at.workflows == {FILE, listed, outside}, looked_at.workflows
+    assert looked_at.file(FILE).data == RIGHT.encode()
+    for path in (listed, ACTION, "a/action.yaml"):
+        assert looked_at.file(path).error == "cannot read this file: Permission denied", (path, looked_at.file(path))
+    for path in (outside, "out/action.yml"):
+        assert looked_at.file(path).is_outside and looked_at.file(path).error is None, (path, looked_at.file(path))
+    assert looked_at.file("out/action.yaml").error is None, "there is none"
+    assert len(said) == 2 and all(OUTSIDE in one for one in said), said
+    for _ in range(2):
+        Disk(os.fsencode(top + "/other"), said.append).rescan()
+    assert said[2:] == ["passed over, since it can't be listed (Permission denied): '.github/workflows'"] * 2, said
+
+
+def as_nobody(check: Callable[[], None]) -> None:
+    """Runs a check as a user who may not read everything, as root may."""
+    if os.geteuid():
+        check()
+        return
+    child = os.fork()
+    if child == 0:
+        try:
+            os.setgroups([])
+            os.setgid(NOBODY)
+            os.setuid(NOBODY)
+            check()
+            os._exit(0)
+        except BaseException:
+            traceback.print_exc()
+            os._exit(1)
+    assert os.waitpid(child, 0)[1] == 0, "see standard error"
 
 
 @CASES.case

@@ -16,7 +16,7 @@ from pathlib import Path
 from cases import Cases
 from clones_and_releases import PATH
 from editor import Editor
-from repositories import ACTION, CLIENTS, FILE, FILES, UNDEFINED, write
+from repositories import ACTION, CLIENTS, FILE, FILES, TOP, UNDEFINED, write
 
 CASES = Cases("lookup")
 WHERE = "--program or the variable ACTIONLINT names the linter"
@@ -126,6 +126,15 @@ def names(_: str) -> None:
 
 
 @CASES.case
+def its_own_tests(_: str) -> None:
+    """`clients/test` asks the finder beside it, wherever CDPATH leads."""
+    done = subprocess.run(["clients/test", "/nowhere"], cwd=TOP, env={**os.environ, "CDPATH": "."}, stdout=subprocess.PIPE,
+                          stderr=subprocess.PIPE, text=True, check=False)
+    said = f"cannot start /nowhere: there is no such program; {WHERE}\n"
+    assert (done.returncode, done.stdout, done.stderr) == (3, "", said), done
+
+
+@CASES.case
 def reports(program: str) -> None:
     """actionlint-report runs the program of its release, and without one says what names one."""
     tree = Tree()
@@ -229,6 +238,18 @@ def a_python_without_libyaml(program: str) -> None:
 
 
 @CASES.case
+def a_module_of_the_current_folder(program: str) -> None:
+    """Where PYTHONPATH puts one before a library, the library is found all the same. (The input is empty, so the server ends at once.)"""
+    tree = Tree()
+    write(str(tree.room), {"yaml.py": ""})
+    done = subprocess.run([sys.executable, tree.without(CLIENTS / "actionlint-lsp", (), sys.executable), "--program", program], cwd=tree.room,
+                          env={**os.environ, "PYTHONPATH": "."}, stdin=subprocess.DEVNULL, stdout=subprocess.PIPE, stderr=subprocess.PIPE,
+                          timeout=20, text=True, check=False)
+    assert (done.returncode, done.stdout, done.stderr) == (1, "", ""), done
+    tree.remove()
+
+
+@CASES.case
 def options_of_the_server(program: str) -> None:
     """Help and version need no library; without the libraries one line names their packages. An editor may say `--stdio`."""
     tree = Tree()
@@ -242,6 +263,10 @@ def options_of_the_server(program: str) -> None:
     assert run("--version")[:2] == (0, "actionlint-lsp without a version\n"), run("--version")
     status, said, errors = run()
     assert (status, said) == (3, "") and "apt-get install python3-pylsp-jsonrpc python3-yaml" in errors and errors.count("\n") == 1, errors
+    for word in ("--help", "--version"):
+        done = subprocess.run(["sh", "-c", 'exec "$@" > /dev/full', "sh", server, word], stderr=subprocess.PIPE, text=True, check=False)
+        said = "actionlint-lsp: cannot write standard output: No space left on device\n"
+        assert (done.returncode, done.stderr) == (3, said), done
     for seconds in ("0", "-1", "nan", "inf", "x"):
         status, said, errors = run(f"--timeout={seconds}")
         assert (status, said) == (2, "") and "argument --timeout" in errors, (seconds, errors)

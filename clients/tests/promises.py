@@ -137,6 +137,15 @@ def names_that_are_refused(program: str) -> None:
 
 
 @CASES.case
+def control_characters_of_a_name(program: str) -> None:
+    """A message is one line, and controls no terminal."""
+    editor = start(program, {FILE: RIGHT, WORKFLOWS + "\x1b[31m\n\u202e.yml": RIGHT})
+    (said,) = editor.messages
+    assert "/<U+001B>[31m<U+000A><U+202E>.yml: " in said and said.endswith(BAD_PATH), said
+    end(editor)
+
+
+@CASES.case
 def a_long_path(program: str) -> None:
     """A path of 1,024 bytes is linted, and one of a byte more is refused; a command's line could not hold longer ones."""
     editor = start(program, {FILE: RIGHT})

@@ -115,6 +115,32 @@ def wrong_parameters(program: str) -> None:
 
 
 @CASES.case
+def odd_positions(program: str) -> None:
+    """A position past the end of a line or of the text, or between the two halves of a character, is a place as any other."""
+    text = WRONG.replace("echo", "\U0001F600")
+    editor = start(program, {FILE: text})
+    editor.open(FILE, text)
+    document = {"uri": editor.uri(FILE)}
+    for line, character in ((0, 10**9), (10**9, 0), (2**31, 2**31), (5, 12), (5, 13), (5, 14)):
+        place = {"line": line, "character": character}
+        asked = {"textDocument": document, "position": place, "range": {"start": place, "end": place}}
+        for method in ("hover", "completion", "definition", "references", "documentHighlight", "prepareRename", "codeAction"):
+            answer = editor.request(f"textDocument/{method}", asked)
+            assert "error" not in answer, (method, place, answer)
+    end(editor)
+
+
+@CASES.case
+def odd_ids(program: str) -> None:
+    """An answer has the id of its request, whatever that is."""
+    ids = ("", "a", None, -1, 1.5, 2**70)
+    sent = [message(INITIALIZE), *(message({"id": one, "method": "workspace/symbol", "params": {"query": ""}}) for one in ids),
+            message(SHUTDOWN), message(EXIT)]
+    status, found = answers(program, *map(frame, sent))
+    assert (status, codes(found)) == (0, [(1, None), *((one, None) for one in ids), (99, None)]), found
+
+
+@CASES.case
 def cut_messages(program: str) -> None:
     """Input that ends in a message, or whose header tells no length, ends the server with status 1, and its linter with it."""
     for sent in (b"Content-Length: 100\r\n\r\n{", b"Content-Length: 5", b"Content-Length: x\r\n\r\n{}", b"Content-Length: -1\r\n\r\n{}",
@@ -140,6 +166,16 @@ def the_editor_is_gone(program: str) -> None:
         assert time.monotonic() < deadline, "the linter still runs"
         time.sleep(0.1)
     shutil.rmtree(editor.root)
+
+
+@CASES.case
+def closed_streams(program: str) -> None:
+    """A server that has no editor says so in one line."""
+    for where in ("<&-", ">&-"):
+        done = subprocess.run(["sh", "-c", f'exec "$@" {where}', "sh", sys.executable, str(SERVER), "--program", program],
+                              stdin=subprocess.DEVNULL, stdout=subprocess.PIPE, stderr=subprocess.PIPE, text=True, check=False)
+        said = "actionlint-lsp: standard input or standard output is closed\n"
+        assert (done.returncode, done.stdout, done.stderr) == (3, "", said), (where, done)
 
 
 @CASES.case

@@ -153,6 +153,29 @@ def commands_in_annotations(program: str) -> None:
 
 
 @CASES.case
+def programs_that_are_not_the_linter(program: str) -> None:
+    """One that can't be loaded ends with status 1 and prints nothing, which must not pass for a report without faults."""
+    fault = f"{FILE}:1:1: file is empty [syntax-check]\n  |\n1 | \n  | ^"
+    with new_folder({FILE: RIGHT}) as folder:
+        for script, why in (("echo no GLIBC_2.34 >&2; exit 1", "status 1, but reported none: no GLIBC_2.34"),
+                            (f"echo '{fault}'", "status 0, but reported faults")):
+            linter = shell_script(folder, script)
+            for form in ("text", "jsonl", "sarif", "github", "codequality"):
+                status, text, errors = run(linter, folder, "--form", form)
+                assert (status, text, errors) == (3, "", f"actionlint-report: {linter} is not the linter: it ended with {why}\n"), errors
+        for script, why in (("exit 127", "ended with status 127"), ("kill -9 $$", "ended by signal 9")):
+            status, text, errors = run(shell_script(folder, script), folder, "--form", "jsonl")
+            assert (status, text, errors) == (3, "", f"actionlint: {why}\n"), errors
+
+
+def shell_script(folder: str, text: str) -> str:
+    """A program that stands for the linter."""
+    write(folder, {"linter": f"#!/bin/sh\n{text}\n"})
+    os.chmod(folder + "/linter", 0o755)
+    return folder + "/linter"
+
+
+@CASES.case
 def odd_files_to_write(program: str) -> None:
     """What is no regular file is neither written nor replaced, nor waited for; no link below the current folder is followed."""
     with new_folder({FILE: RIGHT, "kept": "old", "elsewhere/kept": "old"}) as folder:
@@ -165,19 +188,39 @@ def odd_files_to_write(program: str) -> None:
             status, text, errors = run(program, folder, "--out", out)
             assert (status, text) == (3, "") and errors.startswith(f"actionlint-report: cannot write {out}: "), (out, status, errors)
         assert sorted(os.listdir(folder)) == before and os.listdir(folder + "/elsewhere") == ["kept"]
+        status, text, errors = run(program, folder, "--out", "")
+        assert (status, text) == (2, "") and errors.endswith("argument --out: it names no file\n"), errors
         for kept in ("kept", "elsewhere/kept"):
             with open(f"{folder}/{kept}", encoding="utf-8") as opened:
                 assert opened.read() == "old"
 
 
+def redirected(program: str, folder: str, where: str, words: list[str]) -> tuple[int, str, str]:
+    """The status and both streams of actionlint-report, of which a shell has redirected some."""
+    done = subprocess.run(["sh", "-c", f'exec "$@" {where}', "sh", sys.executable, REPORT, "--program", program, *words], cwd=folder,
+                          stdout=subprocess.PIPE, stderr=subprocess.PIPE, text=True, check=False)
+    return done.returncode, done.stdout, done.stderr
+
+
 @CASES.case
-def closed_output(program: str) -> None:
-    """A report that nobody can read isn't lost silently."""
+def closed_or_full_output(program: str) -> None:
+    """What nobody can read isn't lost silently."""
     with new_folder(FILES) as folder:
-        for words in (["--form", "text"], ["--form", "jsonl"], ["--explain", "K1"]):
-            done = subprocess.run(["sh", "-c", 'exec "$@" >&-', "sh", sys.executable, REPORT, "--program", program, *words], cwd=folder,
-                                  stderr=subprocess.PIPE, text=True, check=False)
-            assert (done.returncode, done.stderr) == (3, "actionlint-report: cannot write standard output: Bad file descriptor\n"), done
+        for words in (["--form", "text"], ["--form", "jsonl"], ["--explain", "K1"], ["--help"], ["--version"]):
+            for where, why in ((">&-", "Bad file descriptor"), ("> /dev/full", "No space left on device")):
+                said = f"actionlint-report: cannot write standard output: {why}\n"
+                assert redirected(program, folder, where, words) == (3, "", said), (where, words)
+            assert redirected(program, folder, ">&- 2>&-", words) == (3, "", ""), words
+
+
+@CASES.case
+def closed_or_full_errors(program: str) -> None:
+    """Standard error that takes nothing changes neither the report nor the status."""
+    with new_folder(FILES) as folder:
+        for words in (["--form", "jsonl", "--ignore", "K1"], ["--form", "jsonl", "--ignore", "X13"], ["no.yml"], ["--bogus"], ["--out", "x"]):
+            status, text, _ = run(program, folder, *words)
+            for where in ("2>&-", "2> /dev/full", "<&- 2>&-"):
+                assert redirected(program, folder, where, words) == (status, text, ""), (where, words)
 
 
 @CASES.case

@@ -4,11 +4,14 @@ from __future__ import annotations
 import os
 import re
 import subprocess
+import sys
 import tempfile
 from pathlib import Path
 
 CLIENTS = Path(__file__).resolve().parent.parent
-TOP = CLIENTS.parent
+sys.path.append(str(CLIENTS.parent / "tests"))
+from copying import TOP
+
 WORKFLOWS = ".github/workflows/"
 CALLED = WORKFLOWS + "c.yml"
 ACTION = "a/action.yml"

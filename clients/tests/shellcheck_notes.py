@@ -129,6 +129,9 @@ def files_that_are_called(program: str) -> None:
         write(folder, {FILE: STEPS + "      - uses: ./../outside\n      - uses: ./a/../b\n      - uses: .//b\n      - run: echo ok\n"})
         _, found, errors = run(program, folder)
         assert [one["code"] for one in found if one["kind"] == "shellcheck"] == [] and not errors, (found, errors)
+        os.symlink("/etc/passwd", f"{folder}/{WORKFLOWS}out.yml")
+        _, _, errors = run(program, folder)
+        assert errors == f"actionlint: passed over {WORKFLOWS}out.yml, which leads out of the folder\n", errors
         _, found, _ = run(program, folder, "--", "b/action.yml")
         assert [(one["path"], one["line"], one["column"]) for one in found] == [("b/action.yml", 6, 17)], found
 

@@ -19,7 +19,7 @@ from pathlib import Path
 from cases import Cases
 from clones_and_releases import ANYWHERE, Place, Room, in_each_clone, in_each_place
 from editors import in_terminal
-from repositories import CLIENTS, FILE, FILES, TOP, UNDEFINED, WORKFLOWS, git, reported, write
+from repositories import CLIENTS, FILE, FILES, RIGHT, TOP, UNDEFINED, WORKFLOWS, git, reported, write
 
 import yaml
 
@@ -209,7 +209,7 @@ def report(place: Place) -> None:
 
 @in_each_place(CASES)
 def many(place: Place) -> None:
-    names = [f"r{number}" for number in range(4)]
+    names = ["r0", "r 1 ", "it's", "-r", r"a\b"]
     files = {f"{name}/{path}": text for name in names for path, text in FILES.items()}
     with place.repository({**files, "folders.txt": "".join(name + "\n" for name in names)}) as room:
         assert run_lines(place, "many", room) == [123]
@@ -277,6 +277,9 @@ def recipe(place: Place) -> None:
         lines = said.splitlines()
         assert status == 1 and lines[1].startswith("::stop-commands::") and lines[-1] == f"::{lines[1].removeprefix('::stop-commands::')}::"
         assert UNDEFINED in said, said
+    with place.repository({FILE: RIGHT, "step.sh": step["run"]}) as room:
+        status, said = room.run(["env", "status=7", "bash", "--noprofile", "--norc", "-e", "step.sh"])
+        assert status == 0, (status, said)
 
 
 @CASES.case
