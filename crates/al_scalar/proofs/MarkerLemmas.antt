@@ -3,6 +3,7 @@ use Rattle.std.proofs.Common.{◌≡◌, ℕ, ◌+◌, ◌≤◌, List, [], ◌�
 use Rattle.std.proofs.lemmas.Bool.Decides.{nat_tests}
 use Rattle.al_scalar.specs.Line.{Cell, is_blank_or_end, begins, is_marker}
 use Rattle.al_scalar.specs.Places.{text_at}
+use Rattle.al_scalar.specs.Plain.{Context, ends_key, is_value_colon}
 use Rattle.al_scalar.specs.LineEnds.{IsLineEnd}
 use Rattle.al_scalar.proofs.LineCells.{text-line_end, never}
 use Rattle.al_scalar.proofs.PlainLemmas.{text_at-cell}
@@ -18,6 +19,12 @@ module _ (bytes : List ℕ) (i b : ℕ) (inside : i ≤ length bytes) where
 
   pub begins-inside : true ≡ begins b (text_at bytes i) → IsLineEnd bytes i → ⊥
   begins-inside h k = never (begins-end k ∙ sym h)
+
+module _ (bytes : List ℕ) (i : ℕ) (inside : i ≤ length bytes) (p : Context) where
+  pub colon-ends : true ≡ begins 58 (text_at bytes i) → (r : Bool) → r ≡ ends_key p (text_at bytes (i + 1)) → r ≡ is_value_colon p (text_at bytes i)
+  colon-ends colon r h =
+      let cell = text_at-cell bytes i inside (begins-inside bytes i 58 inside colon) in
+      h ∙ ap (λ b. b && ends_key p (text_at bytes (i + 1))) (colon ∙ ap (begins 58) cell) ∙ sym (ap (is_value_colon p) cell)
 
 -- ---- document markers
 

@@ -1,11 +1,11 @@
 -- The parts of a plain scalar's lines in terms of offsets.
 use Rattle.std.proofs.Common.{◌≡◌, ◌≢◌, ℕ, zero, suc, ◌+◌, ◌-◌, ◌<◌, ◌≤◌, List, [], ◌∷◌, ◌++◌, length, slice_index, refl, sym, ap, ◌∙◌}
-use Rattle.std.proofs.Common.{arith, append_assoc, append-nil, Bool, true, false, ◌&&◌, ◌||◌, ◌==◌, nat_lt, cond, inl, inr, ◌⊎◌, ◌↔◌}
+use Rattle.std.proofs.Common.{arith, append_assoc, append-nil, Bool, true, false, ◌&&◌, ◌||◌, nat_lt, cond, inl, inr, ◌⊎◌, ◌↔◌}
 use Rattle.std.proofs.Common.{IsTrue, eq-or-lt_of_le, subst}
 use Rattle.std.proofs.lemmas.Grind.{common_steps}
 use Rattle.std.proofs.Math.Bool.{and-false}
 use Rattle.al_scalar.specs.Line.{Cell, is_blank, is_blank_or_end, is_empty}
-use Rattle.al_scalar.specs.Plain.{Context, is_flow, is_flow_indicator, begins_flow_indicator, ends_key, is_value_colon, ends_plain, plain_part}
+use Rattle.al_scalar.specs.Plain.{Context, is_flow, is_flow_indicator, begins_flow_indicator, ends_key, ends_plain, plain_part}
 use Rattle.al_scalar.specs.Places.{lines_at, text_at}
 use Rattle.al_scalar.specs.LineEnds.{cells_at, cells_between, AreBlank, IsBlankByte, IsLineEnd, SameLine}
 use Rattle.al_scalar.specs.Private.PlainLines.{IsWordAt, IsWordByte, PartTo}
@@ -143,20 +143,6 @@ part_more p first f bytes at i j e r b o h l k n s =
 
 -- ---- bytes of words
 
-pub letter_is_word : (b : ℕ) → 97 ≤ b → b ≤ 122 → IsWordByte b
-letter_is_word b h k =
-    let comma : b ≢ 44 = omega arith in
-    let bracket : b ≢ 91 = omega arith in
-    let closing : b ≢ 93 = omega arith in
-    let brace : b ≢ 123 = omega arith in
-    let last : b ≢ 125 = omega arith in
-    record {
-      solid = omega arith;
-      no_colon = omega arith;
-      no_hash = omega arith;
-      no_indicator = grind (arith, common_steps, comma, bracket, closing, brace, last);
-    }
-
 module _ (b : ℕ) (w : IsWordByte b) where
   word-feed : b ≢ 10
   word-feed e = omega (arith, e, w.solid)
@@ -199,16 +185,6 @@ module _ (p : Context) (bytes : List ℕ) (i : ℕ) (inside : i ≤ length bytes
   ends-end f k = sym (ap (ends_plain p f) (text-line_end bytes i inside k))
 
   module _ (k : IsLineEnd bytes i → ⊥) where
-    pub value_colon-yes : (x : Bool) → slice_index bytes i ≡ 58 → x ≡ ends_key p (text_at bytes (i + 1)) → x ≡ is_value_colon p (text_at bytes i)
-    value_colon-yes x e h =
-        h ∙ ap (λ b. (b == 58) && ends_key p (text_at bytes (i + 1))) (sym e) ∙ sym (ap (is_value_colon p) (text_at-cell bytes i inside k))
-
-    pub value_colon-no : slice_index bytes i ≢ 58 → false ≡ is_value_colon p (text_at bytes i)
-    value_colon-no n = not-colon p (slice_index bytes i, i) (text_at bytes (i + 1)) n ∙ sym (ap (is_value_colon p) (text_at-cell bytes i inside k))
-      where
-        not-colon : (p : Context) (c : Cell) (cs : List Cell) → c.0 ≢ 58 → false ≡ is_value_colon p (c ∷ cs)
-        not-colon p c cs n = grind (arith, common_steps, n)
-
     pub ends_at-colon : (f x : Bool) → slice_index bytes i ≡ 58 → x ≡ ends_key p (text_at bytes (i + 1)) → x ≡ ends_plain p f (text_at bytes i)
     ends_at-colon f x e h = h ∙ sym (ends-colon p f (slice_index bytes i, i) (text_at bytes (i + 1)) e) ∙ sym (ap (ends_plain p f) (text_at-cell bytes i inside k))
 

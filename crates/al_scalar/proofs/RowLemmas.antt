@@ -110,22 +110,21 @@ rows-last new text lit k m found last es end to bytes i from stop e r s u w z g 
     e ∙ ap (with_text text) (rest-last lit k m found last es end (lines_at bytes i) (cells_between bytes from (length bytes)) (lines_at-some bytes i) row is_last)
     ∙ rw (g, h, ended, at_stop) refl
 
-pub rows-more : {x : Taken} (new text : List Cell) (lit : Bool) (k : Chomping) (m : Option ℕ) (found found' b : Bool)
+pub rows-more : {x : Taken} (new text : List Cell) (lit : Bool) (k : Chomping) (m : Option ℕ) (found b : Bool)
     (last last' : Option BlockLine) (es es' : List ℕ) (end end' : ℕ) (bytes : List ℕ) (i from stop next : ℕ)
     → x ≡ with_text text (rest lit k m found last es end (lines_at bytes i)) → row_of m found (first_text (lines_at bytes i)) ≡ Some (first_text (lines_at bytes from))
     → SameLine (lines_at bytes i) (lines_at bytes from) → SameLine (lines_at bytes from) (lines_at bytes stop) → first_text (lines_at bytes from) ≡ cells_between bytes from stop
-    → lines_at bytes stop ≡ broken_line stop ∷ lines_at bytes next → is_all_blank (first_text (lines_at bytes i)) ≡ b → found' ≡ (found || not b)
+    → lines_at bytes stop ≡ broken_line stop ∷ lines_at bytes next → is_all_blank (first_text (lines_at bytes i)) ≡ b
     → ((rs : List BlockLine) → text ++ text_after lit k last es (record { text = cells_between bytes from stop; break = stop ∷ [] } ∷ rs) ≡ new ++ text_after lit k last' es' rs)
     → last_end (cells_between bytes from stop) end ≡ end'
-    → x ≡ with_text new (rest lit k m found' last' es' end' (lines_at bytes next))
-rows-more new text lit k m found found' b last last' es es' end end' bytes i from stop next e r s u w z q f g h =
+    → x ≡ with_text new (rest lit k m (found || not b) last' es' end' (lines_at bytes next))
+rows-more new text lit k m found b last last' es es' end end' bytes i from stop next e r s u w z q g h =
     let ls = lines_at bytes i in
     let cells = cells_between bytes from stop in
     let ended : first_end ls ≡ stop = s.end ∙ u.end ∙ ap first_end z in
     let is_last : first_last ls ≡ false = s.last ∙ u.last ∙ ap first_last z in
     let behind : later ls ≡ lines_at bytes next = s.later ∙ u.later ∙ ap later z in
     let row : row_of m found (first_text ls) ≡ Some cells = r ∙ ap Some w in
-    let flag : (found || not (is_all_blank (first_text ls))) ≡ found' = ap (λ a. found || not a) q ∙ sym f in
-    let rs = rows_at m found' (lines_at bytes next) in
+    let rs = rows_at m (found || not b) (lines_at bytes next) in
     e ∙ ap (with_text text) (rest-more lit k m found last es end ls cells (lines_at-some bytes i) row is_last)
-    ∙ rw (flag, behind, ended, g rs.rows, ← h) refl
+    ∙ rw (q, behind, ended, g rs.rows, ← h) refl

@@ -3,7 +3,7 @@
 ghost use Rattle.std.specs.Prelude.{◌≡◌, ◌+◌, ◌<◌, ◌≤◌, ◌^◌, ◌++◌, ◌∷◌, [], ◌||◌, true, not, cond, Some, None, length, IfOk};
 ghost use Rattle.al_scalar.specs.Block.{block_scalar, found_indent, content_indent, row_of};
 ghost use Rattle.al_scalar.specs.Block.{own_break, final_breaks, joint, text_after, rows_end};
-ghost use Rattle.al_scalar.specs.Private.BlockRead.{RowStarts, ReadsRows, last_row, row_like, RowTo, indent_from};
+ghost use Rattle.al_scalar.specs.Private.BlockRead.{RowStarts, ReadsRows, last_row, row_like, RowTo};
 ghost use Rattle.al_scalar.specs.Private.BlockRead.{AddsRow, EndsRow, last_line};
 ghost use Rattle.al_scalar.specs.Places.{lines_at, text_at};
 ghost use Rattle.al_scalar.specs.LineEnds.{cells_between, IsLineEnd, BlankTo};
@@ -105,15 +105,6 @@ fn row_start(bytes: &[u8], at: usize, indent: Option<usize>, found: bool) -> Opt
     }
 }
 
-/// The indent of a line if it is at least `within`.
-fn indent_of(bytes: &[u8], at: usize, within: usize) -> Option<usize>
-    requires { at ≤ length bytes.now }
-    ensures { result ≡ indent_from within (text_at bytes.now at) }
-{
-    let found = indent(bytes, at);
-    if within <= found { Some(found) } else { None }
-}
-
 /// The indent of the first line that isn't all blanks, if it is at least `within`.
 fn find_indent(bytes: &[u8], at: usize, within: usize) -> Option<usize>
     requires { at ≤ length bytes.now }
@@ -123,7 +114,10 @@ fn find_indent(bytes: &[u8], at: usize, within: usize) -> Option<usize>
     'blank_lines: loop {
         let end = match blank_line_end(bytes, i) {
             Some(end) => end,
-            None => return indent_of(bytes, i, within),
+            None => {
+                let found = indent(bytes, i);
+                return if within <= found { Some(found) } else { None };
+            }
         };
         if end == bytes.len() {
             return None;
@@ -147,10 +141,7 @@ fn push_own(text: &mut Text, last: Option<LastLine>) -> Result<(), AllocError>
     ensures { IfOk result (λ _. text.new ≡ text.old ++ feeds (own_break (last_row last))) }
 {
     match last {
-        Some(l) => {
-            text.push(b'\n', l.at as usize)?;
-            Ok(())
-        }
+        Some(l) => text.push(b'\n', l.at as usize),
         None => Ok(()),
     }
 }
@@ -176,13 +167,6 @@ fn chomp(
     }
 }
 
-/// Whether one of the three holds.
-fn is_one(a: bool, b: bool, c: bool) -> bool
-    ensures { result ≡ (a || b || c) }
-{
-    a || b || c
-}
-
 /// Adds a break and the breaks of the empty lines after it, kept or folded.
 fn push_break(text: &mut Text, keeps: bool, at: u32, empties: &[u32]) -> Result<(), AllocError>
     ensures { IfOk result
@@ -194,8 +178,7 @@ fn push_break(text: &mut Text, keeps: bool, at: u32, empties: &[u32]) -> Result<
         return push_feeds(text, empties);
     }
     if empties.is_empty() {
-        text.push(b' ', at as usize)?;
-        return Ok(());
+        return text.push(b' ', at as usize);
     }
     push_feeds(text, empties)
 }
@@ -214,7 +197,7 @@ fn push_joint(
         ≡ text.old ++ joint literal (last_row last) empties.now (row_like spaced [])) }
 {
     match last {
-        Some(l) => push_break(text, is_one(literal, l.spaced, spaced), l.at, empties),
+        Some(l) => push_break(text, literal || l.spaced || spaced, l.at, empties),
         None => push_feeds(text, empties),
     }
 }
@@ -285,13 +268,6 @@ fn end_row(
     Ok(bytes.len())
 }
 
-/// Whether a line that isn't all blanks has been read.
-fn is_found(found: bool, is_blank: bool) -> bool
-    ensures { result ≡ (found || not is_blank) }
-{
-    found || !is_blank
-}
-
 /// Reads the rows of a block scalar, starting at a line; the header ends at an offset.
 fn read_rows(
     alloc: Global,
@@ -332,7 +308,7 @@ fn read_rows(
             return Ok(RowsRead { end, next: stop });
         }
         add_row(text, &mut state, bytes, row.from, stop, style.literal)?;
-        found = is_found(found, row.is_blank);
+        found |= !row.is_blank;
         i = after_break(bytes, stop);
     }
 }

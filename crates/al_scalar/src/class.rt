@@ -167,17 +167,10 @@ fn is_float(text: &[u8]) -> bool
 fn may_begin_value(byte: u8) -> bool
     ensures { result ≡ begins_value byte }
 {
-    byte.is_ascii_digit()
-        || byte == b'+'
-        || byte == b'-'
-        || byte == b'.'
-        || byte == b'~'
-        || byte == b'n'
-        || byte == b'N'
-        || byte == b't'
-        || byte == b'T'
-        || byte == b'f'
-        || byte == b'F'
+    matches!(
+        byte,
+        b'0'..=b'9' | b'+' | b'-' | b'.' | b'~' | b'n' | b'N' | b't' | b'T' | b'f' | b'F'
+    )
 }
 
 /// Whether the first byte of a text shows that it is a string, as is the case for most texts.

@@ -159,10 +159,7 @@ pub fn begins(bytes: &[u8], at: usize, byte: u8) -> bool
     ensures value { result ≡ line.begins byte (text_at bytes.now at) }
     ensures inside { IsTrue result → at < length bytes.now }
 {
-    if is_line_end(bytes, at) {
-        return false;
-    }
-    bytes[at] == byte
+    !is_line_end(bytes, at) && bytes[at] == byte
 }
 
 /// Whether a byte occurs three times at an offset, followed by a blank or the end of the line.
@@ -187,8 +184,5 @@ pub fn is_document_marker(bytes: &[u8], at: usize) -> bool
     requires { at ≤ length bytes.now }
     ensures { result ≡ line.is_document_marker (text_at bytes.now at) }
 {
-    if is_marker(bytes, at, b'-') {
-        return true;
-    }
-    is_marker(bytes, at, b'.')
+    is_marker(bytes, at, b'-') || is_marker(bytes, at, b'.')
 }

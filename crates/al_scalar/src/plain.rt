@@ -5,7 +5,7 @@ ghost use Rattle.al_scalar.specs.Line as line;
 ghost use Rattle.al_scalar.specs.Places.{lines_at, text_at};
 ghost use Rattle.al_scalar.specs.LineEnds.{SameLine};
 ghost use Rattle.al_scalar.specs.Plain as plain;
-ghost use Rattle.al_scalar.specs.Private.PlainLines.{context_of, begins_blank_line, text_lines, IsWordAt, IsWordByte, PartTo};
+ghost use Rattle.al_scalar.specs.Private.PlainLines.{context_of, begins_blank_line, text_lines, IsWordByte, PartTo};
 ghost use Rattle.al_scalar.specs.Private.Reads.{Gives, StaysWithin};
 
 use crate::faults::FaultAt;
@@ -41,10 +41,7 @@ fn ends_key(bytes: &[u8], at: usize, context: PlainContext) -> bool
     requires { at ≤ length bytes.now }
     ensures { result ≡ plain.ends_key (context_of context) (text_at bytes.now at) }
 {
-    if is_blank_or_end(bytes, at) {
-        return true;
-    }
-    is_flow(context) && is_flow_indicator(bytes[at])
+    is_blank_or_end(bytes, at) || is_flow(context) && is_flow_indicator(bytes[at])
 }
 
 /// Whether a colon at an offset separates a key from its value.
@@ -52,13 +49,7 @@ fn is_value_colon(bytes: &[u8], at: usize, context: PlainContext) -> bool
     requires { at ≤ length bytes.now }
     ensures { result ≡ plain.is_value_colon (context_of context) (text_at bytes.now at) }
 {
-    if is_line_end(bytes, at) {
-        return false;
-    }
-    if bytes[at] != b':' {
-        return false;
-    }
-    ends_key(bytes, at + 1, context)
+    begins(bytes, at, b':') && ends_key(bytes, at + 1, context)
 }
 
 /// Whether a plain scalar ends before an offset.
@@ -79,30 +70,11 @@ fn ends_plain(bytes: &[u8], at: usize, context: PlainContext, after_blank: bool)
     is_flow(context) && is_flow_indicator(byte)
 }
 
-/// Whether there is a blank before an offset, after the blanks that begin at another one.
-fn is_behind_blank(before: bool, from: usize, to: usize) -> bool
-    requires { from ≤ to }
-    ensures { result ≡ (before || nat_lt from to) }
-{
-    before || from < to
-}
-
-/// Whether a byte is no blank and no part of a break, and no scalar ends before it.
+/// Whether a byte is one of those of which most plain scalars consist. No scalar ends before these, and none is a blank.
 fn is_word(byte: u8) -> bool
     ensures { IsTrue result → IsWordByte byte }
 {
-    // most are letters
-    if byte >= b'a' && byte <= b'z' {
-        return true;
-    }
-    byte > b' ' && byte != b':' && byte != b'#' && !is_flow_indicator(byte)
-}
-
-/// Whether there is a word byte at an offset. Most bytes of plain scalars are.
-fn is_word_at(bytes: &[u8], at: usize) -> bool
-    ensures { IsTrue result → IsWordAt bytes.now at }
-{
-    at < bytes.len() && is_word(bytes[at])
+    matches!(byte, b'a'..=b'z' | b'-'..=b'9' | b'A'..=b'Z' | b'_' | 0x80..=0xff)
 }
 
 /// The offset after the part of a plain scalar on one line, without trailing blanks.
@@ -116,14 +88,14 @@ fn plain_end(bytes: &[u8], at: usize, context: PlainContext, after_blank: bool) 
     let mut end = at;
     let mut behind_blank = after_blank;
     'words: loop {
-        if is_word_at(bytes, end) {
+        if end < bytes.len() && is_word(bytes[end]) {
             end += 1;
             behind_blank = false;
             continue 'words;
         }
         let solid = blanks_end(bytes, end);
-        let flag = is_behind_blank(behind_blank, end, solid);
-        if ends_plain(bytes, solid, context, flag) {
+        behind_blank |= end < solid;
+        if ends_plain(bytes, solid, context, behind_blank) {
             return end;
         }
         end = solid + 1;
@@ -149,22 +121,6 @@ fn text_line(bytes: &[u8], from: usize) -> usize
     }
 }
 
-/// Whether a line in block context continues a plain scalar; its text begins at the second offset.
-fn continues_block(bytes: &[u8], start: usize, solid: usize, within: u32) -> bool
-    requires order { start ≤ length bytes.now }
-    requires inside { solid ≤ length bytes.now }
-    requires solid { line.after_blanks (text_at bytes.now start) ≡ text_at bytes.now solid }
-    ensures { result ≡ plain.continues (plain.block within) (text_at bytes.now start) }
-{
-    if indent(bytes, start) < within as usize {
-        return false;
-    }
-    if begins(bytes, solid, b'#') {
-        return false;
-    }
-    !is_document_marker(bytes, start)
-}
-
 /// Whether a line continues a plain scalar; its text begins at the second offset.
 fn continues(bytes: &[u8], start: usize, solid: usize, context: PlainContext) -> bool
     requires order { start ≤ length bytes.now }
@@ -174,7 +130,11 @@ fn continues(bytes: &[u8], start: usize, solid: usize, context: PlainContext) ->
 {
     match context {
         PlainContext::Flow => !ends_plain(bytes, solid, context, true),
-        PlainContext::Block(within) => continues_block(bytes, start, solid, within),
+        PlainContext::Block(within) => {
+            indent(bytes, start) >= within as usize
+                && !begins(bytes, solid, b'#')
+                && !is_document_marker(bytes, start)
+        }
     }
 }
 
@@ -187,10 +147,7 @@ fn goes_on(bytes: &[u8], start: usize, solid: usize, context: PlainContext) -> b
         (not (line.is_empty (text_at bytes.now solid))
         && plain.continues (context_of context) (text_at bytes.now start)) }
 {
-    if is_line_end(bytes, solid) {
-        return false;
-    }
-    continues(bytes, start, solid, context)
+    !is_line_end(bytes, solid) && continues(bytes, start, solid, context)
 }
 
 /// Whether a colon after a further line of a plain scalar would make the line a key.
@@ -200,10 +157,7 @@ fn makes_key(bytes: &[u8], at: usize, context: PlainContext) -> bool
         (not (plain.is_flow (context_of context))
         && plain.is_value_colon (context_of context) (text_at bytes.now at)) }
 {
-    if is_flow(context) {
-        return false;
-    }
-    is_value_colon(bytes, at, context)
+    !is_flow(context) && is_value_colon(bytes, at, context)
 }
 
 /// Reads a plain scalar, starting at its first character.

@@ -220,35 +220,7 @@ fn escape_at(bytes: &[u8], backslash: usize) -> Mark
     }
 }
 
-/// Reads the single quote at an offset: two of them stand for one, and one alone closes the scalar.
-fn single_quote_at(bytes: &[u8], at: usize) -> Mark
-    requires inside { at < length bytes.now }
-    requires quote { slice_index bytes.now at ≡ 39 }
-    ensures { GivesMark Single bytes.now at result }
-{
-    if begins(bytes, at + 1, b'\'') {
-        return Mark::Character {
-            character: '\'',
-            next: at + 2,
-        };
-    }
-    Mark::Quote
-}
-
-/// Reads the double quote or the escape at an offset.
-fn double_quote_at(bytes: &[u8], at: usize) -> Mark
-    requires inside { at < length bytes.now }
-    requires size { length bytes.now < 2 ^ 32 }
-    requires mark { IsMarkByte Double (slice_index bytes.now at) }
-    ensures { GivesMark Double bytes.now at result }
-{
-    if bytes[at] == b'"' {
-        return Mark::Quote;
-    }
-    escape_at(bytes, at)
-}
-
-/// Reads what ends a run of characters that stand for themselves.
+/// Reads what ends a run of characters that stand for themselves. Two single quotes stand for one.
 fn mark_at(bytes: &[u8], at: usize, quotes: Quotes) -> Mark
     requires inside { at ≤ length bytes.now }
     requires size { length bytes.now < 2 ^ 32 }
@@ -265,8 +237,13 @@ fn mark_at(bytes: &[u8], at: usize, quotes: Quotes) -> Mark
         };
     }
     match quotes {
-        Quotes::Single => single_quote_at(bytes, at),
-        Quotes::Double => double_quote_at(bytes, at),
+        Quotes::Single if begins(bytes, at + 1, b'\'') => Mark::Character {
+            character: '\'',
+            next: at + 2,
+        },
+        Quotes::Single => Mark::Quote,
+        Quotes::Double if bytes[at] == b'"' => Mark::Quote,
+        Quotes::Double => escape_at(bytes, at),
     }
 }
 

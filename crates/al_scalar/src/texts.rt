@@ -65,16 +65,6 @@ impl Model for Runs {
 }
 
 impl Runs {
-    /// Only a first run, starting at an offset. Doesn't allocate.
-    fn one(alloc: Global, first: u32) -> Self
-        ensures { result ≡ first_run first ∷ [] }
-    {
-        Runs {
-            first,
-            rest: Vec::new(alloc),
-        }
-    }
-
     /// The last run.
     fn last(&self) -> Segment
         ensures behind { (n : ℕ) → AreBehind n self.now → result.index ≤ n }
@@ -180,19 +170,6 @@ impl Model for LongText {
 }
 
 impl LongText {
-    /// A text of one run, whose first byte came from an offset.
-    fn of_run(alloc: Global, run: &[u8], first: u32) -> Result<Self, AllocError>
-        requires { AreInRange (cells_from 0 run.now (first_run first ∷ [])) }
-        ensures { IfOk result (λ text. text ≡ cells_from 0 run.now (first_run first ∷ [])) }
-    {
-        let mut bytes = Vec::new(alloc);
-        bytes.extend_from_slice(run)?;
-        Ok(LongText {
-            bytes,
-            runs: Runs::one(alloc, first),
-        })
-    }
-
     /// Adds bytes, of which the first came from an offset, and each further one from the next or, in an escape, the same.
     fn push(&mut self, bytes: &[u8], at: u32, moves: bool) -> Result<(), AllocError>
         requires { AreInRange (run_cells at moves 0 bytes.now) }
@@ -236,7 +213,13 @@ impl ShortText {
         requires { IsSound (Short self.now) }
         ensures { IfOk result (λ text. text ≡ short_cells self.now) }
     {
-        LongText::of_run(alloc, &self.bytes[..self.count as usize], self.first)
+        let mut bytes = Vec::new(alloc);
+        bytes.extend_from_slice(&self.bytes[..self.count as usize])?;
+        let runs = Runs {
+            first: self.first,
+            rest: Vec::new(alloc),
+        };
+        Ok(LongText { bytes, runs })
     }
 }
 

@@ -61,11 +61,3 @@ module _ (old new : Anchors) (key : Vec ℕ) (a : AnchoredNode)
   known-put = λ i name.
       here_or_before (bytes_eq key.items name) (anchors_view old name) (anchors_view new name) (later_of (anchor_seen key.items a) (anchors_view old name))
       (seen-put name) (λ n. ap (option_map (anchor_seen name)) (found-other name n)) i
-
--- an anchor behind which one of its name stands changes nothing
-module _ (old : Anchors) (key : List ℕ) (a : AnchoredNode) (later : is_later a.at (anchors_view old key) ≡ true) where
-  stays : (name : List ℕ) → bytes_eq key name ≡ true → anchors_view old name ≡ later_of (anchor_seen key a) (anchors_view old name)
-  stays name y =
-      let same = (bytes_decides key name).0 y in
-      ap (λ b. cond b (anchors_view old name) (Some (anchor_seen key a))) (sym (ap (λ n. is_later a.at (anchors_view old n)) (sym same) ∙ later))
-      ∙ sym (later-is (anchor_seen key a) (anchors_view old name))

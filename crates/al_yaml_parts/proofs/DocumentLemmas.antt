@@ -4,7 +4,6 @@ use Rattle.al_scalar.specs.Line.{Cell, Line, cut, is_empty, is_marker}
 use Rattle.al_scalar.specs.Places.{lines_at, text_at}
 use Rattle.al_scalar.specs.LineEnds.{IsLineEnd}
 use Rattle.al_yaml_tree.specs.Content.{behind}
-use Rattle.al_yaml_parts.specs.Private.DocumentLines.{IsBehindMarker}
 use Rattle.al_yaml_parts.proofs.LineLemmas.{behind-one}
 use Rattle.al_scalar.proofs.LineCells.{text-line_end, never, IsInside, is_inside}
 use Rattle.al_scalar.proofs.PlainLemmas.{text_at-cell}
@@ -60,6 +59,3 @@ module _ (bytes : List ℕ) (i b : ℕ) (h : i ≤ length bytes) (m : true ≡ i
       let in_three : i + 1 + 1 < length bytes = three.inside in
       let same : i + 1 + 1 + 1 ≡ i + 3 = omega arith in
       (behind-three (lines_at bytes i) ∙ ap (λ ls. behind 1 (behind 1 ls)) one.behind ∙ ap (behind 1) two.behind ∙ three.behind ∙ ap (lines_at bytes) same, omega arith)
-
-  pub marker-found : IsBehindMarker bytes i b (Some (i + 3))
-  marker-found = let found = marker-behind in (m, found.0, omega arith, found.1)

@@ -10,7 +10,7 @@ use Rattle.std.proofs.Common.{zero}
 use Rattle.std.proofs.Math.Bool.{or-false}
 use Rattle.std.proofs.lemmas.Bool.{and_parts, eq-eqb, eqb-true, ne_eqb, or_right}
 use Rattle.al_scalar.specs.Plain.{Context, flow, block, is_value_colon, ends_key, begins_flow_indicator}
-use Rattle.al_scalar.proofs.MarkerLemmas.{begins-inside}
+use Rattle.al_scalar.proofs.MarkerLemmas.{begins-inside, colon-ends}
 use Rattle.al_yaml_tree.specs.Content.{same_line, characters, behind}
 use Rattle.al_yaml_tree.specs.Flow as items
 use Rattle.al_yaml_parts.specs.BlockReads as block_reads
@@ -171,26 +171,16 @@ module _ (bytes : List ℕ) (from i to : ℕ) (inside : to ≤ length bytes) whe
 
 -- ---- colons
 
-none : (t : List Cell) → false ≡ begins 58 t → (p : Context) → false ≡ is_value_colon p t
-none [] h p = refl
-none (c ∷ cs) h p = ap (λ b. b && ends_key p cs) h
-
 module _ (bytes : List ℕ) (at : ℕ) (inside : at ≤ length bytes) where
   module _ (colon : true ≡ begins 58 (text_at bytes at)) where
-    cell : text_at bytes at ≡ (slice_index bytes at, at) ∷ text_at bytes (at + 1)
-    cell = text_at-cell bytes at inside (begins-inside bytes at 58 inside colon)
-
-    pub colon-ends : (p : Context) (r : Bool) → r ≡ ends_key p (text_at bytes (at + 1)) → r ≡ is_value_colon p (text_at bytes at)
-    colon-ends p r h = h ∙ ap (λ b. b && ends_key p (text_at bytes (at + 1))) (colon ∙ ap (begins 58) cell) ∙ sym (ap (is_value_colon p) cell)
-
     pub block-ends : (r : Bool) → r ≡ is_blank_or_end (text_at bytes (at + 1)) → r ≡ is_value_colon (block 0) (text_at bytes at)
-    block-ends r h = colon-ends (block 0) r (h ∙ sym (or-false (is_blank_or_end (text_at bytes (at + 1)))))
+    block-ends r h = colon-ends bytes at inside (block 0) colon r (h ∙ sym (or-false (is_blank_or_end (text_at bytes (at + 1)))))
 
     pub flow-blank : true ≡ is_blank_or_end (text_at bytes (at + 1)) → true ≡ is_value_colon flow (text_at bytes at)
-    flow-blank h = colon-ends flow true (ap (λ b. b || begins_flow_indicator (text_at bytes (at + 1))) h)
+    flow-blank h = colon-ends bytes at inside flow colon true (ap (λ b. b || begins_flow_indicator (text_at bytes (at + 1))) h)
 
     pub flow-other : (r : Bool) → false ≡ is_blank_or_end (text_at bytes (at + 1)) → r ≡ begins_flow_indicator (text_at bytes (at + 1)) → r ≡ is_value_colon flow (text_at bytes at)
-    flow-other r h k = colon-ends flow r (k ∙ ap (λ b. b || begins_flow_indicator (text_at bytes (at + 1))) h)
+    flow-other r h k = colon-ends bytes at inside flow colon r (k ∙ ap (λ b. b || begins_flow_indicator (text_at bytes (at + 1))) h)
 
 solid-colon : (bytes : List ℕ) (solid : ℕ) → solid ≤ length bytes → begins 58 (text_at bytes solid) ≡ true → (behind 1 (lines_at bytes solid) ≡ lines_at bytes (solid + 1)) × (solid < length bytes)
 solid-colon bytes solid inside h =
@@ -223,6 +213,9 @@ module _ (bytes : List ℕ) (at solid : ℕ) (from : at ≤ solid) (inside : sol
 
   pub block_found : true ≡ is_value_colon (block 0) (text_at bytes solid) → IsColon (block_reads.behind_colon_in_block (lines_at bytes at)) bytes at (Some (solid + 1))
   block_found h = found_by (block 0) false h
+
+  pub block_missed : false ≡ is_value_colon (block 0) (text_at bytes solid) → block_reads.behind_colon_in_block (lines_at bytes at) ≡ None
+  block_missed h = ap (λ b. cond b (Some (behind 1 (blanks_dropped (lines_at bytes at)))) None) (ap (is_value_colon (block 0)) text_solid ∙ sym h)
 
   pub flow_found : (q : Bool) → true ≡ is_value_colon flow (text_at bytes solid) → IsColon (items.behind_colon_in_flow q (lines_at bytes at)) bytes at (Some (solid + 1))
   flow_found q h = found_by flow (q && begins 58 (text_at bytes at)) h

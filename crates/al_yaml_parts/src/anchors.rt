@@ -120,21 +120,11 @@ impl Anchors {
         let node = sharable(file.alloc, node)?;
         let result = shared_node(&node)?;
         let name = Vec::from_slice(file.alloc, name_at(file.bytes, at))?;
-        self.note(name, AnchoredNode { at, node })?;
-        Ok(result)
-    }
-
-    /// Adds an anchor.
-    fn note(&mut self, name: Vec<u8>, anchor: AnchoredNode) -> Result<(), AllocError>
-        ensures { IfOk result
-            (λ _. anchors_view self.new
-            ≡ with_anchor (anchor_seen name.items anchor) (anchors_view self.old)) }
-    {
-        if self.has_later(name.as_slice(), anchor.at) {
-            return Ok(());
+        if self.has_later(name.as_slice(), at) {
+            return Ok(result);
         }
-        self.latest.insert(name, anchor)?;
-        Ok(())
+        self.latest.insert(name, AnchoredNode { at, node })?;
+        Ok(result)
     }
 
     /// Whether the anchor with a name is after an offset.

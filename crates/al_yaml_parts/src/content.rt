@@ -5,7 +5,7 @@ ghost use Rattle.al_scalar.specs.Places.{lines_at, text_at};
 ghost use Rattle.al_yaml_tree.specs.Content as content;
 ghost use Rattle.al_yaml_tree.specs.Flow as flow;
 ghost use Rattle.al_yaml_parts.specs.Places.{IsLineFrom, Shows, next_of};
-ghost use Rattle.std.specs.Prelude.{IfErr, IfOk, IfSome, IsTrue, false, length, slice_index, ◌<◌, ◌↔◌, ◌≡◌, ◌≤◌};
+ghost use Rattle.std.specs.Prelude.{IfErr, IfOk, IfSome, IsTrue, false, length, ◌<◌, ◌≡◌, ◌≤◌};
 
 use crate::lines::{is_text_end, next_line};
 use al_base::YamlCode;
@@ -26,10 +26,7 @@ pub fn is_skipped(bytes: &[u8], at: usize) -> bool
     ensures { result ≡ content.is_skipped (text_at bytes.now at) }
 {
     let solid = blanks_end(bytes, at);
-    if is_text_end(bytes, solid) {
-        return true;
-    }
-    begins(bytes, solid, b'#')
+    is_text_end(bytes, solid) || begins(bytes, solid, b'#')
 }
 
 /// The first line, from the start of a line on, that isn't blank or a comment; otherwise the file's end.
@@ -51,27 +48,6 @@ pub fn next_text_line(bytes: &[u8], at: usize) -> usize
     line
 }
 
-/// What a line that isn't blank or a comment begins.
-fn content_line(bytes: &[u8], at: usize) -> Result<Next, FaultAt>
-    requires { at ≤ length bytes.now }
-    ensures fault { IfErr result (λ f. f.at ≤ length bytes.now) }
-    ensures is { Shows (next_of bytes.now) (content.content_line (lines_at bytes.now at)) result }
-    ensures from { IfOk result (λ next. IsLineFrom at (length bytes.now) next) }
-{
-    if is_document_marker(bytes, at) {
-        return Ok(Next::Ended);
-    }
-    let indent = indent(bytes, at);
-    let solid = at + indent;
-    if begins(bytes, solid, b'\t') {
-        return Err(FaultAt {
-            code: YamlCode::TabInIndentation,
-            at: solid,
-        });
-    }
-    Ok(Next::Line { indent, at: solid })
-}
-
 /// The first content line from the start of a line on.
 pub fn next_content(bytes: &[u8], at: usize) -> Result<Next, FaultAt>
     requires { at ≤ length bytes.now }
@@ -83,7 +59,18 @@ pub fn next_content(bytes: &[u8], at: usize) -> Result<Next, FaultAt>
     if line == bytes.len() {
         return Ok(Next::Ended);
     }
-    content_line(bytes, line)
+    if is_document_marker(bytes, line) {
+        return Ok(Next::Ended);
+    }
+    let indent = indent(bytes, line);
+    let solid = line + indent;
+    if begins(bytes, solid, b'\t') {
+        return Err(FaultAt {
+            code: YamlCode::TabInIndentation,
+            at: solid,
+        });
+    }
+    Ok(Next::Line { indent, at: solid })
 }
 
 /// Whether the rest of the line is only blanks, or blanks and a comment.
@@ -92,13 +79,7 @@ fn ends_line(bytes: &[u8], at: usize) -> bool
     ensures { result ≡ content.ends_line (text_at bytes.now at) }
 {
     let solid = blanks_end(bytes, at);
-    if is_text_end(bytes, solid) {
-        return true;
-    }
-    if !is_blank_or_end(bytes, at) {
-        return false;
-    }
-    begins(bytes, solid, b'#')
+    is_text_end(bytes, solid) || is_blank_or_end(bytes, at) && begins(bytes, solid, b'#')
 }
 
 /// The start of the line after a node, which must end its line.
@@ -124,10 +105,7 @@ pub fn is_dash(bytes: &[u8], at: usize) -> bool
     ensures value { result ≡ content.is_dash (text_at bytes.now at) }
     ensures inside { IsTrue result → at < length bytes.now }
 {
-    if !begins(bytes, at, b'-') {
-        return false;
-    }
-    is_blank_or_end(bytes, at + 1)
+    begins(bytes, at, b'-') && is_blank_or_end(bytes, at + 1)
 }
 
 /// The first tab among the blanks at an offset.
@@ -150,23 +128,8 @@ fn is_gap_line(bytes: &[u8], at: usize, at_start: bool, solid: usize) -> bool
     requires solid_inside { solid ≤ length bytes.now }
     ensures { result ≡ flow.is_gap_line at_start (text_at bytes.now at) }
 {
-    if is_text_end(bytes, solid) {
-        return true;
-    }
-    if !begins(bytes, solid, b'#') {
-        return false;
-    }
-    if at_start {
-        return true;
-    }
-    is_blank_or_end(bytes, at)
-}
-
-/// Whether the byte at an offset is greater than blanks, breaks and `#`, so that no gap begins with it.
-fn is_solid(bytes: &[u8], at: usize) -> bool
-    ensures { IsTrue result ↔ ((at < length bytes.now) × (35 < slice_index bytes.now at)) }
-{
-    at < bytes.len() && bytes[at] > b'#'
+    is_text_end(bytes, solid)
+        || begins(bytes, solid, b'#') && (at_start || is_blank_or_end(bytes, at))
 }
 
 /// The offset after the blanks, breaks and comments at an offset in a flow collection.
@@ -177,7 +140,8 @@ pub fn gap_end(bytes: &[u8], at: usize) -> usize
     ensures inside { result ≤ length bytes.now }
     ensures lines { flow.gap false (lines_at bytes.now at) ≡ lines_at bytes.now result }
 {
-    if is_solid(bytes, at) {
+    // greater than blanks, breaks and `#`
+    if at < bytes.len() && bytes[at] > b'#' {
         return at;
     }
     let mut line = at;

@@ -2,7 +2,6 @@
 
 ghost use Rattle.al_scalar.specs.Places.{lines_at};
 ghost use Rattle.al_yaml_tree.specs.Document as document;
-ghost use Rattle.al_yaml_parts.specs.Private.DocumentLines.{IsBehindMarker};
 ghost use Rattle.al_yaml_parts.specs.Places.{Shows};
 ghost use Rattle.std.specs.Prelude.{◌≤◌, IfErr, IfOk, length};
 
@@ -22,38 +21,17 @@ pub fn document_start(bytes: &[u8], at: usize) -> Result<usize, FaultAt>
     ensures inside { IfOk result (λ next. next ≤ length bytes.now) }
     ensures from { IfOk result (λ next. at ≤ next) }
 {
-    first_line(bytes, next_text_line(bytes, at))
-}
-
-/// The start of the root's lines, given the start of the first content line.
-fn first_line(bytes: &[u8], at: usize) -> Result<usize, FaultAt>
-    requires { at ≤ length bytes.now }
-    ensures fault { IfErr result (λ f. f.at ≤ length bytes.now) }
-    ensures is { Shows (lines_at bytes.now) (document.first_line (lines_at bytes.now at)) result }
-    ensures inside { IfOk result (λ next. next ≤ length bytes.now) }
-    ensures from { IfOk result (λ next. at ≤ next) }
-{
-    if begins(bytes, at, b'%') {
+    let line = next_text_line(bytes, at);
+    if begins(bytes, line, b'%') {
         return Err(FaultAt {
             code: YamlCode::Directive,
-            at,
+            at: line,
         });
     }
-    if let Some(next) = behind_marker(bytes, at, b'-') {
-        return line_behind(bytes, next);
+    if is_marker(bytes, line, b'-') {
+        return line_behind(bytes, line + 3);
     }
-    Ok(at)
-}
-
-/// The offset after the document marker at a line's start, if there is one.
-fn behind_marker(bytes: &[u8], at: usize, byte: u8) -> Option<usize>
-    requires { at ≤ length bytes.now }
-    ensures { IsBehindMarker bytes.now at byte result }
-{
-    if is_marker(bytes, at, byte) {
-        return Some(at + 3);
-    }
-    None
+    Ok(line)
 }
 
 /// Checks what comes after the root: nothing, or a `...` with nothing after it. Otherwise fails at the second
@@ -67,25 +45,16 @@ pub fn document_end(bytes: &[u8], at: usize) -> Result<(), FaultAt>
     if line == bytes.len() {
         return Ok(());
     }
-    last_line(bytes, line)
-}
-
-/// Checks a line after the root.
-fn last_line(bytes: &[u8], at: usize) -> Result<(), FaultAt>
-    requires { at ≤ length bytes.now }
-    ensures fault { IfErr result (λ f. f.at ≤ length bytes.now) }
-    ensures is { Shows (λ _. tt) (document.last_line (lines_at bytes.now at)) result }
-{
-    if is_marker(bytes, at, b'-') {
+    if is_marker(bytes, line, b'-') {
         return Err(FaultAt {
             code: YamlCode::SecondDocument,
-            at,
+            at: line,
         });
     }
-    if let Some(next) = behind_marker(bytes, at, b'.') {
-        return check_nothing_behind(bytes, next);
+    if is_marker(bytes, line, b'.') {
+        return check_nothing_behind(bytes, line + 3);
     }
-    let solid = at + indent(bytes, at);
+    let solid = line + indent(bytes, line);
     if begins(bytes, solid, b'\t') {
         return Err(FaultAt {
             code: YamlCode::TabInIndentation,

@@ -52,25 +52,16 @@ pub fn is_short_key(bytes: &[u8], at: usize, read: &ScalarRead) -> bool
     characters(bytes, at, end) <= LONGEST_KEY
 }
 
-/// Whether a colon that separates a key from its value in block context is at an offset.
-fn is_block_colon(bytes: &[u8], at: usize) -> bool
-    requires { at ≤ length bytes.now }
-    ensures value { result ≡ plain.is_value_colon (plain.block 0) (text_at bytes.now at) }
-    ensures begins { IsTrue result → line.begins 58 (text_at bytes.now at) ≡ true }
-{
-    if !begins(bytes, at, b':') {
-        return false;
-    }
-    is_blank_or_end(bytes, at + 1)
-}
-
 /// The offset after the colon that separates a block mapping's key from its value, if one follows.
 pub fn behind_colon(bytes: &[u8], at: usize) -> Option<usize>
     requires { at ≤ length bytes.now }
     ensures { IsColon (block_reads.behind_colon_in_block (lines_at bytes.now at)) bytes.now at result }
 {
     let solid = blanks_end(bytes, at);
-    if !is_block_colon(bytes, solid) {
+    if !begins(bytes, solid, b':') {
+        return None;
+    }
+    if !is_blank_or_end(bytes, solid + 1) {
         return None;
     }
     Some(solid + 1)
@@ -81,10 +72,7 @@ pub fn has_colon(bytes: &[u8], at: usize) -> bool
     requires { at ≤ length bytes.now }
     ensures { result ≡ keys.has_colon (lines_at bytes.now at) }
 {
-    match behind_colon(bytes, at) {
-        Some(_) => true,
-        None => false,
-    }
+    behind_colon(bytes, at).is_some()
 }
 
 /// Whether a colon that separates a key from its value in a flow mapping is at an offset.
@@ -93,13 +81,8 @@ fn is_flow_colon(bytes: &[u8], at: usize) -> bool
     ensures value { result ≡ plain.is_value_colon plain.flow (text_at bytes.now at) }
     ensures begins { IsTrue result → line.begins 58 (text_at bytes.now at) ≡ true }
 {
-    if !begins(bytes, at, b':') {
-        return false;
-    }
-    if is_blank_or_end(bytes, at + 1) {
-        return true;
-    }
-    begins_flow_indicator(bytes, at + 1)
+    begins(bytes, at, b':')
+        && (is_blank_or_end(bytes, at + 1) || begins_flow_indicator(bytes, at + 1))
 }
 
 /// Whether a colon directly follows a quoted key.
@@ -107,10 +90,7 @@ fn is_quoted_colon(bytes: &[u8], at: usize, after_quote: bool) -> bool
     requires { at ≤ length bytes.now }
     ensures { result ≡ (after_quote && line.begins 58 (text_at bytes.now at)) }
 {
-    if !after_quote {
-        return false;
-    }
-    begins(bytes, at, b':')
+    after_quote && begins(bytes, at, b':')
 }
 
 /// The offset after the colon that separates a flow mapping's key from its value, if one follows on the line.
@@ -134,10 +114,7 @@ pub fn is_late_colon(bytes: &[u8], at: usize) -> bool
     ensures { result ≡ flow.is_late_colon (lines_at bytes.now at) }
 {
     let next = gap_end(bytes, at);
-    if !begins(bytes, next, b':') {
-        return false;
-    }
-    !is_same_line(bytes, at, next)
+    begins(bytes, next, b':') && !is_same_line(bytes, at, next)
 }
 
 /// A key of a block mapping, and the offset after its colon.
@@ -155,21 +132,12 @@ fn key_scalar(file: &File, at: usize) -> Result<ScalarRead, ReadError>
         (keys.key_scalar (left_at file.now at)) result }
     ensures inside { IfOk result (λ read. IsReadInside file.now.bytes.now at read) }
 {
+    let place = ScalarContext::BlockFromIndent(0);
     if is_quote(file.bytes, at) {
-        return scalar_at(
-            file.alloc,
-            file.bytes,
-            at,
-            ScalarContext::BlockFromIndent(0),
-        );
+        return scalar_at(file.alloc, file.bytes, at, place);
     }
     let end = line_end(file.bytes, at);
-    scalar_at(
-        file.alloc,
-        &file.bytes[..end],
-        at,
-        ScalarContext::BlockFromIndent(0),
-    )
+    scalar_at(file.alloc, &file.bytes[..end], at, place)
 }
 
 /// The key that begins at an offset, if one does. It may still be too long or span several lines.
@@ -201,19 +169,6 @@ fn is_key_start(bytes: &[u8], at: usize) -> bool
         || block_fault(bytes, at).is_some())
 }
 
-/// Whether a scalar on one line begins at an offset and a colon follows it.
-fn is_key(file: &File, at: usize) -> Result<bool, AllocError>
-    requires { at ≤ size file.now }
-    ensures { IfOk result (λ b. b ≡ keys.begins_key (left_at file.now at)) }
-{
-    match key_at(file, at) {
-        Ok(Some(key)) => Ok(is_same_line(file.bytes, at, key.read.next)),
-        Ok(None) => Ok(false),
-        Err(ReadError::Fault(_)) => Ok(false),
-        Err(ReadError::Memory) => Err(AllocError),
-    }
-}
-
 /// Whether the anchor or alias at an offset belongs to a key: the alias itself, or what follows the anchor on its
 /// line.
 pub fn is_on_key(file: &File, at: usize) -> Result<bool, AllocError>
@@ -229,7 +184,11 @@ pub fn is_on_key(file: &File, at: usize) -> Result<bool, AllocError>
     if !is_key_start(file.bytes, solid) {
         return Ok(false);
     }
-    is_key(file, solid)
+    match key_at(file, solid) {
+        Ok(Some(key)) => Ok(is_same_line(file.bytes, solid, key.read.next)),
+        Ok(None) | Err(ReadError::Fault(_)) => Ok(false),
+        Err(ReadError::Memory) => Err(AllocError),
+    }
 }
 
 /// The fault of an anchor or alias where an entry of an open mapping is expected.

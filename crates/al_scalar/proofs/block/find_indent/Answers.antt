@@ -1,16 +1,25 @@
 use Rattle.std.proofs.Common.{◌∙◌, Some, None, sym, subst}
-use Rattle.al_scalar.specs.Places.{lines_at}
+use Rattle.al_scalar.specs.Places.{lines_at, text_at}
 use Rattle.al_scalar.specs.LineEnds.{BlankTo}
 use Rattle.al_scalar.proofs.LineCells.{lines_at-some}
-use Rattle.al_scalar.proofs.BlockLemmas.{found-solid, found-last, found-next}
+use Rattle.al_scalar.proofs.BlockLemmas.{indent_from-yes, indent_from-no, found-solid, found-last, found-next}
 use Rattle.al_scalar.proofs.block.find_indent.Goals as goal
 
-pub returns-in-None : goal.returns-in-None
-returns-in-None c =
+pub returns-then-within-found : goal.returns-then-within-found
+returns-then-within-found c =
     let bytes = c.args.bytes.now in
     let i = c.blank_lines.i in
     let blank : BlankTo bytes i None = subst (λ b. BlankTo bytes i b) c.in-None.is c.blank_line_end.ensures in
-    c.indent_of.ensures ∙ sym (c.blank_lines.invariant.found ∙ found-solid c.args.within (lines_at bytes i) (lines_at-some bytes i) blank)
+    indent_from-yes c.args.within (text_at bytes i) c.indent-found.result (sym c.indent-found.ensures.is) c.if-within-found.true
+    ∙ sym (c.blank_lines.invariant.found ∙ found-solid c.args.within (lines_at bytes i) (lines_at-some bytes i) blank)
+
+pub returns-else-within-found : goal.returns-else-within-found
+returns-else-within-found c =
+    let bytes = c.args.bytes.now in
+    let i = c.blank_lines.i in
+    let blank : BlankTo bytes i None = subst (λ b. BlankTo bytes i b) c.in-None.is c.blank_line_end.ensures in
+    indent_from-no c.args.within (text_at bytes i) c.indent-found.result (sym c.indent-found.ensures.is) c.if-within-found.false
+    ∙ sym (c.blank_lines.invariant.found ∙ found-solid c.args.within (lines_at bytes i) (lines_at-some bytes i) blank)
 
 pub returns-then-end-bytes : goal.returns-then-end-bytes
 returns-then-end-bytes c =

@@ -34,9 +34,9 @@ rows-preserved c =
       from = omega (arith, c.rows.invariant.from, c.in_ok-add_row.ensures.within.0);
       behind = omega (arith, c.in_ok-add_row.ensures.within.1, c.after_break-i.ensures.after);
       inside = c.after_break-i.ensures.inside;
-      rows = rows-more c.add_row.new.text c.rows.text style.literal style.chomping style.indent c.rows.found c.is_found-found.result c.in-Some.row.is_blank
+      rows = rows-more c.add_row.new.text c.rows.text style.literal style.chomping style.indent c.rows.found c.in-Some.row.is_blank
           (last_row was.last) (last_row is.last) was.empties.items is.empties.items was.end is.end bytes i c.in-Some.row.from c.line_end-stop.result c.after_break-i.result
-          c.rows.invariant.rows start.row start.on_line.same c.line_end-stop.ensures.on_line.same c.line_end-stop.ensures.text c.after_break-i.ensures.lines start.blank c.is_found-found.ensures
+          c.rows.invariant.rows start.row start.on_line.same c.line_end-stop.ensures.on_line.same c.line_end-stop.ensures.text c.after_break-i.ensures.lines start.blank
           (c.in_ok-add_row.ensures.text style.chomping) c.in_ok-add_row.ensures.end;
     }
 

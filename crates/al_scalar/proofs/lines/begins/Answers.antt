@@ -2,5 +2,5 @@ use Rattle.al_scalar.proofs.LineCells.{never}
 use Rattle.al_scalar.proofs.MarkerLemmas.{begins-cell_at}
 use Rattle.al_scalar.proofs.lines.begins.Goals as goal
 
-pub returns-clause-value : goal.returns-clause-value
-returns-clause-value c = begins-cell_at c.args.bytes.now c.args.at c.args.byte c.requires (λ h. never (c.if-is_line_end.ensures.1 h))
+pub returns-then-not-is_line_end-clause-value : goal.returns-then-not-is_line_end-clause-value
+returns-then-not-is_line_end-clause-value c = begins-cell_at c.args.bytes.now c.args.at c.args.byte c.requires (λ h. never (c.if-not-is_line_end.ensures.1 h))

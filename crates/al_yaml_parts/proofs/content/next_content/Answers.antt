@@ -1,6 +1,7 @@
-use Rattle.std.proofs.Common.{refl, arith}
+use Rattle.std.proofs.Common.{◌+◌, refl, arith}
 use Rattle.al_scalar.specs.Places.{text_at}
 use Rattle.al_scalar.proofs.LineCells.{lines-at_end}
+use Rattle.al_scalar.proofs.RestLemmas.{start-at}
 use Rattle.al_yaml_parts.proofs.ContentLemmas.{skipped-solid}
 use Rattle.al_yaml_parts.proofs.content.next_content.Goals as goal
 
@@ -8,7 +9,35 @@ pub returns-then-line-bytes-clause-is : goal.returns-then-line-bytes-clause-is
 returns-then-line-bytes-clause-is c =
     rw (c.next_text_line-line.ensures.lines, lines-at_end c.args.bytes.now c.next_text_line-line.result c.if-line-bytes.true) refl
 
+pub returns-then-is_document_marker-clause-is : goal.returns-then-is_document_marker-clause-is
+returns-then-is_document_marker-clause-is c =
+    let line = c.next_text_line-line in
+    let text = line.ensures.text (omega (arith, line.ensures.inside, c.if-line-bytes.false)) in
+    rw (line.ensures.lines, ← skipped-solid (text_at c.args.bytes.now line.result) text, ← c.if-is_document_marker.ensures) refl
+
+pub returns-then-begins-clause-is : goal.returns-then-begins-clause-is
+returns-then-begins-clause-is c =
+    let line = c.next_text_line-line in
+    let text = line.ensures.text (omega (arith, line.ensures.inside, c.if-line-bytes.false)) in
+    let here = start-at c.args.bytes.now (line.result + c.indent-indent.result) c.indent-indent.ensures.inside in
+    rw (
+      line.ensures.lines,
+      ← skipped-solid (text_at c.args.bytes.now line.result) text,
+      ← c.if-is_document_marker.ensures,
+      c.indent-indent.ensures.dropped,
+      ← c.if-begins.ensures.value,
+      here,
+    ) refl
+
 pub returns-clause-is : goal.returns-clause-is
 returns-clause-is c =
-    let text = c.next_text_line-line.ensures.text (omega (arith, c.next_text_line-line.ensures.inside, c.if-line-bytes.false)) in
-    rw (c.next_text_line-line.ensures.lines, ← skipped-solid (text_at c.args.bytes.now c.next_text_line-line.result) text) c.content_line.ensures.is
+    let line = c.next_text_line-line in
+    let text = line.ensures.text (omega (arith, line.ensures.inside, c.if-line-bytes.false)) in
+    rw (
+      line.ensures.lines,
+      ← skipped-solid (text_at c.args.bytes.now line.result) text,
+      ← c.if-is_document_marker.ensures,
+      c.indent-indent.ensures.dropped,
+      ← c.if-begins.ensures.value,
+      ← c.indent-indent.ensures.is,
+    ) refl
