@@ -12,3 +12,4 @@ pub mod OnceLemmas
 pub mod Scans
 pub mod NameIndexes
 pub mod Stays
+pub mod Returned

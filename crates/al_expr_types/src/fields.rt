@@ -64,10 +64,7 @@ impl<'a> FieldMap<'a> {
         let position = self.names.position(alloc, name)?;
         match position {
             Some(_) => Ok(self),
-            None => {
-                let more = self.push(alloc, name, ty)?;
-                Ok(more)
-            }
+            None => self.push(alloc, name, ty),
         }
     }
 

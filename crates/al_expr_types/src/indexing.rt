@@ -32,22 +32,12 @@ impl<'a> Types<'a> {
             → are_joins_below (length self.now.objects.items) m ≡ true) }
     {
         if let Some(index) = self.index_of(n) {
-            let indexed = sofar.and_object(self.alloc, index)?;
-            return Ok(indexed);
+            return sofar.and_object(self.alloc, index);
         }
         match self.object(n) {
-            Object::Fields(fields) => {
-                let merged = sofar.and_object(self.alloc, fields)?;
-                Ok(merged)
-            }
-            Object::Extension(extension) => {
-                let merged = sofar.and_object(self.alloc, &extension.fields)?;
-                Ok(merged)
-            }
-            Object::Strings(names) => {
-                let merged = sofar.and_strings(self.alloc, names)?;
-                Ok(merged)
-            }
+            Object::Fields(fields) => sofar.and_object(self.alloc, fields),
+            Object::Extension(extension) => sofar.and_object(self.alloc, &extension.fields),
+            Object::Strings(names) => sofar.and_strings(self.alloc, names),
             Object::Common(of) => {
                 let mut all = sofar;
                 for m in of.as_slice() {
@@ -92,8 +82,7 @@ impl<'a> Types<'a> {
         let types = self.types_of(&merging)?;
         let rest = self.join_type(others)?;
         let names = merging.into_names();
-        let fields = Fields::of(self.alloc, FieldMap { names, types }, rest)?;
-        Ok(fields)
+        Fields::of(self.alloc, FieldMap { names, types }, rest)
     }
 
     /// The number of fields of an object, by its index or by itself.

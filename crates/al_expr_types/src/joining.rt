@@ -66,10 +66,7 @@ fn join_types(alloc: Global, a: Ty, b: Ty) -> Result<Join, AllocError>
         },
         Base::Object(m) => match b.of {
             Base::Scalar(_) => Ok(Join::One(any_in_arrays(a.arrays))),
-            Base::Object(n) => {
-                let join = join_objects(alloc, a.arrays, m, n)?;
-                Ok(join)
-            }
+            Base::Object(n) => join_objects(alloc, a.arrays, m, n),
         },
     }
 }
@@ -171,8 +168,7 @@ impl ObjectJoin {
         if self.has(n) {
             return Ok(self);
         }
-        let more = self.push(n)?;
-        Ok(more)
+        self.push(n)
     }
 
     fn and(self, t: Ty) -> Result<Join, AllocError>

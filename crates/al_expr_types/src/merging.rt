@@ -110,14 +110,8 @@ impl<'a> FieldJoins<'a> {
     {
         let position = self.names.position(alloc, name)?;
         match position {
-            Some(i) => {
-                let more = self.join_at(alloc, name, i, ty)?;
-                Ok(more)
-            }
-            None => {
-                let more = self.push(alloc, name, ty)?;
-                Ok(more)
-            }
+            Some(i) => self.join_at(alloc, name, i, ty),
+            None => self.push(alloc, name, ty),
         }
     }
 
@@ -137,8 +131,7 @@ impl<'a> FieldJoins<'a> {
             ≡ true → is_below k ty ≡ true → are_joins_below k m ≡ true) }
     {
         if is_first {
-            let more = self.and(alloc, name, ty)?;
-            return Ok(more);
+            return self.and(alloc, name, ty);
         }
         Ok(self)
     }
@@ -201,7 +194,6 @@ impl<'a> FieldJoins<'a> {
             → are_joins_below k m ≡ true) }
     {
         let map = &*fields.map;
-        let merged = self.and_fields(alloc, &map.names, &map.types.as_slice()[..fields.count])?;
-        Ok(merged)
+        self.and_fields(alloc, &map.names, &map.types.as_slice()[..fields.count])
     }
 }

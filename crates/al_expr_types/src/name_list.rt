@@ -44,8 +44,7 @@ impl Name {
     pub fn copy(&self, alloc: Global) -> Result<Name, AllocError>
         ensures { IfOk result (λ copy. copy ≡ self.now) }
     {
-        let copy = Name::new(alloc, self.as_bytes())?;
-        Ok(copy)
+        Name::new(alloc, self.as_bytes())
     }
 }
 
@@ -115,8 +114,7 @@ fn positions_of(alloc: Global, names: &[Name]) -> Result<NamePositions, AllocErr
     ensures first { IfOk result (λ p. TellsFirsts (name_place names.now) names.now (is_first_name p)) }
 {
     let bytes = bytes_of(alloc, names)?;
-    let positions = NamePositions::of(alloc, bytes.as_slice())?;
-    Ok(positions)
+    NamePositions::of(alloc, bytes.as_slice())
 }
 
 /// Copies of names, each with memory of its own.
@@ -154,8 +152,7 @@ impl NameList {
         ensures { IfOk result (λ copy. copy ≡ self.now) }
     {
         let names = copies_of(alloc, self.as_slice())?;
-        let copy = NameList::new(alloc, names)?;
-        Ok(copy)
+        NameList::new(alloc, names)
     }
 
     /// The name at a position.
@@ -177,8 +174,7 @@ impl NameList {
     pub fn position(&self, alloc: Global, name: &[u8]) -> Result<Option<usize>, AllocError>
         ensures { IfOk result (λ i. i ≡ name_place self.now name.now) }
     {
-        let i = self.positions.get(alloc, name)?;
-        Ok(i)
+        self.positions.get(alloc, name)
     }
 
     /// Whether the name at a position is the first of its name.

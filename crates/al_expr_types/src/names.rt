@@ -109,10 +109,7 @@ impl<'a> Names<'a> {
         ensures { IfOk result (λ i. i ≡ name_place (names_in self.now) name.now) }
     {
         match &self.index {
-            Some(index) => {
-                let i = index.get(alloc, name)?;
-                Ok(i)
-            }
+            Some(index) => index.get(alloc, name),
             None => Ok(scan(self.names.as_slice(), name)),
         }
     }

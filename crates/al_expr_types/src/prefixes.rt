@@ -170,13 +170,9 @@ impl<'a> Prefixes<'a> {
             Some(base) => {
                 let all = self.map.types.as_slice();
                 let own = new_types(types.alloc, all, self.firsts.as_slice(), base.count, count)?;
-                let n = types.push(Object::Extension(Extension { fields, base, own }))?;
-                Ok(n)
+                types.push(Object::Extension(Extension { fields, base, own }))
             }
-            None => {
-                let n = types.push(Object::Fields(fields))?;
-                Ok(n)
-            }
+            None => types.push(Object::Fields(fields)),
         }
     }
 

@@ -64,17 +64,12 @@ impl Fields<'_> {
         match part {
             Part::Named(name) => {
                 let found = self.map.get(alloc, name, self.count)?;
-                let named = and_one(alloc, found, sofar)?;
-                Ok(named)
+                and_one(alloc, found, sofar)
             }
-            Part::Rest => {
-                let rest = and_one(alloc, self.rest, sofar)?;
-                Ok(rest)
-            }
+            Part::Rest => and_one(alloc, self.rest, sofar),
             Part::All => {
                 let all = and_all(alloc, &self.map.types.as_slice()[..self.count], sofar)?;
-                let more = and_one(alloc, self.rest, all)?;
-                Ok(more)
+                and_one(alloc, self.rest, all)
             }
         }
     }
@@ -124,8 +119,7 @@ impl<'a> Types<'a> {
             (λ f. are_fields_below (length self.now.objects.items) f.now ≡ true) }
     {
         match part {
-            Part::Named(_) => self.index_of(n),
-            Part::Rest => self.index_of(n),
+            Part::Named(_) | Part::Rest => self.index_of(n),
             Part::All => None,
         }
     }
@@ -139,8 +133,7 @@ impl<'a> Types<'a> {
             (λ t. is_rest_below (length self.now.objects.items) t ≡ true) }
     {
         match part {
-            Part::Named(_) => None,
-            Part::Rest => None,
+            Part::Named(_) | Part::Rest => None,
             Part::All => self.kept_common(n),
         }
     }
@@ -164,17 +157,9 @@ impl<'a> Types<'a> {
         match part {
             Part::All => {
                 let of_base = self.gather(extension.base.object, part, sofar)?;
-                let all = and_all(self.alloc, extension.own.as_slice(), of_base)?;
-                Ok(all)
+                and_all(self.alloc, extension.own.as_slice(), of_base)
             }
-            Part::Named(_) => {
-                let named = extension.fields.gather(self.alloc, part, sofar)?;
-                Ok(named)
-            }
-            Part::Rest => {
-                let rest = extension.fields.gather(self.alloc, part, sofar)?;
-                Ok(rest)
-            }
+            Part::Named(_) | Part::Rest => extension.fields.gather(self.alloc, part, sofar),
         }
     }
 
@@ -189,26 +174,15 @@ impl<'a> Types<'a> {
             → is_join_below (length self.now.objects.items) j ≡ true) }
     {
         if let Some(index) = self.index_for(n, part) {
-            let indexed = index.gather(self.alloc, part, sofar)?;
-            return Ok(indexed);
+            return index.gather(self.alloc, part, sofar);
         }
         if let Some(common) = self.common_for(n, part) {
-            let known = and_one(self.alloc, common, sofar)?;
-            return Ok(known);
+            return and_one(self.alloc, common, sofar);
         }
         match self.object(n) {
-            Object::Fields(fields) => {
-                let gathered = fields.gather(self.alloc, part, sofar)?;
-                Ok(gathered)
-            }
-            Object::Extension(extension) => {
-                let gathered = self.gather_extension(extension, part, sofar)?;
-                Ok(gathered)
-            }
-            Object::Strings(names) => {
-                let gathered = gather_strings(self.alloc, names, part, sofar)?;
-                Ok(gathered)
-            }
+            Object::Fields(fields) => fields.gather(self.alloc, part, sofar),
+            Object::Extension(extension) => self.gather_extension(extension, part, sofar),
+            Object::Strings(names) => gather_strings(self.alloc, names, part, sofar),
             Object::Common(of) => {
                 let mut all = sofar;
                 for m in of.as_slice() {
@@ -229,8 +203,7 @@ impl<'a> Types<'a> {
         ensures kept { BeginsWith (objects_of self.new) (objects_of self.old) }
     {
         self.prepare(n)?;
-        let found = self.find(n, name)?;
-        Ok(found)
+        self.find(n, name)
     }
 
     /// The type of a property of an object, found by what is kept of the object.
@@ -259,9 +232,7 @@ impl<'a> Types<'a> {
                 let numbers = Vec::from_slice(self.alloc, of.as_slice())?;
                 Ok(Some(numbers))
             }
-            Object::Fields(_) => Ok(None),
-            Object::Extension(_) => Ok(None),
-            Object::Strings(_) => Ok(None),
+            _ => Ok(None),
         }
     }
 
@@ -272,9 +243,7 @@ impl<'a> Types<'a> {
     {
         match self.object(n) {
             Object::Extension(extension) => Some(extension.base.object),
-            Object::Fields(_) => None,
-            Object::Strings(_) => None,
-            Object::Common(_) => None,
+            _ => None,
         }
     }
 

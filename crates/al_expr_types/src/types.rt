@@ -206,7 +206,6 @@ impl<'a> Types<'a> {
         ensures kept { BeginsWith (objects_of self.new) (objects_of self.old) }
     {
         let both = Join::One(a).and(self.alloc, b)?;
-        let ty = self.type_or_any(both)?;
-        Ok(ty)
+        self.type_or_any(both)
     }
 }

@@ -1,4 +1,5 @@
 use Rattle.std.proofs.Common.{◌∙◌, ap, sym}
+use Rattle.std.proofs.lemmas.Result.{IfOk-weaker}
 use Rattle.al_types.specs.Types.{Any, Present, fuse_type}
 use Rattle.al_expr_types.specs.Types.{base_type, object_in, scalar_type}
 use Rattle.al_expr_types.specs.declared.ty.Base.TheVariants as base
@@ -32,9 +33,10 @@ returns-in-Scalar-of-2-clause-ty c = λ ms.
     ap Present (c.any_in_arrays-in-Scalar-of-2.ensures.ty ms ∙ even ms a.arrays (base_type ms a.of) c.args.b b Any c.if-a-b.false c.in-Scalar-of-2.is
     (ap (λ x. fuse_type (base_type ms x) (base_type ms b)) c.in-Object.is ∙ object_scalar (object_in ms c.in-Object.m) c.in-Scalar-of-2.field-0))
 
-pub returns-in_ok-join-in-Object-of-2-clause-ty : goal.returns-in_ok-join-in-Object-of-2-clause-ty
-returns-in_ok-join-in-Object-of-2-clause-ty c = λ ms.
+pub returns-in-Object-of-2-clause-ty : goal.returns-in-Object-of-2-clause-ty
+returns-in-Object-of-2-clause-ty c =
     let a = c.args.a in
     let b = base.Object c.in-Object-of-2.n in
-    c.in_ok-join-in-Object-of-2.ensures.ty ms
-    ∙ ap Present (even ms a.arrays (base_type ms a.of) c.args.b b _ c.if-a-b.false c.in-Object-of-2.is (ap (λ x. fuse_type (base_type ms x) (base_type ms b)) c.in-Object.is))
+    IfOk-weaker c.join_objects.result _ _
+    (λ j is ms. is ms ∙ ap Present (even ms a.arrays (base_type ms a.of) c.args.b b _ c.if-a-b.false c.in-Object-of-2.is (ap (λ x. fuse_type (base_type ms x) (base_type ms b)) c.in-Object.is)))
+    c.join_objects.ensures.ty

@@ -1,4 +1,5 @@
 use Rattle.std.proofs.Common.{◌∙◌, ap, map, sym}
+use Rattle.std.proofs.lemmas.Result.{IfOk-weaker}
 use Rattle.al_types.specs.Fused.{fuse_all}
 use Rattle.al_expr_types.specs.Types.{object_in}
 use Rattle.al_expr_types.proofs.Fusing.{fused_push}
@@ -9,5 +10,6 @@ pub returns-then-has-clause-objects : goal.returns-then-has-clause-objects
 returns-then-has-clause-objects c = λ ms. sym (held_object (object_in ms) c.args.self.objects.items c.args.n (c.has.ensures c.if-has.true))
 
 pub returns-clause-objects : goal.returns-clause-objects
-returns-clause-objects c = λ ms.
-    ap (λ ns. fuse_all (map (object_in ms) ns)) c.in_ok-more.ensures.objects ∙ fused_push (object_in ms) c.args.self.objects.items c.args.n
+returns-clause-objects c =
+    IfOk-weaker c.push.result _ _
+    (λ s is ms. ap (λ ns. fuse_all (map (object_in ms) ns)) is ∙ fused_push (object_in ms) c.args.self.objects.items c.args.n) c.push.ensures.objects

@@ -1,11 +1,12 @@
 use Rattle.std.proofs.Common.{◌∙◌, ap, subst}
+use Rattle.std.proofs.lemmas.Result.{IfOk-weaker}
 use Rattle.al_expr_types.specs.Prefixes.{HasPrefix, map_in}
 use Rattle.al_expr_types.specs.Tables.{objects_of}
 use Rattle.al_expr_types.proofs.PrefixLemmas.{IsBehind, same_by}
 use Rattle.al_expr_types.proofs.prefixes.Prefixes.object.Goals as goal
 
-pub returns-in_ok-n-in-Some-clause-object : goal.returns-in_ok-n-in-Some-clause-object
-returns-in_ok-n-in-Some-clause-object c =
+pub returns-in_ok-own-in-Some-clause-object : goal.returns-in_ok-own-in-Some-clause-object
+returns-in_ok-own-in-Some-clause-object c =
     let types = c.args.types.now in
     let m = map_in c.args.self.now in
     let fields = c.in_ok-fields in
@@ -13,6 +14,7 @@ returns-in_ok-n-in-Some-clause-object c =
     let base = subst (HasPrefix types m) c.in-Some.is c.requires.base in
     let all = c.as_slice-all.ensures.value ∙ ap (λ f. f.types.items) c.deref.ensures in
     let behind = subst (λ ts. IsBehind ts c.in-Some.base.count own.own.items c.args.count) all own.ensures.part in
-    c.in_ok-n-in-Some.ensures.number
-    ∙ same_by (objects_of types) fields.fields c.in-Some.base own.own.items m c.args.count fields.ensures.map fields.ensures.count fields.ensures.rest behind
-    base.1
+    IfOk-weaker c.push.result _ _
+    (λ n is. is ∙ same_by (objects_of types) fields.fields c.in-Some.base own.own.items m c.args.count fields.ensures.map fields.ensures.count fields.ensures.rest behind
+    base.1)
+    c.push.ensures.number

@@ -1,14 +1,12 @@
 use Rattle.std.proofs.Common.{◌∙◌, ap, arith, get_or, length, map, sym}
-use Rattle.std.proofs.lemmas.Bool.{and_parts}
 use Rattle.std.proofs.lemmas.List.{get_or_default, take_all}
-use Rattle.std.specs.List.{list_all}
-use Rattle.std.specs.Prelude.{nat_lt}
+use Rattle.std.proofs.lemmas.Result.{IfOk-weaker}
 use Rattle.al_types.specs.Types.{fuse_optional}
 use Rattle.al_types.specs.Fused.{fuse_all}
 use Rattle.al_expr_types.specs.Joining.{join_in}
 use Rattle.al_expr_types.specs.Parts.{part_in}
 use Rattle.al_expr_types.specs.Tables.{objects_of}
-use Rattle.al_expr_types.specs.Types.{common_of, are_below, are_fields_below, extension_parts, is_below, is_extended_below, is_object_below, object_in, type_in}
+use Rattle.al_expr_types.specs.Types.{common_of, are_below, extension_parts, is_object_below, object_in, type_in}
 use Rattle.al_expr_types.proofs.Below.{base_below, number_at, object_wider}
 use Rattle.al_expr_types.proofs.Gathering.{fields_then_rest, gathered_none, next, of_object, parts_more}
 use Rattle.al_expr_types.proofs.types.Types.+gathering.Goals as goal
@@ -39,20 +37,11 @@ gather-loop-m-preserved t c =
       below = λ h. c.in_ok-all-in-Common.ensures.below (c.loop-m.invariant.below h);
     }
 
-pub gather-returns-in_ok-gathered-in-Fields : goal.gather-returns-in_ok-gathered-in-Fields
-gather-returns-in_ok-gathered-in-Fields t c =
-    let os = c.args.self.now.objects.items in
-    let ms = objects_of c.args.self.now in
-    let gathered = c.in_ok-gathered-in-Fields.ensures in
-    record {
-      part = of_object ms c.args.part (join_in ms c.args.sofar) _ _ c.object.result.now _ c.object.ensures.object c.in-Fields.is (gathered.part ms);
-      below = gathered.below (length os) (object_wider c.args.n (length os) c.object.result.now _ c.requires c.in-Fields.is c.object.ensures.below);
-    }
-
-pub gather-returns-in_ok-gathered-in-Strings-clause-part : goal.gather-returns-in_ok-gathered-in-Strings-clause-part
-gather-returns-in_ok-gathered-in-Strings-clause-part t c =
-    let ms = objects_of c.args.self.now in
-    of_object ms c.args.part (join_in ms c.args.sofar) _ _ c.object.result.now _ c.object.ensures.object c.in-Strings.is (c.in_ok-gathered-in-Strings.ensures.part ms)
+pub gather-returns-in-Fields-clause-below : goal.gather-returns-in-Fields-clause-below
+gather-returns-in-Fields-clause-below t c =
+    let len = length c.args.self.now.objects.items in
+    IfOk-weaker c.gather-in-Fields.result _ _
+    (λ j below. below len (object_wider c.args.n len c.object.result.now _ c.requires c.in-Fields.is c.object.ensures.below)) c.gather-in-Fields.ensures.below
 
 pub gather-returns-after-loop-m-clause-part : goal.gather-returns-after-loop-m-clause-part
 gather-returns-after-loop-m-clause-part t c =
@@ -70,28 +59,19 @@ gather-gather_extension-requires t c =
     let lt = base_below n c.in-Extension.extension (sym (ap (is_object_below n) c.in-Extension.is) ∙ c.object.ensures.below) in
     (omega (arith, lt, c.decreases), object_wider n (length os) c.object.result.now _ c.requires c.in-Extension.is c.object.ensures.below)
 
-pub gather-returns-in_ok-gathered-in-Extension-clause-part : goal.gather-returns-in_ok-gathered-in-Extension-clause-part
-gather-returns-in_ok-gathered-in-Extension-clause-part t c =
-    let ms = objects_of c.args.self.now in
-    of_object ms c.args.part (join_in ms c.args.sofar) _ _ c.object.result.now _ c.object.ensures.object c.in-Extension.is c.in_ok-gathered-in-Extension.ensures.part
-
 pub gather_extension-gather-requires : goal.gather_extension-gather-requires
 gather_extension-gather-requires t c = (omega (arith, c.decreases), base_below (length c.args.self.now.objects.items) c.args.extension.now c.requires)
 
-pub gather_extension-returns-in_ok-all-in-All : goal.gather_extension-returns-in_ok-all-in-All
-gather_extension-returns-in_ok-all-in-All t c =
+pub gather_extension-returns-in_ok-of_base-in-All-clause-part : goal.gather_extension-returns-in_ok-of_base-in-All-clause-part
+gather_extension-returns-in_ok-of_base-in-All-clause-part t c =
     let e = c.args.extension.now in
     let ms = objects_of c.args.self.now in
-    let len = length c.args.self.now.objects.items in
     let start = join_in ms c.args.sofar in
     let of_base = join_in ms c.in_ok-of_base-in-All.of_base in
     let own = common_of (map (type_in ms) e.own.items) in
     let base = c.in_ok-of_base-in-All.ensures.part ∙ ap (λ p. fuse_optional start (part_in p (object_in ms e.base.object))) c.in-All.is in
-    let all = c.in_ok-all-in-All.ensures.part ms ∙ ap (λ ts. fuse_optional of_base (common_of (map (type_in ms) ts))) c.as_slice.ensures.value in
-    let behind = (and_parts (are_fields_below len e.fields) (is_extended_below len e) c.requires).1 in
-    let there = ap (list_all (is_below len)) c.as_slice.ensures.value ∙ (and_parts (nat_lt e.base.object len) (list_all (is_below len) e.own.items) behind).1 in
-    record {
-      part = fields_then_rest start of_base (join_in ms c.in_ok-all-in-All.all) (object_in ms e.base.object).2 own base all
-          ∙ ap (λ p. fuse_optional start (part_in p (extension_parts ms e))) (sym c.in-All.is);
-      below = λ h. c.in_ok-all-in-All.ensures.below len there (c.in_ok-of_base-in-All.ensures.below h);
-    }
+    let all = ap (λ ts. fuse_optional of_base (common_of (map (type_in ms) ts))) c.as_slice.ensures.value in
+    IfOk-weaker c.and_all.result _ _
+    (λ j is. fields_then_rest start of_base (join_in ms j) (object_in ms e.base.object).2 own base (is ms ∙ all)
+    ∙ ap (λ p. fuse_optional start (part_in p (extension_parts ms e))) (sym c.in-All.is))
+    c.and_all.ensures.part

@@ -1,6 +1,7 @@
 use Rattle.std.proofs.Common.{◌∙◌, ap, arith, get_or, length, map, sym}
 use Rattle.std.proofs.lemmas.Bool.{and_parts}
 use Rattle.std.proofs.lemmas.List.{get_or_default, take_all}
+use Rattle.std.proofs.lemmas.Result.{IfOk-weaker}
 use Rattle.al_types.specs.Types.{Optional, fuse_optional}
 use Rattle.al_types.specs.Fused.{fuse_all}
 use Rattle.al_expr_types.specs.Merging.{found_in}
@@ -32,24 +33,27 @@ loop-m-preserved t c =
       below = λ h. c.in_ok-more-in-Common.ensures.below (c.loop-m.invariant.below h);
     }
 
-pub returns-in_ok-merged-in-Fields : goal.returns-in_ok-merged-in-Fields
-returns-in_ok-merged-in-Fields t c =
-    let os = c.args.self.now.objects.items in
+pub returns-in-Fields-clause-found : goal.returns-in-Fields-clause-found
+returns-in-Fields-clause-found t c =
     let ms = objects_of c.args.self.now in
-    let merged = c.in_ok-merged-in-Fields.ensures in
-    record {
-      found = of_object ms (found_in ms c.args.sofar) _ _ c.object.result.now _ c.object.ensures.object c.in-Fields.is (merged.found ms);
-      below = merged.below (length os) (object_wider c.args.n (length os) c.object.result.now _ c.requires c.in-Fields.is c.object.ensures.below);
-    }
+    IfOk-weaker c.and_object-in-Fields.result _ _
+    (λ m is. of_object ms (found_in ms c.args.sofar) _ _ c.object.result.now _ c.object.ensures.object c.in-Fields.is (is ms)) c.and_object-in-Fields.ensures.found
 
-pub returns-in_ok-merged-in-Strings : goal.returns-in_ok-merged-in-Strings
-returns-in_ok-merged-in-Strings t c =
+pub returns-in-Fields-clause-below : goal.returns-in-Fields-clause-below
+returns-in-Fields-clause-below t c =
+    let len = length c.args.self.now.objects.items in
+    IfOk-weaker c.and_object-in-Fields.result _ _
+    (λ m below. below len (object_wider c.args.n len c.object.result.now _ c.requires c.in-Fields.is c.object.ensures.below)) c.and_object-in-Fields.ensures.below
+
+pub returns-in-Strings-clause-found : goal.returns-in-Strings-clause-found
+returns-in-Strings-clause-found t c =
     let ms = objects_of c.args.self.now in
-    let merged = c.in_ok-merged-in-Strings.ensures in
-    record {
-      found = of_object ms (found_in ms c.args.sofar) _ _ c.object.result.now _ c.object.ensures.object c.in-Strings.is (merged.found ms);
-      below = merged.below (length c.args.self.now.objects.items);
-    }
+    IfOk-weaker c.and_strings.result _ _
+    (λ m is. of_object ms (found_in ms c.args.sofar) _ _ c.object.result.now _ c.object.ensures.object c.in-Strings.is (is ms)) c.and_strings.ensures.found
+
+pub returns-in-Strings-clause-below : goal.returns-in-Strings-clause-below
+returns-in-Strings-clause-below t c =
+    IfOk-weaker c.and_strings.result _ _ (λ m below. below (length c.args.self.now.objects.items)) c.and_strings.ensures.below
 
 pub returns-after-loop-m-clause-found : goal.returns-after-loop-m-clause-found
 returns-after-loop-m-clause-found t c = λ d name.
@@ -64,16 +68,19 @@ returns-after-loop-m-clause-found t c = λ d name.
 pub returns-in-Some-clause-found : goal.returns-in-Some-clause-found
 returns-in-Some-clause-found t c =
     let ms = objects_of c.args.self.now in
-    c.in_ok-indexed.ensures.found ms ∙ ap (λ f name. fuse_optional (found_in ms c.args.sofar name) (f name)) c.in-Some.ensures.1.0
+    IfOk-weaker c.and_object.result _ _
+    (λ m is. is ms ∙ ap (λ f name. fuse_optional (found_in ms c.args.sofar name) (f name)) c.in-Some.ensures.1.0) c.and_object.ensures.found
 
-pub returns-in_ok-merged-in-Extension : goal.returns-in_ok-merged-in-Extension
-returns-in_ok-merged-in-Extension t c =
-    let os = c.args.self.now.objects.items in
+pub returns-in-Extension-clause-found : goal.returns-in-Extension-clause-found
+returns-in-Extension-clause-found t c =
     let ms = objects_of c.args.self.now in
+    IfOk-weaker c.and_object-in-Extension.result _ _
+    (λ m is. of_object ms (found_in ms c.args.sofar) _ _ c.object.result.now _ c.object.ensures.object c.in-Extension.is (is ms)) c.and_object-in-Extension.ensures.found
+
+pub returns-in-Extension-clause-below : goal.returns-in-Extension-clause-below
+returns-in-Extension-clause-below t c =
+    let len = length c.args.self.now.objects.items in
     let e = c.in-Extension.extension in
-    let merged = c.in_ok-merged-in-Extension.ensures in
-    let below = object_wider c.args.n (length os) c.object.result.now _ c.requires c.in-Extension.is c.object.ensures.below in
-    record {
-      found = of_object ms (found_in ms c.args.sofar) _ _ c.object.result.now _ c.object.ensures.object c.in-Extension.is (merged.found ms);
-      below = merged.below (length os) (and_parts (are_fields_below (length os) e.fields) (is_extended_below (length os) e) below).0;
-    }
+    let all = object_wider c.args.n len c.object.result.now _ c.requires c.in-Extension.is c.object.ensures.below in
+    IfOk-weaker c.and_object-in-Extension.result _ _ (λ m below. below len (and_parts (are_fields_below len e.fields) (is_extended_below len e) all).0)
+    c.and_object-in-Extension.ensures.below

@@ -9,6 +9,7 @@ use Rattle.al_expr_types.specs.Types.{named_types, object_in, parts_of_all, type
 use Rattle.al_expr_types.proofs.Below.{types_same}
 use Rattle.al_expr_types.proofs.Gathering.{rest_is}
 use Rattle.al_expr_types.proofs.Indexes.{index_named}
+use Rattle.al_expr_types.proofs.Returned.{both_ok}
 use Rattle.al_expr_types.proofs.Keeping.{has_old, joined_longer, joined_wider, longer, same_there}
 use Rattle.al_expr_types.proofs.types.Types.index.Goals as goal
 
@@ -46,10 +47,12 @@ returns-clause-index c =
     let both = begins_trans (parts_of_all entry) (parts_of_all one) (parts_of_all two) types.kept rest.kept in
     let le = longer two entry both in
     let there = sym (same_there two entry c.args.n both c.requires) in
-    let later = types_same _ _ (length one) (length two) (has_old two one rest.kept) ts types.known in (
-      (omega (arith, c.requires, le), c.in_ok-fields.ensures.below (length two) later.0 rest.known),
+    let later = types_same _ _ (length one) (length two) (has_old two one rest.kept) ts types.known in
+    both_ok c.of.result c.of.ensures.parts c.of.ensures.below
+    (λ f parts fits. (
+      (omega (arith, c.requires, le), fits (length two) later.0 rest.known),
       (
-        ap (λ p. p.0) (c.in_ok-fields.ensures.parts (parts_of_all two))
+        ap (λ p. p.0) (parts (parts_of_all two))
             ∙ (λ d n.
             (ap (λ l. optional (field_at n (named_types (parts_of_all two) l ts))) c.into_names-names.ensures
             ∙ ap (λ us. optional (field_at n (zip ns us))) later.1
@@ -57,7 +60,7 @@ returns-clause-index c =
             ∙ ap (λ f. f n) c.in_ok-merging.ensures.found
             ∙ ap (λ f. fuse_optional (f n) ((object_in (parts_of_all entry) c.args.n).0 n)) (c.new.ensures.found (parts_of_all entry))
             ∙ ap (λ p. p.0 n) there) d),
-        ap (λ p. p.1) (c.in_ok-fields.ensures.parts (parts_of_all two)) ∙ rest_is (parts_of_all two) c.in_ok-rest.rest ∙ rest.ty
+        ap (λ p. p.1) (parts (parts_of_all two)) ∙ rest_is (parts_of_all two) c.in_ok-rest.rest ∙ rest.ty
             ∙ joined_longer one entry others types.kept below ∙ c.in_ok-others.ensures.part ∙ ap (λ p. p.1) there,
       ),
-    )
+    ))

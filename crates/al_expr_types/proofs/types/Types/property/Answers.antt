@@ -1,5 +1,4 @@
-use Rattle.std.proofs.Common.{◌∙◌, ap, arith}
-use Rattle.al_types.specs.Types.{object_type, property_in}
+use Rattle.std.proofs.Common.{arith}
 use Rattle.al_expr_types.proofs.Keeping.{longer, same_there}
 use Rattle.al_expr_types.proofs.types.Types.property.Goals as goal
 
@@ -10,5 +9,4 @@ find-requires c =
 
 pub returns-clause-ty : goal.returns-clause-ty
 returns-clause-ty c =
-    c.in_ok-found.ensures.ty
-    ∙ ap (λ o. property_in c.args.name.now (object_type o)) (same_there c.prepare.new.self.objects.items c.args.self.now.objects.items c.args.n c.prepare.ensures.kept c.requires)
+    rw (same_there c.prepare.new.self.objects.items c.args.self.now.objects.items c.args.n c.prepare.ensures.kept c.requires) at c.find.ensures.ty
