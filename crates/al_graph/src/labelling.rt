@@ -48,24 +48,6 @@ fn label_nodes(
     Ok(())
 }
 
-/// Labels those successors of a node that have no label, and adds them to a list.
-fn label_next(
-    graph: &[Vec<usize>],
-    node: usize,
-    label: usize,
-    labels: &mut Vec<Option<usize>>,
-    waiting: &mut Vec<usize>,
-) -> Result<(), AllocError>
-    requires node_in { node < length graph.now }
-    requires edges_in { (k : ℕ) → Edge (edges_of graph.now) node k → k < length labels.old.items }
-    ensures { OnOk result
-        (Labels (slice_index_or (edges_of graph.now) node
-        []) label labels.old.items labels.new.items
-        waiting.old.items waiting.new.items) }
-{
-    label_nodes(graph[node].as_slice(), label, labels, waiting)
-}
-
 /// Labels the node at this position of the order and all nodes without a label that can be reached from it, unless it has a label. The
 /// list of waiting nodes is empty before and after.
 fn label_from(
@@ -89,7 +71,7 @@ fn label_from(
     }
     label_node(order[at], at, labels, waiting)?;
     while let Some(node) = waiting.pop() {
-        label_next(graph, node, at, labels, waiting)?;
+        label_nodes(graph[node].as_slice(), at, labels, waiting)?;
     }
     Ok(())
 }

@@ -5,32 +5,16 @@ ghost use Rattle.std.specs.Prelude.{◌≡◌, ℕ, ◌<◌, ◌∷◌, [], leng
 
 use std::alloc::{AllocError, Global};
 
-/// Counts an edge that leads to a node.
-fn count_edge_to(node: usize, counts: &mut [usize])
-    requires { node < length counts.old }
-    ensures { length counts.new ≡ length counts.old }
-{
-    counts[node] = counts[node].saturating_add(1);
-}
-
-/// Counts an edge to each of some nodes.
-fn count_edges_to(nodes: &[usize], counts: &mut [usize])
-    requires { (k : ℕ) → Contains nodes.now k → k < length counts.old }
-    ensures { length counts.new ≡ length counts.old }
-{
-    for node in nodes {
-        count_edge_to(*node, counts);
-    }
-}
-
 /// How many edges lead to each node, which is the length of its list in the transpose. Only capacities depend on these numbers.
 fn edge_counts(alloc: Global, graph: &[Vec<usize>]) -> Result<Vec<usize>, AllocError>
     requires { (j k : ℕ) → Edge (edges_of graph.now) j k → k < length graph.now }
     ensures { IfOk result (λ counts. vec_len counts ≡ length graph.now) }
 {
-    let mut counts = vec![in alloc; 0; graph.len()]?;
+    let mut counts = vec![in alloc; 0usize; graph.len()]?;
     for nodes in graph {
-        count_edges_to(nodes.as_slice(), counts.as_mut_slice());
+        for node in nodes {
+            counts[*node] = counts[*node].saturating_add(1);
+        }
     }
     Ok(counts)
 }
@@ -46,22 +30,13 @@ fn without_edges(alloc: Global, counts: &[usize]) -> Result<Vec<Vec<usize>>, All
     Ok(graph)
 }
 
-/// Adds an edge.
-fn add_edge(from: usize, to: usize, graph: &mut [Vec<usize>]) -> Result<(), AllocError>
-    requires { from < length graph.old }
-    ensures { OnOk result (AddsEdges (from ∷ []) to (edges_of graph.old) (edges_of graph.new)) }
-{
-    graph[from].push(to)?;
-    Ok(())
-}
-
 /// Adds an edge from each of some nodes to one node.
 fn add_edges(from: &[usize], to: usize, graph: &mut [Vec<usize>]) -> Result<(), AllocError>
     requires { (k : ℕ) → Contains from.now k → k < length graph.old }
     ensures { OnOk result (AddsEdges from.now to (edges_of graph.old) (edges_of graph.new)) }
 {
     for node in from {
-        add_edge(*node, to, graph)?;
+        graph[*node].push(to)?;
     }
     Ok(())
 }

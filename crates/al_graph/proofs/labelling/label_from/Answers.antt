@@ -1,7 +1,9 @@
-use Rattle.std.proofs.Common.{rules, ◌≡◌, ◌<◌, None, is_some, true, get_or, length, arith, refl, sym}
+use Rattle.std.proofs.Common.{rules, ◌≡◌, ◌∙◌, ◌<◌, [], None, is_some, true, get_or, length, arith, refl, subst, sym}
+use Rattle.std.specs.Prelude.{Contains}
 use Rattle.std.proofs.lemmas.List.{get_or_read, length-map, nil_from_length}
 use Rattle.std.proofs.lemmas.List.Elements.{Contains-get_or}
 use Rattle.al_graph.specs.Graphs.{edges_of}
+use Rattle.al_graph.proofs.Edges.{edges_at}
 use Rattle.al_graph.proofs.LabelLemmas.{labelling_next, labelling_start, no_waiting, skipped, node_inside}
 use Rattle.al_graph.proofs.labelling.label_from.Goals as goal
 
@@ -31,25 +33,41 @@ loop-node-init c =
     (get_or c.args.order.now c.args.at 0) c.args.waiting.now.items c.label_node.new.waiting.items
     c.requires.at_in refl c.requires.empty c.requires.labels c.in_ok-label_node.ensures
 
-pub label_next-requires-clause-node_in : goal.label_next-requires-clause-node_in
-label_next-requires-clause-node_in c =
-    let below = node_inside (edges_of c.args.graph.now) c.args.order.now c.loop-node.labels.items c.args.at c.loop-node.waiting.items _ c.in-Some.node c.in-Some.ensures.items c.loop-node.invariant in
+pub bounds-graph-node : goal.bounds-graph-node
+bounds-graph-node c =
+    let inside = node_inside (edges_of c.args.graph.now) c.args.order.now c.loop-node.labels.items c.args.at c.loop-node.waiting.items _ c.in-Some.node c.in-Some.ensures.items c.loop-node.invariant in
     let nodes : length (edges_of c.args.graph.now) ≡ length c.args.graph.now = length-map c.args.graph.now _ in
-    omega (arith, below, nodes)
+    let below : c.in-Some.node < length c.args.graph.now = omega (arith, inside, nodes) in
+    below
 
-pub label_next-requires-clause-edges_in : goal.label_next-requires-clause-edges_in
-label_next-requires-clause-edges_in c k h =
-    let below : k < length c.args.graph.now = c.requires.edges_in c.in-Some.node k h in
+pub offset_bounds-graph-node : goal.offset_bounds-graph-node
+offset_bounds-graph-node c =
+    let inside = node_inside (edges_of c.args.graph.now) c.args.order.now c.loop-node.labels.items c.args.at c.loop-node.waiting.items _ c.in-Some.node c.in-Some.ensures.items c.loop-node.invariant in
     let nodes : length (edges_of c.args.graph.now) ≡ length c.args.graph.now = length-map c.args.graph.now _ in
+    let below : c.in-Some.node < length c.args.graph.now = omega (arith, inside, nodes) in
+    search rules
+
+pub label_nodes-requires : goal.label_nodes-requires
+label_nodes-requires c k h =
+    let inside = node_inside (edges_of c.args.graph.now) c.args.order.now c.loop-node.labels.items c.args.at c.loop-node.waiting.items _ c.in-Some.node c.in-Some.ensures.items c.loop-node.invariant in
+    let nodes : length (edges_of c.args.graph.now) ≡ length c.args.graph.now = length-map c.args.graph.now _ in
+    let below : c.in-Some.node < length c.args.graph.now = omega (arith, inside, nodes) in
+    let same : c.as_slice.result.now ≡ get_or (edges_of c.args.graph.now) c.in-Some.node [] = c.as_slice.ensures.value
+    ∙ sym (edges_at c.args.graph.now c.in-Some.node c.index-graph-node.result below c.index-graph-node.is) in
+    let next : k < length c.args.graph.now = c.requires.edges_in c.in-Some.node k (subst (λ l. Contains l k) same h) in
     let size = c.loop-node.invariant.size in
-    omega (arith, below, nodes, size)
+    omega (arith, next, nodes, size)
 
 pub loop-node-preserved : goal.loop-node-preserved
 loop-node-preserved c =
+    let inside = node_inside (edges_of c.args.graph.now) c.args.order.now c.loop-node.labels.items c.args.at c.loop-node.waiting.items _ c.in-Some.node c.in-Some.ensures.items c.loop-node.invariant in
     let nodes : length (edges_of c.args.graph.now) ≡ length c.args.graph.now = length-map c.args.graph.now _ in
-    labelling_next (edges_of c.args.graph.now) c.args.order.now c.loop-node.labels.items c.label_next.new.labels.items c.args.at
-    c.in-Some.node c.loop-node.waiting.items _ c.label_next.new.waiting.items
-    (λ j k e. let below = c.requires.edges_in j k e in omega (arith, below, nodes)) c.requires.order c.requires.at_in c.in-Some.ensures.items c.loop-node.invariant c.in_ok-label_next.ensures
+    let below : c.in-Some.node < length c.args.graph.now = omega (arith, inside, nodes) in
+    let same : c.as_slice.result.now ≡ get_or (edges_of c.args.graph.now) c.in-Some.node [] = c.as_slice.ensures.value
+    ∙ sym (edges_at c.args.graph.now c.in-Some.node c.index-graph-node.result below c.index-graph-node.is) in
+    labelling_next (edges_of c.args.graph.now) c.args.order.now c.loop-node.labels.items c.label_nodes.new.labels.items c.args.at
+    c.in-Some.node c.loop-node.waiting.items _ c.label_nodes.new.waiting.items
+    (λ j k e. let next = c.requires.edges_in j k e in omega (arith, next, nodes)) c.requires.order c.requires.at_in c.in-Some.ensures.items c.loop-node.invariant (rw same at c.in_ok-label_nodes.ensures)
 
 pub returns-clause-emptied : goal.returns-clause-emptied
 returns-clause-emptied c = nil_from_length c.pop.new.self.items (search rules)

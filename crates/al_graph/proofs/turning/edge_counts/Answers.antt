@@ -1,12 +1,22 @@
-use Rattle.std.proofs.Common.{◌≡◌, ◌∙◌, ◌<◌, [], arith, ap, get_or, length, sym}
+use Rattle.std.proofs.Common.{◌≡◌, ◌∙◌, ◌<◌, [], arith, get_or, length, subst, sym}
+use Rattle.std.specs.Prelude.{Contains}
+use Rattle.std.proofs.lemmas.List.Elements.{Contains-get_or}
 use Rattle.al_graph.specs.Graphs.{edges_of}
 use Rattle.al_graph.proofs.Edges.{edges_at}
 use Rattle.al_graph.proofs.turning.edge_counts.Goals as goal
 
-pub count_edges_to-requires : goal.count_edges_to-requires
-count_edges_to-requires c k h =
-    let same : c.as_slice.result.now ≡ get_or (edges_of c.args.graph.now) c.loop-nodes.nodes-index [] = c.as_slice.ensures.value
+pub index-requires : goal.index-requires
+index-requires c =
+    let same : c.deref-node-items.result.now ≡ get_or (edges_of c.args.graph.now) c.loop-nodes.nodes-index [] = c.deref-node-items.ensures.value
     ∙ sym (edges_at c.args.graph.now c.loop-nodes.nodes-index c.nodes-item.result c.loop-nodes-test.true c.nodes-item.is) in
-    let below : k < length c.args.graph.now = c.requires c.loop-nodes.nodes-index k (rw same at h) in
-    let len : length c.as_mut_slice.result.now ≡ length c.loop-nodes.counts.items = ap length c.as_mut_slice.ensures.value in
-    omega (arith, below, len, c.loop-nodes.invariant)
+    let below : get_or c.deref-node-items.result.now c.loop-node.node-index 0 < length c.args.graph.now =
+    c.requires c.loop-nodes.nodes-index _ (subst (λ l. Contains l (get_or c.deref-node-items.result.now c.loop-node.node-index 0)) same (Contains-get_or c.deref-node-items.result.now c.loop-node.node-index 0 c.loop-node-test.true)) in
+    omega (arith, below, c.loop-node.invariant)
+
+pub index_mut-requires : goal.index_mut-requires
+index_mut-requires c =
+    let same : c.deref-node-items.result.now ≡ get_or (edges_of c.args.graph.now) c.loop-nodes.nodes-index [] = c.deref-node-items.ensures.value
+    ∙ sym (edges_at c.args.graph.now c.loop-nodes.nodes-index c.nodes-item.result c.loop-nodes-test.true c.nodes-item.is) in
+    let below : get_or c.deref-node-items.result.now c.loop-node.node-index 0 < length c.args.graph.now =
+    c.requires c.loop-nodes.nodes-index _ (subst (λ l. Contains l (get_or c.deref-node-items.result.now c.loop-node.node-index 0)) same (Contains-get_or c.deref-node-items.result.now c.loop-node.node-index 0 c.loop-node-test.true)) in
+    omega (arith, below, c.loop-node.invariant)
