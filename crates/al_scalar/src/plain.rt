@@ -70,11 +70,14 @@ fn ends_plain(bytes: &[u8], at: usize, context: PlainContext, after_blank: bool)
     is_flow(context) && is_flow_indicator(byte)
 }
 
-/// Whether a byte is one of those of which most plain scalars consist. No scalar ends before these, and none is a blank.
+/// Whether a byte is no blank and no part of a break, and no scalar ends before it: whether it is none of `:#,[]{}` either.
 fn is_word(byte: u8) -> bool
     ensures { IsTrue result → IsWordByte byte }
 {
-    matches!(byte, b'a'..=b'z' | b'-'..=b'9' | b'A'..=b'Z' | b'_' | 0x80..=0xff)
+    matches!(
+        byte,
+        b'!' | b'"' | b'$'..=b'+' | b'-'..=b'9' | b';'..=b'Z' | b'\\' | b'^'..=b'z' | b'|' | b'~'..=0xff
+    )
 }
 
 /// The offset after the part of a plain scalar on one line, without trailing blanks.
