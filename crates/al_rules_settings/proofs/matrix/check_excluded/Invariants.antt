@@ -1,12 +1,13 @@
 use Rattle.std.proofs.Common.{◌≡◌, ◌++◌, drop, map}
 use Rattle.std.specs.List.{flat_map}
 use Rattle.al_base.specs.NamePlaces.{name_position}
+use Rattle.al_tree.specs.Values.{member_of}
 use Rattle.al_rules_settings.specs.Matrix.{exclude_faults}
-use Rattle.al_rules_settings.specs.Views.{named_of}
+use Rattle.al_rules_settings.specs.Words.{of_key}
 use Rattle.al_rules_settings.proofs.matrix.check_excluded.Given as goal
 
 -- what was added, and the faults of what is left, are the faults of all
-abbrev pub invariant-loop-key : goal.invariant-loop-key
-invariant-loop-key l =
-    l.faults ++ flat_map (exclude_faults (name_position l.rows)) (map named_of (drop l.key-index l.keys))
-    ≡ l.fn.faults ++ flat_map (exclude_faults (name_position l.rows)) (map named_of l.keys)
+abbrev pub invariant-loop-member : goal.invariant-loop-member
+invariant-loop-member l =
+    l.faults ++ flat_map (exclude_faults (name_position l.rows)) (map (λ m. of_key m.0) (map member_of (drop l.member-index l.member-items)))
+    ≡ l.initial.faults ++ flat_map (exclude_faults (name_position l.rows)) (map (λ m. of_key m.0) (map member_of l.member-items))
