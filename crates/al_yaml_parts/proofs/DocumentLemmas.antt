@@ -1,5 +1,5 @@
 -- The markers round a document against offsets.
-use Rattle.std.proofs.Common.{◌≡◌, ℕ, ◌+◌, ◌<◌, ◌≤◌, List, [], ◌∷◌, length, drop, slice_index, refl, sym, ap, ◌∙◌, arith, true, false, Some}
+use Rattle.std.proofs.Common.{◌≡◌, ℕ, ◌+◌, ◌<◌, ◌≤◌, List, [], ◌∷◌, length, drop, slice_index, refl, sym, ap, ◌∙◌, arith, true, false}
 use Rattle.al_scalar.specs.Line.{Cell, Line, cut, is_empty, is_marker}
 use Rattle.al_scalar.specs.Places.{lines_at, text_at}
 use Rattle.al_scalar.specs.LineEnds.{IsLineEnd}

@@ -18,7 +18,6 @@ use crate::lines::is_text_end;
 use crate::starts::begins_flow_indicator;
 use crate::sums::{deepest, sums_of};
 use al_base::YamlCode;
-use al_scalar::FaultAt;
 use al_scalar::lines::is_blank_or_end;
 use al_yaml_tree::{Node, sharable, shared_node};
 use std::alloc::{AllocError, Global};
@@ -148,10 +147,7 @@ impl State {
             (state_of self.old) result (state_of self.new) }
     {
         let Some(found) = self.anchors.latest.get(name_at(file.bytes, at)) else {
-            return Err(ReadError::Fault(FaultAt {
-                code: YamlCode::UnknownAlias,
-                at,
-            }));
+            return Err(ReadError::at(YamlCode::UnknownAlias, at));
         };
         let sums = sums_of(file.alloc, &found.node)?;
         let node = shared_node(&found.node)?;

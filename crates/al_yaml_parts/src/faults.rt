@@ -1,8 +1,10 @@
 //! Why reading ends early.
 
 ghost use Rattle.al_yaml_parts.specs.declared.faults.ReadError.TheVariants.{Fault, Memory};
-ghost use Rattle.std.specs.Prelude.{◌≡◌};
+ghost use Rattle.al_yaml_parts.specs.Reads.{IsStopInside};
+ghost use Rattle.std.specs.Prelude.{ℕ, ◌≡◌, ◌≤◌};
 
+use al_base::YamlCode;
 use al_scalar::FaultAt;
 use std::alloc::{AllocError, AllocFailed};
 
@@ -11,6 +13,16 @@ use std::alloc::{AllocError, AllocFailed};
 pub enum ReadError {
     Fault(FaultAt),
     Memory,
+}
+
+impl ReadError {
+    /// A fault at an offset.
+    pub fn at(code: YamlCode, at: usize) -> ReadError
+        ensures is { result ≡ Fault (record { code = code; at = at }) }
+        ensures inside { (size : ℕ) → at ≤ size → IsStopInside size result }
+    {
+        ReadError::Fault(FaultAt { code, at })
+    }
 }
 
 impl From<FaultAt> for ReadError {

@@ -5,7 +5,6 @@ ghost use Rattle.al_scalar.specs.Line as line;
 ghost use Rattle.al_scalar.specs.Places.{lines_at, text_at};
 ghost use Rattle.al_yaml_parts.specs.Files.{left_at, size};
 ghost use Rattle.al_yaml_tree.specs.Flow as flow;
-ghost use Rattle.al_base.specs.declared.codes.YamlCode.TheVariants as yaml;
 ghost use Rattle.al_yaml_tree.specs.Content as content;
 ghost use Rattle.al_yaml_parts.specs.FlowReads.{Finds, FindsKey, IsBare, IsFound, IsFoundKey, flow_slot};
 ghost use Rattle.al_yaml_parts.specs.Reads.{alias_part};
@@ -15,7 +14,7 @@ ghost use Rattle.al_yaml_parts.specs.FlowReads.{IsColonInside, IsKeyInside};
 ghost use Rattle.al_yaml_parts.specs.Reads.{state_with_anchor_at, part_of, state_of};
 ghost use Rattle.al_yaml_parts.specs.FlowReads.{flow_key_of};
 ghost use Rattle.al_yaml_tree.specs.View.{view};
-ghost use Rattle.std.specs.Prelude.{IfErr, IfOk, IfSome, false, if◌then◌else◌, length, true, ℕ, ◌<◌, ◌||◌, ◌≡◌, ◌≤◌};
+ghost use Rattle.std.specs.Prelude.{IfErr, IfOk, IfSome, false, length, true, ℕ, ◌<◌, ◌||◌, ◌≡◌, ◌≤◌};
 
 use crate::anchors::{has_no_name, property_end};
 use crate::content::gap_end;
@@ -95,20 +94,6 @@ fn key_colon(bytes: &[u8], at: usize, read: &ScalarRead) -> Result<Option<usize>
     Ok(None)
 }
 
-/// The fault of an anchor or alias on a key.
-fn property_on_key(bytes: &[u8], at: usize) -> YamlCode
-    requires inside { at ≤ length bytes.now }
-    requires property { content.is_property (text_at bytes.now at) ≡ true }
-    ensures { result ≡
-        (if content.has_no_name
-        (lines_at bytes.now at) then yaml.UnexpectedCharacter else yaml.AnchorOrAlias) }
-{
-    if has_no_name(bytes, at) {
-        return YamlCode::UnexpectedCharacter;
-    }
-    YamlCode::AnchorOrAlias
-}
-
 /// Reads the key of a flow mapping's entry, unless a collection is there.
 pub fn read_flow_key(file: &File, state: &mut State, at: usize) -> Result<FoundKey, ReadError>
     requires inside { at ≤ size file.now }
@@ -120,13 +105,13 @@ pub fn read_flow_key(file: &File, state: &mut State, at: usize) -> Result<FoundK
     ensures within { IfOk result (λ key. IsFoundKey file.now.bytes.now at key) }
 {
     if let Some(code) = flow_fault(file.bytes, at) {
-        return Err(ReadError::Fault(FaultAt { code, at }));
+        return Err(ReadError::at(code, at));
     }
     if is_property(file.bytes, at) {
-        return Err(ReadError::Fault(FaultAt {
-            code: property_on_key(file.bytes, at),
-            at,
-        }));
+        if has_no_name(file.bytes, at) {
+            return Err(ReadError::at(YamlCode::UnexpectedCharacter, at));
+        }
+        return Err(ReadError::at(YamlCode::AnchorOrAlias, at));
     }
     if is_flow_start(file.bytes, at) {
         return Ok(FoundKey::Opens);
@@ -163,7 +148,7 @@ fn read_flow_content(file: &File, state: &mut State, at: usize) -> Result<FoundN
         return Ok(FoundNode::Opens(Bracket { at, anchor: None }));
     }
     if let Some(code) = flow_fault(file.bytes, at) {
-        return Err(ReadError::Fault(FaultAt { code, at }));
+        return Err(ReadError::at(code, at));
     }
     state.start(at, 1, 0)?;
     let read = scalar_at(file.alloc, file.bytes, at, ScalarContext::Flow)?;
@@ -208,10 +193,7 @@ fn read_flow_property(
     ensures within { IfOk result (λ found. IsFound file.now.bytes.now at found) }
 {
     if has_no_name(file.bytes, at) {
-        return Err(ReadError::Fault(FaultAt {
-            code: YamlCode::UnexpectedCharacter,
-            at,
-        }));
+        return Err(ReadError::at(YamlCode::UnexpectedCharacter, at));
     }
     if begins(file.bytes, at, b'*') {
         return Ok(FoundNode::Node(read_alias(file, state, at, depth)?));
@@ -276,29 +258,20 @@ fn read_behind_anchor(
     ensures bare { IfOk result IsBare }
 {
     if is_text_end(file.bytes, at) {
-        return Err(ReadError::Fault(FaultAt {
-            code: YamlCode::UnclosedFlow,
-            at: slot.opening,
-        }));
+        return Err(ReadError::at(YamlCode::UnclosedFlow, slot.opening));
     }
     if ends_value(file.bytes, at) {
         let Some(empty) = slot.empty else {
-            return Err(ReadError::Fault(FaultAt {
-                code: YamlCode::UnexpectedCharacter,
-                at,
-            }));
+            return Err(ReadError::at(YamlCode::UnexpectedCharacter, at));
         };
         let part = empty_part(file, state, empty, at)?;
         return Ok(FoundNode::Node(part));
     }
     if let Some(code) = flow_fault(file.bytes, at) {
-        return Err(ReadError::Fault(FaultAt { code, at }));
+        return Err(ReadError::at(code, at));
     }
     if is_property(file.bytes, at) {
-        return Err(ReadError::Fault(FaultAt {
-            code: YamlCode::UnexpectedCharacter,
-            at,
-        }));
+        return Err(ReadError::at(YamlCode::UnexpectedCharacter, at));
     }
     read_flow_content(file, state, at)
 }
@@ -351,10 +324,7 @@ pub fn read_flow_value(
     };
     let at = gap_end(file.bytes, colon);
     if is_text_end(file.bytes, at) {
-        return Err(ReadError::Fault(FaultAt {
-            code: YamlCode::UnclosedFlow,
-            at: opening,
-        }));
+        return Err(ReadError::at(YamlCode::UnclosedFlow, opening));
     }
     if ends_value(file.bytes, at) {
         let part = empty_part(file, state, colon, at)?;

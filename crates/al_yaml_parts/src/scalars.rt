@@ -39,10 +39,7 @@ pub fn scalar_at(
 {
     match read_scalar(alloc, bytes, at, place)? {
         Ok(read) => Ok(read),
-        Err(fault) => Err(ReadError::Fault(FaultAt {
-            code: fault.code,
-            at: fault.span.start as usize,
-        })),
+        Err(fault) => Err(ReadError::at(fault.code, fault.span.start as usize)),
     }
 }
 

@@ -7,11 +7,11 @@ use Rattle.al_yaml_parts.proofs.RunLemmas.{run-fails}
 use Rattle.al_yaml_parts.proofs.flow_nodes.read_behind_anchor.Goals as goal
 
 pub returns-then-is_text_end-clause-is : goal.returns-then-is_text_end-clause-is
-returns-then-is_text_end-clause-is c = λ depth col. rw (← c.if-is_text_end.ensures.text) (run-fails _ _ _)
+returns-then-is_text_end-clause-is c = λ depth col. rw (c.at.ensures.is, ← c.if-is_text_end.ensures.text) (run-fails _ _ _)
 
 pub returns-in_default-clause-is : goal.returns-in_default-clause-is
 returns-in_default-clause-is c = λ depth col.
-    rw (← c.if-is_text_end.ensures.text, ← c.if-ends_value.ensures, c.in_default.is, start-at c.args.file.now.bytes.now c.args.at c.requires.inside)
+    rw (c.at-in_default.ensures.is, ← c.if-is_text_end.ensures.text, ← c.if-ends_value.ensures, c.in_default.is, start-at c.args.file.now.bytes.now c.args.at c.requires.inside)
     (run-fails _ _ _)
 
 pub returns-in_err-part-clause-is : goal.returns-in_err-part-clause-is
@@ -36,13 +36,13 @@ pub returns-in-Some-flow_fault-clause-is : goal.returns-in-Some-flow_fault-claus
 unfolding flow_content
 returns-in-Some-flow_fault-clause-is c = λ depth col.
     let here = start-at c.args.file.now.bytes.now c.args.at c.requires.inside in
-    rw (← c.if-is_text_end.ensures.text, ← c.if-ends_value.ensures, ← c.in-Some-flow_fault.ensures, here) (run-fails _ _ _)
+    rw (c.at-in-Some-flow_fault.ensures.is, ← c.if-is_text_end.ensures.text, ← c.if-ends_value.ensures, ← c.in-Some-flow_fault.ensures, here) (run-fails _ _ _)
 
 pub returns-then-is_property-clause-is : goal.returns-then-is_property-clause-is
 unfolding flow_content
 returns-then-is_property-clause-is c = λ depth col.
     let here = start-at c.args.file.now.bytes.now c.args.at c.requires.inside in
-    rw (← c.if-is_text_end.ensures.text, ← c.if-ends_value.ensures, ← c.in_default-flow_fault.ensures, ← c.if-is_property.ensures, here) (run-fails _ _ _)
+    rw (c.at-then-is_property.ensures.is, ← c.if-is_text_end.ensures.text, ← c.if-ends_value.ensures, ← c.in_default-flow_fault.ensures, ← c.if-is_property.ensures, here) (run-fails _ _ _)
 
 pub returns-clause-is : goal.returns-clause-is
 returns-clause-is c = λ depth.

@@ -18,7 +18,7 @@ returns-then-is_flow_start-clause-is c = λ depth slot col.
 
 pub returns-in-Some-clause-is : goal.returns-in-Some-clause-is
 unfolding flow_content
-returns-in-Some-clause-is c = λ depth slot col. rw (← c.in-Some.ensures, start-at c.args.file.now.bytes.now c.args.at c.requires.inside) (run-fails _ _ _)
+returns-in-Some-clause-is c = λ depth slot col. rw (c.at.ensures.is, ← c.in-Some.ensures, start-at c.args.file.now.bytes.now c.args.at c.requires.inside) (run-fails _ _ _)
 
 pub returns-in_err-start-clause-is : goal.returns-in_err-start-clause-is
 unfolding flow_content

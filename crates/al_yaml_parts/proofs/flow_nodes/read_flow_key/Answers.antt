@@ -10,13 +10,27 @@ use Rattle.al_yaml_parts.proofs.flow_nodes.read_flow_key.Goals as goal
 
 pub returns-in-Some-clause-is : goal.returns-in-Some-clause-is
 unfolding flow_key
-returns-in-Some-clause-is c = λ depth col. rw (← c.in-Some.ensures, start-at c.args.file.now.bytes.now c.args.at c.requires.inside) (run-fails _ _ _)
+returns-in-Some-clause-is c = λ depth col. rw (c.at.ensures.is, ← c.in-Some.ensures, start-at c.args.file.now.bytes.now c.args.at c.requires.inside) (run-fails _ _ _)
+
+pub returns-then-has_no_name-clause-is : goal.returns-then-has_no_name-clause-is
+unfolding flow_key
+returns-then-has_no_name-clause-is c = λ depth col. rw (
+  c.at-then-has_no_name.ensures.is,
+  ← c.in_default.ensures,
+  ← c.if-is_property.ensures,
+  ← c.if-has_no_name.ensures,
+  start-at c.args.file.now.bytes.now c.args.at c.requires.inside,
+) (run-fails _ _ _)
 
 pub returns-then-is_property-clause-is : goal.returns-then-is_property-clause-is
 unfolding flow_key
-returns-then-is_property-clause-is c = λ depth col.
-    rw (← c.in_default.ensures, ← c.if-is_property.ensures, ← c.property_on_key.ensures, start-at c.args.file.now.bytes.now c.args.at c.requires.inside)
-    (run-fails _ _ _)
+returns-then-is_property-clause-is c = λ depth col. rw (
+  c.at-then-is_property.ensures.is,
+  ← c.in_default.ensures,
+  ← c.if-is_property.ensures,
+  ← c.if-has_no_name.ensures,
+  start-at c.args.file.now.bytes.now c.args.at c.requires.inside,
+) (run-fails _ _ _)
 
 pub returns-then-is_flow_start-clause-is : goal.returns-then-is_flow_start-clause-is
 unfolding flow_key

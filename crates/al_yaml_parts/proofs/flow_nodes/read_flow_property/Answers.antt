@@ -15,7 +15,7 @@ use Rattle.al_yaml_parts.proofs.flow_nodes.read_flow_property.Goals as goal
 
 pub returns-then-has_no_name-clause-is : goal.returns-then-has_no_name-clause-is
 unfolding flow_property
-returns-then-has_no_name-clause-is c = λ col. rw (← c.if-has_no_name.ensures, start-at c.args.file.now.bytes.now c.args.at c.requires.inside) (run-fails _ _ _)
+returns-then-has_no_name-clause-is c = λ col. rw (c.at.ensures.is, ← c.if-has_no_name.ensures, start-at c.args.file.now.bytes.now c.args.at c.requires.inside) (run-fails _ _ _)
 
 pub returns-in_err-read_alias-clause-is : goal.returns-in_err-read_alias-clause-is
 unfolding flow_property

@@ -16,7 +16,7 @@ returns-in_default-clause-is c = λ col. rw c.in_default.is c.in_ok-part.ensures
 
 pub returns-then-is_text_end-clause-is : goal.returns-then-is_text_end-clause-is
 unfolding flow_entry_value
-returns-then-is_text_end-clause-is c = λ col. rw (c.in-Some.is, c.gap_end-at.ensures.lines, ← c.if-is_text_end.ensures.text) (run-fails _ _ _)
+returns-then-is_text_end-clause-is c = λ col. rw (c.at.ensures.is, c.in-Some.is, c.gap_end-at.ensures.lines, ← c.if-is_text_end.ensures.text) (run-fails _ _ _)
 
 pub returns-in_err-part-2-clause-is : goal.returns-in_err-part-2-clause-is
 unfolding flow_entry_value

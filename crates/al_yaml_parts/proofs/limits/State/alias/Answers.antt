@@ -13,8 +13,8 @@ pub returns-in_default-clause-is : goal.returns-in_default-clause-is
 unfolding last_anchor
 returns-in_default-clause-is c =
     let name = anchor_name (left_at c.args.file.now c.args.at) in
-    alias-unknown (state_of c.args.self.now) name c.args.at c.args.depth
-    (ap (anchors_view c.args.self.now.anchors) (sym c.name_at.ensures) ∙ ap (option_map (anchor_seen c.name_at.result.now)) (sym c.in_default.ensures.value))
+    rw c.at.ensures.is (alias-unknown (state_of c.args.self.now) name c.args.at c.args.depth
+    (ap (anchors_view c.args.self.now.anchors) (sym c.name_at.ensures) ∙ ap (option_map (anchor_seen c.name_at.result.now)) (sym c.in_default.ensures.value)))
 
 pub returns-in_err-start_with-clause-is : goal.returns-in_err-start_with-clause-is
 unfolding last_anchor
