@@ -30,20 +30,14 @@ pub(crate) fn copy_of_parameter(
     })
 }
 
-fn copies_of_all(alloc: Global, parameters: &[Parameter]) -> Result<Vec<Parameter>, AllocError>
-    ensures { IfOk result (λ copies. copies.items ≡ parameters.now) }
-{
-    let mut copies = Vec::new(alloc);
-    for parameter in parameters {
-        copies.push(copy_of_parameter(alloc, parameter)?)?;
-    }
-    Ok(copies)
-}
-
 fn copy_of_parameters(alloc: Global, parameters: &Parameters) -> Result<Parameters, AllocError>
     ensures { IfOk result (λ copy. copy ≡ parameters.now) }
 {
-    Parameters::new(alloc, copies_of_all(alloc, parameters.as_slice())?)
+    let mut copies = Vec::new(alloc);
+    for parameter in parameters.as_slice() {
+        copies.push(copy_of_parameter(alloc, parameter)?)?;
+    }
+    Parameters::new(alloc, copies)
 }
 
 fn copy_of_signature(alloc: Global, signature: &Signature) -> Result<Signature, AllocError>

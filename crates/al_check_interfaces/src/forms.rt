@@ -45,17 +45,6 @@ fn is_workflow_parts(parts: &[&[u8]]) -> bool
     }
 }
 
-/// Whether the parts after the first two, the last of which is given apart, are those of a workflow's path.
-fn is_workflow_behind(done: &[&[u8]], last: &[u8]) -> bool
-    ensures { result
-        ≡ forms.is_workflow_parts (drop 2 (map (λ p. p.now) done.now ++ last.now ∷ [])) }
-{
-    match done {
-        [_, _, first, second] => is_workflow_path(first, second, last),
-        _ => false,
-    }
-}
-
 /// What is before a byte of a text: the parts that slashes end, whether all of these are non-empty, and the part after the last slash.
 #[derive(Clone, Copy)]
 struct Before<'d, 'a> {
@@ -72,24 +61,23 @@ fn is_remote_workflow(before: Before<'_, '_>) -> bool
         ≡ forms.is_remote by.Job (map (λ p. p.now) (before.entry).done.now
         ++ (before.entry).last.now ∷ []) }
 {
-    are_texts(before.whole, before.last) && is_workflow_behind(before.done, before.last)
+    if !are_texts(before.whole, before.last) {
+        return false;
+    }
+    match before.done {
+        [_, _, first, second] => is_workflow_path(first, second, before.last),
+        _ => false,
+    }
 }
 
-fn is_remote_action(before: Before<'_, '_>) -> bool
-    ensures { result
-        ≡ forms.is_remote by.Step (map (λ p. p.now) (before.entry).done.now
-        ++ (before.entry).last.now ∷ []) }
-{
-    before.whole && !before.last.is_empty() && !before.done.is_empty()
-}
-
+#[tactic(auto, using(crate::proofs::Cuts::all_more))]
 fn is_remote(caller: Caller, before: Before<'_, '_>) -> bool
     ensures { result
         ≡ forms.is_remote caller (map (λ p. p.now) (before.entry).done.now
         ++ (before.entry).last.now ∷ []) }
 {
     match caller {
-        Caller::Step => is_remote_action(before),
+        Caller::Step => are_texts(before.whole, before.last) && !before.done.is_empty(),
         Caller::Job => is_remote_workflow(before),
     }
 }
@@ -179,37 +167,16 @@ fn folder_of(rest: &[u8]) -> &[u8]
     }
 }
 
-/// The text of a file's path, in a folder or at the root.
-fn in_folder(alloc: Global, folder: &[u8], file: &[u8]) -> Result<Vec<u8>, AllocError>
-    ensures { IfOk result (λ v. v.items ≡ forms.in_folder folder.now file.now) }
+/// The path of a file in a folder or at the root, if it is a path.
+fn file_in(alloc: Global, folder: &[u8], file: &[u8]) -> Result<Option<Path>, AllocError>
+    ensures { IfOk result (λ p. p ≡ forms.file_in folder.now file.now) }
 {
     let mut path = Vec::from_slice(alloc, folder)?;
     if !folder.is_empty() {
         path.push(b'/')?;
     }
     path.extend_from_slice(file)?;
-    Ok(path)
-}
-
-/// The path of a file in a folder, if it is a path.
-fn file_in(alloc: Global, folder: &[u8], file: &[u8]) -> Result<Option<Path>, AllocError>
-    ensures { IfOk result (λ p. p ≡ forms.file_in folder.now file.now) }
-{
-    let path = in_folder(alloc, folder, file)?;
     path_in(alloc, path.as_slice())
-}
-
-/// A call of these two candidates, if both are paths.
-fn first_of(first: Option<Path>, second: Option<Path>) -> Form
-    ensures { result ≡ forms.local_form first second }
-{
-    match first {
-        None => Form::Other,
-        Some(first) => match second {
-            None => Form::Other,
-            Some(second) => Form::Local(Target::FirstOf(first, second)),
-        },
-    }
 }
 
 fn local_step(alloc: Global, folder: &[u8]) -> Result<Form, AllocError>
@@ -217,7 +184,13 @@ fn local_step(alloc: Global, folder: &[u8]) -> Result<Form, AllocError>
 {
     let first = file_in(alloc, folder, b"action.yml")?;
     let second = file_in(alloc, folder, b"action.yaml")?;
-    Ok(first_of(first, second))
+    let Some(first) = first else {
+        return Ok(Form::Other);
+    };
+    let Some(second) = second else {
+        return Ok(Form::Other);
+    };
+    Ok(Form::Local(Target::FirstOf(first, second)))
 }
 
 fn is_image(text: &[u8]) -> bool

@@ -33,22 +33,15 @@ impl Model for Parameters {
         × (a.mandatory.items ≡ mandatory_of a.parameters.items) };
 }
 
-fn names_of(alloc: Global, parameters: &[Parameter]) -> Result<Vec<&[u8]>, AllocError>
-    ensures { IfOk result (λ v. map (λ n. n.now) v.items ≡ map (λ p. p.name) parameters.now) }
-{
-    let mut names = Vec::with_capacity(alloc, parameters.len())?;
-    for parameter in parameters {
-        names.push(parameter.name.as_bytes())?;
-    }
-    Ok(names)
-}
-
 /// The position of the first parameter with each name.
 fn positions_of(alloc: Global, parameters: &[Parameter]) -> Result<NamePositions, AllocError>
     ensures { IfOk result
         (λ p. name_position p ≡ name_place (map (λ x. x.name) parameters.now)) }
 {
-    let names = names_of(alloc, parameters)?;
+    let mut names = Vec::with_capacity(alloc, parameters.len())?;
+    for parameter in parameters {
+        names.push(parameter.name.as_bytes())?;
+    }
     let positions = NamePositions::of(alloc, names.as_slice())?;
     Ok(positions)
 }

@@ -87,22 +87,6 @@ fn parameter(alloc: Global, by: Declaring, member: Member<'_>) -> Result<Paramet
     })
 }
 
-/// The parameters that members declare.
-fn parameters_in(
-    alloc: Global,
-    by: Declaring,
-    members: &[Member<'_>],
-) -> Result<Parameters, AllocError>
-    ensures { IfOk result (λ ps. ps ≡ map (interfaces.parameter by) (map member_of members.now)) }
-{
-    let mut found = Vec::new(alloc);
-    for member in members {
-        found.push(parameter(alloc, by, *member)?)?;
-    }
-    let list = Parameters::new(alloc, found)?;
-    Ok(list)
-}
-
 /// The parameters that a node declares, if there is one.
 fn parameters(alloc: Global, by: Declaring, node: Option<&Node>) -> Result<Parameters, AllocError>
     ensures { IfOk result (λ ps. ps
@@ -110,18 +94,11 @@ fn parameters(alloc: Global, by: Declaring, node: Option<&Node>) -> Result<Param
         (option_map_or declared_in (option_map (λ n. view n.now) node.entry) [])) }
 {
     let declared = declared_at(alloc, node)?;
-    parameters_in(alloc, by, declared.as_slice())
-}
-
-/// The names of members.
-fn names(alloc: Global, members: &[Member<'_>]) -> Result<NameList, AllocError>
-    ensures { IfOk result (λ ns. ns ≡ keys_in (map member_of members.now)) }
-{
-    let mut names = Vec::new(alloc);
-    for member in members {
-        names.push(Name::new(alloc, key_text(member.key))?)?;
+    let mut found = Vec::new(alloc);
+    for member in &declared {
+        found.push(parameter(alloc, by, *member)?)?;
     }
-    let list = NameList::new(alloc, names)?;
+    let list = Parameters::new(alloc, found)?;
     Ok(list)
 }
 
@@ -131,52 +108,34 @@ fn declared_names(alloc: Global, node: Option<&Node>) -> Result<NameList, AllocE
         ≡ keys_in (option_map_or declared_in (option_map (λ n. view n.now) node.entry) [])) }
 {
     let declared = declared_at(alloc, node)?;
-    names(alloc, declared.as_slice())
-}
-
-/// The text of a scalar as a name, if there is one.
-fn text_name(alloc: Global, text: Option<ScalarNode<'_>>) -> Result<Option<Name>, AllocError>
-    ensures { IfOk result (λ n. n
-        ≡ option_map (λ t. text_of t.0) (option_map scalar_node_of text.entry)) }
-{
-    match text {
-        Some(text) => Ok(Some(Name::new(alloc, text.scalar.text())?)),
-        None => Ok(None),
+    let mut names = Vec::new(alloc);
+    for member in &declared {
+        names.push(Name::new(alloc, key_text(member.key))?)?;
     }
+    let list = NameList::new(alloc, names)?;
+    Ok(list)
 }
 
 /// The `name` of a file.
 fn name_of(alloc: Global, root: &Node) -> Result<Option<Name>, AllocError>
     ensures { IfOk result (λ n. n ≡ interfaces.name_of (view root.now)) }
 {
-    text_name(alloc, text_under(root, "name"))
-}
-
-/// Whether a scalar is `workflow_call`.
-fn says_call(text: ScalarNode<'_>) -> bool
-    ensures { result ≡ says_call (scalar_node_of text.entry) }
-{
-    text.scalar.text() == b"workflow_call".as_slice()
-}
-
-/// Whether one of these scalars is `workflow_call`.
-fn has_call(texts: &[ScalarNode<'_>]) -> bool
-    ensures { result ≡ list_any says_call (map scalar_node_of texts.now) }
-{
-    for text in texts {
-        if says_call(*text) {
-            return true;
-        }
+    match text_under(root, "name") {
+        Some(text) => Ok(Some(Name::new(alloc, text.scalar.text())?)),
+        None => Ok(None),
     }
-    false
 }
 
 /// Whether the value of `on` names `workflow_call`.
 fn names_call(alloc: Global, on: &Node) -> Result<bool, AllocError>
     ensures { IfOk result (λ b. b ≡ interfaces.names_call (view on.now)) }
 {
-    let texts = texts(alloc, on)?;
-    Ok(has_call(texts.as_slice()) || has_value(on, "workflow_call"))
+    for text in &texts(alloc, on)? {
+        if text.scalar.text() == b"workflow_call".as_slice() {
+            return Ok(true);
+        }
+    }
+    Ok(has_value(on, "workflow_call"))
 }
 
 /// What a workflow is to its callers.
@@ -184,15 +143,13 @@ fn workflow_role(alloc: Global, root: &Node) -> Result<Role, AllocError>
     ensures { IfOk result (λ r. r
         ≡ (interfaces.signature_of kind.Workflow (view root.now)).role) }
 {
-    match value(root, "on") {
-        None => Ok(Role::Workflow),
-        Some(on) => {
-            if names_call(alloc, on)? {
-                Ok(Role::Callable)
-            } else {
-                Ok(Role::Workflow)
-            }
-        }
+    let Some(on) = value(root, "on") else {
+        return Ok(Role::Workflow);
+    };
+    if names_call(alloc, on)? {
+        Ok(Role::Callable)
+    } else {
+        Ok(Role::Workflow)
     }
 }
 
@@ -252,25 +209,17 @@ fn action_signature(alloc: Global, root: &Node) -> Result<Signature, AllocError>
     })
 }
 
-/// The signature of a file.
-fn signature(alloc: Global, kind: FileKind, root: &Node) -> Result<Signature, AllocError>
-    ensures { IfOk result (λ s. s ≡ interfaces.signature_of kind (view root.now)) }
-{
-    match kind {
-        FileKind::Workflow => workflow_signature(alloc, root),
-        FileKind::Action => action_signature(alloc, root),
-    }
-}
-
 /// The interface of a file with this root. (A file that isn't YAML has no root, and is unreadable.)
 ///
 /// Fails with `AllocError` when out of memory.
 pub fn interface_of(alloc: Global, kind: FileKind, root: &Node) -> Result<Interface, AllocError>
     ensures { IfOk result (λ i. i ≡ interfaces.interface_of kind (view root.now)) }
 {
-    if root.mapping().is_some() {
-        Ok(Interface::Readable(signature(alloc, kind, root)?))
-    } else {
-        Ok(Interface::Unreadable)
+    if root.mapping().is_none() {
+        return Ok(Interface::Unreadable);
+    }
+    match kind {
+        FileKind::Workflow => Ok(Interface::Readable(workflow_signature(alloc, root)?)),
+        FileKind::Action => Ok(Interface::Readable(action_signature(alloc, root)?)),
     }
 }

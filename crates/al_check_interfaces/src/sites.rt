@@ -1,5 +1,5 @@
 //! The steps and jobs of a file that call.
-ghost use Rattle.std.specs.Prelude.{◌≡◌, ◌++◌, [], map, option_map, IfOk, OnOk};
+ghost use Rattle.std.specs.Prelude.{◌≡◌, ◌++◌, [], map, IfOk, OnOk};
 ghost use Rattle.std.specs.List.{cons_option, filter_map, flat_map};
 ghost use Rattle.al_tree.specs.Values.{member_of};
 ghost use Rattle.al_tree.specs.Files.{jobs_of};
@@ -42,26 +42,16 @@ pub fn caller_of(site: Site<'_>) -> Caller
     }
 }
 
-/// The call of a step or a job, if the value of its `uses` is a scalar and not null.
-fn call_at(site: Site<'_>) -> Option<Call<'_>>
-    ensures { option_map call_of result ≡ calling.call_at (site_of site.entry) }
-{
-    let uses = text_under(site.node, "uses")?;
-    Some(Call { site, uses })
-}
-
-/// Adds the call of a step or a job, if it has one.
+/// Adds the call of a step or a job, if the value of its `uses` is a scalar and not null.
 fn add_call<'a>(site: Site<'a>, out: &mut Vec<Call<'a>>) -> Result<(), AllocError>
     ensures { OnOk result (map call_of out.new.items ≡ map call_of out.old.items
         ++ cons_option (calling.call_at (site_of site.entry)) []) }
 {
-    match call_at(site) {
-        None => Ok(()),
-        Some(call) => {
-            out.push(call)?;
-            Ok(())
-        }
-    }
+    let Some(uses) = text_under(site.node, "uses") else {
+        return Ok(());
+    };
+    out.push(Call { site, uses })?;
+    Ok(())
 }
 
 /// Adds the calls of the steps of a job or an action.
@@ -95,25 +85,17 @@ fn add_job<'a>(job: Member<'a>, out: &mut Vec<Call<'a>>) -> Result<(), AllocErro
     add_steps(key, items_under(job.value, "steps"), out)
 }
 
-/// The calls of these jobs and of their steps.
-fn calls_of_jobs<'a>(alloc: Global, jobs: &[Member<'a>]) -> Result<Vec<Call<'a>>, AllocError>
-    ensures { IfOk result (λ v. map call_of v.items
-        ≡ filter_map calling.call_at (flat_map calling.job_sites (map member_of jobs.now))) }
-{
-    let mut found = Vec::new(alloc);
-    for job in jobs {
-        add_job(*job, &mut found)?;
-    }
-    Ok(found)
-}
-
-/// The calls of a workflow.
+/// The calls of the jobs of a workflow and of their steps.
 fn workflow_calls(alloc: Global, root: &Node) -> Result<Vec<Call<'_>>, AllocError>
     ensures { IfOk result (λ v. map call_of v.items
         ≡ filter_map calling.call_at (flat_map calling.job_sites (jobs_of (view root.now)))) }
 {
     let jobs = members_under(alloc, root, "jobs")?;
-    calls_of_jobs(alloc, jobs.as_slice())
+    let mut found = Vec::new(alloc);
+    for job in &jobs {
+        add_job(*job, &mut found)?;
+    }
+    Ok(found)
 }
 
 /// The calls of the jobs of a workflow, each before those of its steps, or those of the steps of a composite action.

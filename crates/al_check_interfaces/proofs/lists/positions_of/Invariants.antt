@@ -1,5 +1,5 @@
 use Rattle.std.proofs.Common.{◌≡◌, ◌++◌, drop, map}
-use Rattle.al_check_interfaces.proofs.lists.names_of.Given as goal
+use Rattle.al_check_interfaces.proofs.lists.positions_of.Given as goal
 
 abbrev pub invariant-loop-parameter : goal.invariant-loop-parameter
 invariant-loop-parameter l =
