@@ -5,6 +5,7 @@ import atexit
 import os
 import shutil
 import subprocess
+import sys
 import tempfile
 from contextlib import contextmanager
 from dataclasses import dataclass
@@ -13,9 +14,9 @@ from pathlib import Path
 from typing import Callable, Iterator
 
 from cases import Case, Cases
-from repositories import git, write
+from repositories import TOP, git, write
 
-# (found where `repositories` looks for it)
+sys.path.append(str(TOP / "tests"))
 from copying import carry, commit, copy_few_sources
 
 ANYWHERE = "/opt/juzbrost"

@@ -61,6 +61,34 @@ vim.cmd('edit other.yml')
 vim.fn.writefile({ vim.inspect(started) }, os.getenv('OUT'))
 vim.cmd('qall!')
 """
+# In a worktree `.git` is a file. There a workflow and an action have one client.
+LUA_IN_A_WORKTREE = """
+vim.fn.rename('.git', '../repository')
+vim.fn.writefile({ 'gitdir: ../repository' }, '.git')
+vim.cmd('filetype on')
+local clients = {}
+for _, file in ipairs({ os.getenv('FILE'), 'a/action.yml' }) do
+  vim.cmd('edit ' .. file)
+  vim.wait(60000, function() return next(vim.lsp.buf_get_clients(0)) ~= nil end, 50)
+  for client in pairs(vim.lsp.buf_get_clients(0)) do
+    clients[client] = true
+  end
+end
+vim.fn.writefile({ tostring(vim.tbl_count(clients)) }, os.getenv('OUT'))
+vim.cmd('qall!')
+"""
+VIM_IN_A_WORKTREE = """
+call rename('.git', '../repository')
+call writefile(['gitdir: ../repository'], '.git')
+let linter = ale#linter#Get('yaml')[0]
+let roots = []
+for file in [$FILE, 'a/action.yml']
+  execute 'edit' fnameescape(file)
+  call add(roots, linter.name . (linter.project_root(bufnr('')) is# getcwd()))
+endfor
+call writefile(roots, $OUT)
+qall!
+"""
 # Reads lines from standard input, and writes of those that an expression matches the groups that a pattern names.
 MATCHER = """
 const pattern = JSON.parse(process.argv[1]);
@@ -114,6 +142,19 @@ def neovim_with_start(program: str) -> None:
     """Where Neovim has `vim.lsp.start` it is asked for the client of a buffer, and not for other files."""
     assert lines_of(["nvim", "--headless", "-i", "NONE", "-u", "{}/init.lua", "-S", "{}/test.lua"], program,
                     {"init.lua": snippet("neovim"), "test.lua": LUA_OF_LATER}) == ["{ true }"]
+
+
+@CASES.case
+def neovim_in_a_worktree(program: str) -> None:
+    assert lines_of(["nvim", "--headless", "-i", "NONE", "-u", "{}/init.lua", "-S", "{}/test.lua"], program,
+                    {"init.lua": snippet("neovim"), "test.lua": LUA_IN_A_WORKTREE}) == ["1"]
+
+
+@CASES.case
+def ale_in_a_worktree(program: str) -> None:
+    """The folder of both files is the worktree's."""
+    assert lines_of(["vim.nox", "-N", "-i", "NONE", "-n", "-u", "{}/vimrc", "-S", "{}/test.vim"], program,
+                    {"vimrc": snippet("ale"), "test.vim": VIM_IN_A_WORKTREE}) == ["actionlint_lsp1"] * 2
 
 
 @CASES.case

@@ -4,14 +4,11 @@ from __future__ import annotations
 import os
 import re
 import subprocess
-import sys
 import tempfile
 from pathlib import Path
 
 CLIENTS = Path(__file__).resolve().parent.parent
-sys.path.append(str(CLIENTS.parent / "tests"))
-from copying import TOP
-
+TOP = CLIENTS.parent
 WORKFLOWS = ".github/workflows/"
 CALLED = WORKFLOWS + "c.yml"
 ACTION = "a/action.yml"
@@ -46,6 +43,7 @@ WRONG = FILES[FILE]
 RIGHT = WRONG.replace("reff", "ref")
 UNDEFINED = 'property "reff" is not defined [expression]'
 FAULT = re.compile(r"(.+?):(\d+):(\d+): (.+ \[[a-z-]+\])")
+OF_A_HOOK = ("GIT_DIR", "GIT_WORK_TREE", "GIT_INDEX_FILE")
 LINE_BREAK = re.compile("\r\n|\n|\r")
 
 
@@ -58,9 +56,10 @@ def write(root: str, files: dict[str, str]) -> None:
 
 
 def git(root: str, *words: str, status: int = 0, environment: dict | None = None) -> str:
-    """Runs git, and answers what it said."""
+    """Runs git, and answers what it said. If the test runs in a hook of git, that hook's repository is none of its business."""
+    given = {name: value for name, value in (environment or os.environ).items() if name not in OF_A_HOOK}
     done = subprocess.run(["git", "-c", "user.name=t", "-c", "user.email=t@t", "-c", "init.defaultBranch=main", *words], cwd=root,
-                          stdout=subprocess.PIPE, stderr=subprocess.STDOUT, env=environment, check=False)
+                          stdout=subprocess.PIPE, stderr=subprocess.STDOUT, env=given, check=False)
     said = done.stdout.decode()
     assert (done.returncode == 0) == (status == 0), f"git {' '.join(words)}: status {done.returncode}\n{said}"
     return said

@@ -202,7 +202,7 @@ WRONG_VERSIONS = {
     "names_are_read_as_options": WrongVersion(
         "lint_run.py", '"--", *files]', "*files]", ("report_edges.py", "names_that_look_like_options")),
     "a_report_that_nobody_can_read_is_lost": WrongVersion(
-        "output.py", "os.fstat(STANDARD_OUTPUT)", "pass", ("report_edges.py", "closed_output")),
+        "output.py", "os.fstat(STANDARD_OUTPUT)", "pass", ("report_edges.py", "closed_or_full_output")),
     "words_are_read_by_the_locale": WrongVersion(
         "paths.py", 'return os.fsencode(word).decode("utf-8", "replace")', "return word", ("report_edges.py", "another_locale")),
     "a_pipe_is_replaced_by_the_report": WrongVersion(
@@ -219,6 +219,13 @@ WRONG_VERSIONS = {
         "sarif.py", '"columnKind": "unicodeCodePoints"', '"columnKind": "utf16CodeUnits"', ("reports.py",)),
     "a_run_that_failed_is_clean": WrongVersion(
         "sarif.py", '"executionSuccessful": outcome.is_known()', '"executionSuccessful": True', ("reports.py",)),
+    "a_linter_that_is_not_loaded_finds_nothing": WrongVersion(
+        "lint_run.py", "if self.status in (0, 1) and self.status != has_faults:", "if False:",
+        ("report_edges.py", "programs_that_are_not_the_linter")),
+    "errors_that_are_full_change_the_status": WrongVersion(
+        "console.py", "return len(data)", "raise", ("report_edges.py", "closed_or_full_errors")),
+    "what_may_not_be_read_is_absent": WrongVersion(
+        "disk.py", "return () if error.errno in ABSENT else (None, error.errno)", "return ()", ("life.py", "what_may_not_be_read")),
     "a_run_that_failed_has_an_empty_report": WrongVersion(
         "convert.py", "if not (outcome.is_known() or form.tells_failure):", "if False:", ("report_edges.py", "the_old_report_stays_whole")),
 }
@@ -226,8 +233,8 @@ WRONG_VERSIONS = {
 
 def edited_copy(version: WrongVersion, top: str) -> Path:
     """A repository with the wrong version of the clients, and the rest as it is."""
-    (Path(top) / "docs").symlink_to(CLIENTS.parent / "docs")
-    (Path(top) / "examples").symlink_to(CLIENTS.parent / "examples")
+    for name in ("docs", "examples", "tests"):
+        (Path(top) / name).symlink_to(CLIENTS.parent / name)
     copy = Path(top) / "clients"
     shutil.copytree(CLIENTS, copy, ignore=shutil.ignore_patterns("__pycache__"))
     file = copy / "actionlint_client" / version.file

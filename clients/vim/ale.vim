@@ -9,7 +9,17 @@ function! s:root(buffer) abort
   if at >= 0
     return at == 0 ? '/' : path[: at - 1]
   endif
-  return ale#path#Dirname(ale#path#FindNearestDirectory(a:buffer, '.git'))
+  " The nearest folder above with workflows or a .git, which is a file in a worktree and in a submodule.
+  let folder = fnamemodify(path, ':h')
+  let above = folder
+  while getftype(above . '/.git') is# '' && !isdirectory(above . '/.github/workflows')
+    let parent = fnamemodify(above, ':h')
+    if parent is# above
+      return folder
+    endif
+    let above = parent
+  endwhile
+  return above
 endfunction
 
 call ale#linter#Define('yaml', {

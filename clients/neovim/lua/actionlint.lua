@@ -6,6 +6,19 @@ local M = {}
 -- The client of each repository, where Neovim doesn't keep them itself (before 0.8).
 local clients = {}
 
+-- The nearest folder, from this one upwards, with workflows or a .git, which is a file in a worktree and in a submodule; else itself.
+local function repository_of(folder)
+  local above = folder
+  while vim.fn.getftype(above .. '/.git') == '' and vim.fn.isdirectory(above .. '/.github/workflows') == 0 do
+    local parent = vim.fn.fnamemodify(above, ':h')
+    if parent == above then
+      return folder
+    end
+    above = parent
+  end
+  return above
+end
+
 -- The repository's folder of a workflow or an action; nil for other files.
 local function root_of(path)
   local root = path:match('^(.*)/%.github/workflows/[^/]+%.ya?ml$')
@@ -15,8 +28,7 @@ local function root_of(path)
   if not path:match('/action%.ya?ml$') then
     return nil
   end
-  local git = vim.fn.finddir('.git', vim.fn.fnamemodify(path, ':h') .. ';')
-  return git ~= '' and vim.fn.fnamemodify(git, ':p:h:h') or vim.fn.fnamemodify(path, ':h')
+  return repository_of(vim.fn.fnamemodify(path, ':h'))
 end
 
 -- Starts the server for a buffer's repository, unless it runs, and gives it the buffer.
