@@ -1,23 +1,20 @@
 //! Rules of events: their names, activity types, filters, schedules, and the types of inputs.
 
-ghost use Rattle.al_base.specs.declared.codes.RuleCode.TheVariants.{UnknownActivity, WrongPattern};
-ghost use Rattle.al_rules.specs.Events.{cron_faults, event_faults, filter_faults, filters_faults, input_faults};
-ghost use Rattle.al_rules.specs.Events.{activity_type_faults, event_name_faults, inputs_faults, named_faults, on_faults, schedule_faults};
-ghost use Rattle.al_rules_formats.specs.Patterns.{is_pattern as means_pattern};
-ghost use Rattle.al_rules_formats.specs.Schedules.{schedule_of};
-ghost use Rattle.al_rules_settings.specs.Views.{named_of};
-ghost use Rattle.al_rules_settings.specs.Words.{of_scalar, unless, unless_among};
-ghost use Rattle.al_tree.specs.Values.{member_of, scalar_node_of};
+ghost use Rattle.al_base.specs.declared.codes.RuleCode.TheVariants.{UnknownActivity};
+ghost use Rattle.al_rules.specs.Events.{activity_type_faults, cron_faults, event_faults, event_name_faults, filter_faults};
+ghost use Rattle.al_rules.specs.Events.{filters_faults, inputs_faults, named_faults, on_faults};
+ghost use Rattle.al_rules_settings.specs.Words.{of_scalar, unless_among};
+ghost use Rattle.al_tree.specs.Values.{entries_in, scalar_node_of, texts_in};
 ghost use Rattle.al_yaml_tree.specs.View.{view};
 ghost use Rattle.std.specs.List.{flat_map};
-ghost use Rattle.std.specs.Prelude.{◌≡◌, ◌++◌, map, option_map, OnOk, Some};
+ghost use Rattle.std.specs.Prelude.{◌≡◌, ◌++◌, map, OnOk};
 
 use crate::names::{CALL_TYPES, DISPATCH_TYPES, activities_of};
 use al_base::{FaultSink, RuleCode};
-use al_rules_formats::{Filter, Item, is_pattern, is_too_often, schedule};
-use al_rules_settings::{Named, named_key, named_text, report, report_unless, report_unless_among};
+use al_rules_formats::{Filter, is_pattern, is_too_often, schedule};
+use al_rules_settings::{named_key, named_text, report, report_unless, report_unless_among};
 use al_tree::{
-    Member, ScalarNode, is_event, items, members, members_under, text_under, texts, texts_under,
+    ScalarNode, is_event, items, members, members_under, text_under, texts, texts_under,
 };
 use al_yaml_tree::Node;
 use std::alloc::AllocError;
@@ -35,61 +32,21 @@ fn check_type(
     report_unless_among(RuleCode::UnknownActivity, types, named_text(scalar), faults)
 }
 
-/// Adds the faults of the activity types that an event doesn't have.
-fn check_types(
-    types: &[&str],
-    scalars: &[ScalarNode<'_>],
-    faults: &mut FaultSink,
-) -> Result<(), AllocError>
-    ensures { OnOk result (faults.new ≡ faults.old
-        ++ flat_map (λ s. unless_among UnknownActivity (map (λ n. n.now) types.now) (of_scalar s))
-        (map scalar_node_of scalars.now)) }
+/// Adds the faults of the activity types under an event that it doesn't have.
+fn check_activities(name: &[u8], event: &Node, faults: &mut FaultSink) -> Result<(), AllocError>
+    ensures { OnOk result (faults.new ≡ faults.old ++ activity_type_faults name.now (view event.now)) }
 {
-    for scalar in scalars {
+    let Some(types) = activities_of(name) else {
+        return Ok(());
+    };
+    let scalars = texts_under(faults.alloc(), event, "types")?;
+    for scalar in &scalars {
         check_type(types, *scalar, faults)?;
     }
     Ok(())
 }
 
-/// Adds the faults of the activity types under an event.
-fn check_activities(name: &[u8], event: &Node, faults: &mut FaultSink) -> Result<(), AllocError>
-    ensures { OnOk result (faults.new ≡ faults.old ++ activity_type_faults name.now (view event.now)) }
-{
-    match activities_of(name) {
-        None => Ok(()),
-        Some(types) => {
-            let scalars = texts_under(faults.alloc(), event, "types")?;
-            check_types(types, scalars.as_slice(), faults)
-        }
-    }
-}
-
-/// Adds the fault of a filter that isn't a pattern.
-fn check_pattern(filter: Filter, named: Named<'_>, faults: &mut FaultSink) -> Result<(), AllocError>
-    ensures { let n = named_of named.entry in
-        OnOk result (faults.new ≡ faults.old ++ unless (means_pattern filter n.text) WrongPattern n) }
-{
-    let right = is_pattern(faults.alloc(), filter, named.text)?;
-    report_unless(right, RuleCode::WrongPattern, named, faults)
-}
-
-/// Adds the faults of some filters.
-fn check_patterns(
-    filter: Filter,
-    scalars: &[ScalarNode<'_>],
-    faults: &mut FaultSink,
-) -> Result<(), AllocError>
-    ensures { OnOk result (faults.new ≡ faults.old
-        ++ flat_map (λ s. unless (means_pattern filter (of_scalar s).text) WrongPattern (of_scalar s))
-        (map scalar_node_of scalars.now)) }
-{
-    for scalar in scalars {
-        check_pattern(filter, named_text(*scalar), faults)?;
-    }
-    Ok(())
-}
-
-/// Adds the faults of the filters under a key of an event.
+/// Adds the faults of the filters under a key of an event that aren't patterns.
 fn check_filter(
     filter: Filter,
     event: &Node,
@@ -100,7 +57,12 @@ fn check_filter(
         ++ filter_faults filter (view event.now) key.now) }
 {
     let scalars = texts_under(faults.alloc(), event, key)?;
-    check_patterns(filter, scalars.as_slice(), faults)
+    for scalar in &scalars {
+        let name = named_text(*scalar);
+        let right = is_pattern(faults.alloc(), filter, name.text)?;
+        report_unless(right, RuleCode::WrongPattern, name, faults)?;
+    }
+    Ok(())
 }
 
 /// Adds the faults of the filters under some keys of an event.
@@ -128,51 +90,19 @@ fn check_filters(event: &Node, faults: &mut FaultSink) -> Result<(), AllocError>
     check_keys(Filter::Paths, event, &["paths", "paths-ignore"], faults)
 }
 
-/// Adds the fault of a valid schedule with these minutes.
-fn check_minutes(
-    minutes: &[Item],
-    named: Named<'_>,
-    faults: &mut FaultSink,
-) -> Result<(), AllocError>
-    ensures { OnOk result (faults.new ≡ faults.old
-        ++ schedule_faults (Some minutes.now) (named_of named.entry)) }
-{
-    let often = is_too_often(faults.alloc(), minutes)?;
-    report_unless(!often, RuleCode::ScheduleTooOften, named, faults)
-}
-
-/// Adds the fault of a schedule with these minutes, or of an invalid schedule.
-fn check_parsed(
-    minutes: &Option<Vec<Item>>,
-    named: Named<'_>,
-    faults: &mut FaultSink,
-) -> Result<(), AllocError>
-    ensures { OnOk result (faults.new ≡ faults.old
-        ++ schedule_faults (option_map (λ v. v.items) minutes.now) (named_of named.entry)) }
-{
-    match minutes {
-        None => report(RuleCode::WrongSchedule, named, faults),
-        Some(minutes) => check_minutes(minutes.as_slice(), named, faults),
-    }
-}
-
-/// Adds the fault of a schedule.
-fn check_schedule(named: Named<'_>, faults: &mut FaultSink) -> Result<(), AllocError>
-    ensures { OnOk result (faults.new ≡ faults.old
-        ++ schedule_faults (schedule_of (named_of named.entry).text) (named_of named.entry)) }
-{
-    let minutes = schedule(faults.alloc(), named.text)?;
-    check_parsed(&minutes, named, faults)
-}
-
-/// Adds the fault of an item of `schedule`.
+/// Adds the fault of an item of `schedule`: a cron expression that is invalid, or runs too often.
 fn check_cron(entry: &Node, faults: &mut FaultSink) -> Result<(), AllocError>
     ensures { OnOk result (faults.new ≡ faults.old ++ cron_faults (view entry.now)) }
 {
-    match text_under(entry, "cron") {
-        None => Ok(()),
-        Some(cron) => check_schedule(named_text(cron), faults),
-    }
+    let Some(cron) = text_under(entry, "cron") else {
+        return Ok(());
+    };
+    let name = named_text(cron);
+    let Some(minutes) = schedule(faults.alloc(), name.text)? else {
+        return report(RuleCode::WrongSchedule, name, faults);
+    };
+    let often = is_too_often(faults.alloc(), minutes.as_slice())?;
+    report_unless(!often, RuleCode::ScheduleTooOften, name, faults)
 }
 
 /// Adds the faults of some items of `schedule`.
@@ -185,42 +115,18 @@ fn check_crons(entries: &[Node], faults: &mut FaultSink) -> Result<(), AllocErro
     Ok(())
 }
 
-/// Adds the fault of an input of an unknown type.
-fn check_input(types: &[&str], input: Member<'_>, faults: &mut FaultSink) -> Result<(), AllocError>
-    ensures { OnOk result (faults.new ≡ faults.old
-        ++ input_faults (map (λ n. n.now) types.now) (member_of input.entry)) }
-{
-    match text_under(input.value, "type") {
-        None => Ok(()),
-        Some(scalar) => {
-            let name = named_text(scalar);
-            report_unless_among(RuleCode::UnknownInputType, types, name, faults)
-        }
-    }
-}
-
-/// Adds the faults of some inputs.
-fn check_members(
-    types: &[&str],
-    inputs: &[Member<'_>],
-    faults: &mut FaultSink,
-) -> Result<(), AllocError>
-    ensures { OnOk result (faults.new ≡ faults.old
-        ++ flat_map (input_faults (map (λ n. n.now) types.now)) (map member_of inputs.now)) }
-{
-    for input in inputs {
-        check_input(types, *input, faults)?;
-    }
-    Ok(())
-}
-
-/// Adds the faults of the inputs of an event.
+/// Adds the faults of the inputs of an event that are of none of some types.
 fn check_inputs(types: &[&str], event: &Node, faults: &mut FaultSink) -> Result<(), AllocError>
     ensures { OnOk result (faults.new ≡ faults.old
         ++ inputs_faults (map (λ n. n.now) types.now) (view event.now)) }
 {
     let inputs = members_under(faults.alloc(), event, "inputs")?;
-    check_members(types, inputs.as_slice(), faults)
+    for input in &inputs {
+        if let Some(kind) = text_under(input.value, "type") {
+            report_unless_among(RuleCode::UnknownInputType, types, named_text(kind), faults)?;
+        }
+    }
+    Ok(())
 }
 
 /// Adds the faults of a known event.
@@ -241,37 +147,32 @@ fn check_event(name: &[u8], event: &Node, faults: &mut FaultSink) -> Result<(), 
     }
 }
 
-/// Adds the faults of an event and the values under it.
-fn check_named(event: Member<'_>, faults: &mut FaultSink) -> Result<(), AllocError>
-    ensures { OnOk result (faults.new ≡ faults.old ++ named_faults (member_of event.entry)) }
-{
-    let name = named_key(event.key);
-    if is_event(name.text) {
-        check_event(name.text, event.value, faults)
-    } else {
-        report(RuleCode::UnknownEvent, name, faults)
-    }
-}
-
-/// Adds the faults of events and the values under them.
-fn check_events(events: &[Member<'_>], faults: &mut FaultSink) -> Result<(), AllocError>
+/// Adds the faults of the names of events in the value of `on`.
+fn check_names(on: &Node, faults: &mut FaultSink) -> Result<(), AllocError>
     ensures { OnOk result (faults.new ≡ faults.old
-        ++ flat_map named_faults (map member_of events.now)) }
+        ++ flat_map (λ s. event_name_faults (of_scalar s)) (texts_in (view on.now))) }
 {
-    for event in events {
-        check_named(*event, faults)?;
+    let names = texts(faults.alloc(), on)?;
+    for name in &names {
+        let name = named_text(*name);
+        report_unless(is_event(name.text), RuleCode::UnknownEvent, name, faults)?;
     }
     Ok(())
 }
 
-/// Adds the faults of names that aren't events.
-fn check_names(names: &[ScalarNode<'_>], faults: &mut FaultSink) -> Result<(), AllocError>
+/// Adds the faults of the events that are keys in the value of `on`, and of the values under them.
+fn check_events(on: &Node, faults: &mut FaultSink) -> Result<(), AllocError>
     ensures { OnOk result (faults.new ≡ faults.old
-        ++ flat_map (λ s. event_name_faults (of_scalar s)) (map scalar_node_of names.now)) }
+        ++ flat_map named_faults (entries_in (view on.now))) }
 {
-    for name in names {
-        let name = named_text(*name);
-        report_unless(is_event(name.text), RuleCode::UnknownEvent, name, faults)?;
+    let events = members(faults.alloc(), on)?;
+    for event in &events {
+        let name = named_key(event.key);
+        if is_event(name.text) {
+            check_event(name.text, event.value, faults)?;
+        } else {
+            report(RuleCode::UnknownEvent, name, faults)?;
+        }
     }
     Ok(())
 }
@@ -285,8 +186,6 @@ fn check_names(names: &[ScalarNode<'_>], faults: &mut FaultSink) -> Result<(), A
 pub fn check_on(on: &Node, faults: &mut FaultSink) -> Result<(), AllocError>
     ensures { OnOk result (faults.new ≡ faults.old ++ on_faults (view on.now)) }
 {
-    let names = texts(faults.alloc(), on)?;
-    check_names(names.as_slice(), faults)?;
-    let events = members(faults.alloc(), on)?;
-    check_events(events.as_slice(), faults)
+    check_names(on, faults)?;
+    check_events(on, faults)
 }

@@ -100,70 +100,20 @@ fn has_label_of(labels: &[Option<usize>], job: usize, other: usize) -> bool
     label_of(labels, job) == label_of(labels, other)
 }
 
-/// Adds the fault of an entry that names this job, if it has one. Jobs have the same label if they lead to one another.
-fn check_named(
-    labels: &[Option<usize>],
-    need: Need<'_>,
-    named: Option<usize>,
-    faults: &mut FaultSink,
-) -> Result<(), AllocError>
-    ensures { OnOk result (faults.new ≡ faults.old
-        ++ labelled_fault labels.now (need_of need.entry) named) }
-{
-    match named {
-        None => report(RuleCode::UndefinedJob, need.text, faults),
-        Some(job) => {
-            if !has_label_of(labels, job, need.job) {
-                return Ok(());
-            }
-            let code = Code::Rule(RuleCode::NeedsCycle);
-            faults.report_two(need.text.span, code, need.key.text, need.text.text)
-        }
-    }
-}
-
-/// Adds the fault of an entry, if any.
+/// Adds the fault of an entry, if any: it names no job, or one that leads back to its own job.
 fn check_need(graph: JobGraph<'_>, need: Need<'_>, faults: &mut FaultSink) -> Result<(), AllocError>
     ensures { OnOk result (faults.new ≡ faults.old
         ++ labelled_fault graph.entry.labels.now (need_of need.entry)
         (named_by (name_position graph.entry.positions.now) (need_of need.entry).text)) }
 {
-    let named = graph.positions.get(faults.alloc(), need.text.text)?;
-    check_named(graph.labels, need, named, faults)
-}
-
-/// The entries of the `needs` of a job, with these texts.
-fn entries_of<'a>(
-    alloc: Global,
-    job: usize,
-    key: Named<'a>,
-    texts: &[ScalarNode<'a>],
-) -> Result<Vec<Need<'a>>, AllocError>
-    ensures { IfOk result (λ v. map need_of v.items
-        ≡ map (λ n. record { job = job; key = named_of key.entry; text = n })
-        (map of_scalar (map scalar_node_of texts.now))) }
-{
-    let mut found = Vec::new(alloc);
-    for text in texts {
-        let text = named_text(*text);
-        found.push(Need { job, key, text })?;
+    let Some(job) = graph.positions.get(faults.alloc(), need.text.text)? else {
+        return report(RuleCode::UndefinedJob, need.text, faults);
+    };
+    if !has_label_of(graph.labels, job, need.job) {
+        return Ok(());
     }
-    Ok(found)
-}
-
-/// Adds the faults of some entries.
-fn check_entries(
-    graph: JobGraph<'_>,
-    needs: &[Need<'_>],
-    faults: &mut FaultSink,
-) -> Result<(), AllocError>
-    ensures { OnOk result (faults.new ≡ faults.old
-        ++ faults_by graph.entry (map need_of needs.now)) }
-{
-    for need in needs {
-        check_need(graph, *need, faults)?;
-    }
-    Ok(())
+    let code = Code::Rule(RuleCode::NeedsCycle);
+    faults.report_two(need.text.span, code, need.key.text, need.text.text)
 }
 
 /// Adds the faults of the `needs` of a job at a position.
@@ -176,10 +126,17 @@ fn check_job(
     ensures { OnOk result (faults.new ≡ faults.old
         ++ faults_by graph.entry (needs_in (position, member_of job.entry))) }
 {
-    let texts = texts_under(faults.alloc(), job.value, "needs")?;
     let key = named_key(job.key);
-    let entries = entries_of(faults.alloc(), position, key, texts.as_slice())?;
-    check_entries(graph, entries.as_slice(), faults)?;
+    let texts = texts_under(faults.alloc(), job.value, "needs")?;
+    for text in &texts {
+        let text = named_text(*text);
+        let need = Need {
+            job: position,
+            key,
+            text,
+        };
+        check_need(graph, need, faults)?;
+    }
     Ok(())
 }
 

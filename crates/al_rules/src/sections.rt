@@ -2,13 +2,11 @@
 
 ghost use Rattle.al_rules.specs.Rules.{container_faults, containers_faults, job_faults, section_faults};
 ghost use Rattle.al_rules.specs.Rules.{settings_faults, step_faults, steps_faults};
-ghost use Rattle.al_rules_settings.specs.Matrix.{matrix_faults};
 ghost use Rattle.al_rules_settings.specs.Views.{named_of};
 ghost use Rattle.al_rules_settings.specs.Words.{of_scalar};
-ghost use Rattle.al_tree.specs.Values.{entries_at, member_of, scalar_node_of, text_at_key, text_below, value_at, value_below};
+ghost use Rattle.al_tree.specs.Values.{entries_at, member_of, scalar_node_of, text_at_key, text_below};
 ghost use Rattle.al_yaml_tree.specs.View.{view};
 ghost use Rattle.std.specs.List.{filter_map, flat_map};
-ghost use Rattle.std.specs.Option.{option_map_or};
 ghost use Rattle.std.specs.Prelude.{◌≡◌, ◌++◌, [], ◌∷◌, codes, map, option_map, IfOk, OnOk};
 
 use al_base::FaultSink;
@@ -47,23 +45,16 @@ fn ids_of(alloc: Global, steps: &[Node]) -> Result<Vec<Named<'_>>, AllocError>
     Ok(ids)
 }
 
-/// Adds the faults of some steps, each by itself.
-fn check_each_step(steps: &[Node], faults: &mut FaultSink) -> Result<(), AllocError>
-    ensures { OnOk result (faults.new ≡ faults.old ++ flat_map step_faults (map view steps.now)) }
-{
-    for step in steps {
-        check_step(step, faults)?;
-    }
-    Ok(())
-}
-
 /// Adds the faults of some steps.
 pub(crate) fn check_steps(steps: &[Node], faults: &mut FaultSink) -> Result<(), AllocError>
     ensures { OnOk result (faults.new ≡ faults.old ++ steps_faults (map view steps.now)) }
 {
     let ids = ids_of(faults.alloc(), steps)?;
     check_ids(ids.as_slice(), faults)?;
-    check_each_step(steps, faults)
+    for step in steps {
+        check_step(step, faults)?;
+    }
+    Ok(())
 }
 
 /// Adds the faults of a container or a service.
@@ -91,53 +82,25 @@ pub(crate) fn check_section(node: &Node, faults: &mut FaultSink) -> Result<(), A
     check_shell(default_shell(node), faults)
 }
 
-/// Adds the faults of some services.
-fn check_each_service(services: &[Member<'_>], faults: &mut FaultSink) -> Result<(), AllocError>
-    ensures { OnOk result (faults.new ≡ faults.old
-        ++ flat_map (λ m. container_faults m.1) (map member_of services.now)) }
-{
-    for service in services {
-        check_container(service.value, faults)?;
-    }
-    Ok(())
-}
-
 /// Adds the faults of the services of a job.
 fn check_services(job: &Node, faults: &mut FaultSink) -> Result<(), AllocError>
     ensures { OnOk result (faults.new ≡ faults.old
         ++ flat_map (λ m. container_faults m.1) (entries_at (codes "services") (view job.now))) }
 {
     let services = members_under(faults.alloc(), job, "services")?;
-    check_each_service(services.as_slice(), faults)
-}
-
-/// Adds the faults of the container of a job.
-fn check_job_container(job: &Node, faults: &mut FaultSink) -> Result<(), AllocError>
-    ensures { OnOk result (faults.new ≡ faults.old
-        ++ option_map_or container_faults (value_at (codes "container") (view job.now)) []) }
-{
-    match value(job, "container") {
-        None => Ok(()),
-        Some(container) => check_container(container, faults),
+    for service in &services {
+        check_container(service.value, faults)?;
     }
-}
-
-/// Adds the faults of the matrix of a job.
-fn check_job_matrix(job: &Node, faults: &mut FaultSink) -> Result<(), AllocError>
-    ensures { OnOk result (faults.new ≡ faults.old ++ option_map_or matrix_faults
-        (value_below (codes "strategy" ∷ codes "matrix" ∷ []) (view job.now)) []) }
-{
-    match value_below_two(job, "strategy", "matrix") {
-        None => Ok(()),
-        Some(matrix) => check_matrix(matrix, faults),
-    }
+    Ok(())
 }
 
 /// Adds the faults of the container and the services of a job.
 fn check_containers(job: &Node, faults: &mut FaultSink) -> Result<(), AllocError>
     ensures { OnOk result (faults.new ≡ faults.old ++ containers_faults (view job.now)) }
 {
-    check_job_container(job, faults)?;
+    if let Some(container) = value(job, "container") {
+        check_container(container, faults)?;
+    }
     check_services(job, faults)
 }
 
@@ -147,7 +110,10 @@ fn check_settings(job: &Node, faults: &mut FaultSink) -> Result<(), AllocError>
 {
     check_section(job, faults)?;
     check_condition(text_under(job, "if"), faults)?;
-    check_job_matrix(job, faults)
+    match value_below_two(job, "strategy", "matrix") {
+        None => Ok(()),
+        Some(matrix) => check_matrix(matrix, faults),
+    }
 }
 
 /// Adds the faults of a job by itself.
