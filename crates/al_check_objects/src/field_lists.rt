@@ -12,8 +12,7 @@ pub struct FieldList<'a> {
 impl<'a> FieldList<'a> {
     ghost use Rattle.std.specs.Prelude.{◌≡◌, [], List, IfOk, OnOk, length, map, true};
     ghost use Rattle.al_base.specs.Growth.{BeginsWith};
-    ghost use Rattle.al_types.specs.Puts.{TypedName, put_all, put_new};
-    ghost use Rattle.al_types.specs.Strings.{strings};
+    ghost use Rattle.al_types.specs.Puts.{TypedName, put_new};
     ghost use Rattle.al_types.specs.Types.{Type', object_with};
     ghost use Rattle.al_check_objects.specs.Numbers.{Lists, Means};
     ghost use Rattle.al_expr_types.specs.FieldMaps.{is_map_below};
@@ -41,24 +40,6 @@ impl<'a> FieldList<'a> {
         Ok(FieldList { map })
     }
 
-    /// Appends string fields with these names.
-    pub(crate) fn and_strings(
-        self,
-        alloc: Global,
-        names: &[&'a [u8]],
-    ) -> Result<FieldList<'a>, AllocError>
-        ensures { IfOk result
-            (λ l. (types : declared.Types) (ts : List TypedName) → Lists types self.entry ts
-            → Lists types l (put_all put_new ts (strings (map (λ n. n.now) names.now)))) }
-    {
-        let mut all = self;
-        for name in names {
-            let more = all.and(alloc, *name, Ty::STRING)?;
-            all = more;
-        }
-        Ok(all)
-    }
-
     /// How many fields there are.
     pub fn len(&self) -> usize
         ensures { result ≡ length (self.now).map.types.items }
@@ -82,7 +63,6 @@ impl<'a> FieldList<'a> {
             (rest_in (objects_of types.old) rest))) }
         ensures kept { OnOk result (BeginsWith (objects_of types.new) (objects_of types.old)) }
     {
-        let ty = types.fields(self.map, rest)?;
-        Ok(ty)
+        types.fields(self.map, rest)
     }
 }

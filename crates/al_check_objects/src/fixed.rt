@@ -90,8 +90,7 @@ pub fn github_type(alloc: Global, types: &mut Types<'_>) -> Result<Ty, AllocErro
     ensures ty { IfOk result (λ t. Means types.new t fixed.github_type) }
     ensures kept { OnOk result (BeginsWith (objects_of types.new) (objects_of types.old)) }
 {
-    let ty = object_of(alloc, types, GITHUB, None)?;
-    Ok(ty)
+    object_of(alloc, types, GITHUB, None)
 }
 
 /// The type of `runner`.
@@ -99,8 +98,7 @@ pub fn runner_type(alloc: Global, types: &mut Types<'_>) -> Result<Ty, AllocErro
     ensures ty { IfOk result (λ t. Means types.new t fixed.runner_type) }
     ensures kept { OnOk result (BeginsWith (objects_of types.new) (objects_of types.old)) }
 {
-    let ty = object_of(alloc, types, RUNNER, Some(Ty::ANY))?;
-    Ok(ty)
+    object_of(alloc, types, RUNNER, Some(Ty::ANY))
 }
 
 /// The type of `job`.
@@ -108,8 +106,7 @@ pub fn job_type(alloc: Global, types: &mut Types<'_>) -> Result<Ty, AllocError>
     ensures ty { IfOk result (λ t. Means types.new t fixed.job_type) }
     ensures kept { OnOk result (BeginsWith (objects_of types.new) (objects_of types.old)) }
 {
-    let ty = object_of(alloc, types, JOB, Some(Ty::ANY))?;
-    Ok(ty)
+    object_of(alloc, types, JOB, Some(Ty::ANY))
 }
 
 /// The type of `strategy` in a job.
@@ -117,6 +114,5 @@ pub fn strategy_type(alloc: Global, types: &mut Types<'_>) -> Result<Ty, AllocEr
     ensures ty { IfOk result (λ t. Means types.new t fixed.strategy_type) }
     ensures kept { OnOk result (BeginsWith (objects_of types.new) (objects_of types.old)) }
 {
-    let ty = object_of(alloc, types, STRATEGY, None)?;
-    Ok(ty)
+    object_of(alloc, types, STRATEGY, None)
 }

@@ -1,16 +1,14 @@
 //! The type of `matrix`.
-ghost use Rattle.std.specs.Prelude.{◌≡◌, is_some, map, option_map, IfOk, List, OnOk, true};
+ghost use Rattle.std.specs.Prelude.{◌≡◌, is_some, map, IfOk, List, OnOk, true};
 ghost use Rattle.std.specs.List.{list_any};
-ghost use Rattle.std.specs.Option.{option_to_list};
 ghost use Rattle.al_base.specs.Growth.{BeginsWith};
 ghost use Rattle.al_check_objects.specs.Matrix as matrix;
-ghost use Rattle.al_check_objects.specs.Matrix.{fields_of, include_all, items_type, row_field, rows_of};
+ghost use Rattle.al_check_objects.specs.Matrix.{fields_of, include_all, items_type, rows_of};
 ghost use Rattle.al_check_objects.specs.Objects.{strictly};
-ghost use Rattle.al_check_objects.specs.Numbers.{Lists, Means};
+ghost use Rattle.al_check_objects.specs.Numbers.{Means};
 ghost use Rattle.al_expr_types.specs.Tables.{is_known, objects_of};
 ghost use Rattle.al_expr_types.specs.declared.types.Types as declared;
-ghost use Rattle.al_tree.specs.Values.{member_of};
-ghost use Rattle.al_types.specs.Puts.{TypedName, firsts, put_all, put_new};
+ghost use Rattle.al_types.specs.Puts.{TypedName, firsts};
 ghost use Rattle.al_types.specs.Types.{Absent, option_of, or_any};
 ghost use Rattle.al_yaml_tree.specs.Access.{scalar_in};
 ghost use Rattle.al_yaml_tree.specs.View.{entries_of, entry_view, nodes_of, view};
@@ -22,8 +20,7 @@ use al_expr_types::{Join, Ty, Types};
 use al_rules_formats::{Around, is_lone_chunk};
 use al_scalar::Scalar;
 use al_tree::{
-    Member, contains_chunk, is_combination_key, items, key_of, key_text, members, value,
-    value_below_two,
+    contains_chunk, is_combination_key, items, key_of, key_text, members, value, value_below_two,
 };
 use al_yaml_tree::{Entry, Kind, Node};
 use std::alloc::{AllocError, Global};
@@ -50,19 +47,12 @@ fn node_type<'a>(alloc: Global, types: &mut Types<'a>, node: &'a Node) -> Result
     ensures kept { OnOk result (BeginsWith (objects_of types.new) (objects_of types.old)) }
 {
     match &node.kind {
-        Kind::Scalar(scalar) => {
-            let ty = scalar_type(alloc, scalar)?;
-            Ok(ty)
-        }
+        Kind::Scalar(scalar) => scalar_type(alloc, scalar),
         Kind::Sequence(nodes) => {
             let ty = items_type(alloc, types, nodes.as_slice())?;
-            let array = ty.in_arrays(1)?;
-            Ok(array)
+            ty.in_arrays(1)
         }
-        Kind::Mapping(entries) => {
-            let ty = entries_type(alloc, types, entries.as_slice())?;
-            Ok(ty)
-        }
+        Kind::Mapping(entries) => entries_type(alloc, types, entries.as_slice()),
         Kind::Shared(inner) => node_type(alloc, types, inner),
     }
 }
@@ -78,11 +68,9 @@ fn items_type<'a>(alloc: Global, types: &mut Types<'a>, nodes: &'a [Node]) -> Re
     let mut all = Join::Nothing;
     for node in nodes {
         let ty = node_type(alloc, types, node)?;
-        let more = all.and(alloc, ty)?;
-        all = more;
+        all = all.and(alloc, ty)?;
     }
-    let ty = types.type_or_any(all)?;
-    Ok(ty)
+    types.type_or_any(all)
 }
 
 /// The type of a mapping with these entries; of equal names the first counts.
@@ -100,31 +88,9 @@ fn entries_type<'a>(
     let mut fields = FieldList::new(alloc);
     for entry in entries {
         let ty = node_type(alloc, types, &entry.value)?;
-        let more = fields.and(alloc, key_of(entry), ty)?;
-        fields = more;
+        fields = fields.and(alloc, key_of(entry), ty)?;
     }
-    let ty = fields.into_type(types, None)?;
-    Ok(ty)
-}
-
-/// Rows, and the row that an entry is, if it is one.
-fn and_row<'a>(
-    alloc: Global,
-    types: &mut Types<'a>,
-    entry: Member<'a>,
-    rows: FieldList<'a>,
-) -> Result<FieldList<'a>, AllocError>
-    ensures fields { IfOk result (λ l. (ts : List TypedName) → Lists types.old rows.entry ts
-        → Lists types.new l (put_all put_new ts
-        (option_to_list (row_field (member_of entry.entry))))) }
-    ensures kept { OnOk result (BeginsWith (objects_of types.new) (objects_of types.old)) }
-{
-    if is_combination_key(key_text(entry.key)) {
-        return Ok(rows);
-    }
-    let ty = items_type(alloc, types, items(entry.value))?;
-    let more = rows.and(alloc, key_text(entry.key), ty)?;
-    Ok(more)
+    fields.into_type(types, None)
 }
 
 /// The object of a matrix's rows.
@@ -135,11 +101,13 @@ fn rows_type<'a>(alloc: Global, types: &mut Types<'a>, node: &'a Node) -> Result
     let mut rows = FieldList::new(alloc);
     let entries = members(alloc, node)?;
     for entry in entries.as_slice() {
-        let more = and_row(alloc, types, *entry, rows)?;
-        rows = more;
+        if is_combination_key(key_text(entry.key)) {
+            continue;
+        }
+        let ty = items_type(alloc, types, items(entry.value))?;
+        rows = rows.and(alloc, key_text(entry.key), ty)?;
     }
-    let ty = rows.into_type(types, None)?;
-    Ok(ty)
+    rows.into_type(types, None)
 }
 
 /// The object of a combination's entries; one without fields if it isn't a mapping.
@@ -151,8 +119,7 @@ fn combination<'a>(alloc: Global, types: &mut Types<'a>, node: &'a Node) -> Resu
     let Some(entries) = node.mapping() else {
         return object_of(alloc, types, &[], None);
     };
-    let ty = entries_type(alloc, types, entries)?;
-    Ok(ty)
+    entries_type(alloc, types, entries)
 }
 
 /// What the object of the rows and those of the combinations have in common.
@@ -170,11 +137,9 @@ fn include<'a>(
     let mut all = Join::One(rows);
     for node in nodes {
         let ty = combination(alloc, types, node)?;
-        let more = all.and(alloc, ty)?;
-        all = more;
+        all = all.and(alloc, ty)?;
     }
-    let ty = types.type_or_any(all)?;
-    Ok(ty)
+    types.type_or_any(all)
 }
 
 fn is_scalar(node: &Node) -> bool
@@ -201,31 +166,6 @@ fn is_open_include(node: &Node) -> bool
     is_scalar(node) || has_scalar(items(node))
 }
 
-/// The type of a matrix with these rows and its combinations.
-fn with_combinations<'a>(
-    alloc: Global,
-    types: &mut Types<'a>,
-    rows: Ty,
-    combinations: Option<&'a Node>,
-) -> Result<Ty, AllocError>
-    requires { is_known types.old rows ≡ true }
-    ensures ty { IfOk result (λ t. (ts : List TypedName) → Means types.old rows (strictly ts)
-        → Means types.new t (matrix.with_combinations ts
-        (option_map (λ n. view n.now) combinations.entry))) }
-    ensures kept { OnOk result (BeginsWith (objects_of types.new) (objects_of types.old)) }
-{
-    match combinations {
-        None => Ok(rows),
-        Some(node) => {
-            if is_open_include(node) {
-                return object_of(alloc, types, &[], Some(Ty::ANY));
-            }
-            let ty = include(alloc, types, rows, items(node))?;
-            Ok(ty)
-        }
-    }
-}
-
 /// The type of a matrix.
 fn matrix_of<'a>(alloc: Global, types: &mut Types<'a>, node: &'a Node) -> Result<Ty, AllocError>
     ensures ty { IfOk result (λ t. Means types.new t (matrix.matrix_of (view node.entry.now))) }
@@ -235,8 +175,13 @@ fn matrix_of<'a>(alloc: Global, types: &mut Types<'a>, node: &'a Node) -> Result
         return object_of(alloc, types, &[], Some(Ty::ANY));
     }
     let rows = rows_type(alloc, types, node)?;
-    let ty = with_combinations(alloc, types, rows, value(node, "include"))?;
-    Ok(ty)
+    let Some(combinations) = value(node, "include") else {
+        return Ok(rows);
+    };
+    if is_open_include(combinations) {
+        return object_of(alloc, types, &[], Some(Ty::ANY));
+    }
+    include(alloc, types, rows, items(combinations))
 }
 
 /// The type of `matrix` in a job; without a matrix an object without fields.

@@ -14,7 +14,7 @@ ghost use Rattle.al_types.specs.Types.{object_with};
 
 use crate::field_lists::FieldList;
 use al_expr_types::{FieldMap, Ty, Types};
-use al_tree::{Member, key_texts};
+use al_tree::{Member, key_text};
 use std::alloc::{AllocError, Global};
 
 /// The object with these fields, which must have different names, and with others of the type `rest`, if given. Fails with `AllocError`
@@ -34,8 +34,7 @@ pub fn object_of<'a>(
     ensures kept { OnOk result (BeginsWith (objects_of types.new) (objects_of types.old)) }
 {
     let map = FieldMap::of(alloc, fields)?;
-    let ty = FieldList { map }.into_type(types, rest)?;
-    Ok(ty)
+    FieldList { map }.into_type(types, rest)
 }
 
 /// The object with a string field for the key of each entry, and no other fields.
@@ -48,8 +47,9 @@ pub fn declared_strings<'a>(
         (λ t. Means types.new t (named_strings (keys_in (map member_of entries.now)))) }
     ensures kept { OnOk result (BeginsWith (objects_of types.new) (objects_of types.old)) }
 {
-    let keys = key_texts(alloc, entries)?;
-    let fields = FieldList::new(alloc).and_strings(alloc, keys.as_slice())?;
-    let ty = fields.into_type(types, None)?;
-    Ok(ty)
+    let mut fields = FieldList::new(alloc);
+    for entry in entries {
+        fields = fields.and(alloc, key_text(entry.key), Ty::STRING)?;
+    }
+    fields.into_type(types, None)
 }

@@ -42,34 +42,13 @@ pub(crate) struct CallExpr<'a, 'e> {
     pub arguments: &'e [Expr<'a>],
 }
 
-/// What a function requires of an argument.
-#[derive(Clone, Copy)]
-struct Parameter<'a> {
-    // The function's name, as the call has it.
-    of: Word<'a>,
-    // Counted from 1.
-    number: usize,
-    parameter_at: Wanted,
-}
-
 /// Whether a function only tests its arguments, so that none of their text gets into a script.
 pub(crate) fn is_test(function: Option<Function>) -> bool
     ensures { result ≡ is_test function }
 {
     match function {
-        Some(Function::Contains) => true,
-        Some(Function::StartsWith) => true,
-        Some(Function::EndsWith) => true,
-        Some(Function::Format) => false,
-        Some(Function::Join) => false,
-        Some(Function::ToJson) => false,
-        Some(Function::FromJson) => false,
-        Some(Function::HashFiles) => false,
-        Some(Function::Success) => false,
-        Some(Function::Always) => false,
-        Some(Function::Cancelled) => false,
-        Some(Function::Failure) => false,
-        None => false,
+        Some(Function::Contains | Function::StartsWith | Function::EndsWith) => true,
+        _ => false,
     }
 }
 
@@ -156,30 +135,28 @@ fn check_types(
         (map (argument_in ms) arguments.now)) }
 {
     for (index, argument) in arguments.iter().enumerate() {
-        let parameter = Parameter {
-            of: name,
-            number: index + 1,
-            parameter_at: parameters.parameter_at(index),
-        };
-        check_type(parameter, argument, faults)?;
+        let wanted = parameters.parameter_at(index);
+        check_type(name, index + 1, wanted, argument, faults)?;
     }
     Ok(())
 }
 
+/// Adds the fault of an argument, by its number from 1, that doesn't have the type that the function requires.
 fn check_type(
-    parameter: Parameter<'_>,
+    name: Word<'_>,
+    number: usize,
+    wanted: Wanted,
     argument: &Argument,
     faults: &mut FaultSink,
 ) -> Result<(), AllocError>
     ensures { OnOk result ((ms : List Parts) → faults.new ≡ faults.old ++
-        give (not (accepts (parameter.entry).parameter_at (type_in ms argument.now.ty)))
+        give (not (accepts wanted (type_in ms argument.now.ty)))
         (expression_fault code.ArgumentType argument.now.span
-        (decimal (parameter.entry).number ∷ (parameter.entry).of.text.now ∷ []))) }
+        (decimal number ∷ (name.entry).text.now ∷ []))) }
 {
-    if !accepts(parameter.parameter_at, argument.ty) {
-        let number = parameter.number.to_string(faults.alloc())?;
-        let name = parameter.of.text;
-        let args = Args::two(faults.alloc(), number.as_str(), name)?;
+    if !accepts(wanted, argument.ty) {
+        let number = number.to_string(faults.alloc())?;
+        let args = Args::two(faults.alloc(), number.as_str(), name.text)?;
         let code = Code::Expression(ExpressionCode::ArgumentType);
         faults.report(argument.span, code, args)?;
     }

@@ -47,8 +47,7 @@ pub(crate) fn operation(
     ensures kept { BeginsWith (objects_of types.new) (objects_of types.old) }
 {
     if is_logic(operand.operator) {
-        let more = sofar.and(faults.alloc(), operand.ty)?;
-        return Ok(more);
+        return sofar.and(faults.alloc(), operand.ty);
     }
     let first = types.type_or_any(sofar)?;
     check_comparison(first, operand, faults)?;
@@ -75,14 +74,13 @@ fn is_logic(operator: Operator) -> bool
     ensures { result ≡ is_logic operator }
 {
     match operator {
-        Operator::Or => true,
-        Operator::And => true,
-        Operator::Equal => false,
-        Operator::NotEqual => false,
-        Operator::Less => false,
-        Operator::LessEqual => false,
-        Operator::Greater => false,
-        Operator::GreaterEqual => false,
+        Operator::Or | Operator::And => true,
+        Operator::Equal
+        | Operator::NotEqual
+        | Operator::Less
+        | Operator::LessEqual
+        | Operator::Greater
+        | Operator::GreaterEqual => false,
     }
 }
 

@@ -49,8 +49,7 @@ pub fn type_of(
     ensures kept { BeginsWith (objects_of types.new) (objects_of types.old) }
 {
     let around = Surroundings { scope, safe: false };
-    let ty = expression(types, around, expr, faults)?;
-    Ok(ty)
+    expression(types, around, expr, faults)
 }
 
 // What surrounds an expression.
@@ -88,10 +87,7 @@ fn expression(
         Expr::Keyword(keyword, _) => Ok(Ty::scalar(type_of_keyword(*keyword))),
         Expr::Number(_) => Ok(Ty::scalar(Scalar::Number)),
         Expr::Text(_) => Ok(Ty::STRING),
-        Expr::Name(word) => {
-            let ty = name_type(around.scope, *word, faults)?;
-            Ok(ty)
-        }
+        Expr::Name(word) => name_type(around.scope, *word, faults),
         Expr::Group(inner, _, _) => expression(types, around, inner, faults),
         Expr::Not(_, operand) => {
             let tested = Surroundings {
@@ -119,8 +115,7 @@ fn expression(
                 around: compared,
                 ty: start,
             };
-            let ty = operations(types, left, operands, faults)?;
-            Ok(ty)
+            operations(types, left, operands, faults)
         }
     }
 }
@@ -158,8 +153,7 @@ fn call<'a, 'e>(
         function,
         arguments,
     };
-    let ty = call_from(around.scope, written, &given, faults)?;
-    Ok(ty)
+    call_from(around.scope, written, &given, faults)
 }
 
 fn is_tested(safe: bool, function: Option<Function>) -> bool
@@ -301,8 +295,7 @@ fn index_from(
         }
         None => {
             let by = expression(types, left.around, index, faults)?;
-            let of = element(left.ty, by, whole, faults)?;
-            Ok(of)
+            element(left.ty, by, whole, faults)
         }
     }
 }
@@ -337,8 +330,7 @@ fn operations(
         let more = operation(types, all, typed, faults)?;
         all = more;
     }
-    let ty = types.type_or_any(all)?;
-    Ok(ty)
+    types.type_or_any(all)
 }
 
 // The types and spans of arguments.

@@ -1,6 +1,6 @@
 //! Paths to text that outsiders can write, which must not get into a script.
 
-ghost use Rattle.std.specs.Prelude.{◌≡◌, ◌∷◌, IfOk, find, length, map, option_map, string_bytes};
+ghost use Rattle.std.specs.Prelude.{◌≡◌, ◌∷◌, IfOk, find, map, option_map, string_bytes};
 ghost use Rattle.std.specs.Cmp.Lexicographic.{pointwise};
 ghost use Rattle.std.specs.List.{join_with_byte};
 ghost use Rattle.al_base.specs.Ascii.{ascii};
@@ -47,8 +47,7 @@ pub(crate) fn untrusted_chain(
         ≡ untrusted_chain (name.now ∷ map chain_part (map step_of steps.now))) }
 {
     let found = find_chain(alloc, &UNTRUSTED, name, steps)?;
-    let text = chain_text(alloc, found)?;
-    Ok(text)
+    chain_text(alloc, found)
 }
 
 #[tactic(auto, using(crate::proofs::ChainTexts::joined))]
@@ -100,16 +99,8 @@ fn is_chain(
     if !is_same_name(first.as_bytes(), name.as_bytes()) {
         return Ok(false);
     }
-    are_parts(alloc, rest, steps)
-}
-
-fn are_parts(alloc: Global, parts: &[&str], steps: &[PathStep<'_>]) -> Result<bool, AllocError>
-    requires { length parts.now ≡ length steps.now }
-    ensures { IfOk result
-        (λ b. b ≡ pointwise same_name (map (λ p. p.now) parts.now) (map chain_part (map step_of steps.now))) }
-{
     for (index, step) in steps.iter().enumerate() {
-        if !is_part(alloc, parts[index], step)? {
+        if !is_part(alloc, rest[index], step)? {
             return Ok(false);
         }
     }

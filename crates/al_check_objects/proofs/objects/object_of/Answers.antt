@@ -1,4 +1,5 @@
 use Rattle.std.proofs.Common.{◌∙◌, ap, length, map}
+use Rattle.std.proofs.lemmas.Result.{IfOk-weaker}
 use Rattle.std.specs.List.{list_all}
 use Rattle.std.specs.Prelude.{zip}
 use Rattle.al_expr_types.specs.Tables.{objects_of}
@@ -12,8 +13,10 @@ into_type-requires-clause-fields c = ap (list_all (is_below (length c.args.types
 pub returns-clause-ty : goal.returns-clause-ty
 returns-clause-ty c =
     let types = c.args.types.now in
-    c.in_ok-ty.ensures.ty _ (record {
+    IfOk-weaker c.into_type.result _ _
+    (λ t means. means _ (record {
       known = ap (list_all (is_below (length types.objects.items))) c.in_ok-map.ensures.types ∙ c.requires.known;
       are = (λ d. zip (c.in_ok-map.ensures.names d) (map (type_in (objects_of types)) (c.in_ok-map.ensures.types d)))
           ∙ zip_maps (λ f. f.0.now) (λ f. f.1) (type_in (objects_of types)) c.args.fields.now;
-    })
+    }))
+    c.into_type.ensures.ty

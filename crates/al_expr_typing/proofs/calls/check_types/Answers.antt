@@ -16,7 +16,7 @@ loop-index-preserved c =
     let r = rest_item as' c.loop-index.index a c.loop-index-test.true (get_or_default as' c.loop-index.index none a c.loop-index-test.true) in
     λ ms.
     let i = rw r at c.loop-index.invariant ms in
-    let e = rw c.parameter_at.ensures at c.in_ok-check_type.ensures ms in
+    let e = rw c.parameter_at-wanted.ensures at c.in_ok-check_type.ensures ms in
     rw (e, append_assoc) i
 
 pub returns : goal.returns

@@ -1,4 +1,5 @@
 use Rattle.std.proofs.Common.{[], ◌++◌, sym, ap, ◌∙◌}
+use Rattle.std.proofs.lemmas.Result.{IfOk-weaker}
 use Rattle.std.specs.Prelude.{not}
 use Rattle.al_base.specs.declared.codes.ExpressionCode.TheVariants as code
 use Rattle.al_expr_grammar.specs.Refusal.{expression_fault}
@@ -17,13 +18,16 @@ returns-then-is_logic-clause-ok c =
     let ms = objects_of types in
     let all = c.args.sofar in
     let u = type_at types c.args.operand.ty in
-    let fused = more_fused (join_in ms all) (join_in ms c.in_ok-more.more) u c.requires.present (c.in_ok-more.ensures.ty ms) in
-    chosen c.args.operand.operator c.args.operand.at (type_so_far types all) u _ c.args.faults.now (sym c.is_logic.ensures ∙ c.if-is_logic.true) fused.0
+    IfOk-weaker c.and.result _ _
+    (λ j is. chosen c.args.operand.operator c.args.operand.at (type_so_far types all) u _ c.args.faults.now (sym c.is_logic.ensures ∙ c.if-is_logic.true)
+    (more_fused (join_in ms all) (join_in ms j) u c.requires.present (is ms)).0)
+    c.and.ensures.ty
 
 pub returns-then-is_logic-clause-present : goal.returns-then-is_logic-clause-present
 returns-then-is_logic-clause-present c =
     let ms = objects_of c.args.types.now in
-    (more_fused (join_in ms c.args.sofar) (join_in ms c.in_ok-more.more) (type_at c.args.types.now c.args.operand.ty) c.requires.present (c.in_ok-more.ensures.ty ms)).1
+    IfOk-weaker c.and.result _ _
+    (λ j is. (more_fused (join_in ms c.args.sofar) (join_in ms j) (type_at c.args.types.now c.args.operand.ty) c.requires.present (is ms)).1) c.and.ensures.ty
 
 pub returns-clause-ok : goal.returns-clause-ok
 returns-clause-ok c =

@@ -1,4 +1,5 @@
 use Rattle.std.proofs.Common.{◌∙◌, ap, sym}
+use Rattle.std.proofs.lemmas.Result.{IfOk-weaker}
 use Rattle.al_expr_types.specs.Tables.{objects_of}
 use Rattle.al_expr_types.specs.Types.{base_type}
 use Rattle.al_expr_typing.specs.Meaning.{property_of, typed, faults_then}
@@ -11,6 +12,8 @@ returns-clause-ok c =
     let k = c.args.ty.arrays in
     let base = base_type (objects_of c.args.types.now) c.args.ty.of in
     let of = property_of c.args.step.name.now c.args.step.at c.args.step.whole base in
-    ap (λ t. typed t c.base_property.new.faults) (c.in_ok-all.ensures.ty (objects_of c.base_property.new.types))
+    IfOk-weaker c.in_arrays.result _ _
+    (λ all is. ap (λ t. typed t c.base_property.new.faults) (is (objects_of c.base_property.new.types))
     ∙ ap (in_arrays k) c.in_ok-of.ensures.ok ∙ behind_arrays k old of
-    ∙ ap (faults_then old) (sym (property_arrays k c.args.step.name.now c.args.step.at c.args.step.whole base))
+    ∙ ap (faults_then old) (sym (property_arrays k c.args.step.name.now c.args.step.at c.args.step.whole base)))
+    c.in_arrays.ensures.ty

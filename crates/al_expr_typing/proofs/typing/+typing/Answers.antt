@@ -1,6 +1,7 @@
 use Rattle.std.proofs.Common.{◌≡◌, ◌+◌, ◌∷◌, ◌++◌, [], map, drop, sym, ap, ◌∙◌, arith, length}
 use Rattle.std.specs.Prelude.{not, ◌||◌}
 use Rattle.std.proofs.lemmas.List.{map-append, at_drop_all}
+use Rattle.std.proofs.lemmas.Result.{IfOk-weaker}
 use Rattle.al_types.specs.Names.{function_of}
 use Rattle.al_expr_grammar.specs.Extents.{extent}
 use Rattle.al_expr_grammar.specs.Tree.{sign, steps_of, operands_of, arguments_of}
@@ -38,12 +39,13 @@ pub expression-returns-in-Text-clause-ok : goal.expression-returns-in-Text-claus
 expression-returns-in-Text-clause-ok t c =
     rw (c.in-Text.is, tree_of-Text) (unchanged String c.args.faults.now)
 
-pub expression-returns-in_ok-ty-in-Name-clause-ok : goal.expression-returns-in_ok-ty-in-Name-clause-ok
-expression-returns-in_ok-ty-in-Name-clause-ok t c =
-    rw (c.in-Name.is, tree_of-Name) (c.in_ok-ty-in-Name.ensures.ok (objects_of c.args.types.now))
+pub expression-returns-in-Name-clause-ok : goal.expression-returns-in-Name-clause-ok
+expression-returns-in-Name-clause-ok t c =
+    rw (c.in-Name.is, tree_of-Name) (IfOk-weaker c.name_type.result _ _ (λ ty ok. ok (objects_of c.args.types.now)) c.name_type.ensures.ok)
 
-pub expression-returns-in_ok-ty-in-Name-clause-known : goal.expression-returns-in_ok-ty-in-Name-clause-known
-expression-returns-in_ok-ty-in-Name-clause-known t c = c.in_ok-ty-in-Name.ensures.known c.args.types.now c.requires.shown
+pub expression-returns-in-Name-clause-known : goal.expression-returns-in-Name-clause-known
+expression-returns-in-Name-clause-known t c =
+    IfOk-weaker c.name_type.result _ _ (λ ty known. known c.args.types.now c.requires.shown) c.name_type.ensures.known
 
 pub expression-returns-in-Group-clause-ok : goal.expression-returns-in-Group-clause-ok
 expression-returns-in-Group-clause-ok t c =
@@ -73,16 +75,17 @@ expression-returns-in_ok-check_untrusted-in-Path-clause-ok t c =
     let h = rw (c.is_exposed.ensures, c.deref-in-Path-3.ensures, c.deref-in-Path-4.ensures.value) at c.in_ok-check_untrusted-in-Path.ensures in
     rw (c.in-Path.is, tree_of-Path) (path_on _ _ _ _ _ _ _ _ (λ u. walk (scope_view before c.args.around.scope.now) c.args.around.safe ss u) f g h)
 
-pub expression-returns-in_ok-ty-in-Chain-clause-ok : goal.expression-returns-in_ok-ty-in-Chain-clause-ok
-expression-returns-in_ok-ty-in-Chain-clause-ok t c =
+pub expression-returns-in_ok-start-in-Chain-clause-ok : goal.expression-returns-in_ok-start-in-Chain-clause-ok
+expression-returns-in_ok-start-in-Chain-clause-ok t c =
     let before = c.args.types.now in
     let mid = c.expression-in-Chain.new.types in
     let os = operands_of (map operand_of c.in-Chain.operands.items) in
     let safe = c.args.around.safe || not (begins_logic os) in
     let f = rw (c.is_compared.ensures, c.deref-in-Chain.ensures.value, c.deref-in-Chain-2.ensures) at c.in_ok-start-in-Chain.ensures.ok in
     let same = scope_stays mid before c.args.around.scope.now c.in_ok-start-in-Chain.ensures.kept c.requires.shown in
-    let g = rw (c.is_compared.ensures, c.deref-in-Chain.ensures.value, c.deref-in-Chain-3.ensures.value, same) at c.in_ok-ty-in-Chain.ensures.ok in
-    rw (c.in-Chain.is, tree_of-Chain) (g ∙ follows _ _ _ _ (λ u. operations (scope_view before c.args.around.scope.now) safe os u) f)
+    rw (c.in-Chain.is, tree_of-Chain)
+    (IfOk-weaker c.operations.result _ _ (λ ty g. g ∙ follows _ _ _ _ (λ u. operations (scope_view before c.args.around.scope.now) safe os u) f)
+    (rw (c.is_compared.ensures, c.deref-in-Chain.ensures.value, c.deref-in-Chain-3.ensures.value, same) at c.operations.ensures.ok))
 
 pub call-returns-clause-ok : goal.call-returns-clause-ok
 call-returns-clause-ok t c =
@@ -90,12 +93,13 @@ call-returns-clause-ok t c =
     let mid = c.typed_arguments.new.types in
     let f : c.from_name-function.result ≡ function_of c.args.name.text.now = c.from_name-function.ensures in
     let g = rw (c.is_tested.ensures, f) at c.in_ok-given.ensures.ok in
-    let h = rw (f, c.deref.ensures.value) at c.in_ok-ty.ensures.ok (objects_of mid) in
     let name = c.args.name.text.now in
     let ts = arguments_of (map expr_view c.args.arguments.now) in
     let s = ap (λ sc. faults_then c.typed_arguments.new.faults (call_from sc name c.args.name.span (function_of name) ts (map (argument_at mid) c.in_ok-given.given.items)))
     (scope_stays mid before c.args.around.scope.now c.in_ok-given.ensures.kept c.requires.shown) in
-    h ∙ s ∙ called_on (scope_view before c.args.around.scope.now) name c.args.name.span (function_of name) ts _ _ _ _ g
+    IfOk-weaker c.call_from.result _ _
+    (λ ty h. h (objects_of mid) ∙ s ∙ called_on (scope_view before c.args.around.scope.now) name c.args.name.span (function_of name) ts _ _ _ _ g)
+    (rw (f, c.deref.ensures.value) at c.call_from.ensures.ok)
 
 pub operations-operation-requires-clause-below : goal.operations-operation-requires-clause-below
 operations-operation-requires-clause-below t c =
@@ -136,14 +140,14 @@ operations-returns-clause-ok t c =
     let sc = scope_view c.args.types.now c.args.left.around.scope.now in
     let d = at_drop_all (λ l. faults_then out (operations sc c.args.left.around.safe (operands_of (map operand_of l)) all)) c.args.operands.now c.loop-operand.operand-index
     (omega (arith, c.loop-operand-test.false)) in
-    ap (λ u. typed u out) c.in_ok-ty.ensures.ty ∙ unchanged all out ∙ sym d ∙ c.loop-operand.invariant.so_far
+    IfOk-weaker c.type_or_any.result _ _ (λ ty is. ap (λ u. typed u out) is ∙ unchanged all out ∙ sym d ∙ c.loop-operand.invariant.so_far) c.type_or_any.ensures.ty
 
 pub operations-returns-clause-shown : goal.operations-returns-clause-shown
 operations-returns-clause-shown t c =
-    shown_stays c.type_or_any.new.self c.loop-operand.types c.args.left.around.scope.now c.loop-operand.invariant.shown c.in_ok-ty.ensures.kept
+    shown_stays c.type_or_any.new.self c.loop-operand.types c.args.left.around.scope.now c.loop-operand.invariant.shown c.type_or_any.ensures.kept
 
 pub operations-returns-clause-kept : goal.operations-returns-clause-kept
-operations-returns-clause-kept t c = begins_trans _ _ _ c.loop-operand.invariant.kept c.in_ok-ty.ensures.kept
+operations-returns-clause-kept t c = begins_trans _ _ _ c.loop-operand.invariant.kept c.type_or_any.ensures.kept
 
 pub step_from-returns-in-Property-clause-ok : goal.step_from-returns-in-Property-clause-ok
 step_from-returns-in-Property-clause-ok t c =
@@ -160,19 +164,24 @@ step_from-returns-in-Index-clause-ok t c =
     let f = rw c.across-whole.ensures at c.index_from.ensures.ok in
     rw (c.in-Index.is, step_of-Index) f
 
-pub index_from-returns-in_ok-of-in-None-clause-ok : goal.index_from-returns-in_ok-of-in-None-clause-ok
-index_from-returns-in_ok-of-in-None-clause-ok t c =
+pub index_from-returns-in_ok-by-in-None-clause-ok : goal.index_from-returns-in_ok-by-in-None-clause-ok
+index_from-returns-in_ok-by-in-None-clause-ok t c =
     let before = c.args.types.now in
     let new = c.expression.new.types in
     let by = type_at new c.in_ok-by-in-None.by in
-    let f = c.in_ok-of-in-None.ensures.ok (objects_of new) ∙ ap (λ u. faults_then c.expression.new.faults (index_of c.args.whole u by))
+    let same = ap (λ u. faults_then c.expression.new.faults (index_of c.args.whole u by))
     (type_stays new before c.args.left.ty c.in_ok-by-in-None.ensures.kept c.requires.known) in
-    indexed_on _ c.args.whole (type_at before c.args.left.ty) by (type_at new c.in_ok-of-in-None.of) _ _ _ _ (rw c.in-None.is at c.in_ok-literal.ensures) c.in_ok-by-in-None.ensures.ok f
+    IfOk-weaker c.element.result _ _
+    (λ of ok. indexed_on _ c.args.whole (type_at before c.args.left.ty) by (type_at new of) _ _ _ _ (rw c.in-None.is at c.in_ok-literal.ensures)
+    c.in_ok-by-in-None.ensures.ok (ok (objects_of new) ∙ same))
+    c.element.ensures.ok
 
-pub index_from-returns-in_ok-of-in-None-clause-known : goal.index_from-returns-in_ok-of-in-None-clause-known
-index_from-returns-in_ok-of-in-None-clause-known t c =
+pub index_from-returns-in_ok-by-in-None-clause-known : goal.index_from-returns-in_ok-by-in-None-clause-known
+index_from-returns-in_ok-by-in-None-clause-known t c =
     let new = c.expression.new.types in
-    c.in_ok-of-in-None.ensures.known (length new.objects.items) (known_stays new c.args.types.now c.args.left.ty c.in_ok-by-in-None.ensures.kept c.requires.known)
+    IfOk-weaker c.element.result _ _
+    (λ of known. known (length new.objects.items) (known_stays new c.args.types.now c.args.left.ty c.in_ok-by-in-None.ensures.kept c.requires.known))
+    c.element.ensures.known
 
 pub typed_arguments-loop-expr-preserved : goal.typed_arguments-loop-expr-preserved
 typed_arguments-loop-expr-preserved t c =
@@ -219,20 +228,15 @@ walk-loop-step-preserved t c =
 pub expression-returns-in_err-ty-in-Path-clause-kept : goal.expression-returns-in_err-ty-in-Path-clause-kept
 expression-returns-in_err-ty-in-Path-clause-kept t c = begins_trans _ _ _ c.in_ok-start-in-Path.ensures.kept c.walk.ensures.kept
 
-pub expression-returns-in_err-ty-in-Chain-clause-kept : goal.expression-returns-in_err-ty-in-Chain-clause-kept
-expression-returns-in_err-ty-in-Chain-clause-kept t c = begins_trans _ _ _ c.in_ok-start-in-Chain.ensures.kept c.operations.ensures.kept
-
-pub expression-returns-in_ok-ty-in-Chain-clause-kept : goal.expression-returns-in_ok-ty-in-Chain-clause-kept
-expression-returns-in_ok-ty-in-Chain-clause-kept t c = begins_trans _ _ _ c.in_ok-start-in-Chain.ensures.kept c.in_ok-ty-in-Chain.ensures.kept
+pub expression-returns-in_ok-start-in-Chain-clause-kept : goal.expression-returns-in_ok-start-in-Chain-clause-kept
+expression-returns-in_ok-start-in-Chain-clause-kept t c = begins_trans _ _ _ c.in_ok-start-in-Chain.ensures.kept c.operations.ensures.kept
 
 pub call-returns-clause-known : goal.call-returns-clause-known
-call-returns-clause-known t c = c.in_ok-ty.ensures.known (length c.typed_arguments.new.types.objects.items)
+call-returns-clause-known t c =
+    IfOk-weaker c.call_from.result _ _ (λ ty known. known (length c.typed_arguments.new.types.objects.items)) c.call_from.ensures.known
 
 pub operations-returns-in_err-other-clause-kept : goal.operations-returns-in_err-other-clause-kept
 operations-returns-in_err-other-clause-kept t c = begins_trans _ _ _ c.loop-operand.invariant.kept c.expression.ensures.kept
-
-pub operations-returns-in_err-ty-clause-kept : goal.operations-returns-in_err-ty-clause-kept
-operations-returns-in_err-ty-clause-kept t c = begins_trans _ _ _ c.loop-operand.invariant.kept c.type_or_any.ensures.kept
 
 pub operations-returns-in_err-more-clause-kept : goal.operations-returns-in_err-more-clause-kept
 operations-returns-in_err-more-clause-kept t c =
