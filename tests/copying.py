@@ -3,6 +3,7 @@
 import os
 import pathlib
 import shutil
+import stat
 import subprocess
 import sys
 
@@ -17,7 +18,7 @@ for name in ("GIT_DIR", "GIT_WORK_TREE", "GIT_INDEX_FILE"):
 
 
 def copy_files(folder, is_wanted=lambda name: True):
-    """Copies the files that git knows or would take, those that are wanted by their path from the top."""
+    """Copies the files that git knows or would take, those that are wanted by their path from the top. The copies can be written."""
     given = ["git", "-C", TOP, "ls-files", "-z", "--cached", "--others", "--exclude-standard"]
     listed = subprocess.run(given, capture_output=True, check=False)
     if listed.returncode:
@@ -25,8 +26,10 @@ def copy_files(folder, is_wanted=lambda name: True):
     names = listed.stdout.decode().split("\0")
     for name in filter(None, names):
         if is_wanted(name) and (TOP / name).is_file():
-            (folder / name).parent.mkdir(parents=True, exist_ok=True)
-            shutil.copy2(TOP / name, folder / name)
+            copy = folder / name
+            copy.parent.mkdir(parents=True, exist_ok=True)
+            shutil.copy2(TOP / name, copy)
+            copy.chmod(copy.stat().st_mode | stat.S_IWUSR)
 
 
 def copy_few_sources(folder):

@@ -69,7 +69,8 @@ class LintRun:
             raise BadReport(f"it reported {cut[:SHOWN_OF_A_LINE].decode('utf-8', 'replace')!r}")
         # A program that can't be loaded ends with status 1 too.
         if self.status in (0, 1) and self.status != has_faults:
-            raise BadReport(f"it ended with status {self.status}, but reported {'faults' if has_faults else 'none: ' + self.errors.strip()}")
+            reported = "faults" if has_faults else f"none: {self.errors.strip()}"
+            raise BadReport(f"it ended with status {self.status}, but reported {reported}")
 
     def _group_length(self) -> int:
         """How many lines a fault has."""
