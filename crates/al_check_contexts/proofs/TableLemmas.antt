@@ -12,16 +12,17 @@ use Rattle.al_check_places.specs.Positions.{Section, apart}
 use Rattle.al_check_places.specs.declared.positions.Seen.{Seen}
 use Rattle.al_check_places.specs.declared.positions.Seen.TheVariants.{Before as before}
 use Rattle.al_check_contexts.specs.Contexts.{OutputNames, context_type_at, job_in}
+use Rattle.al_check_objects.specs.Fixed.{github_type, job_type, runner_type}
 use Rattle.al_check_objects.specs.Inputs.{inputs_type}
+use Rattle.al_check_objects.specs.Objects.{loose_strings}
 use Rattle.al_expr_types.specs.Tables.{objects_of}
 use Rattle.al_expr_types.specs.declared.ty.Ty.{Ty}
 use Rattle.al_expr_types.specs.declared.types.Types.{Types}
 use Rattle.al_expr_typing.specs.Scopes.{context_number}
 use Rattle.al_expr_typing.specs.declared.scope.ContextTypes.{ContextTypes}
 use Rattle.al_check_objects.specs.Numbers.{Means}
-use Rattle.al_check_contexts.specs.Table.{AreFixed, AreOfSection, Shows, position}
+use Rattle.al_check_contexts.specs.Table.{AreOfSection, Shows, position}
 use Rattle.al_check_contexts.specs.declared.sections.SectionTypes.{SectionTypes}
-use Rattle.al_check_contexts.specs.declared.start.FixedTypes.{FixedTypes}
 use Rattle.al_check_objects.proofs.Numbers.{any, any_means, means_as, means_stays}
 
 -- ---- from one position to the next
@@ -71,14 +72,14 @@ section_changed new old ts st t k known root s now seen b a m h = record { each 
 
 -- ---- the start of a file
 
-abbrev pub first_types : FixedTypes → Ty → Ty → ContextTypes
-first_types f inputs steps = record {
-  github = f.github;
-  env = f.strings;
-  vars = f.strings;
-  secrets = f.strings;
-  runner = f.runner;
-  job = f.job;
+abbrev pub first_types : Ty → Ty → Ty → Ty → Ty → Ty → ContextTypes
+first_types github strings runner job inputs steps = record {
+  github = github;
+  env = strings;
+  vars = strings;
+  secrets = strings;
+  runner = runner;
+  job = job;
   strategy = any;
   needs = any;
   jobs = any;
@@ -87,29 +88,23 @@ first_types f inputs steps = record {
   inputs = inputs;
 }
 
-pub shows_first : (types : Types) (f : FixedTypes) (inputs steps : Ty) (k : FileKind) (known : OutputNames) (root : Node) → AreFixed types f →
+pub shows_first : (types : Types) (github strings runner job inputs steps : Ty) (k : FileKind) (known : OutputNames) (root : Node) →
+    Means types github github_type → Means types strings loose_strings → Means types runner runner_type → Means types job job_type →
     Means types inputs (inputs_type k root) → Means types steps (context_type_at k known root (position apart (before 0)) context.Steps) →
-    Shows types (first_types f inputs steps) (context_type_at k known root (position apart (before 0)))
-shows_first types f inputs steps k known root fixed i s = record { each = each }
+    Shows types (first_types github strings runner job inputs steps) (context_type_at k known root (position apart (before 0)))
+shows_first types github strings runner job inputs steps k known root g t r j i s = record { each = each }
   where
-    each : (c : Context) → Means types (context_number (first_types f inputs steps) c) (context_type_at k known root (position apart (before 0)) c)
-    each context.Github = fixed.github
-    each context.Env = fixed.strings
-    each context.Vars = fixed.strings
-    each context.Secrets = fixed.strings
-    each context.Runner = fixed.runner
-    each context.Job = fixed.job
+    each : (c : Context) → Means types (context_number (first_types github strings runner job inputs steps) c)
+        (context_type_at k known root (position apart (before 0)) c)
+    each context.Github = g
+    each context.Env = t
+    each context.Vars = t
+    each context.Secrets = t
+    each context.Runner = r
+    each context.Job = j
     each context.Steps = s
     each context.Inputs = i
     each _ = any_means types
-
-pub fixed_stay : (new old : Types) (f : FixedTypes) → BeginsWith (objects_of new) (objects_of old) → AreFixed old f → AreFixed new f
-fixed_stay new old f b h = record {
-  github = means_stays new old f.github _ b h.github;
-  strings = means_stays new old f.strings _ b h.strings;
-  runner = means_stays new old f.runner _ b h.runner;
-  job = means_stays new old f.job _ b h.job;
-}
 
 pub section_stays : (new old : Types) (known : OutputNames) (js : List (Node × Node)) (s : Section) (job : Option (Node × Node)) (st : SectionTypes) →
     BeginsWith (objects_of new) (objects_of old) → AreOfSection old known js s job st → AreOfSection new known js s job st

@@ -1,4 +1,4 @@
--- The types of contexts in a table of types: all at a position, those that are the same in a file, those of a section.
+-- The types of contexts in a table of types: all at a position, those of a section.
 use Rattle.std.specs.Prelude.{List, Option}
 use Rattle.std.specs.Option.{option_map_or}
 use Rattle.al_types.specs.Types.{Any, Type'}
@@ -7,15 +7,13 @@ use Rattle.al_yaml_tree.specs.Node.{Node}
 use Rattle.al_check_places.specs.Positions.{Position, Section}
 use Rattle.al_check_places.specs.declared.positions.Seen.{Seen}
 use Rattle.al_check_contexts.specs.Contexts.{OutputNames, jobs_in, needs_type}
-use Rattle.al_check_objects.specs.Fixed.{github_type, job_type, runner_type, strategy_type}
+use Rattle.al_check_objects.specs.Fixed.{strategy_type}
 use Rattle.al_check_objects.specs.Matrix.{matrix_type}
-use Rattle.al_check_objects.specs.Objects.{loose_strings}
 use Rattle.al_expr_types.specs.declared.types.Types.{Types}
 use Rattle.al_expr_typing.specs.Scopes.{context_number}
 use Rattle.al_expr_typing.specs.declared.scope.ContextTypes.{ContextTypes}
 use Rattle.al_check_objects.specs.Numbers.{Means}
 use Rattle.al_check_contexts.specs.declared.sections.SectionTypes.{SectionTypes}
-use Rattle.al_check_contexts.specs.declared.start.FixedTypes.{FixedTypes}
 
 abbrev pub position : Section → Seen → Position
 position s seen = record { section = s; seen = seen }
@@ -23,13 +21,6 @@ position s seen = record { section = s; seen = seen }
 -- each context has its type
 pub record Shows (types : Types) (ts : ContextTypes) (m : Context → Type') : Type 0 where
   pub each : (c : Context) → Means types (context_number ts c) (m c)
-
--- the types that are the same in every file
-pub record AreFixed (types : Types) (ts : FixedTypes) : Type 0 where
-  pub github : Means types ts.github github_type
-  pub strings : Means types ts.strings loose_strings
-  pub runner : Means types ts.runner runner_type
-  pub job : Means types ts.job job_type
 
 -- the types of a section of a workflow with these jobs, one of which is the section's
 pub record AreOfSection (types : Types) (known : OutputNames) (js : List (Node × Node)) (s : Section)

@@ -56,19 +56,11 @@ pub struct Env<'a> {
 fn is_same_section(a: Section<'_>, b: Section<'_>) -> bool
     ensures { IsTrue result → section_view a.entry ≡ section_view b.entry }
 {
-    match a {
-        Section::Apart => match b {
-            Section::Apart => true,
-            _ => false,
-        },
-        Section::On => match b {
-            Section::On => true,
-            _ => false,
-        },
-        Section::Job(x) => match b {
-            Section::Job(y) => x == y,
-            _ => false,
-        },
+    match (a, b) {
+        (Section::Apart, Section::Apart) => true,
+        (Section::On, Section::On) => true,
+        (Section::Job(x), Section::Job(y)) => x == y,
+        _ => false,
     }
 }
 

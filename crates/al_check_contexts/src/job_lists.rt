@@ -64,8 +64,7 @@ impl<'a> JobList<'a> {
             ≡ job_in (map member_of self.now.members.items) (section_view section.entry) }
     {
         match section {
-            Section::Apart => None,
-            Section::On => None,
+            Section::Apart | Section::On => None,
             Section::Job(key) => match self.keys.get(key) {
                 Some(i) => Some(self.members[i]),
                 None => None,
@@ -82,7 +81,6 @@ impl<'a> JobList<'a> {
         ensures { IfOk result (λ i. i ≡ first_at (λ j. same_name (key_of j) name.now)
             (map member_of self.now.members.items)) }
     {
-        let i = self.names.get(alloc, name)?;
-        Ok(i)
+        self.names.get(alloc, name)
     }
 }

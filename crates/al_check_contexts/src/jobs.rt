@@ -1,18 +1,16 @@
 //! The types of jobs as others see them, each made once per file, and the types of `jobs` and `needs`.
 ghost use Rattle.std.specs.Prelude.{◌≡◌, ◌<◌, [], IfOk, OnOk, List, codes, length, true};
-ghost use Rattle.std.specs.Option.{option_to_list};
 ghost use Rattle.al_base.specs.Growth.{BeginsWith};
-ghost use Rattle.al_check_contexts.specs.Contexts.{dependency, job_field, jobs_type, needs_type};
+ghost use Rattle.al_check_contexts.specs.Contexts.{job_field, jobs_type, needs_type};
 ghost use Rattle.al_check_contexts.specs.Lookups.{called_at, shown_at, shown_with};
 ghost use Rattle.al_check_contexts.specs.Made.{KeepsBare, KeepsJobs, KeepsJobsOf, jobs_from, known_from};
 ghost use Rattle.al_check_contexts.specs.Caches.{Keeps};
-ghost use Rattle.al_check_objects.specs.Numbers.{Lists, Means};
+ghost use Rattle.al_check_objects.specs.Numbers.{Means};
 ghost use Rattle.al_expr_types.specs.Tables.{is_known, objects_of, type_at};
 ghost use Rattle.al_expr_types.specs.declared.types.Types as declared;
 ghost use Rattle.al_check_contexts.specs.declared.known.Outputs as outputs;
 ghost use Rattle.al_tree.specs.Keys.{keys_in};
 ghost use Rattle.al_tree.specs.Values.{entries_at, member_of};
-ghost use Rattle.al_types.specs.Puts.{TypedName, put_all, put_new};
 ghost use Rattle.al_types.specs.Strings.{named_strings};
 ghost use Rattle.al_yaml_tree.specs.Node as tree;
 ghost use Rattle.al_yaml_tree.specs.View.{view};
@@ -45,13 +43,12 @@ fn shown_with(alloc: Global, types: &mut Types<'_>, outputs: Ty) -> Result<Ty, A
     ensures ty { IfOk result (λ t. Means types.new t (shown_with (type_at types.old outputs))) }
     ensures kept { OnOk result (BeginsWith (objects_of types.new) (objects_of types.old)) }
 {
-    let ty = object_of(
+    object_of(
         alloc,
         types,
         &[(b"result", Ty::STRING), (b"outputs", outputs)],
         None,
-    )?;
-    Ok(ty)
+    )
 }
 
 /// The type of a job that calls a workflow, by the position of its list of outputs.
@@ -94,7 +91,7 @@ fn bare_type(alloc: Global, types: &mut Types<'_>, made: &mut Option<Ty>) -> Res
 }
 
 /// The type of a job that doesn't call a workflow.
-#[tactic(auto, using(al_base::proofs::Growing::growth))]
+#[tactic(auto, using(al_base::proofs::Growing::growth, al_expr_types::proofs::Returned::begins_ok))]
 fn own_type<'a>(
     alloc: Global,
     types: &mut Types<'a>,
@@ -110,12 +107,10 @@ fn own_type<'a>(
 {
     let entries = members_under(alloc, job.value, "outputs")?;
     if entries.len() == 0 {
-        let ty = bare_type(alloc, types, made)?;
-        return Ok(ty);
+        return bare_type(alloc, types, made);
     }
     let outputs = declared_strings(alloc, types, entries.as_slice())?;
-    let ty = shown_with(alloc, types, outputs)?;
-    Ok(ty)
+    shown_with(alloc, types, outputs)
 }
 
 impl JobTypes {
@@ -156,11 +151,9 @@ impl JobTypes {
     {
         if has_value(job.value, "uses") {
             let position = basis.outputs.position(Some(key_text(job.key)), None);
-            let ty = called_type(types, basis, &mut self.calls, position)?;
-            return Ok(ty);
+            return called_type(types, basis, &mut self.calls, position);
         }
-        let ty = own_type(basis.alloc, types, &mut self.bare, job)?;
-        Ok(ty)
+        own_type(basis.alloc, types, &mut self.bare, job)
     }
 
     /// The type of the job at a position, which is made once.
@@ -185,29 +178,6 @@ impl JobTypes {
         Ok(ty)
     }
 
-    /// The object of the types of all jobs.
-    fn object_of_jobs<'a>(
-        &mut self,
-        types: &mut Types<'a>,
-        basis: &Basis<'a>,
-    ) -> Result<Ty, AllocError>
-        requires { KeepsJobsOf types.old basis.now self.old }
-        ensures ty { IfOk result
-            (λ t. Means types.new t (jobs_type (known_from basis.now) (jobs_from basis.now))) }
-        ensures keeps { OnOk result (KeepsJobsOf types.new basis.now self.new) }
-        ensures kept { OnOk result (BeginsWith (objects_of types.new) (objects_of types.old)) }
-    {
-        let mut fields = FieldList::new(basis.alloc);
-        let members = basis.jobs.as_slice();
-        for (i, job) in members.iter().enumerate() {
-            let ty = self.get(types, basis, i)?;
-            let more = fields.and(basis.alloc, key_text(job.key), ty)?;
-            fields = more;
-        }
-        let ty = fields.into_type(types, None)?;
-        Ok(ty)
-    }
-
     /// The type of `jobs`, which is made once.
     pub(crate) fn jobs_type<'a>(
         &mut self,
@@ -223,35 +193,15 @@ impl JobTypes {
         if let Some(ty) = self.all {
             return Ok(ty);
         }
-        let ty = self.object_of_jobs(types, basis)?;
+        let mut fields = FieldList::new(basis.alloc);
+        let members = basis.jobs.as_slice();
+        for (i, job) in members.iter().enumerate() {
+            let ty = self.get(types, basis, i)?;
+            fields = fields.and(basis.alloc, key_text(job.key), ty)?;
+        }
+        let ty = fields.into_type(types, None)?;
         self.all = Some(ty);
         Ok(ty)
-    }
-
-    /// Appends the type of the first job with a name as a field, if there is such a job and no field with its name.
-    fn and_dependency<'a>(
-        &mut self,
-        types: &mut Types<'a>,
-        basis: &Basis<'a>,
-        name: &[u8],
-        fields: FieldList<'a>,
-    ) -> Result<FieldList<'a>, AllocError>
-        requires { KeepsJobsOf types.old basis.now self.old }
-        ensures fields { IfOk result
-            (λ l. (ts : List TypedName) → Lists types.old fields.entry ts → Lists types.new l
-            (put_all put_new ts (option_to_list
-            (dependency (known_from basis.now) (jobs_from basis.now) name.now)))) }
-        ensures keeps { OnOk result (KeepsJobsOf types.new basis.now self.new) }
-        ensures kept { OnOk result (BeginsWith (objects_of types.new) (objects_of types.old)) }
-    {
-        match basis.jobs.position_of(basis.alloc, name)? {
-            None => Ok(fields),
-            Some(i) => {
-                let ty = self.get(types, basis, i)?;
-                let more = fields.and(basis.alloc, key_text(basis.jobs.job_at(i).key), ty)?;
-                Ok(more)
-            }
-        }
     }
 
     /// The type of `needs` in a job.
@@ -270,10 +220,12 @@ impl JobTypes {
         let mut fields = FieldList::new(basis.alloc);
         let names = texts_under(basis.alloc, job, "needs")?;
         for name in names.as_slice() {
-            let more = self.and_dependency(types, basis, name.scalar.text(), fields)?;
-            fields = more;
+            let Some(needed) = basis.jobs.position_of(basis.alloc, name.scalar.text())? else {
+                continue;
+            };
+            let ty = self.get(types, basis, needed)?;
+            fields = fields.and(basis.alloc, key_text(basis.jobs.job_at(needed).key), ty)?;
         }
-        let ty = fields.into_type(types, None)?;
-        Ok(ty)
+        fields.into_type(types, None)
     }
 }

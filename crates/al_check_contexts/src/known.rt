@@ -1,8 +1,8 @@
 //! What is known of the outputs behind calls.
-ghost use Rattle.std.specs.Prelude.{◌≡◌, IfOk, OnOk, length, option_and_then, option_map};
+ghost use Rattle.std.specs.Prelude.{◌≡◌, IfOk, length, option_and_then, option_map};
 ghost use Rattle.std.specs.Option.{option_copied};
-ghost use Rattle.al_check_contexts.specs.Answered.{behind_of, known_of};
-ghost use Rattle.al_check_contexts.specs.Lookups.{and_found, found_at, known_by, list_at, lists_of};
+ghost use Rattle.al_check_contexts.specs.Answered.{known_of};
+ghost use Rattle.al_check_contexts.specs.Lookups.{known_by, list_at, lists_of};
 
 use al_expr_types::NameList;
 use std::alloc::{AllocError, Global};
@@ -44,28 +44,17 @@ impl<'a> Outputs<'a> {
     pub(crate) fn of(alloc: Global, known: Answers<'a>) -> Result<Outputs<'a>, AllocError>
         ensures { IfOk result (λ o. known_by o ≡ known_of known.entry) }
     {
-        let mut outputs = Outputs {
-            positions: BTreeMap::new(alloc),
-            lists: known.lists,
-        };
+        let mut positions = BTreeMap::new(alloc);
         let mut rest = known.answers.len();
         while rest > 0 {
             rest -= 1;
-            outputs.push_front(known.answers[rest])?;
+            let answer = known.answers[rest];
+            positions.insert((answer.job, answer.step), answer.names)?;
         }
-        Ok(outputs)
-    }
-
-    /// Adds an answer before the others.
-    fn push_front(&mut self, answer: Answer<'a>) -> Result<(), AllocError>
-        ensures found { OnOk result
-            (found_at self.new ≡ and_found (behind_of (lists_of self.old) answer.entry)
-            (found_at self.old)) }
-        ensures lists { (self.new).lists ≡ (self.old).lists }
-    {
-        self.positions
-            .insert((answer.job, answer.step), answer.names)?;
-        Ok(())
+        Ok(Outputs {
+            positions,
+            lists: known.lists,
+        })
     }
 
     /// The number of lists, which serves as the position of unknown outputs.

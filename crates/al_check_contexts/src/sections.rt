@@ -1,18 +1,14 @@
 //! The types of contexts that depend on the section, and the steps that are seen there.
 ghost use Rattle.std.specs.Prelude.{◌≡◌, IfOk, OnOk, option_map};
-ghost use Rattle.std.specs.Option.{option_map_or};
-ghost use Rattle.al_types.specs.Types.{Any};
 ghost use Rattle.al_base.specs.Growth.{BeginsWith};
 ghost use Rattle.al_check_contexts.specs.Contexts.{jobs_in, needs_type, owner_of};
 ghost use Rattle.al_check_objects.specs.Fixed.{strategy_type};
-ghost use Rattle.al_check_objects.specs.Matrix as specs;
 ghost use Rattle.al_check_places.specs.Positions.{section_view};
 ghost use Rattle.al_check_contexts.specs.Made.{KeepsJobsOf, jobs_from, known_from};
 ghost use Rattle.al_check_objects.specs.Numbers.{Means};
 ghost use Rattle.al_check_contexts.specs.Private.Owners.{owner_view};
 ghost use Rattle.al_check_contexts.specs.Table.{AreOfSection};
 ghost use Rattle.al_expr_types.specs.Tables.{objects_of};
-ghost use Rattle.al_expr_types.specs.declared.types.Types as declared;
 ghost use Rattle.al_tree.specs.Values.{member_of};
 ghost use Rattle.al_yaml_tree.specs.View.{view};
 
@@ -24,7 +20,7 @@ use al_check_places::Section;
 use al_expr_types::{Ty, Types};
 use al_tree::{FileKind, Member, action_steps, is_composite, items_under, key_text};
 use al_yaml_tree::Node;
-use std::alloc::{AllocError, Global};
+use std::alloc::AllocError;
 
 /// The types of contexts that depend only on the section.
 #[derive(Clone, Copy)]
@@ -33,58 +29,6 @@ pub(crate) struct SectionTypes {
     pub(crate) needs: Ty,
     pub(crate) jobs: Ty,
     pub(crate) matrix: Ty,
-}
-
-/// The type of `strategy` in a job, or outside of jobs, given that in jobs.
-fn strategy_at(in_job: Ty, job: Option<Member<'_>>) -> Ty
-    ensures { (types : declared.Types) → Means types in_job strategy_type
-        → Means types result (option_map_or (λ j. strategy_type) (option_map member_of job.entry) Any) }
-{
-    match job {
-        None => Ty::ANY,
-        Some(_) => in_job,
-    }
-}
-
-fn matrix_at<'a>(
-    alloc: Global,
-    types: &mut Types<'a>,
-    job: Option<Member<'a>>,
-) -> Result<Ty, AllocError>
-    ensures ty { IfOk result
-        (λ t. Means types.new t
-        (option_map_or (λ j. specs.matrix_type j.1) (option_map member_of job.entry) Any)) }
-    ensures kept { OnOk result (BeginsWith (objects_of types.new) (objects_of types.old)) }
-{
-    match job {
-        None => Ok(Ty::ANY),
-        Some(job) => {
-            let ty = matrix_type(alloc, types, job.value)?;
-            Ok(ty)
-        }
-    }
-}
-
-fn needs_at<'a>(
-    types: &mut Types<'a>,
-    basis: &Basis<'a>,
-    made: &mut JobTypes,
-    job: Option<Member<'a>>,
-) -> Result<Ty, AllocError>
-    requires { KeepsJobsOf types.old basis.now made.old }
-    ensures ty { IfOk result
-        (λ t. Means types.new t (option_map_or (λ j. needs_type (known_from basis.now)
-        (jobs_from basis.now) j.1) (option_map member_of job.entry) Any)) }
-    ensures keeps { OnOk result (KeepsJobsOf types.new basis.now made.new) }
-    ensures kept { OnOk result (BeginsWith (objects_of types.new) (objects_of types.old)) }
-{
-    match job {
-        None => Ok(Ty::ANY),
-        Some(job) => {
-            let ty = made.needs_type(types, basis, job.value)?;
-            Ok(ty)
-        }
-    }
 }
 
 /// The type of `jobs` in a section.
@@ -123,11 +67,19 @@ pub(crate) fn section_types<'a>(
     ensures keeps { OnOk result (KeepsJobsOf types.new basis.now made.new) }
     ensures kept { OnOk result (BeginsWith (objects_of types.new) (objects_of types.old)) }
 {
-    let needs = needs_at(types, basis, made, job)?;
     let jobs = jobs_at(types, basis, made, section)?;
-    let matrix = matrix_at(basis.alloc, types, job)?;
+    let Some(job) = job else {
+        return Ok(SectionTypes {
+            strategy: Ty::ANY,
+            needs: Ty::ANY,
+            jobs,
+            matrix: Ty::ANY,
+        });
+    };
+    let needs = made.needs_type(types, basis, job.value)?;
+    let matrix = matrix_type(basis.alloc, types, job.value)?;
     Ok(SectionTypes {
-        strategy: strategy_at(basis.strategy, job),
+        strategy: basis.strategy,
         needs,
         jobs,
         matrix,

@@ -5,7 +5,7 @@ ghost use Rattle.al_check_contexts.specs.Contexts.{OutputNames, context_type_at}
 ghost use Rattle.al_check_places.specs.Positions.{apart};
 ghost use Rattle.al_check_places.specs.declared.positions.Seen.TheVariants.{Before as before};
 ghost use Rattle.al_check_objects.specs.Numbers.{Means};
-ghost use Rattle.al_check_contexts.specs.Table.{AreFixed, Shows, position};
+ghost use Rattle.al_check_contexts.specs.Table.{Shows, position};
 ghost use Rattle.al_expr_types.specs.Tables.{objects_of};
 ghost use Rattle.al_types.specs.declared.names.Context.TheVariants as context;
 ghost use Rattle.al_yaml_tree.specs.View.{view};
@@ -15,33 +15,6 @@ use al_check_objects::{github_type, inputs_type, job_type, object_of, runner_typ
 use al_expr_types::{Ty, Types};
 use al_expr_typing::ContextTypes;
 use std::alloc::{AllocError, Global};
-
-/// The types of contexts that are the same in every file.
-#[derive(Clone, Copy)]
-pub(crate) struct FixedTypes {
-    pub(crate) github: Ty,
-    pub(crate) strings: Ty,
-    pub(crate) runner: Ty,
-    pub(crate) job: Ty,
-}
-
-/// The types of contexts that are the same in every file. Fails with `AllocError` when out of memory.
-#[tactic(auto, using(al_base::proofs::Growing::growth))]
-fn fixed_types(alloc: Global, types: &mut Types<'_>) -> Result<FixedTypes, AllocError>
-    ensures fixed { IfOk result (λ ts. AreFixed types.new ts) }
-    ensures kept { OnOk result (BeginsWith (objects_of types.new) (objects_of types.old)) }
-{
-    let github = github_type(alloc, types)?;
-    let strings = object_of(alloc, types, &[], Some(Ty::STRING))?;
-    let runner = runner_type(alloc, types)?;
-    let job = job_type(alloc, types)?;
-    Ok(FixedTypes {
-        github,
-        strings,
-        runner,
-        job,
-    })
-}
 
 /// The types of contexts at the start of a file, with that of `steps`. Fails with `AllocError` when out of memory.
 #[tactic(auto, using(al_base::proofs::Growing::growth))]
@@ -59,15 +32,18 @@ pub(crate) fn first_types<'a>(
         (position apart (before 0)))) }
     ensures kept { OnOk result (BeginsWith (objects_of types.new) (objects_of types.old)) }
 {
-    let fixed = fixed_types(alloc, types)?;
+    let github = github_type(alloc, types)?;
+    let strings = object_of(alloc, types, &[], Some(Ty::STRING))?;
+    let runner = runner_type(alloc, types)?;
+    let job = job_type(alloc, types)?;
     let inputs = inputs_type(alloc, types, file.kind, file.root)?;
     Ok(ContextTypes {
-        github: fixed.github,
-        env: fixed.strings,
-        vars: fixed.strings,
-        secrets: fixed.strings,
-        runner: fixed.runner,
-        job: fixed.job,
+        github,
+        env: strings,
+        vars: strings,
+        secrets: strings,
+        runner,
+        job,
         strategy: Ty::ANY,
         needs: Ty::ANY,
         jobs: Ty::ANY,

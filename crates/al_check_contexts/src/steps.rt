@@ -2,14 +2,13 @@
 ghost use Rattle.std.specs.Prelude.{◌≡◌, ◌-◌, ◌≤◌, [], IfOk, List, None, Option, OnOk, length, option_map, true};
 ghost use Rattle.std.specs.Option.{option_copied, option_map_or, option_to_list};
 ghost use Rattle.al_base.specs.Growth.{BeginsWith};
-ghost use Rattle.al_check_contexts.specs.Contexts as contexts;
 ghost use Rattle.al_check_contexts.specs.Contexts.{OutputNames, Owner as StepOwner, step_field, steps_type};
 ghost use Rattle.al_check_places.specs.declared.positions.Seen.TheVariants.{Before as before};
 ghost use Rattle.al_check_contexts.specs.Lookups.{step_at};
 ghost use Rattle.al_check_contexts.specs.Made.{known_from};
 ghost use Rattle.al_check_contexts.specs.Caches.{Keeps};
 ghost use Rattle.al_check_objects.specs.Numbers.{Lists, Means};
-ghost use Rattle.al_check_contexts.specs.Steps.{ArePrefixes, AreSteps, AreStepsOf};
+ghost use Rattle.al_check_contexts.specs.Steps.{ArePrefixes, AreStepsOf};
 ghost use Rattle.al_check_contexts.specs.Private.Owners.{owner_view};
 ghost use Rattle.al_expr_types.specs.Tables.{is_known, objects_of, type_at};
 ghost use Rattle.al_expr_types.specs.declared.types.Types as declared;
@@ -35,26 +34,6 @@ pub(crate) struct StepFields<'a> {
     counts: Vec<usize>,
 }
 
-/// The type of a step with these outputs. Fails with `AllocError` when out of memory, as everything here does.
-fn step_with(alloc: Global, types: &mut Types<'_>, outputs: Ty) -> Result<Ty, AllocError>
-    requires { is_known types.old outputs ≡ true }
-    ensures ty { IfOk result
-        (λ t. Means types.new t (contexts.step_type (type_at types.old outputs))) }
-    ensures kept { OnOk result (BeginsWith (objects_of types.new) (objects_of types.old)) }
-{
-    let ty = object_of(
-        alloc,
-        types,
-        &[
-            (b"conclusion", Ty::STRING),
-            (b"outcome", Ty::STRING),
-            (b"outputs", outputs),
-        ],
-        None,
-    )?;
-    Ok(ty)
-}
-
 /// The type of the outputs of a step or a job, by what is known of them. If nothing is, it is an object whose fields
 /// have this type.
 pub(crate) fn outputs_type<'a>(
@@ -71,10 +50,7 @@ pub(crate) fn outputs_type<'a>(
 {
     match outputs {
         None => object_of(alloc, types, &[], Some(others)),
-        Some(names) => {
-            let ty = types.strings(names)?;
-            Ok(ty)
-        }
+        Some(names) => types.strings(names),
     }
 }
 
@@ -95,7 +71,16 @@ fn step_type<'a>(
         return Ok(ty);
     }
     let outputs = outputs_type(basis.alloc, types, basis.outputs.list(position), Ty::STRING)?;
-    let ty = step_with(basis.alloc, types, outputs)?;
+    let ty = object_of(
+        basis.alloc,
+        types,
+        &[
+            (b"conclusion", Ty::STRING),
+            (b"outcome", Ty::STRING),
+            (b"outputs", outputs),
+        ],
+        None,
+    )?;
     made.set(position, ty);
     Ok(ty)
 }
@@ -122,24 +107,12 @@ fn and_step<'a>(
         Some(id) => {
             let position = basis.outputs.position(step.job, Some(step.index));
             let ty = step_type(types, basis, made, position)?;
-            let more = fields.and(basis.alloc, id.scalar.text(), ty)?;
-            Ok(more)
+            fields.and(basis.alloc, id.scalar.text(), ty)
         }
     }
 }
 
 impl<'a> StepFields<'a> {
-    /// For a section without steps.
-    fn none(alloc: Global) -> Result<StepFields<'a>, AllocError>
-        ensures steps { IfOk result
-            (λ s. (types : declared.Types) (known : OutputNames) → AreStepsOf types known None s) }
-        ensures prefixes { IfOk result (λ s. (types : declared.Types) → ArePrefixes types s) }
-    {
-        let prefixes = Prefixes::new(alloc, FieldMap::new(alloc))?;
-        let counts = Vec::new(alloc);
-        Ok(StepFields { prefixes, counts })
-    }
-
     /// The fields for the steps of an owner, if there is one.
     pub(crate) fn of(
         types: &mut Types<'a>,
@@ -154,32 +127,11 @@ impl<'a> StepFields<'a> {
         ensures keeps { OnOk result (Keeps types.new (step_at basis.now.outputs) made.new) }
         ensures kept { OnOk result (BeginsWith (objects_of types.new) (objects_of types.old)) }
     {
-        match owner {
-            None => {
-                let steps = StepFields::none(basis.alloc)?;
-                Ok(steps)
-            }
-            Some(owner) => {
-                let steps = StepFields::of_owner(types, basis, made, owner)?;
-                Ok(steps)
-            }
-        }
-    }
-
-    /// The fields for the steps of an owner.
-    fn of_owner(
-        types: &mut Types<'a>,
-        basis: &Basis<'a>,
-        made: &mut TypeCache,
-        owner: Owner<'a>,
-    ) -> Result<StepFields<'a>, AllocError>
-        requires { Keeps types.old (step_at basis.now.outputs) made.old }
-        ensures steps { IfOk result
-            (λ s. AreSteps types.new (known_from basis.now) (owner_view owner.entry) s) }
-        ensures prefixes { IfOk result (λ s. ArePrefixes types.new s) }
-        ensures keeps { OnOk result (Keeps types.new (step_at basis.now.outputs) made.new) }
-        ensures kept { OnOk result (BeginsWith (objects_of types.new) (objects_of types.old)) }
-    {
+        let Some(owner) = owner else {
+            let prefixes = Prefixes::new(basis.alloc, FieldMap::new(basis.alloc))?;
+            let counts = Vec::new(basis.alloc);
+            return Ok(StepFields { prefixes, counts });
+        };
         let steps = owner.steps;
         let mut fields = FieldList::new(basis.alloc);
         let mut counts = Vec::with_capacity(basis.alloc, steps.len().saturating_add(1))?;
@@ -230,7 +182,6 @@ impl<'a> StepFields<'a> {
         if self.counts.is_empty() {
             return Ok(Ty::ANY);
         }
-        let ty = self.prefixes.first(types, self.counts[count])?;
-        Ok(ty)
+        self.prefixes.first(types, self.counts[count])
     }
 }

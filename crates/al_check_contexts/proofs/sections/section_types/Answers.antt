@@ -8,19 +8,19 @@ use Rattle.al_check_contexts.proofs.sections.section_types.Goals as goal
 pub returns-clause-types : goal.returns-clause-types
 returns-clause-types c =
     let entry = c.args.types.now in
-    let one = c.needs_at.new.types in
-    let two = c.jobs_at.new.types in
-    let now = c.matrix_at.new.types in
-    let from_one = begins_trans (objects_of one) (objects_of two) (objects_of now) c.in_ok-jobs.ensures.kept c.in_ok-matrix.ensures.kept in
-    let from_entry = begins_trans (objects_of entry) (objects_of one) (objects_of now) c.in_ok-needs.ensures.kept from_one in
-    record {
-      strategy = c.strategy_at.ensures now (means_stays now entry c.args.basis.now.strategy _ from_entry c.requires.strategy);
-      needs = means_stays now one c.in_ok-needs.needs _ from_one c.in_ok-needs.ensures.ty;
-      jobs = means_stays now two c.in_ok-jobs.jobs _ c.in_ok-matrix.ensures.kept c.in_ok-jobs.ensures.ty;
+    let one = c.jobs_at.new.types in
+    let two = c.needs_type.new.types in
+    let now = c.matrix_type.new.types in
+    let from_one = begins_trans (objects_of one) (objects_of two) (objects_of now) c.in_ok-needs.ensures.kept c.in_ok-matrix.ensures.kept in
+    let from_entry = begins_trans (objects_of entry) (objects_of one) (objects_of now) c.in_ok-jobs.ensures.kept from_one in
+    rw c.in-Some.is (record {
+      strategy = means_stays now entry c.args.basis.now.strategy _ from_entry c.requires.strategy;
+      needs = means_stays now two c.in_ok-needs.needs _ c.in_ok-matrix.ensures.kept c.in_ok-needs.ensures.ty;
+      jobs = means_stays now one c.in_ok-jobs.jobs _ from_one c.in_ok-jobs.ensures.ty;
       matrix = c.in_ok-matrix.ensures.ty;
-    }
+    })
 
 pub returns-clause-keeps : goal.returns-clause-keeps
 returns-clause-keeps c =
-    keeps_jobs_stay c.matrix_at.new.types c.jobs_at.new.types c.args.basis.now.outputs (jobs_from c.args.basis.now) c.jobs_at.new.made
-    c.in_ok-matrix.ensures.kept c.in_ok-jobs.ensures.keeps
+    keeps_jobs_stay c.matrix_type.new.types c.needs_type.new.types c.args.basis.now.outputs (jobs_from c.args.basis.now) c.needs_type.new.self
+    c.in_ok-matrix.ensures.kept c.in_ok-needs.ensures.keeps

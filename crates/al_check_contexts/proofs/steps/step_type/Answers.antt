@@ -4,13 +4,10 @@ use Rattle.al_check_contexts.specs.Lookups.{step_at}
 use Rattle.al_check_contexts.proofs.Kept.{keeps_stays}
 use Rattle.al_check_contexts.proofs.steps.step_type.Goals as goal
 
-pub step_with-requires : goal.step_with-requires
-step_with-requires c = c.in_ok-outputs.ensures.ty.known
-
 pub returns : goal.returns
 returns c =
     let entry = c.args.types.now in
-    let now = c.step_with.new.types in
+    let now = c.object_of.new.types in
     let at = step_at c.args.basis.now.outputs in
     let kept = begins_trans (objects_of entry) (objects_of c.outputs_type.new.types) (objects_of now) c.in_ok-outputs.ensures.kept c.in_ok-ty.ensures.kept in
     let means = rw (c.in_ok-outputs.ensures.ty.is, c.list.ensures) at c.in_ok-ty.ensures.ty in

@@ -1,4 +1,5 @@
 use Rattle.std.proofs.Common.{◌∙◌, false, sym, true}
+use Rattle.std.proofs.lemmas.Result.{on_ok_weaker}
 use Rattle.al_tree.specs.Values.{member_of}
 use Rattle.al_check_contexts.specs.Lookups.{called_at}
 use Rattle.al_check_contexts.specs.Made.{known_from}
@@ -9,16 +10,19 @@ use Rattle.al_check_contexts.proofs.jobs.JobTypes.type_of.Goals as goal
 pub returns-then-has_value-clause-ty : goal.returns-then-has_value-clause-ty
 returns-then-has_value-clause-ty c =
     rw (c.position-position.ensures, c.key_text.ensures, shown_by (known_from c.args.basis.now) (member_of c.args.job) true (sym c.has_value.ensures ∙ c.if-has_value.true))
-    at c.in_ok-ty.ensures.ty
+    at c.called_type.ensures.ty
 
 pub returns-then-has_value-clause-bare : goal.returns-then-has_value-clause-bare
 returns-then-has_value-clause-bare c =
-    keeps_bare_stays c.called_type.new.types c.args.types.now c.args.self.now.bare c.in_ok-ty.ensures.kept c.requires.bare
+    on_ok_weaker c.called_type.result (λ kept. keeps_bare_stays c.called_type.new.types c.args.types.now c.args.self.now.bare kept c.requires.bare)
+    c.called_type.ensures.kept
 
 pub returns-clause-ty : goal.returns-clause-ty
 returns-clause-ty c =
-    rw (shown_by (known_from c.args.basis.now) (member_of c.args.job) false (sym c.has_value.ensures ∙ c.if-has_value.false)) at c.in_ok-ty-2.ensures.ty
+    rw (shown_by (known_from c.args.basis.now) (member_of c.args.job) false (sym c.has_value.ensures ∙ c.if-has_value.false)) at c.own_type.ensures.ty
 
 pub returns-clause-keeps : goal.returns-clause-keeps
 returns-clause-keeps c =
-    keeps_stays c.own_type.new.types c.args.types.now (called_at c.args.basis.now.outputs) c.args.self.now.calls c.in_ok-ty-2.ensures.kept c.requires.calls
+    on_ok_weaker c.own_type.result
+    (λ kept. keeps_stays c.own_type.new.types c.args.types.now (called_at c.args.basis.now.outputs) c.args.self.now.calls kept c.requires.calls)
+    c.own_type.ensures.kept

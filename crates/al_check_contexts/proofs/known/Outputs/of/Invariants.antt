@@ -7,8 +7,8 @@ use Rattle.al_check_contexts.proofs.known.Outputs.of.Given as goal
 abbrev pub invariant-loop-rest : goal.invariant-loop-rest
 invariant-loop-rest l = record {
   within : l.rest ≤ length l.known.answers.now;
-  lists : l.outputs.lists ≡ l.known.lists;
-  found : found_at l.outputs ≡ found_in (map (behind_of (map (λ n. n.now) l.known.lists.now)) (drop l.rest l.known.answers.now));
+  found : found_at (record { positions = l.positions; lists = l.known.lists })
+      ≡ found_in (map (behind_of (map (λ n. n.now) l.known.lists.now)) (drop l.rest l.known.answers.now));
 }
 
 abbrev pub decreases-loop-rest : goal.decreases-loop-rest

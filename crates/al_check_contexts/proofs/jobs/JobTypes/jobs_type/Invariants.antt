@@ -6,7 +6,7 @@ use Rattle.al_expr_types.specs.Tables.{objects_of}
 use Rattle.al_check_contexts.specs.Contexts.{job_field}
 use Rattle.al_check_contexts.specs.Made.{KeepsJobsOf, known_from}
 use Rattle.al_check_objects.specs.Numbers.{Lists}
-use Rattle.al_check_contexts.proofs.jobs.JobTypes.object_of_jobs.Given as goal
+use Rattle.al_check_contexts.proofs.jobs.JobTypes.jobs_type.Given as goal
 
 abbrev pub invariant-loop-i : goal.invariant-loop-i
 invariant-loop-i l = record {

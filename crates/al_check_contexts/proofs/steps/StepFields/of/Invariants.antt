@@ -7,7 +7,7 @@ use Rattle.al_check_contexts.specs.Caches.{Keeps}
 use Rattle.al_check_objects.specs.Numbers.{Lists}
 use Rattle.al_check_contexts.specs.Private.Owners.{owner_view}
 use Rattle.al_check_contexts.specs.Steps.{IsCount, first_fields}
-use Rattle.al_check_contexts.proofs.steps.StepFields.of_owner.Given as goal
+use Rattle.al_check_contexts.proofs.steps.StepFields.of.Given as goal
 
 abbrev pub invariant-loop-i : goal.invariant-loop-i
 invariant-loop-i l = record {
