@@ -1,6 +1,6 @@
 //! Plain scalars (YAML 1.2.2, 7.3.3).
 
-ghost use Rattle.std.specs.Prelude.{◌≡◌, ◌<◌, ◌≤◌, ◌^◌, false, not, ◌&&◌, ◌||◌, nat_lt, length, IfOk, IsTrue};
+ghost use Rattle.std.specs.Prelude.{◌≡◌, ◌<◌, ◌≤◌, ◌^◌, false, not, ◌&&◌, ◌||◌, length, IfOk, IsTrue};
 ghost use Rattle.al_scalar.specs.Line as line;
 ghost use Rattle.al_scalar.specs.Places.{lines_at, text_at};
 ghost use Rattle.al_scalar.specs.LineEnds.{SameLine};
