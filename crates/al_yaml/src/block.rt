@@ -65,23 +65,6 @@ pub struct OpenBlock {
     pub at: usize,
 }
 
-/// An open sequence that waits for an item: where it begins, whether it is the value of a mapping entry, and its items
-/// so far.
-#[derive(Drop)]
-struct WaitingSequence {
-    begun: BlockStart,
-    in_mapping: bool,
-    items: Vec<Node>,
-}
-
-/// An open mapping that waits for the value of a key: where it begins, its entries so far, and the key.
-#[derive(Drop)]
-struct WaitingMapping {
-    begun: BlockStart,
-    entries: Vec<Entry>,
-    key: ScalarRead,
-}
-
 /// What is read next: a node; the innermost collection; or what follows a node that was read, with or without the next
 /// content line.
 #[derive(Drop)]
@@ -139,11 +122,8 @@ fn find_below(
         (state_of state.old) result (state_of state.new) }
     ensures within { IfOk result (λ task. IsFoundFrom file.now.bytes.now at task) }
 {
-    let NodePlace {
-        slot,
-        start: _,
-        anchor,
-    } = from;
+    let slot = from.slot;
+    let anchor = from.anchor;
     let found = next_content(file.bytes, at)?;
     let Next::Line { indent, at: first } = found else {
         let empty = empty_part(file, state, slot.empty, at)?;
@@ -252,20 +232,20 @@ fn entry_on(bytes: &[u8], column: usize, next: Next) -> Result<Option<usize>, Fa
 fn close_sequence(
     file: &File,
     state: &mut State,
-    sequence: WaitingSequence,
+    begun: BlockStart,
+    items: Vec<Node>,
     read: PartBefore,
 ) -> Result<PartBefore, AllocError>
-    requires start { sequence.begun.start.at ≤ size file.now }
+    requires start { begun.start.at ≤ size file.now }
     requires read { IsReadBefore file.now.bytes.now read }
-    ensures is { IfOk result (λ closed. noting (mark_of file.now.bytes.now sequence.begun.anchor)
-        (closed_sequence sequence.begun.start.at (nodes_of (map view sequence.items.items))
+    ensures is { IfOk result (λ closed. noting (mark_of file.now.bytes.now begun.anchor)
+        (closed_sequence begun.start.at (nodes_of (map view items.items))
         (part_of file.now.bytes.now read.part) (state_of state.old))
         ≡ Ok (part_of file.now.bytes.now closed.part, state_of state.new)) }
     ensures within { IfOk result (λ closed. IsFoundPart file.now.bytes.now read.part.next closed) }
 {
     let PartBefore { part, next } = read;
-    let begun = sequence.begun;
-    let mut items = sequence.items;
+    let mut items = items;
     items.push(part.node)?;
     let part = sequence_part(items, begun.start.at, part.end, part.next);
     let part = complete(file, state, begun.anchor, part)?;
@@ -276,31 +256,31 @@ fn close_sequence(
 fn put_block_item(
     file: &File,
     progress: &mut Progress,
-    sequence: WaitingSequence,
+    begun: BlockStart,
+    in_mapping: bool,
+    items: Vec<Node>,
     read: PartBefore,
 ) -> Result<BlockTask, ReadError>
-    requires start { sequence.begun.start.at ≤ size file.now }
+    requires start { begun.start.at ≤ size file.now }
     requires read { IsReadBefore file.now.bytes.now read }
     requires room { HasRoom progress.old.stack }
     ensures fault { IfErr result (IsStopInside (size file.now)) }
     ensures is { (bound turns : ℕ) → size file.now < suc bound + read.part.next
         → ResumesBlock file.now.bytes.now bound turns
-        (depth_in progress.old.stack + 1) sequence.begun.start.at sequence.begun.start.column
-        sequence.begun.anchor
-        (frames.item sequence.in_mapping (nodes_of (map view sequence.items.items)))
+        (depth_in progress.old.stack + 1) begun.start.at begun.start.column
+        begun.anchor
+        (frames.item in_mapping (nodes_of (map view items.items)))
         (part_of file.now.bytes.now read.part)
         (state_of progress.old.state) result (state_of progress.new.state) }
     ensures within { IfOk result (λ task. IsResumed file.now.bytes.now read.part.next task) }
     ensures same { IfOk result (λ _. progress.new.stack ≡ progress.old.stack) }
 {
-    let begun = sequence.begun;
-    let in_mapping = sequence.in_mapping;
     let Some(at) = entry_on(file.bytes, begun.start.column, read.next)? else {
-        let closed = close_sequence(file, &mut progress.state, sequence, read)?;
+        let closed = close_sequence(file, &mut progress.state, begun, items, read)?;
         return Ok(BlockTask::Found(closed));
     };
     if is_dash(file.bytes, at) {
-        let mut items = sequence.items;
+        let mut items = items;
         items.push(read.part.node)?;
         return Ok(BlockTask::Inside(OpenBlock {
             begun,
@@ -309,7 +289,7 @@ fn put_block_item(
         }));
     }
     if in_mapping {
-        let closed = close_sequence(file, &mut progress.state, sequence, read)?;
+        let closed = close_sequence(file, &mut progress.state, begun, items, read)?;
         return Ok(BlockTask::Found(closed));
     }
     Err(no_entry(file, progress, at))
@@ -319,30 +299,27 @@ fn put_block_item(
 fn put_block_entry(
     file: &File,
     progress: &mut Progress,
-    mapping: WaitingMapping,
+    begun: BlockStart,
+    entries: Vec<Entry>,
+    key: ScalarRead,
     read: PartBefore,
 ) -> Result<BlockTask, ReadError>
-    requires start { mapping.begun.start.at ≤ size file.now }
+    requires start { begun.start.at ≤ size file.now }
     requires read { IsReadBefore file.now.bytes.now read }
     requires room { HasRoom progress.old.stack }
     ensures fault { IfErr result (IsStopInside (size file.now)) }
     ensures is { (bound turns : ℕ) → size file.now < suc bound + read.part.next
         → ResumesBlock file.now.bytes.now bound turns
-        (depth_in progress.old.stack + 1) mapping.begun.start.at mapping.begun.start.column
-        mapping.begun.anchor
-        (frames.value (entries_of (map entry_view mapping.entries.items))
-        (read_of file.now.bytes.now mapping.key))
+        (depth_in progress.old.stack + 1) begun.start.at begun.start.column
+        begun.anchor
+        (frames.value (entries_of (map entry_view entries.items))
+        (read_of file.now.bytes.now key))
         (part_of file.now.bytes.now read.part) (state_of progress.old.state) result
         (state_of progress.new.state) }
     ensures within { IfOk result (λ task. IsResumed file.now.bytes.now read.part.next task) }
     ensures same { IfOk result (λ _. progress.new.stack ≡ progress.old.stack) }
 {
     let PartBefore { part, next } = read;
-    let WaitingMapping {
-        begun,
-        entries,
-        key,
-    } = mapping;
     let mut entries = entries;
     let key = scalar_node(key.scalar, key.span);
     entries.push(entry_of(key, part.node))?;
@@ -383,20 +360,10 @@ fn resume_block(
     let BlockFrame { begun, waiting } = frame;
     match waiting {
         BlockWaiting::Item(in_mapping, items) => {
-            let sequence = WaitingSequence {
-                begun,
-                in_mapping,
-                items,
-            };
-            put_block_item(file, progress, sequence, read)
+            put_block_item(file, progress, begun, in_mapping, items, read)
         }
         BlockWaiting::Value(entries, key) => {
-            let mapping = WaitingMapping {
-                begun,
-                entries,
-                key,
-            };
-            put_block_entry(file, progress, mapping, read)
+            put_block_entry(file, progress, begun, entries, key, read)
         }
     }
 }

@@ -16,7 +16,6 @@ ghost use Rattle.std.specs.Prelude.{IfErr, IfOk, [], length, not, suc, true, ℕ
 use crate::block::{BlockOpen, BlockTask, NodePlace, OpenBlock, find_rest};
 use crate::flow::read_flow_collection;
 use al_base::YamlCode;
-use al_scalar::FaultAt;
 use al_scalar::lines::begins;
 use al_yaml_parts::anchors::{has_no_name, property_end};
 use al_yaml_parts::content::{is_dash, line_behind};
@@ -47,10 +46,7 @@ fn is_refused_key(bytes: &[u8], spot: Spot, next: usize) -> bool
     ensures { result ≡
         (not (block.is_behind_key (spot_of spot)) && keys.has_colon (lines_at bytes.now next)) }
 {
-    if is_behind_key(spot) {
-        return false;
-    }
-    has_colon(bytes, next)
+    !is_behind_key(spot) && has_colon(bytes, next)
 }
 
 /// Whether an anchor or alias stands on a key, as none on the line of its own key does.
@@ -87,17 +83,10 @@ fn read_line_flow(
     let depth = progress.stack.depth();
     let part = read_flow_collection(file, progress, depth, at)?;
     if is_refused_key(file.bytes, spot, part.next) {
-        return Err(ReadError::Fault(FaultAt {
-            code: YamlCode::WrongKey,
-            at,
-        }));
+        return Err(ReadError::at(YamlCode::WrongKey, at));
     }
     let next = line_behind(file.bytes, part.next)?;
-    Ok(Part {
-        node: part.node,
-        end: part.end,
-        next,
-    })
+    Ok(Part { next, ..part })
 }
 
 /// Reads a node in block context, starting at its first character. If it is a block collection, begins that collection.
@@ -126,10 +115,7 @@ pub fn read_node(
         return begin_sequence(file, progress, node);
     }
     if let Some(code) = block_fault(file.bytes, node.start.at) {
-        return Err(ReadError::Fault(FaultAt {
-            code,
-            at: node.start.at,
-        }));
+        return Err(ReadError::at(code, node.start.at));
     }
     if is_flow_start(file.bytes, node.start.at) {
         let part = read_line_flow(file, progress, node.slot.spot, node.start.at)?;
@@ -168,10 +154,7 @@ fn read_property(
         (λ task. IsBegun file.now.bytes.now node.start.at (depth_in progress.old.stack) task) }
     ensures same { IfOk result (λ _. progress.new.stack ≡ progress.old.stack) }
 {
-    let unexpected = ReadError::Fault(FaultAt {
-        code: YamlCode::UnexpectedCharacter,
-        at: node.start.at,
-    });
+    let unexpected = ReadError::at(YamlCode::UnexpectedCharacter, node.start.at);
     if node.anchor.is_some() {
         return Err(unexpected);
     }
@@ -180,20 +163,13 @@ fn read_property(
     }
     let on_key = is_on_block_key(file, node.slot.spot, node.start.at)?;
     if on_key {
-        return Err(ReadError::Fault(FaultAt {
-            code: YamlCode::AnchorOrAlias,
-            at: node.start.at,
-        }));
+        return Err(ReadError::at(YamlCode::AnchorOrAlias, node.start.at));
     }
     if begins(file.bytes, node.start.at, b'*') {
         let depth = progress.stack.depth();
         let part = read_alias(file, &mut progress.state, node.start.at, depth)?;
         let next = line_behind(file.bytes, part.next)?;
-        return Ok(BlockTask::Read(Part {
-            node: part.node,
-            end: part.end,
-            next,
-        }));
+        return Ok(BlockTask::Read(Part { next, ..part }));
     }
     let rest = property_end(file.bytes, node.start.at);
     let from = NodePlace {
@@ -226,16 +202,10 @@ fn begin_sequence(
     ensures same { IfOk result (λ _. progress.new.stack ≡ progress.old.stack) }
 {
     if is_behind_key(node.slot.spot) {
-        return Err(ReadError::Fault(FaultAt {
-            code: YamlCode::UnexpectedCharacter,
-            at: node.start.at,
-        }));
+        return Err(ReadError::at(YamlCode::UnexpectedCharacter, node.start.at));
     }
     if let Some(tab) = tab_before(node.slot.spot) {
-        return Err(ReadError::Fault(FaultAt {
-            code: YamlCode::TabInIndentation,
-            at: tab,
-        }));
+        return Err(ReadError::at(YamlCode::TabInIndentation, tab));
     }
     let depth = progress.stack.depth();
     progress.state.start(node.start.at, 1, depth)?;
@@ -273,18 +243,12 @@ fn begin_mapping(
         (λ task. IsBegun file.now.bytes.now node.start.at (depth_in progress.old.stack) task) }
     ensures same { IfOk result (λ _. progress.new.stack ≡ progress.old.stack) }
 {
-    let wrong = ReadError::Fault(FaultAt {
-        code: YamlCode::WrongKey,
-        at: node.start.at,
-    });
+    let wrong = ReadError::at(YamlCode::WrongKey, node.start.at);
     if !is_same_line(file.bytes, node.start.at, key.read.next) {
         return Err(wrong);
     }
     if let Some(tab) = tab_before(node.slot.spot) {
-        return Err(ReadError::Fault(FaultAt {
-            code: YamlCode::TabInIndentation,
-            at: tab,
-        }));
+        return Err(ReadError::at(YamlCode::TabInIndentation, tab));
     }
     if !is_short_key(file.bytes, node.start.at, &key.read) {
         return Err(wrong);

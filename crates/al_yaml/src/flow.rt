@@ -85,12 +85,8 @@ fn closed_part(collection: OpenFlow, end: usize) -> Part
     ensures end { result.end ≡ end }
     ensures next { result.next ≡ end }
 {
-    let OpenFlow {
-        opening,
-        has,
-        next: _,
-    } = collection;
-    match has {
+    let opening = collection.opening;
+    match collection.has {
         Open::Items(items) => sequence_part(items, opening, end, end),
         Open::Entries(mapping) => mapping_part(mapping.entries, opening, end, end),
     }
@@ -115,14 +111,10 @@ fn resume_outer(
     ensures opening { IfOk result (λ collection. collection.opening ≡ frame.opening) }
     ensures within { IfOk result (λ collection. IsPut (size file.now) part.next collection.next) }
 {
-    let FlowFrame {
-        opening,
-        has,
-        inner,
-    } = frame;
-    let mut has = has;
-    let part = complete(file, state, inner.anchor, part)?;
-    let next = resume(file, opening, &mut has, inner.at, part)?;
+    let opening = frame.opening;
+    let mut has = frame.has;
+    let part = complete(file, state, frame.inner.anchor, part)?;
+    let next = resume(file, opening, &mut has, frame.inner.at, part)?;
     Ok(OpenFlow { opening, has, next })
 }
 
@@ -151,12 +143,8 @@ fn read_on(
     ensures within { IfOk result
         (IsFurther (size file.now) at depth progress.old.stack progress.new.stack) }
 {
-    let OpenFlow {
-        opening,
-        has,
-        next: _,
-    } = collection;
-    let mut has = has;
+    let opening = collection.opening;
+    let mut has = collection.has;
     let place = FlowPlace { opening, at, depth };
     let step = read_inside(file, &mut progress.state, &mut has, place)?;
     match step {

@@ -225,10 +225,7 @@ pub fn read_inside(
     ensures within { IfOk result (IsStep file.now.bytes.now place.at) }
 {
     if is_text_end(file.bytes, place.at) {
-        return Err(ReadError::Fault(FaultAt {
-            code: YamlCode::UnclosedFlow,
-            at: place.opening,
-        }));
+        return Err(ReadError::at(YamlCode::UnclosedFlow, place.opening));
     }
     if begins(file.bytes, place.at, closer(has)) {
         return Ok(FlowStep::Behind(After::Closes(place.at + 1)));
@@ -261,10 +258,7 @@ pub fn resume(
         Open::Items(items) => put_item(file, opening, items, part),
         Open::Entries(mapping) => match mapping.waits.take() {
             Some(key) => put_entry(file, opening, &mut mapping.entries, key, part),
-            None => Err(ReadError::Fault(FaultAt {
-                code: YamlCode::WrongKey,
-                at,
-            })),
+            None => Err(ReadError::at(YamlCode::WrongKey, at)),
         },
     }
 }

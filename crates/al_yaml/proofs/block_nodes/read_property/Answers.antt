@@ -14,22 +14,22 @@ use Rattle.al_yaml.proofs.BlockStepLemmas.{property-begins}
 use Rattle.al_yaml.proofs.block_nodes.read_property.Goals as goal
 
 pub returns-then-is_some-clause-is : goal.returns-then-is_some-clause-is
-returns-then-is_some-clause-is c = λ bound. second-stops bound c.args.node.anchor (slot_of c.args.node.slot) (depth_in c.args.progress.now.stack)
+returns-then-is_some-clause-is c = λ bound. rw c.at-unexpected.ensures.is (second-stops bound c.args.node.anchor (slot_of c.args.node.slot) (depth_in c.args.progress.now.stack)
     c.args.node.start.column (state_of c.args.progress.now.state) c.args.file.now.bytes.now c.args.node.start.at c.requires.node.inside
-    c.requires.property c.if-is_some.ensures
+    c.requires.property c.if-is_some.ensures)
 
 pub returns-then-has_no_name-clause-is : goal.returns-then-has_no_name-clause-is
 unfolding block_node block_property
-returns-then-has_no_name-clause-is c = λ bound. no-anchor bound c.args.node.anchor _ _ _ _ _ _ c.if-is_some.ensures
-    ∙ rw (c.requires.property, ← c.if-has_no_name.ensures, start-at c.args.file.now.bytes.now c.args.node.start.at c.requires.node.inside) (run-fails _ _ _)
+returns-then-has_no_name-clause-is c = λ bound. rw c.at-unexpected.ensures.is (no-anchor bound c.args.node.anchor _ _ _ _ _ _ c.if-is_some.ensures
+    ∙ rw (c.requires.property, ← c.if-has_no_name.ensures, start-at c.args.file.now.bytes.now c.args.node.start.at c.requires.node.inside) (run-fails _ _ _))
 
 pub returns-then-on_key-clause-is : goal.returns-then-on_key-clause-is
 unfolding block_node block_property
 returns-then-on_key-clause-is c = λ bound.
     let here = start-at c.args.file.now.bytes.now c.args.node.start.at c.requires.node.inside in
     let on_key = sym c.in_ok-on_key.ensures ∙ c.if-on_key.true in
-    no-anchor bound c.args.node.anchor _ _ _ _ _ _ c.if-is_some.ensures
-    ∙ rw (c.requires.property, ← c.if-has_no_name.ensures, on_key, here) (run-fails _ _ _)
+    rw c.at.ensures.is (no-anchor bound c.args.node.anchor _ _ _ _ _ _ c.if-is_some.ensures
+    ∙ rw (c.requires.property, ← c.if-has_no_name.ensures, on_key, here) (run-fails _ _ _))
 
 pub returns-in_err-part-clause-is : goal.returns-in_err-part-clause-is
 unfolding block_node block_property
