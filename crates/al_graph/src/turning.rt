@@ -1,7 +1,7 @@
 //! The transpose of a graph.
 
 ghost use Rattle.al_graph.specs.Graphs.{AddsEdges, Edge, IsTranspose, edges_of};
-ghost use Rattle.std.specs.Prelude.{◌≡◌, ℕ, ◌<◌, ◌∷◌, [], length, vec_len, replicate, Contains, IfOk, OnOk};
+ghost use Rattle.std.specs.Prelude.{◌≡◌, ℕ, ◌<◌, [], length, vec_len, replicate, Contains, IfOk, OnOk};
 
 use std::alloc::{AllocError, Global};
 
