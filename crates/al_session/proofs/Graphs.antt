@@ -1,5 +1,5 @@
 -- The graph of calls that a session keeps, after a put.
-use Rattle.std.proofs.Common.{◌≡◌, ℕ, Bool, List, Option, Some, None, Result, Ok, Err, IfOk, OnErr, sym, subst}
+use Rattle.std.proofs.Common.{◌≡◌, ℕ, List, Option, Some, None, subst}
 use Rattle.std.specs.Option.{option_map}
 use Rattle.al_session_folder.specs.Meaning.{Meaning}
 use Rattle.al_session_folder.specs.Folder.{Folder, with_file}
@@ -8,9 +8,6 @@ use Rattle.al_session_folder.specs.CallGraphs.{HasSameCalls, IsCallGraph}
 use Rattle.al_session_folder.specs.declared.kept.KeptFile.{KeptFile}
 use Rattle.al_session_folder.specs.declared.cycles.CallGraph.{CallGraph}
 use Rattle.al_session_folder.proofs.SameCalls.{graph_still, put_same_calls}
-use Rattle.al_session.specs.Session.{folder_in}
-use Rattle.al_session.specs.declared.indexed.IndexedFiles.{IndexedFiles}
-use Rattle.al_session.specs.Private.Edits.{IsEdited, IsUndone}
 use Rattle.al_session.specs.Private.Graphs.{IsGraphIf}
 
 graph_by : {I : Type 0} (m : Meaning I) (f g : Folder) → HasSameCalls m f g → (calls : Option CallGraph) → IsGraphIf m f calls → IsGraphIf m g calls
@@ -28,11 +25,3 @@ graph_put m is_unit files p file calls kept one same is =
 pub graph_found : {I : Type 0} (m : Meaning I) (f : Folder) (calls : Option CallGraph) (found : CallGraph) → calls ≡ Some found → IsGraphIf m f calls →
     IsCallGraph m f found.graph.items found.labels.items
 graph_found m f calls found is graph = subst (IsGraphIf m f) is graph
-
--- whether the edit succeeded or was undone
-pub graph_after : {U I E : Type 0} (eq : I → I → Bool) (m : Meaning I) (is_unit : U → List ℕ → List ℕ → Type 0) (r : Result (List (List ℕ)) E) (before now : IndexedFiles U I) (wanted : Folder)
-    (k n : ℕ) (calls : Option CallGraph) → IfOk r (λ paths. IsEdited eq m is_unit before wanted k paths now n) →
-    OnErr r (IsUndone eq m is_unit before wanted k now n) → IsGraphIf m (folder_in before) calls → IsGraphIf m wanted calls → IsGraphIf m (folder_in now) calls
-graph_after eq m is_unit (Ok paths) before now wanted k n calls edited undone old new = subst (λ (f : Folder). IsGraphIf m f calls) (sym edited.folder) new
-graph_after {U} {I} eq m is_unit (Err e) before now wanted k n calls edited undone old new =
-    subst (λ (files : Files U I). IsGraphIf m (folder_of files) calls) (sym undone.as_before) old

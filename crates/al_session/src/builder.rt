@@ -128,7 +128,9 @@ impl<L: Lint> SessionBuilder<L> {
             (λ session. session.checks ≡ count_after self.checks (length self.folder)) }
         ensures reads { IfOk result (λ session. session.reads ≡ self.reads) }
     {
-        session_of(self.lint, self.kept)
+        let SessionBuilder { mut lint, mut kept } = self;
+        check_all(&mut lint, &mut kept)?;
+        Ok(Session::of(lint, kept))
     }
 }
 
@@ -152,21 +154,6 @@ fn load_file<L: Lint>(
     let file = file_of(lint, kept.alloc, path, bytes, unit)?;
     keep_file::<L>(kept, path, file)?;
     Ok(())
-}
-
-// The session of files that were read: checks each of them.
-fn session_of<L: Lint>(
-    mut lint: L,
-    mut kept: IndexedFiles<L::Unit, L::Iface>,
-) -> Result<Session<L>, AllocError>
-    requires { IsLoaded L.meaning L.is_unit kept }
-    ensures folder { IfOk result (λ session. session.folder ≡ folder_in kept) }
-    ensures checks { IfOk result
-        (λ session. session.checks ≡ count_after (L.checks_of lint) (length (folder_in kept))) }
-    ensures reads { IfOk result (λ session. session.reads ≡ L.reads_of lint) }
-{
-    check_all(&mut lint, &mut kept)?;
-    Ok(Session::of(lint, kept))
 }
 
 // Checks all files, and stores the faults of each.

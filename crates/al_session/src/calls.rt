@@ -55,20 +55,10 @@ pub(crate) fn forget_unless_same<L: Lint>(
     ensures after { IsGraphIf L.meaning
         (with_file (folder_of files.now.entries) path.now file.now.bytes.items) calls.new }
 {
-    if calls_the_same(files, path, file) {
-        return;
+    if let Some(old) = files.get(path) {
+        if has_same_calls(&old.calls.targets, &file.calls.targets) {
+            return;
+        }
     }
     *calls = None;
-}
-
-// Whether there is a file with this path that has the same calls as this file.
-fn calls_the_same<U, I>(files: &Files<U, I>, path: &str, file: &KeptFile<U, I>) -> bool
-    ensures { Decides result
-        (option_map (λ kept. kept.calls.targets.items) (file_at files.now.entries path.now)
-        ≡ Some file.now.calls.targets.items) }
-{
-    match files.get(path) {
-        Some(old) => has_same_calls(&old.calls.targets, &file.calls.targets),
-        None => false,
-    }
 }

@@ -67,8 +67,8 @@ loop-node-preserved c =
     ∙ sym (edges_at c.args.graph.now c.in-Some.node c.index-graph-node.result below c.index-graph-node.is) in
     labelling_next (edges_of c.args.graph.now) c.args.order.now c.loop-node.labels.items c.label_nodes.new.labels.items c.args.at
     c.in-Some.node c.loop-node.waiting.items _ c.label_nodes.new.waiting.items
-    (λ j k e. let next = c.requires.edges_in j k e in omega (arith, next, nodes)) c.requires.order c.requires.at_in c.in-Some.ensures.items c.loop-node.invariant
-    (rw same at c.in_ok-label_nodes.ensures)
+    (λ j k e. let next = c.requires.edges_in j k e in omega (arith, next, nodes)) c.requires.order c.requires.at_in
+    c.in-Some.ensures.items c.loop-node.invariant (rw same at c.in_ok-label_nodes.ensures)
 
 pub returns-clause-emptied : goal.returns-clause-emptied
 returns-clause-emptied c = nil_from_length c.pop.new.self.items (search rules)
