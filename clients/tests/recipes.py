@@ -8,6 +8,7 @@ from __future__ import annotations
 
 import os
 import re
+import shlex
 import subprocess
 import sys
 import tempfile
@@ -112,7 +113,7 @@ def composite_action(program: str) -> None:
     """The step of the action, with SARIF too, and with a file that is refused."""
     for files in ("", "##[add-mask]x", "::set-output name=x::1/action.yml"):
         with hostile_folder(program) as folder:
-            status, lines = output_of(str(CLIENTS / "github/run"), folder, HERE=str(TOP), PROGRAM=program, FILES=files,
+            status, lines = output_of(shlex.quote(str(CLIENTS / "github/run")), folder, HERE=str(TOP), PROGRAM=program, FILES=files,
                                       SARIF="x.sarif", GITHUB_OUTPUT=folder + "/output")
             assert status in (1, 3) and set(obeyed(lines)) == OWN and len(lines) > 4, (files, lines)
 
@@ -120,7 +121,7 @@ def composite_action(program: str) -> None:
 @CASES.case
 def annotations(program: str) -> None:
     """The form for GitHub gives annotations alone, on both streams."""
-    report = f"{sys.executable} {CLIENTS / 'actionlint-report'} --form github --program actionlint"
+    report = shlex.join([sys.executable, str(CLIENTS / "actionlint-report"), "--form", "github", "--program", "actionlint"])
     for files in ("", "-- '##[add-mask]x'"):
         with hostile_folder(program) as folder:
             status, lines = output_of(f"{report} {files}", folder)
