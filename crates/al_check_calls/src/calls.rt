@@ -24,23 +24,6 @@ fn is_callable(caller: Caller, role: Role) -> bool
     }
 }
 
-/// The signature of a file, if a step or a job can call it.
-fn callable_signature<'a>(caller: Caller, answer: Option<&'a Interface>) -> Option<&'a Signature>
-    ensures { option_copied result ≡ meant.callable_signature caller (option_copied answer.entry) }
-{
-    match answer {
-        None => None,
-        Some(Interface::Unreadable) => None,
-        Some(Interface::Readable(signature)) => {
-            if is_callable(caller, signature.role) {
-                Some(signature)
-            } else {
-                None
-            }
-        }
-    }
-}
-
 /// The signature that a call is compared with, if it can call the file that answers it.
 pub(crate) fn called_signature<'a>(
     call: Call<'_>,
@@ -50,18 +33,13 @@ pub(crate) fn called_signature<'a>(
         ≡ meant.callable_signature (site_caller (call_of call.entry).site)
         (option_copied answer.entry) }
 {
-    callable_signature(caller_of(call.site), answer)
-}
-
-/// C1: a job's call that no file in the folder answers.
-fn check_absent(call: Call<'_>, faults: &mut FaultSink) -> Result<(), AllocError>
-    ensures { OnOk result (faults.new ≡ faults.old
-        ++ meant.absent_faults (call_of call.entry) (site_caller (call_of call.entry).site)) }
-{
-    match caller_of(call.site) {
-        Caller::Step => Ok(()),
-        Caller::Job => report_uses(call, CallCode::NoWorkflow, faults),
+    let Some(Interface::Readable(signature)) = answer else {
+        return None;
+    };
+    if !is_callable(caller_of(call.site), signature.role) {
+        return None;
     }
+    Some(signature)
 }
 
 /// C1 and C8.
@@ -74,7 +52,10 @@ fn check_uses(
         ++ meant.uses_faults (call_of call.entry) (option_copied answer.entry)) }
 {
     match answer {
-        None => check_absent(call, faults),
+        None => match caller_of(call.site) {
+            Caller::Step => Ok(()),
+            Caller::Job => report_uses(call, CallCode::NoWorkflow, faults),
+        },
         Some(Interface::Unreadable) => Ok(()),
         Some(Interface::Readable(signature)) => {
             if is_callable(caller_of(call.site), signature.role) {

@@ -66,29 +66,6 @@ fn is_compared(kind: ParameterKind, call: Call<'_>) -> bool
     }
 }
 
-/// The signature with which the names of a kind are compared, if they are.
-fn signature_for<'a>(kind: ParameterKind, answered: Answered<'a>) -> Option<&'a Signature>
-    ensures { let a = answered_of answered.entry in option_copied result
-        ≡ faults.signature_for kind a.call a.answer }
-{
-    if is_compared(kind, answered.call) {
-        called_signature(answered.call, answered.answer)
-    } else {
-        None
-    }
-}
-
-fn comparison_of<'a>(kind: ParameterKind, answered: Answered<'a>) -> Option<Comparison<'a>>
-    ensures { option_map compared_of result
-        ≡ comparing.comparison_of kind (answered_of answered.entry) }
-{
-    Some(Comparison {
-        kind,
-        call: answered.call,
-        signature: signature_for(kind, answered)?,
-    })
-}
-
 /// Adds a call, if its names of a kind are compared.
 fn add_comparison<'a>(
     kind: ParameterKind,
@@ -99,24 +76,19 @@ fn add_comparison<'a>(
         ≡ map compared_of found.old.items
         ++ cons_option (comparing.comparison_of kind (answered_of answered.entry)) []) }
 {
-    match comparison_of(kind, answered) {
-        None => Ok(()),
-        Some(comparison) => {
-            found.push(comparison)?;
-            Ok(())
-        }
+    let call = answered.call;
+    if !is_compared(kind, call) {
+        return Ok(());
     }
-}
-
-fn add_comparisons<'a>(
-    answered: Answered<'a>,
-    found: &mut Vec<Comparison<'a>>,
-) -> Result<(), AllocError>
-    ensures { OnOk result (map compared_of found.new.items
-        ≡ map compared_of found.old.items ++ comparing.comparisons (answered_of answered.entry)) }
-{
-    add_comparison(ParameterKind::Input, answered, found)?;
-    add_comparison(ParameterKind::Secret, answered, found)
+    let Some(signature) = called_signature(call, answered.answer) else {
+        return Ok(());
+    };
+    found.push(Comparison {
+        kind,
+        call,
+        signature,
+    })?;
+    Ok(())
 }
 
 /// The calls whose names are compared: by inputs, then by secrets.
@@ -129,7 +101,8 @@ pub(crate) fn all_comparisons<'a>(
 {
     let mut found = Vec::new(alloc);
     for one in answered {
-        add_comparisons(*one, &mut found)?;
+        add_comparison(ParameterKind::Input, *one, &mut found)?;
+        add_comparison(ParameterKind::Secret, *one, &mut found)?;
     }
     Ok(found)
 }

@@ -17,33 +17,6 @@ use al_base::FaultSink;
 use al_check_contexts::Env;
 use std::alloc::AllocError;
 
-/// Adds the faults of a job's call, except those of names.
-fn check_job<'a>(
-    env: &mut Env<'a>,
-    answered: Answered<'a>,
-    faults: &mut FaultSink,
-) -> Result<(), AllocError>
-    requires at { IsAtPosition env.old }
-    requires short { AreShort (view answered.call.site.node.now) }
-    ensures moved { OnOk result (HasMoved env.new env.old) }
-    ensures faults { OnOk result (faults.new ≡ faults.old
-        ++ faults_but_names (typing_in (file_of env.old)) (answered_of answered.entry)) }
-{
-    let values = job_values(env, answered.call)?;
-    check_call(answered, values.as_slice(), faults)?;
-    Ok(())
-}
-
-/// Adds the faults of a step's call, whose values have no types, except those of names.
-fn check_step(answered: Answered<'_>, faults: &mut FaultSink) -> Result<(), AllocError>
-    requires { is_some answered.call.site.step ≡ true }
-    ensures { (types : Typing)
-        → OnOk result (faults.new ≡ faults.old
-        ++ faults_but_names types (answered_of answered.entry)) }
-{
-    check_call(answered, &[], faults)
-}
-
 /// Adds the faults of a call, except those of names.
 fn check_one<'a>(
     env: &mut Env<'a>,
@@ -56,31 +29,16 @@ fn check_one<'a>(
     ensures faults { OnOk result (faults.new ≡ faults.old
         ++ faults_but_names (typing_in (file_of env.old)) (answered_of answered.entry)) }
 {
-    match answered.call.site.step {
-        Some(_) => check_step(answered, faults),
-        None => check_job(env, answered, faults),
+    if answered.call.site.step.is_some() {
+        // The values that a step gives have no types.
+        return check_call(answered, &[], faults);
     }
+    let values = job_values(env, answered.call)?;
+    check_call(answered, values.as_slice(), faults)
 }
 
-/// Adds the faults of some calls, except those of names. Moves the environment to them.
-fn check_each<'a>(
-    env: &mut Env<'a>,
-    answered: &[Answered<'a>],
-    faults: &mut FaultSink,
-) -> Result<(), AllocError>
-    requires at { IsAtPosition env.old }
-    requires short { All (λ a. AreShort (view a.call.site.node.now)) answered.now }
-    ensures { OnOk result (faults.new ≡ faults.old
-        ++ flat_map (faults_but_names (typing_in (file_of env.old))) (map answered_of answered.now)) }
-{
-    for one in answered {
-        check_one(env, *one, faults)?;
-    }
-    Ok(())
-}
-
-/// Adds the faults of some calls of the environment's file, and moves the environment to them. Of equal faults, as of calls behind
-/// aliases, at least one is added.
+/// Adds the faults of some calls of the environment's file, and moves the environment to them. Of equal faults, as of
+/// calls by aliases, at least one is added.
 pub(crate) fn check_calls<'a>(
     env: &mut Env<'a>,
     answered: &[Answered<'a>],
@@ -92,6 +50,8 @@ pub(crate) fn check_calls<'a>(
     ensures { OnOk result (SameSet faults.new (faults.old
         ++ flat_map (answered_faults (typing_in (file_of env.old))) (map answered_of answered.now))) }
 {
-    check_each(env, answered, faults)?;
+    for one in answered {
+        check_one(env, *one, faults)?;
+    }
     check_names(answered, faults)
 }

@@ -99,52 +99,6 @@ fn check_next_name(
     check_name(name, faults)
 }
 
-/// Adds C2 and C5 of names, one after another.
-fn check_in_turn<'a>(given: &[GivenName<'a>], faults: &mut FaultSink) -> Result<(), AllocError>
-    requires { TellSignaturesBy (map name_of given.now) }
-    ensures { OnOk result (SameSet faults.new (faults.old
-        ++ flat_map comparing.undefined_at (map name_of given.now))) }
-{
-    let mut previous = None;
-    for i in 0..given.len() {
-        let name = given[i];
-        check_next_name(previous, name, faults)?;
-        previous = Some(name);
-    }
-    Ok(())
-}
-
-fn add_members<'a>(
-    by: Comparison<'a>,
-    given: &[Member<'a>],
-    found: &mut Vec<GivenName<'a>>,
-) -> Result<(), AllocError>
-    ensures { OnOk result (map name_of found.new.items
-        ≡ map name_of found.old.items
-        ++ map (comparing.name_by (compared_of by.entry)) (map member_of given.now)) }
-{
-    for member in given {
-        found.push(GivenName {
-            by,
-            member: *member,
-        })?;
-    }
-    Ok(())
-}
-
-/// Adds the names that a call gives.
-fn add_names_by<'a>(
-    alloc: Global,
-    by: Comparison<'a>,
-    found: &mut Vec<GivenName<'a>>,
-) -> Result<(), AllocError>
-    ensures { OnOk result (map name_of found.new.items ≡ map name_of found.old.items
-        ++ comparing.names_by (compared_of by.entry)) }
-{
-    let given = given_by(alloc, by.kind, by.call.site.node)?;
-    add_members(by, given.as_slice(), found)
-}
-
 /// The names that calls give.
 fn names_given<'a>(
     alloc: Global,
@@ -155,7 +109,13 @@ fn names_given<'a>(
 {
     let mut found = Vec::new(alloc);
     for by in calls {
-        add_names_by(alloc, *by, &mut found)?;
+        let given = given_by(alloc, by.kind, by.call.site.node)?;
+        for member in &given {
+            found.push(GivenName {
+                by: *by,
+                member: *member,
+            })?;
+        }
     }
     Ok(found)
 }
@@ -171,15 +131,6 @@ fn order_of<'a>(name: &GivenName<'a>) -> (u32, ParameterKind, Caller, &'a [u8]) 
     )
 }
 
-/// Sorts names, so that equal ones are adjacent.
-fn in_order<'a>(given: Vec<GivenName<'a>>) -> Vec<GivenName<'a>>
-    ensures { IsPermutation given.entry.items result.items }
-{
-    let mut names = given;
-    names.sort_unstable_by_key(|name| order_of(name));
-    names
-}
-
 /// Adds C2 and C5 of the names that calls give, of equal faults at least one.
 pub(crate) fn check_undefined(
     calls: &[Comparison<'_>],
@@ -189,6 +140,13 @@ pub(crate) fn check_undefined(
     ensures { OnOk result (SameSet faults.new (faults.old
         ++ flat_map comparing.undefined_of (map compared_of calls.now))) }
 {
-    let given = in_order(names_given(faults.alloc(), calls)?);
-    check_in_turn(given.as_slice(), faults)
+    let mut given = names_given(faults.alloc(), calls)?;
+    // Equal names are then adjacent.
+    given.sort_unstable_by_key(|name| order_of(name));
+    let mut previous = None;
+    for name in &given {
+        check_next_name(previous, *name, faults)?;
+        previous = Some(*name);
+    }
+    Ok(())
 }

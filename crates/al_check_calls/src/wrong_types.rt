@@ -1,6 +1,5 @@
 //! The types of the values that a job gives to the workflow that it calls: C4.
 ghost use Rattle.std.specs.Prelude.{◌≡◌, ◌++◌, List, map, OnOk};
-ghost use Rattle.std.specs.List.{flat_map};
 ghost use Rattle.std.specs.Option.{option_copied};
 ghost use Rattle.al_base.specs.declared.codes.Caller.TheVariants as by;
 ghost use Rattle.al_expr_types.specs.Types.{type_in};
@@ -13,7 +12,7 @@ ghost use Rattle.al_check_interfaces.specs.CallViews.{call_of};
 
 use crate::reports::code_at;
 use al_base::{CallCode, FaultSink};
-use al_check_interfaces::{Call, Parameter, Parameters, Signature};
+use al_check_interfaces::{Call, Parameters, Signature};
 use al_check_objects::type_of_input;
 use al_expr_types::{Base, Ty};
 use al_tree::{InputType, Member, key_text};
@@ -47,24 +46,6 @@ fn is_right(ty: Ty, takes: InputType) -> bool
     ty.is_assignable_to(wanted)
 }
 
-fn check_type(
-    call: Call<'_>,
-    value: &Value<'_>,
-    input: &Parameter,
-    faults: &mut FaultSink,
-) -> Result<(), AllocError>
-    ensures { OnOk result ((ms : List Parts) → faults.new ≡ faults.old
-        ++ meant.type_faults (call_of call.entry) (member_of value.now.member)
-        (type_in ms value.now.ty) input.now) }
-{
-    if is_right(value.ty, input.takes) {
-        return Ok(());
-    }
-    let code = code_at(call, CallCode::WrongInput);
-    let span = value.member.value.span();
-    faults.report_two(span, code, input.name.as_bytes(), type_name(input.takes))
-}
-
 /// C4.
 fn check_value(
     call: Call<'_>,
@@ -75,28 +56,15 @@ fn check_value(
     ensures { OnOk result ((ms : List Parts) → faults.new ≡ faults.old
         ++ meant.wrong_input (call_of call.entry) inputs.now (given_in ms value.now)) }
 {
-    let name = key_text(value.member.key);
-    match inputs.find(faults.alloc(), name)? {
-        Some(input) => check_type(call, value, input, faults),
-        None => Ok(()),
+    let Some(input) = inputs.find(faults.alloc(), key_text(value.member.key))? else {
+        return Ok(());
+    };
+    if is_right(value.ty, input.takes) {
+        return Ok(());
     }
-}
-
-/// Adds C4 of all values, against a signature.
-fn check_all(
-    call: Call<'_>,
-    values: &[Value<'_>],
-    signature: &Signature,
-    faults: &mut FaultSink,
-) -> Result<(), AllocError>
-    ensures { OnOk result ((ms : List Parts) → faults.new ≡ faults.old
-        ++ flat_map (meant.wrong_input (call_of call.entry) signature.now.inputs)
-        (map (given_in ms) values.now)) }
-{
-    for value in values {
-        check_value(call, &signature.inputs, value, faults)?;
-    }
-    Ok(())
+    let code = code_at(call, CallCode::WrongInput);
+    let span = value.member.value.span();
+    faults.report_two(span, code, input.name.as_bytes(), type_name(input.takes))
 }
 
 /// Adds C4 of the values that a job gives, against the signature of the called file, if the job can call it.
@@ -110,8 +78,11 @@ pub(crate) fn check_values(
         ++ meant.values_against by.Job (call_of call.entry) (map (given_in ms) values.now)
         (option_copied signature.entry)) }
 {
-    match signature {
-        None => Ok(()),
-        Some(signature) => check_all(call, values, signature, faults),
+    let Some(signature) = signature else {
+        return Ok(());
+    };
+    for value in values {
+        check_value(call, &signature.inputs, value, faults)?;
     }
+    Ok(())
 }

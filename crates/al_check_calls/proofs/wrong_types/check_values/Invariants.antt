@@ -4,7 +4,7 @@ use Rattle.al_types.specs.Types.{Parts}
 use Rattle.al_check_calls.specs.CallFaults.{wrong_input}
 use Rattle.al_check_calls.specs.Private.AnswerViews.{given_in}
 use Rattle.al_check_interfaces.specs.CallViews.{call_of}
-use Rattle.al_check_calls.proofs.wrong_types.check_all.Given as goal
+use Rattle.al_check_calls.proofs.wrong_types.check_values.Given as goal
 
 abbrev pub invariant-loop-value : goal.invariant-loop-value
 invariant-loop-value l = (ms : List Parts) →
