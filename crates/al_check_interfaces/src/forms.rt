@@ -1,5 +1,5 @@
 //! What a `uses` names.
-ghost use Rattle.std.specs.Prelude.{◌≡◌, [], ◌∷◌, ◌++◌, ◌&&◌, drop, map, IfOk};
+ghost use Rattle.std.specs.Prelude.{◌≡◌, [], ◌∷◌, ◌++◌, ◌&&◌, map, IfOk};
 ghost use Rattle.std.specs.List.{list_all};
 ghost use Rattle.al_base.specs.Paths.{parts};
 ghost use Rattle.al_base.specs.declared.codes.Caller.TheVariants as by;

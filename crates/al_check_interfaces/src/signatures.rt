@@ -1,23 +1,20 @@
 //! The interface of a file, from its root.
 ghost use Rattle.std.specs.Prelude.{◌≡◌, [], map, option_map, IfOk};
-ghost use Rattle.std.specs.List.{list_any};
 ghost use Rattle.std.specs.Option.{option_map_or};
 ghost use Rattle.al_tree.specs.Declarations.{declared_in};
-ghost use Rattle.al_scalar.specs.Scalar.{text_of};
 ghost use Rattle.al_tree.specs.Keys.{keys_in};
-ghost use Rattle.al_tree.specs.Values.{member_of, scalar_node_of};
+ghost use Rattle.al_tree.specs.Values.{member_of};
 ghost use Rattle.al_tree.specs.declared.files.FileKind.TheVariants as kind;
 ghost use Rattle.al_yaml_tree.specs.View.{view};
 ghost use Rattle.al_check_interfaces.specs.Interfaces as interfaces;
-ghost use Rattle.al_check_interfaces.specs.Interfaces.{says_call};
 
 use crate::interfaces::{Interface, Parameter, Role, Signature};
 use crate::lists::Parameters;
 use al_base::is_same_name;
 use al_expr_types::{Name, NameList};
 use al_tree::{
-    FileKind, InputType, Member, ScalarNode, declared_at, has_value, input_of, is_composite,
-    key_text, text_under, texts, value, value_below_three,
+    FileKind, InputType, Member, declared_at, has_value, input_of, is_composite, key_text,
+    text_under, texts, value, value_below_three,
 };
 use al_yaml_tree::Node;
 use std::alloc::{AllocError, Global};
