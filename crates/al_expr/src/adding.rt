@@ -36,14 +36,12 @@ fn add<'a>(
         Ty::String => Ok(al_expr_types::Ty::scalar(Scalar::String)),
         Ty::Array(of) => {
             let element = add(alloc, types, of)?;
-            let all = element.in_arrays(1)?;
-            Ok(all)
+            element.in_arrays(1)
         }
         Ty::Object { fields, rest } => {
             let map = add_fields(alloc, types, fields)?;
             let others = add_rest(alloc, types, rest)?;
-            let all = types.fields(map, others)?;
-            Ok(all)
+            types.fields(map, others)
         }
     }
 }

@@ -21,8 +21,7 @@ use std::alloc::{AllocError, Global};
 pub fn fuse(alloc: Global, a: Ty, b: Ty) -> Result<Ty, AllocError>
     ensures { IfOk result (λ t. ty_of t ≡ fuse_type (ty_of a) (ty_of b)) }
 {
-    let ty = fuse_more(alloc, &b, &a)?;
-    Ok(ty)
+    fuse_more(alloc, &b, &a)
 }
 
 // What a type has in common with one more.
@@ -88,8 +87,7 @@ pub(crate) fn add_object(
         ≡ fuse_parts (parts_in sofar) (listed_parts (map field_of fields.now) (rest_of rest.now))) }
 {
     let both = add_fields(alloc, fields, sofar)?;
-    let whole = add_rest(alloc, rest, both)?;
-    Ok(whole)
+    add_rest(alloc, rest, both)
 }
 
 // The same for an object with these fields and no others.
@@ -166,8 +164,7 @@ fn fuse_rest(
     ensures { IfOk result (λ r. rest_of r ≡ fuse_optional (rest_of rest.now) (rest_of more.now)) }
 {
     let Some(other) = more else {
-        let same = copy_rest(alloc, rest)?;
-        return Ok(same);
+        return copy_rest(alloc, rest);
     };
     match rest {
         Some(ty) => {

@@ -19,8 +19,7 @@ pub fn tree_of(alloc: Global, types: &Types<'_>, ty: al_expr_types::Ty) -> Resul
     requires { is_known types.now ty ≡ true }
     ensures { IfOk result (λ t. ty_of t ≡ type_at types.now ty) }
 {
-    let tree = tree_below(alloc, types, ty, types.len())?;
-    Ok(tree)
+    tree_below(alloc, types, ty, types.len())
 }
 
 /// The tree of a scalar.
@@ -60,14 +59,10 @@ fn tree_below(
     ensures { IfOk result (λ t. ty_of t ≡ type_at types.now ty) }
 {
     match ty.of {
-        Base::Scalar(scalar) => {
-            let tree = in_arrays(alloc, scalar_tree(scalar), ty.arrays)?;
-            Ok(tree)
-        }
+        Base::Scalar(scalar) => in_arrays(alloc, scalar_tree(scalar), ty.arrays),
         Base::Object(n) => {
             let listing = object_listing(alloc, types, n)?;
-            let tree = in_arrays(alloc, listing.into_type(), ty.arrays)?;
-            Ok(tree)
+            in_arrays(alloc, listing.into_type(), ty.arrays)
         }
     }
 }
@@ -79,14 +74,8 @@ fn object_listing(alloc: Global, types: &Types<'_>, n: u32) -> Result<Listing, A
     ensures { IfOk result (λ l. parts_in l ≡ object_in (objects_of types.now) n) }
 {
     match types.object(n) {
-        Object::Fields(fields) => {
-            let listing = fields_listing(alloc, types, fields, n)?;
-            Ok(listing)
-        }
-        Object::Strings(names) => {
-            let listing = strings_listing(alloc, names)?;
-            Ok(listing)
-        }
+        Object::Fields(fields) => fields_listing(alloc, types, fields, n),
+        Object::Strings(names) => strings_listing(alloc, names),
         Object::Common(of) => {
             let mut all = Listing::new(alloc);
             for m in of.as_slice() {
@@ -186,6 +175,5 @@ fn strings_listing(alloc: Global, names: &NameList) -> Result<Listing, AllocErro
         let field = field_with(alloc, names.at(i), Ty::String)?;
         fields.push(field)?;
     }
-    let listing = Listing::of(alloc, fields.as_slice(), &None)?;
-    Ok(listing)
+    Listing::of(alloc, fields.as_slice(), &None)
 }

@@ -1,10 +1,8 @@
 //! The graph of calls that a session keeps beside its files.
 
 ghost use Rattle.std.specs.Prelude.{◌≡◌, Some, IsSome, OnOk, OnErr};
-ghost use Rattle.std.specs.Bool.{Decides};
-ghost use Rattle.std.specs.Option.{option_map};
 ghost use Rattle.al_session_folder.specs.Folder.{with_file};
-ghost use Rattle.al_session_folder.specs.Kept.{AreKept, IsKept, file_at, folder_of};
+ghost use Rattle.al_session_folder.specs.Kept.{AreKept, IsKept, folder_of};
 ghost use Rattle.al_session.specs.Private.Graphs.{IsGraphIf};
 
 use al_session_folder::{CallGraph, Files, KeptFile, Lint, call_graph, has_same_calls};

@@ -1,4 +1,5 @@
 use Rattle.std.proofs.Common.{◌≡◌, ◌∙◌, ap, length, map, sym, take}
+use Rattle.std.proofs.lemmas.Result.{IfOk-weaker}
 use Rattle.al_base.proofs.Growing.{begins_trans}
 use Rattle.al_types.specs.Puts.{firsts, put_new}
 use Rattle.al_types.specs.Types.{object_type, parts_with}
@@ -17,13 +18,15 @@ add-fields-requires-clause-fields t c =
     types_wider c.add_rest.new.types.objects.items c.add_fields.new.types.objects.items c.in_ok-map-in-Object.map c.in_ok-others-in-Object.ensures.kept
     c.in_ok-map-in-Object.ensures.known
 
-pub add-returns-in_ok-all-in-Object-clause-ty : goal.add-returns-in_ok-all-in-Object-clause-ty
-add-returns-in_ok-all-in-Object-clause-ty t c =
+pub add-returns-in_ok-others-in-Object-clause-ty : goal.add-returns-in_ok-others-in-Object-clause-ty
+add-returns-in_ok-others-in-Object-clause-ty t c =
     let fields : fields_in (objects_of c.add_rest.new.types) c.in_ok-map-in-Object.map ≡ firsts (map field_of c.in-Object.fields.items) =
     fields_stay c.add_rest.new.types c.add_fields.new.types c.in_ok-map-in-Object.map c.in_ok-others-in-Object.ensures.kept c.in_ok-map-in-Object.ensures.known
     ∙ c.in_ok-map-in-Object.ensures.fields ∙ ap (λ xs. firsts (map field_of xs)) c.deref-in-Object.ensures.value in
-    c.in_ok-all-in-Object.ensures.ty ∙ (λ d. object_type (parts_with (fields d) (c.in_ok-others-in-Object.ensures.ty d)))
-    ∙ sym (ap ty_of c.in-Object.is ∙ object_view c.in-Object.fields c.in-Object.rest)
+    IfOk-weaker c.fields.result _ _
+    (λ all is. is ∙ (λ d. object_type (parts_with (fields d) (c.in_ok-others-in-Object.ensures.ty d)))
+    ∙ sym (ap ty_of c.in-Object.is ∙ object_view c.in-Object.fields c.in-Object.rest))
+    c.fields.ensures.ty
 
 pub add_fields-loop-field-preserved : goal.add_fields-loop-field-preserved
 add_fields-loop-field-preserved t c =

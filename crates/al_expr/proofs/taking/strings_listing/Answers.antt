@@ -1,5 +1,6 @@
 use Rattle.std.proofs.Common.{◌∙◌, ap, arith, map}
 use Rattle.std.proofs.lemmas.List.{take_all}
+use Rattle.std.proofs.lemmas.Result.{IfOk-weaker}
 use Rattle.al_types.specs.Puts.{firsts}
 use Rattle.al_types.specs.Strings.{strings}
 use Rattle.al_types.specs.Types.{Absent, parts_with}
@@ -12,4 +13,4 @@ returns c =
     let ns = c.args.names.now in
     let all = c.loop-i.invariant ∙ ap strings (take_all c.loop-i.i ns (omega (arith, c.loop-i-test.false, c.len-i-end.ensures))) in
     let read = ap (map field_of) c.as_slice.ensures.value ∙ all in
-    c.in_ok-listing.ensures ∙ ap (λ ts. parts_with (firsts ts) Absent) read ∙ first_strings ns
+    IfOk-weaker c.of.result _ _ (λ l is. is ∙ ap (λ ts. parts_with (firsts ts) Absent) read ∙ first_strings ns) c.of.ensures
