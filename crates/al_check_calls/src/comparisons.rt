@@ -1,7 +1,6 @@
 //! Calls whose names are compared with those of a signature.
-ghost use Rattle.std.specs.Prelude.{◌≡◌, ◌++◌, [], map, option_map, IfOk, OnOk};
+ghost use Rattle.std.specs.Prelude.{◌≡◌, ◌++◌, [], map, IfOk, OnOk};
 ghost use Rattle.std.specs.List.{cons_option, flat_map};
-ghost use Rattle.std.specs.Option.{option_copied};
 ghost use Rattle.al_check_calls.specs.CallFaults as faults;
 ghost use Rattle.al_check_interfaces.specs.Uses.{site_caller};
 ghost use Rattle.al_check_calls.specs.Private.AnswerViews.{answered_of, compared_of};

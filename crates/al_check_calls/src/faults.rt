@@ -1,8 +1,8 @@
 //! The faults of the calls of a file.
-ghost use Rattle.std.specs.Prelude.{◌≡◌, ◌++◌, is_some, map, true, All, OnOk};
+ghost use Rattle.std.specs.Prelude.{◌≡◌, ◌++◌, is_some, map, All, OnOk};
 ghost use Rattle.std.specs.List.{flat_map};
 ghost use Rattle.al_base.specs.Growth.{SameSet};
-ghost use Rattle.al_check_calls.specs.Answers.{Typing, answered_faults};
+ghost use Rattle.al_check_calls.specs.Answers.{answered_faults};
 ghost use Rattle.al_check_calls.specs.Private.AnswerViews.{answered_of, typing_in};
 ghost use Rattle.al_check_calls.specs.Private.Comparing.{AreToldByUses, faults_but_names};
 ghost use Rattle.al_check_contexts.specs.Environments.{HasMoved, IsAtPosition, file_of};

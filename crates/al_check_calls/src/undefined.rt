@@ -2,13 +2,11 @@
 //! place, as behind an alias, have the same fault, and it is reported once.
 ghost use Rattle.std.specs.Prelude.{◌≡◌, ◌++◌, map, IfOk, IfSome, OnOk};
 ghost use Rattle.std.specs.List.{flat_map};
-ghost use Rattle.std.specs.List.Sorted.{IsPermutation};
 ghost use Rattle.al_base.specs.Growth.{SameSet};
 ghost use Rattle.al_check_calls.specs.CallFaults as meant;
 ghost use Rattle.al_check_calls.specs.Private.AnswerViews.{compared_of, name_of};
 ghost use Rattle.al_check_calls.specs.Private.Comparing as comparing;
-ghost use Rattle.al_check_calls.specs.Private.Comparing.{AreThere, HaveOneSignature, TellSignatures, TellSignaturesBy};
-ghost use Rattle.al_tree.specs.Values.{member_of};
+ghost use Rattle.al_check_calls.specs.Private.Comparing.{AreThere, HaveOneSignature, TellSignatures};
 
 use crate::comparisons::{Comparison, call_alike, given_by};
 use crate::reports::{called_name, code_at, uses_text};

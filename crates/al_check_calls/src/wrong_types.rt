@@ -3,7 +3,6 @@ ghost use Rattle.std.specs.Prelude.{◌≡◌, ◌++◌, List, map, OnOk};
 ghost use Rattle.std.specs.Option.{option_copied};
 ghost use Rattle.al_base.specs.declared.codes.Caller.TheVariants as by;
 ghost use Rattle.al_expr_types.specs.Types.{type_in};
-ghost use Rattle.al_tree.specs.Values.{member_of};
 ghost use Rattle.al_types.specs.Types.{Parts, assignable_type};
 ghost use Rattle.al_check_objects.specs.Inputs.{input_type};
 ghost use Rattle.al_check_calls.specs.CallFaults as meant;
