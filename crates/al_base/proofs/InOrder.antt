@@ -44,8 +44,8 @@ module _ {X : Type 0} {R : X → X → Ordering} (o : IsTotalOrder R) where
 
   -- The elements of a strictly sorted list are distinct.
   pub AllPairs-strict : (xs : List X) → IsStrictlySortedBy R xs → AllPairs (λ x y. x ≢ y) xs
-  AllPairs-strict xs s i j d behind within same =
-      not_below_itself (get_or xs i d) (subst (λ y. R (get_or xs i d) y ≡ Less) (sym same) (Less-from_sorted R xs i j d s behind within))
+  AllPairs-strict xs s i j d after within same =
+      not_below_itself (get_or xs i d) (subst (λ y. R (get_or xs i d) y ≡ Less) (sym same) (Less-from_sorted R xs i j d s after within))
 
 module _ {X : Type 0} {R : X → X → Ordering} (o : IsTotalOrder R) (same : IsAntisymmetric R) where
   -- case analysis of `with_one` on a list that is not empty

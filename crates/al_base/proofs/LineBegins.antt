@@ -4,8 +4,8 @@ use Rattle.al_base.specs.Positions.{ends_break, BeginsLine}
 use Rattle.al_base.proofs.Counting.{line_at-break, line_at-same}
 use Rattle.al_base.proofs.LineStarts.{line_at-le}
 
-pub begins_behind : (bytes : List ℕ) (k : ℕ) → ends_break bytes k ≡ true → BeginsLine bytes (k + 1) (k + 1)
-begins_behind bytes k e = record {
+pub begins_after : (bytes : List ℕ) (k : ℕ) → ends_break bytes k ≡ true → BeginsLine bytes (k + 1) (k + 1)
+begins_after bytes k e = record {
   order = omega arith;
   same = refl;
   first = λ j h. let low = line_at-le bytes j k (omega arith) in let up = line_at-break bytes k e in omega (arith, low, up);

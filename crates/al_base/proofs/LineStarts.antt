@@ -44,8 +44,8 @@ starts_to-same bytes n e = rw e (append-nil (starts_to bytes n))
 
 -- ---- the line starts, from the offsets of line feeds and carriage returns
 
-abbrev pub start_behind_break : List ℕ → ℕ → List ℕ
-start_behind_break bytes k = if ends_break bytes k then (k + 1) ∷ [] else []
+abbrev pub start_after_break : List ℕ → ℕ → List ℕ
+start_after_break bytes k = if ends_break bytes k then (k + 1) ∷ [] else []
 
 -- the bytes that the search looks for: line feed and carriage return
 abbrev pub break_bytes : ℕ → Bool
@@ -58,40 +58,40 @@ place_more true ends own before more k f rest e m h =
 place_more false ends own before more k f rest e m h =
     append_assoc before (if ends then own else []) more ∙ ap (λ l. before ++ l) (ap (λ b. (if b then own else []) ++ more) (h refl) ∙ m)
 
-starts_from : (bytes : List ℕ) (i n : ℕ) → starts_to bytes (i + n) ≡ starts_to bytes i ++ flat_map (start_behind_break bytes) (places_from break_bytes bytes i n)
+starts_from : (bytes : List ℕ) (i n : ℕ) → starts_to bytes (i + n) ≡ starts_to bytes i ++ flat_map (start_after_break bytes) (places_from break_bytes bytes i n)
 unfolding places_from
 starts_from bytes i zero = ap (starts_to bytes) (add-zero i) ∙ sym (append-nil (starts_to bytes i))
 starts_from bytes i (suc n) =
     let x = get_or bytes i 0 in
     let next : i + suc n ≡ suc i + n = omega arith in
-    let later : starts_to bytes (suc i + n) ≡ starts_to bytes (suc i) ++ flat_map (start_behind_break bytes) (places_from break_bytes bytes (i + 1) n) =
-    subst (λ m. starts_to bytes (m + n) ≡ starts_to bytes m ++ flat_map (start_behind_break bytes) (places_from break_bytes bytes (i + 1) n)) (add-one i)
+    let later : starts_to bytes (suc i + n) ≡ starts_to bytes (suc i) ++ flat_map (start_after_break bytes) (places_from break_bytes bytes (i + 1) n) =
+    subst (λ m. starts_to bytes (m + n) ≡ starts_to bytes m ++ flat_map (start_after_break bytes) (places_from break_bytes bytes (i + 1) n)) (add-one i)
     (starts_from bytes (i + 1) n) in
     ap (starts_to bytes) next ∙ later
-    ∙ place_more (break_bytes x) (ends_break bytes i) ((i + 1) ∷ []) (starts_to bytes i) _ i (start_behind_break bytes) (places_from break_bytes bytes (i + 1) n) refl refl
+    ∙ place_more (break_bytes x) (ends_break bytes i) ((i + 1) ∷ []) (starts_to bytes i) _ i (start_after_break bytes) (places_from break_bytes bytes (i + 1) n) refl refl
     (λ e. grind (arith, nat_tests))
 
 -- All line starts, from the offsets of these bytes.
-pub starts_by_places : (bytes : List ℕ) → 0 ∷ flat_map (start_behind_break bytes) (places break_bytes bytes) ≡ line_starts bytes
+pub starts_by_places : (bytes : List ℕ) → 0 ∷ flat_map (start_after_break bytes) (places break_bytes bytes) ≡ line_starts bytes
 starts_by_places bytes =
     let none : length bytes - 0 ≡ length bytes = omega arith in
     let all : 0 + length bytes ≡ length bytes = omega arith in
-    ap (λ n. 0 ∷ flat_map (start_behind_break bytes) (places_from break_bytes bytes 0 n)) none ∙ sym (starts_from bytes 0 (length bytes)) ∙ ap (starts_to bytes) all
+    ap (λ n. 0 ∷ flat_map (start_after_break bytes) (places_from break_bytes bytes 0 n)) none ∙ sym (starts_from bytes 0 (length bytes)) ∙ ap (starts_to bytes) all
 
 -- one step of the loop: the search found the byte at offset k
 module _ (bytes starts : List ℕ) (k : ℕ) (all rest : List ℕ) (is : all ≡ k ∷ rest) where
   after_place : (b : Bool) → ends_break bytes k ≡ b →
-      (starts ++ (if b then (k + 1) ∷ [] else [])) ++ flat_map (start_behind_break bytes) rest ≡ starts ++ flat_map (start_behind_break bytes) all
+      (starts ++ (if b then (k + 1) ∷ [] else [])) ++ flat_map (start_after_break bytes) rest ≡ starts ++ flat_map (start_after_break bytes) all
   after_place b e =
-      let more = flat_map (start_behind_break bytes) rest in
+      let more = flat_map (start_after_break bytes) rest in
       append_assoc starts (if b then (k + 1) ∷ [] else []) more ∙ ap (λ a. starts ++ ((if a then (k + 1) ∷ [] else []) ++ more)) (sym e)
-      ∙ ap (λ ks. starts ++ flat_map (start_behind_break bytes) ks) (sym is)
+      ∙ ap (λ ks. starts ++ flat_map (start_after_break bytes) ks) (sym is)
 
-  pub after_break : ends_break bytes k ≡ true → (starts ++ (k + 1) ∷ []) ++ flat_map (start_behind_break bytes) rest ≡ starts ++ flat_map (start_behind_break bytes) all
+  pub after_break : ends_break bytes k ≡ true → (starts ++ (k + 1) ∷ []) ++ flat_map (start_after_break bytes) rest ≡ starts ++ flat_map (start_after_break bytes) all
   after_break e = after_place true e
 
-  pub after_no_break : ends_break bytes k ≡ false → starts ++ flat_map (start_behind_break bytes) rest ≡ starts ++ flat_map (start_behind_break bytes) all
-  after_no_break e = ap (λ xs. xs ++ flat_map (start_behind_break bytes) rest) (sym (append-nil starts)) ∙ after_place false e
+  pub after_no_break : ends_break bytes k ≡ false → starts ++ flat_map (start_after_break bytes) rest ≡ starts ++ flat_map (start_after_break bytes) all
+  after_no_break e = ap (λ xs. xs ++ flat_map (start_after_break bytes) rest) (sym (append-nil starts)) ∙ after_place false e
 
 pub starts_to-length : (bytes : List ℕ) (n : ℕ) → length (starts_to bytes n) ≡ line_at bytes n
 starts_to-length bytes zero = refl
@@ -103,8 +103,8 @@ starts_to-length bytes (suc n) =
     ]
 
 -- A line starts directly after a break.
-start_behind : (bytes : List ℕ) (n : ℕ) → ends_break bytes n ≡ true → IsStart bytes (line_at bytes n) (n + 1)
-start_behind bytes n e = record {
+start_after : (bytes : List ℕ) (n : ℕ) → ends_break bytes n ≡ true → IsStart bytes (line_at bytes n) (n + 1)
+start_after bytes n e = record {
   line = line_at-break bytes n e;
   column = column_at-break bytes n e;
   before = λ k h. line_at-le bytes k n (omega arith);
@@ -115,9 +115,9 @@ pub record HasStart (bytes : List ℕ) (n i : ℕ) (starts : List ℕ) : Type 0 
   pub small : get_or starts i 0 ≤ n
   pub start : IsStart bytes i (get_or starts i 0)
 
-has_start_behind : (bytes xs : List ℕ) (n i : ℕ) → ends_break bytes n ≡ true → length xs ≡ line_at bytes n → i < length xs + 1
+has_start_after : (bytes xs : List ℕ) (n i : ℕ) → ends_break bytes n ≡ true → length xs ≡ line_at bytes n → i < length xs + 1
     → (i < length xs → HasStart bytes n i xs) → HasStart bytes (suc n) i (xs ++ (n + 1) ∷ [])
-has_start_behind bytes xs n i e len h given =
+has_start_after bytes xs n i e len h given =
     let most : i ≤ length xs = omega arith in
     elim (eq-or-lt_of_le most) [
       | inr l ↦
@@ -128,7 +128,7 @@ has_start_behind bytes xs n i e len h given =
       | inl g ↦
           let at : i ≡ line_at bytes n = g ∙ len in
           let same : get_or (xs ++ (n + 1) ∷ []) i 0 ≡ n + 1 = get_or_at xs (n + 1) [] 0 i (omega arith) in
-          record { small = rw same (omega arith); start = rw (same, at) (start_behind bytes n e) }
+          record { small = rw same (omega arith); start = rw (same, at) (start_after bytes n e) }
     ]
 
 pub start_at : (bytes : List ℕ) (n i : ℕ) → i < length (starts_to bytes n) → HasStart bytes n i (starts_to bytes n)
@@ -140,7 +140,7 @@ start_at bytes (suc n) i h =
           let same = starts_to-break bytes n e in
           let few : i < length (starts_to bytes n) + 1 = omega (arith, ap length same, length-append (starts_to bytes n) ((n + 1) ∷ []), h) in
           subst (HasStart bytes (suc n) i) (sym same)
-          (has_start_behind bytes (starts_to bytes n) n i e (starts_to-length bytes n) few (λ l. start_at bytes n i l))
+          (has_start_after bytes (starts_to bytes n) n i e (starts_to-length bytes n) few (λ l. start_at bytes n i l))
       | inr e ↦
           let same = starts_to-same bytes n e in
           let few : i < length (starts_to bytes n) = omega (arith, ap length same, h) in
@@ -171,8 +171,8 @@ start_of bytes i h = (start_at bytes (length bytes) i h).start
 pub some_start : (bytes : List ℕ) (offset r : ℕ) → ((k : ℕ) → r ≤ k → k < length (line_starts bytes) → offset < get_or (line_starts bytes) k 0) → 0 < r
 some_start bytes offset zero above =
     let some : 0 < length (line_starts bytes) = omega (arith, starts_to-length bytes (length bytes)) in
-    let behind = above 0 (omega arith) some in
-    let first = (start_of bytes 0 some).before 0 (omega (arith, behind)) in
+    let after = above 0 (omega arith) some in
+    let first = (start_of bytes 0 some).before 0 (omega (arith, after)) in
     absurd (omega (arith, first))
 some_start bytes offset (suc r) above = omega arith
 
@@ -208,8 +208,8 @@ pub line_of : (bytes starts : List ℕ) (offset r : ℕ) → starts ≡ line_sta
     → ((k : ℕ) → k < r → get_or starts k 0 ≤ offset)
     → ((k : ℕ) → r ≤ k → k < length starts → offset < get_or starts k 0)
     → IsLineOf bytes offset r (get_or starts (r - 1) 0)
-line_of bytes starts offset r made within bound up_to behind =
-    let above : 1 ≤ r = some_start bytes offset r (subst (λ (s : List ℕ). (k : ℕ) → r ≤ k → k < length s → offset < get_or s k 0) made behind) in
+line_of bytes starts offset r made within bound up_to after =
+    let above : 1 ≤ r = some_start bytes offset r (subst (λ (s : List ℕ). (k : ℕ) → r ≤ k → k < length s → offset < get_or s k 0) made after) in
     let few : r - 1 < length (line_starts bytes) = omega (arith, above, bound, ap length made) in
     let low : get_or starts (r - 1) 0 ≤ offset = up_to (r - 1) (omega (arith, above)) in
     let again : r - 1 + 1 ≡ r = omega (arith, above) in
@@ -217,7 +217,7 @@ line_of bytes starts offset r made within bound up_to behind =
     let most = line_at-small bytes (length bytes) in
     let at : line_at bytes offset ≡ r - 1 + 1 =
     line_at-start bytes offset (r - 1) within few (subst (λ (s : List ℕ). get_or s (r - 1) 0 ≤ offset) made low)
-    (λ l. subst (λ (s : List ℕ). offset < get_or s (r - 1 + 1) 0) made (behind (r - 1 + 1) (omega (arith, again)) (omega (arith, l, ap length made)))) in
+    (λ l. subst (λ (s : List ℕ). offset < get_or s (r - 1 + 1) 0) made (after (r - 1 + 1) (omega (arith, again)) (omega (arith, l, ap length made)))) in
     let start = start_of bytes (r - 1) few in
     rw made
     (record {

@@ -26,14 +26,14 @@ set_more xs ys zs s x = (
 )
 
 -- prepending the same list to both
-pub set_behind : {X : Type 0} (xs ys zs : List X) → SameSet ys zs → SameSet (xs ++ ys) (xs ++ zs)
-set_behind xs ys zs s x = (
+pub set_after : {X : Type 0} (xs ys zs : List X) → SameSet ys zs → SameSet (xs ++ ys) (xs ++ zs)
+set_after xs ys zs s x = (
   λ h. ⊎_elim (λ a. Contains-append_left xs zs x a) (λ b. Contains-append_right xs zs x ((s x).0 b)) (Contains-append_cases xs ys x h),
   λ h. ⊎_elim (λ a. Contains-append_left xs ys x a) (λ b. Contains-append_right xs ys x ((s x).1 b)) (Contains-append_cases xs zs x h),
 )
 
 pub set_both : {X : Type 0} (xs ys zs ws : List X) → SameSet xs ys → SameSet zs ws → SameSet (xs ++ zs) (ys ++ ws)
-set_both xs ys zs ws s t = set_trans (xs ++ zs) (ys ++ zs) (ys ++ ws) (set_more xs ys zs s) (set_behind ys zs ws t)
+set_both xs ys zs ws s t = set_trans (xs ++ zs) (ys ++ zs) (ys ++ ws) (set_more xs ys zs s) (set_after ys zs ws t)
 
 -- swapping the middle two of four lists
 mix : {X : Type 0} (as' bs cs ds : List X) (x : X) → Contains ((as' ++ bs) ++ (cs ++ ds)) x → Contains ((as' ++ cs) ++ (bs ++ ds)) x
@@ -56,8 +56,8 @@ pub set_there : {X : Type 0} (xs zs : List X) → ((x : X) → Contains zs x →
 set_there xs zs there x = (λ h. Contains-append_left xs zs x h, λ h. ⊎_elim (λ a. a) (λ b. there x b) (Contains-append_cases xs zs x h))
 
 -- The new list has what was found before the old one: the same elements as the old list with all of it appended.
-pub set_moved_behind : {X : Type 0} (old found whole new : List X) → new ≡ found ++ old → SameSet found whole → SameSet new (old ++ whole)
-set_moved_behind old found whole new e s = set_trans new (found ++ old) (old ++ whole) (same_set new (found ++ old) e) (λ x. (
+pub set_moved_after : {X : Type 0} (old found whole new : List X) → new ≡ found ++ old → SameSet found whole → SameSet new (old ++ whole)
+set_moved_after old found whole new e s = set_trans new (found ++ old) (old ++ whole) (same_set new (found ++ old) e) (λ x. (
   λ h. ⊎_elim (λ a. Contains-append_right old whole x ((s x).0 a)) (λ b. Contains-append_left old whole x b) (Contains-append_cases found old x h),
   λ h. ⊎_elim (λ a. Contains-append_right found old x a) (λ b. Contains-append_left found old x ((s x).1 b)) (Contains-append_cases old whole x h),
 ))

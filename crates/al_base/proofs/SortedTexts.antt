@@ -128,8 +128,8 @@ pub ties_at : {X K : Type 0} {R : K → K → Ordering} (total : IsTotalOrder R)
 ties_at {R = R} total key k x t y =
     let o : Ordering = R (key y) k in
     let ahead : R (key x) (key y) ≡ ordering_reverse o = total.congr (key x) k (key y) ((Equal-is (R (key x) k)).0 t) ∙ total.antisymm k (key y) in
-    let behind : R (key y) (key x) ≡ o = total.antisymm (key y) (key x) ∙ ap ordering_reverse ahead ∙ twice o in
-    ap (λ p. not (is_lt p) && not (is_lt (R (key y) (key x)))) ahead ∙ ap (λ p. not (is_lt (ordering_reverse o)) && not (is_lt p)) behind ∙ reverse_ties o
+    let after : R (key y) (key x) ≡ o = total.antisymm (key y) (key x) ∙ ap ordering_reverse ahead ∙ twice o in
+    ap (λ p. not (is_lt p) && not (is_lt (R (key y) (key x)))) ahead ∙ ap (λ p. not (is_lt (ordering_reverse o)) && not (is_lt p)) after ∙ reverse_ties o
 
 -- ---- sorting entries
 

@@ -2,7 +2,7 @@
 //!
 //! - faults, in `codes`, `args`, `faults`, `sink`, `lists` and `copies`: a span, a code and the texts of a message; where they go as they
 //!   are found; their order, and a file's list of them
-//! - names in which case does not count, in `names`, and where texts and names first stand in a list, in `name_positions` and
+//! - names in which case does not count, in `names`, and the first positions of texts and names in a list, in `name_positions` and
 //!   `sorted_texts`
 //! - paths, in `paths`: which texts name a file of a folder
 //! - control bytes of texts that are printed, in `controls`

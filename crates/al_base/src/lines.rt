@@ -122,7 +122,7 @@ impl Lines {
         requires { IsNonDecreasing self.now }
         ensures bound { result ≤ length self.now }
         ensures up_to { (k : ℕ) → k < result → slice_index self.now k ≤ offset }
-        ensures behind { (k : ℕ) → result ≤ k → k < length self.now
+        ensures after { (k : ℕ) → result ≤ k → k < length self.now
             → offset < slice_index self.now k }
     {
         self.starts.partition_point(|start| *start <= offset)

@@ -55,7 +55,7 @@ pub fn location_of(bytes: &[u8], offset: u32) -> Location
     }
 }
 
-// Whether a break ends right behind this byte: at an LF, or at a CR that no LF follows.
+// Whether a break ends right after this byte: at an LF, or at a CR that no LF follows.
 pub(crate) fn is_break_end(bytes: &[u8], at: usize) -> bool
     requires within { at < length bytes.now }
     requires small { length bytes.now ≤ largest_file }

@@ -26,7 +26,7 @@ ghost use Rattle.al_check.specs.RuleFaults.{rule_faults};
 
 use crate::printing::with_printed_args;
 use al_base::{Code, Fault, FaultSink, add_copies, fault_list};
-use al_check_calls::{Calling, behind_faults};
+use al_check_calls::{Calling, faults_with_answers};
 use al_check_interfaces::{FolderCall, Interface, calls_in, folder_calls, interface_of};
 use al_rules::rules;
 use al_scalar::YamlFault;
@@ -134,7 +134,7 @@ pub(crate) fn read_file(alloc: Global, source: Source<'_>) -> Result<ReadFile, A
 }
 
 /// Adds the faults that depend on the answers of the file's calls: those of its expressions and of its calls.
-fn add_behind(
+fn add_faults_with_answers(
     tree: &Tree,
     calls: &[FolderCall],
     answers: &[Option<&Interface>],
@@ -147,7 +147,7 @@ fn add_behind(
         (uses.targets_of (uses.calls_in (kind_in tree.now) (root_of tree.now)))
         (map (λ a. option_copied a) answers.now) }
     ensures { OnOk result (SameSet faults.new (faults.old
-        ++ file_calls.behind_faults (kind_in tree.now) (root_of tree.now)
+        ++ file_calls.faults_with_answers (kind_in tree.now) (root_of tree.now)
         (map (λ a. option_copied a) answers.now))) }
 {
     let file = Calling {
@@ -155,7 +155,7 @@ fn add_behind(
         root: tree.root(),
         calls,
     };
-    behind_faults(file, answers, faults)
+    faults_with_answers(file, answers, faults)
 }
 
 /// These faults as they are printed, in report order, each once.
@@ -184,7 +184,7 @@ fn document_faults(
         (map (λ a. option_copied a) answers.now)) }
 {
     let mut faults = FaultSink::new(alloc);
-    add_behind(tree, file.calls.as_slice(), answers, &mut faults)?;
+    add_faults_with_answers(tree, file.calls.as_slice(), answers, &mut faults)?;
     // The file's own faults, which are few, are appended to those found, which can be millions.
     let mut found = faults.into_faults();
     add_copies(alloc, &file.own, &mut found)?;

@@ -68,10 +68,10 @@ pub answered_more : (calls : List Call) (kept : List code.FolderCall) (i : ℕ) 
     (old new whole : List Answered) → i < length kept → call ≡ get_or kept i call → answer ≡ slice_index_or left 0 None → others ≡ drop 1 left →
     new ≡ old ++ cons_option (option_map (λ c. answered_by c answer) (slice_get calls call.number)) [] →
     old ++ answered_at calls (map (λ c. c.number) (drop i kept)) left ≡ whole → new ++ answered_at calls (map (λ c. c.number) (drop (i + 1) kept)) others ≡ whole
-answered_more calls kept i call left others answer old new whole room is first behind more so_far =
+answered_more calls kept i call left others answer old new whole room is first after more so_far =
     let one : drop i kept ≡ call ∷ drop (i + 1) kept = drop_more kept i call room ∙ sym (ap (λ c. c ∷ drop (i + 1) kept) is) in
     let numbers = map (λ (c : code.FolderCall). c.number) (drop (i + 1) kept) in
-    ap (λ l. new ++ answered_at calls numbers l) behind
+    ap (λ l. new ++ answered_at calls numbers l) after
     ∙ put_next (option_map (with_answer left) (slice_get calls call.number)) old new (answered_at calls numbers (drop 1 left)) whole
     (more ∙ ap (λ a. old ++ cons_option (option_map (λ c. answered_by c a) (slice_get calls call.number)) []) first)
     (ap (λ l. old ++ answered_at calls (map (λ c. c.number) l) left) (sym one) ∙ so_far)

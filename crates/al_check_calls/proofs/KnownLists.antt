@@ -17,10 +17,10 @@ use Rattle.al_check_calls.specs.Answers.{Answered}
 use Rattle.al_check_calls.specs.CallFaults.{callable_signature}
 use Rattle.al_check_interfaces.specs.Uses.{site_caller}
 use Rattle.al_check_interfaces.specs.declared.interfaces.Signature.{Signature}
-use Rattle.al_check_calls.specs.Outputs.{outputs_behind, shows_outputs}
+use Rattle.al_check_calls.specs.Outputs.{called_outputs, shows_outputs}
 use Rattle.al_check_calls.specs.Private.AnswerViews.{answered_of}
 use Rattle.al_check_calls.specs.declared.answers.Answered as code
-use Rattle.al_check_contexts.specs.Answered.{Behind, behind_of}
+use Rattle.al_check_contexts.specs.Answered.{OutputsOfCall, call_outputs}
 use Rattle.al_check_contexts.specs.declared.known.Answer.{Answer}
 use Rattle.al_check_calls.specs.Private.KnownLists.{ArePlaced, Naming, StandsAt, Takes, lists_of, position_of}
 use Rattle.al_check_calls.specs.Private.Comparing.{AreToldByUses}
@@ -131,13 +131,13 @@ takes_as {old} {new} {position = position} e f g h = subst (λ (x : Bool × List
 -- ---- the answers so far
 
 abbrev IsNamed : Naming → Answered → Type 0
-IsNamed naming a = naming (is_some a.call.site.step) a.call.text ≡ outputs_behind a
+IsNamed naming a = naming (is_some a.call.site.step) a.call.text ≡ called_outputs a
 
 -- The first `i` calls have these answers, if a naming gives the names of each call.
 abbrev pub AreKnown : List code.Answered → ℕ → Lists → List Answer → Type 0
 AreKnown answered i ls known =
     (naming : Naming) → All (IsNamed naming) (map answered_of answered)
-    → ArePlaced naming ls × ((more : List Names) → map (behind_of (lists_of ls ++ more)) known ≡ map known_of_call (map answered_of (take i answered)))
+    → ArePlaced naming ls × ((more : List Names) → map (call_outputs (lists_of ls ++ more)) known ≡ map known_of_call (map answered_of (take i answered)))
 
 named_at : (naming : Naming) (answered : List code.Answered) (i : ℕ) (a : code.Answered) → All (IsNamed naming) (map answered_of answered) →
     i < length answered → a ≡ get_or answered i a → IsNamed naming (answered_of a)
@@ -146,7 +146,7 @@ named_at naming answered i a named within is =
 
 -- one more call
 pub one_known : (answered : List code.Answered) (i : ℕ) (a : code.Answered) (old new : Lists) (known now : List Answer) (position : Option ℕ) → i < length answered →
-    a ≡ get_or answered i a → Takes old new (is_some (answered_of a).call.site.step) (answered_of a).call.text (outputs_behind (answered_of a)) position →
+    a ≡ get_or answered i a → Takes old new (is_some (answered_of a).call.site.step) (answered_of a).call.text (called_outputs (answered_of a)) position →
     now ≡ known ++ record { job = a.call.site.job; step = a.call.site.step; names = position } ∷ [] → AreKnown answered i old known → AreKnown answered (i + 1) new now
 one_known answered i a old new known now position within is takes pushed before naming named =
     let placed = (before naming named).0 in
@@ -154,19 +154,19 @@ one_known answered i a old new known now position within is takes pushed before 
     let stands = takes.stands naming told placed in
     let answer : Answer = record { job = a.call.site.job; step = a.call.site.step; names = position } in
     let calls : take (i + 1) answered ≡ take i answered ++ a ∷ [] = take_more answered i a within ∙ ap (λ x. take i answered ++ x ∷ []) (sym is) in
-    let behinds : map known_of_call (map answered_of (take (i + 1) answered)) ≡ map known_of_call (map answered_of (take i answered)) ++ known_of_call (answered_of a) ∷ [] =
+    let outputs : map known_of_call (map answered_of (take (i + 1) answered)) ≡ map known_of_call (map answered_of (take i answered)) ++ known_of_call (answered_of a) ∷ [] =
     ap (λ l. map known_of_call (map answered_of l)) calls ∙ ap (map known_of_call) (map-append answered_of (take i answered) (a ∷ []))
     ∙ map-append known_of_call (map answered_of (take i answered)) (answered_of a ∷ []) in (
       takes.placed naming told placed,
       λ more.
-          let seen : Answer → Behind = behind_of (lists_of new ++ more) in
+          let seen : Answer → OutputsOfCall = call_outputs (lists_of new ++ more) in
           let here : seen answer ≡ known_of_call (answered_of a) =
           ap (λ (names : Option Names). record { job = (answered_of a).call.site.job; step = a.call.site.step; names = names }) (stands more) in
           let so_far : map seen known ≡ map known_of_call (map answered_of (take i answered)) =
-          ap (λ ls. map (behind_of ls) known) (ap (λ ls. ls ++ more) takes.grown ∙ append_assoc (lists_of old) takes.added more)
+          ap (λ ls. map (call_outputs ls) known) (ap (λ ls. ls ++ more) takes.grown ∙ append_assoc (lists_of old) takes.added more)
           ∙ (before naming named).1 (takes.added ++ more) in
           ap (map seen) pushed ∙ map-append seen known (answer ∷ [])
-          ∙ (λ j. so_far j ++ here j ∷ []) ∙ sym behinds,
+          ∙ (λ j. so_far j ++ here j ∷ []) ∙ sym outputs,
     )
 
 abbrev outputs_in : Signature → Option (List (List ℕ))
@@ -179,12 +179,12 @@ naming_of found told of_step text =
 
 -- all calls
 pub all_known : (answered : List code.Answered) (i : ℕ) (ls : Lists) (known : List Answer) → length answered ≤ i → AreToldByUses (map answered_of answered) →
-    AreKnown answered i ls known → map (behind_of (lists_of ls)) known ≡ map known_of_call (map answered_of answered)
+    AreKnown answered i ls known → map (call_outputs (lists_of ls)) known ≡ map known_of_call (map answered_of answered)
 all_known answered i ls known end told so_far =
     let found = map answered_of answered in
     let naming = naming_of found told in
     let IsAnswered : Answered → Type 0 = λ a. a.answer ≡ told.answer (site_caller a.call.site) a.call.text in
     let named = All-weaker IsAnswered (IsNamed naming) (λ a h. ap (λ o. option_and_then outputs_in (callable_signature (site_caller a.call.site) o)) (sym h))
     found (All-from_recursion IsAnswered found told.told) in
-    ap (λ l. map (behind_of l) known) (sym (append-nil (lists_of ls))) ∙ (so_far naming named).1 []
+    ap (λ l. map (call_outputs l) known) (sym (append-nil (lists_of ls))) ∙ (so_far naming named).1 []
     ∙ ap (λ l. map known_of_call (map answered_of l)) (take_all i answered end)

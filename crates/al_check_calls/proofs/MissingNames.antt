@@ -12,7 +12,7 @@ use Rattle.std.proofs.lemmas.List.Elements.{All-contains, All-from_recursion, Co
 use Rattle.std.proofs.lemmas.List.Sorted.{IsPermutation-map}
 use Rattle.al_base.proofs.Elements.{each_either}
 use Rattle.al_base.proofs.Growing.{same_set}
-use Rattle.al_base.proofs.Sets.{from_flat_map, head_in, in_flat_map, set_behind, set_permuted, set_trans}
+use Rattle.al_base.proofs.Sets.{from_flat_map, head_in, in_flat_map, set_after, set_permuted, set_trans}
 use Rattle.al_base.specs.Growth.{SameSet}
 use Rattle.al_base.specs.contracts.faults.SpanPartialEq.TheImpl as span_eq
 use Rattle.al_base.specs.declared.codes.Code.TheVariants as kind_of_code
@@ -123,9 +123,9 @@ pub order_found : (calls sorted : List code.Comparison) (old new : List Fault) â
     SameSet new (old ++ flat_map missing_of (map compared_of sorted)) â†’ SameSet new (old ++ flat_map missing_of (map compared_of calls))
 order_found calls sorted old new order is =
     let before = flat_map missing_of (map compared_of calls) in
-    let behind = flat_map missing_of (map compared_of sorted) in
-    set_trans new (old ++ behind) (old ++ before) is
-    (set_behind old behind before (set_permuted missing_of (map compared_of calls) (map compared_of sorted) (IsPermutation-map compared_of calls sorted order)))
+    let rest = flat_map missing_of (map compared_of sorted) in
+    set_trans new (old ++ rest) (old ++ before) is
+    (set_after old rest before (set_permuted missing_of (map compared_of calls) (map compared_of sorted) (IsPermutation-map compared_of calls sorted order)))
 
 -- ---- undefined and missing names of all calls
 

@@ -2,7 +2,7 @@
 use Rattle.std.proofs.Common.{◌≡◌, List, ◌++◌, append_assoc}
 use Rattle.std.specs.List.{flat_map}
 use Rattle.al_base.proofs.Growing.{same_set}
-use Rattle.al_base.proofs.Sets.{set_behind, set_more, set_split, set_sym, set_trans}
+use Rattle.al_base.proofs.Sets.{set_after, set_more, set_split, set_sym, set_trans}
 use Rattle.al_base.specs.Growth.{SameSet}
 
 pub in_parts : {X Y : Type 0} (f g h : X → List Y) → ((x : X) → f x ≡ g x ++ h x) → (xs : List X) (old mid new : List Y) →
@@ -15,4 +15,4 @@ in_parts f g h each xs old mid new first second =
     set_trans new (mid ++ hs) (old ++ all) second
     (set_trans (mid ++ hs) ((old ++ gs) ++ hs) (old ++ all) (set_more mid (old ++ gs) hs first)
     (set_trans ((old ++ gs) ++ hs) (old ++ (gs ++ hs)) (old ++ all) (same_set _ _ (append_assoc old gs hs))
-    (set_behind old (gs ++ hs) all (set_sym all (gs ++ hs) split))))
+    (set_after old (gs ++ hs) all (set_sym all (gs ++ hs) split))))

@@ -13,7 +13,7 @@ use Rattle.std.proofs.lemmas.List.Folds.{flat_map-map}
 use Rattle.std.proofs.lemmas.List.Sorted.{IsPermutation-map}
 use Rattle.std.proofs.lemmas.Slice.Eq.{bytes_eq-Decides}
 use Rattle.al_base.proofs.Growing.{same_set}
-use Rattle.al_base.proofs.Sets.{from_flat_map, set_behind, set_permuted, set_there, set_trans}
+use Rattle.al_base.proofs.Sets.{from_flat_map, set_after, set_permuted, set_there, set_trans}
 use Rattle.al_base.specs.Growth.{SameSet}
 use Rattle.al_base.specs.contracts.faults.SpanPartialEq.TheImpl as span_eq
 use Rattle.al_base.specs.declared.codes.Code.TheVariants as kind_of_code
@@ -60,7 +60,7 @@ names_found qs found given old new are order is =
     let moved = set_permuted undefined_at (map name_of found) (map name_of given) (IsPermutation-map name_of found given order) in
     let all : flat_map undefined_at (map name_of found) ≡ flat_map undefined_of qs = ap (flat_map undefined_at) are ∙ all_names qs in
     set_trans new (old ++ flat_map undefined_at (map name_of given)) (old ++ flat_map undefined_of qs) is
-    (set_behind old (flat_map undefined_at (map name_of given)) (flat_map undefined_of qs)
+    (set_after old (flat_map undefined_at (map name_of given)) (flat_map undefined_of qs)
     (set_trans (flat_map undefined_at (map name_of given)) (flat_map undefined_at (map name_of found)) (flat_map undefined_of qs) moved (same_set _ _ all)))
 
 -- faults that were added are in the list

@@ -11,19 +11,19 @@ use Rattle.al_tree.specs.declared.files.FileKind.{FileKind}
 use Rattle.al_tree.specs.declared.files.FileKind.TheVariants as kind
 use Rattle.al_check_places.specs.Places.{Place, place_at}
 use Rattle.al_check_places.specs.Ways.{under}
-use Rattle.al_check_contexts.specs.Answered.{Behind, known_in}
+use Rattle.al_check_contexts.specs.Answered.{OutputsOfCall, known_in}
 use Rattle.al_check_contexts.specs.Contexts.{OutputNames}
 use Rattle.al_check_contexts.specs.Scopes.{scope_at}
 use Rattle.al_check_expressions.specs.FileExpressions.{expression_faults}
 use Rattle.al_check_interfaces.specs.declared.interfaces.Interface.{Interface}
 use Rattle.al_check_interfaces.specs.Uses.{calls_in}
 use Rattle.al_check_calls.specs.Answers.{Answered, Typing, calls_with_answers, answered_faults}
-use Rattle.al_check_calls.specs.Outputs.{outputs_behind}
+use Rattle.al_check_calls.specs.Outputs.{called_outputs}
 use Rattle.al_check_calls.specs.Types.{type_of_given}
 
 -- what is known of the outputs of a call
-abbrev pub known_of_call : Answered → Behind
-known_of_call a = record { job = a.call.site.job; step = a.call.site.step; names = outputs_behind a }
+abbrev pub known_of_call : Answered → OutputsOfCall
+known_of_call a = record { job = a.call.site.job; step = a.call.site.step; names = called_outputs a }
 
 abbrev pub known_from_calls : List Answered → OutputNames
 known_from_calls found = known_in (map known_of_call found)
@@ -49,8 +49,8 @@ faults_by kind root found =
     expression_faults kind (known_from_calls found) root
     ++ flat_map (answered_faults (typing kind (known_from_calls found) root)) found
 
-abbrev pub behind_faults : FileKind → Node → List (Option Interface) → List Fault
-behind_faults kind root answers =
+abbrev pub faults_with_answers : FileKind → Node → List (Option Interface) → List Fault
+faults_with_answers kind root answers =
     faults_by kind root (calls_with_answers (calls_in kind root) answers)
 
 -- each text of a node, keys included, is UTF-8 and short enough to have expressions

@@ -13,5 +13,5 @@ shows_outputs role.Action = false
 shows_outputs r = true
 
 -- the outputs of a call, if they are known
-abbrev pub outputs_behind : Answered → Option (List (List ℕ))
-outputs_behind a = option_and_then (λ s. then_some (shows_outputs s.role) s.outputs) (callable_signature (site_caller a.call.site) a.answer)
+abbrev pub called_outputs : Answered → Option (List (List ℕ))
+called_outputs a = option_and_then (λ s. then_some (shows_outputs s.role) s.outputs) (callable_signature (site_caller a.call.site) a.answer)

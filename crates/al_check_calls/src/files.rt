@@ -20,7 +20,7 @@ ghost use Rattle.al_yaml_tree.specs.View.{view};
 
 use crate::answers::{Answered, with_answers};
 use crate::faults::check_calls;
-use crate::known::known_behind;
+use crate::known::known_outputs;
 use al_base::FaultSink;
 use al_check_contexts::{Env, File};
 use al_check_expressions::expression_faults;
@@ -29,7 +29,7 @@ use al_tree::FileKind;
 use al_yaml_tree::Node;
 use std::alloc::AllocError;
 
-/// Adds the faults of a file's expressions and calls, given what is known of the outputs behind the calls.
+/// Adds the faults of a file's expressions and calls, given what is known of the outputs of the calls.
 fn check_file<'a>(
     file: File<'a>,
     answered: &[Answered<'a>],
@@ -64,7 +64,7 @@ fn check_with_answers<'a>(
         (SameSet faults.new (faults.old
         ++ file_calls.faults_by kind (view root.now) (map answered_of answered.now))) }
 {
-    let known = known_behind(faults.alloc(), answered)?;
+    let known = known_outputs(faults.alloc(), answered)?;
     check_file(known.file(kind, root), answered, faults)?;
     Ok(())
 }
@@ -83,7 +83,7 @@ pub struct Calling<'a> {
 /// Of equal faults, as of calls behind aliases, at least one is added.
 ///
 /// Offsets of the file's nodes are at most 1,048,576, and its texts are UTF-8. Fails with `AllocError` when out of memory.
-pub fn behind_faults<'a>(
+pub fn faults_with_answers<'a>(
     file: Calling<'a>,
     answers: &[Option<&'a Interface>],
     faults: &mut FaultSink,
@@ -94,7 +94,7 @@ pub fn behind_faults<'a>(
     requires answers { AreAnswers (uses.targets_of (uses.calls_in file.kind (view file.root.now)))
         (map (λ a. option_copied a) answers.now) }
     ensures { let f = file.entry in OnOk result (SameSet faults.new (faults.old
-        ++ file_calls.behind_faults f.kind (view f.root.now)
+        ++ file_calls.faults_with_answers f.kind (view f.root.now)
         (map (λ a. option_copied a) answers.now))) }
 {
     let alloc = faults.alloc();

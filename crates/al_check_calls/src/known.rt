@@ -1,10 +1,10 @@
 //! What is known of outputs from the answers of calls.
 ghost use Rattle.std.specs.Prelude.{◌≡◌, map, is_some, IfOk, Some};
-ghost use Rattle.al_check_calls.specs.Outputs.{outputs_behind};
+ghost use Rattle.al_check_calls.specs.Outputs.{called_outputs};
 ghost use Rattle.al_check_calls.specs.Private.AnswerViews.{answered_of};
 ghost use Rattle.al_check_contexts.specs.Answered.{known_in, known_of};
 ghost use Rattle.al_check_calls.specs.FileCalls.{known_of_call};
-ghost use Rattle.al_check_calls.specs.Private.KnownLists.{ArePlaced, Naming, Takes, behind_all, position_of};
+ghost use Rattle.al_check_calls.specs.Private.KnownLists.{ArePlaced, Naming, Takes, all_call_outputs, position_of};
 ghost use Rattle.al_check_calls.specs.Private.Comparing.{AreToldByUses};
 ghost use Rattle.al_yaml_tree.specs.View.{view};
 
@@ -18,7 +18,7 @@ use al_yaml_tree::Node;
 use std::alloc::{AllocError, Global};
 use std::collections::BTreeMap;
 
-/// The lists of names of the outputs behind calls. Steps that call by the same text share a list, and so do jobs.
+/// The lists of names of the outputs of calls. Steps that call by the same text share a list, and so do jobs.
 #[derive(Drop)]
 struct Lists<'a> {
     /// The positions of the lists, by whether a step calls, and by which text.
@@ -36,14 +36,14 @@ impl<'a> Lists<'a> {
         }
     }
 
-    /// The position of the outputs behind the calls by a text, if they have one.
+    /// The position of the outputs of the calls by a text, if they have one.
     fn known_position(&self, of_step: bool, text: &'a [u8]) -> Option<usize>
         ensures { result ≡ position_of self.now of_step text.entry.now }
     {
         self.positions.get(&(of_step, text)).copied()
     }
 
-    /// Adds the list of the outputs behind the calls by a text that has no position yet, and returns its position. Fails with
+    /// Adds the list of the outputs of the calls by a text that has no position yet, and returns its position. Fails with
     /// `AllocError` when out of memory, as everything here does.
     fn add(
         &mut self,
@@ -61,7 +61,7 @@ impl<'a> Lists<'a> {
         Ok(position)
     }
 
-    /// The position of the list of the outputs behind the calls by a text.
+    /// The position of the list of the outputs of the calls by a text.
     fn position_by(
         &mut self,
         of_step: bool,
@@ -81,11 +81,11 @@ impl<'a> Lists<'a> {
         }
     }
 
-    /// The position of the outputs behind a call; `None` if nothing is known of them.
+    /// The position of the outputs of a call; `None` if nothing is known of them.
     fn position(&mut self, answered: Answered<'a>) -> Result<Option<usize>, AllocError>
         ensures { let a = answered_of answered.entry in IfOk result
             (λ position. Takes self.old self.new (is_some a.call.site.step) a.call.text
-            (outputs_behind a) position) }
+            (called_outputs a) position) }
     {
         match outputs_of(answered) {
             None => Ok(None),
@@ -98,7 +98,7 @@ impl<'a> Lists<'a> {
     }
 }
 
-/// What is known of the outputs behind the calls of a file.
+/// What is known of the outputs of the calls of a file.
 #[derive(Drop)]
 pub(crate) struct KnownOutputs<'a> {
     answers: Vec<Answer<'a>>,
@@ -110,7 +110,7 @@ impl KnownOutputs<'_> {
     pub(crate) fn file<'k>(&'k self, kind: FileKind, root: &'k Node) -> File<'k>
         ensures kind { result.kind ≡ kind }
         ensures root { view result.root.now ≡ view root.now }
-        ensures known { known_of result.known ≡ known_in (behind_all self.now) }
+        ensures known { known_of result.known ≡ known_in (all_call_outputs self.now) }
     {
         let answers = self.answers.as_slice();
         let lists = self.lists.lists.as_slice();
@@ -119,14 +119,14 @@ impl KnownOutputs<'_> {
     }
 }
 
-/// What is known of the outputs behind some calls, in order. Steps, or jobs, that call by the same text have the same answer, and so the
+/// What is known of the outputs of some calls, in order. Steps, or jobs, that call by the same text have the same answer, and so the
 /// same position.
-pub(crate) fn known_behind<'a>(
+pub(crate) fn known_outputs<'a>(
     alloc: Global,
     answered: &[Answered<'a>],
 ) -> Result<KnownOutputs<'a>, AllocError>
     requires { AreToldByUses (map answered_of answered.now) }
-    ensures { IfOk result (λ known. behind_all known ≡ map known_of_call (map answered_of answered.now)) }
+    ensures { IfOk result (λ known. all_call_outputs known ≡ map known_of_call (map answered_of answered.now)) }
 {
     let mut lists = Lists::new(alloc);
     let mut answers = Vec::new(alloc);

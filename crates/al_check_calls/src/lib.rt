@@ -20,5 +20,5 @@ mod values;
 mod wrong_types;
 
 pub use examples::rows;
-pub use files::{Calling, behind_faults};
+pub use files::{Calling, faults_with_answers};
 pub use laws::faults_lie;

@@ -1,4 +1,4 @@
--- What is known of outputs, found by place: answers put one in front of another.
+-- What is known of outputs, found by place: answers prepended one by one.
 use Rattle.std.proofs.Common.{◌≡◌, ◌<◌, ◌+◌, ℕ, List, [], refl, sym, ap, ◌∙◌, Bool, true, false, ◌&&◌, cond, Option, Some, None, option_map, Bor, arith}
 use Rattle.std.proofs.Common.{drop, get_or, length, map}
 use Rattle.std.proofs.Math.Bool.{and-false, and-true}
@@ -16,7 +16,7 @@ use Rattle.std.specs.Slice.{IsItemAt}
 use Rattle.std.specs.Str.{bytes_eq}
 use Rattle.std.specs.declared.cmp.Ordering.{Ordering}
 use Rattle.std.specs.declared.cmp.Ordering.TheVariants.{Equal}
-use Rattle.al_check_contexts.specs.Answered.{Behind, is_at, behind_of}
+use Rattle.al_check_contexts.specs.Answered.{OutputsOfCall, is_at, call_outputs}
 use Rattle.al_expr_types.specs.declared.name_list.NameList.{NameList}
 use Rattle.al_check_contexts.specs.Lookups.{Found, and_found, found_at, known_by, list_at}
 use Rattle.al_check_contexts.specs.declared.known.Answer.{Answer}
@@ -99,11 +99,11 @@ list_found lists i (Some x) item =
     sym (slice_get-map (λ l. l.now) lists i
     ∙ ap (option_map (λ l. l.now)) (slice_get_read lists (length lists) i x.now refl item.3.0 item.1))
 
--- behind the lists none stands
-pub none_behind : (lists : List (List (List ℕ))) (i : ℕ) → i ≡ length lists → slice_get lists i ≡ None
-none_behind lists i e = slice_get_past lists i (omega (arith, e))
+-- past the lists there is none
+pub none_after : (lists : List (List (List ℕ))) (i : ℕ) → i ≡ length lists → slice_get lists i ≡ None
+none_after lists i e = slice_get_past lists i (omega (arith, e))
 
--- ---- an answer put in front
+-- ---- a prepended answer
 
 chosen : {V W : Type 0} (f : V → W) (b : Bool) (v : V) (o : Option V) → option_map f (cond b (Some v) o) ≡ (if b then Some (f v) else option_map f o)
 chosen f true v o = refl
@@ -123,21 +123,21 @@ put_found old new key position u =
 
 -- ---- all answers
 
-abbrev pub found_in : List Behind → Found
+abbrev pub found_in : List OutputsOfCall → Found
 found_in bs job step = option_map (λ b. b.names) (find (is_at job step) bs)
 
--- one answer more, in front
+-- one more answer, prepended
 pub found_more : (lists : List (List (List ℕ))) (answers : List Answer) (i k : ℕ) (d : Answer) (old new : Found) → i < length answers → k ≡ i + 1 →
-    new ≡ and_found (behind_of lists (get_or answers i d)) old → old ≡ found_in (map (behind_of lists) (drop k answers)) →
-    new ≡ found_in (map (behind_of lists) (drop i answers))
+    new ≡ and_found (call_outputs lists (get_or answers i d)) old → old ≡ found_in (map (call_outputs lists) (drop k answers)) →
+    new ≡ found_in (map (call_outputs lists) (drop i answers))
 found_more lists answers i k d old new within next put so_far =
-    let b = behind_of lists (get_or answers i d) in
-    let rest = map (behind_of lists) (drop (i + 1) answers) in
-    put ∙ ap (and_found b) (so_far ∙ ap (λ n. found_in (map (behind_of lists) (drop n answers))) next)
-    ∙ (λ e job step. sym (chosen (λ (x : Behind). x.names) (is_at job step b) b (find (is_at job step) rest)) e)
-    ∙ ap (λ l. found_in (map (behind_of lists) l)) (sym (drop_more answers i d within))
+    let b = call_outputs lists (get_or answers i d) in
+    let rest = map (call_outputs lists) (drop (i + 1) answers) in
+    put ∙ ap (and_found b) (so_far ∙ ap (λ n. found_in (map (call_outputs lists) (drop n answers))) next)
+    ∙ (λ e job step. sym (chosen (λ (x : OutputsOfCall). x.names) (is_at job step b) b (find (is_at job step) rest)) e)
+    ∙ ap (λ l. found_in (map (call_outputs lists) l)) (sym (drop_more answers i d within))
 
 -- where nothing was put
-pub none_found : (o : Outputs) (bs : List Behind) → o.positions.entries ≡ [] → bs ≡ [] → found_at o ≡ found_in bs
+pub none_found : (o : Outputs) (bs : List OutputsOfCall) → o.positions.entries ≡ [] → bs ≡ [] → found_at o ≡ found_in bs
 unfolding found_at
 none_found o bs e h = (λ d job step. option_map (option_and_then (list_at o)) (lookup (is_at_key (place_cmp job step)) (e d))) ∙ ap found_in (sym h)

@@ -31,7 +31,7 @@ use Rattle.al_check_contexts.specs.declared.steps.StepFields.{StepFields}
 use Rattle.al_check_objects.proofs.FieldLists.{put_all_more}
 use Rattle.al_expr_types.proofs.FieldMaps.{fields_stay}
 
--- ---- the first of fields, where more are put behind them
+-- ---- the first of fields, with more appended
 
 kept_step : (b : Bool) (n : ℕ) (q : TypedName) (qs more : List TypedName) → take n more ≡ take n qs → take (suc n) (if b then q ∷ qs else q ∷ more) ≡ take (suc n) (q ∷ qs)
 kept_step true n q qs more e = refl

@@ -7,7 +7,7 @@ use Rattle.std.specs.Ordering.{nat_cmp, ordering_then}
 use Rattle.al_types.specs.Strings.{named_strings}
 use Rattle.al_types.specs.Types.{Type', Any, String}
 use Rattle.al_yaml_tree.specs.Node.{Node}
-use Rattle.al_check_contexts.specs.Answered.{Behind, is_at}
+use Rattle.al_check_contexts.specs.Answered.{OutputsOfCall, is_at}
 use Rattle.al_check_contexts.specs.Contexts.{OutputNames, job_field, step_type}
 use Rattle.al_check_objects.specs.Objects.{loose_any, loose_strings, strictly}
 use Rattle.al_check_contexts.specs.declared.known.Outputs.{Outputs}
@@ -29,7 +29,7 @@ found_at o job step =
     (λ k. ordering_then (option_cmp (slice_cmp nat_cmp) job (option_copied k.0)) (option_cmp nat_cmp step k.1)) o.positions)
 
 -- with one more answer before the others
-abbrev pub and_found : Behind → Found → Found
+abbrev pub and_found : OutputsOfCall → Found → Found
 and_found b found job step = if is_at job step b then Some b.names else found job step
 
 abbrev pub known_by : Outputs → OutputNames

@@ -16,7 +16,7 @@ pub(crate) struct Basis<'a> {
     pub(crate) alloc: Global,
     pub(crate) file: File<'a>,
     pub(crate) jobs: JobList<'a>,
-    /// What is known of the outputs behind calls.
+    /// What is known of the outputs of calls.
     pub(crate) outputs: Outputs<'a>,
     /// The type of `strategy` in jobs.
     pub(crate) strategy: Ty,

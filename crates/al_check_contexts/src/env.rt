@@ -27,7 +27,7 @@ use al_types::Available;
 use al_yaml_tree::Node;
 use std::alloc::{AllocError, Global};
 
-/// A file: its kind, its tree, and what is known of the outputs behind its calls.
+/// A file: its kind, its tree, and what is known of the outputs of its calls.
 #[derive(Clone, Copy)]
 pub struct File<'a> {
     pub kind: FileKind,

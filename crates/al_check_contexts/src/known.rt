@@ -1,4 +1,4 @@
-//! What is known of the outputs behind calls.
+//! What is known of the outputs of calls.
 ghost use Rattle.std.specs.Prelude.{◌≡◌, IfOk, length, option_and_then, option_map};
 ghost use Rattle.std.specs.Option.{option_copied};
 ghost use Rattle.al_check_contexts.specs.Answered.{known_of};
@@ -8,7 +8,7 @@ use al_expr_types::NameList;
 use std::alloc::{AllocError, Global};
 use std::collections::BTreeMap;
 
-/// What is known of the outputs behind a call: of a job, by its key; of a step of a job, by the job's key and the step's index; of a step
+/// What is known of the outputs of a call: of a job, by its key; of a step of a job, by the job's key and the step's index; of a step
 /// of an action, by its index. Of several answers at one place the first counts.
 #[derive(Clone, Copy)]
 pub struct Answer<'a> {
@@ -21,7 +21,7 @@ pub struct Answer<'a> {
     pub names: Option<usize>,
 }
 
-/// What is known of the outputs behind the calls of a file. Calls with the same position in `lists` have the same outputs, whose type is
+/// What is known of the outputs of the calls of a file. Calls with the same position in `lists` have the same outputs, whose type is
 /// made once.
 #[derive(Clone, Copy)]
 pub struct Answers<'a> {
@@ -74,7 +74,7 @@ impl<'a> Outputs<'a> {
         }
     }
 
-    /// The position of the list of the outputs behind a call, or `unknown`. Calls with the same position have the same outputs.
+    /// The position of the list of the outputs of a call, or `unknown`. Calls with the same position have the same outputs.
     pub(crate) fn position(&self, job: Option<&'a [u8]>, step: Option<usize>) -> usize
         ensures { list_at self.now result ≡ known_by self.now (option_copied job.entry) step }
     {

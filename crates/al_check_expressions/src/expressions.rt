@@ -54,7 +54,7 @@ fn check_each<'a>(
 }
 
 /// Adds the faults of all expressions of the environment's file, X1 to X20, with spans in the file, given what is known of the outputs
-/// behind its calls. Moves the environment to the last place with an expression.
+/// of its calls. Moves the environment to the last place with an expression.
 ///
 /// Offsets of the file's nodes are at most 1,048,576, and its texts are UTF-8. Fails with `AllocError` when out of memory; what the sink
 /// holds then is unspecified.

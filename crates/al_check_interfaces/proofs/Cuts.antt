@@ -12,7 +12,7 @@ use Rattle.al_check_interfaces.specs.Forms.{is_cut, is_cut_at, is_some_text}
 pub all_more : (ds : List (List ℕ)) (l : List ℕ) → list_all is_some_text (ds ++ l ∷ []) ≡ (list_all is_some_text ds && is_some_text l)
 all_more ds l = list_all-append is_some_text ds (l ∷ []) ∙ ap (λ b. list_all is_some_text ds && b) (and-true (is_some_text l))
 
--- puts bytes in front of the first part
+-- prepends bytes to the first part
 abbrev pub onto : List ℕ → List (List ℕ) → List (List ℕ)
 onto [] ps = ps
 onto (b ∷ bs) ps = onto_first b (onto bs ps)

@@ -8,7 +8,7 @@ ghost use Rattle.std.specs.Prelude.{◌≡◌, codes};
 /// What some texts of `uses` name, by the definition. Does nothing at run time.
 pub fn rows()
     ensures folder { form_by Step (codes "./a") ≡ Local (FirstOf (codes "a/action.yml") (codes "a/action.yaml")) }
-    ensures slash_behind { form_by Step (codes "./a/") ≡ Local (FirstOf (codes "a/action.yml") (codes "a/action.yaml")) }
+    ensures slash_after { form_by Step (codes "./a/") ≡ Local (FirstOf (codes "a/action.yml") (codes "a/action.yaml")) }
     ensures root { form_by Step (codes "./") ≡ Local (FirstOf (codes "action.yml") (codes "action.yaml")) }
     ensures root_with_a_slash { form_by Step (codes ".//") ≡ Local (FirstOf (codes "action.yml") (codes "action.yaml")) }
     ensures two_slashes { form_by Step (codes "./a//") ≡ Other }
@@ -22,7 +22,7 @@ pub fn rows()
     ensures cut_at_a_later_at { form_by Step (codes "a/@b/c@d") ≡ Other }
     ensures ref_ends_in_a_slash { form_by Step (codes "a/b@v/") ≡ Other }
     ensures ref_is_an_at { form_by Step (codes "a/b@@") ≡ Other }
-    ensures nothing_behind_the_at { form_by Step (codes "a/b@") ≡ Wrong }
+    ensures nothing_after_the_at { form_by Step (codes "a/b@") ≡ Wrong }
     ensures empty_part { form_by Step (codes "a/b/@v") ≡ Wrong }
     ensures no_repository { form_by Step (codes "a@v") ≡ Wrong }
     ensures no_ref { form_by Step (codes "a/b") ≡ Wrong }

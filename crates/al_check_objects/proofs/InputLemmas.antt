@@ -66,8 +66,8 @@ module _ (ty : Node × Node → Type') where
       put_all put_new ts (map field ((if b then [] else e ∷ []) ++ rest)) ≡ ts ++ map field ((if b then [] else e ∷ []) ++ rest)
   named_step seen ts e rest true is h more = more ts (among_wider ts seen (key_of e) h)
   named_step seen ts e rest false is h more =
-      let behind = put_last ts (field e) (none_among (has_name ts (key_of e)) (named_among seen (key_of e)) (h (key_of e)) is) in
-      ap (λ us. put_all put_new us (map field rest)) behind
+      let after = put_last ts (field e) (none_among (has_name ts (key_of e)) (named_among seen (key_of e)) (h (key_of e)) is) in
+      ap (λ us. put_all put_new us (map field rest)) after
       ∙ more (ts ++ field e ∷ []) (among_more ts seen (field e) h)
       ∙ append_assoc ts (field e ∷ []) (map field rest)
 

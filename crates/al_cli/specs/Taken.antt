@@ -52,10 +52,10 @@ AreCalled first (e ∷ es) = (is_among e.0 (called_by first) ≡ true) × AreCal
 -- Files in order: first those that these FILEs ask for, then others, each called by a file before it.
 pub record AreInOrder (words : List (List ℕ)) (files : List (List ℕ × List ℕ)) : Type 0 where
   pub first : List (List ℕ × List ℕ)
-  pub behind : List (List ℕ × List ℕ)
-  pub all : files ≡ first ++ behind
+  pub after : List (List ℕ × List ℕ)
+  pub all : files ≡ first ++ after
   pub asked : AreAsked words (paths_of first)
-  pub called : AreCalled first behind
+  pub called : AreCalled first after
 
 -- the folder of the files that these FILEs ask for, and of those that they call
 pub record IsGathered (words : List (List ℕ)) (folder : Folder) : Type 0 where

@@ -86,7 +86,7 @@ impl TakenFiles {
         ensures as_before { OnErr result (self.new ≡ self.old) }
     {
         let owned = owned_path(alloc, path)?;
-        put_behind(&mut self.files, &mut self.order, owned, bytes)
+        put_after(&mut self.files, &mut self.order, owned, bytes)
     }
 
     /// The folder that the files make when they are put one after another, not yet checked.
@@ -125,7 +125,7 @@ fn owned_path(alloc: Global, path: &str) -> Result<Path, Refused>
 }
 
 // Puts a file after those at these paths, none of which is its own. On failure the files and the paths are unchanged.
-fn put_behind(
+fn put_after(
     files: &mut Loaded,
     order: &mut Vec<Path>,
     path: Path,

@@ -31,7 +31,7 @@ impl<'a, W, C> WaitingOutput<'a, W, C> {
 impl<W: Write, C: Clock> Write for WaitingOutput<'_, W, C> {
     ghost contents = { λ s. W.contents s.output };
 
-    #[tactic(auto, using(crate::proofs::Refusals::written_behind))]
+    #[tactic(auto, using(crate::proofs::Refusals::written_after))]
     fn write(&mut self, buf: &[u8]) -> io::Result<usize> {
         for _ in 0..u64::MAX {
             match self.output.write(buf) {

@@ -11,7 +11,7 @@ use Rattle.al_types.specs.Types.{Optional, Absent, Present, Parts, common_in, fi
 use Rattle.al_types.proofs.FuseLaws.{common_optional, last_turned, nothing_last, optional_assoc, parts_assoc}
 use Rattle.al_types.proofs.GatheredFields.{common_put, found_put}
 use Rattle.al_types.proofs.JoinedFields.{first_apart, has_field_at, nothing_at, others_apart, same_turned}
-use Rattle.al_types.proofs.Puts.{put_behind}
+use Rattle.al_types.proofs.Puts.{put_after}
 use Rattle.al_expr_types.proofs.NameIndexes.{none_there}
 use Rattle.al_expr.specs.Trees.{field_parts, listed_parts}
 use Rattle.al_expr.proofs.Firsts.{firsts_more, firsts_old, none_first}
@@ -49,7 +49,7 @@ pub added_first : (ts : List TypedName) (p : TypedName) (start old new : Parts) 
 added_first ts p start old new first was is =
     let none = none_there (name_at (firsts ts) p.0) (sym (none_first ts p.0 ∙ first)) in
     is ∙ ap (λ q. fuse_parts q (field_parts p)) was ∙ parts_assoc start (listed_parts ts Absent) (field_parts p)
-    ∙ ap (fuse_parts start) (sym (parts_put (firsts ts) p Absent) ∙ ap (λ us. parts_with us Absent) (put_behind (firsts ts) p none ∙ sym (firsts_more ts p)))
+    ∙ ap (fuse_parts start) (sym (parts_put (firsts ts) p Absent) ∙ ap (λ us. parts_with us Absent) (put_after (firsts ts) p none ∙ sym (firsts_more ts p)))
 
 -- a field whose name came before
 pub added_later : (ts : List TypedName) (p : TypedName) (start old : Parts) → is_none (name_at ts p.0) ≡ false →

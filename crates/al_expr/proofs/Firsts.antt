@@ -10,7 +10,7 @@ use Rattle.al_types.specs.Puts.{TypedName, firsts, put_all, put_new}
 use Rattle.al_types.specs.Types.{Type', field_at, has_field}
 use Rattle.al_types.proofs.GatheredFields.{firsts_found}
 use Rattle.al_types.proofs.JoinedFields.{first_apart, has_field_at, others_apart, same_turned}
-use Rattle.al_types.proofs.Puts.{put_new_behind, put_new_old}
+use Rattle.al_types.proofs.Puts.{put_new_after, put_new_old}
 
 -- ---- the position of a name, and whether a field has it
 
@@ -53,7 +53,7 @@ firsts_more ts p = put_last [] ts p
 
 -- its name is new
 pub firsts_new : (ts : List TypedName) (p : TypedName) → is_none (name_at ts p.0) ≡ true → firsts (ts ++ p ∷ []) ≡ firsts ts ++ p ∷ []
-firsts_new ts p e = firsts_more ts p ∙ put_new_behind (firsts ts) p (none_first ts p.0 ∙ e)
+firsts_new ts p e = firsts_more ts p ∙ put_new_after (firsts ts) p (none_first ts p.0 ∙ e)
 
 -- its name is there already
 pub firsts_old : (ts : List TypedName) (p : TypedName) → is_none (name_at ts p.0) ≡ false → firsts (ts ++ p ∷ []) ≡ firsts ts
@@ -62,25 +62,25 @@ firsts_old ts p e = firsts_more ts p ∙ put_new_old (firsts ts) p (none_first t
 -- ---- distinct fields
 
 -- a name is in appended lists of fields if it is in one of them
-has_behind : (n : List ℕ) (ts us : List TypedName) → has_field n (ts ++ us) ≡ has_field n ts || has_field n us
-has_behind n [] us = refl
-has_behind n (q ∷ ts) us = ap (λ b. same_name q.0 n || b) (has_behind n ts us) ∙ sym (or_assoc (same_name q.0 n) (has_field n ts) (has_field n us))
+has_after : (n : List ℕ) (ts us : List TypedName) → has_field n (ts ++ us) ≡ has_field n ts || has_field n us
+has_after n [] us = refl
+has_after n (q ∷ ts) us = ap (λ b. same_name q.0 n || b) (has_after n ts us) ∙ sym (or_assoc (same_name q.0 n) (has_field n ts) (has_field n us))
 
 -- a field of distinct fields has none of the names before it
 last_apart : (ts us : List TypedName) (p : TypedName) → are_distinct (ts ++ p ∷ us) ≡ true → has_field p.0 ts ≡ false
 last_apart [] us p d = refl
 last_apart (q ∷ ts) us p d =
     let whole = (ts ++ p ∷ us) in
-    let none = sym (has_behind q.0 ts (p ∷ us)) ∙ first_apart (has_field q.0 whole) (are_distinct whole) d in
-    let behind = (or_parts (has_field q.0 ts) (has_field q.0 (p ∷ us)) none).1 in
-    let other = (or_parts (same_name p.0 q.0) (has_field q.0 us) behind).0 in
+    let none = sym (has_after q.0 ts (p ∷ us)) ∙ first_apart (has_field q.0 whole) (are_distinct whole) d in
+    let after = (or_parts (has_field q.0 ts) (has_field q.0 (p ∷ us)) none).1 in
+    let other = (or_parts (same_name p.0 q.0) (has_field q.0 us) after).0 in
     let more = last_apart ts us p (others_apart (has_field q.0 whole) (are_distinct whole) d) in
     λ i. (same_turned q.0 p.0 ∙ other) i || more i
 
 all_kept : (acc ts : List TypedName) → are_distinct (acc ++ ts) ≡ true → put_all put_new acc ts ≡ acc ++ ts
 all_kept acc [] d = sym (append-nil acc)
 all_kept acc (p ∷ ts) d =
-    let new : put_new acc p ≡ acc ++ p ∷ [] = put_new_behind acc p (none_named acc p.0 ∙ ap not (last_apart acc ts p d)) in
+    let new : put_new acc p ≡ acc ++ p ∷ [] = put_new_after acc p (none_named acc p.0 ∙ ap not (last_apart acc ts p d)) in
     let same : (acc ++ p ∷ []) ++ ts ≡ acc ++ p ∷ ts = append_assoc acc (p ∷ []) ts in
     ap (λ xs. put_all put_new xs ts) new ∙ all_kept (acc ++ p ∷ []) ts (ap are_distinct same ∙ d) ∙ same
 

@@ -11,7 +11,7 @@ use Rattle.al_expr_grammar.specs.Tree as tree
 use Rattle.al_expr_grammar.specs.Grammar.{Nonterminal, Binary, Unary, Postfix, Primary, level_of, below, Derives, single, chain, positive, IsTreeOf}
 use Rattle.al_expr_grammar.specs.Grammar.{negated, bare, path, name, call, group, Operators, no_more}
 use Rattle.al_expr_grammar.specs.Grammar.{one_more, Walks, arrived, to_property, to_keyword, to_all, to_each, to_index, Lists, listed, and_next}
-use Rattle.al_expr_grammar.specs.Building.{Remainder, Following, add_operator, behind_operand, from_operand, in_bracket, past_bracket, whole}
+use Rattle.al_expr_grammar.specs.Building.{Remainder, Following, add_operator, following_operand, from_operand, in_bracket, past_bracket, whole}
 use Rattle.al_expr_grammar.specs.Building.{with_path, with_step}
 use Rattle.al_expr_grammar.proofs.Shape.{Begins, NoCall, begins, before_walks}
 
@@ -144,12 +144,12 @@ record Reaches (n : ℕ) (x : Tree × Following) (t : Tree) (f : Following) : Ty
   rest : x.1 ≡ (record f.0 { levels = x.1.0.levels }, f.1)
 
 abbrev Builds : Nonterminal → List Lexeme → Tree → List Lexeme → Type 0
-Builds (Binary l) ts t rest = Reaches (suc l) (from_operand ts) t (behind_operand rest)
-Builds Unary ts t rest = Reaches 0 (from_operand ts) t (behind_operand rest)
-Builds Postfix ts t rest = Reaches 0 (from_operand ts) t (behind_operand rest)
-Builds Primary ts t rest = from_operand ts ≡ with_path t (behind_operand rest)
+Builds (Binary l) ts t rest = Reaches (suc l) (from_operand ts) t (following_operand rest)
+Builds Unary ts t rest = Reaches 0 (from_operand ts) t (following_operand rest)
+Builds Postfix ts t rest = Reaches 0 (from_operand ts) t (following_operand rest)
+Builds Primary ts t rest = from_operand ts ≡ with_path t (following_operand rest)
 
-builds_below : (l : ℕ) (ts rest : List Lexeme) (t : Tree) → Builds (below l) ts t rest → Reaches l (from_operand ts) t (behind_operand rest)
+builds_below : (l : ℕ) (ts rest : List Lexeme) (t : Tree) → Builds (below l) ts t rest → Reaches l (from_operand ts) t (following_operand rest)
 builds_below zero ts rest t b = b
 builds_below (suc l) ts rest t b = b
 
@@ -179,7 +179,7 @@ abbrev inside : List Tree → Span → List Remainder → Following
 inside more s around = (record { steps = []; levels = []; arguments = more; close = s }, around)
 
 abbrev around : List Lexeme → List Remainder
-around rest = (behind_operand rest).0 ∷ (behind_operand rest).1
+around rest = (following_operand rest).0 ∷ (following_operand rest).1
 
 module _ (x : Tree × Following) (t : Tree) (more : List Tree) (s : Span) (outer : List Remainder) (r : Reaches 4 x t (inside more s outer)) where
   tree_is : whole x ≡ t
@@ -203,7 +203,7 @@ module _ (x : Tree × Following) (t : Tree) (more : List Tree) (s : Span) (outer
 abbrev walked : List StepTree → Following → Following
 walked ss f = (record f.0 { steps = ss ++ f.0.steps }, f.1)
 
-free_at : (l : ℕ) (ts : List Lexeme) → NoMoreAt l (kinds ts) → Free l (behind_operand ts).0.levels
+free_at : (l : ℕ) (ts : List Lexeme) → NoMoreAt l (kinds ts) → Free l (following_operand ts).0.levels
 free_at l [] h = free_none l
 free_at l (lexeme Dot b s ∷ ts) h = absurd h
 free_at l (lexeme OpenIndex b s ∷ ts) h = absurd h
@@ -222,7 +222,7 @@ no_step_left (lexeme Name b s ∷ lexeme k c u ∷ ts) = refl
 no_step_left [] = refl
 no_step_left (lexeme k b s ∷ ts) = refl
 
-no_step : (ts : List Lexeme) → NoMore (kinds ts) → (behind_operand ts).0.steps ≡ []
+no_step : (ts : List Lexeme) → NoMore (kinds ts) → (following_operand ts).0.steps ≡ []
 no_step [] h = refl
 no_step (lexeme Dot b s ∷ ts) h = absurd h
 no_step (lexeme OpenIndex b s ∷ ts) h = absurd h
@@ -237,7 +237,7 @@ stepped t ss f e =
     ap (λ l. (tree.path_of t l, (record f.0 { steps = [] }, f.1))) (ap (λ l. ss ++ l) e ∙ append-nil ss)
     ∙ ap (λ l. (tree.path_of t ss, (record f.0 { steps = l }, f.1))) (sym e)
 
-named : (b : List ℕ) (s : Span) (ts : List Lexeme) → NoCall (kinds ts) → from_operand (lexeme Name b s ∷ ts) ≡ with_path (Named b s) (behind_operand ts)
+named : (b : List ℕ) (s : Span) (ts : List Lexeme) → NoCall (kinds ts) → from_operand (lexeme Name b s ∷ ts) ≡ with_path (Named b s) (following_operand ts)
 named b s (lexeme Open c u ∷ ts) h = absurd h
 named b s ts h = refl
 
@@ -247,7 +247,7 @@ called b c s u [] h = absurd h
 called b c s u (lexeme Close d e ∷ ts) h = absurd h
 called b c s u (lexeme k d e ∷ ts) h = refl
 
-at_index : (b : List ℕ) (d : Span) (ts : List Lexeme) → Begins (kinds ts) → behind_operand (lexeme OpenIndex b d ∷ ts)
+at_index : (b : List ℕ) (d : Span) (ts : List Lexeme) → Begins (kinds ts) → following_operand (lexeme OpenIndex b d ∷ ts)
     ≡ with_step (Index d (whole (from_operand ts)) (from_operand ts).1.0.close) (past_bracket (from_operand ts).1.1)
 at_index b d [] h = absurd h
 at_index b d (lexeme Star c s ∷ ts) h = absurd h
@@ -258,17 +258,17 @@ at_index b d (lexeme k c s ∷ ts) h = refl
 mutual
   built : {p : Nonterminal} {ts rest : List Lexeme} {t : Tree} → Derives p ts t rest → EndsRule p (kinds rest) → Builds p ts t rest
   built (single {l = l} {ts = ts} {rest = rest} {t = t} d) h =
-      chained l (from_operand ts) t [] (behind_operand rest) (free_at l rest h) (builds_below l ts rest t (built d (ends_below l (kinds rest) h)))
+      chained l (from_operand ts) t [] (following_operand rest) (free_at l rest h) (builds_below l ts rest t (built d (ends_below l (kinds rest) h)))
   built (chain {l = l} {ts = ts} {mid = mid} {rest = rest} {t = t} {o = o} {os = os} d w) h =
-      chained l (from_operand ts) t (o ∷ os) (behind_operand rest) (free_at l rest h)
+      chained l (from_operand ts) t (o ∷ os) (following_operand rest) (free_at l rest h)
       (subst (Reaches l (from_operand ts) t) (built_operators w h) (builds_below l ts mid t (built d (before_ops w h))))
   built (positive d) h = built d h
   built (negated {s = s} d) h = let r = built d h in record { closes = (ap (Negated s) r.closes.0, r.closes.1); rest = r.rest }
   built (bare {ts = ts} {rest = rest} {t = t} d) h =
-      alone (from_operand ts) t (behind_operand rest) (built d (no_path (kinds rest) h) ∙ stepped t [] (behind_operand rest) (no_step rest h))
+      alone (from_operand ts) t (following_operand rest) (built d (no_path (kinds rest) h) ∙ stepped t [] (following_operand rest) (no_step rest h))
   built (path {ts = ts} {mid = mid} {rest = rest} {t = t} {s = s} {ss = ss} d w) h =
-      alone (from_operand ts) (tree.Path t (tree.steps_of (s ∷ ss))) (behind_operand rest)
-      (built d (before_walks w (no_path (kinds rest) h)) ∙ ap (with_path t) (built_walks w h) ∙ stepped t (s ∷ ss) (behind_operand rest) (no_step rest h))
+      alone (from_operand ts) (tree.Path t (tree.steps_of (s ∷ ss))) (following_operand rest)
+      (built d (before_walks w (no_path (kinds rest) h)) ∙ ap (with_path t) (built_walks w h) ∙ stepped t (s ∷ ss) (following_operand rest) (no_step rest h))
   built (name {b = b} {s = s} {rest = rest}) h = named b s rest h
   built (call {b = b} {c = c} {d = d} {s = s} {u = u} {e = e} {ts = ts} {mid = mid} {rest = rest} {t = t} {more = more} x w) h =
       called b c s u ts (begins x)
@@ -276,14 +276,14 @@ mutual
   built (group {s = s} {e = e} {ts = ts} {rest = rest} {t = t} d) h = bracketed (from_operand ts) t [] e (around rest) (built d tt) (λ t more e. tree.Group t s e)
   built _ h = refl
 
-  built_operators : {l : ℕ} {ts rest : List Lexeme} {os : List (Sign × Tree)} → Operators l ts os rest → NoMoreAt l (kinds rest) → behind_operand ts ≡ operated l os (behind_operand rest)
+  built_operators : {l : ℕ} {ts rest : List Lexeme} {os : List (Sign × Tree)} → Operators l ts os rest → NoMoreAt l (kinds rest) → following_operand ts ≡ operated l os (following_operand rest)
   built_operators no_more h = refl
   built_operators {l = l} (one_more {o = o} {s = s} {ts = ts} {mid = mid} {rest = rest} {t = t} {os = os} e d w) h =
       ap (λ n. with_operator n (sign o s) (from_operand ts)) e
-      ∙ one_operated l (sign o s) (from_operand ts) t (behind_operand mid) (builds_below l ts mid t (built d (before_ops w h)))
+      ∙ one_operated l (sign o s) (from_operand ts) t (following_operand mid) (builds_below l ts mid t (built d (before_ops w h)))
       ∙ ap (λ f. operated l ((sign o s, t) ∷ []) f) (built_operators w h)
 
-  built_walks : {ts rest : List Lexeme} {ss : List StepTree} → Walks ts ss rest → NoMore (kinds rest) → behind_operand ts ≡ walked ss (behind_operand rest)
+  built_walks : {ts rest : List Lexeme} {ss : List StepTree} → Walks ts ss rest → NoMore (kinds rest) → following_operand ts ≡ walked ss (following_operand rest)
   built_walks arrived h = refl
   built_walks (to_property {b = b} {s = s} {d = d} w) h = ap (with_step (Property d b s)) (built_walks w h)
   built_walks (to_keyword {b = b} {s = s} {d = d} w) h = ap (with_step (Property d b s)) (built_walks w h)
@@ -292,7 +292,7 @@ mutual
   built_walks (to_index {b = b} {s = s} {e = e} {ts = ts} {mid = mid} {t = t} d w) h =
       at_index b s ts (begins d) ∙ indexed (from_operand ts) t [] e (around mid) (built d tt) s ∙ ap (with_step (Index s t e)) (built_walks w h)
 
-  built_lists : {d : List ℕ} {e : Span} {ts rest : List Lexeme} {more : List Tree} → Lists ts more (lexeme Close d e ∷ rest) → behind_operand ts ≡ inside more e (around rest)
+  built_lists : {d : List ℕ} {e : Span} {ts rest : List Lexeme} {more : List Tree} → Lists ts more (lexeme Close d e ∷ rest) → following_operand ts ≡ inside more e (around rest)
   built_lists listed = refl
   built_lists {e = e} {rest = rest} (and_next {ts = ts} {mid = mid} {t = t} {more = more} x w) =
       argued (from_operand ts) t more e (around rest) (subst (Reaches 4 (from_operand ts) t) (built_lists w) (built x (before_args w)))

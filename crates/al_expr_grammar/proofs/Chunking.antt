@@ -117,15 +117,15 @@ closing_begins bs at n e =
 -- ---- the loop over chunks
 
 -- prepends the chunks that were read
-abbrev pub behind_chunks : List Span → Chunked → Chunked
-behind_chunks front c = record { chunks = front ++ c.chunks; fault = c.fault }
+abbrev pub after_chunks : List Span → Chunked → Chunked
+after_chunks front c = record { chunks = front ++ c.chunks; fault = c.fault }
 
-pub behind_one : (front : List Span) (s : Span) (c : Chunked) → behind_chunks front (then_chunk s c) ≡ behind_chunks (front ++ s ∷ []) c
-behind_one front s c = ap (λ l. record { chunks = l; fault = c.fault }) (sym (append_assoc front (s ∷ []) c.chunks))
+pub after_one : (front : List Span) (s : Span) (c : Chunked) → after_chunks front (then_chunk s c) ≡ after_chunks (front ++ s ∷ []) c
+after_one front s c = ap (λ l. record { chunks = l; fault = c.fault }) (sym (append_assoc front (s ∷ []) c.chunks))
 
 -- the chunks `front` were read, up to offset `at`
 abbrev pub AreRead : List ℕ → List Span → ℕ → Type 0
-AreRead text front at = chunks_of text ≡ behind_chunks front (chunks_within (length text - length front) at (drop at text))
+AreRead text front at = chunks_of text ≡ after_chunks front (chunks_within (length text - length front) at (drop at text))
 
 -- these are all chunks, and this is the fault at the text's end
 abbrev pub AreAll : List ℕ → List Span → Option Fault → Type 0
@@ -134,7 +134,7 @@ AreAll text front f = (front ≡ (chunks_of text).chunks) × (f ≡ (chunks_of t
 module _ (text : List ℕ) (front : List Span) (at : ℕ) (so_far : AreRead text front at) where
   all : (f : Option Fault) → chunks_within (length text - length front) at (drop at text) ≡ no_chunks f → AreAll text front f
   all f e =
-      let d = so_far ∙ ap (behind_chunks front) e in
+      let d = so_far ∙ ap (after_chunks front) e in
       (sym (ap (λ c. c.chunks) d ∙ append-nil front), sym (ap (λ c. c.fault) d))
 
   none_opens : (n : ℕ) → None ≡ before_opening (drop at text) → chunks_within n at (drop at text) ≡ no_chunks None
@@ -170,6 +170,6 @@ module _ (text : List ℕ) (front : List Span) (at : ℕ) (so_far : AreRead text
         let one = length-append front (span start (start + len) ∷ []) in
         let rest = chunks_within (length text - (length front + 1)) in
         rw one
-        (so_far ∙ ap (behind_chunks front) (opened ∙ ap (with_content rest start content) (sym e)
+        (so_far ∙ ap (after_chunks front) (opened ∙ ap (with_content rest start content) (sym e)
         ∙ ap (λ bs. then_chunk (span start (start + len)) (rest (start + len + 2) bs)) (drop-drop (len + 2) start text ∙ ap (λ k. drop k text) there))
-        ∙ behind_one front (span start (start + len)) _)
+        ∙ after_one front (span start (start + len)) _)

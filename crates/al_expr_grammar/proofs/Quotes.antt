@@ -45,14 +45,14 @@ more_tokens t Unclosed e = e
 at_first : (b : ℕ) (bs : List ℕ) → is_quote b ≡ true → last_quote (b ∷ bs) ≢ None
 at_first b bs h = rw h (some_second (option_map suc (last_quote bs)) 0)
 
-behind_first : (o p : Option ℕ) → o ≢ None → option_or (option_map suc o) p ≢ None
-behind_first None p f = absurd (f refl)
-behind_first (Some n) p f = λ e. cc
+after_first : (o p : Option ℕ) → o ≢ None → option_or (option_map suc o) p ≢ None
+after_first None p f = absurd (f refl)
+after_first (Some n) p f = λ e. cc
 
 further : (n : ℕ) (bs : List ℕ) → last_quote (drop n bs) ≢ None → last_quote bs ≢ None
 further zero bs h = h
 further (suc n) [] h = h
-further (suc n) (b ∷ bs) h = behind_first (last_quote bs) _ (further n bs h)
+further (suc n) (b ∷ bs) h = after_first (last_quote bs) _ (further n bs h)
 
 -- The induction step, by what the bytes begin with.
 leads : (n : ℕ) (r : Read) (at b : ℕ) (bs : List ℕ) → ((from : ℕ) (rest : List ℕ) → tokens_within n from rest ≡ Unclosed → last_quote rest ≢ None)

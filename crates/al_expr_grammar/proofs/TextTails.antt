@@ -11,12 +11,12 @@ last_byte : (quote : Bool) → add_to 1 (tail_from quote []) ≡ cond quote (Som
 last_byte true = refl
 last_byte false = refl
 
-two_bytes : (first second : Bool) (c : ℕ) (bs : List ℕ) (rest behind : Option ℕ) → tail_from false bs ≡ rest
-    → after_byte false second (λ q. tail_from q bs) ≡ behind
-    → add_to 1 (after_byte first second (λ q. tail_from q bs)) ≡ cond first (cond second (add_to 2 rest) (Some 1)) (add_to 1 behind)
-two_bytes true true c bs rest behind e f = twice (tail_from false bs) ∙ ap (add_to 2) e
-two_bytes true false c bs rest behind e f = refl
-two_bytes false second c bs rest behind e f = ap (add_to 1) f
+two_bytes : (first second : Bool) (c : ℕ) (bs : List ℕ) (rest after : Option ℕ) → tail_from false bs ≡ rest
+    → after_byte false second (λ q. tail_from q bs) ≡ after
+    → add_to 1 (after_byte first second (λ q. tail_from q bs)) ≡ cond first (cond second (add_to 2 rest) (Some 1)) (add_to 1 after)
+two_bytes true true c bs rest after e f = twice (tail_from false bs) ∙ ap (add_to 2) e
+two_bytes true false c bs rest after e f = refl
+two_bytes false second c bs rest after e f = ap (add_to 1) f
 
 pub tail_is : (bs : List ℕ) → tail_from false bs ≡ text_tail bs
 tail_is [] = refl

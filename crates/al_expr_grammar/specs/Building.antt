@@ -53,29 +53,29 @@ in_bracket make x = with_path (make (whole x) x.1.0.arguments x.1.0.close) (past
 
 abbrev mutual
   -- what follows an operand
-  pub behind_operand : List Lexeme → Following
-  behind_operand (lexeme (kind.Infix o) b s ∷ ts) =
+  pub following_operand : List Lexeme → Following
+  following_operand (lexeme (kind.Infix o) b s ∷ ts) =
       let x = from_operand ts in (record x.1.0 { levels = add_operator (level_of o) (sign o s) x.0 x.1.0.levels }, x.1.1)
-  behind_operand (lexeme kind.Dot b d ∷ lexeme kind.Star c s ∷ ts) = with_step (All d s) (behind_operand ts)
-  behind_operand (lexeme kind.Dot b d ∷ lexeme k c s ∷ ts) = with_step (Property d c s) (behind_operand ts)
-  behind_operand (lexeme kind.OpenIndex b d ∷ lexeme kind.Star c s ∷ lexeme k a e ∷ ts) = with_step (All d e) (behind_operand ts)
-  behind_operand (lexeme kind.OpenIndex b d ∷ ts) =
+  following_operand (lexeme kind.Dot b d ∷ lexeme kind.Star c s ∷ ts) = with_step (All d s) (following_operand ts)
+  following_operand (lexeme kind.Dot b d ∷ lexeme k c s ∷ ts) = with_step (Property d c s) (following_operand ts)
+  following_operand (lexeme kind.OpenIndex b d ∷ lexeme kind.Star c s ∷ lexeme k a e ∷ ts) = with_step (All d e) (following_operand ts)
+  following_operand (lexeme kind.OpenIndex b d ∷ ts) =
       let x = from_operand ts in with_step (Index d (whole x) x.1.0.close) (past_bracket x.1.1)
-  behind_operand (lexeme kind.Comma b s ∷ ts) =
+  following_operand (lexeme kind.Comma b s ∷ ts) =
       let x = from_operand ts in (record x.1.0 { levels = []; arguments = whole x ∷ x.1.0.arguments }, x.1.1)
-  behind_operand (lexeme k b s ∷ ts) = let f = behind_operand ts in close_at s (f.0 ∷ f.1)
-  behind_operand [] = close_at (span 0 0) []
+  following_operand (lexeme k b s ∷ ts) = let f = following_operand ts in close_at s (f.0 ∷ f.1)
+  following_operand [] = close_at (span 0 0) []
 
   -- an operand and what follows it
   pub from_operand : List Lexeme → Tree × Following
-  from_operand (lexeme (kind.Keyword w) b s ∷ ts) = with_path (Constant w s) (behind_operand ts)
-  from_operand (lexeme kind.Number b s ∷ ts) = with_path (Number b s) (behind_operand ts)
-  from_operand (lexeme kind.Text b s ∷ ts) = with_path (Text b s) (behind_operand ts)
+  from_operand (lexeme (kind.Keyword w) b s ∷ ts) = with_path (Constant w s) (following_operand ts)
+  from_operand (lexeme kind.Number b s ∷ ts) = with_path (Number b s) (following_operand ts)
+  from_operand (lexeme kind.Text b s ∷ ts) = with_path (Text b s) (following_operand ts)
   from_operand (lexeme kind.Name b s ∷ lexeme kind.Open c u ∷ lexeme kind.Close d e ∷ ts) =
-      with_path (Call b s (arguments_of []) e) (behind_operand ts)
+      with_path (Call b s (arguments_of []) e) (following_operand ts)
   from_operand (lexeme kind.Name b s ∷ lexeme kind.Open c u ∷ ts) =
       in_bracket (λ t more e. Call b s (arguments_of (t ∷ more)) e) (from_operand ts)
-  from_operand (lexeme kind.Name b s ∷ ts) = with_path (Named b s) (behind_operand ts)
+  from_operand (lexeme kind.Name b s ∷ ts) = with_path (Named b s) (following_operand ts)
   from_operand (lexeme kind.Open b s ∷ ts) = in_bracket (λ t more e. Group t s e) (from_operand ts)
   from_operand (lexeme kind.Bang b s ∷ ts) = let x = from_operand ts in (Negated s x.0, x.1)
   from_operand ts = with_path (Named [] (span 0 0)) (close_at (span 0 0) [])

@@ -66,7 +66,7 @@ fn continues_name(b: u8) -> bool
     begins_name(b) || is_digit(b) || b == b'-'
 }
 
-/// The length of the name at the front.
+/// The length of the name at the start.
 fn name_len(bytes: &[u8]) -> usize
     ensures value { result ≡ prefix_len goes_on_name bytes.now }
     ensures within { result ≤ length bytes.now }
@@ -74,7 +74,7 @@ fn name_len(bytes: &[u8]) -> usize
     bytes.iter().take_while(|b| continues_name(**b)).count()
 }
 
-/// The number of bytes at the front that continue a character.
+/// The number of bytes at the start that continue a character.
 fn inside_len(bytes: &[u8]) -> usize
     ensures value { result ≡ prefix_len (is_in_range 128 191) bytes.now }
     ensures within { result ≤ length bytes.now }
@@ -117,7 +117,7 @@ fn text_len(bytes: &[u8]) -> Option<usize>
     if closes { Some(bytes.len()) } else { None }
 }
 
-/// The mark at the front; the longer one, if there are two.
+/// The mark at the start; the longer one, if there are two.
 fn mark_at(bytes: &[u8]) -> Read
     ensures value { result ≡ mark bytes.now }
     ensures fits { Fits bytes.now result }
@@ -143,7 +143,7 @@ fn mark_at(bytes: &[u8]) -> Read
     }
 }
 
-/// The name at the front.
+/// The name at the start.
 fn name_at(bytes: &[u8]) -> Read
     ensures { result ≡ name_read bytes.now }
 {
@@ -151,7 +151,7 @@ fn name_at(bytes: &[u8]) -> Read
     Read::Token(name_kind(&bytes[..len]), len)
 }
 
-/// The number at the front.
+/// The number at the start.
 fn number_at(bytes: &[u8]) -> Read
     ensures { result ≡ number_read (number_len bytes.now) }
 {
@@ -221,14 +221,14 @@ fn tokens(alloc: Global, content: &str) -> Result<Result<Vec<Token>, LexError>, 
             }
             Read::Token(kind, len) => {
                 let end = start + len;
-                let (text, behind) = rest.split_at(len);
+                let (text, after) = rest.split_at(len);
                 let span = Span {
                     start: start as u32,
                     end: end as u32,
                 };
                 tokens.push(Token { kind, text, span })?;
                 start = end;
-                rest = behind;
+                rest = after;
             }
             Read::BadCharacter => {
                 let end = start + 1 + inside_len(&rest.as_bytes()[1..]);

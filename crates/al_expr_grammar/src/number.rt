@@ -20,7 +20,7 @@ fn is_hex_digit(b: u8) -> bool
     is_digit(b) || (b'A' <= b && b <= b'F') || (b'a' <= b && b <= b'f')
 }
 
-/// The number of digits at the front.
+/// The number of digits at the start.
 fn digits_len(bytes: &[u8]) -> usize
     ensures value { result ≡ prefix_len is_ascii_digit bytes.now }
     ensures within { result ≤ length bytes.now }
@@ -28,7 +28,7 @@ fn digits_len(bytes: &[u8]) -> usize
     bytes.iter().take_while(|b| is_digit(**b)).count()
 }
 
-/// The number of hexadecimal digits at the front.
+/// The number of hexadecimal digits at the start.
 fn hex_digits_len(bytes: &[u8]) -> usize
     ensures value { result ≡ prefix_len is_ascii_hexdigit bytes.now }
     ensures within { result ≤ length bytes.now }
@@ -44,7 +44,7 @@ fn with_digits(lead: usize, digits: usize) -> usize
     if digits == 0 { 0 } else { lead + digits }
 }
 
-/// The length of a dot with digits at the front, or 0.
+/// The length of a dot with digits at the start, or 0.
 fn fraction_len(bytes: &[u8]) -> usize
     ensures value { result ≡ fraction_len bytes.now }
     ensures within { result ≤ length bytes.now }
@@ -55,7 +55,7 @@ fn fraction_len(bytes: &[u8]) -> usize
     }
 }
 
-/// The length of an exponent at the front, or 0.
+/// The length of an exponent at the start, or 0.
 fn exponent_len(bytes: &[u8]) -> usize
     ensures value { result ≡ exponent_len bytes.now }
     ensures within { result ≤ length bytes.now }
@@ -69,7 +69,7 @@ fn exponent_len(bytes: &[u8]) -> usize
     }
 }
 
-/// The length of a hexadecimal number at the front, or 0.
+/// The length of a hexadecimal number at the start, or 0.
 fn hex_len(bytes: &[u8]) -> usize
     ensures value { result ≡ hex_len bytes.now }
     ensures within { result ≤ length bytes.now }
@@ -80,7 +80,7 @@ fn hex_len(bytes: &[u8]) -> usize
     }
 }
 
-/// The length of a decimal number at the front, or 0.
+/// The length of a decimal number at the start, or 0.
 fn decimal_len(bytes: &[u8]) -> usize
     ensures value { result ≡ decimal_len bytes.now }
     ensures within { result ≤ length bytes.now }
@@ -94,7 +94,7 @@ fn decimal_len(bytes: &[u8]) -> usize
     whole + part + exponent_len(&rest[part..])
 }
 
-/// The length of a number without a sign at the front, or 0.
+/// The length of a number without a sign at the start, or 0.
 fn unsigned_len(bytes: &[u8]) -> usize
     ensures value { result ≡ unsigned_len bytes.now }
     ensures within { result ≤ length bytes.now }
@@ -102,7 +102,7 @@ fn unsigned_len(bytes: &[u8]) -> usize
     hex_len(bytes).max(decimal_len(bytes))
 }
 
-/// The length of the longest number at the front, or 0 if there is none.
+/// The length of the longest number at the start, or 0 if there is none.
 pub fn number_len(bytes: &[u8]) -> usize
     ensures value { result ≡ number_len bytes.now }
     ensures within { result ≤ length bytes.now }

@@ -139,7 +139,7 @@ fn expect<'t, 'a>(
     }
 }
 
-/// An operator of this level at the front, and the tokens after it.
+/// An operator of this level at the start, and the tokens after it.
 fn operator<'t, 'a>(
     level: u8,
     tokens: &'t [Token<'a>],
@@ -207,7 +207,7 @@ fn property<'t, 'a>(
     }
 }
 
-/// A literal, a name, a call or an expression in brackets, at the front.
+/// A literal, a name, a call or an expression in brackets, at the start.
 #[cycle(parser)]
 fn primary<'t, 'a>(
     alloc: Global,
@@ -319,7 +319,7 @@ fn postfix<'t, 'a>(
     Ok((with_steps(alloc, base, steps)?, left))
 }
 
-/// A step at the front; `None` if the path doesn't continue.
+/// A step at the start; `None` if the path doesn't continue.
 #[cycle(parser)]
 fn step<'t, 'a>(
     alloc: Global,

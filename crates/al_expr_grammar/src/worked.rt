@@ -21,7 +21,7 @@ pub fn chunk_rows()
     ensures quote_open { chunks_of (codes "${{  }}a${{'}}' }}${{ '") ≡ cut_off ((3, 5) ∷ (11, 16) ∷ []) UnclosedText (22, 23) }
     ensures last_quote { chunks_of (codes "${{$ ${{  }}${{ '''{''${{") ≡ cut_off ((3, 10) ∷ []) UnclosedText (21, 22) }
     ensures braces_alone { chunks_of (codes "${{$") ≡ cut_off [] UnclosedChunk (0, 3) }
-    ensures braces_behind { chunks_of (codes "$''${{}${{ a }}${{ ") ≡ cut_off ((6, 13) ∷ []) UnclosedChunk (15, 18) }
+    ensures braces_after { chunks_of (codes "$''${{}${{ a }}${{ ") ≡ cut_off ((6, 13) ∷ []) UnclosedChunk (15, 18) }
     ensures quotes_closed { chunks_of (codes "}${{x''${{ a }}\n'x${{ \n''") ≡ cut_off ((4, 13) ∷ []) UnclosedChunk (18, 21) }
 {}
 

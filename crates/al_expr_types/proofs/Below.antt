@@ -97,10 +97,10 @@ module _ (new old : List Parts) (m n : ℕ) (has : Has new old m n) where
   object_same (object.Fields f) h = fields_same f h
   object_same (object.Extension e) h =
       let both = and_parts (are_fields_below m e.fields) (is_extended_below m e) h in
-      let behind = and_parts (nat_lt e.base.object m) (list_all (is_below m) e.own.items) both.1 in
+      let after = and_parts (nat_lt e.base.object m) (list_all (is_below m) e.own.items) both.1 in
       let fields = fields_same e.fields both.0 in
-      let base = has e.base.object behind.0 in
-      let own = types_same e.own.items behind.1 in
+      let base = has e.base.object after.0 in
+      let own = types_same e.own.items after.1 in
       (λ d. fields.0 d && (base.0 d && own.0 d), λ d. ((fields.1 d).0, (fields.1 d).1, fuse_optional (base.1 d).2 (common_of (own.1 d))))
   object_same (object.Strings ns) h = (refl, refl)
   object_same (object.Common ns) h = let same = numbers_same ns.items h in (same.0, ap fuse_all same.1)
@@ -118,5 +118,5 @@ object_wider m n o x lt is h = ap (is_object_below n) (sym is) ∙ (object_same 
 
 pub base_below : (n : ℕ) (e : Extension) → is_object_below n (object.Extension e) ≡ true → e.base.object < n
 base_below n e h =
-    let behind = (and_parts (are_fields_below n e.fields) (is_extended_below n e) h).1 in
-    ltb-true e.base.object n (and_parts (nat_lt e.base.object n) (list_all (is_below n) e.own.items) behind).0
+    let after = (and_parts (are_fields_below n e.fields) (is_extended_below n e) h).1 in
+    ltb-true e.base.object n (and_parts (nat_lt e.base.object n) (list_all (is_below n) e.own.items) after).0

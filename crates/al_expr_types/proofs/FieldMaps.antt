@@ -8,7 +8,7 @@ use Rattle.al_base.specs.Names.{same_name}
 use Rattle.al_types.specs.Indexes.{name_at}
 use Rattle.al_types.specs.Puts.{put_new}
 use Rattle.al_types.specs.Types.{Parts, Type'}
-use Rattle.al_types.proofs.Puts.{put_new_behind, put_new_old}
+use Rattle.al_types.proofs.Puts.{put_new_after, put_new_old}
 use Rattle.al_expr_types.specs.FieldMaps.{fields_in, is_map_below}
 use Rattle.al_expr_types.specs.Names.{names_in}
 use Rattle.al_expr_types.specs.Tables.{objects_of}
@@ -24,12 +24,12 @@ place_at [] ts n e = refl
 place_at (m ∷ ns) [] n e = absurd (omega (arith, e))
 place_at (m ∷ ns) (t ∷ ts) n e = ap (λ o. if same_name m n then Some 0 else option_map (λ i. i + 1) o) (place_at ns ts n (omega (arith, e)))
 
-pub zip_behind : (ns : List (List ℕ)) (ts : List Type') (n : List ℕ) (t : Type') → length ns ≡ length ts →
+pub zip_after : (ns : List (List ℕ)) (ts : List Type') (n : List ℕ) (t : Type') → length ns ≡ length ts →
     zip (ns ++ n ∷ []) (ts ++ t ∷ []) ≡ zip ns ts ++ (n, t) ∷ []
-zip_behind [] [] n t e = refl
-zip_behind [] (u ∷ ts) n t e = absurd (omega (arith, e))
-zip_behind (m ∷ ns) [] n t e = absurd (omega (arith, e))
-zip_behind (m ∷ ns) (u ∷ ts) n t e = ap (λ ps. (m, u) ∷ ps) (zip_behind ns ts n t (omega (arith, e)))
+zip_after [] [] n t e = refl
+zip_after [] (u ∷ ts) n t e = absurd (omega (arith, e))
+zip_after (m ∷ ns) [] n t e = absurd (omega (arith, e))
+zip_after (m ∷ ns) (u ∷ ts) n t e = ap (λ ps. (m, u) ∷ ps) (zip_after ns ts n t (omega (arith, e)))
 
 as_long : (ms : List Parts) (ns : List (List ℕ)) (ts : List Ty) → length ns ≡ length ts → length ns ≡ length (map (type_in ms) ts)
 as_long ms ns ts e = e ∙ sym (length-map ts (type_in ms))
@@ -40,8 +40,8 @@ pub new_field : (ms : List Parts) (ns : List (List ℕ)) (ts : List Ty) (n : Lis
 new_field ms ns ts n t e new =
     let us = map (type_in ms) ts in
     let long = as_long ms ns ts e in
-    ap (zip (ns ++ n ∷ [])) (map-append (type_in ms) ts (t ∷ [])) ∙ zip_behind ns us n (type_in ms t) long
-    ∙ sym (put_new_behind (zip ns us) (n, type_in ms t) (ap is_none (place_at ns us n long ∙ new)))
+    ap (zip (ns ++ n ∷ [])) (map-append (type_in ms) ts (t ∷ [])) ∙ zip_after ns us n (type_in ms t) long
+    ∙ sym (put_new_after (zip ns us) (n, type_in ms t) (ap is_none (place_at ns us n long ∙ new)))
 
 -- a field whose name is there already changes nothing
 pub old_field : (ms : List Parts) (ns : List (List ℕ)) (ts : List Ty) (n : List ℕ) (t : Ty) (i : ℕ) → length ns ≡ length ts → name_place ns n ≡ Some i →

@@ -100,11 +100,11 @@ pushed_step ms ns js name n x false is at len =
     ∙ ap (join_in ms) (slot_more js x (name_place ns n) (λ j there. let lt = first_within (λ m. same_name m n) ns j there in omega (arith, lt, len)))
 
 -- appending the join of a new name
-pub pushed_behind : (ms : List Parts) (ns : List (List ℕ)) (js : List Join) (name : List ℕ) (x : Join) → name_place ns name ≡ None → length ns ≡ length js →
+pub pushed_after : (ms : List Parts) (ns : List (List ℕ)) (js : List Join) (name : List ℕ) (x : Join) → name_place ns name ≡ None → length ns ≡ length js →
     (n : List ℕ) →
     slot_in ms (js ++ x ∷ []) (name_place (ns ++ name ∷ []) n)
     ≡ (if same_name name n then fuse_optional (slot_in ms js (name_place ns n)) (join_in ms x) else slot_in ms js (name_place ns n))
-pushed_behind ms ns js name x at len n =
+pushed_after ms ns js name x at len n =
     ap (slot_in ms (js ++ x ∷ [])) (first_more (λ m. same_name m n) ns name) ∙ pushed_step ms ns js name n x (same_name name n) refl at len
 
 -- ---- bounds of positions, and setting an element

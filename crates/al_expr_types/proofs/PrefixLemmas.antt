@@ -24,22 +24,22 @@ use Rattle.al_expr_types.proofs.Keeping.{has_old, longer, same_there}
 abbrev common : (Ty → Type') → List Ty → Optional
 common g ts = common_of (map g ts)
 
-abbrev pub IsBehind : List Ty → ℕ → List Ty → ℕ → Type 0
-IsBehind ts j own i =
+abbrev pub IsAfter : List Ty → ℕ → List Ty → ℕ → Type 0
+IsAfter ts j own i =
     (ms : List Parts) → fuse_optional (common_of (map (type_in ms) (take j ts))) (common_of (map (type_in ms) own)) ≡ common_of (map (type_in ms) (take i ts))
 
-pub behind_none : (ts : List Ty) (j : ℕ) → IsBehind ts j [] j
-behind_none ts j = λ ms. nothing_last (common_of (map (type_in ms) (take j ts)))
+pub after_none : (ts : List Ty) (j : ℕ) → IsAfter ts j [] j
+after_none ts j = λ ms. nothing_last (common_of (map (type_in ms) (take j ts)))
 
-pub behind_more : (ts own new : List Ty) (j i : ℕ) (t : Ty) → i < length ts → t ≡ get_or ts i t → new ≡ own ++ t ∷ [] → IsBehind ts j own i → IsBehind ts j new (i + 1)
-behind_more ts own new j i t lt e is h = λ ms.
+pub after_more : (ts own new : List Ty) (j i : ℕ) (t : Ty) → i < length ts → t ≡ get_or ts i t → new ≡ own ++ t ∷ [] → IsAfter ts j own i → IsAfter ts j new (i + 1)
+after_more ts own new j i t lt e is h = λ ms.
     let g = type_in ms in
     let first = common g (take j ts) in
     ap (λ us. fuse_optional first (common g us)) is ∙ ap (fuse_optional first) (types_more g own t) ∙ sym (optional_assoc first (common g own) (Present (g t)))
     ∙ ap (λ o. fuse_optional o (Present (g t))) (h ms) ∙ sym (taken (common g) (λ u. Present (g u)) (types_more g) ts i t lt e)
 
-pub behind_same : (ts own : List Ty) (j i : ℕ) (t : Ty) → i < length ts → t ≡ get_or ts i t → Contains (take i ts) t → IsBehind ts j own i → IsBehind ts j own (i + 1)
-behind_same ts own j i t lt e there h = λ ms.
+pub after_same : (ts own : List Ty) (j i : ℕ) (t : Ty) → i < length ts → t ≡ get_or ts i t → Contains (take i ts) t → IsAfter ts j own i → IsAfter ts j own (i + 1)
+after_same ts own j i t lt e there h = λ ms.
     let g = type_in ms in
     h ms ∙ sym (held (common g) (λ u. Present (g u)) (λ u us. refl) (take i ts) t there.0 there.1 there.2)
     ∙ sym (taken (common g) (λ u. Present (g u)) (types_more g) ts i t lt e)
@@ -58,11 +58,11 @@ prefix_is ms f m k e n r = λ d. parts_with (named_types ms (names_in (e d).name
 
 -- an extension of a prefix has the same parts as the longer prefix
 pub same_by : (ms : List Parts) (f : Fields) (b : Prefix) (own : List Ty) (m : FieldMap) (k : ℕ) → f.map.value ≡ m → f.count ≡ k → f.rest ≡ None →
-    IsBehind m.types.items b.count own k → object_in ms b.object ≡ prefix_parts ms m b.count → parts_by ms f b own ≡ prefix_parts ms m k
-same_by ms f b own m k at n r behind base =
+    IsAfter m.types.items b.count own k → object_in ms b.object ≡ prefix_parts ms m b.count → parts_by ms f b own ≡ prefix_parts ms m k
+same_by ms f b own m k at n r after base =
     let same = prefix_is ms f m k at n r in
     let all : fuse_optional (object_in ms b.object).2 (common_of (map (type_in ms) own)) ≡ (prefix_parts ms m k).2 =
-    ap (λ o. fuse_optional o (common_of (map (type_in ms) own))) (ap (λ p. p.2) base ∙ prefix_common ms m b.count) ∙ behind ms ∙ sym (prefix_common ms m k) in
+    ap (λ o. fuse_optional o (common_of (map (type_in ms) own))) (ap (λ p. p.2) base ∙ prefix_common ms m b.count) ∙ after ms ∙ sym (prefix_common ms m k) in
     λ d. ((same d).0, (same d).1, all d)
 
 -- ---- in longer tables

@@ -56,8 +56,8 @@ read_after ms n m (x ∷ os) zero o len is h lt e =
     )
 read_after ms n m (x ∷ os) (suc i) o len is h lt e =
     let p : Parts = object_parts ms x in
-    let behind = (and_parts (is_object_below n x) (are_in_order (suc n) os) h).1 in
-    let later = read_after (ms ++ p ∷ []) (suc n) m os i o (ap suc len ∙ sym (one_longer ms p)) (omega (arith, is)) behind (omega (arith, lt)) e in
+    let after = (and_parts (is_object_below n x) (are_in_order (suc n) os) h).1 in
+    let later = read_after (ms ++ p ∷ []) (suc n) m os i o (ap suc len ∙ sym (one_longer ms p)) (omega (arith, is)) after (omega (arith, lt)) e in
     (later.0, later.1 ∙ ap (λ l. object_parts l o) (append_assoc ms (p ∷ []) (parts_after (ms ++ p ∷ []) os)))
 
 pub read : (os : List Object) (i : ℕ) (o : Object) → are_in_order 0 os ≡ true → i < length os → o ≡ get_or os i o →

@@ -62,7 +62,7 @@ pub struct Extension<'a> {
 pub enum Object<'a> {
     Fields(Fields<'a>),
     Extension(Extension<'a>),
-    /// String fields with these names: the outputs behind a call, which aren't copied.
+    /// String fields with these names: the outputs of a call, which aren't copied.
     Strings(&'a NameList),
     /// What these objects have in common.
     Common(Vec<u32>),

@@ -24,8 +24,8 @@ in_array x = and_then x (λ u. typed (ArrayOf u) [])
 in_one_more : (k : ℕ) (x : Typed) → in_array (in_arrays k x) ≡ in_arrays (suc k) x
 in_one_more k (typed t fs) = ap (typed (arrays_of (suc k) t)) (append-nil fs)
 
-pub behind_arrays : (k : ℕ) (old : List Fault) (x : Typed) → in_arrays k (faults_then old x) ≡ faults_then old (in_arrays k x)
-behind_arrays k old (typed t fs) = refl
+pub after_arrays : (k : ℕ) (old : List Fault) (x : Typed) → in_arrays k (faults_then old x) ≡ faults_then old (in_arrays k x)
+after_arrays k old (typed t fs) = refl
 
 pub property_arrays : (k : ℕ) (n : List ℕ) (at whole : Span) (t : Type') → property_of n at whole (arrays_of k t) ≡ in_arrays k (property_of n at whole t)
 property_arrays zero n at whole t = in_none (property_of n at whole t)

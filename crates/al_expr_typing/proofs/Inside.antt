@@ -52,11 +52,11 @@ module _ (size : ℕ) where
   both_lie [] ys a b = b
   both_lie (x ∷ xs) ys a b = (a.0, both_lie xs ys a.1 b)
 
-  behind_lies : (fs : List Fault) (x : Typed) → AllLie size fs → TypedLies x → TypedLies (faults_then fs x)
-  behind_lies fs (typed t gs) a b = both_lie fs gs a b
+  after_lies : (fs : List Fault) (x : Typed) → AllLie size fs → TypedLies x → TypedLies (faults_then fs x)
+  after_lies fs (typed t gs) a b = both_lie fs gs a b
 
   then_lies : (x : Typed) (go : Type' → Typed) → TypedLies x → ((u : Type') → TypedLies (go u)) → TypedLies (and_then x go)
-  then_lies (typed t fs) go a b = behind_lies fs (go t) a (b t)
+  then_lies (typed t fs) go a b = after_lies fs (go t) a (b t)
 
   give_lies : (t : Bool) (f : Fault) → LiesIn size f.span → AllLie size (give t f)
   give_lies true f i = (i, tt)
@@ -162,7 +162,7 @@ module _ (size : ℕ) where
 
   called_lies : (sc : Scope) (b : List ℕ) (s : Span) (o : Option Function) (ts : Arguments) (low : ℕ) (all : List (Type' × Span) × List Fault) →
       LiesIn size s → ArgumentsLie size low ts → AllTypedLies all → TypedLies (call sc b s o ts all)
-  called_lies sc b s o ts low all i h l = behind_lies all.1 (call_from sc b s o ts all.0) l.1 (with_lies sc b s o ts low all.0 i h l.0)
+  called_lies sc b s o ts low all i h l = after_lies all.1 (call_from sc b s o ts all.0) l.1 (with_lies sc b s o ts low all.0 i h l.0)
 
   one_more_lies : (x : Typed) (s : Span) (all : List (Type' × Span) × List Fault) → TypedLies x → LiesIn size s → AllTypedLies all
       → AllTypedLies (argument_then x s all)

@@ -12,10 +12,10 @@ use Rattle.al_types.specs.Scopes.{Scope}
 use Rattle.al_expr_grammar.specs.Extents.{extent}
 use Rattle.al_expr_typing.specs.Untrusted.{chain_part, untrusted_chain}
 use Rattle.al_expr_typing.specs.Meaning.{Typed, typed, faults_then, call, call_from, untrusted_faults}
-use Rattle.al_expr_typing.specs.Meaning.{and_then, argument_then, all_behind, parts_of, step_from, index_from}
+use Rattle.al_expr_typing.specs.Meaning.{and_then, argument_then, all_after, parts_of, step_from, index_from}
 use Rattle.al_expr_typing.specs.Meaning.{index_of, operation, meaning, walk, operations, meanings}
 use Rattle.al_expr_typing.specs.Steps.{base_name}
-use Rattle.al_expr_typing.proofs.TypedSteps.{follows, behind-behind}
+use Rattle.al_expr_typing.proofs.TypedSteps.{follows, after-after}
 
 pub parts_of-steps : (ss : List StepTree) → parts_of (steps_of ss) ≡ map chain_part ss
 parts_of-steps [] = refl
@@ -47,11 +47,11 @@ chained_on sc safe (sign op at, x) os t u v old mid new e f =
     ∙ follows old mid u (meaning sc safe x) (λ w. and_then (operation op at t w) (λ y. operations sc safe (operands_of os) y)) e
 
 joined_typed : (given : List (Type' × Span)) (old fs : List Fault) (t : Type') (s : Span) (rest : List (Type' × Span) × List Fault)
-    → all_behind (given ++ (t, s) ∷ []) (old ++ fs) rest ≡ all_behind given old (argument_then (typed t fs) s rest)
+    → all_after (given ++ (t, s) ∷ []) (old ++ fs) rest ≡ all_after given old (argument_then (typed t fs) s rest)
 joined_typed given old fs t s rest = λ d. (append_assoc given ((t, s) ∷ []) rest.0 d, append_assoc old fs rest.1 d)
 
 joined_on : (given : List (Type' × Span)) (old : List Fault) (x : Typed) (s : Span) (t : Type') (mid : List Fault) (rest : List (Type' × Span) × List Fault)
-    → typed t mid ≡ faults_then old x → all_behind (given ++ (t, s) ∷ []) mid rest ≡ all_behind given old (argument_then x s rest)
+    → typed t mid ≡ faults_then old x → all_after (given ++ (t, s) ∷ []) mid rest ≡ all_after given old (argument_then x s rest)
 joined_on given old (typed u fs) s t mid rest e =
     let p : t ≡ u = cc in
     let q : mid ≡ old ++ fs = cc in
@@ -59,18 +59,18 @@ joined_on given old (typed u fs) s t mid rest e =
 
 -- one more argument
 pub meanings_on : (sc : Scope) (safe : Bool) (x : Tree) (xs : List Tree) (t : Type') (given : List (Type' × Span)) (old mid : List Fault)
-    → typed t mid ≡ faults_then old (meaning sc safe x) → all_behind (given ++ (t, extent x) ∷ []) mid (meanings sc safe (arguments_of xs))
-    ≡ all_behind given old (meanings sc safe (arguments_of (x ∷ xs)))
+    → typed t mid ≡ faults_then old (meaning sc safe x) → all_after (given ++ (t, extent x) ∷ []) mid (meanings sc safe (arguments_of xs))
+    ≡ all_after given old (meanings sc safe (arguments_of (x ∷ xs)))
 meanings_on sc safe x xs t given old mid e = joined_on given old (meaning sc safe x) (extent x) t mid (meanings sc safe (arguments_of xs)) e
 
 -- a call's arguments, then the call itself
 pub called_on : (sc : Scope) (b : List ℕ) (s : Span) (f : Option Function) (ts : Arguments) (given : List (Type' × Span))
-    (old mid : List Fault) (m : List (Type' × Span) × List Fault) → (given, mid) ≡ all_behind [] old m
+    (old mid : List Fault) (m : List (Type' × Span) × List Fault) → (given, mid) ≡ all_after [] old m
     → faults_then mid (call_from sc b s f ts given) ≡ faults_then old (call sc b s f ts m)
 called_on sc b s f ts given old mid m e =
     let p : given ≡ m.0 = ap (λ x. x.0) e in
     let q : mid ≡ old ++ m.1 = ap (λ x. x.1) e in
-    rw (p, q) (behind-behind old m.1 (call_from sc b s f ts m.0))
+    rw (p, q) (after-after old m.1 (call_from sc b s f ts m.0))
 
 -- a path's base, then its steps, then the faults of the whole path
 pub path_on : (old m1 m2 new gs : List Fault) (u v : Type') (x : Typed) (go : Type' → Typed) → typed u m1 ≡ faults_then old x → typed v m2

@@ -9,7 +9,7 @@ use Rattle.al_base.specs.Ascii.{ascii}
 use Rattle.al_base.specs.Digits.{decimal, digit_of}
 use Rattle.al_base.specs.FirstBytes.{begins_with}
 use Rattle.std.specs.Char.{is_ascii_digit}
-use Rattle.al_expr_typing.specs.declared.placeholders.PlaceholderState.TheVariants.{Outside, BehindOpening, InIndex, BehindClosing}
+use Rattle.al_expr_typing.specs.declared.placeholders.PlaceholderState.TheVariants.{Outside, AfterOpening, InIndex, AfterClosing}
 use Rattle.al_expr_typing.specs.declared.placeholders.Turn.{Turn}
 use Rattle.al_expr_typing.specs.declared.placeholders.Turn.TheVariants.{To, Names, Wrong}
 use Rattle.al_expr_typing.specs.Placeholders.{Piece, Plain, Argument, NoPiece, argument_piece, piece_of, used_with, used_within}
@@ -18,8 +18,8 @@ use Rattle.al_expr_typing.specs.Private.PlaceholderStates.{after_turn, used_from
 -- ---- the states and the pieces of a text
 
 -- the result for the text that follows a piece
-abbrev behind : List Bool → Piece → Option (List Bool)
-behind used p = used_with (used_from Outside) used p
+abbrev after : List Bool → Piece → Option (List Bool)
+after used p = used_with (used_from Outside) used p
 
 -- the result for the text that follows a transition
 abbrev goes : List Bool → List ℕ → Turn → Option (List Bool)
@@ -30,62 +30,62 @@ abbrev number_on : ℕ → List ℕ → ℕ
 number_on n ds = number_from_digits_after 10 n (map digit_of ds)
 
 -- an index whose digits so far gave `n`, where the text that follows begins with `len` digits
-abbrev index_behind : ℕ → ℕ → List ℕ → Piece
-index_behind n len bs = cond (begins_with (ascii "}") (drop len bs)) (Argument (number_on n (take len bs)) (drop 1 (drop len bs))) NoPiece
+abbrev index_after : ℕ → ℕ → List ℕ → Piece
+index_after n len bs = cond (begins_with (ascii "}") (drop len bs)) (Argument (number_on n (take len bs)) (drop 1 (drop len bs))) NoPiece
 
 abbrev index_front : ℕ → List ℕ → Piece
 index_front len bs = argument_piece (take len bs) (drop len bs)
 
 index_at : (used : List Bool) (n b len : ℕ) (bs : List ℕ) (digit closing : Bool) → (b == ascii "}") ≡ closing
-    → used_from (InIndex (10 * n + (b - ascii "0"))) used bs ≡ behind used (index_behind (10 * n + (b - ascii "0")) len bs)
+    → used_from (InIndex (10 * n + (b - ascii "0"))) used bs ≡ after used (index_after (10 * n + (b - ascii "0")) len bs)
     → goes used bs (cond digit (To (InIndex (10 * n + (b - ascii "0")))) (cond closing (Names n) Wrong))
-    ≡ behind used (index_behind n (cond digit (1 + len) 0) (b ∷ bs))
+    ≡ after used (index_after n (cond digit (1 + len) 0) (b ∷ bs))
 index_at used n b len bs true closing e f =
     let same : 10 * n + (b - ascii "0") ≡ n * 10 + (b - ascii "0") = omega arith in
     let more : suc len ≡ 1 + len = omega arith in
-    f ∙ ap (λ m. behind used (index_behind m len bs)) same ∙ ap (λ l. behind used (index_behind n l (b ∷ bs))) more
-index_at used n b len bs false true e f = sym (ap (λ t. behind used (cond t (Argument n bs) NoPiece)) e)
-index_at used n b len bs false false e f = sym (ap (λ t. behind used (cond t (Argument n bs) NoPiece)) e)
+    f ∙ ap (λ m. after used (index_after m len bs)) same ∙ ap (λ l. after used (index_after n l (b ∷ bs))) more
+index_at used n b len bs false true e f = sym (ap (λ t. after used (cond t (Argument n bs) NoPiece)) e)
+index_at used n b len bs false false e f = sym (ap (λ t. after used (cond t (Argument n bs) NoPiece)) e)
 
-index : (used : List Bool) (n : ℕ) (bs : List ℕ) → used_from (InIndex n) used bs ≡ behind used (index_behind n (prefix_len is_ascii_digit bs) bs)
+index : (used : List Bool) (n : ℕ) (bs : List ℕ) → used_from (InIndex n) used bs ≡ after used (index_after n (prefix_len is_ascii_digit bs) bs)
 index used n [] = refl
 index used n (b ∷ bs) =
     index_at used n b (prefix_len is_ascii_digit bs) bs (is_ascii_digit b) (b == ascii "}") refl (index used (10 * n + (b - ascii "0")) bs)
 
-opening_at : (used : List Bool) (b len : ℕ) (bs : List ℕ) (opens digit : Bool) → used_from (InIndex (b - ascii "0")) used bs ≡ behind used (index_behind (b - ascii "0") len bs)
+opening_at : (used : List Bool) (b len : ℕ) (bs : List ℕ) (opens digit : Bool) → used_from (InIndex (b - ascii "0")) used bs ≡ after used (index_after (b - ascii "0") len bs)
     → goes used bs (cond opens (To Outside) (cond digit (To (InIndex (b - ascii "0"))) Wrong))
-    ≡ behind used (cond opens (Plain bs) (index_front (cond digit (1 + len) 0) (b ∷ bs)))
+    ≡ after used (cond opens (Plain bs) (index_front (cond digit (1 + len) 0) (b ∷ bs)))
 opening_at used b len bs true digit f = refl
 opening_at used b len bs false true f =
     let e : b - ascii "0" ≡ 0 * 10 + (b - ascii "0") = omega arith in
     let more : suc len ≡ 1 + len = omega arith in
-    f ∙ ap (λ n. behind used (index_behind n len bs)) e ∙ ap (λ l. behind used (index_front l (b ∷ bs))) more
+    f ∙ ap (λ n. after used (index_after n len bs)) e ∙ ap (λ l. after used (index_front l (b ∷ bs))) more
 opening_at used b len bs false false f = refl
 
 -- after a `{`
-opening : (used : List Bool) (bs : List ℕ) → used_from BehindOpening used bs
-    ≡ behind used (cond (begins_with (ascii "{") bs) (Plain (drop 1 bs)) (index_front (prefix_len is_ascii_digit bs) bs))
+opening : (used : List Bool) (bs : List ℕ) → used_from AfterOpening used bs
+    ≡ after used (cond (begins_with (ascii "{") bs) (Plain (drop 1 bs)) (index_front (prefix_len is_ascii_digit bs) bs))
 opening used [] = refl
 opening used (b ∷ bs) = opening_at used b (prefix_len is_ascii_digit bs) bs (b == ascii "{") (is_ascii_digit b) (index used (b - ascii "0") bs)
 
-closing_at : (used : List Bool) (bs : List ℕ) (closes : Bool) → goes used bs (cond closes (To Outside) Wrong) ≡ behind used (cond closes (Plain bs) NoPiece)
+closing_at : (used : List Bool) (bs : List ℕ) (closes : Bool) → goes used bs (cond closes (To Outside) Wrong) ≡ after used (cond closes (Plain bs) NoPiece)
 closing_at used bs true = refl
 closing_at used bs false = refl
 
 -- after a `}`
-closing : (used : List Bool) (bs : List ℕ) → used_from BehindClosing used bs ≡ behind used (cond (begins_with (ascii "}") bs) (Plain (drop 1 bs)) NoPiece)
+closing : (used : List Bool) (bs : List ℕ) → used_from AfterClosing used bs ≡ after used (cond (begins_with (ascii "}") bs) (Plain (drop 1 bs)) NoPiece)
 closing used [] = refl
 closing used (b ∷ bs) = closing_at used bs (b == ascii "}")
 
 piece_at : (used : List Bool) (bs : List ℕ) (opens closes : Bool)
-    → goes used bs (cond opens (To BehindOpening) (cond closes (To BehindClosing) (To Outside)))
-    ≡ behind used (cond opens (cond (begins_with (ascii "{") bs) (Plain (drop 1 bs)) (index_front (prefix_len is_ascii_digit bs) bs))
+    → goes used bs (cond opens (To AfterOpening) (cond closes (To AfterClosing) (To Outside)))
+    ≡ after used (cond opens (cond (begins_with (ascii "{") bs) (Plain (drop 1 bs)) (index_front (prefix_len is_ascii_digit bs) bs))
     (cond closes (cond (begins_with (ascii "}") bs) (Plain (drop 1 bs)) NoPiece) (Plain bs)))
 piece_at used bs true closes = opening used bs
 piece_at used bs false true = closing used bs
 piece_at used bs false false = refl
 
-piece : (used : List Bool) (b : ℕ) (bs : List ℕ) → used_from Outside used (b ∷ bs) ≡ behind used (piece_of (b ∷ bs))
+piece : (used : List Bool) (b : ℕ) (bs : List ℕ) → used_from Outside used (b ∷ bs) ≡ after used (piece_of (b ∷ bs))
 piece used b bs = piece_at used bs (b == ascii "{") (b == ascii "}")
 
 -- ---- the text after a piece is shorter
@@ -116,7 +116,7 @@ piece_within b bs n h =
 abbrev AreWithin : ℕ → Type 0
 AreWithin n = (used : List Bool) (bs : List ℕ) → length bs ≤ n → used_from Outside used bs ≡ used_within n used bs
 
-further : (n : ℕ) (used : List Bool) (p : Piece) → IsWithin n p → AreWithin n → behind used p ≡ used_with (used_within n) used p
+further : (n : ℕ) (used : List Bool) (p : Piece) → IsWithin n p → AreWithin n → after used p ≡ used_with (used_within n) used p
 further n used NoPiece h f = refl
 further n used (Plain rest) h f = f used rest h
 further n used (Argument k rest) h f = ap (λ o. cond (nat_lt k (length used)) o None) (f (slice_set used k true) rest h)

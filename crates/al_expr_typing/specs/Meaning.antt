@@ -208,8 +208,8 @@ step_from sc safe (tree.All a b) u = all_of (across a b) u
 step_from sc safe (tree.Index a t b) u = index_from (literal_text t) (across a b) u (meaning sc safe t)
 
 -- the same with these arguments and faults before the others
-abbrev pub all_behind : List (Type' × Span) → List Fault → List (Type' × Span) × List Fault → List (Type' × Span) × List Fault
-all_behind before' old more = (before' ++ more.0, old ++ more.1)
+abbrev pub all_after : List (Type' × Span) → List Fault → List (Type' × Span) × List Fault → List (Type' × Span) × List Fault
+all_after before' old more = (before' ++ more.0, old ++ more.1)
 
 abbrev pub meaning_of : Scope → Tree → Typed
 meaning_of sc t = meaning sc false t

@@ -180,12 +180,12 @@ fn check_format(
         return Ok(());
     };
     match literal_text(faults.alloc(), first)? {
-        Some(literal) => check_placeholders(&literal, behind_first(arguments), faults),
+        Some(literal) => check_placeholders(&literal, after_first(arguments), faults),
         None => Ok(()),
     }
 }
 
-fn behind_first(arguments: &[Argument]) -> &[Argument]
+fn after_first(arguments: &[Argument]) -> &[Argument]
     ensures { (ms : List Parts) → map (argument_in ms) result.now
         ≡ drop 1 (map (argument_in ms) arguments.now) }
 {

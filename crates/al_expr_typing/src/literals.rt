@@ -26,7 +26,7 @@ pub struct Literal {
 pub(crate) enum Quoting {
     Opening,
     Inside,
-    BehindQuote,
+    AfterQuote,
 }
 
 /// The value of a string literal, in brackets or not; `None` if the expression isn't one.
@@ -74,7 +74,7 @@ fn add(quoting: Quoting, ch: char, value: &mut String) -> Result<(), AllocError>
     match quoting {
         Quoting::Opening => Ok(()),
         Quoting::Inside if ch == '\'' => Ok(()),
-        Quoting::Inside | Quoting::BehindQuote => value.push(ch),
+        Quoting::Inside | Quoting::AfterQuote => value.push(ch),
     }
 }
 
@@ -82,8 +82,8 @@ fn moves(quoting: Quoting, ch: char) -> Quoting
     ensures { result ≡ moves quoting ch }
 {
     match quoting {
-        Quoting::Inside if ch == '\'' => Quoting::BehindQuote,
-        Quoting::Opening | Quoting::Inside | Quoting::BehindQuote => Quoting::Inside,
+        Quoting::Inside if ch == '\'' => Quoting::AfterQuote,
+        Quoting::Opening | Quoting::Inside | Quoting::AfterQuote => Quoting::Inside,
     }
 }
 

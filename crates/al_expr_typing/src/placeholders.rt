@@ -11,10 +11,10 @@ use std::alloc::{AllocError, Global};
 #[derive(Clone, Copy)]
 pub(crate) enum PlaceholderState {
     Outside,
-    BehindOpening,
+    AfterOpening,
     /// After a digit of an index that has this value so far.
     InIndex(u128),
-    BehindClosing,
+    AfterClosing,
 }
 
 /// What a byte of a format string leads to: another state, the index that it ends, or a wrong brace.
@@ -44,9 +44,9 @@ pub(crate) fn used_arguments(
     }
     match state {
         PlaceholderState::Outside => Ok(Some(used)),
-        PlaceholderState::BehindOpening
+        PlaceholderState::AfterOpening
         | PlaceholderState::InIndex(_)
-        | PlaceholderState::BehindClosing => Ok(None),
+        | PlaceholderState::AfterClosing => Ok(None),
     }
 }
 
@@ -80,22 +80,22 @@ fn read_byte(state: PlaceholderState, byte: u8) -> Turn
     ensures { result ≡ turn state byte }
 {
     match (state, byte) {
-        (PlaceholderState::Outside, b'{') => Turn::To(PlaceholderState::BehindOpening),
-        (PlaceholderState::Outside, b'}') => Turn::To(PlaceholderState::BehindClosing),
+        (PlaceholderState::Outside, b'{') => Turn::To(PlaceholderState::AfterOpening),
+        (PlaceholderState::Outside, b'}') => Turn::To(PlaceholderState::AfterClosing),
         (PlaceholderState::Outside, _) => Turn::To(PlaceholderState::Outside),
-        (PlaceholderState::BehindOpening, b'{') => Turn::To(PlaceholderState::Outside),
-        (PlaceholderState::BehindOpening, b'0'..=b'9') => Turn::To(PlaceholderState::InIndex(
+        (PlaceholderState::AfterOpening, b'{') => Turn::To(PlaceholderState::Outside),
+        (PlaceholderState::AfterOpening, b'0'..=b'9') => Turn::To(PlaceholderState::InIndex(
             u128::from(byte - b'0'),
         )),
         (PlaceholderState::InIndex(index), b'0'..=b'9') => {
             Turn::To(PlaceholderState::InIndex(10 * index + u128::from(byte - b'0')))
         }
         (PlaceholderState::InIndex(index), b'}') => Turn::Names(index),
-        (PlaceholderState::BehindClosing, b'}') => Turn::To(PlaceholderState::Outside),
+        (PlaceholderState::AfterClosing, b'}') => Turn::To(PlaceholderState::Outside),
         (
-            PlaceholderState::BehindOpening
+            PlaceholderState::AfterOpening
             | PlaceholderState::InIndex(_)
-            | PlaceholderState::BehindClosing,
+            | PlaceholderState::AfterClosing,
             _,
         ) => Turn::Wrong,
     }

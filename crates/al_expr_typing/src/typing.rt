@@ -8,7 +8,7 @@ ghost use Rattle.al_expr_types.specs.Types as numbers;
 ghost use Rattle.al_expr_types.specs.Tables.{is_known, objects_of, type_at};
 ghost use Rattle.al_base.specs.Growth.{BeginsWith};
 ghost use Rattle.al_expr_typing.specs.Meaning.{typed, type_found, faults_found, faults_then, meaning_of, walk, operations, meanings};
-ghost use Rattle.al_expr_typing.specs.Meaning.{begins_logic, untrusted_faults, all_behind, step_from, index_from};
+ghost use Rattle.al_expr_typing.specs.Meaning.{begins_logic, untrusted_faults, all_after, step_from, index_from};
 ghost use Rattle.al_expr_typing.specs.Steps.{base_name};
 ghost use Rattle.al_expr_typing.specs.Meaning as meaning;
 ghost use Rattle.al_expr_typing.specs.Literals.{literal_text};
@@ -344,7 +344,7 @@ fn typed_arguments(
 ) -> Result<Vec<Argument>, AllocError>
     requires shown { IsShown types.old around.scope.now }
     ensures ok { IfOk result
-        (λ v. (map (argument_at types.new) v.items, faults.new) ≡ all_behind [] faults.old
+        (λ v. (map (argument_at types.new) v.items, faults.new) ≡ all_after [] faults.old
         (meanings (scope_view types.old (around.entry).scope.now) (around.entry).safe
         (arguments_of (map expr_view exprs.now)))) }
     ensures known { IfOk result (λ v. are_known types.new v.items ≡ true) }

@@ -16,7 +16,7 @@ pub fn placeholder_rows()
     ensures past_the_arguments { used_arguments 2 (codes "{0} {2}") ≡ None }
     ensures no_digit { used_arguments 1 (codes "{}") ≡ None }
     ensures letter { used_arguments 1 (codes "{x}") ≡ None }
-    ensures letter_behind { used_arguments 1 (codes "{0x}") ≡ None }
+    ensures letter_after { used_arguments 1 (codes "{0x}") ≡ None }
     ensures opening_alone { used_arguments 1 (codes "{") ≡ None }
     ensures index_open { used_arguments 1 (codes "{0") ≡ None }
     ensures closing_alone { used_arguments 1 (codes "-0}") ≡ None }

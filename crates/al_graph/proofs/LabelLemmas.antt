@@ -137,7 +137,7 @@ module _ (graph : List (List ℕ)) (order : List ℕ) where
         λ c from to. ⊎_elim
             (λ before. both_walks graph (node_at order c) (node_at order bj) (node_at order at)
             (back.nested b bj c from (omega (arith, before)) (omega (arith, low, inside)) places) (up.3 bj (omega arith) low))
-            (λ behind. up.3 c behind to) (cases_lt c bj),
+            (λ later. up.3 c later to) (cases_lt c bj),
       )
 
   pub labelling_next : (labels new : List (Option ℕ)) (at node : ℕ) (all rest found : List ℕ) → ((j k : ℕ) → Edge graph j k → k < length graph) → IsBackward graph order →

@@ -11,7 +11,7 @@ use Rattle.std.specs.Prelude.{◌↔◌, Contains}
 use Rattle.al_base.specs.declared.faults.Fault.{Fault}
 use Rattle.al_yaml_tree.specs.Node.{Node}
 use Rattle.al_graph.specs.Graphs.{Edge, StronglyConnected, Walk, edges_of, here, onward}
-use Rattle.al_graph.proofs.FilterMaps.{put_behind, put_first}
+use Rattle.al_graph.proofs.FilterMaps.{put_after, put_first}
 use Rattle.al_graph.proofs.Labels.{labels_same}
 use Rattle.al_tree.proofs.Lists.{left_next}
 use Rattle.al_rules.specs.Private.Components.{has_label_of, labelled_fault, labelled_faults, named_by}
@@ -65,7 +65,7 @@ module _ (position : List ℕ → Option ℕ) (graph : List (List ℕ)) (labels 
   led_to P [] f = tt
   led_to P (n ∷ ns) f = (
     (λ j e. f j (put_first (named_by position) (named_by position n) j (filter_map (named_by position) ns) e)),
-    led_to P ns (λ k c. f k (put_behind (named_by position) (named_by position n) k (filter_map (named_by position) ns) c)),
+    led_to P ns (λ k c. f k (put_after (named_by position) (named_by position n) k (filter_map (named_by position) ns) c)),
   )
 
   job_is : (i : ℕ) (job : Node × Node) → i < length graph → get_or graph i [] ≡ filter_map (named_by position) (needs_of job)

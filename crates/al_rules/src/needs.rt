@@ -100,7 +100,7 @@ fn has_label_of(labels: &[Option<usize>], job: usize, other: usize) -> bool
     label_of(labels, job) == label_of(labels, other)
 }
 
-/// Adds the fault of an entry, if any: it names no job, or one that leads back to its own job.
+/// Adds the fault of an entry, if any: it names no job, or it is on a cycle of `needs`.
 fn check_need(graph: JobGraph<'_>, need: Need<'_>, faults: &mut FaultSink) -> Result<(), AllocError>
     ensures { OnOk result (faults.new ≡ faults.old
         ++ labelled_fault graph.entry.labels.now (need_of need.entry)

@@ -54,8 +54,8 @@ abbrev mutual
   goes_on_in_class (c ∷ cs) = if c == ascii "]" then are_items_from true cs else goes_on_in_class cs
 
 -- the characters after a leading `!`
-abbrev pub behind_not : List ℕ → List ℕ
-behind_not cs = if begins_with (ascii "!") cs then drop 1 cs else cs
+abbrev pub after_not : List ℕ → List ℕ
+after_not cs = if begins_with (ascii "!") cs then drop 1 cs else cs
 
 abbrev pub is_barred : ℕ → Bool
 is_barred c = c == ascii " " || c == ascii "~" || c == ascii "^" || c == ascii ":"
@@ -63,11 +63,11 @@ is_barred c = c == ascii " " || c == ascii "~" || c == ascii "^" || c == ascii "
 -- a path filter can't begin with `./`, and filters of branches and tags can't have some characters
 abbrev pub has_barred : Filter → List ℕ → Bool
 has_barred Names cs = list_any is_barred cs
-has_barred Paths cs = starts_with nat_eq (behind_not cs) (codes "./")
+has_barred Paths cs = starts_with nat_eq (after_not cs) (codes "./")
 
 -- a pattern by its characters: an optional `!`, then one or more items
 abbrev pub is_right : Filter → List ℕ → Bool
-is_right filter cs = not (has_barred filter cs) && (are_items_from false cs || are_items_from false (behind_not cs))
+is_right filter cs = not (has_barred filter cs) && (are_items_from false cs || are_items_from false (after_not cs))
 
 abbrev pub is_pattern : Filter → List ℕ → Bool
 is_pattern filter bs = is_right filter (chars (utf8_lossy bs))

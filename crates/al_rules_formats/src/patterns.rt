@@ -1,6 +1,6 @@
 //! Filter patterns, of branches, tags and paths (GitHub, "Workflow syntax", "Filter pattern cheat sheet").
 
-ghost use Rattle.al_rules_formats.specs.Patterns.{are_items_from, behind_not as without_not, has_barred as barred, is_barred};
+ghost use Rattle.al_rules_formats.specs.Patterns.{are_items_from, after_not as without_not, has_barred as barred, is_barred};
 ghost use Rattle.al_rules_formats.specs.Patterns.{is_pattern as pattern, is_right};
 ghost use Rattle.al_rules_formats.specs.Private.PatternStates.{outside as outside_class, read as read_one};
 ghost use Rattle.std.specs.List.{list_any, starts_with};
@@ -38,13 +38,13 @@ pub(crate) enum State {
 }
 
 /// The state after one more character outside a class, whether after an item or not.
-fn outside(is_behind: bool, c: char) -> Option<State>
-    ensures { result ≡ outside_class is_behind c }
+fn outside(is_after: bool, c: char) -> Option<State>
+    ensures { result ≡ outside_class is_after c }
 {
     match c {
         '\\' => Some(State::AfterEscape),
         '[' => Some(State::ClassFirst),
-        '?' | '+' if is_behind => Some(State::AfterItem),
+        '?' | '+' if is_after => Some(State::AfterItem),
         '?' | '+' => None,
         _ => Some(State::AfterItem),
     }
@@ -86,7 +86,7 @@ fn are_items(characters: &[char]) -> bool
 }
 
 /// The characters after a leading `!`, if there is one.
-fn behind_not(characters: &[char]) -> &[char]
+fn after_not(characters: &[char]) -> &[char]
     ensures { result.now ≡ without_not characters.now }
 {
     match characters {
@@ -122,7 +122,7 @@ fn has_barred(filter: Filter, characters: &[char]) -> bool
 {
     match filter {
         Filter::Names => has_barred_character(characters),
-        Filter::Paths => is_relative(behind_not(characters)),
+        Filter::Paths => is_relative(after_not(characters)),
     }
 }
 
@@ -130,7 +130,7 @@ fn has_barred(filter: Filter, characters: &[char]) -> bool
 fn is_right_pattern(filter: Filter, characters: &[char]) -> bool
     ensures { result ≡ is_right filter characters.now }
 {
-    !has_barred(filter, characters) && (are_items(characters) || are_items(behind_not(characters)))
+    !has_barred(filter, characters) && (are_items(characters) || are_items(after_not(characters)))
 }
 
 /// The characters of a text. Fails with `AllocError` when out of memory.

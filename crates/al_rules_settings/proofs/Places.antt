@@ -60,9 +60,9 @@ module _ (size : ℕ) where
   before_end end other (c ∷ cs) zero b h ne = b.0 ne
   before_end end other (c ∷ cs) (suc i) b h ne = let more : i < length cs = omega (arith, h) in before_end end other cs i b.1 more ne
 
-  behind_at : (b : Bool) (from last : ℕ) → from ≤ last → last < size → LiesIn size (record { start = from; end = cond b (last + 1) last })
-  behind_at true from last o l = record { ordered = omega (arith, o); inside = omega (arith, l) }
-  behind_at false from last o l = record { ordered = o; inside = omega (arith, l) }
+  after_at : (b : Bool) (from last : ℕ) → from ≤ last → last < size → LiesIn size (record { start = from; end = cond b (last + 1) last })
+  after_at true from last o l = record { ordered = omega (arith, o); inside = omega (arith, l) }
+  after_at false from last o l = record { ordered = o; inside = omega (arith, l) }
 
   -- what is looked for ends in a byte that is no line feed
   abbrev IsNeedle : List ℕ → Type 0
@@ -85,7 +85,7 @@ module _ (size : ℕ) where
       let ends : offset_of t.0 last < t.0.end = before_end t.0.end t.0.end cells last p.placed.before inside (λ e. n (sym at_last ∙ e)) in
       let to : t.1.end ≤ size = p.place.inside in
       let same : t.0.end ≡ t.1.end = p.placed.end in
-      behind_at (nat_lt (offset_of t.0 last) (2 ^ 32 - 1)) (offset_of t.0 i) (offset_of t.0 last) rises (omega (arith, ends, to, same))
+      after_at (nat_lt (offset_of t.0 last) (2 ^ 32 - 1)) (offset_of t.0 i) (offset_of t.0 last) rises (omega (arith, ends, to, same))
 
   command_lies : (t : Scalar × Span) (c : List ℕ × List ℕ) → Text size t → IsNeedle c.0 → AllByRecursion (Lies size) (one_command t.0 c)
   command_lies t c p n =

@@ -24,13 +24,13 @@ repeated_next first ids i d told mid new all firsts is within before added =
     let text = id.text.now in
     let here : id ≡ get_or ids i id = get_or_default ids i d id within in
     let seen = texts (take i ids) in
-    let behind = texts (take (i + 1) ids) in
+    let after = texts (take (i + 1) ids) in
     let left = map named_of (drop (i + 1) ids) in
-    let more : behind ≡ seen ++ text ∷ [] = texts_next (λ n. n.text) named_of ids i id within here in
+    let more : after ≡ seen ++ text ∷ [] = texts_next (λ n. n.text) named_of ids i id within here in
     let there : get_or (texts ids) i [] ≡ text = text_there (λ n. n.text) named_of ids ids i id refl within here in
     let right : told ≡ is_none (name_place seen text) = is ∙ told_first (λ n. n.text) named_of ids i text first firsts within there in
-    ap (λ l. l ++ repeated_faults behind left) added
-    ∙ ap (λ b. (mid ++ unless b RepeatedId (named_of id)) ++ repeated_faults behind left) right
+    ap (λ l. l ++ repeated_faults after left) added
+    ∙ ap (λ b. (mid ++ unless b RepeatedId (named_of id)) ++ repeated_faults after left) right
     ∙ ap (λ ts. (mid ++ unless (is_none (name_place seen text)) RepeatedId (named_of id)) ++ repeated_faults ts left) more
     ∙ append_assoc mid (unless (is_none (name_place seen text)) RepeatedId (named_of id)) (repeated_faults (seen ++ text ∷ []) left)
     ∙ ap (λ l. mid ++ repeated_faults seen l) (sym (left_next named_of ids i id within here))

@@ -9,12 +9,12 @@ use Rattle.al_scalar.specs.Scalar.{Scalar, offset_of, text_of}
 use Rattle.al_rules_settings.specs.Words.{rule_fault}
 
 -- the offset after this one; no file has the offset 2^32 - 1
-abbrev pub place_behind : ℕ → ℕ
-place_behind at = if nat_lt at (2 ^ 32 - 1) then at + 1 else at
+abbrev pub place_after : ℕ → ℕ
+place_after at = if nat_lt at (2 ^ 32 - 1) then at + 1 else at
 
 -- the span in the file of n bytes from the index i on
 abbrev pub part_span : Scalar → ℕ → ℕ → Span
-part_span s i n = record { start = offset_of s i; end = place_behind (offset_of s (i + n - 1)) }
+part_span s i n = record { start = offset_of s i; end = place_after (offset_of s (i + n - 1)) }
 
 -- a command: the text that it begins with, and its name
 abbrev pub commands : List (List ℕ × List ℕ)

@@ -1,6 +1,6 @@
 //! Deprecated commands in scripts (GitHub, "Workflow commands").
 
-ghost use Rattle.al_rules_settings.specs.Commands.{command_fault, command_faults, one_command, place_behind};
+ghost use Rattle.al_rules_settings.specs.Commands.{command_fault, command_faults, one_command, place_after};
 ghost use Rattle.al_rules_settings.specs.Views.{command_of};
 ghost use Rattle.al_scalar.specs.Scalar.{text_of};
 ghost use Rattle.std.specs.Prelude.{◌≡◌, ◌<◌, ◌≤◌, ◌+◌, ◌^◌, ◌++◌, ◌∷◌, [], length, OnOk};
@@ -40,7 +40,7 @@ const ADD_PATH: Command = Command {
 
 /// The offset after this one.
 fn next_place(at: u32) -> u32
-    ensures { result ≡ place_behind at }
+    ensures { result ≡ place_after at }
 {
     if at < u32::MAX { at + 1 } else { at }
 }

@@ -16,9 +16,9 @@ use Rattle.al_scalar.specs.Offsets.{AreBefore, AreClimbing}
 use Rattle.al_scalar.specs.Taken.{Taken, ◌>>=◌, feeds}
 use Rattle.al_scalar.specs.declared.faults.FaultAt.{FaultAt}
 use Rattle.al_scalar.proofs.OffsetLemmas.{choose, climbing-order, climbing-lower, climbing-blanks}
-use Rattle.al_scalar.proofs.Standing.{start-behind, stand-higher}
+use Rattle.al_scalar.proofs.Standing.{start-after, stand-higher}
 use Rattle.al_scalar.proofs.TakenLemmas.{IsFrom, IsRest, AreLeft, from-none, from-ascii, from-join, from-wider, from-order, from-rest, from-feeds, from-folded}
-use Rattle.al_scalar.proofs.TakenLemmas.{rest-behind, rest-lower, left-cut, left-first, left-lower, left-later, left-at_end, left-start}
+use Rattle.al_scalar.proofs.TakenLemmas.{rest-after, rest-lower, left-cut, left-first, left-lower, left-later, left-at_end, left-start}
 
 -- ---- rows
 
@@ -27,9 +27,9 @@ abbrev break_at : ℕ → List ℕ → ℕ
 break_at high [] = high
 break_at high (e ∷ es) = e
 
-abbrev break_behind : ℕ → List ℕ → ℕ
-break_behind high [] = high
-break_behind high (e ∷ es) = e + 1
+abbrev break_after : ℕ → List ℕ → ℕ
+break_after high [] = high
+break_after high (e ∷ es) = e + 1
 
 -- the break of the last line with text, and those of the empty lines since
 record ArePending (U : Type 0) (low mid high : ℕ) (last : Option BlockLine) (empties : List ℕ) : Type 0 where
@@ -50,14 +50,14 @@ before-climbing : (low high end at : ℕ) (cs : List Cell) → AreClimbing low h
 before-climbing low high end at [] h a = tt
 before-climbing low high end at (c ∷ cs) h a = ((λ _. let k = (last-in (c.1 + 1) high (c.1 + 1) cs h.1 (omega arith)).0 in omega (arith, k, a)), before-climbing (c.1 + 1) high end (c.1 + 1) cs h.1 a)
 
-last-behind : (low high at : ℕ) (cs : List Cell) → AreClimbing low high cs → is_empty cs ≡ false → low < last_end cs at
-last-behind low high at [] h e = absurd cc
-last-behind low high at (c ∷ cs) h e = let k = (last-in (c.1 + 1) high (c.1 + 1) cs h.1 (omega arith)).0 in let b = h.0 in omega (arith, k, b)
+last-after : (low high at : ℕ) (cs : List Cell) → AreClimbing low high cs → is_empty cs ≡ false → low < last_end cs at
+last-after low high at [] h e = absurd cc
+last-after low high at (c ∷ cs) h e = let k = (last-in (c.1 + 1) high (c.1 + 1) cs h.1 (omega arith)).0 in let b = h.0 in omega (arith, k, b)
 
 module _ (U : Type 0) where
   abbrev AreRows : ℕ → ℕ → List BlockLine → Type 0
   AreRows low high [] = low ≤ high
-  AreRows low high (r ∷ rs) = IsRest U low (break_at high r.break) r.text × IsFrom U (break_at high r.break) (break_behind high r.break) (feeds r.break) × AreRows (break_behind high r.break) high rs
+  AreRows low high (r ∷ rs) = IsRest U low (break_at high r.break) r.text × IsFrom U (break_at high r.break) (break_after high r.break) (feeds r.break) × AreRows (break_after high r.break) high rs
 
   abbrev IsRowText : ℕ → ℕ → Option (List Cell) → Type 0
   IsRowText low end None = Unit {0}
@@ -68,7 +68,7 @@ module _ (U : Type 0) where
   drop-rest (suc m) low end [] e h = h
   drop-rest (suc m) low end (c ∷ cs) e h =
       let step : (c.0 < 128) × (nat_le m (indent cs) ≡ true) = (grind (arith, nat_tests), grind (arith, nat_tests)) in
-      drop-rest m low end cs step.1 (rest-lower (omega (arith, h.climbing.0)) (rest-behind step.0 h))
+      drop-rest m low end cs step.1 (rest-lower (omega (arith, h.climbing.0)) (rest-after step.0 h))
 
   row-from : (m : Option ℕ) (found : Bool) (low end : ℕ) (cs : List Cell) → IsRest U low end cs → IsRowText low end (row_of m found cs)
   row-from m found low end cs h = by-indent m
@@ -93,7 +93,7 @@ module _ (U : Type 0) where
         | Some text ↦ (if l.last then record { rows = record { text = text; break = [] } ∷ []; left = at_end l }
             else with_row (record { text = text; break = l.end ∷ [] }) below)
       ])
-  rows-by size low l ls below h more None k = (start-behind size low (l ∷ ls) h.stand, h)
+  rows-by size low l ls below h more None k = (start-after size low (l ∷ ls) h.stand, h)
   rows-by size low l ls below h more (Some text) k = choose (IsRows size low) l.last
       (λ _. ((k, from-none (omega arith), omega arith), left-at_end h))
       (λ e. let m = more (left-later e h) in
@@ -157,7 +157,7 @@ module _ (U : Type 0) where
       let first = own.0 in
       let last = own.1 in
       let break = from-order h.1 in
-      let more = rows-end (last_end r.text at) (break_behind high r.break) high rs h.2 (omega (arith, last, break)) in
+      let more = rows-end (last_end r.text at) (break_after high r.break) high rs h.2 (omega (arith, last, break)) in
       (omega (arith, first, more.0), more.1)
 
   text-given : (is_literal : Bool) (k : Chomping) (low mid next high : ℕ) (last : Option BlockLine) (empties : List ℕ) (at : ℕ) (rs : List BlockLine)
@@ -166,21 +166,21 @@ module _ (U : Type 0) where
       final_breaks-given {last = last} k (record { own = h.own; since = from-wider (omega arith) rows h.since })
   text-given is_literal k low mid next high last empties at (r ∷ rs) h rows a =
       let break = break_at high r.break in
-      let behind = break_behind high r.break in
+      let after = break_after high r.break in
       let now = last_end r.text at in
       let end = rows_end now rs in
       let line = climbing-order next break r.text rows.0.climbing in
       let order = from-order rows.1 in
       let below = (last-in next break at r.text rows.0.climbing a).1 in
-      let inside : now ≤ behind = omega (arith, order, below) in
-      let ends = (rows-end now behind high rs rows.2 inside).0 in
+      let inside : now ≤ after = omega (arith, order, below) in
+      let ends = (rows-end now after high rs rows.2 inside).0 in
       choose (AreGiven low high end) (is_empty r.text)
-      (λ _. text-given is_literal k low mid behind high last (empties ++ r.break) now rs
+      (λ _. text-given is_literal k low mid after high last (empties ++ r.break) now rs
       (record { own = h.own; since = from-feeds empties r.break h.since (from-wider line (omega arith) rows.1) }) rows.2 inside)
-      (λ e. let first = last-behind next break at r.text rows.0.climbing e in
+      (λ e. let first = last-after next break at r.text rows.0.climbing e in
       let text : AreGiven next break end r.text = record { from = from-rest rows.0; before = before-climbing next break end at r.text rows.0.climbing ends } in
       let more : AreGiven break high end (text_after is_literal k (Some r) [] rs) =
-      text-given is_literal k break behind behind high (Some r) [] now rs (record { own = rows.1; since = from-none (omega arith) }) rows.2 inside in
+      text-given is_literal k break after after high (Some r) [] now rs (record { own = rows.1; since = from-none (omega arith) }) rows.2 inside in
       given-join (given-join (joint-given is_literal last empties r h (omega (arith, first, ends))) text) more)
 
 -- ---- the header
@@ -211,9 +211,9 @@ header-in digit sign low at end (c ∷ cs) a h =
     (λ _. choose (HeaderIn low end) (is_none sign && is_sign c.0) (λ _. header-in digit (Some (chomping_of c.0)) low (at + 1) end cs (omega (arith, a)) more)
     (λ _. header_end-in low at end (record { digit = digit; chomping = unwrap_or sign Clip; end = at }) (c ∷ cs) a (omega (arith, b, f)) h))
 
-pub behind-indicator : (q low end : ℕ) (cs : List Cell) → begins q cs ≡ true → AreClimbing low end cs → AreClimbing (place cs end + 1) end (drop 1 cs)
-behind-indicator q low end [] e h = absurd cc
-behind-indicator q low end (c ∷ cs) e h = h.1
+pub after-indicator : (q low end : ℕ) (cs : List Cell) → begins q cs ≡ true → AreClimbing low end cs → AreClimbing (place cs end + 1) end (drop 1 cs)
+after-indicator q low end [] e h = absurd cc
+after-indicator q low end (c ∷ cs) e h = h.1
 
 -- ---- the scalar
 
@@ -252,4 +252,4 @@ module _ (size : ℕ) (U : Type 0) where
   block-from is_literal within low q l ls e h =
       let at = place l.text l.end in
       block-by is_literal within at l ls (left-start h) (header None None (at + 1) (drop 1 l.text))
-      (header-in None None at (at + 1) l.end (drop 1 l.text) (omega arith) (behind-indicator q low l.end l.text e h.stand.0.0))
+      (header-in None None at (at + 1) l.end (drop 1 l.text) (omega arith) (after-indicator q low l.end l.text e h.stand.0.0))

@@ -13,13 +13,13 @@ use Rattle.al_scalar.proofs.LineCells.{has_line, cell_at, lines-at_end, lines_at
 use Rattle.al_scalar.proofs.RowLemmas.{of_rows, final_breaks-none}
 
 -- the rows after the first line, which has header h
-abbrev pub rows_behind : ℕ → List Line → Header → Rows
-rows_behind within xs h =
+abbrev pub rows_after : ℕ → List Line → Header → Rows
+rows_after within xs h =
     cond (first_last xs) (record { rows = []; left = record { text = []; end = first_end xs; last = true } ∷ [] })
     (rows_at (content_indent h.digit within (later xs)) (is_some h.digit) (later xs))
 
 abbrev pub body : Bool → ℕ → List Line → Header → Result Taken FaultAt
-body lit within xs h = Ok (of_rows lit h.chomping None [] h.end (rows_behind within xs h))
+body lit within xs h = Ok (of_rows lit h.chomping None [] h.end (rows_after within xs h))
 
 block-body : (lit : Bool) (within : ℕ) (xs : List Line) → has_line xs ≡ true
     → block_scalar lit within xs ≡ (header None None (place (first_text xs) (first_end xs) + 1) (drop 1 (first_text xs)) >>= body lit within xs)
@@ -59,8 +59,8 @@ module _ (lit : Bool) (within : ℕ) (bytes : List ℕ) (at : ℕ) (here : IsIns
   block-more h stop first g s u z =
       let xs = lines_at bytes at in
       let is_last : first_last xs ≡ false = first-same.last ∙ s.last ∙ u.last ∙ ap first_last z in
-      let behind : later xs ≡ lines_at bytes first = first-same.later ∙ s.later ∙ u.later ∙ ap later z in
-      block-given ∙ rw (g, is_last, behind) refl
+      let after : later xs ≡ lines_at bytes first = first-same.later ∙ s.later ∙ u.later ∙ ap later z in
+      block-given ∙ rw (g, is_last, after) refl
 
 -- the rest of the scalar, with the indent and the text as the code holds them
 pub rest-style : (lit : Bool) (k : Chomping) (m m' : Option ℕ) (b b' : Bool) (end : ℕ) (old : List Cell) (ls : List Line) → m' ≡ m → b' ≡ b → old ≡ []

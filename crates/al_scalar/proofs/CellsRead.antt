@@ -8,9 +8,9 @@ use Rattle.std.specs.Prelude.{IsUtf8}
 use Rattle.al_scalar.specs.Line.{Cell, Line, cut, place, is_blank, after_blanks}
 use Rattle.al_scalar.specs.Offsets.{AreClimbing, AreRising}
 use Rattle.al_scalar.specs.Quoted.{character_cells}
-use Rattle.al_scalar.proofs.OffsetLemmas.{choose, climbing-behind, climbing-lower}
+use Rattle.al_scalar.proofs.OffsetLemmas.{choose, climbing-after, climbing-lower}
 use Rattle.al_scalar.proofs.TakenLemmas.{IsFrom, IsRest, AreLeft, from-cell, from-join, from-none, from-wider, left-cut, left-first}
-use Rattle.al_scalar.proofs.Utf8Lemmas.{bytes_of, split-before, split-behind}
+use Rattle.al_scalar.proofs.Utf8Lemmas.{bytes_of, split-before, split-after}
 use Rattle.al_scalar.proofs.Utf8Texts.{IsText, text-join, one-ascii}
 
 -- `text` is decoded from the cells, and `rest` remains: this keeps UTF-8, after any bytes p, and the order of offsets.
@@ -41,9 +41,9 @@ module _ {text rest : List Cell} where
   reads-left_out c cs a h = record {
     utf8 = λ p u.
         let s = split-before p c.0 (bytes_of cs) a u in
-        let k = h.utf8 [] (split-behind c.0 (bytes_of cs) a s.1) in
+        let k = h.utf8 [] (split-after c.0 (bytes_of cs) a s.1) in
         (IsUtf8-append p (bytes_of text) s.0 k.0, k.1);
-    offsets = λ low end o. h.offsets low end (climbing-behind low end c cs o);
+    offsets = λ low end o. h.offsets low end (climbing-after low end c cs o);
   }
 
   -- an ASCII cell after the first one is left out
@@ -51,8 +51,8 @@ module _ {text rest : List Cell} where
   reads-second c d cs a b h = record {
     utf8 = λ p u.
         let s = split-before p c.0 (bytes_of (d ∷ cs)) a u in
-        let behind = split-behind d.0 (bytes_of cs) b (split-behind c.0 (bytes_of (d ∷ cs)) a s.1) in
-        h.utf8 p (IsUtf8-append p (bytes_of (c ∷ cs)) s.0 (IsUtf8-append (c.0 ∷ []) (bytes_of cs) (one-ascii c.0 a) behind));
+        let after = split-after d.0 (bytes_of cs) b (split-after c.0 (bytes_of (d ∷ cs)) a s.1) in
+        h.utf8 p (IsUtf8-append p (bytes_of (c ∷ cs)) s.0 (IsUtf8-append (c.0 ∷ []) (bytes_of cs) (one-ascii c.0 a) after));
     offsets = λ low end o. h.offsets low end (o.0, climbing-lower (d.1 + 1) (c.1 + 1) end cs (omega (arith, o.1.0)) o.1.1);
   }
 
@@ -61,7 +61,7 @@ module _ {text rest : List Cell} where
   reads-written c cs code a v h = record {
     utf8 = λ p u.
         let s = split-before p c.0 (bytes_of cs) a u in
-        let k = h.utf8 [] (split-behind c.0 (bytes_of cs) a s.1) in
+        let k = h.utf8 [] (split-after c.0 (bytes_of cs) a s.1) in
         let written = subst IsUtf8 (sym (bytes-at (encode_utf8 code))) (IsUtf8-encode code v) in
         (IsUtf8-append p (bytes_of (character_cells c.1 code ++ text)) s.0 (text-join (character_cells c.1 code) text written k.0), k.1);
     offsets = λ low end o. let k = h.offsets (c.1 + 1) end o.1 in (from-join (from-wider o.0 (omega arith) written-from) k.0, k.1);

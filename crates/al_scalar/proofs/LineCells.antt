@@ -43,7 +43,7 @@ lines-some at (b ∷ bs) =
 pub lines_at-some : (bytes : List ℕ) (i : ℕ) → has_line (lines_at bytes i) ≡ true
 lines_at-some bytes i = lines-some i (drop i bytes)
 
--- the lines are the same except that the first one has `run` in front
+-- the lines are the same except that `run` is prepended to the first one
 pub record RunBefore (run : List Cell) (xs ys : List Line) : Type 0 where
   pub text : first_text xs ≡ run ++ first_text ys
   pub same : SameLine xs ys

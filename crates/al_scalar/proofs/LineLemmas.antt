@@ -16,7 +16,7 @@ cells_between-more bytes from i h =
     let f : from + (i - from) ≡ i = omega arith in
     rw e (cells_at-more bytes from (i - from) ∙ rw f refl)
 
--- one more byte in front
+-- one more byte, prepended
 pub cells_between-front : (bytes : List ℕ) (i j : ℕ) → i < j → cells_between bytes i j ≡ (slice_index bytes i, i) ∷ cells_between bytes (suc i) j
 cells_between-front bytes i j h =
     let e : j - i ≡ suc (j - suc i) = omega arith in

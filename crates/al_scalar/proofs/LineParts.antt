@@ -66,13 +66,13 @@ begins_space-no bytes i h n = elim (text_kind bytes i h) [ inl e ↦ ap (begins 
 -- ---- the lines after such a run
 
 module _ (bytes : List ℕ) (at i : ℕ) (inside : i ≤ length bytes) (run : lines_at bytes at ≡ with_cells_before (cells_between bytes at i) (lines_at bytes i)) where
-  pub behind_blanks : AreBlank (cells_between bytes at i) → (i < length bytes → IsBlankByte (slice_index bytes i) → ⊥) → blanks_dropped (lines_at bytes at) ≡ lines_at bytes i
-  behind_blanks blanks none =
+  pub drops_blanks : AreBlank (cells_between bytes at i) → (i < length bytes → IsBlankByte (slice_index bytes i) → ⊥) → blanks_dropped (lines_at bytes at) ≡ lines_at bytes i
+  drops_blanks blanks none =
       ap blanks_dropped run ∙ blanks_dropped-run (cells_between bytes at i) (lines_at bytes i) blanks
       ∙ blanks_dropped-stays (lines_at bytes i) (begins_blank-no bytes i inside none)
 
-  pub behind_spaces : AreSpaces (cells_between bytes at i) → (i < length bytes → slice_index bytes i ≢ 32) → spaces_dropped (lines_at bytes at) ≡ lines_at bytes i
-  behind_spaces spaces none =
+  pub drops_spaces : AreSpaces (cells_between bytes at i) → (i < length bytes → slice_index bytes i ≢ 32) → spaces_dropped (lines_at bytes at) ≡ lines_at bytes i
+  drops_spaces spaces none =
       ap spaces_dropped run ∙ spaces_dropped-run (cells_between bytes at i) (lines_at bytes i) spaces
       ∙ spaces_dropped-stays (lines_at bytes i) (begins_space-no bytes i inside none)
 

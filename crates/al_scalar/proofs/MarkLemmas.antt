@@ -19,7 +19,7 @@ use Rattle.al_scalar.specs.Places.{first_text, lines_at, text_at}
 use Rattle.al_scalar.specs.LineEnds.{first_last, later, cells_between, IsBreakByte, IsLineEnd}
 use Rattle.al_scalar.specs.declared.quoted.Quotes.{Quotes}
 use Rattle.al_scalar.specs.declared.quoted.Quotes.TheVariants.{Single, Double}
-use Rattle.al_scalar.specs.Private.QuotedRead.{part_in, quoted_in, ReadsOn, EndsRun, IsMarkByte, Between, read_behind, hex_value}
+use Rattle.al_scalar.specs.Private.QuotedRead.{part_in, quoted_in, ReadsOn, EndsRun, IsMarkByte, Between, read_after_break, hex_value}
 use Rattle.al_scalar.proofs.LineCells.{lines_at-some, cell_at, run_then, RunBefore, text-line_end, lines-at_end, same_then}
 use Rattle.al_scalar.proofs.FoldLemmas.{break-at}
 use Rattle.al_scalar.proofs.QuotedLemmas.{quoted-part, given, given-closed, given-break, given-end}
@@ -29,9 +29,9 @@ use Rattle.al_scalar.proofs.BlockLemmas.{length-cells_between}
 
 -- an escape with `width` digits, given those that are on the line, and their value
 abbrev hex_escape : ℕ → ℕ → List Cell → Option ℕ → Result QuotedLine FaultAt → Result QuotedLine FaultAt
-hex_escape at width digits None behind = fault yaml.WrongEscape at
-hex_escape at width digits (Some code) behind =
-    cond (nat_lt (length digits) width) (Ok (record { text = []; stop = cut_short at })) (escape_character at code behind)
+hex_escape at width digits None after = fault yaml.WrongEscape at
+hex_escape at width digits (Some code) after =
+    cond (nat_lt (length digits) width) (Ok (record { text = []; stop = cut_short at })) (escape_character at code after)
 
 none_less : (n : ℕ) → nat_lt 0 (suc n) ≡ true
 none_less n = grind (arith, common_steps)
@@ -40,11 +40,11 @@ less_more : (a b : ℕ) (x : Bool) → nat_lt a b ≡ x → nat_lt (suc a) (suc 
 less_more a b true h = grind (arith, common_steps, h)
 less_more a b false h = grind (arith, common_steps, h)
 
-one_further : (at n : ℕ) (c : Cell) (ds : List Cell) (o : Option ℕ) (behind : Result QuotedLine FaultAt)
-    → hex_escape at n ds o behind ≡ hex_escape at (suc n) (c ∷ ds) o behind
-one_further at n c ds None behind = refl
-one_further at n c ds (Some code) behind =
-    sym (ap (λ x. cond x (Ok (record { text = []; stop = cut_short at })) (escape_character at code behind)) (less_more (length ds) n (nat_lt (length ds) n) refl))
+one_further : (at n : ℕ) (c : Cell) (ds : List Cell) (o : Option ℕ) (after : Result QuotedLine FaultAt)
+    → hex_escape at n ds o after ≡ hex_escape at (suc n) (c ∷ ds) o after
+one_further at n c ds None after = refl
+one_further at n c ds (Some code) after =
+    sym (ap (λ x. cond x (Ok (record { text = []; stop = cut_short at })) (escape_character at code after)) (less_more (length ds) n (nat_lt (length ds) n) refl))
 
 -- `escape_digits` reads all digits at once.
 digits-are : (at n v : ℕ) (cs : List Cell)
@@ -96,7 +96,7 @@ module _ (quotes : Quotes) (bytes : List ℕ) (at q : ℕ) where
       given_at (Ok nothing) (ap (λ ls. part_in quotes (first_text ls)) (lines-at_end bytes at e) ∙ part-end quotes)
       ∙ given-end (part_in quotes) q false (lines_at bytes at) (ap first_last (lines-at_end bytes at e))
 
-  pub line_break : at < length bytes → IsLineEnd bytes at → quoted_in quotes q (lines_at bytes at) ≡ read_behind quotes bytes at false q
+  pub line_break : at < length bytes → IsLineEnd bytes at → quoted_in quotes q (lines_at bytes at) ≡ read_after_break quotes bytes at false q
   line_break h k =
       let broke = break-at bytes at h k in
       given_at (Ok nothing) (ap (part_in quotes) (text-line_end bytes at (omega arith) k) ∙ part-end quotes)
@@ -158,7 +158,7 @@ module _ (bytes : List ℕ) (at : ℕ) (h : at < length bytes) (e : slice_index 
       given_at Double bytes at q (Ok (record { text = []; stop = escaped })) (escape-part [] (text-line_end bytes (at + 1) (omega arith) (λ l. absurd (omega arith))))
       ∙ given-end (double_part) q true (lines_at bytes at) last
 
-  pub escaped_break : (q : ℕ) → at + 1 < length bytes → IsLineEnd bytes (at + 1) → double_quoted q (lines_at bytes at) ≡ read_behind Double bytes (at + 1) true q
+  pub escaped_break : (q : ℕ) → at + 1 < length bytes → IsLineEnd bytes (at + 1) → double_quoted q (lines_at bytes at) ≡ read_after_break Double bytes (at + 1) true q
   escaped_break q l k =
       let broke = break-at bytes (at + 1) l k in
       given_at Double bytes at q (Ok (record { text = []; stop = escaped })) (escape-part [] (text-line_end bytes (at + 1) (omega arith) k))
@@ -214,9 +214,9 @@ module _ (bytes : List ℕ) (at : ℕ) (h : at < length bytes) (e : slice_index 
             let rest = text_at bytes (at + 1 + 1 + count) in
             let size : length ds ≡ count = omega (arith, length-cells_between bytes (at + 1 + 1) (at + 1 + 1 + count)) in
             let long : nat_lt (length ds) count ≡ false = grind (arith, common_steps, size) in
-            let behind : double_part (drop count (text_at bytes (at + 1 + 1))) ≡ double_part rest =
+            let after : double_part (drop count (text_at bytes (at + 1 + 1))) ≡ double_part rest =
             ap (λ t. double_part (drop count t)) b.1 ∙ ap (λ n. double_part (drop n (ds ++ rest))) (sym size) ∙ ap double_part (drop-append_seam ds rest) in
-            number-part ∙ rw (digits-taken, v, long, behind) refl
+            number-part ∙ rw (digits-taken, v, long, after) refl
 
         pub number : is_scalar_value code ≡ true → ReadsOn Double bytes at (character_cells at code) (at + 1 + 1 + count)
         number e = reads_on Double bytes at (at + 1 + 1 + count) (character_cells at code) (same_then both.same b.0.same)

@@ -35,21 +35,21 @@ marker-is b (c ∷ d ∷ []) = grind (arith, nat_tests)
 marker-is b (c ∷ d ∷ e ∷ cs) = grind (arith, nat_tests)
 
 module _ (bytes : List ℕ) (i b : ℕ) (inside : i ≤ length bytes) (one : true ≡ begins b (text_at bytes i)) where
-  behind : (i : ℕ) → i ≤ length bytes → true ≡ begins b (text_at bytes i) → drop 1 (text_at bytes i) ≡ text_at bytes (i + 1)
-  behind i inside h = ap (drop 1) (text_at-cell bytes i inside (begins-inside bytes i b inside h))
+  after : (i : ℕ) → i ≤ length bytes → true ≡ begins b (text_at bytes i) → drop 1 (text_at bytes i) ≡ text_at bytes (i + 1)
+  after i inside h = ap (drop 1) (text_at-cell bytes i inside (begins-inside bytes i b inside h))
 
   pub marker_at-second : false ≡ begins b (text_at bytes (i + 1)) → false ≡ is_marker b (text_at bytes i)
-  marker_at-second h = sym (marker-is b (text_at bytes i) ∙ rw (sym one, behind i inside one, sym h) refl)
+  marker_at-second h = sym (marker-is b (text_at bytes i) ∙ rw (sym one, after i inside one, sym h) refl)
 
   module _ (in_second : i + 1 ≤ length bytes) (two : true ≡ begins b (text_at bytes (i + 1))) where
-    behind_second : drop 1 (text_at bytes (i + 1)) ≡ text_at bytes (i + 2)
-    behind_second = let next : i + 1 + 1 ≡ i + 2 = omega arith in behind (i + 1) in_second two ∙ ap (text_at bytes) next
+    after_second : drop 1 (text_at bytes (i + 1)) ≡ text_at bytes (i + 2)
+    after_second = let next : i + 1 + 1 ≡ i + 2 = omega arith in after (i + 1) in_second two ∙ ap (text_at bytes) next
 
     pub marker_at-third : false ≡ begins b (text_at bytes (i + 2)) → false ≡ is_marker b (text_at bytes i)
-    marker_at-third h = sym (marker-is b (text_at bytes i) ∙ rw (sym one, behind i inside one, sym two, behind_second, sym h) refl)
+    marker_at-third h = sym (marker-is b (text_at bytes i) ∙ rw (sym one, after i inside one, sym two, after_second, sym h) refl)
 
     pub marker_at-all : (x : Bool) → i + 2 ≤ length bytes → true ≡ begins b (text_at bytes (i + 2)) → x ≡ is_blank_or_end (text_at bytes (i + 3)) → x ≡ is_marker b (text_at bytes i)
     marker_at-all x in_third three h =
         let next : i + 2 + 1 ≡ i + 3 = omega arith in
-        let behind_third : drop 1 (text_at bytes (i + 2)) ≡ text_at bytes (i + 3) = behind (i + 2) in_third three ∙ ap (text_at bytes) next in
-        h ∙ sym (marker-is b (text_at bytes i) ∙ rw (sym one, behind i inside one, sym two, behind_second, sym three, behind_third) refl)
+        let after_third : drop 1 (text_at bytes (i + 2)) ≡ text_at bytes (i + 3) = after (i + 2) in_third three ∙ ap (text_at bytes) next in
+        h ∙ sym (marker-is b (text_at bytes i) ∙ rw (sym one, after i inside one, sym two, after_second, sym three, after_third) refl)

@@ -41,8 +41,8 @@ climbing-place low end [] h = (h, omega arith)
 climbing-place low end (c ∷ cs) h = (h.0, (omega arith, h.1))
 
 -- without the first cell
-pub climbing-behind : (low end : ℕ) (c : Cell) (cs : List Cell) → AreClimbing low end (c ∷ cs) → AreClimbing low end cs
-climbing-behind low end c cs h = climbing-lower (c.1 + 1) low end cs (omega (arith, h.0)) h.1
+pub climbing-after : (low end : ℕ) (c : Cell) (cs : List Cell) → AreClimbing low end (c ∷ cs) → AreClimbing low end cs
+climbing-after low end c cs h = climbing-lower (c.1 + 1) low end cs (omega (arith, h.0)) h.1
 
 -- ---- case analysis of a test or an option, and cells that are dropped
 
@@ -57,12 +57,12 @@ choose-option P (Some n) h k = k n refl
 pub climbing-blanks : (low end : ℕ) (cs : List Cell) → AreClimbing low end cs → AreClimbing low end (after_blanks cs)
 climbing-blanks low end [] h = h
 climbing-blanks low end (c ∷ cs) h =
-    choose (AreClimbing low end) (is_blank c) (λ _. climbing-blanks low end cs (climbing-behind low end c cs h)) (λ _. h)
+    choose (AreClimbing low end) (is_blank c) (λ _. climbing-blanks low end cs (climbing-after low end c cs h)) (λ _. h)
 
 pub climbing-drop : (n low end : ℕ) (cs : List Cell) → AreClimbing low end cs → AreClimbing low end (drop n cs)
 climbing-drop zero low end cs h = h
 climbing-drop (suc n) low end [] h = h
-climbing-drop (suc n) low end (c ∷ cs) h = climbing-drop n low end cs (climbing-behind low end c cs h)
+climbing-drop (suc n) low end (c ∷ cs) h = climbing-drop n low end cs (climbing-after low end c cs h)
 
 -- ---- lines
 

@@ -2,7 +2,7 @@
 use Rattle.std.proofs.Common.{ℕ, ◌+◌, ◌<◌, ◌≤◌, List, length, drop, subst, arith, Result, Ok, Err, IfOk}
 use Rattle.std.proofs.lemmas.List.{length-map}
 use Rattle.std.specs.Prelude.{IsUtf8}
-use Rattle.al_scalar.specs.ReadScalar.{LiesBehind, read_of}
+use Rattle.al_scalar.specs.ReadScalar.{LiesAfter, read_of}
 use Rattle.al_scalar.specs.Private.Contract.{GivesIn}
 use Rattle.al_scalar.specs.Line.{Cell}
 use Rattle.al_scalar.specs.Offsets.{IsFrom, IsPlaced, is_block, reach}
@@ -37,7 +37,7 @@ pub record IsReadAt (bytes : List ℕ) (at : ℕ) (r : code.ScalarRead) : Type 0
   pub from : IsFrom (length bytes) r.scalar
   pub utf8 : IsUtf8 (drop at bytes) → IsUtf8 (text_of r.scalar)
 
-read-at : (bytes : List ℕ) (at : ℕ) (p : Context) (r : Result code.ScalarRead YamlFault) → GivesIn bytes at p r → LiesBehind bytes at r → IfOk r (IsReadAt bytes at)
+read-at : (bytes : List ℕ) (at : ℕ) (p : Context) (r : Result code.ScalarRead YamlFault) → GivesIn bytes at p r → LiesAfter bytes at r → IfOk r (IsReadAt bytes at)
 read-at bytes at p (Ok r) h k =
     let size = at + length (drop at bytes) in
     let ls = lines_at bytes at in
@@ -55,7 +55,7 @@ read-at bytes at p (Ok r) h k =
 read-at bytes at p (Err f) h k = tt
 
 pub read-ok : {E : Type 0} (P : code.ScalarRead → Type 0) (bytes : List ℕ) (at : ℕ) (p : Context) (r : Result (Result code.ScalarRead YamlFault) E)
-    → ((x : code.ScalarRead) → IsReadAt bytes at x → P x) → IfOk r (λ x. GivesIn bytes at p x) → IfOk r (λ x. LiesBehind bytes at x) → IfOk r (λ x. IfOk x P)
+    → ((x : code.ScalarRead) → IsReadAt bytes at x → P x) → IfOk r (λ x. GivesIn bytes at p x) → IfOk r (λ x. LiesAfter bytes at x) → IfOk r (λ x. IfOk x P)
 read-ok P bytes at p (Ok (Ok x)) f h k = f x (read-at bytes at p (Ok x) h k)
 read-ok P bytes at p (Ok (Err e)) f h k = tt
 read-ok P bytes at p (Err e) f h k = tt

@@ -8,7 +8,7 @@ use Rattle.al_scalar.specs.Taken.{Taken, feeds}
 use Rattle.al_scalar.proofs.CellsRead.{Reads, reads-none, reads-here, reads-kept, reads-blanks, reads-line}
 use Rattle.al_scalar.proofs.OffsetLemmas.{choose, climbing-order, climbing-blanks}
 use Rattle.al_scalar.proofs.Standing.{place-end, EndIn}
-use Rattle.al_scalar.proofs.TakenLemmas.{IsFrom, AreLeft, AreTaken, from-none, from-ascii, from-join, from-feeds, from-folded, left-start, taken-behind}
+use Rattle.al_scalar.proofs.TakenLemmas.{IsFrom, AreLeft, AreTaken, from-none, from-ascii, from-join, from-feeds, from-folded, left-start, taken-after}
 use Rattle.al_scalar.proofs.Utf8Lemmas.{AreUtf8}
 
 plain-reads : (p : Context) (blank : Bool) (cs : List Cell) → Reads cs (plain_part p blank cs).0 (plain_part p blank cs).1
@@ -40,16 +40,16 @@ module _ (size : ℕ) (U : Type 0) where
       let line = climbing-order (end + 1) l.end l.text h.1 in
       let read : IsFrom U (end + 1) there.end part.0 × AreLeft size U there.end there.left =
       reads-line l ls (reads-blanks l.text (plain-reads p true text)) (record { stand = ((h.1, h.2), k); utf8 = u }) in
-      let behind = climbing-order there.end l.end part.1 read.1.stand.0.0 in
+      let after = climbing-order there.end l.end part.1 read.1.stand.0.0 in
       choose (AreTaken size U here.end) (is_empty text)
       (λ _. let one : IsFrom U (end + 1) (l.end + 1) (feeds (l.end ∷ [])) = from-ascii (omega arith) line in
       lines-from p here break (es ++ l.end ∷ []) l.end l.last ls e s (record { from = b.from; feeds = from-feeds es (l.end ∷ []) b.feeds one }) h.2 k.1 (λ w. (u w).1))
       (λ _. choose (AreTaken size U here.end) (not (continues p l.text)) (λ _. nothing-more here e s)
       (λ _. choose (AreTaken size U here.end) (not (is_flow p) && is_value_colon p rest)
       (λ _. let a = place-end there.end l.end rest (climbing-blanks there.end l.end part.1 read.1.stand.0.0) in let b = k.0 in omega (arith, a, b))
-      (λ _. taken-behind size _ (from-join (from-folded es b.from (omega arith) b.feeds) read.0)
+      (λ _. taken-after size _ (from-join (from-folded es b.from (omega arith) b.feeds) read.0)
       (choose (AreTaken size U there.end) (is_empty rest)
-      (λ _. lines-from p there l.end [] l.end l.last ls refl read.1 (record { from = behind; feeds = from-none (omega arith) }) h.2 k.1 (λ w. (u w).1))
+      (λ _. lines-from p there l.end [] l.end l.last ls refl read.1 (record { from = after; feeds = from-none (omega arith) }) h.2 k.1 (λ w. (u w).1))
       (λ _. nothing-more there refl read.1)))))
 
   pub plain-from : (p : Context) (low : ℕ) (ls : List Line) → AreLeft size U low ls → AreTaken size U (start ls) (plain p ls)
@@ -59,8 +59,8 @@ module _ (size : ℕ) (U : Type 0) where
       let here = ended_before part.1 l ls in
       let first : AreLeft size U (start (l ∷ ls)) (l ∷ ls) = left-start h in
       let read : IsFrom U (start (l ∷ ls)) here.end part.0 × AreLeft size U here.end here.left = reads-line l ls (plain-reads p false l.text) first in
-      let behind = climbing-order here.end l.end part.1 read.1.stand.0.0 in
-      taken-behind size _ read.0
+      let after = climbing-order here.end l.end part.1 read.1.stand.0.0 in
+      taken-after size _ read.0
       (choose (AreTaken size U here.end) (is_empty (after_blanks part.1))
-      (λ _. lines-from p here l.end [] l.end l.last ls refl read.1 (record { from = behind; feeds = from-none (omega arith) }) h.stand.0.1 h.stand.1.1 (λ w. (h.utf8 w).1))
+      (λ _. lines-from p here l.end [] l.end l.last ls refl read.1 (record { from = after; feeds = from-none (omega arith) }) h.stand.0.1 h.stand.1.1 (λ w. (h.utf8 w).1))
       (λ _. nothing-more here refl read.1))

@@ -172,7 +172,7 @@ begins-on p cells end (x ∷ xs) (y ∷ ys) h k s m z = rw (m, z, s.end, s.last,
 -- the part of a later line is from `solid` to `end`; `rest` is the offset after the blanks that follow it
 module _ (p : Context) (bytes : List ℕ) (start solid end rest : ℕ) (text : after_blanks (text_at bytes start) ≡ text_at bytes solid)
     (goes : true ≡ (not (is_empty (text_at bytes solid)) && continues p (text_at bytes start))) (part : PartTo p true bytes solid end)
-    (behind : after_blanks (text_at bytes end) ≡ text_at bytes rest) where
+    (after : after_blanks (text_at bytes end) ≡ text_at bytes rest) where
   has_text : is_empty (text_at bytes solid) ≡ false
   has_text = not-true (is_empty (text_at bytes solid)) (and_parts (not (is_empty (text_at bytes solid))) (continues p (text_at bytes start)) (sym goes)).0
 
@@ -186,7 +186,7 @@ module _ (p : Context) (bytes : List ℕ) (start solid end rest : ℕ) (text : a
       → x ≡ before new (after_part p bytes end)
   read_more here break es old n o s e f g =
       let cells = cells_between bytes solid end in
-      let no_colon = ap (λ t. not (is_flow p) && is_value_colon p t) behind ∙ sym n in
+      let no_colon = ap (λ t. not (is_flow p) && is_value_colon p t) after ∙ sym n in
       e ∙ ap (before old) (goes-on p here break es (text_at bytes solid) cells end (lines_at bytes start) (lines_at bytes end)
       (lines_at-some bytes start) (lines_at-some bytes end) s text has_text goes_on part no_colon
       (place-same bytes start end o s))
@@ -200,8 +200,8 @@ module _ (p : Context) (bytes : List ℕ) (start solid end rest : ℕ) (text : a
       let z = first_end (lines_at bytes start) in
       e ∙ ap (before old) (goes-key p here break es (text_at bytes solid) (cells_between bytes solid end) (lines_at bytes start)
       (lines_at bytes end) (lines_at-some bytes start) (lines_at-some bytes end) text has_text goes_on part
-      (ap (λ t. not (is_flow p) && is_value_colon p t) behind ∙ sym n))
-      ∙ ap (λ a. Err (record { code = UnexpectedCharacter; at = a })) (ap (λ t. place t z) behind ∙ place-colon p bytes rest z h colon)
+      (ap (λ t. not (is_flow p) && is_value_colon p t) after ∙ sym n))
+      ∙ ap (λ a. Err (record { code = UnexpectedCharacter; at = a })) (ap (λ t. place t z) after ∙ place-colon p bytes rest z h colon)
 
 pub read_first : {old new : List Cell} (p : Context) (bytes : List ℕ) (at end : ℕ) → end ≤ length bytes → PartTo p false bytes at end
     → SameLine (lines_at bytes at) (lines_at bytes end) → old ≡ [] → new ≡ old ++ cells_between bytes at end → plain p (lines_at bytes at) ≡ before new (after_part p bytes end)

@@ -32,7 +32,7 @@ quoted-given part q (x ∷ xs) h = by_part (part x.text)
     by_part (Ok p) = sym (given-line p.stop q [] p.text [] x xs (λ b. quoted_lines part q b xs))
     by_part (Err e) = refl
 
--- cells in front of the first line
+-- cells before the first line
 pub quoted-run : (part : List Cell → Result QuotedLine FaultAt) (q : ℕ) (run : List Cell) (xs ys : List Line) → has_line xs ≡ true → has_line ys ≡ true → SameLine xs ys
     → part (first_text xs) ≡ part_before run (part (first_text ys)) → quoted_scalar part q xs ≡ before run (quoted_scalar part q ys)
 quoted-run part q run xs ys h k s e =

@@ -19,7 +19,7 @@ use Rattle.al_scalar.specs.Taken.{Taken, ◌>>=◌, before, folding_space}
 use Rattle.al_scalar.specs.declared.faults.FaultAt.{FaultAt}
 use Rattle.al_scalar.proofs.CellsRead.{Reads, reads-none, reads-here, reads-kept, reads-left_out, reads-second, reads-written, reads-blanks, reads-line}
 use Rattle.al_scalar.proofs.OffsetLemmas.{choose, choose-option, climbing-blanks, climbing-order, climbing-lower}
-use Rattle.al_scalar.proofs.TakenLemmas.{IsFrom, AreLeft, AreTaken, from-none, from-ascii, from-join, from-wider, from-order, rest-behind, left-cut, left-first, left-later, taken-behind}
+use Rattle.al_scalar.proofs.TakenLemmas.{IsFrom, AreLeft, AreTaken, from-none, from-ascii, from-join, from-wider, from-order, rest-after, left-cut, left-first, left-later, taken-after}
 
 -- ---- the part of a line
 
@@ -156,14 +156,14 @@ module _ (size : ℕ) (U : Type 0) (quote : ℕ) (q : quote ≤ size) where
       where
         goes_on : (b : Option ℕ) → IsFrom U l.end (l.end + 1) (folding_space b) → Reads l.text p.text [] → l.last ≡ false
             → AreTaken size U low (before (space ++ p.text) (below b))
-        goes_on b f r e = taken-behind size (below b) (from-join h (reads-line l ls r k).0) (more l.end (l.end + 1) b f (left-later e k))
+        goes_on b f r e = taken-after size (below b) (from-join h (reads-line l ls r k).0) (more l.end (l.end + 1) b f (left-later e k))
 
         by-stop : (s : QuotedEnd) → Stops l.text p.text s → AreTaken size U low (line_given quote space (record { text = p.text; stop = s }) l ls below)
         by-stop (closed end rest) g =
             let read : IsFrom U mid g.0.1 p.text × AreLeft size U g.0.1 (cut (g.0 ∷ rest) l ls) = reads-line l ls g.3 k in
             subst (λ (end : ℕ). AreTaken size U low (Ok (record { text = space ++ p.text; end = end; left = cut rest l ls }))) (sym g.2) (
               from-join h (from-wider (omega arith) (omega arith) read.0),
-              left-cut (rest-behind g.1 (left-first read.1)) k,
+              left-cut (rest-after g.1 (left-first read.1)) k,
             )
         by-stop (cut_short at) g = choose (AreTaken size U low) l.last (λ _. q)
             (λ _. let a = g.1 mid l.end k.stand.0.0 in let b = k.stand.1.0 in omega (arith, a, b))
@@ -182,7 +182,7 @@ module _ (size : ℕ) (U : Type 0) (quote : ℕ) (q : quote ≤ size) where
         let line = climbing-order mid l.end l.text k.stand.0.0 in
         let feed : IsFrom U low (l.end + 1) ((ascii "\n", l.end) ∷ []) = from-ascii (omega arith) (omega (arith, order, line)) in
         choose (AreTaken size U low) (is_empty_line p l)
-        (λ e. taken-behind size (below None) feed (more (l.end + 1) (l.end + 1) None (from-none (omega arith))
+        (λ e. taken-after size (below None) feed (more (l.end + 1) (l.end + 1) None (from-none (omega arith))
         (left-later (not-true l.last (and_parts (is_empty p.text && is_broken p.stop) (not l.last) e).1) k)))
         (λ _. given-from low mid (folding_space break) p h k g)
 

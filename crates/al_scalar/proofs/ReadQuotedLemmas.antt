@@ -8,7 +8,7 @@ use Rattle.al_scalar.specs.Places.{lines_at}
 use Rattle.al_scalar.specs.LineEnds.{later}
 use Rattle.al_scalar.specs.Private.PlainLines.{empty_ends, break_left}
 use Rattle.al_scalar.specs.Private.Folding.{solid_lines}
-use Rattle.al_scalar.specs.Private.QuotedRead.{part_in, quoted_in, ReadsOn, read_behind}
+use Rattle.al_scalar.specs.Private.QuotedRead.{part_in, quoted_in, ReadsOn, read_after_break}
 use Rattle.al_scalar.proofs.FoldLemmas.{before-two}
 use Rattle.al_scalar.proofs.QuotedLemmas.{IsReader, break-fold}
 use Rattle.al_scalar.proofs.PartLemmas.{part-end, part-some}
@@ -25,7 +25,7 @@ module _ (quotes : Quotes) (bytes : List ℕ) where
       e ∙ ap (before text) (r q) ∙ before-two text run read ∙ ap (λ t. before t read) (sym f)
 
   pub read_break : {x : Result Taken FaultAt} {new : List Cell} (i end next q : ℕ) (escaped : Bool) (text : List Cell)
-      → x ≡ before text (quoted_in quotes q (lines_at bytes i)) → quoted_in quotes q (lines_at bytes i) ≡ read_behind quotes bytes end escaped q
+      → x ≡ before text (quoted_in quotes q (lines_at bytes i)) → quoted_in quotes q (lines_at bytes i) ≡ read_after_break quotes bytes end escaped q
       → solid_lines (later (lines_at bytes end)) ≡ lines_at bytes next
       → new ≡ text ++ break_left escaped end (empty_ends (later (lines_at bytes end))) → x ≡ before new (quoted_in quotes q (lines_at bytes next))
   read_break i end next q escaped text e r s f =

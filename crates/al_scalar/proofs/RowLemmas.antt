@@ -123,8 +123,8 @@ rows-more new text lit k m found b last last' es es' end end' bytes i from stop 
     let cells = cells_between bytes from stop in
     let ended : first_end ls ≡ stop = s.end ∙ u.end ∙ ap first_end z in
     let is_last : first_last ls ≡ false = s.last ∙ u.last ∙ ap first_last z in
-    let behind : later ls ≡ lines_at bytes next = s.later ∙ u.later ∙ ap later z in
+    let after : later ls ≡ lines_at bytes next = s.later ∙ u.later ∙ ap later z in
     let row : row_of m found (first_text ls) ≡ Some cells = r ∙ ap Some w in
     let rs = rows_at m (found || not b) (lines_at bytes next) in
     e ∙ ap (with_text text) (rest-more lit k m found last es end ls cells (lines_at-some bytes i) row is_last)
-    ∙ rw (q, behind, ended, g rs.rows, ← h) refl
+    ∙ rw (q, after, ended, g rs.rows, ← h) refl

@@ -23,8 +23,8 @@ module _ (size : ℕ) where
   stand-lower low low' [] a h = h
   stand-lower low low' (l ∷ ls) a h = ((climbing-lower low low' l.end l.text a h.0.0, h.0.1), h.1)
 
-  pub start-behind : (low : ℕ) (ls : List Line) → Stand low ls → low ≤ start ls
-  start-behind low ls h = lines-start low ls h.0
+  pub start-after : (low : ℕ) (ls : List Line) → Stand low ls → low ≤ start ls
+  start-after low ls h = lines-start low ls h.0
 
   pub start-in : (low : ℕ) (ls : List Line) → Stand low ls → start ls ≤ size
   start-in low [] h = absurd h.0

@@ -10,7 +10,7 @@ use Rattle.al_scalar.specs.Taken.{Taken, before, feeds, folded_break}
 use Rattle.al_scalar.specs.declared.faults.FaultAt.{FaultAt}
 use Rattle.al_scalar.proofs.OffsetLemmas.{climbing-lower, rising-order, rising-lower, rising-higher, rising-join}
 use Rattle.al_scalar.proofs.Standing.{Stand, stand-cut, stand-lower, stand-start, stand-later, stand-at_end}
-use Rattle.al_scalar.proofs.Utf8Lemmas.{AreUtf8, bytes_of, split-behind}
+use Rattle.al_scalar.proofs.Utf8Lemmas.{AreUtf8, bytes_of, split-after}
 use Rattle.al_scalar.proofs.Utf8Texts.{IsText, text-join, one-ascii}
 
 -- cells from between two offsets; U says that the file is UTF-8
@@ -63,8 +63,8 @@ module _ {U : Type 0} where
     text = h.text;
   }
 
-  pub rest-behind : {low end : ℕ} {c : Cell} {cs : List Cell} → c.0 < 128 → IsRest U low end (c ∷ cs) → IsRest U (c.1 + 1) end cs
-  rest-behind {low} {end} {c} {cs} a h = record { climbing = h.climbing.1; text = λ u. split-behind c.0 (bytes_of cs) a (h.text u) }
+  pub rest-after : {low end : ℕ} {c : Cell} {cs : List Cell} → c.0 < 128 → IsRest U low end (c ∷ cs) → IsRest U (c.1 + 1) end cs
+  rest-after {low} {end} {c} {cs} a h = record { climbing = h.climbing.1; text = λ u. split-after c.0 (bytes_of cs) a (h.text u) }
 
   pub rest-lower : {low low' end : ℕ} {cs : List Cell} → low' ≤ low → IsRest U low end cs → IsRest U low' end cs
   rest-lower {low} {low'} {end} {cs} a h = record { climbing = climbing-lower low low' end cs a h.climbing; text = h.text }
@@ -103,9 +103,9 @@ module _ {U : Type 0} where
     pub left-start : {low : ℕ} {ls : List Line} → AreLeft size U low ls → AreLeft size U (start ls) ls
     left-start {low} {ls} h = record { stand = stand-start size low ls h.stand; utf8 = h.utf8 }
 
-  pub taken-behind : (size : ℕ) {low mid : ℕ} {cs : List Cell} (r : Result Taken FaultAt) → IsFrom U low mid cs → AreTaken size U mid r → AreTaken size U low (before cs r)
-  taken-behind size (Ok t) h k = (from-join h k.0, k.1)
-  taken-behind size (Err e) h k = k
+  pub taken-after : (size : ℕ) {low mid : ℕ} {cs : List Cell} (r : Result Taken FaultAt) → IsFrom U low mid cs → AreTaken size U mid r → AreTaken size U low (before cs r)
+  taken-after size (Ok t) h k = (from-join h k.0, k.1)
+  taken-after size (Err e) h k = k
 
 climbing-from : (low end : ℕ) (cs : List Cell) → AreClimbing low end cs → IsFrom ⊥ low end cs
 climbing-from low end [] h = from-none h

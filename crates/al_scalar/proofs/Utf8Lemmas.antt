@@ -18,8 +18,8 @@ split-before p b bs l u =
     let cut = IsCharBoundary-before_ascii all (length p) inside (omega (arith, e, l)) in
     (subst IsUtf8 (take-append_seam p (b ∷ bs)) (IsUtf8-take all (length p) u cut), subst IsUtf8 (drop-append_seam p (b ∷ bs)) (IsUtf8-drop all (length p) u cut))
 
-pub split-behind : (b : ℕ) (bs : List ℕ) → b < 128 → IsUtf8 (b ∷ bs) → IsUtf8 bs
-split-behind b bs l u = IsUtf8-drop (b ∷ bs) 1 u (IsCharBoundary-after_ascii (b ∷ bs) 0 u (omega arith) l)
+pub split-after : (b : ℕ) (bs : List ℕ) → b < 128 → IsUtf8 (b ∷ bs) → IsUtf8 bs
+split-after b bs l u = IsUtf8-drop (b ∷ bs) 1 u (IsCharBoundary-after_ascii (b ∷ bs) 0 u (omega arith) l)
 
 -- ---- cells
 
@@ -32,7 +32,7 @@ keeps-blanks (c ∷ cs) p u =
     choose (λ (t : List Cell). IsUtf8 (p ++ bytes_of t)) (is_blank c)
     (λ e. let ascii : c.0 < 128 = grind (arith, nat_tests) in
     let s = split-before p c.0 (bytes_of cs) ascii u in
-    IsUtf8-append p (bytes_of (after_blanks cs)) s.0 (keeps-blanks cs [] (split-behind c.0 (bytes_of cs) ascii s.1)))
+    IsUtf8-append p (bytes_of (after_blanks cs)) s.0 (keeps-blanks cs [] (split-after c.0 (bytes_of cs) ascii s.1)))
     (λ _. u)
 
 -- ---- lines
@@ -41,7 +41,7 @@ abbrev pub AreUtf8 : List Line → Type 0
 AreUtf8 [] = Unit {0}
 AreUtf8 (l ∷ ls) = IsUtf8 (bytes_of l.text) × AreUtf8 ls
 
--- the lines are UTF-8, the first one with p in front
+-- the lines are UTF-8, with p prepended to the first one
 abbrev GoOn : List ℕ → List Line → Type 0
 GoOn p [] = ⊥
 GoOn p (l ∷ ls) = IsUtf8 (p ++ bytes_of l.text) × AreUtf8 ls
@@ -64,11 +64,11 @@ lines-on p at (b ∷ bs) u =
     choose (GoOn p) (is_break b bs)
     (λ e. let l : b < 128 = grind (arith, nat_tests) in
     let s = split-before p b bs l u in
-    (subst IsUtf8 (sym (append-nil p)) s.0, all-lines (lines (at + 1) bs) (lines-on [] (at + 1) bs (split-behind b bs l s.1))))
+    (subst IsUtf8 (sym (append-nil p)) s.0, all-lines (lines (at + 1) bs) (lines-on [] (at + 1) bs (split-after b bs l s.1))))
     (λ _. choose (GoOn p) (b == 13)
     (λ e. let l : b < 128 = grind (arith, nat_tests) in
     let s = split-before p b bs l u in
-    return-on p at (lines (at + 1) bs) s.0 (lines-on [] (at + 1) bs (split-behind b bs l s.1)))
+    return-on p at (lines (at + 1) bs) s.0 (lines-on [] (at + 1) bs (split-after b bs l s.1)))
     (λ _. cell-on p b at (lines (at + 1) bs) (lines-on (p ++ b ∷ []) (at + 1) bs (subst IsUtf8 (sym (append_assoc p (b ∷ []) bs)) u))))
 
 pub lines-utf8 : (at : ℕ) (bs : List ℕ) → IsUtf8 bs → AreUtf8 (lines at bs)

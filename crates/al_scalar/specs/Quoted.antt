@@ -73,7 +73,7 @@ own_before c part = part >>= (λ p. Ok (with_own c p))
 
 -- the character with the code point of an escape, and what follows the escape
 abbrev pub escape_character : ℕ → ℕ → Result QuotedLine FaultAt → Result QuotedLine FaultAt
-escape_character at code behind = if is_scalar_value code then part_before (character_cells at code) behind else fault yaml.WrongEscape at
+escape_character at code after = if is_scalar_value code then part_before (character_cells at code) after else fault yaml.WrongEscape at
 
 abbrev mutual
   -- A line in double quotes.

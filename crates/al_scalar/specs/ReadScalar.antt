@@ -30,6 +30,6 @@ GivesScalar bytes at place (Err f) =
     (reading_at place (lines_at bytes at) ≡ Err (placed_fault f)) × (f.span ≡ character_at bytes f.span.start)
 
 -- the scalar begins at the offset and ends no later than the next one to read, which is in the file; a fault isn't before the offset
-abbrev pub LiesBehind : List ℕ → ℕ → Result ScalarRead YamlFault → Type 0
-LiesBehind bytes at (Ok r) = (r.span.start ≡ at) × (at ≤ r.span.end) × (r.span.end ≤ r.next) × (r.next ≤ length bytes)
-LiesBehind bytes at (Err f) = (at ≤ f.span.start) × (f.span.start ≤ length bytes)
+abbrev pub LiesAfter : List ℕ → ℕ → Result ScalarRead YamlFault → Type 0
+LiesAfter bytes at (Ok r) = (r.span.start ≡ at) × (at ≤ r.span.end) × (r.span.end ≤ r.next) × (r.next ≤ length bytes)
+LiesAfter bytes at (Err f) = (at ≤ f.span.start) × (f.span.start ≤ length bytes)

@@ -213,7 +213,7 @@ fn add_row(
 ) -> Result<(), AllocError>
     requires order { from ≤ stop }
     requires inside { stop < length bytes.now }
-    requires behind { state.old.end ≤ from }
+    requires after { state.old.end ≤ from }
     requires size { length bytes.now < 2 ^ 32 }
     ensures text { IfOk result
         (λ _. AddsRow literal text.old state.old (cells_between bytes.now from stop)
@@ -247,7 +247,7 @@ fn end_row(
     style: BlockStyle,
 ) -> Result<usize, AllocError>
     requires inside { from ≤ length bytes.now }
-    requires behind { state.now.end ≤ from }
+    requires after { state.now.end ≤ from }
     requires size { length bytes.now < 2 ^ 32 }
     ensures text { IfOk result
         (λ _. text.new

@@ -38,7 +38,7 @@ const NO_ESCAPE: &[u8] = b"\"a\\q";
 
 const WRONG_DIGIT: &[u8] = b"\"\\x4\"";
 
-const DIGIT_BEHIND_BREAK: &[u8] = b"\"\\x4\n1\"";
+const DIGIT_AFTER_BREAK: &[u8] = b"\"\\x4\n1\"";
 
 const CUT_ESCAPE: &[u8] = b"\"\\x4";
 
@@ -128,7 +128,7 @@ pub fn rows()
     ensures too_large { in_block 0 TOO_LARGE.now 0 ≡ fault YamlCode.WrongEscape 1 }
     ensures no_escape { in_block 0 NO_ESCAPE.now 0 ≡ fault YamlCode.WrongEscape 2 }
     ensures wrong_digit { in_block 0 WRONG_DIGIT.now 0 ≡ fault YamlCode.WrongEscape 1 }
-    ensures digit_behind_break { in_block 0 DIGIT_BEHIND_BREAK.now 0 ≡ fault YamlCode.WrongEscape 1 }
+    ensures digit_after_break { in_block 0 DIGIT_AFTER_BREAK.now 0 ≡ fault YamlCode.WrongEscape 1 }
     ensures cut_escape { in_block 0 CUT_ESCAPE.now 0 ≡ fault YamlCode.UnclosedQuote 0 }
 
     // plain scalars: lines, comments, markers, indents, keys

@@ -67,7 +67,7 @@ fn chomping_of(byte: u8) -> Chomping
 }
 
 /// The header after its digit.
-fn behind_digit(bytes: &[u8], at: usize, digit: u8) -> Header
+fn after_digit(bytes: &[u8], at: usize, digit: u8) -> Header
     requires { at ≤ length bytes.now }
     ensures { Indicates bytes.now at (header (Some digit) None at (text_at bytes.now at)) result }
 {
@@ -86,7 +86,7 @@ fn behind_digit(bytes: &[u8], at: usize, digit: u8) -> Header
 }
 
 /// The header after its sign.
-fn behind_sign(bytes: &[u8], at: usize, chomping: Chomping) -> Header
+fn after_sign(bytes: &[u8], at: usize, chomping: Chomping) -> Header
     requires { at ≤ length bytes.now }
     ensures { Indicates bytes.now at (header None (Some chomping) at (text_at bytes.now at)) result }
 {
@@ -110,8 +110,8 @@ pub fn indicators(bytes: &[u8], at: usize) -> Header
     ensures { Indicates bytes.now at (header None None at (text_at bytes.now at)) result }
 {
     match first_byte(bytes, at) {
-        Some(byte) if is_digit(byte) => behind_digit(bytes, at + 1, byte - b'0'),
-        Some(byte) if is_sign(byte) => behind_sign(bytes, at + 1, chomping_of(byte)),
+        Some(byte) if is_digit(byte) => after_digit(bytes, at + 1, byte - b'0'),
+        Some(byte) if is_sign(byte) => after_sign(bytes, at + 1, chomping_of(byte)),
         _ => Header {
             digit: None,
             chomping: Chomping::Clip,

@@ -54,7 +54,7 @@ pub fn is_flow_indicator(byte: u8) -> bool
 }
 
 /// The offset after the blanks at an offset.
-#[tactic(auto, using(crate::proofs::LineParts::behind_blanks))]
+#[tactic(auto, using(crate::proofs::LineParts::drops_blanks))]
 pub fn blanks_end(bytes: &[u8], at: usize) -> usize
     requires { at ≤ length bytes.now }
     ensures from { at ≤ result }

@@ -70,14 +70,13 @@ fn ends_plain(bytes: &[u8], at: usize, context: PlainContext, after_blank: bool)
     is_flow(context) && is_flow_indicator(byte)
 }
 
-/// Whether a byte is no blank and no part of a break, and no scalar ends before it: whether it is none of `:#,[]{}` either.
+/// Whether a byte is no blank and no part of a break, and no scalar ends before it.
 fn is_word(byte: u8) -> bool
     ensures { IsTrue result → IsWordByte byte }
 {
-    matches!(
-        byte,
-        b'!' | b'"' | b'$'..=b'+' | b'-'..=b'9' | b';'..=b'Z' | b'\\' | b'^'..=b'z' | b'|' | b'~'..=0xff
-    )
+    // most are letters
+    byte.is_ascii_lowercase()
+        || byte > b' ' && byte != b':' && byte != b'#' && !is_flow_indicator(byte)
 }
 
 /// The offset after the part of a plain scalar on one line, without trailing blanks.
@@ -89,20 +88,20 @@ fn plain_end(bytes: &[u8], at: usize, context: PlainContext, after_blank: bool) 
     ensures same { SameLine (lines_at bytes.now at) (lines_at bytes.now result) }
 {
     let mut end = at;
-    let mut behind_blank = after_blank;
+    let mut blank_before = after_blank;
     'words: loop {
         if end < bytes.len() && is_word(bytes[end]) {
             end += 1;
-            behind_blank = false;
+            blank_before = false;
             continue 'words;
         }
         let solid = blanks_end(bytes, end);
-        behind_blank |= end < solid;
-        if ends_plain(bytes, solid, context, behind_blank) {
+        blank_before |= end < solid;
+        if ends_plain(bytes, solid, context, blank_before) {
             return end;
         }
         end = solid + 1;
-        behind_blank = false;
+        blank_before = false;
     }
 }
 

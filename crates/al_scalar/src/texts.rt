@@ -4,7 +4,7 @@ ghost use Rattle.std.specs.Prelude.{◌≡◌, ℕ, ◌+◌, ◌<◌, ◌≤◌,
 ghost use Rattle.al_scalar.specs.Line.{Cell};
 ghost use Rattle.al_scalar.specs.LineEnds.{cells_between};
 ghost use Rattle.al_scalar.specs.Scalar.{offset_or};
-ghost use Rattle.al_scalar.specs.Private.Segments.{first_run, offset_in, offset_at, cells_from, AreBehind, AreInRange, IsRising};
+ghost use Rattle.al_scalar.specs.Private.Segments.{first_run, offset_in, offset_at, cells_from, AreAfter, AreInRange, IsRising};
 ghost use Rattle.al_scalar.specs.Private.Segments.{IsOrdered, GoesOn, run_cells};
 ghost use Rattle.al_scalar.specs.Private.Forms.{short_cells, IsSound};
 ghost use Rattle.al_scalar.specs.declared.texts.Form.TheVariants.{Short};
@@ -35,7 +35,7 @@ impl Segment {
 
     /// The offset of the byte at an index in the run.
     fn locate(self, i: usize) -> u32
-        requires behind { self.index ≤ i }
+        requires after { self.index ≤ i }
         requires fits { offset_in self i < 2 ^ 32 }
         ensures { result ≡ offset_in self i }
     {
@@ -67,8 +67,8 @@ impl Model for Runs {
 impl Runs {
     /// The last run.
     fn last(&self) -> Segment
-        ensures behind { (n : ℕ) → AreBehind n self.now → result.index ≤ n }
-        ensures offset { (i : ℕ) → AreBehind i self.now
+        ensures after { (n : ℕ) → AreAfter n self.now → result.index ≤ n }
+        ensures offset { (i : ℕ) → AreAfter i self.now
             → offset_in result i ≡ offset_at self.now i }
     {
         let count = self.rest.len();
@@ -80,7 +80,7 @@ impl Runs {
 
     /// Whether an offset continues those of the last run, which extends to an index.
     fn goes_on(&self, index: usize, at: u32) -> bool
-        requires { AreBehind index self.now }
+        requires { AreAfter index self.now }
         ensures { IsTrue result → GoesOn self.now index at true }
     {
         let last = self.last();
@@ -128,7 +128,7 @@ impl Runs {
     /// The run that contains an index: the last one that begins at or before it.
     fn run_of(&self, i: usize) -> Segment
         requires { IsRising self.now }
-        ensures behind { result.index ≤ i }
+        ensures after { result.index ≤ i }
         ensures offset { offset_in result i ≡ offset_at self.now i }
     {
         let first = Segment::first(self.first);

@@ -31,7 +31,7 @@ use Rattle.al_base.specs.InOrder.{in_order}
 use Rattle.al_base.proofs.InOrder.{Contains-from_in_order, Contains-in_order, IsStrictlySortedBy-in_order}
 use Rattle.al_session_folder.specs.declared.lint.Target.{Target}
 use Rattle.al_session_folder.proofs.Places.{sorted_put}
-use Rattle.al_session_folder.proofs.Views.{bytes_changed, bytes_kept, bytes_same, bytes_self, kept_at, none_behind}
+use Rattle.al_session_folder.proofs.Views.{bytes_changed, bytes_kept, bytes_same, bytes_self, kept_at, none_after}
 
 pub eq_flipped : (p q : List ℕ) (t : Bool) → bytes_eq p q ≡ t → bytes_eq q p ≡ t
 eq_flipped p q t h = nat_list_eq_equiv.symm q p ∙ h
@@ -149,9 +149,9 @@ module _ (T : List ℕ × List ℕ → Bool) where
       let rest = member_kept es q (sorted_tail _ _ _ s) in
       let more = filtered (T e) in
       let here : bytes_eq q e.0 ≡ true → kept (bytes_at (e ∷ es) q) ≡ T e = λ a. ap kept (cond-true _ _ _ (is_eq-slice_cmp q e.0 ∙ a)) ∙ ap (λ x. T (x, e.1)) (bytes_same q e.0 a) in
-      let behind : bytes_eq q e.0 ≡ true → kept (bytes_at es q) ≡ false = λ a. ap kept (none_behind q e es (bytes_same q e.0 a) s) in
+      let after : bytes_eq q e.0 ≡ true → kept (bytes_at es q) ≡ false = λ a. ap kept (none_after q e es (bytes_same q e.0 a) s) in
       let past : bytes_eq q e.0 ≡ false → kept (bytes_at (e ∷ es) q) ≡ kept (bytes_at es q) = λ a. ap kept (cond-false _ _ _ (is_eq-slice_cmp q e.0 ∙ a)) in
-      grind (arith, nat_tests, rest, more, here, behind, past)
+      grind (arith, nat_tests, rest, more, here, after, past)
     where
       kept : Option (List ℕ) → Bool
       kept o = option_map_or (λ b. T (q, b)) o false

@@ -53,15 +53,15 @@ module _ (p : List ℕ) where
   IsPlaced es (Err i) = IsGap es i
 
   -- the position after a first entry whose path is less than `p`
-  behind : (e : List ℕ × List ℕ) (es : Folder) (r : Result ℕ ℕ) → slice_cmp nat_cmp p e.0 ≡ Greater → IsPlaced es r → IsPlaced (e ∷ es) (one_further r)
-  behind e es (Ok i) a r = record {
+  after : (e : List ℕ × List ℕ) (es : Folder) (r : Result ℕ ℕ) → slice_cmp nat_cmp p e.0 ≡ Greater → IsPlaced es r → IsPlaced (e ∷ es) (one_further r)
+  after e es (Ok i) a r = record {
     within = omega (arith, r.within);
     bytes = r.bytes;
     entry = r.entry;
     finds = rw a r.finds;
     puts = λ b. rw (a, r.puts b);
   }
-  behind e es (Err i) a r = record {
+  after e es (Err i) a r = record {
     within = omega (arith, r.within);
     puts = λ b. rw (a, r.puts b);
     lacks = λ s. (ap is_eq a, r.lacks (sorted_tail _ _ _ s));
@@ -73,7 +73,7 @@ module _ (p : List ℕ) where
       (λ a. rw a (record { within = omega arith; puts = λ b. rw a; lacks = λ s. none_below_head nat_list_cmp_total p e es s a }))
       (λ a. let same = exact_bytes p e.0 a in
       rw a (record { within = omega arith; bytes = e.1; entry = ap (λ q. Some (q, e.1)) (sym same); finds = rw a; puts = λ b. rw a (ap (λ q. (q, b) ∷ es) same) }))
-      (λ a. rw a (behind e es (path_place (paths_of es) p) a (placed es)))
+      (λ a. rw a (after e es (path_place (paths_of es) p) a (placed es)))
 
   pub found : (es : Folder) (i : ℕ) → path_place (paths_of es) p ≡ Ok i → IsFound es i
   found es i h = subst (IsPlaced es) h (placed es)

@@ -56,8 +56,8 @@ pub bytes_put_other : (p q : List ℕ) (f : Folder) (b : List ℕ) → bytes_eq 
 bytes_put_other p q f b apart = bytes_with p q f b ∙ cond-false _ _ _ apart
 
 -- no later file has the path of the first one
-pub none_behind : (q : List ℕ) (e : List ℕ × List ℕ) (es : Folder) → q ≡ e.0 → IsStrictlySortedBy (slice_cmp nat_cmp) (paths_of (e ∷ es)) → bytes_at es q ≡ None
-none_behind q e es same s =
+pub none_after : (q : List ℕ) (e : List ℕ × List ℕ) (es : Folder) → q ≡ e.0 → IsStrictlySortedBy (slice_cmp nat_cmp) (paths_of (e ∷ es)) → bytes_at es q ≡ None
+none_after q e es same s =
     lookup-none _ es (none_past_head (eq_by_cmp_equiv nat_list_cmp_total) q e es (IsDistinct-from_sorted _ _ s)
     (is_eq-slice_cmp q e.0 ∙ ap (bytes_eq q) (sym same) ∙ bytes_self q))
 

@@ -37,6 +37,6 @@ pub begins : (cs : List ℕ) → starts_with nat_eq cs (codes "${{") ≡ true �
 begins [] e = absurd cc
 begins (c ∷ cs) e = ap (λ b. b || has_chunk cs) e
 
-pub behind : (cs : List ℕ) → starts_with nat_eq cs (codes "${{") ≡ false → has_chunk cs ≡ has_chunk (take (length cs - 1) (drop 1 cs))
-behind [] e = refl
-behind (c ∷ cs) e = ap (λ b. b || has_chunk cs) e ∙ ap has_chunk (sym (take_all (length (c ∷ cs) - 1) cs (omega arith)))
+pub after : (cs : List ℕ) → starts_with nat_eq cs (codes "${{") ≡ false → has_chunk cs ≡ has_chunk (take (length cs - 1) (drop 1 cs))
+after [] e = refl
+after (c ∷ cs) e = ap (λ b. b || has_chunk cs) e ∙ ap has_chunk (sym (take_all (length (c ∷ cs) - 1) cs (omega arith)))

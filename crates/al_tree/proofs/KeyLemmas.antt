@@ -32,17 +32,17 @@ before_more n None = refl
 before_more n (Some i) =
     ltb_from_iff ((λ e. let h = ltb-true (i + 1) (suc n) e in omega (arith, h)), (λ h. lt-ltb (i + 1) (suc n) (omega (arith, h))))
 
-here_or_behind : (here : Bool) (n : ℕ) (place : Option ℕ) (behind : Bool) → is_before n place ≡ behind →
-    is_before (suc n) (if here then Some 0 else option_map (λ i. i + 1) place) ≡ (here || behind)
-here_or_behind true n place behind e = lt-ltb 0 (suc n) (omega arith)
-here_or_behind false n place behind e = before_more n place ∙ e
+here_or_after : (here : Bool) (n : ℕ) (place : Option ℕ) (after : Bool) → is_before n place ≡ after →
+    is_before (suc n) (if here then Some 0 else option_map (λ i. i + 1) place) ≡ (here || after)
+here_or_after true n place after e = lt-ltb 0 (suc n) (omega arith)
+here_or_after false n place after e = before_more n place ∙ e
 
 -- A text is among the first n exactly if its first occurrence is before n.
 pub placed_before : (ts : List (List ℕ)) (n : ℕ) (t : List ℕ) → is_before n (text_place ts t) ≡ among (take n ts) t
 placed_before ts zero t = before_none (text_place ts t)
 placed_before [] (suc n) t = refl
 placed_before (u ∷ us) (suc n) t =
-    here_or_behind (bytes_eq u t) n (text_place us t) (among (take n us) t) (placed_before us n t)
+    here_or_after (bytes_eq u t) n (text_place us t) (among (take n us) t) (placed_before us n t)
     ∙ ap (λ b. b || among (take n us) t) (bytes_swap u t)
 
 -- ---- the first occurrence of a name in a list
@@ -51,18 +51,18 @@ same_more : (k i : ℕ) → nat_eq (k + 1) (suc i) ≡ nat_eq k i
 same_more k i = ap (λ j. nat_eq j (suc i)) (add-one k) ∙ eqb-suc-suc k i
 
 module _ {A : Type 0} (test : A → Bool) where
-  first_here : (here : Bool) (behind : Option ℕ) → here ≡ true → option_eq nat_eq (if here then Some 0 else behind) (Some 0) ≡ true
-  first_here true behind e = refl
-  first_here false behind e = absurd cc
+  first_here : (here : Bool) (after : Option ℕ) → here ≡ true → option_eq nat_eq (if here then Some 0 else after) (Some 0) ≡ true
+  first_here true after e = refl
+  first_here false after e = absurd cc
 
-  first_behind : (here : Bool) (behind before : Option ℕ) (i : ℕ) → option_eq nat_eq behind (Some i) ≡ is_none before →
-      option_eq nat_eq (if here then Some 0 else option_map (λ k. k + 1) behind) (Some (suc i))
+  first_after : (here : Bool) (after before : Option ℕ) (i : ℕ) → option_eq nat_eq after (Some i) ≡ is_none before →
+      option_eq nat_eq (if here then Some 0 else option_map (λ k. k + 1) after) (Some (suc i))
       ≡ is_none (if here then Some 0 else option_map (λ k. k + 1) before)
-  first_behind true behind before i e = eqb-zero-suc i
-  first_behind false None None i e = e
-  first_behind false None (Some j) i e = refl
-  first_behind false (Some k) None i e = same_more k i ∙ e
-  first_behind false (Some k) (Some j) i e = same_more k i ∙ e
+  first_after true after before i e = eqb-zero-suc i
+  first_after false None None i e = e
+  first_after false None (Some j) i e = refl
+  first_after false (Some k) None i e = same_more k i ∙ e
+  first_after false (Some k) (Some j) i e = same_more k i ∙ e
 
   -- An element that passes the test is the first one exactly if none before it passes.
   pub stands_first : (xs : List A) (i : ℕ) (d : A) → i < length xs → test (get_or xs i d) ≡ true →
@@ -70,12 +70,12 @@ module _ {A : Type 0} (test : A → Bool) where
   stands_first [] i d within passes = absurd (omega (arith, within))
   stands_first (y ∷ ys) zero d within passes = first_here (test y) (option_map (λ k. k + 1) (first_at test ys)) passes
   stands_first (y ∷ ys) (suc i) d within passes =
-      first_behind (test y) (first_at test ys) (first_at test (take i ys)) i (stands_first ys i d (omega (arith, within)) passes)
+      first_after (test y) (first_at test ys) (first_at test (take i ys)) i (stands_first ys i d (omega (arith, within)) passes)
 
   -- There is no first element exactly if none passes.
-  none_step : (here : Bool) (behind : Option ℕ) (more : Bool) → is_none behind ≡ not more →
-      is_none (if here then Some 0 else option_map (λ k. k + 1) behind) ≡ not (here || more)
-  none_step true behind more e = refl
+  none_step : (here : Bool) (after : Option ℕ) (more : Bool) → is_none after ≡ not more →
+      is_none (if here then Some 0 else option_map (λ k. k + 1) after) ≡ not (here || more)
+  none_step true after more e = refl
   none_step false None more e = e
   none_step false (Some k) more e = e
 

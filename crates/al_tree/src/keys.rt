@@ -101,15 +101,15 @@ impl<'a> KeyIndex<'a> {
         }
     }
 
-    /// The key of the entry at a position, behind those of the entries before it.
-    pub fn key_at(&self, i: usize) -> KeyBehind<'_>
+    /// The key of the entry at a position, with the keys of the entries before it.
+    pub fn key_at(&self, i: usize) -> EntryKey<'_>
         requires index { IsIndexOf self.now self.now.entries.now }
         requires within { i < length self.now.entries.now }
         ensures seen { holds result.seen ≡ has_first self.now i }
         ensures key { result.key.now ≡ slice_index_or (keys_in (map entry_view self.now.entries.now)) i [] }
     {
         let key = key_of(&self.entries[i]);
-        KeyBehind {
+        EntryKey {
             seen: self.first(i),
             key,
             is_repeated: self.repeats(i, key),
@@ -149,9 +149,9 @@ impl<'a> KeySet<'a> {
     }
 }
 
-/// A key behind those that were seen.
+/// The key of an entry, with the keys of the entries before it.
 #[derive(Clone, Copy)]
-pub struct KeyBehind<'a> {
+pub struct EntryKey<'a> {
     pub seen: KeySet<'a>,
     pub key: &'a [u8],
     pub is_repeated: bool,

@@ -14,7 +14,7 @@ ghost use Rattle.std.specs.Prelude.{◌≡◌, find, if◌then◌else◌, map, o
 ghost use Rattle.std.specs.Str.{bytes_eq};
 
 use crate::entries::scalar_among;
-use crate::keys::{KeyBehind, KeySet};
+use crate::keys::{EntryKey, KeySet};
 use crate::names::is_event;
 use crate::table::{Clash, Keys, Need, Others, Row, Shape, Trigger};
 use al_base::is_among;
@@ -123,7 +123,7 @@ fn event_shape(key: &[u8]) -> Shape
 }
 
 /// The standing of an entry without a row.
-fn standing_without_row(others: Others, key: KeyBehind<'_>, all: KeySet<'_>) -> Standing
+fn standing_without_row(others: Others, key: EntryKey<'_>, all: KeySet<'_>) -> Standing
     ensures { standing_view result
         ≡ other_standing (others_of others) (holds (key.entry).seen) (holds all.entry) (key.entry).key.now }
 {
@@ -137,7 +137,7 @@ fn standing_without_row(others: Others, key: KeyBehind<'_>, all: KeySet<'_>) -> 
 }
 
 /// The standing of an entry with a key, after the keys seen so far, in a mapping with all these keys.
-pub fn standing_of(keys: Keys, key: KeyBehind<'_>, all: KeySet<'_>) -> Standing
+pub fn standing_of(keys: Keys, key: EntryKey<'_>, all: KeySet<'_>) -> Standing
     ensures { standing_view result
         ≡ stands (keys_view keys) (holds (key.entry).seen) (holds all.entry) (key.entry).key.now }
 {

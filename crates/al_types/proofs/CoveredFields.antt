@@ -20,9 +20,9 @@ some_same u t e = sym (ap optional e)
 field_step : (b : Bool) (u t : Type') (found : Option Type') (c : Optional) → (if b then Some u else found) ≡ Some t
     → (found ≡ Some t → fuse_optional (Present t) c ≡ c)
     → fuse_optional (Present t) (fuse_optional (Present u) c) ≡ fuse_optional (Present u) c
-field_step true u t found c is behind =
+field_step true u t found c is after =
     first_covered (Present t) (Present u) c (ap (λ o. fuse_optional o (Present u)) (some_same u t is) ∙ optional_same (Present u))
-field_step false u t found c is behind = second_covered (Present t) (Present u) c (behind is)
+field_step false u t found c is after = second_covered (Present t) (Present u) c (after is)
 
 field_covered : (fs : Fields) (n : List ℕ) (t : Type') → field_at n fs ≡ Some t → fuse_optional (Present t) (common_in fs) ≡ common_in fs
 field_covered [] n t is = absurd cc

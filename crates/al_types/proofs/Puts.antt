@@ -23,8 +23,8 @@ put_new_any (q ∷ qs) p =
 pub put_new_old : (ts : List TypedName) (p : TypedName) → is_none (name_at ts p.0) ≡ false → put_new ts p ≡ ts
 put_new_old ts p e = put_new_any ts p ∙ cond-false (is_none (name_at ts p.0)) (ts ++ p ∷ []) ts e
 
-pub put_new_behind : (ts : List TypedName) (p : TypedName) → is_none (name_at ts p.0) ≡ true → put_new ts p ≡ ts ++ p ∷ []
-put_new_behind ts p e = put_new_any ts p ∙ cond-true (is_none (name_at ts p.0)) (ts ++ p ∷ []) ts e
+pub put_new_after : (ts : List TypedName) (p : TypedName) → is_none (name_at ts p.0) ≡ true → put_new ts p ≡ ts ++ p ∷ []
+put_new_after ts p e = put_new_any ts p ∙ cond-true (is_none (name_at ts p.0)) (ts ++ p ∷ []) ts e
 
 abbrev fused_at : List TypedName → TypedName → ℕ → TypedName → List TypedName
 fused_at ts p i d = set ts i ((get_or ts i d).0, fuse_type (get_or ts i d).1 p.1)
@@ -40,16 +40,16 @@ pub put_at : (ts : List TypedName) (p : TypedName) (i : ℕ) (d : TypedName) →
 put_at [] p i d e = absurd cc
 put_at (q ∷ qs) p i d e = at_step (same_name q.0 p.0) (name_at qs p.0) q qs (put_or_fuse qs p) p i d (λ j h. put_at qs p j d h) e
 
-behind_step : (b : Bool) (o : Option ℕ) (x y z w : List TypedName) → (o ≡ None → y ≡ z) → (if b then Some 0 else option_map (λ k. k + 1) o) ≡ None → (if b then x else y) ≡ (if b then w else z)
-behind_step true o x y z w h e = absurd cc
-behind_step false None x y z w h e = h refl
-behind_step false (Some j) x y z w h e = absurd cc
+after_step : (b : Bool) (o : Option ℕ) (x y z w : List TypedName) → (o ≡ None → y ≡ z) → (if b then Some 0 else option_map (λ k. k + 1) o) ≡ None → (if b then x else y) ≡ (if b then w else z)
+after_step true o x y z w h e = absurd cc
+after_step false None x y z w h e = h refl
+after_step false (Some j) x y z w h e = absurd cc
 
 -- Both ways of adding append the field if no other has its name.
-pub put_behind : (ts : List TypedName) (p : TypedName) → name_at ts p.0 ≡ None → put_or_fuse ts p ≡ put_new ts p
-put_behind [] p e = refl
-put_behind (q ∷ qs) p e =
-    behind_step (same_name q.0 p.0) (name_at qs p.0) ((q.0, fuse_type q.1 p.1) ∷ qs) (q ∷ put_or_fuse qs p) (q ∷ put_new qs p) (q ∷ qs) (λ h. ap (λ us. q ∷ us) (put_behind qs p h)) e
+pub put_after : (ts : List TypedName) (p : TypedName) → name_at ts p.0 ≡ None → put_or_fuse ts p ≡ put_new ts p
+put_after [] p e = refl
+put_after (q ∷ qs) p e =
+    after_step (same_name q.0 p.0) (name_at qs p.0) ((q.0, fuse_type q.1 p.1) ∷ qs) (q ∷ put_or_fuse qs p) (q ∷ put_new qs p) (q ∷ qs) (λ h. ap (λ us. q ∷ us) (put_after qs p h)) e
 
 -- the code's update: the field of this name is fused in place
 pub put_over : (ts : List TypedName) (p q r : TypedName) (i : ℕ) → name_at ts p.0 ≡ Some i → get_or ts i r ≡ r → q.0 ≡ r.0 → q.1 ≡ fuse_type r.1 p.1 → set ts i q ≡ put_or_fuse ts p

@@ -10,7 +10,7 @@ ghost use Rattle.al_yaml_parts.specs.BlockReads.{next_found, slot_of};
 ghost use Rattle.al_yaml_tree.specs.Blocks as block;
 ghost use Rattle.al_yaml_parts.specs.Files.{left_at, size};
 ghost use Rattle.al_yaml_parts.specs.Places.{Shows, next_of, option_lines};
-ghost use Rattle.al_yaml_parts.specs.Reads.{IsBehind, IsRead, IsStopInside, part_of, state_of};
+ghost use Rattle.al_yaml_parts.specs.Reads.{IsPartAfter, IsRead, IsStopInside, part_of, state_of};
 ghost use Rattle.al_yaml_parts.specs.Stacks.{HasRoom, depth_in};
 ghost use Rattle.al_yaml_tree.specs.View.{entries_of, entry_view, nodes_of, view};
 ghost use Rattle.std.specs.Prelude.{IfErr, IfOk, IfSome, Ok, [], length, map, suc, ℕ, ◌+◌, ◌<◌, ◌≡◌, ◌≤◌};
@@ -30,7 +30,7 @@ use al_yaml_parts::limits::State;
 use al_yaml_parts::lines::{characters, next_line};
 use al_yaml_parts::part::{Part, mapping_part, sequence_part};
 use al_yaml_parts::scalars::empty_part;
-use al_yaml_parts::slots::{Cursor, Slot, Spot, is_deeper, spot_behind};
+use al_yaml_parts::slots::{Cursor, Slot, Spot, is_deeper, spot_after};
 use al_yaml_tree::{Entry, Node, entry_of, scalar_node};
 use std::alloc::AllocError;
 
@@ -96,7 +96,7 @@ pub fn find_rest(
         return find_below(file, state, from, next_line(file.bytes, rest));
     }
     let at = blanks_end(file.bytes, rest);
-    let spot = spot_behind(file.bytes, rest, from.slot.spot);
+    let spot = spot_after(file.bytes, rest, from.slot.spot);
     let column = from.start.column + characters(file.bytes, from.start.at, at);
     Ok(BlockTask::Node(NodePlace {
         slot: Slot { spot, ..from.slot },
@@ -181,15 +181,15 @@ fn enter(
             Ok((BlockWaiting::Item(in_mapping, items), task))
         }
         BlockOpen::Entries(entries, key) => {
-            let behind = key.behind;
+            let after = key.after;
             let slot = Slot {
-                spot: Spot::BehindKey,
+                spot: Spot::AfterKey,
                 within: column + 1,
                 in_mapping: true,
-                empty: behind,
+                empty: after,
             };
             let start = Cursor {
-                at: behind,
+                at: after,
                 column: 0,
             };
             let from = NodePlace {
@@ -197,7 +197,7 @@ fn enter(
                 start,
                 anchor: None,
             };
-            let task = find_rest(file, state, from, behind)?;
+            let task = find_rest(file, state, from, after)?;
             Ok((BlockWaiting::Value(entries, key.read), task))
         }
     }
@@ -385,7 +385,7 @@ pub fn read_block_node(
         → IsRead (part_of file.now.bytes.now)
         (block.block_node bound (slot_of slot) 1 start.column (left_at file.now start.at))
         (state_of progress.old.state) result (state_of progress.new.state) }
-    ensures within { IfOk result (λ part. IsBehind file.now.bytes.now start.at part) }
+    ensures within { IfOk result (λ part. IsPartAfter file.now.bytes.now start.at part) }
 {
     let mut task = BlockTask::Node(NodePlace {
         slot,

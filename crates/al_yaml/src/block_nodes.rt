@@ -3,13 +3,13 @@
 ghost use Rattle.al_scalar.specs.Places.{lines_at, text_at};
 ghost use Rattle.al_yaml.specs.Private.BlockFrames.{Begins, IsBegun, IsNodeAt, node_reader};
 ghost use Rattle.al_yaml_parts.specs.Answers.{completing};
-ghost use Rattle.al_yaml_parts.specs.BlockReads.{IsKeyBehind, key_seen, slot_of, spot_of};
+ghost use Rattle.al_yaml_parts.specs.BlockReads.{IsKeyAfter, key_seen, slot_of, spot_of};
 ghost use Rattle.al_yaml_tree.specs.Blocks as block;
 ghost use Rattle.al_yaml_tree.specs.Content as content;
 ghost use Rattle.al_yaml_parts.specs.Files.{left_at, size};
 ghost use Rattle.al_yaml_tree.specs.Flow as flow;
 ghost use Rattle.al_yaml_tree.specs.Keys as keys;
-ghost use Rattle.al_yaml_parts.specs.Reads.{IsBehind, IsRead, IsStopInside, part_of, state_of};
+ghost use Rattle.al_yaml_parts.specs.Reads.{IsPartAfter, IsRead, IsStopInside, part_of, state_of};
 ghost use Rattle.al_yaml_parts.specs.Stacks.{depth_in};
 ghost use Rattle.std.specs.Prelude.{IfErr, IfOk, [], length, not, suc, true, ℕ, ◌&&◌, ◌+◌, ◌<◌, ◌||◌, ◌≡◌, ◌≤◌};
 
@@ -18,7 +18,7 @@ use crate::flow::read_flow_collection;
 use al_base::YamlCode;
 use al_scalar::lines::begins;
 use al_yaml_parts::anchors::{has_no_name, property_end};
-use al_yaml_parts::content::{is_dash, line_behind};
+use al_yaml_parts::content::{is_dash, line_after};
 use al_yaml_parts::faults::ReadError;
 use al_yaml_parts::file::{File, Progress};
 use al_yaml_parts::flow_nodes::{complete, read_alias};
@@ -27,7 +27,7 @@ use al_yaml_parts::keys::{Key, has_colon, is_on_key, is_short_key, key_at};
 use al_yaml_parts::lines::is_same_line;
 use al_yaml_parts::part::Part;
 use al_yaml_parts::scalars::read_line_scalar;
-use al_yaml_parts::slots::{Spot, is_behind_key, tab_before};
+use al_yaml_parts::slots::{Spot, is_after_key, tab_before};
 use al_yaml_parts::starts::{block_fault, is_block_start, is_flow_start, is_property};
 use std::alloc::AllocError;
 
@@ -35,18 +35,18 @@ use std::alloc::AllocError;
 fn is_no_key(bytes: &[u8], spot: Spot, at: usize) -> bool
     requires { at ≤ length bytes.now }
     ensures { result ≡
-        (keys.is_block_start (text_at bytes.now at) || block.is_behind_key (spot_of spot)) }
+        (keys.is_block_start (text_at bytes.now at) || block.is_after_key (spot_of spot)) }
 {
-    is_block_start(bytes, at) || is_behind_key(spot)
+    is_block_start(bytes, at) || is_after_key(spot)
 }
 
 /// Whether a colon after a flow collection would make it a key.
 fn is_refused_key(bytes: &[u8], spot: Spot, next: usize) -> bool
     requires { next ≤ length bytes.now }
     ensures { result ≡
-        (not (block.is_behind_key (spot_of spot)) && keys.has_colon (lines_at bytes.now next)) }
+        (not (block.is_after_key (spot_of spot)) && keys.has_colon (lines_at bytes.now next)) }
 {
-    !is_behind_key(spot) && has_colon(bytes, next)
+    !is_after_key(spot) && has_colon(bytes, next)
 }
 
 /// Whether an anchor or alias stands on a key, as none on the line of its own key does.
@@ -54,9 +54,9 @@ fn is_on_block_key(file: &File, spot: Spot, at: usize) -> Result<bool, AllocErro
     requires inside { at ≤ size file.now }
     requires property { content.is_property (text_at file.now.bytes.now at) ≡ true }
     ensures { IfOk result (λ b. b ≡
-        (not (block.is_behind_key (spot_of spot)) && keys.is_on_key (left_at file.now at))) }
+        (not (block.is_after_key (spot_of spot)) && keys.is_on_key (left_at file.now at))) }
 {
-    if is_behind_key(spot) {
+    if is_after_key(spot) {
         return Ok(false);
     }
     is_on_key(file, at)
@@ -77,7 +77,7 @@ fn read_line_flow(
         → IsRead (part_of file.now.bytes.now) (block.flow_at (flow.flow_collection bound)
         (spot_of spot) (depth_in progress.old.stack) (left_at file.now at))
         (state_of progress.old.state) result (state_of progress.new.state) }
-    ensures within { IfOk result (λ part. IsBehind file.now.bytes.now at part) }
+    ensures within { IfOk result (λ part. IsPartAfter file.now.bytes.now at part) }
     ensures same { IfOk result (λ _. progress.new.stack ≡ progress.old.stack) }
 {
     let depth = progress.stack.depth();
@@ -85,7 +85,7 @@ fn read_line_flow(
     if is_refused_key(file.bytes, spot, part.next) {
         return Err(ReadError::at(YamlCode::WrongKey, at));
     }
-    let next = line_behind(file.bytes, part.next)?;
+    let next = line_after(file.bytes, part.next)?;
     Ok(Part { next, ..part })
 }
 
@@ -168,7 +168,7 @@ fn read_property(
     if begins(file.bytes, node.start.at, b'*') {
         let depth = progress.stack.depth();
         let part = read_alias(file, &mut progress.state, node.start.at, depth)?;
-        let next = line_behind(file.bytes, part.next)?;
+        let next = line_after(file.bytes, part.next)?;
         return Ok(BlockTask::Read(Part { next, ..part }));
     }
     let rest = property_end(file.bytes, node.start.at);
@@ -201,7 +201,7 @@ fn begin_sequence(
         (λ task. IsBegun file.now.bytes.now node.start.at (depth_in progress.old.stack) task) }
     ensures same { IfOk result (λ _. progress.new.stack ≡ progress.old.stack) }
 {
-    if is_behind_key(node.slot.spot) {
+    if is_after_key(node.slot.spot) {
         return Err(ReadError::at(YamlCode::UnexpectedCharacter, node.start.at));
     }
     if let Some(tab) = tab_before(node.slot.spot) {
@@ -227,7 +227,7 @@ fn begin_mapping(
     node: NodePlace,
     key: Key,
 ) -> Result<BlockTask, ReadError>
-    requires key { IsKeyBehind file.now.bytes.now node.start.at key }
+    requires key { IsKeyAfter file.now.bytes.now node.start.at key }
     requires node { IsNodeAt file.now.bytes.now node.slot node.start }
     requires outside { progress.old.stack.flows ≡ [] }
     ensures fault { IfErr result (IsStopInside (size file.now)) }

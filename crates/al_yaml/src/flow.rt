@@ -4,14 +4,14 @@ ghost use Rattle.al_scalar.specs.Places.{text_at};
 ghost use Rattle.al_yaml_tree.specs.Content as content;
 ghost use Rattle.al_yaml_parts.specs.Files.{left_at, size};
 ghost use Rattle.al_yaml_tree.specs.Flow as flow;
-ghost use Rattle.al_yaml.specs.Private.FlowAnswers.{Answers, Behind, Inside, NodeAnswer};
+ghost use Rattle.al_yaml.specs.Private.FlowAnswers.{Answers, AfterNode, Inside, NodeAnswer};
 ghost use Rattle.al_yaml.specs.Private.FlowFrames.{AreOpen, IsFirst, IsFurther, IsPut, Opens};
 ghost use Rattle.al_yaml.specs.Private.FlowFrames.{after_at, closed_of, frame_of, open_of};
 ghost use Rattle.al_yaml_tree.specs.Limits.{broken_limit};
 ghost use Rattle.al_yaml_tree.specs.Reading.{start_of};
 ghost use Rattle.al_yaml_parts.specs.declared.frames.FlowFrame as frame_code;
 ghost use Rattle.al_yaml_parts.specs.Reads as reads;
-ghost use Rattle.al_yaml_parts.specs.Reads.{IsBehind, IsRead, IsStopInside, with_nodes, part_of, state_of};
+ghost use Rattle.al_yaml_parts.specs.Reads.{IsPartAfter, IsRead, IsStopInside, with_nodes, part_of, state_of};
 ghost use Rattle.al_yaml_tree.specs.View.{view};
 ghost use Rattle.std.specs.Prelude.{IfErr, IfOk, List, None, [], length, map, true, ℕ, ◌+◌, ◌<◌, ◌^◌, ◌∷◌, ◌≡◌, ◌≤◌};
 
@@ -105,7 +105,7 @@ fn resume_outer(
     requires at { frame.inner.at < size file.now }
     ensures fault { IfErr result (IsStopInside (size file.now)) }
     ensures is { (depth : ℕ) (whole : NodeAnswer) (outer : List frame_code.FlowFrame)
-        → Behind file.now.bytes.now depth whole (map (frame_of file.now.bytes.now) (frame ∷ outer))
+        → AfterNode file.now.bytes.now depth whole (map (frame_of file.now.bytes.now) (frame ∷ outer))
         (state_of state.old) part
         → Answers file.now.bytes.now depth whole outer result (state_of state.new) }
     ensures opening { IfOk result (λ collection. collection.opening ≡ frame.opening) }
@@ -148,7 +148,7 @@ fn read_on(
     let place = FlowPlace { opening, at, depth };
     let step = read_inside(file, &mut progress.state, &mut has, place)?;
     match step {
-        FlowStep::Behind(next) => Ok(OpenFlow { opening, has, next }),
+        FlowStep::AfterNode(next) => Ok(OpenFlow { opening, has, next }),
         FlowStep::Opens(inner) => {
             progress.state.start(inner.at, 1, depth)?;
             progress.stack.push_flow(FlowFrame {
@@ -179,7 +179,7 @@ pub fn read_flow_collection(
     ensures is { (bound : ℕ) → size file.now < bound + at →
         IsRead (part_of file.now.bytes.now) (flow.flow_collection bound depth (left_at file.now at))
         (state_of progress.old.state) result (state_of progress.new.state) }
-    ensures within { IfOk result (λ part. IsBehind file.now.bytes.now at part) }
+    ensures within { IfOk result (λ part. IsPartAfter file.now.bytes.now at part) }
     ensures same { IfOk result (λ _. progress.new.stack ≡ progress.old.stack) }
 {
     progress.state.start(at, 1, depth)?;

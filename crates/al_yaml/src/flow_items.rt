@@ -49,7 +49,7 @@ pub struct FlowPlace {
 /// How far one step reads: up to what follows a node, or to the opening bracket of a nested collection.
 #[derive(Clone, Copy)]
 pub enum FlowStep {
-    Behind(After),
+    AfterNode(After),
     Opens(Bracket),
 }
 
@@ -149,7 +149,12 @@ fn read_item(
         empty: None,
     };
     match read_flow_node(file, state, slot, place.at, place.depth)? {
-        FoundNode::Node(part) => Ok(FlowStep::Behind(put_item(file, place.opening, items, part)?)),
+        FoundNode::Node(part) => Ok(FlowStep::AfterNode(put_item(
+            file,
+            place.opening,
+            items,
+            part,
+        )?)),
         FoundNode::Opens(bracket) => Ok(FlowStep::Opens(bracket)),
     }
 }
@@ -184,7 +189,7 @@ fn read_entry(
         }
     };
     match read_flow_value(file, state, place.opening, &key, place.depth)? {
-        FoundNode::Node(part) => Ok(FlowStep::Behind(put_entry(
+        FoundNode::Node(part) => Ok(FlowStep::AfterNode(put_entry(
             file,
             place.opening,
             &mut mapping.entries,
@@ -228,7 +233,7 @@ pub fn read_inside(
         return Err(ReadError::at(YamlCode::UnclosedFlow, place.opening));
     }
     if begins(file.bytes, place.at, closer(has)) {
-        return Ok(FlowStep::Behind(After::Closes(place.at + 1)));
+        return Ok(FlowStep::AfterNode(After::Closes(place.at + 1)));
     }
     match has {
         Open::Items(items) => read_item(file, state, items, place),

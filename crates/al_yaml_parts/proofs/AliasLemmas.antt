@@ -8,7 +8,7 @@ use Rattle.al_yaml_tree.specs.Node.{Node, nodes_in, text_size, levels_in}
 use Rattle.al_scalar.specs.Line.{start}
 use Rattle.al_scalar.specs.Places.{lines_at}
 use Rattle.al_scalar.proofs.RestLemmas.{start-at}
-use Rattle.al_yaml_tree.specs.Content.{anchor_name, behind_name}
+use Rattle.al_yaml_tree.specs.Content.{anchor_name, after_name}
 use Rattle.al_yaml_parts.specs.Reads.{alias_part}
 use Rattle.al_yaml_parts.specs.declared.faults.ReadError.{ReadError}
 use Rattle.al_yaml_parts.proofs.ReadLemmas.{bind-ok, stops-bind, stops-from}
@@ -91,21 +91,21 @@ module _ (s : State) (name : List ℕ) (at depth : ℕ) where
         ∙ run-gives (record { nodes = s.nodes + nodes_in a.node; text = s.text + text_size a.node; known = s.known }) a.node
         ∙ rw (c, d, ← p, ← q) refl
 
--- ---- an alias with what is left behind it
+-- ---- an alias with what is left after it
 
 module _ (bytes : List ℕ) (at : ℕ) (inside : at ≤ length bytes) (s : State) (depth : ℕ) where
-  abbrev behind_alias : Node → Reading (Part Node)
-  behind_alias n = gives (part n (start (behind_name (lines_at bytes at))) (behind_name (lines_at bytes at)))
+  abbrev after_alias : Node → Reading (Part Node)
+  after_alias n = gives (part n (start (after_name (lines_at bytes at))) (after_name (lines_at bytes at)))
 
-  alias-here : run s (alias_part depth (lines_at bytes at)) ≡ run s (alias (anchor_name (lines_at bytes at)) at depth >>= behind_alias)
-  alias-here = ap (λ i. run s (alias (anchor_name (lines_at bytes at)) i depth >>= behind_alias)) (start-at bytes at inside)
+  alias-here : run s (alias_part depth (lines_at bytes at)) ≡ run s (alias (anchor_name (lines_at bytes at)) at depth >>= after_alias)
+  alias-here = ap (λ i. run s (alias (anchor_name (lines_at bytes at)) i depth >>= after_alias)) (start-at bytes at inside)
 
   pub alias-stops : (e : ReadError) → FailsWith (alias (anchor_name (lines_at bytes at)) at depth) s e → FailsWith (alias_part depth (lines_at bytes at)) s e
-  alias-stops e h = stops-from (alias_part depth (lines_at bytes at)) (alias (anchor_name (lines_at bytes at)) at depth >>= behind_alias) s s e alias-here
-      (stops-bind (alias (anchor_name (lines_at bytes at)) at depth) behind_alias s e h)
+  alias-stops e h = stops-from (alias_part depth (lines_at bytes at)) (alias (anchor_name (lines_at bytes at)) at depth >>= after_alias) s s e alias-here
+      (stops-bind (alias (anchor_name (lines_at bytes at)) at depth) after_alias s e h)
 
-  pub alias-part : (n : Node) (t : State) (end : ℕ) → end ≤ length bytes → behind_name (lines_at bytes at) ≡ lines_at bytes end
+  pub alias-part : (n : Node) (t : State) (end : ℕ) → end ≤ length bytes → after_name (lines_at bytes at) ≡ lines_at bytes end
       → run s (alias (anchor_name (lines_at bytes at)) at depth) ≡ Ok (n, t) → run s (alias_part depth (lines_at bytes at)) ≡ Ok (part n end (lines_at bytes end), t)
   alias-part n t end to h k =
-      alias-here ∙ bind-ok (alias (anchor_name (lines_at bytes at)) at depth) behind_alias s t n k
+      alias-here ∙ bind-ok (alias (anchor_name (lines_at bytes at)) at depth) after_alias s t n k
       ∙ rw (h, start-at bytes end to) (run-gives t (part n end (lines_at bytes end)))

@@ -33,7 +33,7 @@ later-is : (a : Anchor) (o : Option Anchor) → later_of a o ≡ cond (is_later 
 later-is a None = refl
 later-is a (Some b) = refl
 
--- an anchor that is put, where none of its name stands behind it
+-- an anchor that is put, with none of its name after it
 module _ (old new : Anchors) (key : Vec ℕ) (a : AnchoredNode)
     (u : UpdatesBy (λ a b. slice_cmp nat_cmp a.items b.items) (λ k. slice_cmp nat_cmp key.items k.items) old.latest new.latest (Some a))
     (last : is_later a.at (anchors_view old key.items) ≡ false) where

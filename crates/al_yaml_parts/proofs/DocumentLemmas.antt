@@ -3,8 +3,8 @@ use Rattle.std.proofs.Common.{◌≡◌, ℕ, ◌+◌, ◌<◌, ◌≤◌, List,
 use Rattle.al_scalar.specs.Line.{Cell, Line, cut, is_empty, is_marker}
 use Rattle.al_scalar.specs.Places.{lines_at, text_at}
 use Rattle.al_scalar.specs.LineEnds.{IsLineEnd}
-use Rattle.al_yaml_tree.specs.Content.{behind}
-use Rattle.al_yaml_parts.proofs.LineLemmas.{behind-one}
+use Rattle.al_yaml_tree.specs.Content.{past}
+use Rattle.al_yaml_parts.proofs.LineLemmas.{past-one}
 use Rattle.al_scalar.proofs.LineCells.{text-line_end, never, IsInside, is_inside}
 use Rattle.al_scalar.proofs.PlainLemmas.{text_at-cell}
 
@@ -25,14 +25,14 @@ marker-three b c d (e ∷ t) h = refl
 -- a byte of the line
 record IsByteOfLine (bytes : List ℕ) (i : ℕ) : Type 0 where
   inside : i < length bytes
-  behind : behind 1 (lines_at bytes i) ≡ lines_at bytes (i + 1)
+  past : past 1 (lines_at bytes i) ≡ lines_at bytes (i + 1)
   text : text_at bytes i ≡ (slice_index bytes i, i) ∷ text_at bytes (i + 1)
 
 byte_of_line : (bytes : List ℕ) (i : ℕ) → i ≤ length bytes → false ≡ is_empty (text_at bytes i) → IsByteOfLine bytes i
 byte_of_line bytes i h k =
     let solid : IsLineEnd bytes i → ⊥ = λ e. never (k ∙ ap is_empty (text-line_end bytes i h e)) in
     let here : IsInside bytes i = is_inside bytes i h solid in
-    record { inside = here.inside; behind = behind-one bytes i h solid; text = text_at-cell bytes i h solid }
+    record { inside = here.inside; past = past-one bytes i h solid; text = text_at-cell bytes i h solid }
 
 drop-three : (t : List Cell) → drop 3 t ≡ drop 1 (drop 1 (drop 1 t))
 drop-three [] = refl
@@ -40,13 +40,13 @@ drop-three (c ∷ []) = refl
 drop-three (c ∷ d ∷ []) = refl
 drop-three (c ∷ d ∷ e ∷ t) = refl
 
-behind-three : (ls : List Line) → behind 3 ls ≡ behind 1 (behind 1 (behind 1 ls))
-behind-three [] = refl
-behind-three (l ∷ ls) = ap (λ t. cut t l ls) (drop-three l.text)
+past-three : (ls : List Line) → past 3 ls ≡ past 1 (past 1 (past 1 ls))
+past-three [] = refl
+past-three (l ∷ ls) = ap (λ t. cut t l ls) (drop-three l.text)
 
 module _ (bytes : List ℕ) (i b : ℕ) (h : i ≤ length bytes) (m : true ≡ is_marker b (text_at bytes i)) where
-  pub marker-behind : (behind 3 (lines_at bytes i) ≡ lines_at bytes (i + 3)) × (i + 3 ≤ length bytes)
-  marker-behind =
+  pub marker-after : (past 3 (lines_at bytes i) ≡ lines_at bytes (i + 3)) × (i + 3 ≤ length bytes)
+  marker-after =
       let one : IsByteOfLine bytes i = byte_of_line bytes i h (marker-some b (text_at bytes i) m) in
       let in_one : i < length bytes = one.inside in
       let first : Cell = (slice_index bytes i, i) in
@@ -58,4 +58,4 @@ module _ (bytes : List ℕ) (i b : ℕ) (h : i ≤ length bytes) (m : true ≡ i
       let three : IsByteOfLine bytes (i + 1 + 1) = byte_of_line bytes (i + 1 + 1) (omega arith) (marker-three b first second (text_at bytes (i + 1 + 1)) m_three) in
       let in_three : i + 1 + 1 < length bytes = three.inside in
       let same : i + 1 + 1 + 1 ≡ i + 3 = omega arith in
-      (behind-three (lines_at bytes i) ∙ ap (λ ls. behind 1 (behind 1 ls)) one.behind ∙ ap (behind 1) two.behind ∙ three.behind ∙ ap (lines_at bytes) same, omega arith)
+      (past-three (lines_at bytes i) ∙ ap (λ ls. past 1 (past 1 ls)) one.past ∙ ap (past 1) two.past ∙ three.past ∙ ap (lines_at bytes) same, omega arith)

@@ -1,4 +1,4 @@
--- Keys against offsets: their lines, their characters, and the colons behind them.
+-- Keys against offsets: their lines, their characters, and the colons after them.
 use Rattle.std.proofs.Common.{◌≡◌, ◌≢◌, ℕ, suc, ◌+◌, ◌-◌, ◌<◌, ◌≤◌, List, [], ◌∷◌, drop, length, slice_index, refl, sym, ap, subst, ◌∙◌, arith, Bool, true, false, ◌&&◌, ◌||◌, ◌==◌, cond, Some, None}
 use Rattle.std.specs.Prelude.{nat_le, nat_lt}
 use Rattle.std.proofs.lemmas.Grind.{common_steps}
@@ -11,11 +11,11 @@ use Rattle.std.proofs.Math.Bool.{or-false}
 use Rattle.std.proofs.lemmas.Bool.{and_parts, eq-eqb, eqb-true, ne_eqb, or_right}
 use Rattle.al_scalar.specs.Plain.{Context, flow, block, is_value_colon, ends_key, begins_flow_indicator}
 use Rattle.al_scalar.proofs.MarkerLemmas.{begins-inside, colon-ends}
-use Rattle.al_yaml_tree.specs.Content.{same_line, characters, behind}
+use Rattle.al_yaml_tree.specs.Content.{same_line, characters, past}
 use Rattle.al_yaml_tree.specs.Flow as items
 use Rattle.al_yaml_parts.specs.BlockReads as block_reads
 use Rattle.al_yaml_parts.specs.Places.{IsColon}
-use Rattle.al_yaml_parts.proofs.LineLemmas.{solid-lines, behind-one}
+use Rattle.al_yaml_parts.proofs.LineLemmas.{solid-lines, past-one}
 use Rattle.al_scalar.proofs.LineParts.{blanks_dropped-stays, Kind, at_file_end, at_break, at_byte, kind, end-here}
 use Rattle.al_scalar.proofs.LineCells.{has_line, lines-some, lines-at_end, text-line_end, is_inside, never}
 use Rattle.al_scalar.proofs.LineLemmas.{lines_at-other}
@@ -182,10 +182,10 @@ module _ (bytes : List ℕ) (at : ℕ) (inside : at ≤ length bytes) where
     pub flow-other : (r : Bool) → false ≡ is_blank_or_end (text_at bytes (at + 1)) → r ≡ begins_flow_indicator (text_at bytes (at + 1)) → r ≡ is_value_colon flow (text_at bytes at)
     flow-other r h k = colon-ends bytes at inside flow colon r (k ∙ ap (λ b. b || begins_flow_indicator (text_at bytes (at + 1))) h)
 
-solid-colon : (bytes : List ℕ) (solid : ℕ) → solid ≤ length bytes → begins 58 (text_at bytes solid) ≡ true → (behind 1 (lines_at bytes solid) ≡ lines_at bytes (solid + 1)) × (solid < length bytes)
+solid-colon : (bytes : List ℕ) (solid : ℕ) → solid ≤ length bytes → begins 58 (text_at bytes solid) ≡ true → (past 1 (lines_at bytes solid) ≡ lines_at bytes (solid + 1)) × (solid < length bytes)
 solid-colon bytes solid inside h =
     let no_end = begins-inside bytes solid 58 inside (sym h) in
-    (behind-one bytes solid inside no_end, (is_inside bytes solid inside no_end).inside)
+    (past-one bytes solid inside no_end, (is_inside bytes solid inside no_end).inside)
 
 no_blank : (t : List Cell) → begins 58 t ≡ true → begins_blank t ≡ false
 no_blank [] h = refl
@@ -204,30 +204,30 @@ module _ (bytes : List ℕ) (at solid : ℕ) (from : at ≤ solid) (inside : sol
   text_solid = sym (blanks_text (lines_at bytes at)) ∙ ap first_text e
 
   found_by : (p : Context) (b : Bool) → true ≡ is_value_colon p (text_at bytes solid)
-      → IsColon (cond (b || is_value_colon p (after_blanks (text_at bytes at))) (Some (behind 1 (blanks_dropped (lines_at bytes at)))) None) bytes at (Some (solid + 1))
+      → IsColon (cond (b || is_value_colon p (after_blanks (text_at bytes at))) (Some (past 1 (blanks_dropped (lines_at bytes at)))) None) bytes at (Some (solid + 1))
   found_by p b h =
       let both = solid-colon bytes solid inside (begins-value p (text_at bytes solid) h) in
       let l : solid < length bytes = both.1 in
       let value : (b || is_value_colon p (after_blanks (text_at bytes at))) ≡ true = or_right b _ (ap (is_value_colon p) text_solid ∙ sym h) in
-      (ap (λ x. cond x (Some (behind 1 (blanks_dropped (lines_at bytes at)))) None) value ∙ ap (λ ls. Some (behind 1 ls)) e ∙ ap Some both.0, omega arith, omega arith)
+      (ap (λ x. cond x (Some (past 1 (blanks_dropped (lines_at bytes at)))) None) value ∙ ap (λ ls. Some (past 1 ls)) e ∙ ap Some both.0, omega arith, omega arith)
 
-  pub block_found : true ≡ is_value_colon (block 0) (text_at bytes solid) → IsColon (block_reads.behind_colon_in_block (lines_at bytes at)) bytes at (Some (solid + 1))
+  pub block_found : true ≡ is_value_colon (block 0) (text_at bytes solid) → IsColon (block_reads.after_colon_in_block (lines_at bytes at)) bytes at (Some (solid + 1))
   block_found h = found_by (block 0) false h
 
-  pub block_missed : false ≡ is_value_colon (block 0) (text_at bytes solid) → block_reads.behind_colon_in_block (lines_at bytes at) ≡ None
-  block_missed h = ap (λ b. cond b (Some (behind 1 (blanks_dropped (lines_at bytes at)))) None) (ap (is_value_colon (block 0)) text_solid ∙ sym h)
+  pub block_missed : false ≡ is_value_colon (block 0) (text_at bytes solid) → block_reads.after_colon_in_block (lines_at bytes at) ≡ None
+  block_missed h = ap (λ b. cond b (Some (past 1 (blanks_dropped (lines_at bytes at)))) None) (ap (is_value_colon (block 0)) text_solid ∙ sym h)
 
-  pub flow_found : (q : Bool) → true ≡ is_value_colon flow (text_at bytes solid) → IsColon (items.behind_colon_in_flow q (lines_at bytes at)) bytes at (Some (solid + 1))
+  pub flow_found : (q : Bool) → true ≡ is_value_colon flow (text_at bytes solid) → IsColon (items.after_colon_in_flow q (lines_at bytes at)) bytes at (Some (solid + 1))
   flow_found q h = found_by flow (q && begins 58 (text_at bytes at)) h
 
 pub quoted_found : (bytes : List ℕ) (at : ℕ) (q : Bool) → at ≤ length bytes → true ≡ (q && begins 58 (text_at bytes at))
-    → IsColon (items.behind_colon_in_flow q (lines_at bytes at)) bytes at (Some (at + 1))
+    → IsColon (items.after_colon_in_flow q (lines_at bytes at)) bytes at (Some (at + 1))
 quoted_found bytes at q inside h =
     let colon : begins 58 (text_at bytes at) ≡ true = (and_parts q (begins 58 (text_at bytes at)) (sym h)).1 in
     let both = solid-colon bytes at inside colon in
     let l : at < length bytes = both.1 in (
-      ap (λ x. cond (x || is_value_colon flow (after_blanks (text_at bytes at))) (Some (behind 1 (blanks_dropped (lines_at bytes at)))) None) (sym h)
-          ∙ ap (λ ls. Some (behind 1 ls)) (blanks_dropped-stays (lines_at bytes at) (no_blank (text_at bytes at) colon)) ∙ ap Some both.0,
+      ap (λ x. cond (x || is_value_colon flow (after_blanks (text_at bytes at))) (Some (past 1 (blanks_dropped (lines_at bytes at)))) None) (sym h)
+          ∙ ap (λ ls. Some (past 1 ls)) (blanks_dropped-stays (lines_at bytes at) (no_blank (text_at bytes at) colon)) ∙ ap Some both.0,
       omega arith,
       omega arith,
     )

@@ -15,10 +15,10 @@ use Rattle.al_scalar.specs.declared.scalars.ScalarRead.{ScalarRead}
 use Rattle.al_yaml_tree.specs.Node as tree
 use Rattle.al_yaml_tree.specs.Reading.{Reading, Part, part, gives, of_result, start_of, ◌>>=◌}
 use Rattle.al_yaml_tree.specs.Limits.{broken_limit}
-use Rattle.al_yaml_tree.specs.Content.{behind, line_ended}
+use Rattle.al_yaml_tree.specs.Content.{past, line_ended}
 use Rattle.al_yaml_tree.specs.Blocks.{ending_line, scalar_node_at}
 use Rattle.al_yaml_tree.specs.Keys.{Key, is_block_start, one_line, with_lines, plain_on_line, has_colon, key_before_colon}
-use Rattle.al_yaml_parts.specs.BlockReads.{behind_colon_in_block, scalar_left}
+use Rattle.al_yaml_parts.specs.BlockReads.{after_colon_in_block, scalar_left}
 use Rattle.al_yaml_parts.specs.Places.{IsReadInside}
 use Rattle.al_yaml_parts.specs.Reads.{State, run, with_nodes, Refuses, Answers}
 use Rattle.al_yaml_parts.specs.declared.faults.ReadError.{ReadError}
@@ -153,31 +153,31 @@ key-stops asked (stop.Fault f) h = ap keyed h
 key-stops asked stop.Memory h = tt
 
 abbrev pub key_with : value.ScalarRead → Option (List Line) → Option Key
-key_with r o = elim o [ None ↦ None | Some left ↦ Some (record { scalar = r; behind = left }) ]
+key_with r o = elim o [ None ↦ None | Some left ↦ Some (record { scalar = r; after = left }) ]
 
 key-by : (r : value.ScalarRead) (left : List Line) (colon : Bool)
-    → cond colon (Some (record { scalar = r; behind = left })) None ≡ key_with r (cond colon (Some left) None)
+    → cond colon (Some (record { scalar = r; after = left })) None ≡ key_with r (cond colon (Some left) None)
 key-by r left true = refl
 key-by r left false = refl
 
-pub key-given : (asked : Result value.ScalarRead FaultAt) (r : value.ScalarRead) (o : Option (List Line)) → asked ≡ Ok r → behind_colon_in_block r.left ≡ o
+pub key-given : (asked : Result value.ScalarRead FaultAt) (r : value.ScalarRead) (o : Option (List Line)) → asked ≡ Ok r → after_colon_in_block r.left ≡ o
     → keyed asked ≡ Ok (key_with r o)
 key-given asked r o h k =
-    ap keyed h ∙ ap Ok (key-by r (behind 1 (blanks_dropped r.left)) (has_colon r.left)) ∙ ap (λ x. Ok (key_with r x)) k
+    ap keyed h ∙ ap Ok (key-by r (past 1 (blanks_dropped r.left)) (has_colon r.left)) ∙ ap (λ x. Ok (key_with r x)) k
 
 -- ---- a scalar with the rest of its line
 
-abbrev behind_scalar : Bool → Part tree.Node → Reading (Part tree.Node)
-behind_scalar is_block = if is_block then gives else ending_line
+abbrev after_scalar : Bool → Part tree.Node → Reading (Part tree.Node)
+after_scalar is_block = if is_block then gives else ending_line
 
-left-by : (r : value.ScalarRead) (is_block : Bool) → behind_scalar is_block (part (tree.scalar_node r) r.span.end r.left)
+left-by : (r : value.ScalarRead) (is_block : Bool) → after_scalar is_block (part (tree.scalar_node r) r.span.end r.left)
     ≡ (of_result (cond is_block (Ok r.left) (line_ended r.left)) >>= (λ left. gives (part (tree.scalar_node r) r.span.end left)))
 left-by r true = refl
 left-by r false = refl
 
 module _ (within : ℕ) (n m : State) (bytes : List ℕ) (at : ℕ) (inside : at ≤ length bytes) (fits : broken_limit n.nodes n.text (start_of at 1 0 ∷ []) ≡ None) (more : m ≡ with_nodes 1 n) where
   abbrev pub left_of : value.ScalarRead → Reading (Part tree.Node)
-  left_of r = behind_scalar (is_block_start (text_at bytes at)) (part (tree.scalar_node r) r.span.end r.left)
+  left_of r = after_scalar (is_block_start (text_at bytes at)) (part (tree.scalar_node r) r.span.end r.left)
 
   pub line-starts : run n (scalar_node_at within (lines_at bytes at)) ≡ run m (of_result (scalar_at (block within) (lines_at bytes at)) >>= left_of)
   line-starts = rw (start-at bytes at inside, more) (run-start n 1 at 0 (of_result (scalar_at (block within) (lines_at bytes at)) >>= left_of) fits)

@@ -10,7 +10,7 @@ use Rattle.al_scalar.specs.Plain.{is_flow_indicator}
 use Rattle.al_scalar.proofs.LineLemmas.{cells_between-more, with_cells_before-more}
 use Rattle.al_scalar.proofs.PlainLemmas.{text_at-cell}
 use Rattle.al_scalar.proofs.LineCells.{is_inside, never, text-line_end}
-use Rattle.al_yaml_tree.specs.Content.{anchor_cells, anchor_name, behind, behind_name, ends_name, has_no_name, is_property, same_line}
+use Rattle.al_yaml_tree.specs.Content.{anchor_cells, anchor_name, past, after_name, ends_name, has_no_name, is_property, same_line}
 use Rattle.al_yaml_parts.proofs.LineLemmas.{first_cell, solid-lines}
 
 name-cell : (c : Cell) (cs : List Cell) → false ≡ ends_name (c ∷ cs) → anchor_cells (c ∷ cs) ≡ c ∷ anchor_cells cs
@@ -48,7 +48,7 @@ module _ (bytes : List ℕ) (i : ℕ) (inside : i ≤ length bytes) (more : fals
         ∙ sym (with_cells_before-more (cells_between bytes at i) (slice_index bytes i, i) (lines_at bytes (i + 1)))
         ∙ ap (λ cs. with_cells_before cs (lines_at bytes (i + 1))) (sym (cells_between-more bytes at i from))
 
--- ---- the name behind an indicator
+-- ---- the name after an indicator
 
 bytes-of : (bytes : List ℕ) (n i : ℕ) → i + n ≤ length bytes → map (λ (c : Cell). c.0) (cells_at bytes i n) ≡ take n (drop i bytes)
 bytes-of bytes zero i h = refl
@@ -56,9 +56,9 @@ bytes-of bytes (suc n) i h =
     let here : drop i bytes ≡ slice_index bytes i ∷ drop (suc i) bytes = drop-cons bytes i 0 (omega (arith, h)) in
     ap (λ bs. slice_index bytes i ∷ bs) (bytes-of bytes n (suc i) (omega (arith, h))) ∙ ap (take (suc n)) (sym here)
 
-behind-cells : (cs : List Cell) (ls : List Line) → behind (length cs) (with_cells_before cs ls) ≡ ls
-behind-cells cs [] = refl
-behind-cells cs (l ∷ ls) = ap (λ t. cut t l ls) (drop-all cs l.text)
+past-cells : (cs : List Cell) (ls : List Line) → past (length cs) (with_cells_before cs ls) ≡ ls
+past-cells cs [] = refl
+past-cells cs (l ∷ ls) = ap (λ t. cut t l ls) (drop-all cs l.text)
   where
     drop-all : (cs ds : List Cell) → drop (length cs) (cs ++ ds) ≡ ds
     drop-all [] ds = refl
@@ -83,11 +83,11 @@ module _ (bytes : List ℕ) (at end : ℕ) (inside : at ≤ length bytes) (solid
     (from : at + 1 ≤ end) (to : end ≤ length bytes)
     (cells : anchor_cells (text_at bytes (at + 1)) ≡ cells_between bytes (at + 1) end)
     (same : lines_at bytes (at + 1) ≡ with_cells_before (cells_between bytes (at + 1) end) (lines_at bytes end)) where
-  behind-first : text_at bytes at ≡ (slice_index bytes at, at) ∷ text_at bytes (at + 1)
-  behind-first = text_at-cell bytes at inside solid
+  past-first : text_at bytes at ≡ (slice_index bytes at, at) ∷ text_at bytes (at + 1)
+  past-first = text_at-cell bytes at inside solid
 
   name-cells : anchor_cells (drop 1 (text_at bytes at)) ≡ cells_between bytes (at + 1) end
-  name-cells = ap (λ cs. anchor_cells (drop 1 cs)) behind-first ∙ cells
+  name-cells = ap (λ cs. anchor_cells (drop 1 cs)) past-first ∙ cells
 
   pub name-is : anchor_name (lines_at bytes at) ≡ take (end - (at + 1)) (drop (at + 1) bytes)
   name-is = ap (map (λ (c : Cell). c.0)) name-cells ∙ bytes-of bytes (end - (at + 1)) (at + 1) (omega (arith, from, to))
@@ -102,18 +102,18 @@ module _ (bytes : List ℕ) (at end : ℕ) (inside : at ≤ length bytes) (solid
       ∙ first-ends (cells_between bytes (at + 1) end) (lines_at bytes end))
       ∙ same_number (first_end (lines_at bytes end))
 
-  pub behind_name-is : behind_name (lines_at bytes at) ≡ lines_at bytes end
-  behind_name-is =
-      ap (λ n. behind (n + 1) (lines_at bytes at)) name-length
-      ∙ ap (behind (end - (at + 1) + 1)) (solid-lines bytes at inside solid)
-      ∙ behind-more (slice_index bytes at, at) (end - (at + 1)) (lines_at bytes (at + 1))
-      ∙ ap (behind (end - (at + 1))) same
-      ∙ ap (λ n. behind n (with_cells_before (cells_between bytes (at + 1) end) (lines_at bytes end))) (sym (length-cells bytes (end - (at + 1)) (at + 1)))
-      ∙ behind-cells (cells_between bytes (at + 1) end) (lines_at bytes end)
+  pub after_name-is : after_name (lines_at bytes at) ≡ lines_at bytes end
+  after_name-is =
+      ap (λ n. past (n + 1) (lines_at bytes at)) name-length
+      ∙ ap (past (end - (at + 1) + 1)) (solid-lines bytes at inside solid)
+      ∙ past-more (slice_index bytes at, at) (end - (at + 1)) (lines_at bytes (at + 1))
+      ∙ ap (past (end - (at + 1))) same
+      ∙ ap (λ n. past n (with_cells_before (cells_between bytes (at + 1) end) (lines_at bytes end))) (sym (length-cells bytes (end - (at + 1)) (at + 1)))
+      ∙ past-cells (cells_between bytes (at + 1) end) (lines_at bytes end)
     where
-      behind-more : (c : Cell) (n : ℕ) (ls : List Line) → behind (n + 1) (with_cell c ls) ≡ behind n ls
-      behind-more c n [] = refl
-      behind-more c n (l ∷ ls) = ap (λ m. cut (drop m (c ∷ l.text)) l ls) (let e : n + 1 ≡ suc n = omega arith in e)
+      past-more : (c : Cell) (n : ℕ) (ls : List Line) → past (n + 1) (with_cell c ls) ≡ past n ls
+      past-more c n [] = refl
+      past-more c n (l ∷ ls) = ap (λ m. cut (drop m (c ∷ l.text)) l ls) (let e : n + 1 ≡ suc n = omega arith in e)
 
 no-cells : (cs : List Cell) → ends_name cs ≡ is_empty (anchor_cells cs)
 no-cells [] = refl

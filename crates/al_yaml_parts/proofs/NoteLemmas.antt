@@ -1,4 +1,4 @@
--- Answers: what is read behind one, and a node that is complete with its anchor.
+-- Answers: what is read after one, and a node that is complete with its anchor.
 use Rattle.std.proofs.Common.{◌≡◌, ℕ, List, refl, sym, ap, ◌∙◌, Option, Some, None, Ok, Err}
 use Rattle.al_yaml_tree.specs.Node as tree
 use Rattle.al_yaml_tree.specs.Node.{Node}
@@ -16,7 +16,7 @@ use Rattle.al_base.specs.declared.codes.YamlCode.{YamlCode}
 use Rattle.al_base.specs.declared.faults.Span.{Span}
 use Rattle.al_base.specs.Spans.{span}
 
--- ---- what is read behind an answer
+-- ---- what is read after an answer
 
 bind-cases : {A B : Type 0} (s : State) (r : Reading A) (f : A → Reading B) (o : Answer A) → run s r ≡ o → run s (r >>= f) ≡ then_read o f
 bind-cases s r f (Err e) h = run-stop s r f e h
@@ -32,13 +32,13 @@ answered-bind (Ok p) g h = sym (bind-answer p.1 (g p.0) h)
 abbrev span_part : {B : Type 0} → (B → Span → Node) → ℕ → Part B → Reading (Part Node)
 span_part f at p = gives (part (f p.value (span at p.end)) p.end p.left)
 
--- what is read of a collection behind a part of it
+-- what is read of a collection after a part of it
 pub spanned-answer : {A B : Type 0} (f : B → Span → Node) (at : ℕ) (s : State) (r : Reading A) (g : A → Reading (Part B))
     → run s (with_span f at (r >>= g)) ≡ then_read (run s r) (λ x. with_span f at (g x))
 spanned-answer f at s r g =
     bind-answer s (r >>= g) (span_part f at) ∙ ap (λ o. then_read o (span_part f at)) (bind-answer s r g) ∙ answered-bind (run s r) g (span_part f at)
 
--- a fault behind an answer
+-- a fault after an answer
 pub answered-fails : {A B C : Type 0} (o : Answer A) (code : YamlCode) (at : ℕ) (f : B → Reading C) → then_read (then_read o (λ _. fails code at)) f ≡ then_read o (λ _. fails code at)
 unfolding run
 answered-fails (Err e) code at f = refl

@@ -1,4 +1,4 @@
--- How readings end: with a fault, or with an answer behind which more is read.
+-- How readings end: with a fault, or with an answer after which more is read.
 use Rattle.std.proofs.Common.{◌≡◌, ℕ, ◌≤◌, List, [], ◌∷◌, ◌++◌, map, length, refl, sym, ap, ◌∙◌, Result, Ok, Err, Some, None}
 use Rattle.al_base.specs.declared.faults.Span.{Span}
 use Rattle.al_scalar.specs.Line.{Line}

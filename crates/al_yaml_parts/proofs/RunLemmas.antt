@@ -50,7 +50,7 @@ text_listed-append (s ∷ ss) ys = omega (arith, text_listed-append ss ys)
 
 -- ---- what is read next
 
--- reading that ended with an answer, and what is read behind it
+-- reading that ended with an answer, and what is read after it
 goes-after : {B : Type 0} (n t : ℕ) (xs : List Start) (o : Outcome B) → broken_limit n t xs ≡ None
     → run_outcome (record { nodes = n; text = t; known = o.known }) (after xs o) ≡ run_outcome (record { nodes = n + nodes_listed xs; text = t + text_listed xs; known = o.known }) o
 goes-after n t xs o h =

@@ -9,7 +9,7 @@ use Rattle.al_base.specs.declared.faults.Span.{Span}
 use Rattle.al_yaml_parts.specs.Private.Sums.{IsOwn, inside, members, own_level, own_text, within}
 use Rattle.al_yaml_parts.specs.declared.sums.Sums.{Sums}
 
--- ---- nodes that are left, each with the collections that it stands in: what they come to, and that a node is itself and those in it
+-- ---- nodes that are left, each with the number of collections around it: their sums, and that a node is itself and those in it
 
 module _ (of_scalar : Scalar → Span → ℕ) (around : Span → ℕ → ℕ) where
   abbrev pub sum_left : List (Node × ℕ) → ℕ

@@ -16,24 +16,24 @@ use Rattle.al_yaml_parts.specs.declared.slots.Spot.TheVariants as spot
 use Rattle.al_yaml_parts.specs.declared.keys.Key.{Key}
 
 abbrev pub key_seen : List ℕ → Key → keys.Key
-key_seen bytes key = record { scalar = read_of bytes key.read; behind = lines_at bytes key.behind }
+key_seen bytes key = record { scalar = read_of bytes key.read; after = lines_at bytes key.after }
 
 abbrev pub option_key : List ℕ → Option Key → Option keys.Key
 option_key bytes None = None
 option_key bytes (Some key) = Some (key_seen bytes key)
 
-pub record IsKeyBehind (bytes : List ℕ) (at : ℕ) (key : Key) : Type 0 where
+pub record IsKeyAfter (bytes : List ℕ) (at : ℕ) (key : Key) : Type 0 where
   pub read : IsReadInside bytes at key.read
-  pub from : key.read.next < key.behind
-  pub inside : key.behind ≤ length bytes
+  pub from : key.read.next < key.after
+  pub inside : key.after ≤ length bytes
 
 abbrev pub IsOptionKey : List ℕ → ℕ → Option Key → Type 0
 IsOptionKey bytes at None = Unit {0}
-IsOptionKey bytes at (Some key) = IsKeyBehind bytes at key
+IsOptionKey bytes at (Some key) = IsKeyAfter bytes at key
 
 -- the lines after the colon that follows a scalar
-abbrev pub behind_colon_in_block : List Line → Option (List Line)
-behind_colon_in_block ls = if keys.has_colon ls then Some (content.behind 1 (blanks_dropped ls)) else None
+abbrev pub after_colon_in_block : List Line → Option (List Line)
+after_colon_in_block ls = if keys.has_colon ls then Some (content.past 1 (blanks_dropped ls)) else None
 
 -- the lines left after a scalar: a block scalar ends with its last line
 abbrev pub scalar_left : List Line → List Line → Result (List Line) FaultAt
@@ -48,7 +48,7 @@ next_found column (content.at_line i left) =
 abbrev pub spot_of : Spot → block.Spot
 spot_of spot.OwnLine = block.own_line
 spot_of (spot.Compact tab) = block.compact tab
-spot_of spot.BehindKey = block.behind_key
+spot_of spot.AfterKey = block.after_key
 
 abbrev pub slot_of : Slot → block.Slot
 slot_of s = record { spot = spot_of s.spot; within = s.within; in_mapping = s.in_mapping; empty = s.empty }

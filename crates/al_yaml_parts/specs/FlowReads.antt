@@ -10,7 +10,7 @@ use Rattle.al_yaml_tree.specs.Flow.{CollectionReader}
 use Rattle.al_yaml_tree.specs.Flow as flow
 use Rattle.al_yaml_parts.specs.Places.{option_lines, IsReadInside}
 use Rattle.al_yaml_parts.specs.Answers.{mark_of, noting}
-use Rattle.al_yaml_parts.specs.Reads.{State, run, FailsWith, IsBehind, part_of}
+use Rattle.al_yaml_parts.specs.Reads.{State, run, FailsWith, IsPartAfter, part_of}
 use Rattle.al_yaml_parts.specs.declared.faults.ReadError.{ReadError}
 use Rattle.al_yaml_parts.specs.declared.flow_nodes.FlowKey.{FlowKey}
 use Rattle.al_yaml_parts.specs.declared.flow_nodes.FlowSlot.{FlowSlot}
@@ -20,7 +20,7 @@ use Rattle.al_yaml_parts.specs.declared.flow_nodes.FoundKey.{FoundKey}
 use Rattle.al_yaml_parts.specs.declared.flow_nodes.FoundKey.TheVariants as found_key
 
 abbrev pub flow_key_of : List ℕ → FlowKey → flow.FlowKey
-flow_key_of bytes key = record { scalar = read_of bytes key.read; behind = option_lines bytes key.colon }
+flow_key_of bytes key = record { scalar = read_of bytes key.read; after = option_lines bytes key.colon }
 
 abbrev pub IsColonInside : ℕ → ℕ → Option ℕ → Type 0
 IsColonInside from size None = Unit {0}
@@ -55,7 +55,7 @@ pub record IsBracket (bytes : List ℕ) (low at : ℕ) : Type 0 where
   pub bracket : content.is_flow_start (text_at bytes at) ≡ true
 
 abbrev pub IsFound : List ℕ → ℕ → FoundNode → Type 0
-IsFound bytes from (found.Node p) = IsBehind bytes from p
+IsFound bytes from (found.Node p) = IsPartAfter bytes from p
 IsFound bytes from (found.Opens b) = IsBracket bytes from b.at
 
 -- a collection that was found has no anchor

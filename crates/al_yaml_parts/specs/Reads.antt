@@ -7,7 +7,7 @@ use Rattle.al_scalar.specs.Places.{lines_at}
 use Rattle.al_scalar.specs.declared.faults.FaultAt.{FaultAt}
 use Rattle.al_yaml_tree.specs.Node as tree
 use Rattle.al_scalar.specs.Line.{Line, start}
-use Rattle.al_yaml_tree.specs.Content.{anchor_name, behind_name}
+use Rattle.al_yaml_tree.specs.Content.{anchor_name, after_name}
 use Rattle.al_yaml_tree.specs.Reading.{Start, Anchor, KnownAnchors, no_anchors, with_anchor, Outcome, Reading, Part}
 use Rattle.al_yaml_tree.specs.Reading.{part, gives, alias, ◌>>=◌}
 use Rattle.al_yaml_tree.specs.Limits.{within_limits, nodes_listed, text_listed}
@@ -95,14 +95,14 @@ abbrev pub part_of : List ℕ → code.Part → Part tree.Node
 part_of bytes p = part (view p.node) p.end (lines_at bytes p.next)
 
 -- the next offset to read isn't before this one; it and the end of what was read are in the file
-pub record IsBehind (bytes : List ℕ) (at : ℕ) (p : code.Part) : Type 0 where
+pub record IsPartAfter (bytes : List ℕ) (at : ℕ) (p : code.Part) : Type 0 where
   pub from : at ≤ p.next
   pub inside : p.next ≤ length bytes
   pub end : p.end ≤ length bytes
 
 -- the node that the alias at the beginning of the lines refers to, and where the alias ends
 abbrev pub alias_part : ℕ → List Line → Reading (Part tree.Node)
-alias_part depth ls = alias (anchor_name ls) (start ls) depth >>= (λ n. gives (part n (start (behind_name ls)) (behind_name ls)))
+alias_part depth ls = alias (anchor_name ls) (start ls) depth >>= (λ n. gives (part n (start (after_name ls)) (after_name ls)))
 
 -- the definition's result is this fault, unless memory runs out
 abbrev pub Refuses : {B : Type 0} → Result B FaultAt → ReadError → Type 0

@@ -91,7 +91,7 @@ pub fn property_end(bytes: &[u8], at: usize) -> usize
     requires property { content.is_property (text_at bytes.now at) ≡ true }
     ensures from { at < result }
     ensures inside { result ≤ length bytes.now }
-    ensures lines { content.behind_name (lines_at bytes.now at) ≡ lines_at bytes.now result }
+    ensures lines { content.after_name (lines_at bytes.now at) ≡ lines_at bytes.now result }
     ensures line { content.same_line (lines_at bytes.now at) (lines_at bytes.now result) ≡ true }
 {
     name_end(bytes, at + 1)

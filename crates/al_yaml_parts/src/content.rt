@@ -83,7 +83,7 @@ fn ends_line(bytes: &[u8], at: usize) -> bool
 }
 
 /// The start of the line after a node, which must end its line.
-pub fn line_behind(bytes: &[u8], at: usize) -> Result<usize, FaultAt>
+pub fn line_after(bytes: &[u8], at: usize) -> Result<usize, FaultAt>
     requires { at ≤ length bytes.now }
     ensures fault { IfErr result (λ f. f.at ≤ length bytes.now) }
     ensures is { Shows (lines_at bytes.now) (content.line_ended (lines_at bytes.now at)) result }

@@ -5,7 +5,7 @@ ghost use Rattle.al_yaml_tree.specs.Document as document;
 ghost use Rattle.al_yaml_parts.specs.Places.{Shows};
 ghost use Rattle.std.specs.Prelude.{◌≤◌, IfErr, IfOk, length};
 
-use crate::content::{line_behind, next_text_line};
+use crate::content::{line_after, next_text_line};
 use al_base::YamlCode;
 use al_scalar::FaultAt;
 use al_scalar::lines::{begins, blanks_end, indent, is_marker};
@@ -29,7 +29,7 @@ pub fn document_start(bytes: &[u8], at: usize) -> Result<usize, FaultAt>
         });
     }
     if is_marker(bytes, line, b'-') {
-        return line_behind(bytes, line + 3);
+        return line_after(bytes, line + 3);
     }
     Ok(line)
 }
@@ -52,7 +52,7 @@ pub fn document_end(bytes: &[u8], at: usize) -> Result<(), FaultAt>
         });
     }
     if is_marker(bytes, line, b'.') {
-        return check_nothing_behind(bytes, line + 3);
+        return check_nothing_after(bytes, line + 3);
     }
     let solid = line + indent(bytes, line);
     if begins(bytes, solid, b'\t') {
@@ -68,10 +68,10 @@ pub fn document_end(bytes: &[u8], at: usize) -> Result<(), FaultAt>
 }
 
 /// Checks that no content follows `...`, neither on its line nor on a later one.
-fn check_nothing_behind(bytes: &[u8], at: usize) -> Result<(), FaultAt>
+fn check_nothing_after(bytes: &[u8], at: usize) -> Result<(), FaultAt>
     requires { at ≤ length bytes.now }
     ensures fault { IfErr result (λ f. f.at ≤ length bytes.now) }
-    ensures is { Shows (λ _. tt) (document.ended_behind (lines_at bytes.now at)) result }
+    ensures is { Shows (λ _. tt) (document.ended_after (lines_at bytes.now at)) result }
 {
     let line = next_text_line(bytes, at);
     if line == bytes.len() {

@@ -9,7 +9,7 @@ ghost use Rattle.al_yaml_tree.specs.Content as content;
 ghost use Rattle.al_yaml_parts.specs.FlowReads.{Finds, FindsKey, IsBare, IsFound, IsFoundKey, flow_slot};
 ghost use Rattle.al_yaml_parts.specs.Reads.{alias_part};
 ghost use Rattle.al_yaml_parts.specs.Places.{IsReadInside, Shows, option_lines};
-ghost use Rattle.al_yaml_parts.specs.Reads.{IsBehind, IsRead, IsStopInside};
+ghost use Rattle.al_yaml_parts.specs.Reads.{IsPartAfter, IsRead, IsStopInside};
 ghost use Rattle.al_yaml_parts.specs.FlowReads.{IsColonInside, IsKeyInside};
 ghost use Rattle.al_yaml_parts.specs.Reads.{state_with_anchor_at, part_of, state_of};
 ghost use Rattle.al_yaml_parts.specs.FlowReads.{flow_key_of};
@@ -20,7 +20,7 @@ use crate::anchors::{has_no_name, property_end};
 use crate::content::gap_end;
 use crate::faults::ReadError;
 use crate::file::File;
-use crate::keys::{behind_flow_colon, is_late_colon, is_simple_key};
+use crate::keys::{after_flow_colon, is_late_colon, is_simple_key};
 use crate::limits::State;
 use crate::lines::is_text_end;
 use crate::part::Part;
@@ -31,7 +31,7 @@ use al_scalar::lines::begins;
 use al_scalar::{FaultAt, ScalarContext, ScalarRead};
 use std::alloc::AllocError;
 
-/// The key of a flow mapping's entry, and the offset behind its colon if it has one.
+/// The key of a flow mapping's entry, and the offset after its colon if it has one.
 #[derive(Drop)]
 pub struct FlowKey {
     pub read: ScalarRead,
@@ -85,7 +85,7 @@ fn key_colon(bytes: &[u8], at: usize, read: &ScalarRead) -> Result<Option<usize>
     if !is_simple_key(bytes, at, read) {
         return Err(wrong);
     }
-    if let Some(next) = behind_flow_colon(bytes, read.next, is_quote(bytes, at)) {
+    if let Some(next) = after_flow_colon(bytes, read.next, is_quote(bytes, at)) {
         return Ok(Some(next));
     }
     if is_late_colon(bytes, read.next) {
@@ -163,7 +163,7 @@ pub fn read_alias(file: &File, state: &mut State, at: usize, depth: u32) -> Resu
     ensures fault { IfErr result (IsStopInside (size file.now)) }
     ensures is { IsRead (part_of file.now.bytes.now) (alias_part depth (left_at file.now at))
         (state_of state.old) result (state_of state.new) }
-    ensures within { IfOk result (λ part. IsBehind file.now.bytes.now at part) }
+    ensures within { IfOk result (λ part. IsPartAfter file.now.bytes.now at part) }
 {
     let node = state.alias(file, at, depth)?;
     let end = property_end(file.bytes, at);
@@ -198,7 +198,7 @@ fn read_flow_property(
     if begins(file.bytes, at, b'*') {
         return Ok(FoundNode::Node(read_alias(file, state, at, depth)?));
     }
-    let found = read_behind_anchor(
+    let found = read_after_anchor(
         file,
         state,
         slot,
@@ -240,7 +240,7 @@ pub fn complete(
 }
 
 /// Reads the node after an anchor in a flow collection, unless it is a collection.
-fn read_behind_anchor(
+fn read_after_anchor(
     file: &File,
     state: &mut State,
     slot: FlowSlot,

@@ -53,9 +53,9 @@ pub fn is_short_key(bytes: &[u8], at: usize, read: &ScalarRead) -> bool
 }
 
 /// The offset after the colon that separates a block mapping's key from its value, if one follows.
-pub fn behind_colon(bytes: &[u8], at: usize) -> Option<usize>
+pub fn after_colon(bytes: &[u8], at: usize) -> Option<usize>
     requires { at ≤ length bytes.now }
-    ensures { IsColon (block_reads.behind_colon_in_block (lines_at bytes.now at)) bytes.now at result }
+    ensures { IsColon (block_reads.after_colon_in_block (lines_at bytes.now at)) bytes.now at result }
 {
     let solid = blanks_end(bytes, at);
     if !begins(bytes, solid, b':') {
@@ -72,7 +72,7 @@ pub fn has_colon(bytes: &[u8], at: usize) -> bool
     requires { at ≤ length bytes.now }
     ensures { result ≡ keys.has_colon (lines_at bytes.now at) }
 {
-    behind_colon(bytes, at).is_some()
+    after_colon(bytes, at).is_some()
 }
 
 /// Whether a colon that separates a key from its value in a flow mapping is at an offset.
@@ -94,9 +94,9 @@ fn is_quoted_colon(bytes: &[u8], at: usize, after_quote: bool) -> bool
 }
 
 /// The offset after the colon that separates a flow mapping's key from its value, if one follows on the line.
-pub fn behind_flow_colon(bytes: &[u8], at: usize, after_quote: bool) -> Option<usize>
+pub fn after_flow_colon(bytes: &[u8], at: usize, after_quote: bool) -> Option<usize>
     requires { at ≤ length bytes.now }
-    ensures { IsColon (flow.behind_colon_in_flow after_quote (lines_at bytes.now at)) bytes.now at result }
+    ensures { IsColon (flow.after_colon_in_flow after_quote (lines_at bytes.now at)) bytes.now at result }
 {
     if is_quoted_colon(bytes, at, after_quote) {
         return Some(at + 1);
@@ -121,7 +121,7 @@ pub fn is_late_colon(bytes: &[u8], at: usize) -> bool
 #[derive(Drop)]
 pub struct Key {
     pub read: ScalarRead,
-    pub behind: usize,
+    pub after: usize,
 }
 
 /// Reads a scalar as far as it tells whether a key begins here: a quoted one whole, a plain one on its line.
@@ -150,8 +150,8 @@ pub fn key_at(file: &File, at: usize) -> Result<Option<Key>, ReadError>
     ensures inside { IfOk result (λ found. IsOptionKey file.now.bytes.now at found) }
 {
     let read = key_scalar(file, at)?;
-    match behind_colon(file.bytes, read.next) {
-        Some(behind) => Ok(Some(Key { read, behind })),
+    match after_colon(file.bytes, read.next) {
+        Some(after) => Ok(Some(Key { read, after })),
         None => Ok(None),
     }
 }

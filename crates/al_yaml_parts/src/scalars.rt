@@ -8,12 +8,12 @@ ghost use Rattle.al_yaml_parts.specs.Files.{left_at, size};
 ghost use Rattle.al_yaml_tree.specs.Flow as flow;
 ghost use Rattle.al_yaml_tree.specs.Node as tree;
 ghost use Rattle.al_yaml_parts.specs.Places.{IsReadInside, Shows};
-ghost use Rattle.al_yaml_parts.specs.Reads.{Answers, IsBehind, IsRead, IsStopInside, part_of, state_of};
+ghost use Rattle.al_yaml_parts.specs.Reads.{Answers, IsPartAfter, IsRead, IsStopInside, part_of, state_of};
 ghost use Rattle.al_yaml_tree.specs.View.{view};
 ghost use Rattle.std.specs.Prelude.{IfErr, IfOk, length, ◌+◌, ◌≡◌, ◌≤◌};
 ghost use Rattle.al_base.specs.Limits.{largest_file};
 
-use crate::content::line_behind;
+use crate::content::line_after;
 use crate::faults::ReadError;
 use crate::file::File;
 use crate::limits::State;
@@ -72,7 +72,7 @@ pub fn empty_part(file: &File, state: &mut State, at: usize, next: usize) -> Res
 }
 
 /// The start of the line after a scalar; a block scalar ends with its last line.
-fn line_behind_scalar(bytes: &[u8], at: usize, next: usize) -> Result<usize, FaultAt>
+fn line_after_scalar(bytes: &[u8], at: usize, next: usize) -> Result<usize, FaultAt>
     requires at { at ≤ length bytes.now }
     requires inside { next ≤ length bytes.now }
     ensures fault { IfErr result (λ f. f.at ≤ length bytes.now) }
@@ -84,7 +84,7 @@ fn line_behind_scalar(bytes: &[u8], at: usize, next: usize) -> Result<usize, Fau
     if is_block_start(bytes, at) {
         return Ok(next);
     }
-    line_behind(bytes, next)
+    line_after(bytes, next)
 }
 
 /// Reads a scalar in block context with the rest of its line.
@@ -100,7 +100,7 @@ pub fn read_line_scalar(
     ensures is { IsRead (part_of file.now.bytes.now)
         (block.scalar_node_at within (left_at file.now at))
         (state_of state.old) result (state_of state.new) }
-    ensures within { IfOk result (λ part. IsBehind file.now.bytes.now at part) }
+    ensures within { IfOk result (λ part. IsPartAfter file.now.bytes.now at part) }
 {
     state.start(at, 1, 0)?;
     let read = scalar_at(
@@ -109,6 +109,6 @@ pub fn read_line_scalar(
         at,
         ScalarContext::BlockFromIndent(within as u32),
     )?;
-    let next = line_behind_scalar(file.bytes, at, read.next)?;
+    let next = line_after_scalar(file.bytes, at, read.next)?;
     Ok(scalar_part(read, next))
 }

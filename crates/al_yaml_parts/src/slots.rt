@@ -13,7 +13,7 @@ use crate::content::{first_tab, is_dash};
 pub enum Spot {
     OwnLine,
     Compact(Option<usize>),
-    BehindKey,
+    AfterKey,
 }
 
 /// An offset of the file with its column: of the first character of a node or a collection, or after a dash or a colon.
@@ -34,17 +34,17 @@ pub struct Slot {
 }
 
 /// The spot after the blanks at an offset.
-pub fn spot_behind(bytes: &[u8], at: usize, spot: Spot) -> Spot
+pub fn spot_after(bytes: &[u8], at: usize, spot: Spot) -> Spot
     requires inside { at ≤ length bytes.now }
     requires tab { IsTabInside (length bytes.now) spot }
-    ensures is { spot_of result ≡ block.spot_behind (text_at bytes.now at) (spot_of spot) }
+    ensures is { spot_of result ≡ block.spot_after (text_at bytes.now at) (spot_of spot) }
     ensures tab { IsTabInside (length bytes.now) result }
 {
     match spot {
         Spot::OwnLine => Spot::Compact(first_tab(bytes, at)),
         Spot::Compact(None) => Spot::Compact(first_tab(bytes, at)),
         Spot::Compact(Some(tab)) => Spot::Compact(Some(tab)),
-        Spot::BehindKey => Spot::BehindKey,
+        Spot::AfterKey => Spot::AfterKey,
     }
 }
 
@@ -54,16 +54,16 @@ pub fn tab_before(spot: Spot) -> Option<usize>
 {
     match spot {
         Spot::Compact(tab) => tab,
-        Spot::OwnLine | Spot::BehindKey => None,
+        Spot::OwnLine | Spot::AfterKey => None,
     }
 }
 
 /// Whether a node is a value on its key's line.
-pub fn is_behind_key(spot: Spot) -> bool
-    ensures { result ≡ block.is_behind_key (spot_of spot) }
+pub fn is_after_key(spot: Spot) -> bool
+    ensures { result ≡ block.is_after_key (spot_of spot) }
 {
     match spot {
-        Spot::BehindKey => true,
+        Spot::AfterKey => true,
         Spot::OwnLine | Spot::Compact(_) => false,
     }
 }

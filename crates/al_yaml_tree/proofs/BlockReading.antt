@@ -10,21 +10,21 @@ use Rattle.al_scalar.specs.Places.{first_text}
 use Rattle.al_scalar.specs.Plain.{block}
 use Rattle.al_scalar.specs.Scalar.{scalar_at}
 use Rattle.al_scalar.proofs.OffsetLemmas.{choose, climbing-order}
-use Rattle.al_yaml_tree.specs.Blocks.{Spot, own_line, compact, behind_key, Slot, BlockReader, is_behind_key, tab_before}
-use Rattle.al_yaml_tree.specs.Blocks.{unless_tab, spot_behind, is_deeper, node_found, rest_node, rest_found, rest_below}
+use Rattle.al_yaml_tree.specs.Blocks.{Spot, own_line, compact, after_key, Slot, BlockReader, is_after_key, tab_before}
+use Rattle.al_yaml_tree.specs.Blocks.{unless_tab, spot_after, is_deeper, node_found, rest_node, rest_found, rest_below}
 use Rattle.al_yaml_tree.specs.Blocks.{entry_slot, sequence_entries, value_slot}
 use Rattle.al_yaml_tree.specs.Blocks.{mapping_entries, scalar_node_at, ending_line}
 use Rattle.al_yaml_tree.specs.Blocks.{block_sequence, block_mapping, block_content, block_property, block_node}
-use Rattle.al_yaml_tree.specs.Content.{Next, ended, at_line, is_skipped, content, line_ended, whole_lines, behind, is_dash}
+use Rattle.al_yaml_tree.specs.Content.{Next, ended, at_line, is_skipped, content, line_ended, whole_lines, past, is_dash}
 use Rattle.al_yaml_tree.specs.Content.{tab_among, block_fault, is_flow_start, is_property, same_line, characters, is_short_key}
-use Rattle.al_yaml_tree.specs.Content.{anchor_name, behind_name, has_no_name}
+use Rattle.al_yaml_tree.specs.Content.{anchor_name, after_name, has_no_name}
 use Rattle.al_yaml_tree.specs.Flow.{CollectionReader, flow_collection}
 use Rattle.al_yaml_tree.specs.Keys.{Key, key_here, has_colon, is_block_start, is_on_key, no_entry, entry_key}
 use Rattle.al_yaml_tree.specs.Node.{Node, Nodes, Entries, sequence, mapping, no_nodes, with_item, no_entries, with_entry, scalar_node}
 use Rattle.al_yaml_tree.specs.Reading.{Reading, gives, fails, gives_with_anchor, Part, part, ◌>>=◌}
 use Rattle.al_yaml_tree.proofs.FlowReading.{CollectionIn, flow_collection-in}
 use Rattle.al_yaml_tree.proofs.KeyReading.{KeyIn, OptionKeyIn, key_at-in, no_entry-in, entry_key-in}
-use Rattle.al_yaml_tree.proofs.LeftLines.{File, AreLeft, IsRead, NextLeft, left-lower, left-start, starts-behind, starts-in}
+use Rattle.al_yaml_tree.proofs.LeftLines.{File, AreLeft, IsRead, NextLeft, left-lower, left-start, starts-after, starts-in}
 use Rattle.al_yaml_tree.proofs.LeftLines.{left-whole, left-blanks, left-dash, left-name, scalar-read, content-in, line_ended-in}
 use Rattle.al_yaml_tree.proofs.NodeReading.{IsDone, no-items, no-entries, IsPart, same, itself, IsNode, AreItems, AreEntries}
 use Rattle.al_yaml_tree.proofs.NodeReading.{whole-part, read-part, part-lower, part-back, item-done, entry-done, Reads, reads-value, reads-fault}
@@ -43,7 +43,7 @@ TabIn f spot = IsIn f (tab_before spot)
 -- identity, except for a root, whose empty node would be at the file's end: there it is 0.
 pub record SlotIn (f : File) (back : ℕ → ℕ) (low : ℕ) (slot : Slot) : Type 0 where
   pub tab : TabIn f slot.spot
-  pub behind : low ≤ slot.empty
+  pub after : low ≤ slot.empty
   pub inside : slot.empty ≤ f.size
   pub reach : back slot.empty ≤ low
   pub back_to : (end : ℕ) → back end ≤ end
@@ -62,11 +62,11 @@ module _ (f : File) where
       choose (IsIn f) (c.0 == ascii "\t") (λ _. omega (arith, a, b))
       (λ _. choose (IsIn f) (is_blank c) (λ _. tab_among-in (c.1 + 1) end cs a h.1) (λ _. tt))
 
-  spot_behind-in : (text : List Cell) (spot : Spot) → IsIn f (tab_among text) → TabIn f spot → TabIn f (spot_behind text spot)
-  spot_behind-in text own_line t h = t
-  spot_behind-in text (compact None) t h = t
-  spot_behind-in text (compact (Some tab)) t h = h
-  spot_behind-in text behind_key t h = h
+  spot_after-in : (text : List Cell) (spot : Spot) → IsIn f (tab_among text) → TabIn f spot → TabIn f (spot_after text spot)
+  spot_after-in text own_line t h = t
+  spot_after-in text (compact None) t h = t
+  spot_after-in text (compact (Some tab)) t h = h
+  spot_after-in text after_key t h = h
 
 module _ {f : File} where
   first_tab-in : (low : ℕ) (ls : List Line) → AreLeft f low ls → IsIn f (tab_among (first_text ls))
@@ -75,26 +75,26 @@ module _ {f : File} where
 
   at_spot-in : {back : ℕ → ℕ} {low : ℕ} {slot : Slot} (spot : Spot) → TabIn f spot → SlotIn f back low slot
       → SlotIn f back low (record slot { spot = spot })
-  at_spot-in spot t s = record { tab = t; behind = s.behind; inside = s.inside; reach = s.reach; back_to = s.back_to }
+  at_spot-in spot t s = record { tab = t; after = s.after; inside = s.inside; reach = s.reach; back_to = s.back_to }
 
   module _ (node : BlockReader) (n : BlockIn f node) where
     pub found-in : (back : ℕ → ℕ) (slot : Slot) (depth low : ℕ) (ls : List Line) → SlotIn f back low slot → AreLeft f low ls
         → (found : Next) → NextLeft f low found → Reads f (IsPart f itself back low) (node_found node slot depth ls found)
-    found-in back slot depth low ls s h ended k = empty-reads s.behind s.inside (left-lower s.reach h)
+    found-in back slot depth low ls s h ended k = empty-reads s.after s.inside (left-lower s.reach h)
     found-in back slot depth low ls s h (at_line i left) k =
         reads-by (is_deeper slot i left) (λ _. n back (record slot { spot = own_line }) depth i low left (at_spot-in own_line tt s) k)
-        (λ _. empty-reads s.behind s.inside (left-lower s.reach h))
+        (λ _. empty-reads s.after s.inside (left-lower s.reach h))
 
     rest-in : (back : ℕ → ℕ) (slot : Slot) (depth column low : ℕ) (ls rest : List Line) → SlotIn f back low slot → AreLeft f low rest
         → Reads f (IsPart f itself back low) (rest_node node slot depth column ls rest)
     rest-in back slot depth column low ls rest s h =
-        let spot = spot_behind (first_text rest) slot.spot in
+        let spot = spot_after (first_text rest) slot.spot in
         let left = blanks_dropped rest in
         reads-by (is_skipped (first_text rest))
         (λ _. reads-then (reads-given (NextLeft f low) (content (whole_lines rest)) (content-in low (whole_lines rest) (left-whole h)))
         (λ found k. found-in back slot depth low (whole_lines rest) s (left-whole h) found k))
         (λ _. n back (record slot { spot = spot }) depth (column + characters (start left) (first_text ls)) low left
-        (at_spot-in spot (spot_behind-in f (first_text rest) slot.spot (first_tab-in low rest h) s.tab) s) (left-blanks h))
+        (at_spot-in spot (spot_after-in f (first_text rest) slot.spot (first_tab-in low rest h) s.tab) s) (left-blanks h))
 
     -- a node in a collection, where an empty node would be at the start of the remaining lines
     rest-lies : (slot : Slot) (depth column low : ℕ) (ls rest : List Line) → TabIn f slot.spot → slot.empty ≡ start rest
@@ -103,11 +103,11 @@ module _ {f : File} where
         let at = start rest in
         reads-also (rest-in same slot depth column at ls rest (record {
           tab = t;
-          behind = omega (arith, e);
+          after = omega (arith, e);
           inside = let a = starts-in h in omega (arith, a, e);
           reach = omega (arith, e);
           back_to = λ end. omega arith;
-        }) (left-start h)) (λ p k. part-lower (starts-behind h) k)
+        }) (left-start h)) (λ p k. part-lower (starts-after h) k)
 
     -- an alias, or an anchor with its node
     property-in : (back : ℕ → ℕ) (slot : Slot) (depth column low : ℕ) (ls : List Line) → is_property (first_text ls) ≡ true
@@ -115,16 +115,16 @@ module _ {f : File} where
     unfolding block_property
     property-in back slot depth column low ls e s h =
         let a = starts-in h in
-        let rest = behind_name ls in
+        let rest = after_name ls in
         let v = left-name e h in
         reads-by (has_no_name ls) (λ _. reads-fault a)
-        (λ _. reads-by (not (is_behind_key slot.spot) && is_on_key ls) (λ _. reads-fault a)
+        (λ _. reads-by (not (is_after_key slot.spot) && is_on_key ls) (λ _. reads-fault a)
         (λ _. reads-by (begins (ascii "*") (first_text ls))
         (λ _. reads-then (alias-reads (anchor_name ls) (start ls) depth a)
         (λ m k. reads-then {g = λ (left : List Line). gives (part m (start rest) left)}
         (reads-given (AreLeft f (start rest)) (line_ended rest) (line_ended-in (start rest) rest (left-start v)))
         (λ left w. reads-value (part-back back (s.back_to (start rest))
-        (whole-part (record { ordered = starts-behind v; lies = k low (start rest) }) w)))))
+        (whole-part (record { ordered = starts-after v; lies = k low (start rest) }) w)))))
         (λ _. reads-then {g = λ (x : Part Node). gives_with_anchor (record { name = anchor_name ls; at = start ls; node = x.value }) x}
         (rest-in back slot depth column low ls rest s v)
         (λ x k. anchored-reads (record { name = anchor_name ls; at = start ls; node = x.value }) k.done.lies k))))
@@ -136,21 +136,21 @@ module _ {f : File} where
       reads-then {g = λ (left : List Line). gives (part x.value x.end left)}
       (reads-given (AreLeft f x.end) (line_ended x.left) (line_ended-in x.end x.left h.left)) (λ left v. reads-value (whole-part h.done v))
 
-  behind_scalar-in : (is_block : Bool) (low : ℕ) (x : Part Node) → IsNode f low x
+  after_scalar-in : (is_block : Bool) (low : ℕ) (x : Part Node) → IsNode f low x
       → Reads f (IsNode f low) ((if is_block then gives else ending_line) x)
-  behind_scalar-in true low x h = reads-value h
-  behind_scalar-in false low x h = ending_line-in low x h
+  after_scalar-in true low x h = reads-value h
+  after_scalar-in false low x h = ending_line-in low x h
 
   scalar_node-in : (within low : ℕ) (ls : List Line) → AreLeft f low ls → Reads f (IsNode f low) (scalar_node_at within ls)
   scalar_node-in within low ls h =
       reads-start (starts-in h)
       (reads-then (reads-given (IsRead f low) (scalar_at (block within) ls) (scalar-read (block within) low ls h))
-      (λ r k. behind_scalar-in (is_block_start (first_text ls)) low (part (scalar_node r) r.span.end r.left) (read-part k k.left)))
+      (λ r k. after_scalar-in (is_block_start (first_text ls)) low (part (scalar_node r) r.span.end r.left) (read-part k k.left)))
 
-  behind_flow-in : (spot : Spot) (at low : ℕ) (x : Part Node) → at ≤ f.size → IsNode f low x
-      → Reads f (IsNode f low) (if not (is_behind_key spot) && has_colon x.left then fails yaml.WrongKey at else ending_line x)
-  behind_flow-in spot at low x a h =
-      reads-by (not (is_behind_key spot) && has_colon x.left) (λ _. reads-fault a) (λ _. ending_line-in low x h)
+  after_flow-in : (spot : Spot) (at low : ℕ) (x : Part Node) → at ≤ f.size → IsNode f low x
+      → Reads f (IsNode f low) (if not (is_after_key spot) && has_colon x.left then fails yaml.WrongKey at else ending_line x)
+  after_flow-in spot at low x a h =
+      reads-by (not (is_after_key spot) && has_colon x.left) (λ _. reads-fault a) (λ _. ending_line-in low x h)
 
   unless_tab-in : {P : Part Node → Type 0} (o : Option ℕ) {r : Reading (Part Node)} → IsIn f o → Reads f P r → Reads f P (unless_tab o r)
   unless_tab-in (Some at) a h = reads-fault a
@@ -185,7 +185,7 @@ module _ {f : File} where
     unfolding sequence_entries
     items-in zero in_mapping column depth from low done ls d e h = reads-fault (omega arith)
     items-in (suc turns) in_mapping column depth from low done ls d e h =
-        let rest = behind 1 ls in
+        let rest = past 1 ls in
         reads-then (rest-lies node n (entry_slot column (start rest)) depth column low ls rest tt refl (left-dash e h))
         (λ x k. let i = item-done d k in
         rest_below-in from (part (with_item done x.value) x.end x.left) (whole-part i k.left) column (more_items turns in_mapping column depth)
@@ -203,7 +203,7 @@ module _ {f : File} where
     unfolding mapping_entries
     entries-in zero column depth from low done key d h = reads-fault (omega arith)
     entries-in (suc turns) column depth from low done key d h =
-        reads-then (rest-lies node n (value_slot column (start key.behind)) depth 0 key.scalar.span.end key.behind key.behind tt refl h.1)
+        reads-then (rest-lies node n (value_slot column (start key.after)) depth 0 key.scalar.span.end key.after key.after tt refl h.1)
         (λ x k. let i = entry-done d h.0 k in
         rest_below-in from (part (with_entry done (scalar_node key.scalar) x.value) x.end x.left) (whole-part i k.left) column
         (more_entries turns column depth)
@@ -218,8 +218,8 @@ module _ {f : File} where
     block_sequence-in turns slot depth column low ls t e h =
         let at = start ls in
         let a = starts-in h in
-        reads-by (is_behind_key slot.spot) (λ _. reads-fault a)
-        (λ _. unless_tab-in (tab_before slot.spot) t (reads-start a (collected (starts-behind h)
+        reads-by (is_after_key slot.spot) (λ _. reads-fault a)
+        (λ _. unless_tab-in (tab_before slot.spot) t (reads-start a (collected (starts-after h)
         (items-in turns slot.in_mapping column (depth + 1) at at no_nodes ls (no-items at a) e (left-start h)))))
 
     keyed-in : (turns : ℕ) (slot : Slot) (depth column low : ℕ) (ls : List Line) → TabIn f slot.spot → AreLeft f low ls
@@ -234,7 +234,7 @@ module _ {f : File} where
         reads-by (not (same_line ls key.scalar.left)) (λ _. reads-fault a)
         (λ _. unless_tab-in (tab_before slot.spot) t
         (reads-by (not (is_short_key ls key.scalar)) (λ _. reads-fault a)
-        (λ _. reads-start a (collected (starts-behind h)
+        (λ _. reads-start a (collected (starts-after h)
         (entries-in turns column (depth + 1) at at no_entries key (no-entries at a) k)))))
 
     content-lies : (turns : ℕ) (slot : Slot) (depth column low : ℕ) (ls : List Line) → TabIn f slot.spot → AreLeft f low ls
@@ -246,8 +246,8 @@ module _ {f : File} where
         (λ _. reads-unless (block_fault (first_text ls)) (start ls) a
         (reads-by (is_property (first_text ls)) (λ _. reads-fault a)
         (λ _. reads-by (is_flow_start (first_text ls))
-        (λ e. reads-then (c depth low ls e h) (λ x k. behind_flow-in slot.spot (start ls) low x a k))
-        (λ _. reads-by (is_block_start (first_text ls) || is_behind_key slot.spot) (λ _. scalar_node-in slot.within low ls h)
+        (λ e. reads-then (c depth low ls e h) (λ x k. after_flow-in slot.spot (start ls) low x a k))
+        (λ _. reads-by (is_block_start (first_text ls) || is_after_key slot.spot) (λ _. scalar_node-in slot.within low ls h)
         (λ _. reads-then (reads-given (OptionKeyIn f (start ls)) (key_here ls) (key_at-in (start ls) ls (left-start h)))
         (λ found k. keyed-in turns slot depth column low ls t h found k))))))
 

@@ -74,7 +74,7 @@ module _ {f : File} where
       reads-then (reads-given (NextLeft f 0) (content ls) (content-in 0 ls h))
       (λ found k. found-in (block_node (suc f.size)) (block_node-in (suc f.size)) to_start (root_slot f.size) 1 0 ls (record {
         tab = tt;
-        behind = omega arith;
+        after = omega arith;
         inside = omega arith;
         reach = omega arith;
         back_to = λ end. omega arith;

@@ -10,14 +10,14 @@ use Rattle.al_scalar.specs.Plain.{flow, is_value_colon}
 use Rattle.al_scalar.specs.Scalar.{ScalarRead, scalar_at}
 use Rattle.al_scalar.proofs.OffsetLemmas.{choose}
 use Rattle.std.proofs.lemmas.Bool.{and_parts, or_cases}
-use Rattle.al_yaml_tree.specs.Content.{behind, is_file_end, flow_fault, is_flow_start, starts_quoted, is_property, is_simple_key, anchor_name, behind_name, has_no_name}
+use Rattle.al_yaml_tree.specs.Content.{past, is_file_end, flow_fault, is_flow_start, starts_quoted, is_property, is_simple_key, anchor_name, after_name, has_no_name}
 use Rattle.al_yaml_tree.specs.Flow.{FlowSlot, FlowReader, CollectionReader, gap, empty_node}
-use Rattle.al_yaml_tree.specs.Flow.{rest_behind, flow_items, is_key_colon, behind_colon_in_flow, flow_value, FlowKey}
+use Rattle.al_yaml_tree.specs.Flow.{rest_after, flow_items, is_key_colon, after_colon_in_flow, flow_value, FlowKey}
 use Rattle.al_yaml_tree.specs.Flow.{is_late_colon, unless_late, key_colon, flow_key, flow_entry_value}
 use Rattle.al_yaml_tree.specs.Flow.{flow_entries, flow_content, flow_property, flow_node_over, flow_collection}
 use Rattle.al_yaml_tree.specs.Node.{Node, Nodes, Entries, sequence, mapping, no_nodes, with_item, no_entries, with_entry, scalar_node}
 use Rattle.al_yaml_tree.specs.Reading.{Reading, gives, fails, of_result, starting_scalar, gives_with_anchor, Part, part, ◌>>=◌}
-use Rattle.al_yaml_tree.proofs.LeftLines.{File, AreLeft, IsRead, OptionLeft, left-lower, left-start, starts-behind, starts-in, is-inside}
+use Rattle.al_yaml_tree.proofs.LeftLines.{File, AreLeft, IsRead, OptionLeft, left-lower, left-start, starts-after, starts-in, is-inside}
 use Rattle.al_yaml_tree.proofs.LeftLines.{left-gap, left-first, left-bracket, left-name, left-colon, scalar-read}
 use Rattle.al_yaml_tree.proofs.NodeReading.{IsDone, Grows, no-items, no-entries, items-grow, entries-grow, IsPart, same, IsNode, AreItems}
 use Rattle.al_yaml_tree.proofs.NodeReading.{AreEntries, whole-part, read-part, part-lower, item-done, entry-done, Reads, reads-value, reads-fault}
@@ -43,7 +43,7 @@ FlowIn f node = (slot : FlowSlot) (depth low : ℕ) (ls : List Line) → SlotIn 
     → Reads f (IsNode f low) (node slot depth ls)
 
 abbrev FlowKeyIn : File → ℕ → FlowKey → Type 0
-FlowKeyIn f low key = IsRead f low key.scalar × OptionLeft f key.scalar.span.end key.behind
+FlowKeyIn f low key = IsRead f low key.scalar × OptionLeft f key.scalar.span.end key.after
 
 key_colon-stands : (after_quote : Bool) (ls : List Line) → is_key_colon after_quote ls ≡ true → begins (ascii ":") (after_blanks (first_text ls)) ≡ true
 key_colon-stands after_quote ls e =
@@ -59,14 +59,14 @@ late-in f low ls r None a h = choose (Answers f.size (OptionLeft f low)) (is_lat
 
 -- a scalar read as a key
 abbrev key_with : List Line → ScalarRead → Option (List Line) → Reading FlowKey
-key_with ls r colon = starting_scalar (start ls) (gives (record { scalar = r; behind = colon }))
+key_with ls r colon = starting_scalar (start ls) (gives (record { scalar = r; after = colon }))
 
 module _ {f : File} where
   -- ---- after an item
 
   closed-in : (q low : ℕ) (ls : List Line) → q < 128 → begins q (first_text ls) ≡ true → AreLeft f low ls
-      → (low ≤ start ls + 1) × AreLeft f (start ls + 1) (behind 1 ls)
-  closed-in q low ls a e h = let b = starts-behind h in (omega (arith, b), left-first q a e h)
+      → (low ≤ start ls + 1) × AreLeft f (start ls + 1) (past 1 ls)
+  closed-in q low ls a e h = let b = starts-after h in (omega (arith, b), left-first q a e h)
 
   -- items or entries after those that are done, given the property of what reads the remaining ones
   module _ {A : Type 0} {g : A → Span → Node} (grows : Grows f g) (from low : ℕ) (done : A) (d : IsDone f g from low done) where
@@ -75,27 +75,27 @@ module _ {f : File} where
 
     rest-reads : (more : List Line → Reading (Part A)) (opening close : ℕ) (left : List Line) → opening ≤ f.size → close < 128
         → ((ls : List Line) → AreLeft f low ls → Reads f (IsPart f g same from) (more ls)) → AreLeft f low left
-        → Reads f (IsPart f g same from) (rest_behind close more opening done left)
+        → Reads f (IsPart f g same from) (rest_after close more opening done left)
     rest-reads more opening close left o a m h =
         let ls = gap false left in
         let k : AreLeft f low ls = left-gap h in
         reads-by (is_file_end ls) (λ _. reads-fault o)
         (λ _. reads-by (begins (ascii ",") (first_text ls))
-        (λ e. let b = closed-in (ascii ",") low ls (omega arith) e k in m (gap false (behind 1 ls)) (left-gap (left-lower b.0 b.1)))
+        (λ e. let b = closed-in (ascii ",") low ls (omega arith) e k in m (gap false (past 1 ls)) (left-gap (left-lower b.0 b.1)))
         (λ _. reads-by (begins close (first_text ls))
-        (λ e. reads-value (closed-part (start ls + 1) (behind 1 ls) (closed-in close low ls a e k))) (λ _. reads-fault (starts-in k))))
+        (λ e. reads-value (closed-part (start ls + 1) (past 1 ls) (closed-in close low ls a e k))) (λ _. reads-fault (starts-in k))))
 
   -- ---- keys
 
-  behind_colon-in : (after_quote : Bool) (low : ℕ) (ls : List Line) → AreLeft f low ls → OptionLeft f low (behind_colon_in_flow after_quote ls)
-  behind_colon-in after_quote low ls h =
+  after_colon-in : (after_quote : Bool) (low : ℕ) (ls : List Line) → AreLeft f low ls → OptionLeft f low (after_colon_in_flow after_quote ls)
+  after_colon-in after_quote low ls h =
       choose (OptionLeft f low) (is_key_colon after_quote ls) (λ e. left-colon (key_colon-stands after_quote ls e) h) (λ _. tt)
 
   key_colon-in : (low : ℕ) (ls : List Line) (r : ScalarRead) → start ls ≤ f.size → AreLeft f low r.left
       → Answers f.size (OptionLeft f low) (key_colon ls r)
   key_colon-in low ls r a h =
       choose (Answers f.size (OptionLeft f low)) (not (is_simple_key ls r)) (λ _. a)
-      (λ _. late-in f low ls r (behind_colon_in_flow (starts_quoted (first_text ls)) r.left) a (behind_colon-in (starts_quoted (first_text ls)) low r.left h))
+      (λ _. late-in f low ls r (after_colon_in_flow (starts_quoted (first_text ls)) r.left) a (after_colon-in (starts_quoted (first_text ls)) low r.left h))
 
   colon_key-in : (low : ℕ) (ls : List Line) (r : ScalarRead) → start ls ≤ f.size → IsRead f low r
       → Reads f (FlowKeyIn f low) (of_result (key_colon ls r) >>= key_with ls r)
@@ -130,21 +130,21 @@ module _ {f : File} where
         by-empty (Some at) e =
             let a = is-inside h in empty-reads (omega (arith, e)) (omega (arith, a, e)) (left-lower (omega (arith, e)) h)
 
-    value_behind-in : (opening depth : ℕ) (key : ScalarRead) → opening ≤ f.size → AreLeft f key.span.end key.left
+    value_after-in : (opening depth : ℕ) (key : ScalarRead) → opening ≤ f.size → AreLeft f key.span.end key.left
         → (o : Option (List Line)) → OptionLeft f key.span.end o
         → Reads f (IsNode f key.span.end) (elim o [
           | None ↦ empty_node key.span.end key.left
           | Some left ↦ flow_value node (record { opening = opening; empty = Some (start left) }) depth (gap false left)
         ])
-    value_behind-in opening depth key o h None k = empty-reads (omega arith) (is-inside h) h
-    value_behind-in opening depth key o h (Some left) k =
+    value_after-in opening depth key o h None k = empty-reads (omega arith) (is-inside h) h
+    value_after-in opening depth key o h (Some left) k =
         reads-also (flow_value-in (record { opening = opening; empty = Some (start left) }) depth (start left) (gap false left) (o, refl)
-        (left-gap (left-start k))) (λ p i. part-lower (starts-behind k) i)
+        (left-gap (left-start k))) (λ p i. part-lower (starts-after k) i)
 
     entry_value-in : (opening depth low : ℕ) (key : FlowKey) → opening ≤ f.size → FlowKeyIn f low key
         → Reads f (IsNode f key.scalar.span.end) (flow_entry_value node opening depth key)
     unfolding flow_entry_value
-    entry_value-in opening depth low key o h = value_behind-in opening depth key.scalar o h.0.left key.behind h.1
+    entry_value-in opening depth low key o h = value_after-in opening depth key.scalar o h.0.left key.after h.1
 
     items-in : (turns opening depth from low : ℕ) (done : Nodes) (ls : List Line) → opening ≤ f.size → IsDone f sequence from low done
         → AreLeft f low ls → Reads f (AreItems f from) (flow_items node turns opening depth done ls)
@@ -153,7 +153,7 @@ module _ {f : File} where
     items-in (suc turns) opening depth from low done ls o d h =
         reads-by (is_file_end ls) (λ _. reads-fault o)
         (λ _. reads-by (begins (ascii "]") (first_text ls))
-        (λ e. reads-value (closed-part items-grow from low done d (start ls + 1) (behind 1 ls)
+        (λ e. reads-value (closed-part items-grow from low done d (start ls + 1) (past 1 ls)
         (closed-in (ascii "]") low ls (omega arith) e h)))
         (λ _. reads-then (n (record { opening = opening; empty = None }) depth low ls (o, tt) h)
         (λ x k. let i = item-done d k in
@@ -169,7 +169,7 @@ module _ {f : File} where
       entries-in (suc turns) opening depth from low done ls o d h =
           reads-by (is_file_end ls) (λ _. reads-fault o)
           (λ _. reads-by (begins (ascii "}") (first_text ls))
-          (λ e. reads-value (closed-part entries-grow from low done d (start ls + 1) (behind 1 ls)
+          (λ e. reads-value (closed-part entries-grow from low done d (start ls + 1) (past 1 ls)
           (closed-in (ascii "}") low ls (omega arith) e h)))
           (λ _. reads-then (flow_key-in collection c depth low ls h)
           (λ key k. reads-then (entry_value-in opening depth low key o k)
@@ -197,12 +197,12 @@ module _ {f : File} where
     unfolding flow_property
     property-in slot depth low ls e s h =
         let a = starts-in h in
-        let rest = behind_name ls in
+        let rest = after_name ls in
         let v = left-name e h in
         reads-by (has_no_name ls) (λ _. reads-fault a)
         (λ _. reads-by (begins (ascii "*") (first_text ls))
         (λ _. reads-then {g = λ (n : Node). gives (part n (start rest) rest)} (alias-reads (anchor_name ls) (start ls) depth a)
-        (λ n k. reads-value (whole-part (record { ordered = starts-behind v; lies = k low (start rest) }) (left-start v))))
+        (λ n k. reads-value (whole-part (record { ordered = starts-after v; lies = k low (start rest) }) (left-start v))))
         (λ _. reads-then {g = λ (x : Part Node). gives_with_anchor (record { name = anchor_name ls; at = start ls; node = x.value }) x}
         (flow_value-in (flow_content collection) content-in slot depth low (gap false rest) s (left-gap v))
         (λ x k. anchored-reads (record { name = anchor_name ls; at = start ls; node = x.value }) k.done.lies k)))
@@ -221,9 +221,9 @@ module _ {f : File} where
       let at = start ls in
       let a = starts-in h in
       let v = left-gap (left-bracket e (left-start h)) in
-      let inside = gap false (behind 1 ls) in
+      let inside = gap false (past 1 ls) in
       reads-start a
       (reads-by (begins (ascii "[") (first_text ls))
-      (λ _. collected (starts-behind h) (items-in (flow_node_over k) n (suc bound) at (depth + 1) at at no_nodes inside a (no-items at a) v))
-      (λ _. collected (starts-behind h)
+      (λ _. collected (starts-after h) (items-in (flow_node_over k) n (suc bound) at (depth + 1) at at no_nodes inside a (no-items at a) v))
+      (λ _. collected (starts-after h)
       (entries-in (flow_node_over k) n k c (suc bound) at (depth + 1) at at no_entries inside a (no-entries at a) v)))

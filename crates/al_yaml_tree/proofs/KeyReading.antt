@@ -41,7 +41,7 @@ first_text-utf8 [] u = IsUtf8-nil
 first_text-utf8 (l ∷ ls) u = u.0
 
 abbrev pub KeyIn : File → ℕ → Key → Type 0
-KeyIn f low key = IsRead f low key.scalar × AreLeft f key.scalar.span.end key.behind
+KeyIn f low key = IsRead f low key.scalar × AreLeft f key.scalar.span.end key.after
 
 abbrev pub OptionKeyIn : File → ℕ → Option Key → Type 0
 OptionKeyIn f low None = Unit {0}

@@ -11,15 +11,15 @@ use Rattle.al_scalar.specs.Places.{first_text}
 use Rattle.al_scalar.specs.Plain.{Context}
 use Rattle.al_scalar.specs.Scalar.{ScalarRead, text_of, scalar_at}
 use Rattle.al_scalar.specs.declared.faults.FaultAt.{FaultAt}
-use Rattle.al_scalar.proofs.BlockOffsets.{behind-indicator}
+use Rattle.al_scalar.proofs.BlockOffsets.{after-indicator}
 use Rattle.al_scalar.proofs.OffsetLemmas.{choose, climbing-order, climbing-blanks, climbing-drop}
-use Rattle.al_scalar.proofs.Standing.{Stand, stand-lower, stand-start, start-behind, start-in, stand-cut, stand-later, stand-at_end}
+use Rattle.al_scalar.proofs.Standing.{Stand, stand-lower, stand-start, start-after, start-in, stand-cut, stand-later, stand-at_end}
 use Rattle.al_scalar.proofs.PlacedLemmas.{ReadsText, scalar-text}
 use Rattle.al_scalar.proofs.Utf8Lemmas.{AreUtf8, keeps-blanks}
-use Rattle.al_scalar.proofs.Utf8Texts.{IsText, behind-text}
-use Rattle.al_yaml_tree.specs.Content.{Next, ended, at_line, is_skipped, text_line, is_file_end, content_line, content, ends_line, line_ended, whole_lines, behind}
-use Rattle.al_yaml_tree.specs.Content.{is_dash, is_flow_start, is_property, anchor_cells, behind_name}
-use Rattle.al_yaml_tree.specs.Document.{first_line, document_start, ended_behind, last_line, document_end}
+use Rattle.al_scalar.proofs.Utf8Texts.{IsText, after-text}
+use Rattle.al_yaml_tree.specs.Content.{Next, ended, at_line, is_skipped, text_line, is_file_end, content_line, content, ends_line, line_ended, whole_lines, past}
+use Rattle.al_yaml_tree.specs.Content.{is_dash, is_flow_start, is_property, anchor_cells, after_name}
+use Rattle.al_yaml_tree.specs.Document.{first_line, document_start, ended_after, last_line, document_end}
 use Rattle.al_yaml_tree.specs.Flow.{is_gap_line, gap}
 use Rattle.al_yaml_tree.specs.Node.{scalar_node}
 use Rattle.al_yaml_tree.specs.Spans.{IsPlacedIn}
@@ -67,14 +67,14 @@ module _ {f : File} where
   pub left-start : {low : ℕ} {ls : List Line} → AreLeft f low ls → AreLeft f (start ls) ls
   left-start {low} {ls} h = record { stand = stand-start f.size low ls h.stand; utf8 = h.utf8 }
 
-  pub starts-behind : {low : ℕ} {ls : List Line} → AreLeft f low ls → low ≤ start ls
-  starts-behind {low} {ls} h = start-behind f.size low ls h.stand
+  pub starts-after : {low : ℕ} {ls : List Line} → AreLeft f low ls → low ≤ start ls
+  starts-after {low} {ls} h = start-after f.size low ls h.stand
 
   pub starts-in : {low : ℕ} {ls : List Line} → AreLeft f low ls → start ls ≤ f.size
   starts-in {low} {ls} h = start-in f.size low ls h.stand
 
   pub is-inside : {low : ℕ} {ls : List Line} → AreLeft f low ls → low ≤ f.size
-  is-inside h = omega (arith, starts-behind h, starts-in h)
+  is-inside h = omega (arith, starts-after h, starts-in h)
 
   -- ---- the first line cut, and the lines after it
 
@@ -116,32 +116,32 @@ module _ {f : File} where
   left-gap {low} {ls} h = gap-left false low ls h
 
   pub left-first : (q : ℕ) {low : ℕ} {ls : List Line} → q < 128 → begins q (first_text ls) ≡ true → AreLeft f low ls
-      → AreLeft f (start ls + 1) (behind 1 ls)
+      → AreLeft f (start ls + 1) (past 1 ls)
   left-first q {ls = []} a e h = absurd h.stand.0
   left-first q {low = low} {ls = l ∷ ls} a e h =
-      left-cut (drop 1 l.text) (behind-indicator q low l.end l.text e h.stand.0.0) (λ u. (behind-text q l ls a e (h.utf8 u)).0) h
+      left-cut (drop 1 l.text) (after-indicator q low l.end l.text e h.stand.0.0) (λ u. (after-text q l ls a e (h.utf8 u)).0) h
 
-  left-behind : (k : ℕ) {low : ℕ} {ls : List Line} → (IsText (first_text ls) → IsText (drop k (first_text ls))) → AreLeft f low ls
-      → AreLeft f low (behind k ls)
-  left-behind k {ls = []} g h = h
-  left-behind k {low = low} {ls = l ∷ ls} g h = left-cut (drop k l.text) (climbing-drop k low l.end l.text h.stand.0.0) (λ u. g (h.utf8 u).0) h
+  left-after : (k : ℕ) {low : ℕ} {ls : List Line} → (IsText (first_text ls) → IsText (drop k (first_text ls))) → AreLeft f low ls
+      → AreLeft f low (past k ls)
+  left-after k {ls = []} g h = h
+  left-after k {low = low} {ls = l ∷ ls} g h = left-cut (drop k l.text) (climbing-drop k low l.end l.text h.stand.0.0) (λ u. g (h.utf8 u).0) h
 
-  pub left-dash : {low : ℕ} {ls : List Line} → is_dash (first_text ls) ≡ true → AreLeft f low ls → AreLeft f low (behind 1 ls)
-  left-dash {low} {ls} e h = left-behind 1 (dash-text (first_text ls) e) h
+  pub left-dash : {low : ℕ} {ls : List Line} → is_dash (first_text ls) ≡ true → AreLeft f low ls → AreLeft f low (past 1 ls)
+  left-dash {low} {ls} e h = left-after 1 (dash-text (first_text ls) e) h
 
-  pub left-bracket : {low : ℕ} {ls : List Line} → is_flow_start (first_text ls) ≡ true → AreLeft f low ls → AreLeft f low (behind 1 ls)
-  left-bracket {low} {ls} e h = left-behind 1 (bracket-text (first_text ls) e) h
+  pub left-bracket : {low : ℕ} {ls : List Line} → is_flow_start (first_text ls) ≡ true → AreLeft f low ls → AreLeft f low (past 1 ls)
+  left-bracket {low} {ls} e h = left-after 1 (bracket-text (first_text ls) e) h
 
-  pub left-name : {low : ℕ} {ls : List Line} → is_property (first_text ls) ≡ true → AreLeft f low ls → AreLeft f low (behind_name ls)
-  left-name {low} {ls} e h = left-behind (length (anchor_cells (drop 1 (first_text ls))) + 1) (property-text (first_text ls) e) h
+  pub left-name : {low : ℕ} {ls : List Line} → is_property (first_text ls) ≡ true → AreLeft f low ls → AreLeft f low (after_name ls)
+  left-name {low} {ls} e h = left-after (length (anchor_cells (drop 1 (first_text ls))) + 1) (property-text (first_text ls) e) h
 
   -- after a colon, which may follow blanks
   pub left-colon : {low : ℕ} {ls : List Line} → begins (ascii ":") (after_blanks (first_text ls)) ≡ true → AreLeft f low ls
-      → AreLeft f low (behind 1 (blanks_dropped ls))
+      → AreLeft f low (past 1 (blanks_dropped ls))
   left-colon {ls = []} e h = h
   left-colon {low = low} {ls = l ∷ ls} e h =
       let b = left-blanks h in
-      let a = starts-behind b in
+      let a = starts-after b in
       left-lower (omega (arith, a)) (left-first (ascii ":") (omega arith) e b)
 
   -- ---- scalars
@@ -178,20 +178,20 @@ module _ {f : File} where
   first_line-in low ls h =
       choose (Answers f.size (AreLeft f low)) (begins (ascii "%") (first_text ls)) (λ _. starts-in h)
       (λ _. choose (Answers f.size (AreLeft f low)) (is_marker (ascii "-") (first_text ls))
-      (λ e. line_ended-in low (behind 3 ls) (left-behind 3 (marker-text (ascii "-") (first_text ls) (omega arith) e) h)) (λ _. h))
+      (λ e. line_ended-in low (past 3 ls) (left-after 3 (marker-text (ascii "-") (first_text ls) (omega arith) e) h)) (λ _. h))
 
   pub document_start-in : (low : ℕ) (ls : List Line) → AreLeft f low ls → Answers f.size (AreLeft f low) (document_start ls)
   document_start-in low ls h = first_line-in low (text_line ls) (left-text_line ls h)
 
-  ended_behind-in : (low : ℕ) (ls : List Line) → AreLeft f low ls → Answers f.size Anything (ended_behind ls)
-  ended_behind-in low ls h =
+  ended_after-in : (low : ℕ) (ls : List Line) → AreLeft f low ls → Answers f.size Anything (ended_after ls)
+  ended_after-in low ls h =
       choose (Answers f.size Anything) (is_file_end (text_line ls)) (λ _. tt) (λ _. starts-in (left-blanks (left-text_line ls h)))
 
   last_line-in : (low : ℕ) (ls : List Line) → AreLeft f low ls → Answers f.size Anything (last_line ls)
   last_line-in low ls h =
       choose (Answers f.size Anything) (is_marker (ascii "-") (first_text ls)) (λ _. starts-in h)
       (λ _. choose (Answers f.size Anything) (is_marker (ascii ".") (first_text ls))
-      (λ e. ended_behind-in low (behind 3 ls) (left-behind 3 (marker-text (ascii ".") (first_text ls) (omega arith) e) h))
+      (λ e. ended_after-in low (past 3 ls) (left-after 3 (marker-text (ascii ".") (first_text ls) (omega arith) e) h))
       (λ _. choose (Answers f.size Anything) (begins (ascii "\t") (first_text (spaces_dropped ls)))
       (λ _. starts-in (left-spaces h)) (λ _. starts-in (left-spaces h))))
 

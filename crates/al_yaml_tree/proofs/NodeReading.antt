@@ -23,7 +23,7 @@ use Rattle.al_yaml_tree.specs.Texts.{HasTexts}
 use Rattle.al_yaml_tree.proofs.LaidLemmas.{Laid, each-item, each-entry}
 use Rattle.al_yaml_tree.proofs.LeftLines.{File, AreLeft, IsRead, left-lower, is-inside}
 use Rattle.al_yaml_tree.proofs.ScalarSpans.{Answers, answers-also}
-use Rattle.al_yaml_tree.proofs.SpanLemmas.{wider_in, items-wider, entries-wider, behind-item, behind-entry}
+use Rattle.al_yaml_tree.proofs.SpanLemmas.{wider_in, items-wider, entries-wider, past-item, past-entry}
 
 -- ---- nodes
 
@@ -169,7 +169,7 @@ module _ {f : File} where
       items-done from p.end (with_item ns p.value) (omega (arith, a, d.ordered)) h.inside
       (each-item (Laid f.size f.size) (LiesAround f.size) ns p.value d.lies.laid.1 n.laid)
       (λ u. each-item Text Inner ns p.value (d.lies.texts u) (n.texts u))
-      (λ u. behind-item f.size from low p.end ns p.value d.ordered a (d.lies.placed u).1 (n.placed u))
+      (λ u. past-item f.size from low p.end ns p.value d.ordered a (d.lies.placed u).1 (n.placed u))
 
   pub entry-done : {from low : ℕ} {es : Entries} {r : ScalarRead} {p : Part Node} → IsDone f mapping from low es → IsRead f low r
       → IsNode f r.span.end p → IsDone f mapping from p.end (with_entry es (scalar_node r) p.value)
@@ -181,7 +181,7 @@ module _ {f : File} where
       entries-done from p.end (with_entry es (scalar_node r) p.value) (omega (arith, b, d.ordered)) h.inside
       (each-entry (Laid f.size f.size) (LiesAround f.size) es (scalar_node r) p.value d.lies.laid.1 key.laid v.laid)
       (λ u. each-entry Text Inner es (scalar_node r) p.value (d.lies.texts u) (key.texts u) (v.texts u))
-      (λ u. behind-entry f.size from low p.end es (scalar_node r) p.value d.ordered b (d.lies.placed u).1
+      (λ u. past-entry f.size from low p.end es (scalar_node r) p.value d.ordered b (d.lies.placed u).1
       (wider_in f.size low r.span.end low p.end (scalar_node r) (omega arith) a k.placed) (v.placed u))
 
 -- ---- outcomes

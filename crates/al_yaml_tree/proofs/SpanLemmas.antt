@@ -40,15 +40,15 @@ module _ (size : ℕ) where
 
   -- ---- a node appended to those that end before an offset
 
-  pub behind-item : (low at high : ℕ) (ns : Nodes) (n : Node) → low ≤ at → at ≤ high → ArePlacedIn size low at ns → IsPlacedIn size at high n → ArePlacedIn size low high (with_item ns n)
-  behind-item low at high no_nodes n a b h x = (wider_in at high low high n a (omega arith) x, tt)
-  behind-item low at high (item m ms) n a b h x = (wider_in low at low high m (omega arith) b h.0, behind-item (span_of m).end at high ms n (bounds_in low at m h.0).to b h.1 x)
+  pub past-item : (low at high : ℕ) (ns : Nodes) (n : Node) → low ≤ at → at ≤ high → ArePlacedIn size low at ns → IsPlacedIn size at high n → ArePlacedIn size low high (with_item ns n)
+  past-item low at high no_nodes n a b h x = (wider_in at high low high n a (omega arith) x, tt)
+  past-item low at high (item m ms) n a b h x = (wider_in low at low high m (omega arith) b h.0, past-item (span_of m).end at high ms n (bounds_in low at m h.0).to b h.1 x)
 
-  pub behind-entry : (low at high : ℕ) (es : Entries) (k v : Node) → low ≤ at → at ≤ high → EntriesPlacedIn size low at es → IsPlacedIn size at high k → IsPlacedIn size (span_of k).end high v
+  pub past-entry : (low at high : ℕ) (es : Entries) (k v : Node) → low ≤ at → at ≤ high → EntriesPlacedIn size low at es → IsPlacedIn size at high k → IsPlacedIn size (span_of k).end high v
       → EntriesPlacedIn size low high (with_entry es k v)
-  behind-entry low at high no_entries k v a b h x y = (wider_in at high low high k a (omega arith) x, y, tt)
-  behind-entry low at high (entry l w es) k v a b h x y = (
+  past-entry low at high no_entries k v a b h x y = (wider_in at high low high k a (omega arith) x, y, tt)
+  past-entry low at high (entry l w es) k v a b h x y = (
     wider_in low at low high l (omega arith) b h.0,
     wider_in (span_of l).end at (span_of l).end high w (omega arith) b h.1,
-    behind-entry (span_of w).end at high es k v (bounds_in (span_of l).end at w h.1).to b h.2 x y,
+    past-entry (span_of w).end at high es k v (bounds_in (span_of l).end at w h.1).to b h.2 x y,
   )

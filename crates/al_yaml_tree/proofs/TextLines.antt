@@ -8,8 +8,8 @@ use Rattle.al_base.specs.Ascii.{ascii}
 use Rattle.al_scalar.specs.Line.{Cell, is_blank, after_blanks, after_spaces, begins, is_marker}
 use Rattle.al_scalar.specs.Offsets.{AreClimbing}
 use Rattle.al_scalar.specs.Plain.{Context, is_flow_indicator, ends_key, is_value_colon}
-use Rattle.al_scalar.proofs.OffsetLemmas.{choose, climbing-behind}
-use Rattle.al_scalar.proofs.Utf8Lemmas.{bytes_of, split-before, split-behind}
+use Rattle.al_scalar.proofs.OffsetLemmas.{choose, climbing-after}
+use Rattle.al_scalar.proofs.Utf8Lemmas.{bytes_of, split-before, split-after}
 use Rattle.al_scalar.proofs.Utf8Texts.{IsText}
 use Rattle.al_yaml_tree.specs.Content.{is_dash, is_flow_start, is_property, anchor_cells}
 
@@ -17,21 +17,21 @@ use Rattle.al_yaml_tree.specs.Content.{is_dash, is_flow_start, is_property, anch
 
 pub dash-text : (cs : List Cell) → is_dash cs ≡ true → IsText cs → IsText (drop 1 cs)
 dash-text [] e u = u
-dash-text (c ∷ cs) e u = split-behind c.0 (bytes_of cs) (grind (arith, nat_tests)) u
+dash-text (c ∷ cs) e u = split-after c.0 (bytes_of cs) (grind (arith, nat_tests)) u
 
 pub bracket-text : (cs : List Cell) → is_flow_start cs ≡ true → IsText cs → IsText (drop 1 cs)
 bracket-text [] e u = u
-bracket-text (c ∷ cs) e u = split-behind c.0 (bytes_of cs) (grind (arith, nat_tests)) u
+bracket-text (c ∷ cs) e u = split-after c.0 (bytes_of cs) (grind (arith, nat_tests)) u
 
 pub spaces-text : (cs : List Cell) → IsText cs → IsText (after_spaces cs)
 spaces-text [] u = u
 spaces-text (c ∷ cs) u =
-    choose IsText (c.0 == ascii " ") (λ e. spaces-text cs (split-behind c.0 (bytes_of cs) (grind (arith, nat_tests)) u)) (λ _. u)
+    choose IsText (c.0 == ascii " ") (λ e. spaces-text cs (split-after c.0 (bytes_of cs) (grind (arith, nat_tests)) u)) (λ _. u)
 
 pub climbing-spaces : (low end : ℕ) (cs : List Cell) → AreClimbing low end cs → AreClimbing low end (after_spaces cs)
 climbing-spaces low end [] h = h
 climbing-spaces low end (c ∷ cs) h =
-    choose (AreClimbing low end) (c.0 == ascii " ") (λ _. climbing-spaces low end cs (climbing-behind low end c cs h)) (λ _. h)
+    choose (AreClimbing low end) (c.0 == ascii " ") (λ _. climbing-spaces low end cs (climbing-after low end c cs h)) (λ _. h)
 
 -- ---- colons
 
@@ -57,7 +57,7 @@ pub property-text : (cs : List Cell) → is_property cs ≡ true → IsText cs �
 property-text [] e u = IsUtf8-nil
 property-text (c ∷ cs) e u =
     let same : length (anchor_cells cs) + 1 ≡ suc (length (anchor_cells cs)) = omega arith in
-    rw same (name-text [] cs (split-behind c.0 (bytes_of cs) (grind (arith, nat_tests)) u))
+    rw same (name-text [] cs (split-after c.0 (bytes_of cs) (grind (arith, nat_tests)) u))
 
 -- ---- the start of a document
 
@@ -67,4 +67,4 @@ marker-text b (c ∷ []) a e u = IsUtf8-nil
 marker-text b (c ∷ d ∷ []) a e u = IsUtf8-nil
 marker-text b (c ∷ d ∷ x ∷ cs) a e u =
     let ascii : (c.0 < 128) × (d.0 < 128) × (x.0 < 128) = grind (arith, nat_tests) in
-    split-behind x.0 (bytes_of cs) ascii.2 (split-behind d.0 (bytes_of (x ∷ cs)) ascii.1 (split-behind c.0 (bytes_of (d ∷ x ∷ cs)) ascii.0 u))
+    split-after x.0 (bytes_of cs) ascii.2 (split-after d.0 (bytes_of (x ∷ cs)) ascii.1 (split-after c.0 (bytes_of (d ∷ x ∷ cs)) ascii.0 u))

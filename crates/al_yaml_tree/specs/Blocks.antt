@@ -9,7 +9,7 @@ use Rattle.al_scalar.specs.Scalar.{scalar_at}
 use Rattle.al_yaml_tree.specs.Node.{Node, Nodes, Entries, sequence, mapping, no_nodes, with_item, no_entries, with_entry, scalar_node}
 use Rattle.al_yaml_tree.specs.Reading.{Reading, Part, gives, fails, of_result, part, start_of, starting_scalar, with_span, with_start}
 use Rattle.al_yaml_tree.specs.Reading.{◌>>=◌}
-use Rattle.al_yaml_tree.specs.Content.{Next, ended, at_line, is_skipped, content, line_ended, whole_lines, behind, is_dash, tab_among}
+use Rattle.al_yaml_tree.specs.Content.{Next, ended, at_line, is_skipped, content, line_ended, whole_lines, past, is_dash, tab_among}
 use Rattle.al_yaml_tree.specs.Content.{block_fault, unless_code, is_flow_start, is_property, same_line, characters, is_short_key}
 use Rattle.al_yaml_tree.specs.Flow.{CollectionReader, empty_node, property, flow_collection}
 use Rattle.al_yaml_tree.specs.Keys.{Key, key_here, has_colon, is_block_start, is_on_key, no_entry, entry_key}
@@ -19,7 +19,7 @@ use Rattle.al_yaml_tree.specs.Keys.{Key, key_here, has_colon, is_block_start, is
 pub data Spot : Type 0 where
   own_line : Spot
   compact : Option ℕ → Spot
-  behind_key : Spot
+  after_key : Spot
 
 -- What surrounds a node: its spot; the least indent of its further lines, one more than that of the enclosing
 -- collection and 0 at the root; whether it is the value of a mapping's entry; the offset of the empty node that
@@ -34,9 +34,9 @@ pub record Slot : Type 0 where
 abbrev pub BlockReader : Type 0
 BlockReader = Slot → ℕ → ℕ → List Line → Reading (Part Node)
 
-abbrev pub is_behind_key : Spot → Bool
-is_behind_key behind_key = true
-is_behind_key _ = false
+abbrev pub is_after_key : Spot → Bool
+is_after_key after_key = true
+is_after_key _ = false
 
 -- the tab before a compact collection
 abbrev pub tab_before : Spot → Option ℕ
@@ -48,10 +48,10 @@ unless_tab (Some at) r = fails yaml.TabInIndentation at
 unless_tab None r = r
 
 -- the spot after blanks on the line
-abbrev pub spot_behind : List Cell → Spot → Spot
-spot_behind text own_line = compact (tab_among text)
-spot_behind text (compact None) = compact (tab_among text)
-spot_behind text spot = spot
+abbrev pub spot_after : List Cell → Spot → Spot
+spot_after text own_line = compact (tab_among text)
+spot_after text (compact None) = compact (tab_among text)
+spot_after text spot = spot
 
 -- whether a content line holds the node: one deeper than what encloses it, or a sequence at the indent of its key
 abbrev pub is_deeper : Slot → ℕ → List Line → Bool
@@ -73,7 +73,7 @@ abbrev pub rest_node : BlockReader → Slot → ℕ → ℕ → List Line → Li
 rest_node node slot depth column ls rest =
     let left = blanks_dropped rest in
     if is_skipped (first_text rest) then node_below node slot depth (whole_lines rest)
-    else node (record slot { spot = spot_behind (first_text rest) slot.spot }) depth (column + characters (start left) (first_text ls)) left
+    else node (record slot { spot = spot_after (first_text rest) slot.spot }) depth (column + characters (start left) (first_text ls)) left
 
 -- The rest of a collection in the column, given what was read of it so far: more reads from its next line on, and a line with less
 -- indent closes it.
@@ -96,20 +96,20 @@ entry_slot column at = record { spot = compact None; within = column + 1; in_map
 unfoldable pub sequence_entries : BlockReader → CollectionReader → ℕ → Bool → ℕ → ℕ → Nodes → List Line → Reading (Part Nodes)
 sequence_entries node collection zero in_mapping column depth done ls = fails yaml.UnexpectedCharacter 0
 sequence_entries node collection (suc turns) in_mapping column depth done ls = do
-  x ← rest_node node (entry_slot column (start (behind 1 ls))) depth column ls (behind 1 ls)
+  x ← rest_node node (entry_slot column (start (past 1 ls))) depth column ls (past 1 ls)
   rest_below column (part (with_item done x.value) x.end x.left) (λ now left.
       if is_dash (first_text left) then sequence_entries node collection turns in_mapping column depth now.value left
       else (if in_mapping then gives now else no_entry collection depth left))
 
 -- The slot of a value (8.2.2), after its key's colon.
 abbrev pub value_slot : ℕ → ℕ → Slot
-value_slot column at = record { spot = behind_key; within = column + 1; in_mapping = true; empty = at }
+value_slot column at = record { spot = after_key; within = column + 1; in_mapping = true; empty = at }
 
 -- The entries of a mapping after those done, the first of which has this key.
 unfoldable pub mapping_entries : BlockReader → CollectionReader → ℕ → ℕ → ℕ → Entries → Key → Reading (Part Entries)
 mapping_entries node collection zero column depth done key = fails yaml.UnexpectedCharacter 0
 mapping_entries node collection (suc turns) column depth done key = do
-  x ← rest_node node (value_slot column (start key.behind)) depth 0 key.behind key.behind
+  x ← rest_node node (value_slot column (start key.after)) depth 0 key.after key.after
   rest_below column (part (with_entry done (scalar_node key.scalar) x.value) x.end x.left) (λ now left.
       entry_key collection depth left >>= (λ k. mapping_entries node collection turns column depth now.value k))
 
@@ -130,12 +130,12 @@ scalar_node_at within ls =
 abbrev pub flow_at : CollectionReader → Spot → ℕ → List Line → Reading (Part Node)
 flow_at collection spot depth ls = do
   x ← collection depth ls
-  if not (is_behind_key spot) && has_colon x.left then fails yaml.WrongKey (start ls) else ending_line x
+  if not (is_after_key spot) && has_colon x.left then fails yaml.WrongKey (start ls) else ending_line x
 
 abbrev pub block_sequence : BlockReader → CollectionReader → ℕ → BlockReader
 block_sequence node collection turns slot depth column ls =
     let at = start ls in
-    if is_behind_key slot.spot then fails yaml.UnexpectedCharacter at
+    if is_after_key slot.spot then fails yaml.UnexpectedCharacter at
     else unless_tab (tab_before slot.spot) (with_start (start_of at 1 depth) (
     with_span sequence at (sequence_entries node collection turns slot.in_mapping column (depth + 1) no_nodes ls)))
 
@@ -157,7 +157,7 @@ block_content node collection turns slot depth column ls =
     else unless_code (block_fault (first_text ls)) at (
     if is_property (first_text ls) then fails yaml.UnexpectedCharacter at
     else (if is_flow_start (first_text ls) then flow_at collection slot.spot depth ls
-    else (if is_block_start (first_text ls) || is_behind_key slot.spot then scalar_node_at slot.within ls
+    else (if is_block_start (first_text ls) || is_after_key slot.spot then scalar_node_at slot.within ls
     else (do
       found ← of_result (key_here ls)
       elim found [ None ↦ scalar_node_at slot.within ls | Some key ↦ block_mapping node collection turns slot.spot depth column ls key ]))))
@@ -165,7 +165,7 @@ block_content node collection turns slot depth column ls =
 -- an alias, or an anchor and its node, not on a key
 unfoldable pub block_property : BlockReader → BlockReader
 block_property content slot depth column ls =
-    property (not (is_behind_key slot.spot) && is_on_key ls) ending_line (rest_node content slot depth column ls) depth ls
+    property (not (is_after_key slot.spot) && is_on_key ls) ending_line (rest_node content slot depth column ls) depth ls
 
 -- Nodes with a depth of nesting below the bound, each with fewer parts than the bound; the file's length plus one is always enough.
 unfoldable pub block_node : ℕ → BlockReader

@@ -23,9 +23,9 @@ whole_lines [] = []
 whole_lines (l ∷ ls) = if l.last then at_end l else ls
 
 -- the lines after k cells of the first
-abbrev pub behind : ℕ → List Line → List Line
-behind k [] = []
-behind k (l ∷ ls) = cut (drop k l.text) l ls
+abbrev pub past : ℕ → List Line → List Line
+past k [] = []
+past k (l ∷ ls) = cut (drop k l.text) l ls
 
 -- The next content line of the document: its indent, and the lines from its first character on.
 pub data Next : Type 0 where
@@ -139,8 +139,8 @@ abbrev pub anchor_name : List Line → List ℕ
 anchor_name ls = map (λ (c : Cell). c.0) (anchor_cells (drop 1 (first_text ls)))
 
 -- the lines after the name of an anchor or alias
-abbrev pub behind_name : List Line → List Line
-behind_name ls = behind (length (anchor_cells (drop 1 (first_text ls))) + 1) ls
+abbrev pub after_name : List Line → List Line
+after_name ls = past (length (anchor_cells (drop 1 (first_text ls))) + 1) ls
 
 abbrev pub has_no_name : List Line → Bool
 has_no_name ls = is_empty (anchor_cells (drop 1 (first_text ls)))

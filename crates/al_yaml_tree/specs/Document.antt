@@ -10,7 +10,7 @@ use Rattle.al_yaml_tree.specs.Node.{Node}
 use Rattle.al_yaml_tree.specs.Limits.{unless_fault, within_limits}
 use Rattle.al_yaml_tree.specs.Bytes.{byte_fault, file_lines}
 use Rattle.al_yaml_tree.specs.Reading.{Start, HaveNoAlias, Reading, no_anchors, gives, of_result, Part, ◌>>=◌}
-use Rattle.al_yaml_tree.specs.Content.{text_line, is_file_end, line_ended, behind}
+use Rattle.al_yaml_tree.specs.Content.{text_line, is_file_end, line_ended, past}
 use Rattle.al_yaml_tree.specs.Blocks.{Slot, own_line, node_below, block_node}
 
 -- The whole lines from the first content line on, or after it if it is the marker `---`. A directive there is a fault
@@ -18,14 +18,14 @@ use Rattle.al_yaml_tree.specs.Blocks.{Slot, own_line, node_below, block_node}
 abbrev pub first_line : List Line → Result (List Line) FaultAt
 first_line ls =
     if begins (ascii "%") (first_text ls) then fault yaml.Directive (start ls)
-    else (if is_marker (ascii "-") (first_text ls) then line_ended (behind 3 ls) else Ok ls)
+    else (if is_marker (ascii "-") (first_text ls) then line_ended (past 3 ls) else Ok ls)
 
 abbrev pub document_start : List Line → Result (List Line) FaultAt
 document_start ls = first_line (text_line ls)
 
 -- No content may follow `...`.
-abbrev pub ended_behind : List Line → Result (Unit {0}) FaultAt
-ended_behind ls =
+abbrev pub ended_after : List Line → Result (Unit {0}) FaultAt
+ended_after ls =
     let left = text_line ls in
     if is_file_end left then Ok tt else fault yaml.SecondDocument (start (blanks_dropped left))
 
@@ -34,7 +34,7 @@ abbrev pub last_line : List Line → Result (Unit {0}) FaultAt
 last_line ls =
     let left = spaces_dropped ls in
     if is_marker (ascii "-") (first_text ls) then fault yaml.SecondDocument (start ls)
-    else (if is_marker (ascii ".") (first_text ls) then ended_behind (behind 3 ls)
+    else (if is_marker (ascii ".") (first_text ls) then ended_after (past 3 ls)
     else (if begins (ascii "\t") (first_text left) then fault yaml.TabInIndentation (start left)
     else fault yaml.WrongIndentation (start left)))
 

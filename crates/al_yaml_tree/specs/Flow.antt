@@ -15,8 +15,8 @@ use Rattle.al_yaml_tree.specs.Node.{Node, Nodes, Entries, scalar, sequence, mapp
 use Rattle.al_yaml_tree.specs.Node.{no_nodes, with_item, no_entries, with_entry, scalar_node}
 use Rattle.al_yaml_tree.specs.Reading.{Reading, gives, fails, of_result, starting_scalar, start_of, with_start}
 use Rattle.al_yaml_tree.specs.Reading.{gives_with_anchor, alias, Part, part, with_span, ◌>>=◌}
-use Rattle.al_yaml_tree.specs.Content.{behind, is_file_end, flow_fault, unless_code, is_flow_start, starts_quoted, is_property}
-use Rattle.al_yaml_tree.specs.Content.{anchor_name, behind_name, has_no_name, same_line, is_simple_key}
+use Rattle.al_yaml_tree.specs.Content.{past, is_file_end, flow_fault, unless_code, is_flow_start, starts_quoted, is_property}
+use Rattle.al_yaml_tree.specs.Content.{anchor_name, after_name, has_no_name, same_line, is_simple_key}
 
 -- What surrounds a node in a flow collection: the offset of the collection's opening bracket, and that of the empty node
 -- that takes its place if there is none, where an empty node is allowed.
@@ -48,12 +48,12 @@ abbrev pub empty_node : ℕ → List Line → Reading (Part Node)
 empty_node at left = starting_scalar at (gives (part (scalar (empty_scalar at) (span at at)) at left))
 
 -- The rest of a collection, given all its items or entries so far and the lines after the last one: after a comma, more reads the next.
-abbrev pub rest_behind : {A : Type 0} → ℕ → (List Line → Reading (Part A)) → ℕ → A → List Line → Reading (Part A)
-rest_behind close more opening done left =
+abbrev pub rest_after : {A : Type 0} → ℕ → (List Line → Reading (Part A)) → ℕ → A → List Line → Reading (Part A)
+rest_after close more opening done left =
     let ls = gap false left in
     if is_file_end ls then fails yaml.UnclosedFlow opening
-    else (if begins (ascii ",") (first_text ls) then more (gap false (behind 1 ls))
-    else (if begins close (first_text ls) then gives (part done (start ls + 1) (behind 1 ls))
+    else (if begins (ascii ",") (first_text ls) then more (gap false (past 1 ls))
+    else (if begins close (first_text ls) then gives (part done (start ls + 1) (past 1 ls))
     else fails yaml.UnexpectedCharacter (start ls)))
 
 -- Items after those done, from the first character of an item or the closer. turns bounds their number.
@@ -61,18 +61,18 @@ unfoldable pub flow_items : FlowReader → ℕ → ℕ → ℕ → Nodes → Lis
 flow_items node zero opening depth done ls = fails yaml.UnexpectedCharacter 0
 flow_items node (suc turns) opening depth done ls =
     if is_file_end ls then fails yaml.UnclosedFlow opening
-    else (if begins (ascii "]") (first_text ls) then gives (part done (start ls + 1) (behind 1 ls))
+    else (if begins (ascii "]") (first_text ls) then gives (part done (start ls + 1) (past 1 ls))
     else (do
       x ← node (record { opening = opening; empty = None }) depth ls
-      rest_behind (ascii "]") (λ left. flow_items node turns opening depth (with_item done x.value) left) opening
+      rest_after (ascii "]") (λ left. flow_items node turns opening depth (with_item done x.value) left) opening
           (with_item done x.value) x.left))
 
 -- The lines after a key's colon, if there is one on its line. After a quoted key, anything may follow the colon.
 abbrev pub is_key_colon : Bool → List Line → Bool
 is_key_colon after_quote ls = (after_quote && begins (ascii ":") (first_text ls)) || is_value_colon flow (after_blanks (first_text ls))
 
-abbrev pub behind_colon_in_flow : Bool → List Line → Option (List Line)
-behind_colon_in_flow after_quote ls = if is_key_colon after_quote ls then Some (behind 1 (blanks_dropped ls)) else None
+abbrev pub after_colon_in_flow : Bool → List Line → Option (List Line)
+after_colon_in_flow after_quote ls = if is_key_colon after_quote ls then Some (past 1 (blanks_dropped ls)) else None
 
 -- A value: empty before a comma or the closer.
 abbrev pub flow_value : FlowReader → FlowSlot → ℕ → List Line → Reading (Part Node)
@@ -85,7 +85,7 @@ flow_value node slot depth ls =
 -- A key, and the lines after its colon if it has one.
 pub record FlowKey : Type 0 where
   pub scalar : ScalarRead
-  pub behind : Option (List Line)
+  pub after : Option (List Line)
 
 -- whether a colon begins a later line
 abbrev pub is_late_colon : List Line → Bool
@@ -99,7 +99,7 @@ unless_late ls r None = if is_late_colon r.left then fault yaml.WrongKey (start 
 
 abbrev pub key_colon : List Line → ScalarRead → Result (Option (List Line)) FaultAt
 key_colon ls r = if not (is_simple_key ls r) then fault yaml.WrongKey (start ls)
-    else unless_late ls r (behind_colon_in_flow (starts_quoted (first_text ls)) r.left)
+    else unless_late ls r (after_colon_in_flow (starts_quoted (first_text ls)) r.left)
 
 unfoldable pub flow_key : CollectionReader → ℕ → List Line → Reading FlowKey
 flow_key collection depth ls =
@@ -112,12 +112,12 @@ flow_key collection depth ls =
     else (do
       r ← of_result (scalar_at flow ls)
       colon ← of_result (key_colon ls r)
-      starting_scalar at (gives (record { scalar = r; behind = colon })))))
+      starting_scalar at (gives (record { scalar = r; after = colon })))))
 
 -- The value of an entry, given its key; without a colon it is empty.
 unfoldable pub flow_entry_value : FlowReader → ℕ → ℕ → FlowKey → Reading (Part Node)
 flow_entry_value node opening depth key =
-    elim key.behind [
+    elim key.after [
       | None ↦ empty_node key.scalar.span.end key.scalar.left
       | Some left ↦ flow_value node (record { opening = opening; empty = Some (start left) }) depth (gap false left)
     ]
@@ -127,11 +127,11 @@ unfoldable pub flow_entries : FlowReader → CollectionReader → ℕ → ℕ �
 flow_entries node collection zero opening depth done ls = fails yaml.UnexpectedCharacter 0
 flow_entries node collection (suc turns) opening depth done ls =
     if is_file_end ls then fails yaml.UnclosedFlow opening
-    else (if begins (ascii "}") (first_text ls) then gives (part done (start ls + 1) (behind 1 ls))
+    else (if begins (ascii "}") (first_text ls) then gives (part done (start ls + 1) (past 1 ls))
     else (do
       key ← flow_key collection depth ls
       x ← flow_entry_value node opening depth key
-      rest_behind (ascii "}") (λ left. flow_entries node collection turns opening depth
+      rest_after (ascii "}") (λ left. flow_entries node collection turns opening depth
           (with_entry done (scalar_node key.scalar) x.value) left) opening
           (with_entry done (scalar_node key.scalar) x.value) x.left))
 
@@ -151,7 +151,7 @@ abbrev pub property : Bool → (Part Node → Reading (Part Node)) → (List Lin
 property on_key ending node depth ls =
     let at = start ls in
     let name = anchor_name ls in
-    let rest = behind_name ls in
+    let rest = after_name ls in
     if has_no_name ls then fails yaml.UnexpectedCharacter at
     else (if on_key then fails yaml.AnchorOrAlias at
     else (if begins (ascii "*") (first_text ls)
@@ -179,7 +179,7 @@ flow_collection (suc bound) depth ls =
     let collection = flow_collection bound in
     let node = flow_node_over collection in
     let at = start ls in
-    let inside = gap false (behind 1 ls) in
+    let inside = gap false (past 1 ls) in
     with_start (start_of at 1 depth) (
     if begins (ascii "[") (first_text ls)
     then with_span sequence at (flow_items node (suc bound) at (depth + 1) no_nodes inside)

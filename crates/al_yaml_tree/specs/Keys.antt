@@ -10,14 +10,14 @@ use Rattle.al_scalar.specs.Plain.{block, is_value_colon}
 use Rattle.al_scalar.specs.Scalar.{ScalarRead, scalar_at}
 use Rattle.al_scalar.specs.declared.faults.FaultAt.{FaultAt}
 use Rattle.al_yaml_tree.specs.Reading.{Reading, gives, fails, of_result, starting_scalar, ◌>>=◌}
-use Rattle.al_yaml_tree.specs.Content.{is_skipped, behind, is_dash, block_fault, unless_code, is_flow_start, starts_quoted}
-use Rattle.al_yaml_tree.specs.Content.{is_property, behind_name, has_no_name, same_line, is_simple_key}
+use Rattle.al_yaml_tree.specs.Content.{is_skipped, past, is_dash, block_fault, unless_code, is_flow_start, starts_quoted}
+use Rattle.al_yaml_tree.specs.Content.{is_property, after_name, has_no_name, same_line, is_simple_key}
 use Rattle.al_yaml_tree.specs.Flow.{CollectionReader}
 
 -- A key, and the lines after its colon.
 pub record Key : Type 0 where
   pub scalar : ScalarRead
-  pub behind : List Line
+  pub after : List Line
 
 -- the first line as if it were the last
 abbrev pub one_line : List Line → List Line
@@ -43,7 +43,7 @@ has_colon ls = is_value_colon (block 0) (after_blanks (first_text ls))
 
 -- a scalar as a key, if a colon follows
 abbrev pub key_before_colon : ScalarRead → Option Key
-key_before_colon r = if has_colon r.left then Some (record { scalar = r; behind = behind 1 (blanks_dropped r.left) }) else None
+key_before_colon r = if has_colon r.left then Some (record { scalar = r; after = past 1 (blanks_dropped r.left) }) else None
 
 -- The key that begins here, if one does: a scalar with a colon after it. It may still be too long or span lines.
 abbrev pub key_here : List Line → Result (Option Key) FaultAt
@@ -63,8 +63,8 @@ is_key_start cs = not (is_skipped cs || is_dash cs || is_property cs || is_block
 -- key: the alias itself, or what follows the anchor on its line.
 abbrev pub is_on_key : List Line → Bool
 is_on_key ls =
-    let left = blanks_dropped (behind_name ls) in
-    if begins (ascii "*") (first_text ls) then has_colon (behind_name ls)
+    let left = blanks_dropped (after_name ls) in
+    if begins (ascii "*") (first_text ls) then has_colon (after_name ls)
     else is_key_start (first_text left) && begins_key left
 
 -- the fault of an anchor or alias where an entry of an open mapping is expected

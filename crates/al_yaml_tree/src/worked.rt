@@ -28,7 +28,7 @@ pub fn rows()
     ensures latest_anchor { refusal (codes "a: &x [&x 1]" ++ feed ++ codes "b: *x") ≡ None }
     ensures second_anchor { refusal (codes "a: &x" ++ feed ++ codes "  &y k: v") ≡ fault_at yaml.UnexpectedCharacter 8 }
     ensures anchor_without_node { refusal (codes "[&x]") ≡ fault_at yaml.UnexpectedCharacter 3 }
-    ensures empty_behind_anchor { refusal (codes "{k: &x }") ≡ None }
+    ensures empty_after_anchor { refusal (codes "{k: &x }") ≡ None }
     ensures filter { refusal (codes "on:" ++ feed ++ codes "  push:" ++ feed ++ codes "    branches: [${{ github.ref }}]" ++ feed)
         ≡ fault_at yaml.UnexpectedCharacter 28 }
     ensures list_at_its_key { refusal (codes "a:" ++ feed ++ codes "- b" ++ feed ++ codes "c: d" ++ feed) ≡ None }

@@ -30,7 +30,7 @@ use Rattle.al_check.specs.Calling.{file_targets}
 use Rattle.al_check.specs.Sites.{file_sites}
 use Rattle.al_check_calls.proofs.Inside.{call_faults_lie}
 use Rattle.al_check_calls.specs.Answers.{Answered, calls_with_answers, answered_faults}
-use Rattle.al_check_calls.specs.FileCalls.{behind_faults, known_from_calls, typing}
+use Rattle.al_check_calls.specs.FileCalls.{faults_with_answers, known_from_calls, typing}
 use Rattle.al_expr_typing.proofs.Inside.{both_lie}
 use Rattle.al_rules.proofs.Lying.{rules_lie}
 use Rattle.al_tree.specs.Faults.{root_faults}
@@ -57,26 +57,26 @@ module _ (size : ℕ) (kind : FileKind) (root : Node) (i : IsInside size root) (
   abbrev calls : List Answered
   calls = calls_with_answers (calls_in kind root) answers
 
-  behind_lie : AllLie size (behind_faults kind root answers)
-  behind_lie =
+  with_answers_lie : AllLie size (faults_with_answers kind root answers)
+  with_answers_lie =
       both_lie size (expression_faults kind (known_from_calls calls) root)
       (flat_map (answered_faults (typing kind (known_from_calls calls) root)) calls)
       (expression_faults_lie size kind (known_from_calls calls) root w f)
       (call_faults_lie size kind (typing kind (known_from_calls calls) root) root answers i)
 
   abbrev all_faults : List Fault
-  all_faults = own_faults kind root ++ behind_faults kind root answers
+  all_faults = own_faults kind root ++ faults_with_answers kind root answers
 
   found_lie : AllLie size all_faults
   found_lie =
-      both_lie size (own_faults kind root) (behind_faults kind root answers)
+      both_lie size (own_faults kind root) (faults_with_answers kind root answers)
       (both_lie size (root_faults (shape_of kind) root ++ rule_faults kind root) (flat_map wrong_uses (calls_in kind root))
       (both_lie size (root_faults (shape_of kind) root) (rule_faults kind root)
       (recursion_from_All (λ (x : Fault). LiesIn size x.span) (root_faults (shape_of kind) root)
       (root_lies size (shape_of kind) root i))
       (rules_lie size kind root (rule_faults kind root) w (rules_hold kind root)))
       (wrong_uses_lie size (calls_in kind root) (calls_lie size kind root i)))
-      behind_lie
+      with_answers_lie
 
   document_lies : AllLie size (document_faults kind root answers)
   document_lies =
@@ -107,7 +107,7 @@ one_sorted f = (tt, tt)
 given_ordered : (kind : FileKind) (bytes : List ℕ) (answers : List (Option Interface)) (read : Result Node FaultAt) →
     IsStrictlySortedBy fault_cmp (faults_given kind bytes answers read)
 given_ordered kind bytes answers (Ok root) =
-    IsStrictlySortedBy-fault_list (map printed_fault (own_faults kind root ++ behind_faults kind root answers))
+    IsStrictlySortedBy-fault_list (map printed_fault (own_faults kind root ++ faults_with_answers kind root answers))
 given_ordered kind bytes answers (Err fault) = one_sorted _
 
 pub faults_ordered : (kind : FileKind) (bytes : List ℕ) (answers : List (Option Interface)) →

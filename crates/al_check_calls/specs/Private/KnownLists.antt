@@ -3,7 +3,7 @@ use Rattle.std.specs.Prelude.{◌≡◌, ◌++◌, ℕ, List, Bool, Option, Some
 use Rattle.std.specs.BTreeMap.{get_by}
 use Rattle.std.specs.Cmp.Lexicographic.{slice_cmp}
 use Rattle.std.specs.Ordering.{bool_cmp, nat_cmp, ordering_then}
-use Rattle.al_check_contexts.specs.Answered.{Behind, behind_of}
+use Rattle.al_check_contexts.specs.Answered.{OutputsOfCall, call_outputs}
 use Rattle.al_check_calls.specs.declared.known.KnownOutputs.{KnownOutputs}
 use Rattle.al_check_calls.specs.declared.known.Lists.{Lists}
 
@@ -35,5 +35,5 @@ pub record Takes (old new : Lists) (of_step : Bool) (text : List ℕ) (names : O
   pub placed : (naming : Naming) → naming of_step text ≡ names → ArePlaced naming old → ArePlaced naming new
   pub stands : (naming : Naming) → naming of_step text ≡ names → ArePlaced naming old → StandsAt (lists_of new) position names
 
-abbrev pub behind_all : KnownOutputs → List Behind
-behind_all known = map (behind_of (lists_of known.lists)) known.answers.items
+abbrev pub all_call_outputs : KnownOutputs → List OutputsOfCall
+all_call_outputs known = map (call_outputs (lists_of known.lists)) known.answers.items

@@ -39,7 +39,7 @@ AreAmong paths texts = AllByRecursion (λ text. is_among (string_bytes text) pat
 
 -- The files after the first ones are each called by a file before them, and each pending text is a candidate of a call of these files.
 pub record IsCalling (first : List (List ℕ × List ℕ)) (files : List (List ℕ × List ℕ)) (texts : List (String Global)) : Type 0 where
-  pub behind : List (List ℕ × List ℕ)
-  pub all : files ≡ first ++ behind
-  pub called : AreCalled first behind
+  pub after : List (List ℕ × List ℕ)
+  pub all : files ≡ first ++ after
+  pub called : AreCalled first after
   pub waiting : AreAmong (called_by files) texts

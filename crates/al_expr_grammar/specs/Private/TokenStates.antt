@@ -8,9 +8,9 @@ use Rattle.al_expr_grammar.specs.Lexeme.{Lexeme}
 use Rattle.al_expr_grammar.specs.Tokens.{Lexed, AllRead, Bad, Unclosed}
 
 -- prepends the tokens that were read
-abbrev pub behind : List Lexeme → Lexed → Lexed
-behind front (AllRead ts) = AllRead (front ++ ts)
-behind front other = other
+abbrev pub after : List Lexeme → Lexed → Lexed
+after front (AllRead ts) = AllRead (front ++ ts)
+after front other = other
 
 -- the result if not all tokens can be read
 abbrev pub unread : LexError → Lexed

@@ -5,17 +5,17 @@ use Rattle.std.specs.Prelude.{slice_set}
 use Rattle.al_base.specs.Ascii.{ascii}
 use Rattle.std.specs.Char.{is_ascii_digit}
 use Rattle.al_expr_typing.specs.declared.placeholders.PlaceholderState.{PlaceholderState}
-use Rattle.al_expr_typing.specs.declared.placeholders.PlaceholderState.TheVariants.{Outside, BehindOpening, InIndex, BehindClosing}
+use Rattle.al_expr_typing.specs.declared.placeholders.PlaceholderState.TheVariants.{Outside, AfterOpening, InIndex, AfterClosing}
 use Rattle.al_expr_typing.specs.declared.placeholders.Turn.{Turn}
 use Rattle.al_expr_typing.specs.declared.placeholders.Turn.TheVariants.{To, Names, Wrong}
 
 -- the transition on a byte
 abbrev pub turn : PlaceholderState → ℕ → Turn
-turn Outside b = if b == ascii "{" then To BehindOpening else if b == ascii "}" then To BehindClosing else To Outside
-turn BehindOpening b = if b == ascii "{" then To Outside else if is_ascii_digit b then To (InIndex (b - ascii "0")) else Wrong
+turn Outside b = if b == ascii "{" then To AfterOpening else if b == ascii "}" then To AfterClosing else To Outside
+turn AfterOpening b = if b == ascii "{" then To Outside else if is_ascii_digit b then To (InIndex (b - ascii "0")) else Wrong
 turn (InIndex n) b =
     if is_ascii_digit b then To (InIndex (10 * n + (b - ascii "0"))) else if b == ascii "}" then Names n else Wrong
-turn BehindClosing b = if b == ascii "}" then To Outside else Wrong
+turn AfterClosing b = if b == ascii "}" then To Outside else Wrong
 
 abbrev pub after_turn : Turn → List Bool → (PlaceholderState → List Bool → Option (List Bool)) → Option (List Bool)
 after_turn (To p) used go = go p used

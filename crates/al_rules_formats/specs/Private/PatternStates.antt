@@ -9,10 +9,10 @@ use Rattle.al_rules_formats.specs.declared.patterns.State.TheVariants.{ClassDash
 
 -- the transition outside of a class, after an item or not
 abbrev pub outside : Bool → ℕ → Option State
-outside is_behind c =
+outside is_after c =
     if c == ascii "\\" then Some AfterEscape
     else if c == ascii "[" then Some ClassFirst
-    else if is_mark c then (if is_behind then Some AfterItem else None)
+    else if is_mark c then (if is_after then Some AfterItem else None)
     else Some AfterItem
 
 -- the transition on a character; none if the character isn't allowed there

@@ -40,8 +40,8 @@ abbrev pub EndsRun : Quotes → List ℕ → ℕ → Type 0
 EndsRun quotes bytes at = at < length bytes → IsBreakByte (slice_index bytes at) ⊎ IsMarkByte quotes (slice_index bytes at)
 
 -- the rest of the scalar after the break at an offset
-abbrev pub read_behind : Quotes → List ℕ → ℕ → Bool → ℕ → Result Taken FaultAt
-read_behind quotes bytes end escaped quote = quoted_lines (part_in quotes) quote (break_of escaped end) (later (lines_at bytes end))
+abbrev pub read_after_break : Quotes → List ℕ → ℕ → Bool → ℕ → Result Taken FaultAt
+read_after_break quotes bytes end escaped quote = quoted_lines (part_in quotes) quote (break_of escaped end) (later (lines_at bytes end))
 
 abbrev pub GivesMark : Quotes → List ℕ → ℕ → Mark → Type 0
 GivesMark quotes bytes at mark.Quote = (at < length bytes)
@@ -49,7 +49,7 @@ GivesMark quotes bytes at mark.Quote = (at < length bytes)
 GivesMark quotes bytes at (mark.Character c next) =
     (at < next) × (next ≤ length bytes) × ReadsOn quotes bytes at (character_cells at c) next
 GivesMark quotes bytes at (mark.Break end escaped) = (at ≤ end) × (end < length bytes) × IsLineEnd bytes end
-    × ((quote : ℕ) → quoted_in quotes quote (lines_at bytes at) ≡ read_behind quotes bytes end escaped quote)
+    × ((quote : ℕ) → quoted_in quotes quote (lines_at bytes at) ≡ read_after_break quotes bytes end escaped quote)
 GivesMark quotes bytes at mark.WrongEscape = (quote : ℕ) → quoted_in quotes quote (lines_at bytes at)
     ≡ Err (record { code = yaml.WrongEscape; at = at })
 GivesMark quotes bytes at mark.FileEnd = (quote : ℕ) → quoted_in quotes quote (lines_at bytes at)

@@ -11,11 +11,11 @@ use Rattle.al_yaml_tree.specs.Content as content
 use Rattle.al_yaml_tree.specs.Flow.{CollectionReader, flow_collection}
 use Rattle.al_yaml_tree.specs.Keys.{Key, no_entry, entry_key}
 use Rattle.al_yaml_tree.specs.Blocks.{BlockReader, rest_below, sequence_entries, mapping_entries, block_node, bare_node}
-use Rattle.al_yaml_parts.specs.BlockReads.{IsKeyBehind, IsTabInside, key_seen, slot_of}
+use Rattle.al_yaml_parts.specs.BlockReads.{IsKeyAfter, IsTabInside, key_seen, slot_of}
 use Rattle.al_yaml_parts.specs.Answers.{Answer, then_read, noting}
 use Rattle.al_yaml_parts.specs.Answers.{mark_of}
 use Rattle.al_yaml_parts.specs.Places.{next_of, IsLineFrom}
-use Rattle.al_yaml_parts.specs.Reads.{State, run, FailsWith, IsBehind, part_of}
+use Rattle.al_yaml_parts.specs.Reads.{State, run, FailsWith, IsPartAfter, part_of}
 use Rattle.al_yaml_tree.specs.View.{view, entry_view, nodes_of, entries_of}
 use Rattle.al_yaml_parts.specs.declared.faults.ReadError.{ReadError}
 use Rattle.al_yaml_parts.specs.declared.part.Part as code
@@ -49,7 +49,7 @@ block_rest turns bound depth start column (items in_mapping done) ls =
 block_rest turns bound depth start column (entries done key) ls =
     with_span mapping start (mapping_entries (block_node bound) (flow_collection (suc bound)) turns column depth done key)
 
--- a sequence that ends behind its last item
+-- a sequence that ends after its last item
 abbrev pub closed_sequence : ℕ → Nodes → Part Node → State → Answer (Part Node)
 closed_sequence start done x s = Ok (part (sequence (with_item done x.value) (span start x.end)) x.end x.left, s)
 
@@ -64,7 +64,7 @@ abbrev pub more_entries : BlockReader → CollectionReader → ℕ → ℕ → �
 more_entries node collection turns column depth now left =
     entry_key collection depth left >>= (λ key. mapping_entries node collection turns column depth now.value key)
 
--- the same from behind the node that it waited for
+-- the same from after the node that it waited for
 abbrev pub block_waits : ℕ → ℕ → ℕ → ℕ → ℕ → BlockWaiting → Part Node → Reading (Part Node)
 block_waits turns bound depth start column (item in_mapping done) x =
     with_span sequence start (rest_below column (part (with_item done x.value) x.end x.left)
@@ -83,7 +83,7 @@ abbrev pub block_waiting_of : List ℕ → waiting_type.BlockWaiting → BlockWa
 block_waiting_of bytes (waiting_code.Item in_mapping v) = item in_mapping (nodes_of (map view v.items))
 block_waiting_of bytes (waiting_code.Value v read) = value (entries_of (map entry_view v.items)) (read_of bytes read)
 
--- what reads a node from its first character on, or from behind its anchor
+-- what reads a node from its first character on, or from after its anchor
 abbrev pub node_reader : ℕ → Option ℕ → BlockReader
 node_reader bound None = block_node bound
 node_reader bound (Some at) = bare_node bound
@@ -96,7 +96,7 @@ pub record IsNodeAt (bytes : List ℕ) (s : slot.Slot) (p : cursor.Cursor) : Typ
   pub empty : s.empty ≤ length bytes
   pub tab : IsTabInside (length bytes) s.spot
 
--- what is left behind a dash, a colon or an anchor, on its line
+-- what is left after a dash, a colon or an anchor, on its line
 pub record IsRestAt (bytes : List ℕ) (x : place_type.NodePlace) (rest : ℕ) : Type 0 where
   pub order : x.start.at ≤ rest
   pub inside : rest ≤ length bytes
@@ -115,12 +115,12 @@ abbrev pub IsNextAt : Next → ℕ → Type 0
 IsNextAt next.Ended at = ⊥
 IsNextAt (next.Line indent first) at = at ≡ first
 
--- the next content line behind a part
-abbrev pub IsNextBehind : List ℕ → code.Part → Next → Type 0
-IsNextBehind bytes p x = (content.content (lines_at bytes p.next) ≡ Ok (next_of bytes x)) × IsNextInside (length bytes) x
+-- the next content line after a part
+abbrev pub IsNextAfter : List ℕ → code.Part → Next → Type 0
+IsNextAfter bytes p x = (content.content (lines_at bytes p.next) ≡ Ok (next_of bytes x)) × IsNextInside (length bytes) x
     × IsLineFrom p.next (length bytes) x
 
--- ---- a node: it was read whole, a collection begins, or it stands behind an anchor
+-- ---- a node: it was read whole, a collection begins, or it comes after an anchor
 
 abbrev pub Begins : List ℕ → ℕ → ℕ → Reading (Part Node) → State → Result task_type.BlockTask ReadError → State → Type 0
 Begins bytes bound depth reading before (Ok (task.Read p)) after = run before reading ≡ Ok (part_of bytes p, after)
@@ -136,17 +136,17 @@ Begins bytes bound depth reading before (Ok (task.Node x)) after =
 Begins bytes bound depth reading before (Ok (task.Found r)) after = run before reading ≡ Ok (part_of bytes r.part, after)
 Begins bytes bound depth reading before (Err e) after = FailsWith reading before e
 
--- a node in a collection that begins at an offset was read, and the line behind it
+-- a node in a collection that begins at an offset was read, and the line after it
 pub record IsReadBefore (bytes : List ℕ) (r : before_type.PartBefore) : Type 0 where
   pub inside : r.part.next ≤ length bytes
   pub end : r.part.end ≤ length bytes
-  pub next : IsNextBehind bytes r.part r.next
+  pub next : IsNextAfter bytes r.part r.next
 
--- a part that was found from an offset on, with the line behind it
+-- a part that was found from an offset on, with the line after it
 abbrev pub IsFoundPart : List ℕ → ℕ → before_type.PartBefore → Type 0
-IsFoundPart bytes from r = IsBehind bytes from r.part × IsNextBehind bytes r.part r.next
+IsFoundPart bytes from r = IsPartAfter bytes from r.part × IsNextAfter bytes r.part r.next
 
--- what stands behind a dash, a colon or an anchor: a node, or the empty node, which was read
+-- what comes after a dash, a colon or an anchor: a node, or the empty node, which was read
 abbrev pub FindsBlock : List ℕ → BlockReader → Option ℕ → ℕ → Reading (Part Node) → State → Result task_type.BlockTask ReadError → State →
     Type 0
 FindsBlock bytes node anchor depth reading before (Ok (task.Node x)) after =
@@ -161,14 +161,14 @@ FindsBlock bytes node anchor depth reading before (Err e) after = FailsWith read
 
 abbrev pub IsOpenAt : List ℕ → ℕ → ℕ → open_type.BlockOpen → Type 0
 IsOpenAt bytes column at (open_code.Items in_mapping v) = (content.is_dash (text_at bytes at) ≡ true) × (at < length bytes) × (column ≤ at)
-IsOpenAt bytes column at (open_code.Entries v key) = IsKeyBehind bytes at key × (column ≤ at)
+IsOpenAt bytes column at (open_code.Entries v key) = IsKeyAfter bytes at key × (column ≤ at)
 
 abbrev pub IsBegun : List ℕ → ℕ → ℕ → task_type.BlockTask → Type 0
-IsBegun bytes from depth (task.Read p) = IsBehind bytes from p
+IsBegun bytes from depth (task.Read p) = IsPartAfter bytes from p
 IsBegun bytes from depth (task.Inside x) =
     (x.begun.start.at ≡ from) × (x.at ≡ from) × (depth ≤ 64) × IsOpenAt bytes x.begun.start.column x.at x.has
 IsBegun bytes from depth (task.Node x) = IsNodeAt bytes x.slot x.start × (from < x.start.at)
-IsBegun bytes from depth (task.Found r) = IsBehind bytes from r.part × IsNextBehind bytes r.part r.next
+IsBegun bytes from depth (task.Found r) = IsPartAfter bytes from r.part × IsNextAfter bytes r.part r.next
 
 abbrev pub IsFoundFrom : List ℕ → ℕ → task_type.BlockTask → Type 0
 IsFoundFrom bytes from (task.Node x) = IsNodeAt bytes x.slot x.start × (from ≤ x.start.at)
@@ -176,7 +176,7 @@ IsFoundFrom bytes from (task.Found r) = IsFoundPart bytes from r
 IsFoundFrom bytes from (task.Read p) = ⊥
 IsFoundFrom bytes from (task.Inside x) = ⊥
 
--- ---- a collection goes on: with what it waits and for what, and behind the node that it waited for
+-- ---- a collection goes on: with what it waits and for what, and after the node that it waited for
 
 abbrev pub EntersWith : List ℕ → ℕ → ℕ → ℕ → ℕ → ℕ → Reading (Part Node) → State → waiting_type.BlockWaiting → task_type.BlockTask
     → State → Type 0

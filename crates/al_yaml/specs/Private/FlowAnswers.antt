@@ -26,15 +26,15 @@ Inside bytes depth whole fs n opening has at = IsInnermost (flow_goes depth) (le
     (λ bound turns. run n (open_rest (flow_collection bound) turns (depth + length fs + 1) opening has (lines_at bytes at)))
 
 -- A node was read in the innermost collection on the stack.
-abbrev pub Behind : List ℕ → ℕ → NodeAnswer → List Frame → State → code.Part → Type 0
-Behind bytes depth whole fs n p = IsInnermost (flow_goes depth) (length bytes) whole fs p.next (λ bound turns. Ok (part_of bytes p, n))
+abbrev pub AfterNode : List ℕ → ℕ → NodeAnswer → List Frame → State → code.Part → Type 0
+AfterNode bytes depth whole fs n p = IsInnermost (flow_goes depth) (length bytes) whole fs p.next (λ bound turns. Ok (part_of bytes p, n))
 
 -- What stands next in the innermost collection.
 abbrev pub Keeps : List ℕ → ℕ → NodeAnswer → List FlowFrame → State → ℕ → Open → After → Type 0
 Keeps bytes depth whole stack n opening has (after.GoesOn at) = Inside bytes depth whole (map (frame_of bytes) stack) n opening has at
 Keeps bytes depth whole stack n opening has (after.Closes end) =
     (p : code.Part) → view p.node ≡ closed_of opening has end → p.end ≡ end → p.next ≡ end
-    → Behind bytes depth whole (map (frame_of bytes) stack) n p
+    → AfterNode bytes depth whole (map (frame_of bytes) stack) n p
 
 -- what a step leaves
 abbrev pub Answers : List ℕ → ℕ → NodeAnswer → List FlowFrame → Result OpenFlow ReadError → State → Type 0

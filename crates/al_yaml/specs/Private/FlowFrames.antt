@@ -32,7 +32,7 @@ abbrev pub open_of : Open → frames.Open
 open_of (open_code.Items v) = frames.items (nodes_of (map view v.items))
 open_of (open_code.Entries m) = frames.entries (entries_of (map entry_view m.entries.items))
 
--- what waits in a mapping for the collection whose bracket stands at an offset
+-- what waits in a mapping for the collection whose bracket is at an offset
 abbrev pub mapping_waiting : List ℕ → ℕ → tree.Entries → Option ScalarRead → frames.Waiting
 mapping_waiting bytes at es (Some read) = frames.value es (read_of bytes read)
 mapping_waiting bytes at es None = frames.key at
@@ -45,7 +45,7 @@ waiting_of bytes at (open_code.Entries m) = mapping_waiting bytes at (entries_of
 abbrev pub frame_of : List ℕ → FlowFrame → frames.Frame
 frame_of bytes f = record { opening = f.opening; mark = mark_of bytes f.inner.anchor; waiting = waiting_of bytes f.inner.at f.has }
 
--- the collection that was read from its bracket up to behind its closer
+-- the collection that was read from its bracket up to the end of its closer
 abbrev pub closed_of : ℕ → frames.Open → ℕ → tree.Node
 closed_of opening (frames.items ns) end = tree.sequence ns (span opening end)
 closed_of opening (frames.entries es) end = tree.mapping es (span opening end)
@@ -55,7 +55,7 @@ abbrev pub closer_of : frames.Open → ℕ
 closer_of (frames.items ns) = 93
 closer_of (frames.entries es) = 125
 
--- ---- a step of an open collection, and what comes behind a node in it
+-- ---- a step of an open collection, and what comes after a node in it
 
 abbrev pub after_of : List ℕ → After → frames.After
 after_of bytes (after.GoesOn next) = frames.goes_on (lines_at bytes next)
@@ -65,7 +65,7 @@ abbrev pub IsAfter : ℕ → ℕ → After → Type 0
 IsAfter at size (after.GoesOn next) = (at < next) × (next ≤ size)
 IsAfter at size (after.Closes next) = (at < next) × (next ≤ size)
 
--- reading goes on in a collection behind a comma, or ends with its closer
+-- reading goes on in a collection after a comma, or ends with its closer
 abbrev pub GoesOn : List ℕ → ℕ → ℕ → (CollectionReader → ℕ → Answer (Part tree.Node)) → frames.Open → After → State → Type 0
 GoesOn bytes depth opening now has (after.GoesOn at) s =
     (c : CollectionReader) (turns : ℕ) → now c turns ≡ run s (open_rest c turns depth opening has (lines_at bytes at))
@@ -88,7 +88,7 @@ IsFirst bytes close at (after.Closes end) = (end ≡ at + 1) × (true ≡ begins
 
 abbrev pub Steps : List ℕ → ℕ → ℕ → (CollectionReader → ℕ → Reading (Part tree.Node)) → State → Open
     → Result FlowStep ReadError → State → Type 0
-Steps bytes depth opening reading before has (Ok (step.Behind next)) s =
+Steps bytes depth opening reading before has (Ok (step.AfterNode next)) s =
     GoesOn bytes depth opening (λ c turns. run before (reading c (suc turns))) (open_of has) next s
 Steps bytes depth opening reading before has (Ok (step.Opens b)) s =
     (c : CollectionReader) (turns : ℕ) → run before (reading c (suc turns))
@@ -103,17 +103,17 @@ Resumes bytes depth opening w x s has (Err e) = (c : CollectionReader) (turns : 
 
 -- ---- where they lie
 
--- the offset from which on is read, or behind the closer
+-- the offset from which on is read, or after the closer
 abbrev pub after_at : After → ℕ
 after_at (after.GoesOn at) = at
 after_at (after.Closes end) = end
 
--- what stands behind a node that is in its collection lies behind an offset
+-- what comes after a node that is in its collection lies after an offset
 abbrev pub IsPut : ℕ → ℕ → After → Type 0
 IsPut size from next = (from < after_at next) × (after_at next ≤ size)
 
 abbrev pub IsStep : List ℕ → ℕ → FlowStep → Type 0
-IsStep bytes at (step.Behind next) = IsPut (length bytes) at next
+IsStep bytes at (step.AfterNode next) = IsPut (length bytes) at next
 IsStep bytes at (step.Opens b) = IsBracket bytes at b.at
 
 -- a collection is read in the file

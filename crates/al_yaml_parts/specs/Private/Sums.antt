@@ -17,7 +17,7 @@ abbrev pub members : List (Node × Node) → List Node
 members [] = []
 members (e ∷ es) = e.0 ∷ e.1 ∷ members es
 
--- the nodes that stand in a node, not those inside them
+-- the children of a node, without their own children
 abbrev pub inside : Node → List Node
 inside (scalar s at) = []
 inside (sequence ns at) = nodes ns
@@ -35,14 +35,14 @@ own_level (scalar s at) = 0
 own_level (sequence ns at) = 1
 own_level (mapping es at) = 1
 
--- nodes that stand in so many collections
+-- nodes inside this many collections
 abbrev pub within : ℕ → List Node → List (Node × ℕ)
 within levels ns = map (λ n. (n, levels)) ns
 
 abbrev pub uncounted_view : UncountedNode → Node × ℕ
 uncounted_view u = (view u.node.now, u.levels)
 
--- what is counted of a node itself, which stands in so many collections
+-- what is counted of a node itself, which is inside this many collections
 pub record IsOwn (n : Node × ℕ) (s : Sums) : Type 0 where
   pub nodes : s.nodes ≡ 1
   pub text : s.text ≡ most_counted (own_text n.0)

@@ -1,7 +1,7 @@
 use Rattle.std.proofs.Common.{◌≡◌, ◌∙◌, ◌+◌, arith, sym, ap, true, false, get_or}
 use Rattle.al_base.specs.Positions.{ends_break, begins_char}
 use Rattle.al_base.proofs.Counting.{line_at-break, line_at-same, column_at-break, column_at-char, column_at-inner}
-use Rattle.al_base.proofs.LineBegins.{begins_behind, begins_still}
+use Rattle.al_base.proofs.LineBegins.{begins_after, begins_still}
 use Rattle.al_base.proofs.positions.location_of.Goals as goal
 use Rattle.al_base.proofs.positions.location_of.Goals.{then-is_break_end, else-is_break_end+then-is_char_start, else-is_break_end+else-is_char_start}
 
@@ -19,7 +19,7 @@ loop-at-preserved c =
             column = w.column-is ∙ sym (column_at-break bytes k e);
             line_small = omega arith;
             column_small = omega arith;
-            start = rw w.start-is (begins_behind bytes k e);
+            start = rw w.start-is (begins_after bytes k e);
           }
       | else-is_break_end+then-is_char_start w ↦
           let e : ends_break bytes k ≡ false = sym w.if-is_break_end.ensures in

@@ -7,9 +7,9 @@ pub returns-clause-folder : goal.returns-clause-folder
 unfolding is_utf8 chars encode
 returns-clause-folder c = refl
 
-pub returns-clause-slash_behind : goal.returns-clause-slash_behind
+pub returns-clause-slash_after : goal.returns-clause-slash_after
 unfolding is_utf8 chars encode
-returns-clause-slash_behind c = refl
+returns-clause-slash_after c = refl
 
 pub returns-clause-root : goal.returns-clause-root
 unfolding is_utf8 chars encode

@@ -8,7 +8,7 @@ use Rattle.al_types.specs.Indexes.{name_at, named_as}
 use Rattle.al_types.specs.Puts.{TypedName}
 use Rattle.al_types.specs.Fused.{fuse_parts}
 use Rattle.al_types.specs.Types.{Absent, Parts, fuse_type, object_type, parts_with}
-use Rattle.al_types.proofs.Puts.{put_behind, put_new_behind, put_over}
+use Rattle.al_types.proofs.Puts.{put_after, put_new_after, put_over}
 use Rattle.al_expr.specs.Listings.{parts_in}
 use Rattle.al_expr.specs.Trees.{field_of, listed_parts, rest_of, ty_of}
 use Rattle.al_expr_types.proofs.Scans.{mapped_more}
@@ -76,7 +76,7 @@ put_or_fuse-returns-in_ok-push-in-None t c =
     let place = c.position.ensures.place ∙ ap (λ fs. name_at (map field_of fs) p.0) c.as_slice.ensures.value in
     let new : name_at ts p.0 ≡ None = sym place ∙ c.in-None.is in
     ap (map field_of) c.in_ok-push-in-None.ensures.items ∙ map-append field_of items (c.in_ok-copy-in-None.copy ∷ [])
-    ∙ ap (λ q. ts ++ q ∷ []) c.in_ok-copy-in-None.ensures ∙ sym (put_behind ts p new ∙ put_new_behind ts p (ap is_none new))
+    ∙ ap (λ q. ts ++ q ∷ []) c.in_ok-copy-in-None.ensures ∙ sym (put_after ts p new ∙ put_new_after ts p (ap is_none new))
 
 pub fuse_more-returns-in_ok-whole-in-Object-more-2 : goal.fuse_more-returns-in_ok-whole-in-Object-more-2
 fuse_more-returns-in_ok-whole-in-Object-more-2 t c =

@@ -16,7 +16,7 @@ use Rattle.al_expr_types.specs.Tables.{is_known, objects_of, type_at}
 use Rattle.al_expr_types.proofs.Below.{all_more}
 use Rattle.al_expr_typing.specs.Arguments.{are_known, argument_at}
 use Rattle.al_expr_typing.specs.Scopes.{scope_view}
-use Rattle.al_expr_typing.specs.Meaning.{typed, faults_then, all_behind, walk, operations, begins_logic, call_from, index_of, meanings}
+use Rattle.al_expr_typing.specs.Meaning.{typed, faults_then, all_after, walk, operations, begins_logic, call_from, index_of, meanings}
 use Rattle.al_expr_typing.specs.Chains.{type_so_far}
 use Rattle.al_expr_typing.proofs.ChainLemmas.{join_stays, operand_stays, so_far_stays}
 use Rattle.al_expr_types.proofs.Stays.{known_stays, type_stays}
@@ -198,7 +198,7 @@ typed_arguments-loop-expr-preserved t c =
     let i = rw r at c.loop-expr.invariant.so_far in
     let e = rw (scope_stays now before c.args.around.scope.now c.loop-expr.invariant.kept c.requires.shown) at c.in_ok-ty.ensures.ok in
     let m = meanings_on sc c.args.around.safe (expr_view x) xs ty (map (argument_at now) as') _ _ e in
-    let a = ap (λ l. all_behind (l ++ (ty, extent (expr_view x)) ∷ []) out (meanings sc c.args.around.safe (arguments_of xs)))
+    let a = ap (λ l. all_after (l ++ (ty, extent (expr_view x)) ∷ []) out (meanings sc c.args.around.safe (arguments_of xs)))
     (arguments_stay next now as' c.in_ok-ty.ensures.kept c.loop-expr.invariant.known) in
     record {
       kept = begins_trans _ _ _ c.loop-expr.invariant.kept c.in_ok-ty.ensures.kept;

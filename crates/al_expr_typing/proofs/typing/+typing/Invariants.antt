@@ -6,7 +6,7 @@ use Rattle.al_expr_types.specs.Tables.{is_known, objects_of, type_at}
 use Rattle.al_expr_typing.specs.Arguments.{are_known, argument_at}
 use Rattle.al_expr_typing.specs.Chains.{has_operand, is_join_known, type_so_far}
 use Rattle.al_expr_typing.specs.Scopes.{IsShown, scope_view}
-use Rattle.al_expr_typing.specs.Meaning.{faults_then, walk, operations, meanings, all_behind}
+use Rattle.al_expr_typing.specs.Meaning.{faults_then, walk, operations, meanings, all_after}
 use Rattle.al_expr_typing.proofs.typing.+typing.Given as goal
 
 abbrev pub invariant-walk-loop-step : goal.invariant-walk-loop-step
@@ -34,7 +34,7 @@ invariant-typed_arguments-loop-expr l = record {
   kept : BeginsWith (objects_of l.types) (objects_of l.initial.types);
   shown : IsShown l.types l.around.scope.now;
   known : are_known l.types l.arguments.items ≡ true;
-  so_far : all_behind (map (argument_at l.types) l.arguments.items) l.faults
+  so_far : all_after (map (argument_at l.types) l.arguments.items) l.faults
       (meanings (scope_view l.initial.types l.around.scope.now) l.around.safe (arguments_of (map expr_view (drop l.expr-index l.exprs))))
-      ≡ all_behind [] l.initial.faults (meanings (scope_view l.initial.types l.around.scope.now) l.around.safe (arguments_of (map expr_view l.exprs)));
+      ≡ all_after [] l.initial.faults (meanings (scope_view l.initial.types l.around.scope.now) l.around.safe (arguments_of (map expr_view l.exprs)));
 }

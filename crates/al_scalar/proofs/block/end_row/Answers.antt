@@ -21,6 +21,6 @@ returns c =
     record {
       text = row-final c.push_run.new.self c.push_joint.new.text lit c.args.style.chomping last es (cells_between bytes from stop) old b (some-between bytes from stop less) spaced
           (c.in_ok-push_joint.ensures ∙ ap (λ xs. old ++ joint lit last xs (row_like b [])) c.deref-2.ensures.value) c.in_ok-push_run.ensures;
-      within = (omega (arith, c.requires.behind, less), omega arith);
+      within = (omega (arith, c.requires.after, less), omega arith);
       end = sym (last_end-between bytes from stop c.args.state.now.end less);
     }

@@ -8,7 +8,7 @@ use Rattle.al_scalar.proofs.block.read_rows.Goals as goal
 pub rows-init : goal.rows-init
 rows-init c = record {
   from = omega arith;
-  behind = c.requires.order;
+  after = c.requires.order;
   inside = c.requires.inside;
   rows = ap (λ es. with_text c.args.text.now (rest_of c.args.style c.args.style.explicit None es c.args.header (lines_at c.args.bytes.now c.args.at))) (sym c.new.ensures.items);
 }
@@ -32,7 +32,7 @@ rows-preserved c =
     let start : RowStarts bytes i style.indent c.rows.found (Some c.in-Some.row) = subst (λ r. RowStarts bytes i style.indent c.rows.found r) c.in-Some.is c.row_start.ensures in
     record {
       from = omega (arith, c.rows.invariant.from, c.in_ok-add_row.ensures.within.0);
-      behind = omega (arith, c.in_ok-add_row.ensures.within.1, c.after_break-i.ensures.after);
+      after = omega (arith, c.in_ok-add_row.ensures.within.1, c.after_break-i.ensures.after);
       inside = c.after_break-i.ensures.inside;
       rows = rows-more c.add_row.new.text c.rows.text style.literal style.chomping style.indent c.rows.found c.in-Some.row.is_blank
           (last_row was.last) (last_row is.last) was.empties.items is.empties.items was.end is.end bytes i c.in-Some.row.from c.line_end-stop.result c.after_break-i.result

@@ -7,7 +7,7 @@ use Rattle.al_scalar.proofs.block.read_rows.Given as goal
 abbrev pub invariant-rows : goal.invariant-rows
 invariant-rows l = record {
   from : l.header ≤ l.state.end;
-  behind : l.state.end ≤ l.i;
+  after : l.state.end ≤ l.i;
   inside : l.i ≤ length l.bytes;
   rows : with_text l.initial.text (rest_of l.style l.style.explicit None [] l.header (lines_at l.bytes l.at))
       ≡ with_text l.text (rest_of l.style l.found (last_row l.state.last) l.state.empties.items l.state.end (lines_at l.bytes l.i));

@@ -41,9 +41,9 @@ pub returns-clause-wrong_digit : goal.returns-clause-wrong_digit
 unfolding lib.Utf8.encode
 returns-clause-wrong_digit c = refl
 
-pub returns-clause-digit_behind_break : goal.returns-clause-digit_behind_break
+pub returns-clause-digit_after_break : goal.returns-clause-digit_after_break
 unfolding lib.Utf8.encode
-returns-clause-digit_behind_break c = refl
+returns-clause-digit_after_break c = refl
 
 pub returns-clause-cut_escape : goal.returns-clause-cut_escape
 unfolding lib.Utf8.encode

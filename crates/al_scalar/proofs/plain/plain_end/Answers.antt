@@ -11,7 +11,7 @@ returns-then-ends_plain-clause-part c =
     let p = context_of c.args.context in
     let end = c.words.end in
     let found = c.blanks_end-solid in
-    part_done p c.args.after_blank c.words.behind_blank bytes c.args.at end found.result c.words.invariant.part
+    part_done p c.args.after_blank c.words.blank_before bytes c.args.at end found.result c.words.invariant.part
     (run_at bytes end found.result (cells_between bytes end found.result) found.ensures.lines)
     found.ensures.blanks found.ensures.from (c.if-ends_plain.ensures)
 
@@ -23,7 +23,7 @@ words-preserved-then-is_word c =
     record {
       from = omega (arith, c.words.invariant.from);
       inside = omega (arith, word.0);
-      part = part_word bytes end word (context_of c.args.context) c.args.after_blank c.words.behind_blank c.args.at c.words.invariant.part c.words.invariant.from;
+      part = part_word bytes end word (context_of c.args.context) c.args.after_blank c.words.blank_before c.args.at c.words.invariant.part c.words.invariant.from;
       same = same_then c.words.invariant.same (same_word bytes end word);
     }
 
@@ -41,7 +41,7 @@ words-preserved c =
     record {
       from = omega (arith, found.ensures.from, c.words.invariant.from);
       inside = omega (arith, inside);
-      part = part_more p c.args.after_blank c.words.behind_blank bytes c.args.at end solid c.words.invariant.part run found.ensures.blanks
+      part = part_more p c.args.after_blank c.words.blank_before bytes c.args.at end solid c.words.invariant.part run found.ensures.blanks
           c.words.invariant.from found.ensures.from found.ensures.inside not_end
           (found.ensures.not_blank inside) (c.if-ends_plain.ensures);
       same = same_then c.words.invariant.same (same_then run.same (cell_at bytes solid inside here.not_feed here.not_return).same);

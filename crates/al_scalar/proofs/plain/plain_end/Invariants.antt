@@ -11,7 +11,7 @@ invariant-words l = record {
   from : l.at ≤ l.end;
   inside : l.end ≤ length l.bytes;
   part : plain_part (context_of l.context) l.after_blank (text_at l.bytes l.at)
-      ≡ in_front (cells_between l.bytes l.at l.end) (plain_part (context_of l.context) l.behind_blank (text_at l.bytes l.end));
+      ≡ in_front (cells_between l.bytes l.at l.end) (plain_part (context_of l.context) l.blank_before (text_at l.bytes l.end));
   same : SameLine (lines_at l.bytes l.at) (lines_at l.bytes l.end);
 }
 

@@ -49,10 +49,10 @@ check_entries-loop-i-preserved t c =
     (all_keys c.args.index.now c.first-all.result es _ c.requires c.first-all.ensures (omega arith))
     ∙ ap (standing ks (among before) all) (c.key_at.ensures.key ∙ text_there key_of entry_view c.args.index.now.entries.now es i e c.requires.0 c.loop-i-test.true c.index-entries-i.is) in
     let here : Standing → List Fault = λ st. entry_faults st (entry_view e).0 (λ s. faults s (takes_null s) (key_of (entry_view e)) (entry_view e).1) in
-    let behind : List _ → List Fault = λ ks'. entries_faults ks ks' all (entries_of left) in
-    ap (λ l. l ++ behind (keys_in (map entry_view (take (i + 1) es)))) c.in_ok-check_entry.ensures
-    ∙ ap (λ st. (out ++ here st) ++ behind (keys_in (map entry_view (take (i + 1) es)))) stands
-    ∙ ap (λ before'. (out ++ here (standing ks (among before) all (key_of (entry_view e)))) ++ behind before') more
-    ∙ append_assoc out (here (standing ks (among before) all (key_of (entry_view e)))) (behind (before ++ key_of (entry_view e) ∷ []))
+    let after : List _ → List Fault = λ ks'. entries_faults ks ks' all (entries_of left) in
+    ap (λ l. l ++ after (keys_in (map entry_view (take (i + 1) es)))) c.in_ok-check_entry.ensures
+    ∙ ap (λ st. (out ++ here st) ++ after (keys_in (map entry_view (take (i + 1) es)))) stands
+    ∙ ap (λ before'. (out ++ here (standing ks (among before) all (key_of (entry_view e)))) ++ after before') more
+    ∙ append_assoc out (here (standing ks (among before) all (key_of (entry_view e)))) (after (before ++ key_of (entry_view e) ∷ []))
     ∙ ap (λ l. out ++ entries_faults ks before all (entries_of l)) (sym rest)
     ∙ c.loop-i.invariant

@@ -1,5 +1,5 @@
 use Rattle.std.proofs.Common.{◌-◌, ◌∙◌, drop, length, sym, take}
-use Rattle.al_tree.proofs.Dollars.{begins, behind, from_dollar, no_dollar}
+use Rattle.al_tree.proofs.Dollars.{begins, after, from_dollar, no_dollar}
 use Rattle.al_tree.proofs.scalars.contains_chunk.Goals as goal
 
 pub returns-then-starts_with : goal.returns-then-starts_with
@@ -12,7 +12,7 @@ pub dollars-preserved : goal.dollars-preserved
 dollars-preserved c =
     let rest = c.dollars.rest.now in
     let found = take (length rest - c.in-Some.at) (drop c.in-Some.at rest) in
-    sym (behind found (sym c.starts_with.ensures.value ∙ c.if-starts_with.false)) ∙ sym (from_dollar rest c.in-Some.at c.in-Some.ensures.0) ∙ c.dollars.invariant
+    sym (after found (sym c.starts_with.ensures.value ∙ c.if-starts_with.false)) ∙ sym (from_dollar rest c.in-Some.at c.in-Some.ensures.0) ∙ c.dollars.invariant
 
 pub returns : goal.returns
 returns c = sym (sym c.dollars.invariant ∙ no_dollar c.dollars.rest.now c.in_default.ensures)

@@ -14,19 +14,19 @@ returns-in_err-step-clause-is c = λ first whole deep now.
     rw (p.1, p.2) (inside-stops bytes first whole outer (state_of c.args.progress.now.state) c.args.collection.opening (open_of c.args.collection.has)
     c.args.at c.args.depth (omega (arith, deep, frames-length bytes outer)) now c.requires.at c.in_err-step.field-0.0 c.in_err-step.ensures.is)
 
-pub returns-in-Behind-clause-is : goal.returns-in-Behind-clause-is
-returns-in-Behind-clause-is c = λ first whole deep now.
+pub returns-in-AfterNode-clause-is : goal.returns-in-AfterNode-clause-is
+returns-in-AfterNode-clause-is c = λ first whole deep now.
     let bytes = c.args.file.now.bytes.now in
     let outer = c.args.progress.now.stack.flows in
-    let found = rw c.in-Behind.is at c.in_ok-step.ensures.is in
-    let within = rw c.in-Behind.is at c.in_ok-step.ensures.within in
+    let found = rw c.in-AfterNode.is at c.in_ok-step.ensures.is in
+    let within = rw c.in-AfterNode.is at c.in_ok-step.ensures.within in
     step-keeps bytes first whole outer (state_of c.args.progress.now.state) c.args.collection.opening (open_of c.args.collection.has) c.args.at
     c.args.depth (omega (arith, deep, frames-length bytes outer)) now (state_of c.read_inside.new.state) (open_of c.read_inside.new.has)
-    c.in-Behind.next c.requires.at found within.0
+    c.in-AfterNode.next c.requires.at found within.0
 
-pub returns-in-Behind-clause-within : goal.returns-in-Behind-clause-within
-returns-in-Behind-clause-within c =
-    let within = rw c.in-Behind.is at c.in_ok-step.ensures.within in
+pub returns-in-AfterNode-clause-within : goal.returns-in-AfterNode-clause-within
+returns-in-AfterNode-clause-within c =
+    let within = rw c.in-AfterNode.is at c.in_ok-step.ensures.within in
     record {
       blocks = refl;
       outer = c.requires.outer;

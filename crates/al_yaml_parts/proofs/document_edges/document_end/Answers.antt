@@ -3,7 +3,7 @@ use Rattle.al_scalar.specs.Places.{text_at}
 use Rattle.al_scalar.proofs.LineCells.{lines-at_end}
 use Rattle.al_scalar.proofs.RestLemmas.{start-at}
 use Rattle.al_yaml_parts.proofs.ContentLemmas.{skipped-solid}
-use Rattle.al_yaml_parts.proofs.DocumentLemmas.{marker-behind}
+use Rattle.al_yaml_parts.proofs.DocumentLemmas.{marker-after}
 use Rattle.al_yaml_parts.proofs.document_edges.document_end.Goals as goal
 
 pub returns-then-line-bytes-clause-is : goal.returns-then-line-bytes-clause-is
@@ -16,10 +16,10 @@ returns-then-is_marker-clause-is c =
     let text = line.ensures.text (omega (arith, line.ensures.inside, c.if-line-bytes.false)) in
     rw (line.ensures.lines, ← skipped-solid (text_at c.args.bytes.now line.result) text, ← c.if-is_marker.ensures, start-at c.args.bytes.now line.result line.ensures.inside) refl
 
-pub check_nothing_behind-requires : goal.check_nothing_behind-requires
-check_nothing_behind-requires c =
+pub check_nothing_after-requires : goal.check_nothing_after-requires
+check_nothing_after-requires c =
     let line = c.next_text_line-line in
-    (marker-behind c.args.bytes.now line.result 46 line.ensures.inside c.if-is_marker-2.ensures).1
+    (marker-after c.args.bytes.now line.result 46 line.ensures.inside c.if-is_marker-2.ensures).1
 
 pub returns-then-is_marker-2-clause-is : goal.returns-then-is_marker-2-clause-is
 returns-then-is_marker-2-clause-is c =
@@ -30,8 +30,8 @@ returns-then-is_marker-2-clause-is c =
       ← skipped-solid (text_at c.args.bytes.now line.result) text,
       ← c.if-is_marker.ensures,
       ← c.if-is_marker-2.ensures,
-      (marker-behind c.args.bytes.now line.result 46 line.ensures.inside c.if-is_marker-2.ensures).0,
-    ) c.check_nothing_behind.ensures.is
+      (marker-after c.args.bytes.now line.result 46 line.ensures.inside c.if-is_marker-2.ensures).0,
+    ) c.check_nothing_after.ensures.is
 
 pub returns-then-begins-clause-is : goal.returns-then-begins-clause-is
 returns-then-begins-clause-is c =

@@ -1,6 +1,6 @@
 use Rattle.std.proofs.Common.{refl}
 use Rattle.al_scalar.proofs.RestLemmas.{start-at}
-use Rattle.al_yaml_parts.proofs.DocumentLemmas.{marker-behind}
+use Rattle.al_yaml_parts.proofs.DocumentLemmas.{marker-after}
 use Rattle.al_yaml_parts.proofs.document_edges.document_start.Goals as goal
 
 pub returns-then-begins-clause-is : goal.returns-then-begins-clause-is
@@ -8,10 +8,10 @@ returns-then-begins-clause-is c =
     let line = c.next_text_line-line in
     rw (line.ensures.lines, ← c.if-begins.ensures.value, start-at c.args.bytes.now line.result line.ensures.inside) refl
 
-pub line_behind-requires : goal.line_behind-requires
-line_behind-requires c =
+pub line_after-requires : goal.line_after-requires
+line_after-requires c =
     let line = c.next_text_line-line in
-    (marker-behind c.args.bytes.now line.result 45 line.ensures.inside c.if-is_marker.ensures).1
+    (marker-after c.args.bytes.now line.result 45 line.ensures.inside c.if-is_marker.ensures).1
 
 pub returns-then-is_marker-clause-is : goal.returns-then-is_marker-clause-is
 returns-then-is_marker-clause-is c =
@@ -20,8 +20,8 @@ returns-then-is_marker-clause-is c =
       line.ensures.lines,
       ← c.if-begins.ensures.value,
       ← c.if-is_marker.ensures,
-      (marker-behind c.args.bytes.now line.result 45 line.ensures.inside c.if-is_marker.ensures).0,
-    ) c.line_behind.ensures.is
+      (marker-after c.args.bytes.now line.result 45 line.ensures.inside c.if-is_marker.ensures).0,
+    ) c.line_after.ensures.is
 
 pub returns-clause-is : goal.returns-clause-is
 returns-clause-is c = rw (c.next_text_line-line.ensures.lines, ← c.if-begins.ensures.value, ← c.if-is_marker.ensures) refl

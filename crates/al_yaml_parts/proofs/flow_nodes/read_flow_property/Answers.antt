@@ -44,7 +44,7 @@ returns-in_ok-complete-in-Node-clause-is c = λ col.
     (property-anchor col (flow_slot c.args.slot) c.args.depth bytes c.args.at c.gap_end.result c.requires.inside c.if-has_no_name.ensures
     c.if-begins.ensures.value (ap (gap false) c.property_end.ensures.lines ∙ c.gap_end.ensures.lines))
     ∙ completing-noted bytes (Some c.args.at) (state_of c.args.state.now) _ ∙ ap (noting (mark_of bytes (Some c.args.at))) (found c.args.depth col)
-    ∙ noted-part bytes (Some c.args.at) c.in-Node.part c.in_ok-complete-in-Node.field-0 (state_of c.read_behind_anchor.new.state) (state_of c.complete.new.state)
+    ∙ noted-part bytes (Some c.args.at) c.in-Node.part c.in_ok-complete-in-Node.field-0 (state_of c.read_after_anchor.new.state) (state_of c.complete.new.state)
     c.in_ok-complete-in-Node.ensures.part c.in_ok-complete-in-Node.ensures.state
 
 pub returns-in-Opens-clause-is : goal.returns-in-Opens-clause-is
@@ -56,4 +56,4 @@ returns-in-Opens-clause-is c = λ col.
     (property-anchor col (flow_slot c.args.slot) c.args.depth bytes c.args.at c.gap_end.result c.requires.inside c.if-has_no_name.ensures
     c.if-begins.ensures.value (ap (gap false) c.property_end.ensures.lines ∙ c.gap_end.ensures.lines))
     ∙ completing-noted bytes (Some c.args.at) (state_of c.args.state.now) _ ∙ ap (noting (mark_of bytes (Some c.args.at)))
-    (found c.args.depth col ∙ ap (λ a. noting (mark_of bytes a) (run (state_of c.read_behind_anchor.new.state) (col c.args.depth (lines_at bytes c.in-Opens.bracket.at)))) bare)
+    (found c.args.depth col ∙ ap (λ a. noting (mark_of bytes a) (run (state_of c.read_after_anchor.new.state) (col c.args.depth (lines_at bytes c.in-Opens.bracket.at)))) bare)

@@ -12,7 +12,7 @@ returns-in_err-read-clause-is c = let p = err_from_is_err_and c.from_residual.re
 
 pub returns-in-Some-clause-is : goal.returns-in-Some-clause-is
 returns-in-Some-clause-is c = key-given (key_scalar (lines_at c.args.file.now.bytes.now c.args.at))
-    (read_of c.args.file.now.bytes.now c.in_ok-read.read) (Some (lines_at c.args.file.now.bytes.now c.in-Some.behind))
+    (read_of c.args.file.now.bytes.now c.in_ok-read.read) (Some (lines_at c.args.file.now.bytes.now c.in-Some.after))
     c.in_ok-read.ensures.is c.in-Some.ensures.0
 
 pub returns-in-None-clause-is : goal.returns-in-None-clause-is

@@ -16,9 +16,9 @@ returns c =
     let parted = IsPartitionedBy-leb (λ x. x) starts offset (subst IsNonDecreasing (sym same) c.requires) in
     let point : IsPartitionPoint (λ (x : ℕ). leb x offset ≡ true) (λ (x : ℕ). leb x offset ≡ false) starts r = IsPartitionPoint-from_clause
     (λ p. leb p offset) _ _ c.partition_point.ensures.partitioned parted (λ a r q k. search rules) in
-    subst (λ (s : List ℕ). record { bound : r ≤ length s; up_to : (k : ℕ) → k < r → get_or s k 0 ≤ offset; behind : (k : ℕ) → r ≤ k → k < length s → offset < get_or s k 0 }) same
+    subst (λ (s : List ℕ). record { bound : r ≤ length s; up_to : (k : ℕ) → k < r → get_or s k 0 ≤ offset; after : (k : ℕ) → r ≤ k → k < length s → offset < get_or s k 0 }) same
     (record {
       bound = c.partition_point.ensures.bound;
       up_to = λ k h. leb-true _ _ (point.0 k 0 (omega arith) h);
-      behind = λ k l h. leb-false _ _ (point.1 k 0 l h);
+      after = λ k l h. leb-false _ _ (point.1 k 0 l h);
     })

@@ -9,10 +9,10 @@ count_up_to-requires c = subst IsNonDecreasing (sym c.requires.made) (starts_to-
 pub overflow_cast-result : goal.overflow_cast-result
 overflow_cast-result c =
     let e = c.count_up_to.ensures in
-    let found = line_of c.args.bytes.now c.args.self.now c.args.offset c.count_up_to.result c.requires.made c.requires.within e.bound e.up_to e.behind in
+    let found = line_of c.args.bytes.now c.args.self.now c.args.offset c.count_up_to.result c.requires.made c.requires.within e.bound e.up_to e.after in
     omega (arith, found.small)
 
 pub returns : goal.returns
 returns c =
     let e = c.count_up_to.ensures in
-    sym (line_of c.args.bytes.now c.args.self.now c.args.offset c.count_up_to.result c.requires.made c.requires.within e.bound e.up_to e.behind).is
+    sym (line_of c.args.bytes.now c.args.self.now c.args.offset c.count_up_to.result c.requires.made c.requires.within e.bound e.up_to e.after).is

@@ -1,6 +1,6 @@
 use Rattle.std.proofs.Common.{◌-◌, List, ℕ, None, ap, drop, get_or, length, map, arith}
 use Rattle.std.proofs.Math.Seq.{drop-length}
-use Rattle.al_check_contexts.specs.Answered.{behind_of}
+use Rattle.al_check_contexts.specs.Answered.{call_outputs}
 use Rattle.al_check_contexts.specs.Lookups.{found_at}
 use Rattle.al_check_contexts.specs.declared.known.Answer.{Answer}
 use Rattle.al_check_contexts.specs.declared.known.Outputs.{Outputs}
@@ -13,8 +13,8 @@ loop-rest-init c =
     let answers = c.args.known.answers.now in
     record {
       within = omega arith;
-      found = none_found (record { positions = c.new-positions.result; lists = c.args.known.lists }) (map (behind_of lists) (drop (length answers) answers))
-          c.new-positions.ensures.empty (ap (map (behind_of lists)) (drop-length answers));
+      found = none_found (record { positions = c.new-positions.result; lists = c.args.known.lists }) (map (call_outputs lists) (drop (length answers) answers))
+          c.new-positions.ensures.empty (ap (map (call_outputs lists)) (drop-length answers));
     }
 
 pub loop-rest-preserved : goal.loop-rest-preserved

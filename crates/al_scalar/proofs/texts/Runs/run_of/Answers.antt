@@ -1,7 +1,7 @@
 use Rattle.std.proofs.Common.{◌≡◌, ◌∙◌, ◌+◌, ◌-◌, ◌/◌, ◌<◌, ◌≤◌, ℕ, List, ◌∷◌, length, get_or, take, refl, subst, sym, ap, arith, false}
 use Rattle.al_scalar.specs.Private.Segments.{first_run, offset_after, offset_from, offset_at, IsRising}
 use Rattle.al_scalar.specs.declared.texts.Segment.{Segment}
-use Rattle.al_scalar.proofs.RunLemmas.{after-behind, search-all, search-below, search-none, search-found}
+use Rattle.al_scalar.proofs.RunLemmas.{after-after, search-all, search-below, search-none, search-found}
 use Rattle.al_scalar.proofs.texts.Runs.run_of.Goals as goal
 
 -- the runs after the first one
@@ -13,8 +13,8 @@ viewed : (first : Segment) (at i : ℕ) (ss rest view : List Segment) → first 
 viewed first at i ss rest view f e v =
     ap (λ s. offset_from (offset_after 0 s i) rest i) f ∙ ap (λ xs. offset_from (offset_after 0 (first_run at) i) xs i) e ∙ ap (λ xs. offset_at xs i) v
 
-first-behind : (first : Segment) (at i : ℕ) → first ≡ first_run at → first.index ≤ i
-first-behind first at i f = let none : 0 ≤ i = omega arith in subst (λ s. s.index ≤ i) (sym f) none
+first-after : (first : Segment) (at i : ℕ) → first ≡ first_run at → first.index ≤ i
+first-after first at i f = let none : 0 ≤ i = omega arith in subst (λ s. s.index ≤ i) (sym f) none
 
 pub halves-init : goal.halves-init
 halves-init c =
@@ -26,12 +26,12 @@ halves-preserved-then-rest-middle c =
     let low = c.halves.low in
     let high = c.halves.high in
     let middle : ℕ = low + (high - low) / 2 in
-    let behind : middle ≡ (middle + 1) - 1 = omega arith in
+    let after : middle ≡ (middle + 1) - 1 = omega arith in
     let rest : List Segment = c.as_slice-rest.result.now in
     record {
       order = let less : low + (high - low) / 2 < high = omega (arith, c.halves-test.true) in omega (arith, less);
       inside = c.halves.invariant.inside;
-      below = λ h. subst (λ k. (get_or rest k (record { index = 0; offset = 0; moves = false })).index ≤ c.args.i) behind c.if-rest-middle.true;
+      below = λ h. subst (λ k. (get_or rest k (record { index = 0; offset = 0; moves = false })).index ≤ c.args.i) after c.if-rest-middle.true;
       above = c.halves.invariant.above;
     }
 
@@ -49,8 +49,8 @@ halves-preserved c =
           c.requires) c.if-rest-middle.false less c.halves.invariant.inside c.halves.invariant.above;
     }
 
-pub returns-then-low-eq0-clause-behind : goal.returns-then-low-eq0-clause-behind
-returns-then-low-eq0-clause-behind c = first-behind c.first-first.result c.self.inside.first c.args.i c.first-first.ensures
+pub returns-then-low-eq0-clause-after : goal.returns-then-low-eq0-clause-after
+returns-then-low-eq0-clause-after c = first-after c.first-first.result c.self.inside.first c.args.i c.first-first.ensures
 
 pub returns-then-low-eq0-clause-offset : goal.returns-then-low-eq0-clause-offset
 returns-then-low-eq0-clause-offset c =
@@ -58,7 +58,7 @@ returns-then-low-eq0-clause-offset c =
     let rest = c.as_slice-rest.result.now in
     let inside = c.self.inside in
     let high : c.halves.high ≡ 0 = omega (arith, c.if-low-eq0.true, c.halves-test.false) in
-    sym (after-behind 0 first c.args.i (first-behind first inside.first c.args.i c.first-first.ensures))
+    sym (after-after 0 first c.args.i (first-after first inside.first c.args.i c.first-first.ensures))
     ∙ search-none (offset_after 0 first c.args.i) rest c.args.i c.halves.high high c.halves.invariant.above
     ∙ viewed first inside.first c.args.i inside.rest.items rest c.args.self.now c.first-first.ensures c.as_slice-rest.ensures.value c.self.view_is
 

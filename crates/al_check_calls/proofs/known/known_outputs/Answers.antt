@@ -1,13 +1,13 @@
 use Rattle.std.proofs.Common.{◌++◌, ap, arith, map}
-use Rattle.al_check_contexts.specs.Answered.{behind_of}
+use Rattle.al_check_contexts.specs.Answered.{call_outputs}
 use Rattle.al_check_calls.specs.Private.KnownLists.{lists_of}
 use Rattle.al_check_calls.proofs.KnownLists.{all_known, one_known}
-use Rattle.al_check_calls.proofs.known.known_behind.Goals as goal
+use Rattle.al_check_calls.proofs.known.known_outputs.Goals as goal
 
 pub loop-one-init : goal.loop-one-init
 loop-one-init c = λ naming named. (
   c.new-lists.ensures naming,
-  λ more. ap (map (behind_of (lists_of c.new-lists.result ++ more))) c.new-answers.ensures.items,
+  λ more. ap (map (call_outputs (lists_of c.new-lists.result ++ more))) c.new-answers.ensures.items,
 )
 
 pub loop-one-preserved : goal.loop-one-preserved

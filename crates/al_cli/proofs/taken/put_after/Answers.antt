@@ -4,7 +4,7 @@ use Rattle.std.proofs.lemmas.Result.{err_from_is_err_and}
 use Rattle.al_session.specs.Folder.{Folder}
 use Rattle.al_cli.specs.Private.Kept.{entries_in}
 use Rattle.al_cli.proofs.Keeping.{kept_more}
-use Rattle.al_cli.proofs.taken.put_behind.Goals as goal
+use Rattle.al_cli.proofs.taken.put_after.Goals as goal
 
 -- a push succeeds if there is room, and appends the element
 pushed : {T E A : Type 0} (r : Result T E) (fails pushes : Bool) (len room : ℕ) (old between new : List A) (x : A) → fails ≡ false → is_ok r ≡ not fails

@@ -4,7 +4,7 @@ use Rattle.al_scalar.proofs.RestLemmas.{start-at}
 use Rattle.al_yaml_tree.specs.Flow.{flow_content}
 use Rattle.al_yaml_parts.specs.FlowReads.{flow_slot}
 use Rattle.al_yaml_parts.proofs.RunLemmas.{run-fails}
-use Rattle.al_yaml_parts.proofs.flow_nodes.read_behind_anchor.Goals as goal
+use Rattle.al_yaml_parts.proofs.flow_nodes.read_after_anchor.Goals as goal
 
 pub returns-then-is_text_end-clause-is : goal.returns-then-is_text_end-clause-is
 returns-then-is_text_end-clause-is c = λ depth col. rw (c.at.ensures.is, ← c.if-is_text_end.ensures.text) (run-fails _ _ _)

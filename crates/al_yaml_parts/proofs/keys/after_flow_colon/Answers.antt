@@ -1,5 +1,5 @@
 use Rattle.al_yaml_parts.proofs.KeyLemmas.{flow_found, quoted_found}
-use Rattle.al_yaml_parts.proofs.keys.behind_flow_colon.Goals as goal
+use Rattle.al_yaml_parts.proofs.keys.after_flow_colon.Goals as goal
 
 pub returns : goal.returns
 returns c =

@@ -5,7 +5,7 @@ use Rattle.al_check_interfaces.specs.CallViews.{call_of}
 use Rattle.al_yaml_tree.specs.View.{view}
 use Rattle.al_check_calls.proofs.Short.{all_short}
 use Rattle.al_check_calls.proofs.Told.{told_by_uses}
-use Rattle.al_check_calls.proofs.files.behind_faults.Goals as goal
+use Rattle.al_check_calls.proofs.files.faults_with_answers.Goals as goal
 
 pub check_with_answers-requires-clause-short : goal.check_with_answers-requires-clause-short
 check_with_answers-requires-clause-short c =

@@ -1,6 +1,6 @@
 use Rattle.std.proofs.Common.{false, true}
 use Rattle.al_yaml_parts.proofs.KeyLemmas.{block-ends, block_found, block_missed}
-use Rattle.al_yaml_parts.proofs.keys.behind_colon.Goals as goal
+use Rattle.al_yaml_parts.proofs.keys.after_colon.Goals as goal
 
 pub returns-then-not-is_blank_or_end : goal.returns-then-not-is_blank_or_end
 returns-then-not-is_blank_or_end c =

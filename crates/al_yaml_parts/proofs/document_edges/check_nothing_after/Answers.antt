@@ -3,7 +3,7 @@ use Rattle.al_scalar.specs.Places.{text_at}
 use Rattle.al_scalar.proofs.LineCells.{lines-at_end}
 use Rattle.al_scalar.proofs.RestLemmas.{start-at}
 use Rattle.al_yaml_parts.proofs.ContentLemmas.{skipped-solid}
-use Rattle.al_yaml_parts.proofs.document_edges.check_nothing_behind.Goals as goal
+use Rattle.al_yaml_parts.proofs.document_edges.check_nothing_after.Goals as goal
 
 pub returns-then-line-bytes-clause-is : goal.returns-then-line-bytes-clause-is
 returns-then-line-bytes-clause-is c =
