@@ -15,7 +15,7 @@ use Rattle.al_graph.proofs.FilterMaps.{put_after, put_first}
 use Rattle.al_graph.proofs.Labels.{labels_same}
 use Rattle.al_tree.proofs.Lists.{left_next}
 use Rattle.al_rules.specs.Private.Components.{has_label_of, labelled_fault, labelled_faults, named_by}
-use Rattle.al_rules.specs.Needs.{AddsAllNeeds, AddsNeeds, AreNeedsFaults, undefined_job, leads_back, leads_on, no_needs, and_need}
+use Rattle.al_rules.specs.Needs.{AddsAllNeeds, AddsNeeds, AreNeedsFaults, undefined_job, closes_cycle, closes_no_cycle, no_needs, and_need}
 use Rattle.al_rules.specs.Needs.{IsNeedFaults, NeedEntry, all_needs, cycle_fault, needs_in, needs_lists, needs_of}
 use Rattle.al_base.specs.NamePlaces.{name_place}
 use Rattle.al_tree.specs.Keys.{keys_in}
@@ -36,8 +36,8 @@ module _ (position : List ℕ → Option ℕ) (graph : List (List ℕ)) (labels 
     (below : (j k : ℕ) → Edge graph j k → k < length graph) where
   by_label : (n : NeedEntry) (j : ℕ) (b : Bool) → (b ≡ true → Walk graph j n.job) → (Walk graph j n.job → b ≡ true)
       → IsNeedFaults (Walk graph) n (Some j) (cond b (cycle_fault n ∷ []) [])
-  by_label n j true f g = leads_back j (f refl)
-  by_label n j false f g = leads_on j (λ w. absurd (cc (g w)))
+  by_label n j true f g = closes_cycle j (f refl)
+  by_label n j false f g = closes_no_cycle j (λ w. absurd (cc (g w)))
 
   entry_is : (n : NeedEntry) (o : Option ℕ) → n.job < length graph → ((j : ℕ) → o ≡ Some j → Edge graph n.job j)
       → IsNeedFaults (Walk graph) n o (labelled_fault labels n o)

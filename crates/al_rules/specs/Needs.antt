@@ -40,8 +40,8 @@ cycle_fault n = rule_fault NeedsCycle n.text.span (n.key.text ∷ n.text.text �
 -- The fault of an entry: its job isn't defined; there is a walk of needs from that job back to this one; or none.
 pub data IsNeedFaults (Leads : ℕ → ℕ → Type 0) (n : NeedEntry) : Option ℕ → List Fault → Type 0 where
   undefined_job : IsNeedFaults Leads n None (about UndefinedJob n.text)
-  leads_back : (j : ℕ) → Leads j n.job → IsNeedFaults Leads n (Some j) (cycle_fault n ∷ [])
-  leads_on : (j : ℕ) → ¬ Leads j n.job → IsNeedFaults Leads n (Some j) []
+  closes_cycle : (j : ℕ) → Leads j n.job → IsNeedFaults Leads n (Some j) (cycle_fault n ∷ [])
+  closes_no_cycle : (j : ℕ) → ¬ Leads j n.job → IsNeedFaults Leads n (Some j) []
 
 -- the faults of entries, one after another
 pub data AreNeedsFaults (position : List ℕ → Option ℕ) (Leads : ℕ → ℕ → Type 0) : List NeedEntry → List Fault → Type 0 where

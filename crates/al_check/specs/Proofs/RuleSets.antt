@@ -8,7 +8,7 @@ use Rattle.al_graph.specs.Within.{leads}
 use Rattle.al_base.specs.NamePlaces.{name_place}
 use Rattle.al_base.specs.declared.faults.Fault.{Fault}
 use Rattle.al_rules.specs.Needs.{AreNeedsFaults, IsNeedFaults, NeedEntry, all_needs, and_need, cycle_fault}
-use Rattle.al_rules.specs.Needs.{leads_back, leads_on, needs_faults, no_needs, tested_faults, undefined_job}
+use Rattle.al_rules.specs.Needs.{closes_cycle, closes_no_cycle, needs_faults, no_needs, tested_faults, undefined_job}
 use Rattle.al_rules.specs.Rules.{AreRuleFaults}
 use Rattle.al_tree.specs.Keys.{keys_in}
 use Rattle.al_tree.specs.Files.{jobs_of}
@@ -20,8 +20,8 @@ use Rattle.al_check.specs.RuleFaults.{needs_graph, rule_faults}
 module _ (graph : List (List ℕ)) where
   by_test : (n : NeedEntry) (j : ℕ) (b : Bool) → leads graph j n.job ≡ b
       → IsNeedFaults (Walk graph) n (Some j) (cond b (cycle_fault n ∷ []) [])
-  by_test n j true e = leads_back j (walk_of graph (suc (length graph)) j n.job e)
-  by_test n j false e = leads_on j (λ w. false≢true (sym e ∙ leads_of graph n.job j w))
+  by_test n j true e = closes_cycle j (walk_of graph (suc (length graph)) j n.job e)
+  by_test n j false e = closes_no_cycle j (λ w. false≢true (sym e ∙ leads_of graph n.job j w))
 
   need_holds : (n : NeedEntry) (o : Option ℕ) → IsNeedFaults (Walk graph) n o (tested_faults (λ j. leads graph j n.job) n o)
   need_holds n None = undefined_job
