@@ -97,7 +97,7 @@ pub enum RuleCode {
     PasswordNotExpression,
     /// G17: a workflow command that is deprecated.
     DeprecatedCommand,
-    /// G18: a condition that is always true, since text stands beside its expression.
+    /// G18: a condition that is always true, since there is text beside its expression.
     AlwaysTrue,
     /// G19: an input type that is not known.
     UnknownInputType,

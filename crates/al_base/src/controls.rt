@@ -5,7 +5,7 @@ ghost use Rattle.al_base.specs.Printable.{printable, printable_byte};
 
 use std::alloc::{AllocError, Global};
 
-/// Where the first control byte of a text stands.
+/// The offset of the first control byte of a text, if there is one.
 pub fn first_control(text: &[u8]) -> Option<usize>
     ensures { MatchOption result (All (λ b. is_ascii_control b ≡ false) text.now)
         (λ at. (at < length text.now) × All (λ b. is_ascii_control b ≡ false) (take at text.now)

@@ -1,4 +1,4 @@
-//! What all other crates stand on. Six jobs, each with its modules:
+//! What all other crates build on. Six jobs, each with its modules:
 //!
 //! - faults, in `codes`, `args`, `faults`, `sink`, `lists` and `copies`: a span, a code and the texts of a message; where they go as they
 //!   are found; their order, and a file's list of them

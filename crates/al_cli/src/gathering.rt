@@ -68,7 +68,7 @@ impl<T: Drop> From<AllocFailed<T>> for Unread {
 /// workflows of the folder in order of path; and then, one after another, each file that those before it call and that is
 /// there. Of what the folder lists only regular files are taken, with links followed; anything else of a name can't be read. A
 /// listed or called file to which links lead out of the folder is passed over, and can't be read where the words name it. Each path
-/// stands in the list once, and [`lint_all`](crate::lint_all) refuses none of the files; the folder that they make there is the one that
+/// is in the list once, and [`lint_all`](crate::lint_all) refuses none of the files; the folder that they make there is the one that
 /// [`load`] answers.
 ///
 /// # Errors

@@ -92,7 +92,7 @@ fn join_objects(alloc: Global, arrays: u32, m: u32, n: u32) -> Result<Join, Allo
 }
 
 /// Whether this object is at a position.
-fn stands_at(objects: &[u32], i: usize, n: u32) -> bool
+fn is_object_at(objects: &[u32], i: usize, n: u32) -> bool
     ensures { IsTrue result → Contains objects.now n }
 {
     if i >= objects.len() {
@@ -106,7 +106,7 @@ fn is_among_first(objects: &[u32], n: u32) -> bool
     ensures { IsTrue result → Contains objects.now n }
 {
     for i in 0..objects.len().min(MOST_SCANNED) {
-        if stands_at(objects, i, n) {
+        if is_object_at(objects, i, n) {
             return true;
         }
     }
@@ -133,7 +133,7 @@ impl ObjectJoin {
             return true;
         }
         match self.places.get(&n) {
-            Some(i) => stands_at(self.objects.as_slice(), *i, n),
+            Some(i) => is_object_at(self.objects.as_slice(), *i, n),
             None => false,
         }
     }

@@ -76,7 +76,7 @@ impl Eq for Name {
     ghost laws = { nat_list_eq_equiv };
 }
 
-/// Names in order, and where each stands among them. It owns them, so that types of many files can share it. Contracts see the list of
+/// Names in order, and the position of each. It owns them, so that types of many files can share it. Contracts see the list of
 /// their bytes.
 #[derive(Drop)]
 pub struct NameList {
@@ -108,7 +108,7 @@ fn bytes_of(alloc: Global, names: &[Name]) -> Result<Vec<&[u8]>, AllocError>
     Ok(bytes)
 }
 
-/// Where each name first stands. Fails with `AllocError` when out of memory.
+/// The first position of each name. Fails with `AllocError` when out of memory.
 fn positions_of(alloc: Global, names: &[Name]) -> Result<NamePositions, AllocError>
     ensures position { IfOk result (λ p. name_position p ≡ name_place names.now) }
     ensures first { IfOk result (λ p. TellsFirsts (name_place names.now) names.now (is_first_name p)) }

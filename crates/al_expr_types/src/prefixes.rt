@@ -65,7 +65,7 @@ fn are_one_object(a: Ty, b: Ty) -> bool
 }
 
 /// Whether this object is at a position.
-fn stands_at(types: &[Ty], i: usize, ty: Ty) -> bool
+fn is_object_at(types: &[Ty], i: usize, ty: Ty) -> bool
     ensures { IsTrue result → Contains types.now ty }
 {
     if i >= types.len() {
@@ -75,7 +75,7 @@ fn stands_at(types: &[Ty], i: usize, ty: Ty) -> bool
 }
 
 /// Whether an object occurs before a position. If it is missed, it is only taken twice.
-fn stands_before(types: &[Ty], firsts: &[usize], i: usize, ty: Ty) -> bool
+fn is_object_before(types: &[Ty], firsts: &[usize], i: usize, ty: Ty) -> bool
     requires { i ≤ length types.now }
     ensures { IsTrue result → Contains (take i types.now) ty }
 {
@@ -83,7 +83,7 @@ fn stands_before(types: &[Ty], firsts: &[usize], i: usize, ty: Ty) -> bool
         return false;
     }
     let before = &types[..i];
-    stands_at(before, firsts[i], ty)
+    is_object_at(before, firsts[i], ty)
 }
 
 /// The types from one position to another, without objects that occur before.
@@ -107,7 +107,7 @@ fn new_types(
     let mut own = Vec::new(alloc);
     for i in from..to {
         let ty = types[i];
-        if !stands_before(types, firsts, i, ty) {
+        if !is_object_before(types, firsts, i, ty) {
             own.push(ty)?;
         }
     }

@@ -49,7 +49,7 @@ fn is_refused_key(bytes: &[u8], spot: Spot, next: usize) -> bool
     !is_after_key(spot) && has_colon(bytes, next)
 }
 
-/// Whether an anchor or alias stands on a key, as none on the line of its own key does.
+/// Whether an anchor or alias is on a key, as none on the line of its own key does.
 fn is_on_block_key(file: &File, spot: Spot, at: usize) -> Result<bool, AllocError>
     requires inside { at ≤ size file.now }
     requires property { content.is_property (text_at file.now.bytes.now at) ≡ true }

@@ -53,7 +53,7 @@ block_rest turns bound depth start column (entries done key) ls =
 abbrev pub closed_sequence : ℕ → Nodes → Part Node → State → Answer (Part Node)
 closed_sequence start done x s = Ok (part (sequence (with_item done x.value) (span start x.end)) x.end x.left, s)
 
--- what stands on the next line of a sequence, and of a mapping, in its column
+-- what is on the next line of a sequence, and of a mapping, in its column
 
 abbrev pub more_items : BlockReader → CollectionReader → ℕ → Bool → ℕ → ℕ → Part Nodes → List Line → Reading (Part Nodes)
 more_items node collection turns in_mapping column depth now left =

@@ -29,7 +29,7 @@ Inside bytes depth whole fs n opening has at = IsInnermost (flow_goes depth) (le
 abbrev pub AfterNode : List ℕ → ℕ → NodeAnswer → List Frame → State → code.Part → Type 0
 AfterNode bytes depth whole fs n p = IsInnermost (flow_goes depth) (length bytes) whole fs p.next (λ bound turns. Ok (part_of bytes p, n))
 
--- What stands next in the innermost collection.
+-- What comes next in the innermost collection.
 abbrev pub Keeps : List ℕ → ℕ → NodeAnswer → List FlowFrame → State → ℕ → Open → After → Type 0
 Keeps bytes depth whole stack n opening has (after.GoesOn at) = Inside bytes depth whole (map (frame_of bytes) stack) n opening has at
 Keeps bytes depth whole stack n opening has (after.Closes end) =

@@ -81,7 +81,7 @@ Opens bytes depth at s has (after.Closes end) t =
     (bound : ℕ) → run s (flow.flow_collection (suc bound) depth (lines_at bytes at))
     ≡ Ok (part (closed_of at has end) end (lines_at bytes end), t)
 
--- what stands first in it
+-- what comes first in it
 abbrev pub IsFirst : List ℕ → ℕ → ℕ → After → Type 0
 IsFirst bytes close at (after.GoesOn inside) = inside ≡ at
 IsFirst bytes close at (after.Closes end) = (end ≡ at + 1) × (true ≡ begins close (text_at bytes at))

@@ -31,7 +31,7 @@ pub data Open : Type 0 where
   entries : Entries → Open
 
 -- What a flow collection waits with while a node in it is read: the items before it; or the entries before it and the
--- key whose value it is. A collection that is read as a key stands at a place.
+-- key whose value it is. A collection that is read as a key has a place.
 pub data Waiting : Type 0 where
   item : Nodes → Waiting
   value : Entries → ScalarRead → Waiting

@@ -8,7 +8,7 @@ use Rattle.al_expr_types.specs.declared.ty.Ty.{Ty}
 use Rattle.al_expr_types.proofs.Below.{all_at, all_more}
 use Rattle.al_expr_types.proofs.PrefixLemmas.{IsAfter, after_more, after_none, after_same}
 use Rattle.al_expr_types.proofs.prefixes.new_types.Goals as goal
-use Rattle.al_expr_types.proofs.prefixes.new_types.Goals.{then-not-stands_before+in_ok-push, else-not-stands_before}
+use Rattle.al_expr_types.proofs.prefixes.new_types.Goals.{then-not-is_object_before+in_ok-push, else-not-is_object_before}
 
 pub loop-i-init : goal.loop-i-init
 loop-i-init c = record {
@@ -24,19 +24,19 @@ loop-i-preserved c =
     let ty : Ty = get_or ts i any in
     let lt : i < length ts = omega (arith, c.loop-i-test.true, c.requires.to) in
     let is = get_or_default ts i any ty lt in
-    elim c.if-not-stands_before.branch [
-      | then-not-stands_before+in_ok-push w ↦
+    elim c.if-not-is_object_before.branch [
+      | then-not-is_object_before+in_ok-push w ↦
           let items = ap (λ v. v.items) w.own-is ∙ w.in_ok-push.ensures.items in
           record {
-            part = after_more ts c.loop-i.own.items c.if-not-stands_before.own.items c.args.from i ty lt is items c.loop-i.invariant.part;
+            part = after_more ts c.loop-i.own.items c.if-not-is_object_before.own.items c.args.from i ty lt is items c.loop-i.invariant.part;
             below = λ k h. ap (list_all (is_below k)) items
                 ∙ all_more (is_below k) c.loop-i.own.items ty (c.loop-i.invariant.below k h) (all_at (is_below k) ts i any lt h);
           }
-      | else-not-stands_before w ↦
+      | else-not-is_object_before w ↦
           let items = ap (λ v. v.items) w.own-is in
           record {
             part = subst (λ own. IsAfter ts c.args.from own (i + 1)) (sym items)
-                (after_same ts c.loop-i.own.items c.args.from i ty lt is (c.stands_before.ensures w.if-not-stands_before.false) c.loop-i.invariant.part);
+                (after_same ts c.loop-i.own.items c.args.from i ty lt is (c.is_object_before.ensures w.if-not-is_object_before.false) c.loop-i.invariant.part);
             below = λ k h. ap (list_all (is_below k)) items ∙ c.loop-i.invariant.below k h;
           }
     ]

@@ -3,7 +3,7 @@ use Rattle.std.proofs.lemmas.List.{get_or_default}
 use Rattle.al_expr_types.specs.declared.ty.Base.TheVariants as base
 use Rattle.al_expr_types.specs.declared.ty.Scalar.TheVariants as scalar
 use Rattle.al_expr_types.specs.declared.ty.Ty.{Ty}
-use Rattle.al_expr_types.proofs.prefixes.stands_at.Goals as goal
+use Rattle.al_expr_types.proofs.prefixes.is_object_at.Goals as goal
 
 pub returns : goal.returns
 returns c = λ h.
