@@ -8,12 +8,10 @@ ghost use Rattle.al_expr_types.specs.Joining.{is_join_below, join_in, object_joi
 ghost use Rattle.al_expr_types.specs.Types.{are_below, arrays_of, base_type, is_below, object_in, type_in};
 ghost use Rattle.al_expr_types.specs.declared.ty.Base.TheVariants as base;
 
+use crate::names::MOST_SCANNED;
 use crate::ty::{Base, Scalar, Ty};
 use std::alloc::{AllocError, Global};
 use std::collections::BTreeMap;
-
-/// Up to this many objects are searched one by one, which takes no memory. Of more, the positions are kept.
-const MOST_SCANNED: usize = 64;
 
 /// What some types have in common.
 #[derive(Drop)]

@@ -9,8 +9,8 @@ use crate::name_index::NameIndex;
 use al_base::is_same_name;
 use std::alloc::{AllocError, Global};
 
-/// Up to this many names are searched one by one, which takes no memory. Of more there is an index.
-const MOST_SCANNED: usize = 64;
+/// Up to this many names, or objects, are searched one by one, which takes no memory. Of more, the positions are kept.
+pub(crate) const MOST_SCANNED: usize = 64;
 
 /// The names of fields in order, each once, ignoring ASCII case. They are borrowed from a file.
 #[derive(Drop)]

@@ -30,8 +30,8 @@ pub data Open : Type 0 where
   items : Nodes → Open
   entries : Entries → Open
 
--- What a flow collection waits with while a node in it is read: the items before it; or the entries before it and the
--- key whose value it is. A collection that is read as a key has a place.
+-- What a flow collection waits with while a node in it is read: the items before it; the entries before it and the key
+-- whose value it is; or the offset of a collection in the place of a key.
 pub data Waiting : Type 0 where
   item : Nodes → Waiting
   value : Entries → ScalarRead → Waiting
