@@ -16,7 +16,7 @@ import sys
 import tempfile
 
 from release import clone, failed, run
-from running import CALLED, CALLER, MISSING_INPUT, WORKFLOWS, exit_status, report, skip, write_files
+from running import CALLED, CALLER, MISSING_INPUT, WORKFLOWS, run_in_room, write_files
 
 WORDS = ["--oneline", "--root", "--session", "--help"]
 # Of what is on the pages, by command.
@@ -189,18 +189,5 @@ def cases(program, room):
         yield f"completed-by-{name}", wrong
 
 
-def main():
-    if len(sys.argv) != 2:
-        print("packages.py PROGRAM", file=sys.stderr)
-        return 2
-    with tempfile.TemporaryDirectory(prefix="actionlint-packages-") as room:
-        for name, wrong in cases(pathlib.Path(sys.argv[1]).resolve(), pathlib.Path(room)):
-            if wrong is None:
-                skip(name, "a command isn't there")
-            else:
-                report(name, "-", wrong)
-    return exit_status()
-
-
 if __name__ == "__main__":
-    sys.exit(main())
+    sys.exit(run_in_room(cases))

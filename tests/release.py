@@ -14,12 +14,11 @@ import shutil
 import subprocess
 import sys
 import tarfile
-import tempfile
 import textwrap
 
 from copying import TOP, carry, commit, copy_files
 from links import broken_links
-from running import CLEAN, NOBODY, WORKFLOWS, exit_status, report, show
+from running import CLEAN, NOBODY, WORKFLOWS, run_in_room, show
 
 
 def run(words, **how):
@@ -231,15 +230,5 @@ def cases(program, room):
     yield "wrong-words", words(first, program, room)
 
 
-def main():
-    if len(sys.argv) != 2:
-        print("release.py PROGRAM", file=sys.stderr)
-        return 2
-    with tempfile.TemporaryDirectory(prefix="actionlint-release-") as room:
-        for name, wrong in cases(pathlib.Path(sys.argv[1]).resolve(), pathlib.Path(room)):
-            report(name, "-", wrong)
-    return exit_status()
-
-
 if __name__ == "__main__":
-    sys.exit(main())
+    sys.exit(run_in_room(cases))

@@ -241,3 +241,18 @@ def run_parts(*parts):
     finally:
         place.remove()
     return exit_status()
+
+
+def run_in_room(cases):
+    """Runs cases over the program that the arguments name, in an empty folder; answers the status. A case is its name with what is wrong,
+    or None if a command that it needs isn't there."""
+    if len(sys.argv) != 2:
+        print(f"{os.path.basename(sys.argv[0])} PROGRAM", file=sys.stderr)
+        return 2
+    with tempfile.TemporaryDirectory(prefix="actionlint-test-") as room:
+        for name, wrong in cases(pathlib.Path(sys.argv[1]).resolve(), pathlib.Path(room)):
+            if wrong is None:
+                skip(name, "a command isn't there")
+            else:
+                report(name, "-", wrong)
+    return exit_status()

@@ -4,7 +4,7 @@ from __future__ import annotations
 from bisect import bisect_left, bisect_right
 from dataclasses import dataclass, field
 from itertools import chain
-from typing import Container, Iterable
+from typing import Callable, Container, Iterable
 
 from .report import SNIPPET_LINES, BadReport, Fault, marked_width, parse_fault
 
@@ -147,13 +147,13 @@ class FaultReader:
         return {path for path in {*before, *after} if before.get(path) != after.get(path)}
 
     def _differing_parts(self, report: bytes) -> tuple[int, int]:
-        """The first file of the report before of which another report may say something else, and the one behind the last."""
-        first = bisect_right(self._ends, _common_front(self._report, report))
-        # What the two begin with may be followed by one more line of the same file, and what they end with may follow one.
+        """The range of files on which another report may differ from this one: the first, and the one after the last."""
+        first = bisect_right(self._ends, _common_prefix(self._report, report))
+        # One more line of the same file may follow the common prefix, or come before the common suffix.
         if first and report.startswith(self._prefix(first - 1), self._ends[first - 1]):
             first -= 1
         begin = self._end_before(first)
-        back = len(self._report) - _common_back(self._report[begin:], report[begin:])
+        back = len(self._report) - _common_suffix(self._report[begin:], report[begin:])
         last = max(first, bisect_left(self._ends, back) + 1 if back else 0)
         between = report[begin:self._end_before(last) + len(report) - len(self._report)]
         if last < len(self._paths) and between and (
@@ -189,24 +189,24 @@ def _add_lines(parts: list[Part], lines: list[bytes], form: Form) -> None:
         part.length += step + sum(map(len, lines[at:at + step]))
 
 
-def _common_front(first: bytes, second: bytes) -> int:
+def _common_prefix(first: bytes, second: bytes) -> int:
     """The length of the longest common prefix."""
-    low, high = 0, min(len(first), len(second))
-    while low < high:
-        middle = (low + high + 1) // 2
-        if first[low:middle] == second[low:middle]:
-            low = middle
-        else:
-            high = middle - 1
-    return low
+    return _greatest(min(len(first), len(second)), lambda low, high: first[low:high] == second[low:high])
 
 
-def _common_back(first: bytes, second: bytes) -> int:
+def _common_suffix(first: bytes, second: bytes) -> int:
     """The length of the longest common suffix."""
-    low, high = 0, min(len(first), len(second))
+    return _greatest(min(len(first), len(second)),
+                     lambda low, high: first[len(first) - high:len(first) - low] == second[len(second) - high:len(second) - low])
+
+
+def _greatest(most: int, are_equal: Callable[[int, int], bool]) -> int:
+    """The greatest length of a common part, by bisection: `are_equal` compares from one length to another, so each byte is compared about
+    once."""
+    low, high = 0, most
     while low < high:
         middle = (low + high + 1) // 2
-        if first[len(first) - middle:len(first) - low] == second[len(second) - middle:len(second) - low]:
+        if are_equal(low, middle):
             low = middle
         else:
             high = middle - 1

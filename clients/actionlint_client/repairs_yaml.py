@@ -10,7 +10,9 @@ from .repairs_expressions import chosen
 from .text import Point, Span
 
 FLOW_ITEM = re.compile(r"[^,\[\]{}]*")
+COLON_WITHOUT_SPACE = re.compile(r"^ *(?:- +)?[A-Za-z_][\w-]*:(?=[^\s/:])")
 DASH_WITHOUT_SPACE = re.compile(r"^( *)-(?=[A-Za-z_][\w-]*:(?: |$))")
+FIRST_WORD = re.compile(r"^ *(?:- +)?([A-Za-z_][\w-]*)(?= |$)")
 KEY_IN_BRACKETS = re.compile(r"\s*[\w-]+: +")
 IN_QUOTES = re.compile(r"'[^']*'|\"[^\"]*\"")
 CLOSERS = {"[": "]", "{": "}"}
@@ -192,28 +194,23 @@ def moved_line(case: Case) -> Iterable[Repair]:
 
 def with_space(case: Case) -> Iterable[Repair]:
     """A space after a colon or a dash that has none."""
-    number = case.span.start.line
-    for line in (number, number - 1):
-        text = case.lines[line] if line >= 0 else ""
-        match = re.match(r"^( *(?:- +)?[A-Za-z_][\w-]*):(?=[^\s/:])", text)
-        if match:
-            here = Point(line, match.end())
-            yield case.replace("add a space after the colon", " ", Span.at(here))
-        match = DASH_WITHOUT_SPACE.match(text)
-        if match:
-            here = Point(line, match.end())
-            yield case.replace("add a space after the dash", " ", Span.at(here))
+    for place, match in _after_match(case, COLON_WITHOUT_SPACE, DASH_WITHOUT_SPACE):
+        yield case.replace(f"add a space after the {'colon' if match[0].endswith(':') else 'dash'}", " ", place)
 
 
 def with_colon(case: Case) -> Iterable[Repair]:
     """A colon after a word that is alone on its line, or before the value on it."""
+    for place, match in _after_match(case, FIRST_WORD):
+        yield case.replace(f'add a colon after "{match[1]}"', ":", place)
+
+
+def _after_match(case: Case, *patterns: re.Pattern[str]) -> Iterable[tuple[Span, re.Match[str]]]:
+    """The matches of patterns on the fault's line and on the one above it, and the empty span after each."""
     number = case.span.start.line
     for line in (number, number - 1):
-        text = case.lines[line] if line >= 0 else ""
-        match = re.match(r"^ *(?:- +)?([A-Za-z_][\w-]*)(?= |$)", text)
-        if match:
-            here = Point(line, match.end())
-            yield case.replace(f'add a colon after "{match[1]}"', ":", Span.at(here))
+        for pattern in patterns:
+            if line >= 0 and (match := pattern.match(case.lines[line])):
+                yield Span.at(Point(line, match.end())), match
 
 
 def single_quotes(case: Case) -> Iterable[Repair]:

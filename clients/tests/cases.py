@@ -2,6 +2,7 @@
 modules of the clients and their libraries available to the test."""
 from __future__ import annotations
 
+import os
 import sys
 import time
 import traceback
@@ -38,7 +39,7 @@ class Cases:
             print(f"{sys.argv[0]} PROGRAM [NAME...]; names are {', '.join(self.all)}", file=sys.stderr)
             return 2
         names = words[1:] or [name for name in self.all if name not in self.only_by_name]
-        return 0 if all([self._is_right(name, words[0]) for name in names]) else 1
+        return 0 if all([self._is_right(name, os.path.abspath(words[0])) for name in names]) else 1
 
     def _is_right(self, name: str, program: str) -> bool:
         begun = time.monotonic()

@@ -232,13 +232,13 @@ PLACES = {
     "braces over lines without a header": (JOB + "    name: x ${{ github.ref ==\n      github.r|", {"ref"}, {"name"}),
     "where an operator is wanted": (JOB + "    if: always() |", set(), {"github", "always"}),
     "where an operator is wanted over lines": (JOB + "    if: always()\n      |", set(), {"github", "always", "name"}),
-    "behind an operator": (JOB + "    if: always() && !|", {"github", "always"}, set()),
+    "after an operator": (JOB + "    if: always() && !|", {"github", "always"}, set()),
     "an argument": (JOB + "    if: contains(github.ref, |", {"github"}, set()),
     "below a value": (JOB + "    runs-on: u\n      |", set(), {"group", "name"}),
     "below an entry in brackets": (JOB + "    steps:\n      - {run: x}\n        |", set(), {"name"}),
     "below an anchor": (JOB + "    steps: &a\n      - &b\n        |", {"run", "name"}, set()),
     "no expressions in uses": (JOB + "    steps:\n      - uses: x@${{ |", set(), {"github"}),
-    "keys behind a script with a bracket": (JOB + "    steps:\n      - run: |\n          a: [\n        |", {"shell", "env"}, {"run"}),
+    "keys after a script with a bracket": (JOB + "    steps:\n      - run: |\n          a: [\n        |", {"shell", "env"}, {"run"}),
     "nothing in a script": (JOB + "    steps:\n      - run: |\n          na|", set(), {"name", "github"}),
 }
 
@@ -250,10 +250,14 @@ def project_of(texts: dict[str, str]) -> Project:
 
 def offered(text: str, file: str = FILE, folder: dict[str, str] = FOLDER) -> list[Offer]:
     """The offers at the last `|` of a text."""
-    at = text.rindex("|")
-    before, text = text[:at], text[:at] + text[at + 1:]
+    before, _, after = text.rpartition("|")
+    return offers_between(before, after, file, folder)[1]
+
+
+def offers_between(before: str, after: str, file: str = FILE, folder: dict[str, str] = FOLDER) -> tuple[Span, list[Offer]]:
+    """The offers between the two parts of a text, and the span that they replace."""
     point = Point(before.count("\n"), len(before) - before.rfind("\n") - 1)
-    return offers(project_of({**folder, file: text}), file, point)[1]
+    return offers(project_of({**folder, file: before + after}), file, point)
 
 
 @CASES.case
@@ -293,15 +297,12 @@ jobs:
     linter = Linter(program, FOLDER)
     for line, label in (("    - cron: '0 0 * * *'", "cron"), ("          - os: b", "os"), ("      - run: x", "run"),
                         ("      - run: x", "uses")):
-        text = whole.replace(line, line[:line.index("-")] + "|")
-        before = text[:text.index("|")]
-        changed = text.replace("|", "")
-        point = Point(before.count("\n"), len(before) - before.rfind("\n") - 1)
-        span, found = offers(project_of({**FOLDER, FILE: changed}), FILE, point)
+        before, after = whole.replace(line, line[:line.index("-")] + "|").split("|")
+        span, found = offers_between(before, after)
         offer = next(offer for offer in found if offer.label == label)
         assert offer.text == f"- {label}: ", offer
         value = {"cron": "'0 0 * * *'", "uses": "actions/checkout@v4"}.get(label, "a")
-        assert not linter.faults(FILE, put(changed, span, offer.text + value)[0]), (line, label)
+        assert not linter.faults(FILE, put(before + after, span, offer.text + value)[0]), (line, label)
 
 
 @CASES.case
@@ -367,8 +368,8 @@ def touches(text: str, fault: Fault, start: int, end: int) -> bool:
 
 @CASES.case
 def each_is_taken(program: str) -> None:
-    """Of words of files without fault a part is typed; each offer there is put in, and the linter finds no fault at its place,
-    but of what has to follow."""
+    """A part of a word in a clean file is typed. Each offer there is inserted, and the linter finds no fault at its place, except for what
+    has to follow."""
     chance = random.Random(int(os.environ.get("SEED", "1")))
     linter = Linter(program, FOLDER)
     for path, text in FOLDER.items():
@@ -378,42 +379,41 @@ def each_is_taken(program: str) -> None:
     while count < PUTS:
         path, start, end = chance.choice(tokens)
         whole = FOLDER[path]
-        typed = chance.randrange(end - start + 1)
-        text = whole[:start + typed] + whole[end:]
-        before = text[:start + typed]
-        point = Point(before.count("\n"), len(before) - before.rfind("\n") - 1)
-        span, found = offers(project_of({**FOLDER, path: text}), path, point)
-        for offer in chance.sample(found, min(len(found), 6)):
-            count += 1
-            check_put(linter, path, text, span, offer)
+        typed = start + chance.randrange(end - start + 1)
+        count += check_some(linter, path, whole[:typed], whole[end:], chance, 6)
         linter.faults(path, whole)
 
 
 @CASES.case
 def each_is_taken_on_a_new_line(program: str) -> None:
-    """Between all lines of files without fault a new one is begun at each indent; what is offered there has no fault either."""
+    """A new line is begun at each indentation between all lines of clean files. What is offered there causes no fault either."""
     chance = random.Random(int(os.environ.get("SEED", "1")))
     linter = Linter(program, FOLDER)
     count = 0
     for path, whole in FOLDER.items():
         lines = whole.split("\n")
         for number, indent in itertools.product(range(len(lines)), range(0, 14, 2)):
-            text = "\n".join([*lines[:number], " " * indent, *lines[number:]])
-            span, found = offers(project_of({**FOLDER, path: text}), path, Point(number, indent))
-            for offer in chance.sample(found, min(len(found), 2)):
-                count += 1
-                check_put(linter, path, text, span, offer)
+            before, after = "\n".join([*lines[:number], " " * indent]), "".join("\n" + line for line in lines[number:])
+            count += check_some(linter, path, before, after, chance, 2)
             linter.faults(path, whole)
     assert count > PUTS / 2, count
 
 
+def check_some(linter: Linter, path: str, before: str, after: str, chance: random.Random, most: int) -> int:
+    """Checks some of the offers between the two parts of a text; answers how many."""
+    span, found = offers_between(before, after, path)
+    chosen = chance.sample(found, min(len(found), most))
+    for offer in chosen:
+        check_put(linter, path, before + after, span, offer)
+    return len(chosen)
+
+
 def check_put(linter: Linter, path: str, text: str, span: Span, offer: Offer) -> None:
-    """Puts in an offer, and behind an object one of its properties until there is none."""
+    """Inserts an offer; after an object also one of its properties, until it has none."""
     changed, start, end = put(text, span, offer.text)
     while offer.kind in ("module", "property"):
         before = changed[:end] + "."
-        point = Point(before.count("\n"), len(before) - before.rfind("\n") - 1)
-        further = offers(project_of({**FOLDER, path: before + changed[end:]}), path, point)[1]
+        further = offers_between(before, changed[end:], path)[1]
         if not further:
             break
         offer = further[0]

@@ -1,5 +1,5 @@
 #!/usr/bin/env python3
-"""Which linter the clients run: the first that there is of five, and where there is none one message says what names one.
+"""Which linter the clients run: the first of five that exists; if none does, one message says how to name one.
 
     lookup.py PROGRAM [NAME...]
 """
@@ -12,6 +12,7 @@ import sys
 import tempfile
 import time
 from pathlib import Path
+from typing import Sequence
 
 from cases import Cases
 from clones_and_releases import PATH
@@ -45,6 +46,12 @@ runpy.run_path(sys.argv[0], run_name="__main__")
 """
 
 
+def ran(words: Sequence[str | Path], **how) -> tuple[int, str, str]:
+    """Runs a program without input; answers its status and both streams."""
+    done = subprocess.run(words, stdin=subprocess.DEVNULL, stdout=subprocess.PIPE, stderr=subprocess.PIPE, text=True, check=False, **how)
+    return done.returncode, done.stdout, done.stderr
+
+
 class Tree:
     """Copies of the clients below share/actionlint of a folder, with what may lie around them."""
 
@@ -70,9 +77,9 @@ class Tree:
 
     def found(self, *words: str, folder: str | None = None, **environment: str) -> tuple[int, str, str]:
         """The status and both streams of which-actionlint."""
-        done = subprocess.run([self.top / "clients/which-actionlint", *words], cwd=folder or self.room, stdout=subprocess.PIPE,
-                              stderr=subprocess.PIPE, env={**self.environment, **environment}, text=True, check=False)
-        return done.returncode, done.stdout.removesuffix("\n"), done.stderr.removesuffix("\n")
+        status, out, said = ran([self.top / "clients/which-actionlint", *words], cwd=folder or self.room,
+                                env={**self.environment, **environment})
+        return status, out.removesuffix("\n"), said.removesuffix("\n")
 
     def remove(self) -> None:
         shutil.rmtree(self.room)
@@ -120,18 +127,15 @@ def names(_: str) -> None:
         assert tree.found(wrong) == tree.found(ACTIONLINT=wrong) == (3, "", said), wrong
     link = tree.room / "link"
     link.symlink_to(tree.top / "clients/which-actionlint")
-    done = subprocess.run([link], stdout=subprocess.PIPE, env=tree.environment, text=True, check=True)
-    assert done.stdout == f"{tree.room}/a prefix/bin/actionlint\n", done.stdout
+    assert ran([link], env=tree.environment) == (0, f"{tree.room}/a prefix/bin/actionlint\n", "")
     tree.remove()
 
 
 @CASES.case
 def its_own_tests(_: str) -> None:
     """`clients/test` asks the finder beside it, wherever CDPATH leads."""
-    done = subprocess.run(["clients/test", "/nowhere"], cwd=TOP, env={**os.environ, "CDPATH": "."}, stdout=subprocess.PIPE,
-                          stderr=subprocess.PIPE, text=True, check=False)
-    said = f"cannot start /nowhere: there is no such program; {WHERE}\n"
-    assert (done.returncode, done.stdout, done.stderr) == (3, "", said), done
+    found = ran(["clients/test", "/nowhere"], cwd=TOP, env={**os.environ, "CDPATH": "."})
+    assert found == (3, "", f"cannot start /nowhere: there is no such program; {WHERE}\n"), found
 
 
 @CASES.case
@@ -140,17 +144,14 @@ def reports(program: str) -> None:
     tree = Tree()
     write(str(tree.room / "repository"), FILES)
     command = tree.room / "a prefix/bin/actionlint-report"
+    how = {"cwd": tree.room / "repository", "env": tree.environment}
     command.parent.mkdir()
     command.symlink_to("../share/actionlint/clients/actionlint-report")
-
-    def run() -> subprocess.CompletedProcess:
-        return subprocess.run([command, "--form", "jsonl"], cwd=tree.room / "repository", env=tree.environment, stdout=subprocess.PIPE,
-                              stderr=subprocess.PIPE, text=True, check=False)
-    done = run()
-    assert (done.returncode, done.stdout) == (3, "") and WHERE in done.stderr and done.stderr.count("\n") == 1, done.stderr
+    status, out, said = ran([command, "--form", "jsonl"], **how)
+    assert (status, out) == (3, "") and WHERE in said and said.count("\n") == 1, said
     shutil.copy(program, command.with_name("actionlint"))
-    done = run()
-    assert done.returncode == 1 and '"X13"' in done.stdout and not done.stderr, done
+    status, out, said = ran([command, "--form", "jsonl"], **how)
+    assert status == 1 and '"X13"' in out and not said, (status, out, said)
     tree.remove()
 
 
@@ -187,9 +188,8 @@ def a_relative_program(program: str) -> None:
     with tempfile.TemporaryDirectory(prefix="actionlint-test-") as folder:
         write(folder, FILES)
         shutil.copy(program, folder + "/linter")
-        words = [CLIENTS / "actionlint-report", "--program", "./linter", "--form", "jsonl"]
-        done = subprocess.run(words, cwd=folder, stdout=subprocess.PIPE, text=True, check=False)
-        assert done.returncode == 1 and '"X13"' in done.stdout, done
+        found = ran([CLIENTS / "actionlint-report", "--program", "./linter", "--form", "jsonl"], cwd=folder)
+        assert found[0] == 1 and '"X13"' in found[1], found
         editor = Editor("./linter", os.fsencode(folder), folder=folder)
         editor.settle()
         assert editor.texts(FILE) == [UNDEFINED] and not editor.messages, editor.messages
@@ -200,15 +200,12 @@ def a_relative_program(program: str) -> None:
 def what_python_lacks(program: str) -> None:
     """An old Python is named in one line. The status of a report that it can't make isn't that of faults."""
     for client in ("actionlint-lsp", "actionlint-report"):
-        done = subprocess.run([sys.executable, "-c", OLD_PYTHON, CLIENTS / client, "--program", program], stdin=subprocess.DEVNULL,
-                              stdout=subprocess.PIPE, stderr=subprocess.PIPE, text=True, check=False)
-        said = f"actionlint: the clients need Python 3.9 or later, and {sys.executable} is older\n"
-        assert (done.returncode, done.stdout, done.stderr) == (3, "", said), done
+        found = ran([sys.executable, "-c", OLD_PYTHON, CLIENTS / client, "--program", program])
+        assert found == (3, "", f"actionlint: the clients need Python 3.9 or later, and {sys.executable} is older\n"), found
     tree = Tree()
     (tree.top / "clients/actionlint_client/faults.json").write_text("{", encoding="utf-8")
-    done = subprocess.run([tree.top / "clients/actionlint-report", "--explain", "K1"], stdout=subprocess.PIPE, stderr=subprocess.PIPE,
-                          text=True, check=False)
-    assert done.returncode == 3 and not done.stdout and "JSONDecodeError" in done.stderr, done
+    status, out, said = ran([tree.top / "clients/actionlint-report", "--explain", "K1"])
+    assert (status, out) == (3, "") and "JSONDecodeError" in said, (status, out, said)
     tree.remove()
 
 
@@ -226,14 +223,11 @@ def a_python_without_libyaml(program: str) -> None:
     assert editor.quit() == 0
     words = ["--program", program, "--shellcheck", "--out", "report", "--form", "jsonl"]
     for client, arguments in ((server, []), (report, words)):
-        done = subprocess.run([sys.executable, tree.without(client, ("yaml.cyaml",), "/bin/false"), *arguments], cwd=root,
-                              stdin=subprocess.DEVNULL, stdout=subprocess.PIPE, stderr=subprocess.PIPE, text=True, check=False)
-        said = f"{client.name}: {sys.executable} has no yaml.cyaml (Debian: apt-get install python3-yaml)\n"
-        assert (done.returncode, done.stdout, done.stderr) == (3, "", said), done
+        found = ran([sys.executable, tree.without(client, ("yaml.cyaml",), "/bin/false"), *arguments], cwd=root)
+        assert found == (3, "", f"{client.name}: {sys.executable} has no yaml.cyaml (Debian: apt-get install python3-yaml)\n"), found
     assert sorted(os.listdir(root)) == [".github", "a", "b"]
-    done = subprocess.run([sys.executable, tree.without(report, ("yaml",), "/bin/false"), "--program", program, "--form", "jsonl"], cwd=root,
-                          stdout=subprocess.PIPE, text=True, check=False)
-    assert done.returncode == 1 and '"X13"' in done.stdout, "a report without notes needs no library"
+    found = ran([sys.executable, tree.without(report, ("yaml",), "/bin/false"), "--program", program, "--form", "jsonl"], cwd=root)
+    assert found[0] == 1 and '"X13"' in found[1], "a report without notes needs no library"
     tree.remove()
 
 
@@ -242,10 +236,9 @@ def a_module_of_the_current_folder(program: str) -> None:
     """Where PYTHONPATH puts one before a library, the library is found all the same. (The input is empty, so the server ends at once.)"""
     tree = Tree()
     write(str(tree.room), {"yaml.py": ""})
-    done = subprocess.run([sys.executable, tree.without(CLIENTS / "actionlint-lsp", (), sys.executable), "--program", program], cwd=tree.room,
-                          env={**os.environ, "PYTHONPATH": "."}, stdin=subprocess.DEVNULL, stdout=subprocess.PIPE, stderr=subprocess.PIPE,
-                          timeout=20, text=True, check=False)
-    assert (done.returncode, done.stdout, done.stderr) == (1, "", ""), done
+    found = ran([sys.executable, tree.without(CLIENTS / "actionlint-lsp", (), sys.executable), "--program", program], cwd=tree.room,
+                env={**os.environ, "PYTHONPATH": "."}, timeout=20)
+    assert found == (1, "", ""), found
     tree.remove()
 
 
@@ -256,23 +249,19 @@ def options_of_the_server(program: str) -> None:
     server = tree.top / "clients/actionlint-lsp"
 
     def run(*words: str) -> tuple[int, str, str]:
-        done = subprocess.run([sys.executable, tree.without(server, ALL_MODULES, "/nowhere"), *words], env=tree.environment,
-                              stdout=subprocess.PIPE, stderr=subprocess.PIPE, text=True, check=False)
-        return done.returncode, done.stdout, done.stderr
+        return ran([sys.executable, tree.without(server, ALL_MODULES, "/nowhere"), *words], env=tree.environment)
     assert run("--help")[0] == 0 and "--no-earlier-faults" in run("--help")[1], run("--help")
     assert run("--version")[:2] == (0, "actionlint-lsp without a version\n"), run("--version")
     status, said, errors = run()
     assert (status, said) == (3, "") and "apt-get install python3-pylsp-jsonrpc python3-yaml" in errors and errors.count("\n") == 1, errors
     for word in ("--help", "--version"):
-        done = subprocess.run(["sh", "-c", 'exec "$@" > /dev/full', "sh", server, word], stderr=subprocess.PIPE, text=True, check=False)
-        said = "actionlint-lsp: cannot write standard output: No space left on device\n"
-        assert (done.returncode, done.stderr) == (3, said), done
+        found = ran(["sh", "-c", 'exec "$@" > /dev/full', "sh", server, word])
+        assert found == (3, "", "actionlint-lsp: cannot write standard output: No space left on device\n"), found
     for seconds in ("0", "-1", "nan", "inf", "x"):
         status, said, errors = run(f"--timeout={seconds}")
         assert (status, said) == (2, "") and "argument --timeout" in errors, (seconds, errors)
-    words = [server, "--log", tree.room / "nowhere/log"]
-    done = subprocess.run(words, stdin=subprocess.DEVNULL, stderr=subprocess.PIPE, text=True, check=False)
-    assert (done.returncode, done.stderr) == (2, f"actionlint-lsp: cannot write {tree.room}/nowhere/log: No such file or directory\n"), done
+    found = ran([server, "--log", tree.room / "nowhere/log"])
+    assert found == (2, "", f"actionlint-lsp: cannot write {tree.room}/nowhere/log: No such file or directory\n"), found
     editor = Editor(program, os.fsencode(tree.room), words=("--stdio",))
     assert editor.hello["result"]["serverInfo"]["name"] == "actionlint-lsp" and editor.quit() == 0
     tree.remove()

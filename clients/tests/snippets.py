@@ -230,22 +230,25 @@ def log(place: Place) -> None:
         assert run_lines(place, "log", room) == [1]
 
 
+def finds_a_fault(room: Room, words: list[str], shown: str = UNDEFINED) -> None:
+    status, said = room.run(words)
+    assert status == 1 and shown in said, said
+
+
 @in_each_clone(CASES)
 def pre_commit(place: Place) -> None:
     revision = git(str(place.folder), "-c", f"safe.directory={place.folder}", "rev-parse", "HEAD").strip()
     for text in snippets()["pre-commit"]:
         text = text.replace("https://github.com/OWNER/REPOSITORY", str(place.folder)).replace("COMMIT", revision)
         with place.repository({**FILES, ".pre-commit-config.yaml": text}) as room:
-            status, said = room.run(["pre-commit", "run", "--all-files"])
-            assert status == 1 and UNDEFINED in said, said
+            finds_a_fault(room, ["pre-commit", "run", "--all-files"])
 
 
 @in_each_clone(CASES)
 def local_hook(place: Place) -> None:
     (text,) = of_page("local-hook", place)
     with place.repository({**FILES, ".pre-commit-config.yaml": "repos:\n" + text}) as room:
-        status, said = room.run(["pre-commit", "run", "--all-files"])
-        assert status == 1 and UNDEFINED in said, said
+        finds_a_fault(room, ["pre-commit", "run", "--all-files"])
 
 
 @in_each_clone(CASES)
@@ -253,8 +256,7 @@ def git_hook(place: Place) -> None:
     (text,) = of_page("git-hook", place)
     with place.repository({**FILES, ".git/hooks/pre-commit": text}) as room:
         os.chmod(room.root + "/.git/hooks/pre-commit", 0o755)
-        status, said = room.run(["git", "-c", "user.name=t", "-c", "user.email=t@t", "commit", "--allow-empty", "-m", "change"])
-        assert status == 1 and UNDEFINED in said, said
+        finds_a_fault(room, ["git", "-c", "user.name=t", "-c", "user.email=t@t", "commit", "--allow-empty", "-m", "change"])
 
 
 @in_each_place(CASES)
@@ -263,8 +265,7 @@ def tasks(place: Place) -> None:
     (text,) = of_page("tasks", place)
     (task,) = json.loads(text)["tasks"]
     with place.repository(FILES) as room:
-        status, said = room.run([task["command"], *task["args"]])
-        assert status == 1 and "X13" in said, said
+        finds_a_fault(room, [task["command"], *task["args"]], "X13")
 
 
 @in_each_clone(CASES)
