@@ -154,18 +154,9 @@ pub fn drop_callers(
         && is_caller callers.old c q) }
 {
     for name in names.as_slice() {
-        drop_unless(callers, name.as_str(), others, path);
-    }
-}
-
-// Removes a file from the callers of a candidate, unless the candidate is among the others.
-fn drop_unless(callers: &mut Callers, name: &str, others: &IndexSet<String>, path: &str)
-    ensures { (c q : List ℕ) → is_caller callers.new c q
-        ≡ (not (bytes_eq q path.now && (bytes_eq c name.now && not (contains_text others.now c)))
-        && is_caller callers.old c q) }
-{
-    if !others.contains(name) {
-        drop_caller(callers, name, path);
+        if !others.contains(name.as_str()) {
+            drop_caller(callers, name.as_str(), path);
+        }
     }
 }
 
@@ -175,30 +166,6 @@ pub struct CandidateChange<'a> {
     pub path: &'a str,
     pub before: &'a IndexSet<String>,
     pub after: &'a IndexSet<String>,
-}
-
-// Makes a file, already a caller of the candidates before the change, a caller of those after it too. On failure the callers are
-// unchanged.
-fn index_calls(
-    alloc: Global,
-    callers: &mut Callers,
-    file: &CandidateChange<'_>,
-) -> Result<(), AllocError>
-    requires { (c : List ℕ)
-        → is_caller callers.old c file.now.path.now ≡ contains_text file.now.before.now c }
-    ensures added { OnOk result ((c q : List ℕ) → is_caller callers.new c q
-        ≡ ((bytes_eq q file.now.path.now && contains_text file.now.after.now c)
-        || is_caller callers.old c q)) }
-    ensures as_before { OnErr result
-        ((c q : List ℕ) → is_caller callers.new c q ≡ is_caller callers.old c q) }
-{
-    match add_callers(alloc, callers, file.after, file.path) {
-        Ok(()) => Ok(()),
-        Err(error) => {
-            drop_callers(callers, file.after, file.before, file.path);
-            Err(error)
-        }
-    }
 }
 
 /// Makes a file, so far a caller of the candidates before the change, a caller of exactly those after it.
@@ -219,7 +186,10 @@ pub fn reindex(
     ensures as_before { OnErr result
         ((c q : List ℕ) → is_caller callers.new c q ≡ is_caller callers.old c q) }
 {
-    index_calls(alloc, callers, file)?;
+    if let Err(error) = add_callers(alloc, callers, file.after, file.path) {
+        drop_callers(callers, file.after, file.before, file.path);
+        return Err(error);
+    }
     drop_callers(callers, file.before, file.after, file.path);
     Ok(())
 }

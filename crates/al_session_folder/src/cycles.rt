@@ -107,14 +107,6 @@ pub fn call_graph<L: Lint>(
     Ok(CallGraph { graph, labels })
 }
 
-/// Whether a node has a label.
-fn has_label(labels: &[Option<usize>], node: usize, label: Option<usize>) -> bool
-    requires { node < length labels.now }
-    ensures { result ≡ option_eq nat_eq (slice_index_or labels.now node None) label }
-{
-    labels[node] == label
-}
-
 /// Whether one of these nodes has the label of a node.
 fn has_label_of(nodes: &[usize], labels: &[Option<usize>], node: usize) -> bool
     requires nodes { (k : ℕ) → Contains nodes.now k → k < length labels.now }
@@ -125,7 +117,7 @@ fn has_label_of(nodes: &[usize], labels: &[Option<usize>], node: usize) -> bool
 {
     let label = labels[node];
     for other in nodes {
-        if has_label(labels, *other, label) {
+        if labels[*other] == label {
             return true;
         }
     }

@@ -2,7 +2,6 @@
 
 ghost use Rattle.std.specs.Prelude.{◌≡◌, ◌++◌, ◌==◌, IfOk, OnOk, length, not};
 ghost use Rattle.std.specs.List.{enumerate_from, list_any};
-ghost use Rattle.al_base.specs.FaultLists.{fault_list};
 ghost use Rattle.al_session_folder.specs.Kept.{folder_of, referents};
 ghost use Rattle.al_session_folder.specs.Cycles as cycles;
 ghost use Rattle.al_session_folder.specs.Checked.{AllChecked};
@@ -22,14 +21,6 @@ fn add_references<'a>(faults: &'a [Fault], out: &mut Vec<&'a Fault>) -> Result<(
     Ok(())
 }
 
-// Sorts references to faults in the order of reports, each fault once.
-fn put_in_order(faults: &mut Vec<&Fault>)
-    ensures { referents faults.new.items ≡ fault_list (referents faults.old.items) }
-{
-    faults.sort_unstable();
-    faults.dedup();
-}
-
 // A file's own faults and those of its calls on a call cycle, in the order of reports, each once. Empty if no call is on a cycle.
 fn join_faults<'a>(
     alloc: Global,
@@ -45,7 +36,8 @@ fn join_faults<'a>(
     // The file's own faults are sorted, and few come after its first call, so appending the others makes sorting fast.
     add_references(own, &mut joined)?;
     add_references(call_cycle_faults, &mut joined)?;
-    put_in_order(&mut joined);
+    joined.sort_unstable();
+    joined.dedup();
     Ok(joined)
 }
 

@@ -39,7 +39,10 @@ pub fn missing_paths<L: Lint>(
         add_absent(files, &file.calls.targets, &mut missing)?;
     }
     put_in_order(&mut missing);
-    let paths = copies(alloc, &missing)?;
+    let mut paths = Vec::with_capacity(alloc, missing.len())?;
+    for path in &missing {
+        paths.push(owned_path(alloc, path.as_str())?)?;
+    }
     Ok(paths)
 }
 
@@ -99,15 +102,4 @@ fn put_in_order(paths: &mut Vec<&Path>)
 {
     paths.sort_unstable_by(|one, other| one.as_str().cmp(other.as_str()));
     paths.dedup_by(|one, other| one.as_str() == other.as_str());
-}
-
-// Copies of the paths.
-fn copies(alloc: Global, paths: &[&Path]) -> Result<Vec<Path>, AllocError>
-    ensures { IfOk result (λ copies. copies.items ≡ referents paths.now) }
-{
-    let mut copies = Vec::with_capacity(alloc, paths.len())?;
-    for path in paths {
-        copies.push(owned_path(alloc, path.as_str())?)?;
-    }
-    Ok(copies)
 }

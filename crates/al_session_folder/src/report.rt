@@ -17,18 +17,11 @@ pub fn has_faults<U, I>(files: &Files<U, I>) -> bool
 {
     for index in 0..files.len() {
         let (_, file) = file_number(files, index);
-        if !is_clean(file) {
+        if !file.faults.is_empty() {
             return true;
         }
     }
     false
-}
-
-// Whether a file has no fault.
-fn is_clean<U, I>(file: &KeptFile<U, I>) -> bool
-    ensures { result ≡ (length file.now.faults.items == 0) }
-{
-    file.faults.is_empty()
 }
 
 /// Writes the faults that a report lists, file by file in order of path: each as its line, followed by its snippet unless `oneline` is

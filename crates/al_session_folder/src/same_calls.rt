@@ -17,8 +17,8 @@ fn is_same_target(one: &Target, other: &Target) -> bool
         },
         Target::FirstOf(first, second) => match other {
             Target::Only(_) => false,
-            Target::FirstOf(again, after) => {
-                first.as_str() == again.as_str() && second.as_str() == after.as_str()
+            Target::FirstOf(again, second_again) => {
+                first.as_str() == again.as_str() && second.as_str() == second_again.as_str()
             }
         },
     }

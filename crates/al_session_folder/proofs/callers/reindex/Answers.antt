@@ -4,7 +4,7 @@ use Rattle.indexmap.specs.IndexSet.{contains_text}
 use Rattle.al_session_folder.specs.Kept.{is_caller}
 use Rattle.al_session_folder.proofs.Views.{bytes_same}
 use Rattle.al_session_folder.proofs.Indexing.{undone}
-use Rattle.al_session_folder.proofs.callers.index_calls.Goals as goal
+use Rattle.al_session_folder.proofs.callers.reindex.Goals as goal
 
 pub returns-in-Err-clause-as_before : goal.returns-in-Err-clause-as_before
 returns-in-Err-clause-as_before c =
