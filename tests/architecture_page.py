@@ -1,10 +1,10 @@
 """Compares docs/ARCHITECTURE.md with crates.txt: architecture_page.py TOP [--write].
 
-Each crate of crates.txt has one row in the page's table of crates, whose last column lists the crates and libraries that it stands on, and
-each of the program stands in one row of the table of public ones. docs/layers.dot is the picture of the program's crates in graphviz's
-language, each above those that it stands on, coloured by that row. docs/layers.svg, as graphviz's `dot` draws it, has exactly its nodes and
-arrows. With `--write` the column and both files are written anew, for which `dot` has to be there (Debian's graphviz). The table of what the
-gate costs, on docs/PROVING.md, has rows of crates of crates.txt alone.
+Each crate of crates.txt has one row in the page's table of crates, whose last column lists the crates and libraries it depends on, and each
+crate of the program is in one row of the table of public crates. docs/layers.dot is the picture of the program's crates in graphviz's
+language: each is above those it depends on, and colored by that row. docs/layers.svg, drawn by graphviz's `dot`, has exactly its nodes and
+arrows. `--write` rewrites the column and both files, and needs `dot` (Debian's graphviz). The table on docs/PROVING.md of what the gate
+costs has only crates of crates.txt.
 """
 
 import html
@@ -28,25 +28,25 @@ digraph layers {
 
 
 def crates_in(text):
-    """What each crate of crates.txt stands on, in its order."""
+    """The dependencies of each crate, in the order of crates.txt."""
     lines = [it for it in text.splitlines() if it.strip() and not it.startswith("#")]
     return {name.strip(): below.split() for name, _, below in (it.partition(":") for it in lines)}
 
 
 def rows_of(page):
-    """The crates of the page's table of crates, in its order."""
+    """The crates of the page's table of crates, in order."""
     return [match[1] for line in page[page.index(TABLE) :].splitlines() if (match := ROW.match(line))]
 
 
 def groups_of(page):
-    """For each crate of the table of public ones the row that it stands in."""
+    """For each crate in the table of public crates, its row."""
     lines = page[page.index(PUBLIC) : page.index(TABLE)].splitlines()
     rows = [re.findall(r"`(\w+)`", "".join(line.split("|")[1:3])) for line in lines if line.startswith("| `")]
     return [(name, number) for number, names in enumerate(rows) for name in names]
 
 
 def with_columns(page, crates):
-    """The page with the last column of its tables as crates.txt has it."""
+    """The page with the last column of its tables as in crates.txt."""
 
     def row(line):
         match = ROW.match(line)
@@ -60,7 +60,7 @@ def with_columns(page, crates):
 
 
 def all_below(crates, name):
-    """The crates that a crate stands on, directly or not."""
+    """The direct and indirect dependencies of a crate."""
     found, waiting = set(), [name]
     while waiting:
         new = [it for it in crates.get(waiting.pop(), []) if it in crates and it not in found]
@@ -70,7 +70,7 @@ def all_below(crates, name):
 
 
 def arrows_of(crates, name):
-    """The crates that a crate stands on and that none of the others implies."""
+    """The dependencies of a crate that no other dependency implies."""
     below = [it for it in crates[name] if it in crates]
     return [it for it in below if not any(it in all_below(crates, other) for other in below)]
 
@@ -95,18 +95,18 @@ def drawn_in(svg):
 
 
 def titles_of(dot):
-    """The nodes and arrows that a drawing has to have."""
+    """The nodes and arrows that a drawing must have."""
     nodes = re.findall(r"^  (\w+) \[fillcolor", dot, re.MULTILINE)
     return sorted(nodes + [f"{above}->{below}" for above, below in re.findall(r"^  (\w+) -> (\w+)$", dot, re.MULTILINE)])
 
 
 def read(path):
-    """A file's text, or none where it isn't there."""
+    """A file's text, or None if it doesn't exist."""
     return path.read_text(encoding="utf-8") if path.exists() else ""
 
 
 def differences(top):
-    """What of the page and its picture isn't as crates.txt has it."""
+    """Where the page and its picture differ from crates.txt."""
     crates, page = crates_in(read(top / "crates.txt")), read(top / "docs/ARCHITECTURE.md")
     rows, groups = rows_of(page), groups_of(page)
     grouped = [name for name, _ in groups]
@@ -124,7 +124,7 @@ def differences(top):
 
 
 def write(top):
-    """Writes the column and the picture anew."""
+    """Rewrites the column and the picture."""
     crates, path = crates_in(read(top / "crates.txt")), top / "docs/ARCHITECTURE.md"
     path.write_text(with_columns(read(path), crates), encoding="utf-8")
     dot = top / "docs/layers.dot"

@@ -1,4 +1,4 @@
-"""Files that call one another, made by chance: workflows, reusable workflows and actions, for tests of sessions."""
+"""Random files that call one another (workflows, reusable workflows and actions), for tests of sessions."""
 
 import copy
 
@@ -7,14 +7,14 @@ from running import WORKFLOWS
 NAMES = ["p", "q"]
 CALLERS = [f"{WORKFLOWS}/a.yml", f"{WORKFLOWS}/b.yaml"]
 REUSABLE = [f"{WORKFLOWS}/d.yml", f"{WORKFLOWS}/e.yml"]
-# the second of x is a candidate behind the first
+# the second file of x is a candidate after the first
 ACTIONS = ["x/action.yml", "x/action.yaml", "y/z/action.yml", "action.yml"]
 PATHS = CALLERS + REUSABLE + ACTIONS
 FOLDERS = ["./x", "./y/z", "./"]
 
 
 def candidates_of(uses):
-    """The paths that may answer a call of this text, the first one first."""
+    """The paths that may resolve a call with this text, the first one first."""
     if uses not in FOLDERS:
         return [uses[2:]]
     folder = uses[2:] + "/" if uses != "./" else ""
@@ -22,7 +22,7 @@ def candidates_of(uses):
 
 
 class File:
-    """A file by what a caller sees of it, and by its calls."""
+    """A file: what a caller sees of it, and its calls."""
 
     def __init__(self, chance, path):
         self.path = path
@@ -43,13 +43,13 @@ class File:
         self.jobs = [chance.choice(CALLERS + REUSABLE) for _ in range(chance.randint(0, 2))] if self.path not in ACTIONS else []
 
     def with_other_calls(self, chance):
-        """The same file but for what it calls: no caller sees that."""
+        """The same file with other calls, which no caller sees."""
         other = copy.copy(self)
         other.choose_calls(chance)
         return other
 
     def interface(self):
-        """What the answer of a call is."""
+        """What a call of this file resolves to."""
         if self.broken:
             return "unreadable"
         if self.path in ACTIONS:
@@ -57,7 +57,7 @@ class File:
         return ("callable", self.inputs, self.outputs) if self.callable else "workflow"
 
     def targets(self):
-        """The calls, each by its candidates."""
+        """The calls, each with its candidates."""
         if self.broken:
             return []
         return [candidates_of(it) for it in self.steps] + [[path] for path in self.jobs]
@@ -74,7 +74,7 @@ class File:
         return [indent + "with:", *(f"{indent}  {name}: 1" for name in self.given)] if self.given else []
 
     def step_lines(self, indent, shell):
-        """The steps: calls, and a use of an output of each."""
+        """The steps: calls, each with a use of one of its outputs."""
         for number, folder in enumerate(self.steps):
             yield from (f"{indent}- id: s{number}", f"{indent}  uses: {folder}", *self.with_lines(indent + "  "))
             yield from (f"{indent}- run: echo ${{{{ steps.s{number}.outputs.{self.used} }}}}", *shell)

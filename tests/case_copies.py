@@ -1,4 +1,4 @@
-"""Checks that no two cases of a folder, with those below it, are the same, in input, words and output: case_copies.py FOLDER.."""
+"""Checks that no two cases below a folder have the same input, arguments and output: case_copies.py FOLDER.."""
 
 import pathlib
 import sys
@@ -7,12 +7,12 @@ from run_cases import cases_in, words_of
 
 
 def content(case):
-    """All that makes a case, but its name."""
+    """Everything that makes a case, except its name."""
     return case.read_bytes(), tuple(words_of(case, [])), case.with_name(case.name + ".stdout").read_bytes()
 
 
 def copies(folder):
-    """The cases of a folder that are another one's copies, each with that one."""
+    """The cases of a folder that are copies, each with the case it copies."""
     seen = {}
     for name, case in cases_in(folder).items():
         first = seen.setdefault(content(case), name)

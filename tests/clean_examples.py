@@ -1,8 +1,8 @@
-"""What pages and examples call clean is nothing that GitHub refuses: clean_examples.py TOP.
+"""Checks that GitHub refuses none of the examples that are called clean: clean_examples.py TOP.
 
-Looks at the files of each case of tests/faults whose report is clean, the files that pages show as ones (`file=`), the folders of
-examples/ that have no fault and the workflow of clients/github. The linter itself says nothing of what is looked for here (README, "What it doesn't
-do"), so that an example could be without fault and still be refused. Needs python3-yaml; without it the case is skipped.
+Reads the files of each case of tests/faults whose report is clean, the files shown on pages (`file=`), the folders of examples/ without
+faults, and the workflow of clients/github. The linter reports nothing of what this test looks for (README, "What it doesn't do"), so an
+example could be free of faults and still be refused. Needs python3-yaml; without it the case is skipped.
 """
 
 import importlib.util
@@ -28,13 +28,13 @@ FEWEST = 130
 
 
 class Yaml:
-    """Reads files with the keys and texts as they are written, by PyYAML."""
+    """Reads files by PyYAML, with keys and texts as written."""
 
     def __init__(self, yaml):
         self.yaml = yaml
 
     def value(self, node):
-        """Lists, texts, None for what is empty, and mappings as lists of pairs."""
+        """Lists, texts, None for empty values, and mappings as lists of pairs."""
         if isinstance(node, self.yaml.ScalarNode):
             return None if node.tag.endswith(":null") else node.value
         if isinstance(node, self.yaml.SequenceNode):
@@ -46,7 +46,7 @@ class Yaml:
 
 
 class Mapping:
-    """A mapping with its pairs in order, equal keys too."""
+    """A mapping with its pairs in order, including equal keys."""
 
     def __init__(self, pairs):
         self.pairs = list(pairs)
@@ -62,7 +62,7 @@ class Mapping:
 
 
 def everywhere(value, key=None):
-    """All values of a tree with the key above each."""
+    """All values of a tree, each with the key above it."""
     yield key, value
     if isinstance(value, Mapping):
         for name, inner in value.pairs:
@@ -73,7 +73,7 @@ def everywhere(value, key=None):
 
 
 def general(tree):
-    """What GitHub refuses of any mapping or text."""
+    """What GitHub refuses in any mapping or text."""
     for key, value in everywhere(tree):
         if isinstance(value, Mapping):
             lower = [it.lower() for it in value.keys()]
@@ -104,7 +104,7 @@ def events(on):
 
 
 def steps(found, is_composite):
-    """What GitHub refuses of steps."""
+    """What GitHub refuses in steps."""
     if not isinstance(found, list) or not found:
         yield "there are no steps"
         return
@@ -121,7 +121,7 @@ def steps(found, is_composite):
 
 
 def jobs(found):
-    """What GitHub refuses of jobs."""
+    """What GitHub refuses in jobs."""
     if not isinstance(found, Mapping) or not found:
         yield "there are no jobs"
         return
@@ -153,7 +153,7 @@ def refusals(path, tree):
 
 
 def files(top):
-    """Each file that is called clean: where it stands, its path, its bytes."""
+    """Each file that is called clean: where it is from, its path, its bytes."""
     for name, case in cases_in(top / "tests/faults").items():
         if not report_of(case):
             yield from ((f"tests/faults: {name}", path, data) for path, data in files_of(case).items())

@@ -1,10 +1,10 @@
-"""Tests that what docs/COMMAND-LINE.md and docs/CI.md show is what the program prints and takes.
+"""Tests that the program prints and accepts what docs/COMMAND-LINE.md and docs/CI.md show.
 
     python3 tests/command_line_page.py PROGRAM
 
-The problem matcher is applied to the lines of a report with known faults, the pattern of the pre-commit hook to paths of which some are
-linted. Both hooks run in a git repository, one of them by pre-commit if it is installed. The commands of "What to do at status 3" are run,
-and the example of a fault with its line. Prints one line for each case.
+The problem matcher is applied to the lines of a report with known faults, and the pattern of the pre-commit hook to paths, some of which
+are linted. Both hooks run in a git repository, one of them by pre-commit if it is installed. The commands of "What to do at status 3" and
+the example of a fault with its line are run. Prints one line for each case.
 """
 
 import json
@@ -36,7 +36,7 @@ FAULTS = [
 
 
 def block(name):
-    """The text of a block of docs/CI.md, with the program's name where it has the path of a clone."""
+    """A code block of docs/CI.md, with the program's name in place of the path of a clone."""
     text = re.search(rf"^<!-- run: {name} -->\n```\w+\n(.*?)^```$", CI, re.M | re.S)[1]
     return text.replace("/opt/juzbrost/actionlint", "actionlint")
 
@@ -47,7 +47,7 @@ def run(words, folder):
 
 
 def has_all(name, found):
-    """The known faults are all among those found."""
+    """Whether the known faults are all among those found."""
     return [f"{name} does not find {fault}" for fault in FAULTS if fault not in found]
 
 
@@ -66,7 +66,7 @@ def matcher(lines):
 
 
 def hook():
-    """The hook's pattern takes the files that are linted, and its words lint them."""
+    """The hook's pattern selects the files that are linted, and its arguments lint them."""
     text = block("local-hook")
     pattern = re.search(r"files: (.*)$", text, re.M)[1]
     words = re.search(r"entry: (.*)$", text, re.M)[1].split()
@@ -116,7 +116,7 @@ DELETED = """.github/workflows/caller.yml:10:11: workflow "./.github/workflows/c
 
 
 class Repository:
-    """A repository of git in a folder, with the program on the PATH."""
+    """A git repository in a folder, with the program on the PATH."""
 
     def __init__(self, room):
         self.folder = os.path.join(room, "repository")
@@ -131,13 +131,13 @@ class Repository:
         self.run("git", "init", "-q")
 
     def run(self, *words, below="."):
-        """Runs a command in the repository, and answers its status and what it printed."""
+        """Runs a command in the repository; answers its status and what it printed."""
         where = os.path.join(self.folder, below)
         ran = subprocess.run(words, cwd=where, env=self.environment, stdout=subprocess.PIPE, stderr=subprocess.STDOUT, check=False, timeout=60)
         return ran.returncode, ran.stdout.decode()
 
     def commit(self, files=None, deleted=()):
-        """Writes and deletes files and commits all changes; answers the status and what was printed, and takes a refused commit back."""
+        """Writes and deletes files and commits all changes; answers the status and what was printed, and undoes a refused commit."""
         write_files(self.folder, files or {})
         for path in deleted:
             os.remove(os.path.join(self.folder, path))
@@ -149,7 +149,7 @@ class Repository:
 
 
 def hook_differences(repository, deletions):
-    """What the hooks of a repository let through: a fault of a caller that doesn't change, at a rename and at a deletion."""
+    """What the hooks of a repository miss: a fault in a caller that doesn't change, after a renaming and after a deletion."""
     bad = []
     start = {".github/workflows/caller.yml": CALLER, ".github/workflows/called.yml": CALLED, "greet/action.yml": ACTION}
     status, said = repository.commit({**start, "README.md": b"one\n"})
@@ -158,7 +158,7 @@ def hook_differences(repository, deletions):
     status, said = repository.commit({"greet/action.yml": ACTION.replace(b"who:", b"whom:")})
     if not status or RENAMED not in said:
         bad.append(f"an action with a renamed input is committed: {status} and {said!r}")
-    # the changed file alone has no fault, so that a hook which is given changed files lets this through
+    # the changed file alone has no fault, so a hook that is given only changed files misses this
     alone = repository.run("actionlint", "--oneline", "greet/action.yml")
     if alone != (0, ""):
         bad.append(f"the action alone has faults: {alone}")
@@ -169,7 +169,7 @@ def hook_differences(repository, deletions):
 
 
 def git_hook():
-    """The page's hook of git, in a repository of git."""
+    """The page's git hook, in a git repository."""
     with tempfile.TemporaryDirectory() as room:
         repository = Repository(room)
         path = os.path.join(repository.folder, ".git", "hooks", "pre-commit")
@@ -179,7 +179,7 @@ def git_hook():
 
 
 def pre_commit_hook(name, text, deletions):
-    """A hook of pre-commit, in a repository of git."""
+    """A pre-commit hook, in a git repository."""
     if not shutil.which("pre-commit"):
         skip(name, "pre-commit isn't there")
         return
@@ -192,7 +192,7 @@ def pre_commit_hook(name, text, deletions):
 
 
 def pre_commit_hooks():
-    """The page's hook, which doesn't see what a commit only deletes, and the same with `always_run`, which does."""
+    """The page's hook, which doesn't see a commit that only deletes files, and the same with `always_run`, which does."""
     text = block("local-hook")
     pre_commit_hook("pre-commit-in-a-repository", text, deletions=False)
     always, count = re.subn(r"files: .*", "always_run: true", text)
@@ -201,7 +201,7 @@ def pre_commit_hooks():
 
 
 def ends_at_3():
-    """Each row of the page's table of words that end a run with status 3."""
+    """Each row of the page's table of commands that end with status 3."""
     rows = re.findall(r"^\| `(actionlint[^`]*)` \| `(actionlint: [^`]*)` \|", PAGE, re.M)
     wanted = {"actionlint", "actionlint ../x", "actionlint README.md", "actionlint -", "actionlint --root many"}
     report("rows-of-status-3", 0, [] if wanted < {words for words, _ in rows} else [f"the page has {rows}"])
@@ -216,7 +216,7 @@ def ends_at_3():
 
 
 def from_below():
-    """The page's words that lint a repository from a folder below its top."""
+    """The page's command that lints a repository from a folder below its top."""
     hint = re.search(r"`(actionlint --root \"[^`]*)`", PAGE)[1]
     with tempfile.TemporaryDirectory() as room:
         repository = Repository(room)

@@ -1,4 +1,4 @@
-"""A copy of this repository's files, as tests that run its scripts need one."""
+"""Copies of this repository's files, for tests that run its scripts."""
 
 import os
 import pathlib
@@ -18,7 +18,7 @@ for name in ("GIT_DIR", "GIT_WORK_TREE", "GIT_INDEX_FILE"):
 
 
 def copy_files(folder, is_wanted=lambda name: True):
-    """Copies the files that git knows or would take, those that are wanted by their path from the top. The copies can be written."""
+    """Copies the files that git tracks or would add, if `is_wanted` accepts their path from the top. The copies are writable."""
     given = ["git", "-C", TOP, "ls-files", "-z", "--cached", "--others", "--exclude-standard"]
     listed = subprocess.run(given, capture_output=True, check=False)
     if listed.returncode:
@@ -33,12 +33,13 @@ def copy_files(folder, is_wanted=lambda name: True):
 
 
 def copy_few_sources(folder):
-    """A copy with the sources of one crate alone, and without tests: what fits them is found as in a whole one, and it is made quickly."""
+    """A copy with the sources of only one crate and without tests. The carried program is found as in a complete copy, but the copy is
+    quick to make."""
     copy_files(folder, lambda name: not name.startswith(("crates/", "tests/", "clients/tests/")) or name.startswith("crates/actionlint/"))
 
 
 def carry(folder, program):
-    """Has a copy of the repository carry a program as one that was built from its sources."""
+    """Makes a copy of the repository carry a program as if it had been built from its sources."""
     carried = folder / "prebuilt/actionlint"
     carried.parent.mkdir(exist_ok=True)
     shutil.copyfile(program, carried)
@@ -49,6 +50,6 @@ def carry(folder, program):
 
 
 def commit(folder):
-    """Makes a folder a repository of git with its files in one commit, always the same."""
+    """Makes a folder a git repository with its files in one commit, which is always the same."""
     for words in (["init", "-q"], ["add", "-A"], [*AS, "commit", "-q", "-m", "all"]):
         subprocess.run(["git", *words], cwd=folder, env=os.environ | COMMITTED, capture_output=True, check=True)

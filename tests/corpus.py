@@ -1,5 +1,5 @@
-"""Runs of the program that reach its code: the folders of examples/, the scripts of tests/cases and tests/faults, command lines that are
-right and wrong, and files that are refused. All run in the repository's folder.
+"""Runs that reach the program's code: the folders of examples/, the scripts of tests/cases and tests/faults, right and wrong command lines,
+and files that are refused. All run in the repository's folder.
 """
 
 import pathlib
@@ -28,12 +28,12 @@ LARGEST = 1_048_576
 
 
 def scripts_in(folder, prefix):
-    """The scripts of a folder of cases: of each, under a name, the words and the standard input."""
+    """The scripts of a folder of cases, by name: the arguments and the standard input of each."""
     return {f"{prefix}/{name}": (words_of(case, SCRIPT), case.read_bytes()) for name, case in cases_in(folder).items()}
 
 
 def refused_files(folder):
-    """The same of folders whose files are refused or no files, which are made below this one."""
+    """The same for folders with refused files or without files, which are made below this one."""
     place = pathlib.Path(folder)
     (place / "large").mkdir()
     (place / "large" / "action.yml").write_bytes(b"#" * (LARGEST + 1))
@@ -47,7 +47,7 @@ def refused_files(folder):
 
 
 def all_runs(folder):
-    """All runs: of each, under its name, the words and the standard input. Some read files that are made below a folder."""
+    """All runs, by name: the arguments and the standard input of each. Some read files that are made below a folder."""
     runs = {f"examples/{it.name}": (["--root", f"examples/{it.name}"], b"") for it in sorted((TOP / "examples").iterdir()) if it.is_dir()}
     runs |= {f"words/{name}": (words, b"") for name, words in COMMAND_LINES.items()}
     runs |= refused_files(folder)

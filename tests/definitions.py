@@ -1,6 +1,6 @@
-"""The definitions of `specs/`, as their sources name them: each with its lines and the other definitions that it uses.
+"""The definitions in `specs/`, with the names from their sources: each with its lines and the other definitions that it uses.
 
-A name stands for what its file defines or brings in by `use`, unless a signature, an equation, a `λ` or a `let` has a variable of that name.
+A name refers to what its file defines or imports by `use`, unless a signature, an equation, a `λ` or a `let` has a variable of that name.
 """
 
 import re
@@ -9,10 +9,10 @@ from crates import crates_of
 
 USE = re.compile(r"\buse Rattle\.([\w.]+?)(?:\.\{([^}]*)\}| as (\w+))?;?\s*$")
 HEAD = re.compile(r"^( {0,4})((?:(?:abbrev|unfoldable|pub|record|data|mutual) )+)?(\S+)(.*)$")
-# The constructors of one type may stand in one line.
+# The constructors of a type may share one line.
 CONSTRUCTORS = re.compile(r"^  +([\w' -]+) : ")
 WORD = re.compile(r"[^\s(){},;]+")
-# What brings variables in: `(x y : T)`, `{x : T}`, `λ x y.`, `let x =`, and an equation's left side behind the name.
+# What binds variables: `(x y : T)`, `{x : T}`, `λ x y.`, `let x =`, and the left side of an equation after the name.
 TYPED = re.compile(r"[({]([^(){}:λ]+) : ")
 LAMBDA = re.compile(r"λ ([^.]+)\.")
 LET = re.compile(r"\blet (\w+)\b")
@@ -21,12 +21,12 @@ EQUATION = re.compile(r"\s*(?:abbrev pub |abbrev |pub )?\S+((?: [^=]*)?) =(?:\s|
 
 
 def words_of(text):
-    """The words of a text, but for the fields that a record is given."""
+    """The words of a text, except for the fields that a record is given."""
     return set(WORD.findall(GIVEN.sub(r"\1", text)))
 
 
 def imports(lines):
-    """The modules that names come from, and those that go by another name."""
+    """The modules that names come from, and the names that are imported under another name."""
     named, aliases = {}, {}
     for line in lines:
         match = USE.search(line)
@@ -40,7 +40,7 @@ def imports(lines):
 
 
 class Item:
-    """A definition: its kind, how far in its lines begin, and these."""
+    """A definition: its kind, the indentation of its lines, and the lines."""
 
     def __init__(self, kind, indent):
         self.kind, self.indent, self.lines = kind, indent, []
@@ -89,18 +89,18 @@ class Module:
                 self.items[item].lines.append(line)
 
     def items_of(self, name):
-        """The definitions that a name leads to: the one of that name, or else those that have such a field or constructor."""
+        """The definitions that a name refers to: the one of that name, otherwise those with such a field or constructor."""
         return [name] if name in self.items else self.parts.get(name, [])
 
     def has_constructor(self, name):
         return any("data" in self.items[it].kind for it in self.parts.get(name, ()))
 
     def size(self, items):
-        """The lines of some of its definitions."""
+        """The number of lines of some of its definitions."""
         return sum(len(self.items[it].lines) for it in items)
 
     def sentence(self):
-        """The comment at the head of the file."""
+        """The comment at the top of the file."""
         head = []
         for line in self.lines:
             if not line.startswith("--"):
@@ -110,7 +110,7 @@ class Module:
 
 
 class Definitions:
-    """The modules of definitions of a repository by the way that `use` names them, those that a crate passes on too."""
+    """The modules of definitions of a repository by their path in `use` lines, including those that a crate re-exports."""
 
     def __init__(self, top):
         self.modules, passed_on = {}, {}
@@ -141,18 +141,18 @@ class Definitions:
                     yield self.modules[way], word.split(".")[1]
 
     def words(self, module, item):
-        """The words of a definition that are no variables where they stand."""
+        """The words of a definition that aren't variables there."""
         return set().union(*(words_of(it) - self.variables(module, it) for it in module.items[item].chunks()))
 
     def used_by(self, module, item):
-        """The definitions that one uses, each as its module and its item."""
+        """The definitions that a definition uses, each as its module and its item."""
         words = self.words(module, item)
         found = [*self.named(words, module.imports, module.aliases)]
         found += [(module, it) for it in (*module.items, *module.parts) if it in words]
         return [(other, it) for other, name in found for it in other.items_of(name) if (other, it) != (module, item)]
 
     def variables(self, module, chunk):
-        """The variables that a signature or an equation brings in. A pattern names constructors beside them, and no function."""
+        """The variables that a signature or an equation binds. A pattern also names constructors, but no functions."""
         found = {it for pattern in (TYPED, LAMBDA) for names in pattern.findall(chunk) for it in names.split()} | set(LET.findall(chunk))
         equation = EQUATION.match(chunk)
         patterns = words_of(equation[1]) if equation else set()
@@ -167,7 +167,7 @@ class Definitions:
         return way is not None or module.has_constructor(word)
 
     def below(self, roots):
-        """The definitions that these rest on, they too, as a set of modules and items."""
+        """The definitions that these depend on, directly or not, as a set of modules and items."""
         seen, waiting = set(), [(module, it) for module, name in roots for it in module.items_of(name)]
         while waiting:
             one = waiting.pop()

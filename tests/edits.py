@@ -1,13 +1,13 @@
-"""Makes 200 edits in a session of the built program, of files that call one another, and compares each answer.
+"""Makes 200 edits in a session of the built program, of files that call one another, and compares each reply.
 
     python3 tests/edits.py PROGRAM
 
-The files are workflows, reusable workflows and actions, one of them behind another candidate of the same calls. An edit puts a file
-with other inputs and outputs, with other calls alone, with the bytes that are there, or with bytes that no reader takes, or it deletes
-a file. After each edit the report is compared with that of a fresh run over the folder on the disk, and the reply's number with that of
-the files that the edit affects, counted here by the definition: files that are new or differ, or one of whose calls has another answer.
-The report's lines on calls on call cycles are compared with those that walks along the calls find here. Some edits
-have to move such lines of files that they don't affect. Prints a line for each case, as tests/program.py does.
+The files are workflows, reusable workflows and actions; one of them is a later candidate of the same calls as another. An edit puts a file
+with other inputs and outputs, with only other calls, with the same bytes, or with invalid bytes, or it deletes a file. After each edit the
+report is compared with that of a fresh run over the folder on disk, and the number in the reply with the number of affected files, counted
+here by the definition: files that are new or differ, or that have a call with another answer. The report's lines about call cycles are
+compared with the cycles found here by walking along the calls. Some edits have to move such lines in files that they don't affect. Prints a
+line for each case, like tests/program.py.
 """
 
 import random
@@ -22,12 +22,12 @@ ON_A_CYCLE = b" leads back to this file ["
 
 
 def called(folder, candidates):
-    """The file that a call leads to: the first of its candidates that is there."""
+    """The file that a call leads to: the first of its candidates that exists."""
     return next((path for path in candidates if path in folder), None)
 
 
 def leads_back(folder, path, candidates):
-    """Whether a call leads to this path, at once or by a walk along further calls."""
+    """Whether a call leads to this path, directly or along further calls."""
     ahead, seen = [called(folder, candidates)], {None}
     while ahead:
         here = ahead.pop()
@@ -40,7 +40,7 @@ def leads_back(folder, path, candidates):
 
 
 def cycle_lines(folder):
-    """The report's lines on calls on call cycles: those of the lines that call a file from which calls lead to theirs."""
+    """The lines about call cycles that the report should have: those of calls from whose file calls lead back to the caller."""
     for path in sorted(folder):
         for row, text in enumerate(folder[path].text().decode().split("\n"), 1):
             before, uses, name = text.partition("uses: ")
@@ -51,19 +51,19 @@ def cycle_lines(folder):
 
 
 def reported_cycle_lines(reported):
-    """A report's lines on calls on call cycles."""
+    """The lines of a report about call cycles."""
     return [it for it in reported.splitlines(True) if ON_A_CYCLE in it]
 
 
 def moved_cycle_lines(old, new):
-    """Whether an edit changes the lines on call cycles of files that it doesn't affect."""
+    """Whether an edit changes the lines about call cycles in files that it doesn't affect."""
     unaffected = [path.encode() + b":" for path in set(old) & set(new) - set(affected(old, new))]
     of_those = lambda folder: [it for it in cycle_lines(folder) if it.startswith(tuple(unaffected))]
     return of_those(old) != of_those(new)
 
 
 def answer(folder, candidates):
-    """What a call answers: the interface of the file that it leads to."""
+    """The answer to a call: the interface of the file that it leads to."""
     path = called(folder, candidates)
     return path and folder[path].interface()
 
@@ -76,7 +76,7 @@ def affected(old, new):
 
 
 def edit(chance, folder):
-    """An edit by chance: its command, and the folder after it."""
+    """A random edit: its command, and the folder after it."""
     path = chance.choice(PATHS)
     kind = chance.random()
     if kind < 0.25:
@@ -88,7 +88,7 @@ def edit(chance, folder):
 
 
 def differences(place, command, old, new, told):
-    """What differs in the answer of an edit from the definition and from a fresh run over the folder."""
+    """Where the reply to an edit differs from the definition or from a fresh run over the folder."""
     reply, reported, status = told
     if command.startswith(b"delete ") and old == new:
         wanted = b"refused E5"
@@ -102,7 +102,7 @@ def differences(place, command, old, new, told):
 
 
 def edits(place):
-    """Edits by chance, each compared."""
+    """Random edits, each compared."""
     chance = random.Random(SEED)
     folders, commands = [{}], []
     while len(commands) < EDITS:

@@ -1,7 +1,8 @@
-"""Compares docs/EDITS.md with the edits that the gate leaves to the hand: edits_page.py TOP.
+"""Compares docs/EDITS.md with the edits that are tried by hand, not by the gate: edits_page.py TOP.
 
-Its table names each file of crates/*/more-edits/ after the name of its crate. What it names as showing an edit is there: edits of the gate,
-tests of a crate, cases and folders of them, and files of tests/. Each edit can be made: the text that it takes away stands once in its file.
+Its table names each file of crates/*/more-edits/ after the name of its crate. Whatever it names as showing an edit exists: edits of the
+gate, tests of a crate, cases and folders of cases, and files of tests/. Each edit can be applied: the text that it removes occurs once in
+its file.
 """
 
 import pathlib
@@ -12,14 +13,14 @@ from more_edits import pairs_of
 
 ROW = re.compile(r"^\| (?:(\w+) )?\| (`\w+`(?:, `\w+`)*) \| (.*) \|$", re.MULTILINE)
 BY = re.compile(r"\bedits? ((?:`\w+`(?: \(`\w+`\))?(?:, | and )?)+)")
-# cases and their folders, behind the word; and what else is named by a path
+# cases and their folders, after the word `case`; and what else is named by a path
 CASES = re.compile(r"\bcases? (?:[^`;]*\()?((?:`\w[\w/-]*`(?:, )?)+)")
 PATHS = re.compile(r"`(?!tests/)[\w-]+/[\w/-]+`")
 TESTS = re.compile(r"tests? ((?:`\w+`(?:, | and )?)+) of `(\w+)`")
 
 
 def absent(top, shown):
-    """The tests, cases and files that a row names and that aren't there."""
+    """The tests, cases and files that a row names and that don't exist."""
     for names, crate in TESTS.findall(shown):
         source = "".join(it.read_text() for it in (top / "crates" / crate / "src").glob("*.rt"))
         yield from (f"test {it} of {crate}" for it in re.findall(r"`(\w+)`", names) if not re.search(rf"\b{it}\b", source))
@@ -30,7 +31,7 @@ def absent(top, shown):
 
 
 def unmakable(edit):
-    """The texts that an edit takes away and that don't stand once in their files, where it makes its changes in turn."""
+    """The texts that an edit removes and that don't occur once in their files when its changes are applied in order."""
     crate, made = edit.parent.parent, {}
     for path, old, new in pairs_of(edit.read_text()):
         source = made.get(path) or (crate / path).read_text()

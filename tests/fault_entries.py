@@ -2,8 +2,8 @@
 
 An entry is a section `### CODE `MESSAGE``. It says what the fault is, then in a list *Why it matters* and the *Repair*, and shows a repair
 as a block `diff`. The block's lines are those of two cases of tests/faults: CODE, whose report has the fault, and CODE-repaired, whose
-report is clean. A line `@@ MESSAGE @@` is a message of that report, `+++ PATH` leads to the lines of another file than the one at
-fault, and `…` stands for any text.
+report is clean. A line `@@ MESSAGE @@` is a message of that report, the lines after `+++ PATH` are those of another file than the faulty
+one, and `…` matches any text.
 """
 
 import re
@@ -17,7 +17,7 @@ COMMAND = re.compile(rb"put (\S+) ([0-9]+)\n")
 
 @dataclass
 class Entry:
-    """What a page says of a fault."""
+    """What a page says about a fault."""
 
     code: str
     message: str
@@ -34,12 +34,12 @@ class Entry:
 
     @property
     def rank(self):
-        """The place of the entry's code among all."""
+        """The position of the entry's code among all codes."""
         return KINDS.index(self.code[0]), int(self.code[1:])
 
 
 def paragraph(body, word):
-    """The text of the item of a list that begins with a word, on one line; empty where there is none."""
+    """The text of the list item that begins with a word, on one line; empty if there is none."""
     found = re.search(rf"^- \*{word}\*: (.*?)(?=\n\n|\n- |\n```|\Z)", body, re.MULTILINE | re.DOTALL)
     return " ".join(found[1].split()) if found else ""
 
@@ -59,7 +59,7 @@ def entries(docs):
 
 
 def files_of(case):
-    """The files that a case's script puts, by their paths."""
+    """The files that a case's script puts, by path."""
     script, at, found = case.read_bytes(), 0, {}
     while put := COMMAND.match(script, at):
         end = put.end() + int(put[2])

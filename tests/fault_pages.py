@@ -1,9 +1,9 @@
 """Compares the pages of faults with the code, the definitions and the cases of tests/faults: fault_pages.py TOP [--write].
 
-Each fault code of al_base names its identifier (`/// K2: ..`), has its row of that number in specs/Codes.antt, and has one entry on a page
-docs/FAULTS*.md (tests/fault_entries.py) with the row's message, why it matters, its repair, and a repair whose lines are those of its cases.
-docs/FAULTS.md has indexes by code and by message, which `--write` writes anew, and docs/READING.md a table of the definitions that decide
-each fault, which must exist.
+Each fault code of al_base has a comment with its identifier (`/// K2: ..`), the row with that number in specs/Codes.antt, and one entry on
+a page docs/FAULTS*.md (tests/fault_entries.py) with the row's message, why it matters, its repair, and a diff whose lines are those of its
+cases. docs/FAULTS.md has indexes by code and by message, which `--write` rewrites, and docs/READING.md has a table of the definitions that
+decide each fault, all of which exist.
 """
 
 import pathlib
@@ -46,7 +46,7 @@ def tables(top):
 
 
 def shown_in(words, message):
-    """Whether the parts of a message stand in a row of the table, in order."""
+    """Whether the parts of a message occur in a row of the table, in order."""
     at = 0
     for part in re.split(r"\{[01]\}", message):
         escaped = part.replace('"', '\\"')
@@ -63,7 +63,7 @@ def like(parts):
 
 
 def have(shown, data):
-    """Whether the lines of a repair stand in a file, in order."""
+    """Whether the lines of a repair occur in a file, in order."""
     at, lines = 0, data.decode(errors="replace").replace("\r", "\n").split("\n")
     for line in shown:
         pattern = like(line.split("…"))
@@ -74,7 +74,7 @@ def have(shown, data):
 
 
 def wrong_repair(top, entry):
-    """What of an entry's repair its two cases don't have."""
+    """What of an entry's repair is missing from its two cases."""
     before, after = top / "tests/faults" / entry.code, top / "tests/faults" / f"{entry.code}-repaired"
     if not before.exists() or not after.exists():
         yield "has no case in tests/faults, or none that is repaired"
@@ -105,7 +105,7 @@ def wrong_of(top, entry):
 
 
 def wrong_definitions(top, found):
-    """The definitions that decide faults and aren't there, and the faults that none decides."""
+    """Definitions in the table that don't exist, and faults that no definition in it decides."""
     decided = set()
     for file, row in DECIDED.findall((top / "docs/READING.md").read_text()):
         path = top / "crates" / file
@@ -129,12 +129,12 @@ def by_code(listed):
 
 
 def in_order(message):
-    """By what the index of messages is sorted: the letters of a message without its arguments."""
+    """The sort key of the index of messages: the letters of a message without its arguments."""
     return re.sub(r"[^a-z ]", "", re.sub(r"\{[01]\}", "", message).lower()).split()
 
 
 def by_message(listed, kinds):
-    """The table of messages, in their order."""
+    """The table of messages, sorted."""
     rows = sorted(listed, key=lambda entry: in_order(entry.message))
     return BY_MESSAGE + "".join(f"| `{entry.message}` | {', '.join(kinds.get(entry.code, []))} | {link(entry, entry.code)} |\n" for entry in rows)
 
@@ -152,7 +152,7 @@ def compare_index(top, head, wanted, write):
 
 
 def wrong_codes(every, rows, found):
-    """What the codes and the entries differ in."""
+    """Where the codes and the entries differ."""
     if len(every) < 76:
         yield f"only {len(every)} codes name their identifier"
     for name, variant in every:

@@ -1,18 +1,18 @@
-"""Feeds the program mutated files and checks what must hold of any input: fuzz.py SECONDS SEED. The program is the one that was built here,
-or else the carried one.
+"""Feeds the program mutated files and checks what must hold for any input: fuzz.py SECONDS SEED. Runs the program that was built here,
+otherwise the carried one.
 
-It needs no second linter. Files that call one another (tests/calling_files.py), those of examples/ and of the scripts of tests/cases
-are mutated (bytes and lines dropped, doubled, exchanged, values shared by anchors and aliases, and words of the syntax put in), put into
-sessions among other files, changed again and deleted. Of each run it checks:
+It needs no second linter. Files that call one another (tests/calling_files.py), those of examples/ and those in the scripts of tests/cases
+are mutated (bytes and lines dropped, doubled or exchanged, values shared by anchors and aliases, keywords inserted), put into sessions
+among other files, changed again and deleted. It checks for each run:
 
-- the status is 0 where no fault was printed, 1 where one was, 2 behind `bad command`;
-- each fault's place lies in its file, its line and column counted here by the two counts that define them;
-- files stand in order of path, and a file's faults in order of place, no line twice;
-- a put of the bytes that are there already is answered `ok 0`, and changes nothing;
-- the report after all edits is that of a run into which the folder's files are put once;
-- a script that comes in pieces gives the same output.
+- the status is 0 if no fault was printed, 1 if one was, 2 after `bad command`;
+- each fault is inside its file, by the counts of lines and columns made here from their definitions;
+- files are in order of path, the faults of a file in order of place, and no line occurs twice;
+- a put of the same bytes is answered with `ok 0` and changes nothing;
+- the report after all edits is that of a run in which the folder's files are put once;
+- a script that arrives in pieces gives the same output.
 
-The last lines say what was run. The status is 1 where something did not hold; the script is then kept beside, in a file that is named.
+The last lines say what was run. The status is 1 if something did not hold; the script is then kept in a file, which is named.
 """
 
 import pathlib
@@ -53,7 +53,7 @@ def seeds():
 
 
 def values_in(lines):
-    """Where values stand: of each the number of its line, its indent, what stands before it on the line, and what of it does."""
+    """The places of values: for each, the number of its line, its indentation, the text before it on the line, and its own text on it."""
     for number, line in enumerate(lines):
         found = VALUE.fullmatch(line)
         if found:
@@ -61,7 +61,7 @@ def values_in(lines):
 
 
 def shared(chance, data):
-    """The file with an anchor at one of its values, and an alias in the place of one or two others, mostly behind it."""
+    """The file with an anchor at one of its values, and aliases in place of one or two others, mostly after it."""
     lines = data.split(b"\n")
     places = list(values_in(lines))
     if len(places) < 2:
@@ -79,7 +79,7 @@ def shared(chance, data):
 
 
 def mutated(chance, data, others):
-    """Some bytes made of these."""
+    """Bytes mutated from these."""
     out = bytearray(data)
     for _ in range(chance.choice([0, 0, 1, 1, 2, 4])):
         at = chance.randint(0, len(out))
@@ -115,7 +115,7 @@ def run(script):
 
 
 def run_in_pieces(chance, script):
-    """The same, where the script comes in pieces."""
+    """The same, for a script that arrives in pieces."""
     with subprocess.Popen([PROGRAM, *SCRIPT], stdin=subprocess.PIPE, stdout=subprocess.PIPE) as child:
         at = 0
         while at < len(script):
@@ -128,7 +128,7 @@ def run_in_pieces(chance, script):
 
 
 def closing(out):
-    """The report that ends an output, and its status line; None where that is none."""
+    """The report at the end of an output, and its status line; None if there is no report."""
     match = re.search(rb"status ([01])\n\Z", out)
     return None if match is None else (out[:match.start()], int(match[1]))
 
@@ -138,7 +138,7 @@ class Wrong(Exception):
 
 
 def check(holds, script, why):
-    """What has to hold of a run of a script."""
+    """What must hold for a run of a script."""
     if not holds:
         raise Wrong(why, script)
 
@@ -182,7 +182,7 @@ def check_session(chance, script, edits, folder):
 
 
 def one_round(chance, files):
-    """A session of some edits, each thing checked; answers how many there were, and the report at the end."""
+    """Checks a session of some edits; answers how many there were, and the report at the end."""
     script, edits, folder = some_edits(chance, files)
     reported = check_session(chance, script, edits, folder)
     afresh = b"".join(put(path, folder[path]) for path in chance.sample(sorted(folder), len(folder))) + REPORT
@@ -197,7 +197,7 @@ def one_round(chance, files):
 
 
 def main(seconds, seed):
-    """Runs sessions for so long."""
+    """Runs sessions for some seconds."""
     chance = random.Random(int(seed))
     files = seeds()
     until = time.monotonic() + float(seconds)

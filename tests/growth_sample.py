@@ -1,14 +1,14 @@
-"""Allocations of the linter, each refused in turn, as far as ./test has time for: growth_sample.py PROGRAM [TESTS].
+"""Refuses allocations of the linter in turn, as many as ./test has time for: growth_sample.py PROGRAM [TESTS].
 
-TESTS are the built tests of crates/al_tests, by default those of the clone. Needs a C compiler; without one each case is skipped. The whole
-of it, with the places that were refused, is tests/growths.py, by hand.
+TESTS are the built tests of crates/al_tests, by default those of the clone. Needs a C compiler; without one each case is skipped.
+tests/growths.py, run by hand, refuses all of them and records the places.
 
-- Ten edits in a session, with reports and statuses behind them, each of their growths refused: what is refused leaves all as it was, and is
-  accepted when it is made again.
-- The same edits as a script with a report behind each, each growth refused, and each with all behind it: the run says that memory ran
-  out, and its output is a prefix of the whole output.
-- The growths of one edit beside 1,000 files: at most 64 more than alone.
-- Of each run that tests/growth-runs names a few growths, spread over the run.
+- Ten edits in a session, with reports and statuses after them, each allocation refused: a refused edit leaves everything as it was, and is
+  accepted when it is repeated.
+- The same edits as a script with a report after each, each allocation refused, alone and with all later ones: the run says that memory
+  ran out, and its output is a prefix of the whole output.
+- The allocations of one edit beside 1,000 files: at most 64 more than alone.
+- For each run that tests/growth-runs names, a few allocations spread over the run.
 """
 
 import pathlib
@@ -25,30 +25,30 @@ CASES = ("ten-edits-in-a-session", "ten-edits-as-a-script", "growths-of-an-edit"
 
 
 def spread(count):
-    """A few numbers from 1 to a count, the first and the last among them."""
+    """A few numbers from 1 to a count, including both."""
     return sorted({1 + it * (count - 1) // (FEW - 1) for it in range(FEW)}) if count > 0 else []
 
 
 def ten_edits_in_a_session(folder, tests):
-    """What differs where each growth of the test is refused in turn."""
+    """What differs when each allocation of the test is refused in turn."""
     done = Growths(folder, tests).each([EDITS], b"", ["%d"], passes)
     return [f"wrong with growths {done.wrong} of {done.growths} refused"] if done.wrong or done.growths == 0 else []
 
 
 def ten_edits_as_a_script(growths, run):
-    """What differs where each growth of the script is refused, by itself and with all behind it."""
+    """What differs when each allocation of the script is refused, alone and with all later ones."""
     done = growths.each(*run, ["%d", "%d-"], stops)
     return [f"wrong with growths {done.wrong} of {done.growths} refused, {done.stopped} stop"] if done.wrong or done.stopped == 0 else []
 
 
 def growths_of_one_edit(growths):
-    """What differs where an edit is made beside many files."""
+    """What differs when an edit is made beside many files."""
     alone, beside = growths_of_an_edit(growths, 0), growths_of_an_edit(growths, BESIDE)
     return [] if 0 < alone and beside <= alone + MOST else [f"{alone} growths alone, {beside} beside {BESIDE} files"]
 
 
 def growths_of_other_runs(growths, runs):
-    """What differs where a few growths of each run are refused."""
+    """What differs when a few allocations of each run are refused."""
 
     def refuse(name):
         words, stdin = runs[name]
@@ -61,7 +61,7 @@ def growths_of_other_runs(growths, runs):
 
 
 def main(words):
-    """Prints a line for each case; the status is 1 where one of them differs."""
+    """Prints a line for each case; the status is 1 if one of them differs."""
     program = pathlib.Path(words[0]).resolve()
     tests = pathlib.Path(words[1]).resolve() if len(words) > 1 else TESTS
     if shutil.which("cc") is None:

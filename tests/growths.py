@@ -1,19 +1,18 @@
-"""Growths of the linter, each refused in turn: growths.py [--choose], after ./test, or after `rt test` in crates/al_tests. The program is the
-one that was built here, or else the carried one. Needs a C compiler and objdump.
+"""Refuses each allocation of the linter in turn: growths.py [--choose], after ./test, or after `rt test` in crates/al_tests. Runs the
+program that was built here, otherwise the carried one. Needs a C compiler and objdump.
 
-A library of tests/growths.c that is loaded before a program counts its growths, refuses those that it is told, and notes the places of
-the program (tests/places.py) that they stand under.
+A library made from tests/growths.c is loaded before a program. It counts the program's allocations, refuses the given ones, and notes the
+places in the program (tests/places.py) that lead to them.
 
-- A test of ten edits in a session (crates/al_tests) runs with each of its growths refused: each refused edit leaves all as it was, and
-  is accepted when it is made again, and a report stops before its first byte or is whole.
-- The runs that tests/growth-runs names, the same edits as a script with a report behind each and the folders of examples/ among them,
-  with each growth refused, and with each and all behind it: a run says that memory ran out, and its output is a prefix of the whole. The
-  kit's `collect` asks for room ahead, and goes on without it: such a run is the whole one.
-- Each place of the project's crates that any run of tests/corpus.py reaches is one under which a growth of these runs was refused. With
-  --choose the runs are chosen anew, and nothing else is done. How many places each crate has is printed, and those of the project's crates
-  under which no growth was refused.
-- The growths of one edit are counted, of other bytes for an action that a workflow calls, beside 1,000 workflows that call absent
-  actions and alone: beside the others it makes at most 64 more.
+- A test of ten edits in a session (crates/al_tests) runs with each of its allocations refused: each refused edit leaves everything as it
+  was, and is accepted when it is repeated, and a report stops before its first byte or is whole.
+- The runs that tests/growth-runs names, among them the same edits as a script with a report after each and the folders of examples/, run
+  with each allocation refused, alone and with all later ones: a run says that memory ran out, and its output is a prefix of the whole. The
+  kit's `collect` reserves room in advance and goes on without it: such a run is the whole one.
+- For each place in the project's crates that a run of tests/corpus.py reaches, an allocation of these runs was refused. --choose selects
+  the runs again and does nothing else. Prints the number of places of each crate, and those of the project's crates without a refusal.
+- The allocations of one edit are counted: other bytes for an action that a workflow calls, alone and beside 1,000 workflows that call
+  absent actions. Beside the others it makes at most 64 more.
 """
 
 import collections
@@ -41,7 +40,7 @@ BESIDE = 1_000
 
 
 class Ran(typing.NamedTuple):
-    """What a run did: its status, output and errors, how many growths it made, and the places that they stood under."""
+    """What a run did: its status, output and errors, the number of its allocations, and the places that led to them."""
 
     status: int
     out: bytes
@@ -55,8 +54,8 @@ class Ran(typing.NamedTuple):
 
 
 class Refusals(typing.NamedTuple):
-    """What runs with growths refused did: how many growths there are, how many of the runs ended otherwise than the whole one, which of
-    them wrongly, and the places under which a growth was refused."""
+    """Results of runs with refused allocations: the number of allocations, how many of the runs ended otherwise than the whole one, which
+    of those were wrong, and the places at which an allocation was refused."""
 
     growths: int
     stopped: int
@@ -65,7 +64,7 @@ class Refusals(typing.NamedTuple):
 
 
 class Growths:
-    """Runs a program whose growths are counted, and noted if its frames are told."""
+    """Runs a program whose allocations are counted, and recorded if its frames are given."""
 
     def __init__(self, folder, program, frames=None):
         self.program, self.frames = program, pathlib.Path(folder) / "frames"
@@ -78,8 +77,8 @@ class Growths:
             self.env["GROWTH_FRAMES"] = str(self.frames)
 
     def run(self, words, stdin=b"", refused="0"):
-        """A run with these growths refused: those that tests/growths.c takes the text for. Its input is a file, so that each run reads the
-        same pieces."""
+        """A run with these allocations refused (the text is parsed by tests/growths.c). Its input is a file, so each run reads the same
+        pieces."""
         env = {**self.env, "GROWTH": refused}
         with tempfile.TemporaryFile() as file:
             file.write(stdin)
@@ -92,7 +91,7 @@ class Growths:
         return Ran(done.returncode, done.stdout, errors, int(count), frozenset(int(it, 16) for it in places))
 
     def each(self, words, stdin, ways, holds):
-        """Refuses each growth of a run, in these ways; a run that ends otherwise than the whole one is wrong where this doesn't hold."""
+        """Refuses each allocation of a run in these ways; a run that ends otherwise than the whole one is wrong unless this holds."""
         whole = self.run(words, stdin)
 
         def refuse(which):
@@ -106,12 +105,12 @@ class Growths:
         return Refusals(whole.growths, stopped, wrong, frozenset().union(*(places for _, _, places in ends)))
 
     def of_script(self, commands):
-        """How many growths a script makes."""
+        """The number of allocations of a script."""
         return self.run(SCRIPT, b"".join(commands)).growths
 
 
 def in_turn(function, values):
-    """What a function answers of each value, on all processors."""
+    """The results of a function for each value, on all processors."""
     with concurrent.futures.ThreadPoolExecutor(os.cpu_count()) as pool:
         return list(pool.map(function, values))
 
@@ -122,12 +121,12 @@ def passes(ran, _):
 
 
 def stops(ran, whole):
-    """Whether a run stopped for memory, its output a prefix of the whole."""
+    """Whether a run stopped because memory ran out, its output a prefix of the whole."""
     return (ran.status, ran.errors) == (3, NO_MEMORY) and whole.out.startswith(ran.out)
 
 
 def commands_in(script):
-    """The commands of a script, its reports left out."""
+    """The commands of a script without its reports."""
     found, at = [], 0
     while at < len(script):
         head = re.compile(rb"put [^\n]* ([0-9]+)\n|[^\n]*\n").match(script, at)
@@ -138,8 +137,8 @@ def commands_in(script):
 
 
 def chosen(reached):
-    """The names of runs that together reach each place that any reaches: the ten edits and the folders, then each time the one that
-    reaches the most new places for its growths; without those that the others make needless."""
+    """The names of runs that together reach each place that any run reaches: the ten edits and the folders, then repeatedly the one that
+    reaches the most new places for its allocations, without those that the others make redundant."""
     found = [it for it in reached if it.startswith("examples/") or it == TEN_EDITS]
     count = len(found)
     left = set().union(*(it.places for it in reached.values())).difference(*(reached[it].places for it in found))
@@ -159,7 +158,7 @@ def project_crates():
 
 
 def tell_places(names, refused):
-    """Prints how many places each crate has, under how many of them a growth was refused, and what the project's crates have left."""
+    """Prints the number of places of each crate, at how many an allocation was refused, and the remaining ones of the project's crates."""
     project = project_crates()
     crates = collections.Counter(name.split("::")[0] for name in names.values())
     those = collections.Counter(names[it].split("::")[0] for it in refused)
@@ -172,7 +171,7 @@ def tell_places(names, refused):
 
 
 def refused_in_turn(growths, runs, names):
-    """Refuses the growths of the runs named, and prints what went wrong; answers whether nothing did, and the places."""
+    """Refuses the allocations of the named runs and prints what went wrong; answers whether all went well, and the places."""
     well, total, places = True, 0, set()
     for name in names:
         done = growths.each(*runs[name], ["%d", "%d-"], stops)
@@ -180,12 +179,12 @@ def refused_in_turn(growths, runs, names):
         well = well and 0 < done.stopped and not done.wrong
         total += done.growths
         places |= done.places
-    print(f"{len(names)} runs: {total} growths, each refused by itself, and with all behind it")
+    print(f"{len(names)} runs: {total} growths, each refused alone, and with all later ones")
     return well, places
 
 
 def refused_everywhere(growths, runs, names, places):
-    """Refuses growths at all places that any run reaches; answers whether nothing went wrong, and no place lacks."""
+    """Refuses allocations at all places that any run reaches; answers whether all went well and no place is missing."""
     reached = dict(zip(runs, in_turn(lambda it: growths.run(*runs[it]), runs)))
     well, refused = refused_in_turn(growths, runs, names)
     tell_places(places.names, refused)
@@ -199,7 +198,7 @@ def refused_everywhere(growths, runs, names, places):
 
 
 def growths_of_an_edit(growths, count):
-    """How many growths other bytes for a called action make beside so many files: a script with the edit less one without."""
+    """How many allocations other bytes for a called action cause beside this many files: a script with the edit minus one without."""
     absent = lambda number: CLEAN.replace(b"run: echo", b"uses: ./x%d" % number)
     before = [put(f"{WORKFLOWS}/{number}.yml", absent(number)) for number in range(1, count + 1)]
     before += [put(f"{WORKFLOWS}/c.yml", CALLER), put("a/action.yml", CALLED)]
@@ -208,7 +207,7 @@ def growths_of_an_edit(growths, count):
 
 
 def counted(growths, script):
-    """Prints the growths of each edit; answers whether one edit makes few more beside many files."""
+    """Prints the number of allocations of each edit; answers whether one edit makes few more beside many files."""
     edits = commands_in(script)
     sums = [growths.of_script(edits[:count]) for count in range(len(edits) + 1)]
     print("growths of each of the ten edits:", *(after - before for before, after in zip(sums, sums[1:])))
@@ -218,14 +217,14 @@ def counted(growths, script):
 
 
 def in_a_session(growths):
-    """Refuses each growth of ten edits; answers whether nothing went wrong."""
+    """Refuses each allocation of ten edits; answers whether all went well."""
     done = growths.each([EDITS], b"", ["%d"], passes)
     print(f"ten edits in a session: {done.growths} growths, each refused in turn; wrong: {done.wrong}", flush=True)
     return done.growths > 0 and not done.wrong
 
 
 def main(words):
-    """Counts and refuses; the status is 1 where a run went wrong, a place lacks or an edit makes too many growths."""
+    """Counts and refuses; the status is 1 if a run went wrong, a place is missing or an edit allocates too often."""
     places = Places(PROGRAM)
     with tempfile.TemporaryDirectory() as folder:
         runs = all_runs(folder)

@@ -1,11 +1,11 @@
-"""Runs the built program on hostile files and streams: files that are cut, deep, long or large, or whose calls lack the same again and
-again; input that is cut, comes a byte a read, fails or doesn't end; output that takes so many bytes and no more.
+"""Runs the built program on hostile files and streams: files that are truncated, deep, long or large, or whose calls lack the same inputs
+again and again; input that is truncated, arrives byte by byte, fails or doesn't end; output that accepts only so many bytes.
 
     python3 tests/hostile.py PROGRAM
 
-What is expected are the worked rows of the linter's description, and never what the program printed before. Where a report has no
-row of its own, that of a session is compared with that of the folder on the disk. Input whose reads matter comes through a pipe in
-packet mode, of which each read gives what one write put in. Prints a line for each case, as tests/program.py does.
+Expected values are the worked examples of the linter's description, never what the program printed before. A report without such an
+example is compared, from a session, with that of the folder on disk. Input whose reads matter comes through a pipe in packet mode, from
+which each read gets what one write put in. Prints a line for each case, like tests/program.py.
 """
 
 import fcntl
@@ -27,7 +27,7 @@ PIPE_ROOM = 1 << 20
 # what a file of aliases may take: bytes of memory, and seconds of a processor
 MEMORY = 300_000_000
 SECONDS = 10
-# what a report may take beside what its lines take, in bytes of memory
+# what a report may take in addition to its lines, in bytes of memory
 BESIDE_A_REPORT = 200_000_000
 # what 120,000 edits of a small folder may take, in bytes of memory
 EDIT_MEMORY = 8_000_000
@@ -58,7 +58,7 @@ jobs:
     uses: ./.github/workflows/r.yml
 """
 
-# a script of calls: its commands, each with its reply and the folder's status after it
+# a script with calls: its commands, each with its reply and the folder's status after it
 TALK = [
     (put(f"{WORKFLOWS}/c.yml", CALLER), b"ok 1\n", 0),
     (REPORT, b"status 0\n", 0),
@@ -69,11 +69,11 @@ TALK_SCRIPT = b"".join(command for command, _, _ in TALK)
 TALK_OUTPUT = b"".join(reply for _, reply, _ in TALK)
 
 
-# ---- files that are cut
+# ---- truncated files
 
 
 def front_differences(place, front, told):
-    """What of the session's answer for a file differs from the folder's with this file, or from what holds of any."""
+    """Where the session's answer for a file differs from the folder with this file, or from what holds for any file."""
     reply, reported, status = told
     place.write(WORKFLOW, front)
     wrong = differences_of(place.run(["--oneline", "--root", "."]), status, reported, NO)
@@ -84,7 +84,7 @@ def front_differences(place, front, told):
 
 
 def fronts(place):
-    """Each front of four files: accepted, reported as the folder's, and each place in the file."""
+    """Each prefix of four files: accepted, reported as for the folder, and each place inside the file."""
     whole_files = {"clean": WITH_REF, "with-a-matrix": WITH_MATRIX, "that-calls-itself": CALLS_ITSELF,
                    "with-a-shared-job": WITH_A_SHARED_JOB}
     for name, data in whole_files.items():
@@ -102,7 +102,7 @@ def fronts(place):
 
 
 def reported(place, name, data, fault=NO, **how):
-    """A file that is put, with the fault that is reported at its path."""
+    """A file is put, and this fault is reported at its path."""
     lines = AT + fault + b"\n" if fault else NO
     status = 1 if fault else 0
     place.case(name, status, b"ok 1\n%sstatus %d\n" % (lines, status), NO, SCRIPT, stdin=put(WORKFLOW, data) + REPORT, **how)
@@ -125,7 +125,7 @@ def limits(place):
 
 
 def one_line(place):
-    """200 faults on one line, which is printed below each of them, and not with `--oneline`."""
+    """200 faults on one line, which is printed for each of them, but not with `--oneline`."""
     keys = [b"k%03d" % number for number in range(200)]
     text = b"{on: push, jobs: {a: {runs-on: u, steps: [{run: x}]}}, " + b", ".join(key + b": 1" for key in keys) + b"}"
     columns = [text.index(key + b":") + 1 for key in keys]
@@ -140,13 +140,13 @@ def one_line(place):
 
 
 def held_back():
-    """So much memory and so much time, and no more."""
+    """Limits memory and time."""
     resource.setrlimit(resource.RLIMIT_AS, (MEMORY, MEMORY))
     resource.setrlimit(resource.RLIMIT_CPU, (SECONDS, SECONDS))
 
 
 def shared_nodes(place):
-    """Files whose anchors and aliases would stand for more nodes than a file has, under a limit of memory and of time."""
+    """Files whose anchors and aliases would stand for more nodes than a file can have, under a limit of memory and of time."""
     place.fresh()
     reported(place, "anchors-64-round-100000-nodes", b"&a [" * 64 + b"1," * 99_936 + b"]" * 64,
              b'1:4: wrong kind of value for "file" [syntax-check]', limits=held_back)
@@ -169,19 +169,19 @@ REUSABLE_FILE = CLEAN.replace(b"on: push\n", b"on:\n  workflow_call:\n    inputs
 
 
 def same_faults(place, name, data, wanted):
-    """A workflow whose calls lack the same again and again, under a limit of memory and of time."""
+    """A workflow whose calls lack the same inputs again and again, under a limit of memory and of time."""
     place.fresh({WORKFLOW: data, ACTION: ACTION_FILE, REUSABLE.decode(): REUSABLE_FILE})
     place.case(name, 1, wanted, NO, ["--oneline"], limits=held_back)
 
 
 def equal_faults(place):
-    """Many calls behind few texts: each fault is reported once, and takes the memory of few."""
+    """Many calls with few texts, by aliases: each fault is reported once, and takes the memory of few."""
     first = lacking(b"7:15", b"A", b"action")
     one = b"      - &s\n        uses: ./a\n"
     two = one + b"      - &t\n        uses: ./a\n"
     both = first + lacking(b"9:15", b"A", b"action")
     same_faults(place, "aliases-of-two-steps-in-turn", STEPS + two + b"      - *s\n      - *t\n" * 15_000, both)
-    # each gives another of the inputs, so that no two lack the same
+    # each gives another of the inputs, so no two lack the same ones
     given = b"".join(b"      - {uses: *u, with: {%s: 1}}\n" % name for name in INPUTS[:500])
     same_faults(place, "aliases-of-a-text", STEPS + b"      - uses: &u ./a\n" + given, lacking(b"6:18", b"A", b"action"))
     jobs = b"on: push\njobs:\n  a: &j\n    uses: ./%s\n" % REUSABLE + b"".join(b"  a%d: *j\n" % number for number in range(20_000))
@@ -207,7 +207,7 @@ def calling(number):
 
 
 def cycle_line(path, row, column, text, kind):
-    """The line on a call on a call cycle."""
+    """The line about a call on a call cycle."""
     return f'{path}:{row}:{column}: call of "{text}" leads back to this file [{kind}]\n'.encode()
 
 
@@ -218,7 +218,7 @@ def ring_of_4096(place):
     following = [*paths[1:], paths[0]]
     script = b"".join(put(path, calling((number + 1) % FILES)) for number, path in reversed(list(enumerate(paths))))
     script += REPORT + delete(paths[1]) + REPORT
-    # a file that comes before the one that it calls lacks it until it is there
+    # a file that is put before the one it calls lacks it until then
     replies = b"ok 1\n" * (FILES - 1) + b"ok 2\n"
     lines = b"".join(cycle_line(path, 5, 11, f"./{other}", "workflow-call") for path, other in zip(paths, following))
     absent = f'{paths[0]}:5:11: workflow "./{paths[1]}" is not in the folder [workflow-call]\n'.encode()
@@ -240,7 +240,7 @@ def calls_of_one_file(place):
 
 
 def held_to(told):
-    """The memory that a report may take: 200 MB beside its bytes. No more time than files of aliases may take."""
+    """Limits a report to 200 MB of memory beside its bytes, and to the time of files with aliases."""
 
     def limits():
         memory = BESIDE_A_REPORT + len(told)
@@ -251,8 +251,8 @@ def held_to(told):
 
 
 def many_of_both(place):
-    """Folders in which one count times another would be taken in time or in memory; and steps that read those before them, many inputs of
-    which each is read, and jobs in a ring of which each tells its need."""
+    """Folders in which the product of two counts would be taken in time or memory; steps that read all earlier steps, many inputs each of
+    which is read, and jobs in a ring, each of which is reported with its need."""
     for name, make in FOLDERS.items():
         files, told = make()
         place.fresh(files)
@@ -275,13 +275,13 @@ def many_of_both(place):
 
 
 def held_for_edits():
-    """So much memory as a session of a few files takes, and no more."""
+    """Limits memory to that of a session of a few files."""
     resource.setrlimit(resource.RLIMIT_AS, (EDIT_MEMORY, EDIT_MEMORY))
 
 
 def many_edits(place):
-    """120,000 edits of a folder that has at most one file: a workflow that calls an action of its own is put, then one that calls another, and
-    then it is deleted. What is looked for is forgotten with the file that looks for it."""
+    """120,000 edits of a folder with at most one file: a workflow that calls an action of its own is put, then one that calls another
+    action, and then it is deleted. What a file looks for is forgotten with the file."""
     rounds = 40_000
     calling = lambda name, number: put(WORKFLOW, CLEAN.replace(b"run: echo", b"uses: ./%s/%05d" % (name, number)))
     edits = b"".join(calling(b"a", it) + calling(b"b", it) + delete(WORKFLOW) for it in range(rounds))
@@ -293,13 +293,13 @@ def many_edits(place):
 
 
 def held_in_memory():
-    """So much memory and no more, for as long as it takes."""
+    """Limits memory, but not time."""
     resource.setrlimit(resource.RLIMIT_AS, (MEMORY, MEMORY))
 
 
 def many_called_files(place):
-    """Folders of the disk with 4,000 actions of one workflow, and with 2,000 workflows that one calls whose name stands before theirs, or
-    behind them; of the called files the last one requires an input that no call gives. Each file is read and checked once."""
+    """Folders on disk with 4,000 actions of one workflow, and with 2,000 workflows called by one whose name sorts before or after theirs;
+    the last called file requires an input that no call gives. Each file is read and checked once."""
     count = 4_000
     files = {f"x/{number:04}/action.yml": CALLED.replace(b"    required: true", b"    required: false") for number in range(count - 1)}
     files[f"x/{count - 1:04}/action.yml"] = CALLED
@@ -324,7 +324,7 @@ def many_called_files(place):
 
 
 def calls_of_absent_files(place):
-    """A file of 759 KB whose steps call 33,000 actions, none of which is there."""
+    """A file of 759 KB whose steps call 33,000 actions, none of which exists."""
     steps = b"".join(b"      - uses: ./a%05d\n" % number for number in range(33_000))
     place.fresh({WORKFLOW: STEPS + steps})
     place.case("33000-calls-of-absent-actions", 0, NO, NO, ["--oneline"], limits=held_to(NO))
@@ -338,8 +338,8 @@ def linked(place, text):
 
 
 def folder_of_links(place):
-    """Links to one large file. The trees of the first two megabytes of files stay until the report, and no others do. What a report lists
-    stays: memory runs out where each of a hundred files has 99,900 faults, and then nothing is printed."""
+    """Links to one large file. Only the trees of the first two megabytes of files are kept until the report. What a report lists is kept:
+    memory runs out if each of a hundred files has 99,900 faults, and then nothing is printed."""
     linked(place, STEPS.replace(b"    steps:\n", b"    steps: [" + b",".join([b"{}"] * 99_900) + b"]\n"))
     few = [f"{WORKFLOWS}/{number:03}.yml" for number in range(4)]
     counted = lambda out: out.count(b"\n") == 4 * 99_900
@@ -354,8 +354,8 @@ def folder_of_links(place):
 
 
 class Packets:
-    """The reading end of a pipe of which each read gives one of these pieces, for as long as it is open; then the end, a failure, or
-    neither before it is closed."""
+    """The reading end of a pipe, from which each read gets one of these pieces while it is open; then the end, a failure, or neither before
+    it is closed."""
 
     def __init__(self, pieces, ending="end"):
         self.reader, self.writer = os.pipe2(os.O_DIRECT)
@@ -365,7 +365,7 @@ class Packets:
         if ending == "end":
             os.close(self.writer)
             self.writer = None
-        # where nothing is left, a read of this end fails, since it would have to wait
+        # when nothing is left, a read from this end fails instead of waiting
         os.set_blocking(self.reader, ending != "failure")
 
     def left(self):
@@ -384,13 +384,14 @@ class Packets:
 
 
 def read_differences(place, pieces, ending, status, out, err):
-    """What differs from this answer where the script comes in these pieces."""
+    """How the run differs from this answer if the script arrives in these pieces."""
     with Packets([piece for piece in pieces if piece], ending) as packets:
         return differences_of(place.run(SCRIPT, packets.reader), status, out, err)
 
 
 def replies_to(size):
-    """What answers the whole commands in the first bytes of the talk, the folder's status then, and whether a part is left."""
+    """The replies to the complete commands in the first bytes of the script, the folder's status then, and whether a partial command is
+    left."""
     replies, status = NO, 0
     for command, reply, status_then in TALK:
         if size < len(command):
@@ -402,14 +403,14 @@ def replies_to(size):
 
 
 def cut_short(place, size):
-    """A script that ends here: a part of a command is a bad one."""
+    """A script that ends here: a partial command is a bad one."""
     replies, status, cut = replies_to(size)
     out, ended = (replies + b"bad command\n", 2) if cut else (replies, status)
     return read_differences(place, [TALK_SCRIPT[:size]], "end", ended, out, NO)
 
 
 def pieces_of_a_script(place):
-    """A script in two reads, in single bytes, with its end and with a failed read, at each place."""
+    """A script in two reads, in single bytes, with its end and with a failed read, at each position."""
     place.fresh()
     sizes = range(len(TALK_SCRIPT) + 1)
     parts = lambda size: [TALK_SCRIPT[:size], TALK_SCRIPT[size:]]
@@ -422,7 +423,7 @@ def pieces_of_a_script(place):
 
 
 def lines_of_input(place):
-    """First lines that are too long, and bytes of a file that are cut."""
+    """First lines that are too long, and truncated bytes of a file."""
     place.fresh()
     wrong = b"bad command\n"
     each("line-of-2048-bytes", [(0, read_differences(place, [b"x" * 2_048], "failure", 3, NO, line(b"read failed")))])
@@ -433,7 +434,7 @@ def lines_of_input(place):
 
 
 def input_without_end(place):
-    """Reports, a byte a read, without end: so many reads, and no more."""
+    """Reports, byte by byte, without end: the program stops after its limit of reads."""
     place.fresh()
     replies = READS // len(REPORT)
     target = os.path.join(place.room, "replies")
@@ -442,14 +443,14 @@ def input_without_end(place):
 
         def feed():
             nonlocal given
-            # a few more than are read, so that the pipe holds them when the program has ended
+            # a few more than are read, so the pipe still holds them when the program has ended
             for turn in range(READS + 100):
                 given += os.write(packets.writer, REPORT[turn % len(REPORT)].to_bytes(1, "big"))
 
         feeder = threading.Thread(target=feed, daemon=True)
         feeder.start()
         ran = place.run(SCRIPT, packets.reader, stdout=output)
-        # it stays where the program read less
+        # it stays if the program read less
         feeder.join(1)
         taken = given - packets.left()
     with open(target, "rb") as output:
@@ -464,14 +465,14 @@ def input_without_end(place):
 
 
 def held_differences(place, size, whole, words, stdin=NO):
-    """What differs where the output takes so many bytes."""
+    """What differs if the output accepts this many bytes."""
     ran, held = place.run_to_file(size, words, stdin)
     wrong = differences_of(ran, 3, NO, line(b"write failed"))
     return wrong if held == whole[:size] else wrong + [f"the output held {show(held)}"]
 
 
 def narrow_output(place):
-    """Output that takes so many bytes and then fails, for each number below the whole."""
+    """Output that accepts some bytes and then fails, for each number below the whole."""
     place.fresh()
     held = lambda whole, *given: ((size, held_differences(place, size, whole, *given)) for size in range(len(whole)))
     each("output-of-a-script-that-fails", held(TALK_OUTPUT, SCRIPT, TALK_SCRIPT))

@@ -1,5 +1,5 @@
-"""Checks the links between pages: links.py TOP. Each leads to a file that is there, and to a heading of that page. What a page names in code
-by its path, `crate/specs/File.antt` or `tests/file.py`, is there too, and docs/README.md leads to each page of docs/.
+"""Checks the links between pages: links.py TOP. Each leads to an existing file, and to a heading of that page. What a page names in code
+by its path, `crate/specs/File.antt` or `tests/file.py`, exists too, and docs/README.md links to each page of docs/.
 """
 
 import pathlib
@@ -14,12 +14,12 @@ CODE = re.compile(r"^```.*?^```$|`[^`\n]*`", re.DOTALL | re.MULTILINE)
 
 
 def without_code(text):
-    """A page's text without what stands in code."""
+    """A page's text without its code."""
     return CODE.sub("", text)
 
 
 def anchors_of(text):
-    """The anchors of a page's headings, as GitHub makes them; of equal ones the later ones have a number."""
+    """The anchors of a page's headings, as GitHub makes them; repeated ones get a number."""
     found = {}
     for heading in re.findall(r"^#+ (.*)$", re.sub(r"^```.*?^```$", "", text, flags=re.DOTALL | re.MULTILINE), re.MULTILINE):
         plain = re.sub(r"\[([^\]]*)\]\([^)]*\)", r"\1", heading).replace("`", "")
@@ -37,7 +37,7 @@ def pages(top):
 
 
 def absent_paths(top):
-    """What pages name by its path and isn't there: below a crate, or below a folder at the top."""
+    """Paths that pages name and that don't exist: below a crate, or below a folder at the top."""
     crates = {it.name for it in (top / "crates").iterdir()}
     for page in pages(top):
         for path in sorted(set(PATH.findall(page.read_text(encoding="utf-8")))):
@@ -48,7 +48,7 @@ def absent_paths(top):
 
 
 def unlisted(top):
-    """The pages of docs/ to which docs/README.md doesn't lead."""
+    """The pages of docs/ to which docs/README.md doesn't link."""
     listed = {link.partition("#")[0] for link in LINK.findall((top / "docs/README.md").read_text(encoding="utf-8"))}
     for page in sorted((top / "docs").glob("*.md")):
         if page.name not in {*listed, "README.md"}:

@@ -1,6 +1,6 @@
 """Compares the tables of docs/LISTS.md with the definitions, or writes them: lists_page.py TOP [--write].
 
-Each list is a table of the page, found by its head. clients/make_tables.py reads the definitions by the same functions.
+Each list is a table of the page, found by its header. clients/make_tables.py reads the definitions with the same functions.
 """
 
 import itertools
@@ -8,7 +8,7 @@ import pathlib
 import re
 import sys
 
-# Where the definitions stand, below crates/.
+# The files of the definitions, below crates/.
 SHAPES = "al_tree/specs/Table.antt"
 EVENTS = "al_tree/specs/Names.antt"
 ACTIVITIES = "al_rules/specs/Names.antt"
@@ -52,7 +52,7 @@ WANTED = {
 FUNCTION = re.compile(r'^function_name function\.(\w+) = codes "(\w+)"', re.MULTILINE)
 SIGNATURE = re.compile(r"^signature function\.(\w+) = giving \(?(\w+)((?: wants\.\w+)*)\)? returns\.(\w+)$", re.MULTILINE)
 PARAMETERS = {"Zero": "", "One": "{0}", "Two": "{0}, {1}", "OneOrTwo": "{0}, optional {1}", "OneOrMore": "{0}, {1}.."}
-# What each limit counts, and what says that it is broken.
+# What each limit counts, and the code of the fault or refusal beyond it.
 LIMITED = {
     "largest_file": ("bytes of a file", "E3"),
     "most_files": ("files of a folder", "E4"),
@@ -76,20 +76,20 @@ def quoted(names):
 
 
 def table_of(head, rows):
-    """A table of Markdown."""
+    """A Markdown table."""
     lines = [" | ".join(head), "|".join(["---"] * len(head)), *(" | ".join(row) for row in rows)]
     shown = (f"|{line}|\n" if line.startswith("---") else f"| {line} |\n" for line in lines)
     return "".join(re.sub(r"\|  (?=\|)", "| ", line) for line in shown)
 
 
 def names_of(text, name):
-    """The names of a list that a file of definitions holds."""
+    """The names in a list of a file of definitions."""
     found = re.search(rf"^{name} =((?:\n? .+)+)", text, re.MULTILINE)
     return NAME.findall(found[1]) if found else sys.exit(f"the list {name} isn't read")
 
 
 def shape_table(crates):
-    """The table of shapes, in which a section of `on` goes by its own name."""
+    """The table of shapes, in which each section of `on` has its own name."""
     text = (crates / SHAPES).read_text(encoding="utf-8").replace("(On Events)", "On")
     return re.sub(r"\(On (\w+)\)", r"\1", text)
 
@@ -100,7 +100,7 @@ def name_of(shape):
 
 
 def parts_of(text):
-    """The parts of an equation's right side: which scalars, items and mappings are taken."""
+    """The parts of an equation's right side: which scalars, items and mappings are accepted."""
     found = [by.fullmatch(text) for by in FORMS if by.fullmatch(text)]
     if not found:
         sys.exit(f"an equation of the table isn't read: {text}")
@@ -109,7 +109,7 @@ def parts_of(text):
 
 
 def value_of(shape, rules):
-    """What a shape takes, in words."""
+    """What a shape accepts, in words."""
     if rules[shape] is None:
         return "anything"
     parts, kinds = rules[shape], []
@@ -125,8 +125,8 @@ def value_of(shape, rules):
 
 
 def fields_of(text):
-    """The fields of a section: the key, the shape of its value, whether it has to stand or in place of which key, and beside or behind
-    which key it cannot stand."""
+    """The fields of a section: the key, the shape of its value, whether it is required or which key it replaces, and which keys it can't be
+    combined with or come after."""
     if not re.fullmatch(r"[∷+\[\]\s]*", FIELD.sub("", text)):
         sys.exit(f"a field of the table isn't read: {text}")
     found = []
@@ -142,14 +142,14 @@ def fields_of(text):
 
 
 def row_of(key, shape, need, where, other, rules):
-    """A key's row: itself, with a mark where it has to stand, what it takes, and where it can stand."""
+    """A key's row: the key, with a mark if it is required, what it accepts, and where it is allowed."""
     shown = f"**`{key}`**" if need else f"`{key}`"
     needed = f" unless there is `{need}`" if isinstance(need, str) else ""
     return shown + needed, value_of(shape, rules), f"not {where} `{other}`" if other else ""
 
 
 def sections_of(text):
-    """The rows of each section, a shape that is a mapping with keys of its own, by its name."""
+    """The rows of each section (a shape that is a mapping with keys of its own), by its name."""
     rules = {name: None if right.strip() == "None" else parts_of(right.strip()) for name, right in EQUATION.findall(text)}
     sections = {}
     for shape, parts in rules.items():
@@ -162,7 +162,7 @@ def sections_of(text):
 
 
 def section_keys(crates):
-    """The keys of each section, what each takes, and where it can stand; of neighbours that take the same one row."""
+    """The keys of each section, what each accepts, and where it is allowed; one row for neighbors that accept the same."""
     rows = []
     for name, found in sections_of(shape_table(crates)).items():
         for number, (same, keys) in enumerate(itertools.groupby(found, key=lambda row: row[1:])):
@@ -171,7 +171,7 @@ def section_keys(crates):
 
 
 def activity_types(crates):
-    """Each event with its activity types, in the order of the names."""
+    """Each event with its activity types, sorted by name."""
     names = names_of((crates / EVENTS).read_text(), "event_names")
     text = (crates / ACTIVITIES).read_text()
     table = text[text.index("activities ="):text.index("abbrev pub activities_of")]
@@ -184,7 +184,7 @@ def activity_types(crates):
 
 
 def events(crates):
-    """The events with activity types, those with the same ones together, and last all others."""
+    """The events with activity types, grouped by equal types, and all others last."""
     found = {}
     for name, types in activity_types(crates).items():
         found.setdefault(tuple(types), []).append(name)
@@ -193,7 +193,7 @@ def events(crates):
 
 
 def input_types(crates):
-    """The types that inputs have."""
+    """The types of inputs."""
     text = (crates / ACTIVITIES).read_text()
     lists = (("workflow_call", "call_types"), ("workflow_dispatch", "dispatch_types"))
     rows = [(f"`{event}`", quoted(names_of(text, name))) for event, name in lists]
@@ -211,7 +211,7 @@ def settings(crates):
 
 
 def fixed_contexts(crates):
-    """The contexts that are the same in every file: the properties with their types, and the type of others."""
+    """The contexts that are the same in every file: the properties with their types, and the type of all others."""
     text = (crates / FIXED).read_text()
     lists = dict(re.findall(r"^(\w+_names) =\n((?:    .*\n)+)", text, re.MULTILINE))
     found = {}
@@ -227,7 +227,7 @@ def fixed_contexts(crates):
 
 
 def contexts(crates):
-    """The same as a table, properties of one type together."""
+    """The same as a table, with properties grouped by type."""
     rows = []
     for context, (fields, others) in fixed_contexts(crates).items():
         by_type = {}
@@ -238,7 +238,7 @@ def contexts(crates):
 
 
 def arguments_of(text):
-    """The parts of a call's arguments: words, and what stands in brackets."""
+    """The parts of a call's arguments: words, and what is in brackets."""
     parts, depth, word = [], 0, ""
     for sign in text + " ":
         depth += sign in "([" and 1 or (sign in ")]" and -1 or 0)
@@ -252,7 +252,7 @@ def arguments_of(text):
 
 
 def names_in(text, lists):
-    """The names of a list, those of the lists that it begins with too."""
+    """The names in a list, including those of the lists it begins with."""
     found = []
     for word in re.findall(r"[\w]+", text):
         found += lists.get(word, [word] if word[0].isupper() else [])
@@ -260,12 +260,12 @@ def names_in(text, lists):
 
 
 def availability_rows(crates):
-    """The paths of the table of places, together where they have the same contexts and special functions, and these."""
+    """The paths of the table of places, grouped by equal contexts and special functions, with these."""
     text, lists = (crates / AVAILABILITY).read_text(), {}
     for name, right in LIST.findall((crates / SCOPES).read_text() + text):
         lists[name] = names_in(right, lists)
     start = text.index("\ntable =\n") + len("\ntable =\n")
-    # The rows of some paths may stand on several lines.
+    # The rows of some paths can take several lines.
     before, *found = PLACES.split(" ".join(text[start : text.index("\n\n", start)].split()))
     rows = []
     for group in found:
@@ -287,7 +287,7 @@ def places(crates):
 
 
 def functions(crates):
-    """Of each function what it takes and gives."""
+    """What each function accepts and returns."""
     names, found = dict(FUNCTION.findall((crates / FUNCTION_NAMES).read_text())), {}
     for variant, form, arguments, gives in SIGNATURE.findall((crates / SIGNATURES).read_text()):
         wanted = [WANTED[it] for it in re.findall(r"wants\.(\w+)", arguments)]

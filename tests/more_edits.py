@@ -1,13 +1,13 @@
-"""Tries the edits that the gate leaves to the hand: more_edits.py TOP [--must-fail] [CRATE ..].
+"""Tries the edits that the gate doesn't try: more_edits.py TOP [--must-fail] [CRATE ..].
 
     python3 tests/more_edits.py . al_types
 
-Each file crates/NAME/more-edits/*.edit has the form of one of must-fail/: the prover must refuse the crate with it. With --must-fail those
-of the gate are tried instead, in a fraction of the time that it takes for them from nothing. Edits of different functions go into one
-check of a copy of the crate, over the work that `rt check` keeps in the crates' out/, so the crate has to be proved there first. An edit
-is refused where a goal of the function that it stands in fails, or a proof below the folder of that function's own proofs: not where only
-what it calls isn't proved, or where a proof names what the edit took away. One that stands in no function (a table) goes into a check of
-its own, which must fail. Prints a line for each edit; the status is 1 where one is let through or can't be tried.
+Each file crates/NAME/more-edits/*.edit has the form of one in must-fail/: the prover must refuse the crate with it. --must-fail tries those
+of the gate instead, in a fraction of the time that the gate takes for them from scratch. Edits of different functions go into one check of
+a copy of the crate, on top of the work that `rt check` keeps in the crates' out/, so the crate has to be proved there first. An edit is
+refused if a goal of its function fails, or a proof below the folder of that function's own proofs; not if only a called function isn't
+proved, or if a proof names what the edit removed. An edit outside of functions (a table) goes into a check of its own, which must fail.
+Prints a line for each edit; the status is 1 if one isn't refused or can't be tried.
 """
 
 import collections
@@ -28,10 +28,10 @@ Function = collections.namedtuple("Function", "file module owner name cycle")
 FUNCTION = re.compile(r"^( *)(?:pub(?:\([a-z]+\))? )?(?:(?:const|unsafe|async) )*fn (\w+)", re.MULTILINE)
 OWNER = re.compile(r"^(?:unsafe )?(?:impl|trait)\b(?:<[^>]*>)? *([\w:]+)(?:<[^{]*>)?(?: for ([\w:]+))?", re.MULTILINE)
 CYCLE = re.compile(r"#\[cycle\((\w+)\)\]")
-# what a check says of a function one of whose goals has no answer, and of a place of a proof that is wrong
+# what a check prints about a function with a goal that isn't proved, and about a place in a wrong proof
 FAILED = re.compile(r"^fn (\S+): (?:no proof: expected answers in |not proved$)", re.MULTILINE)
 WRONG = re.compile(r"^(?:note: )?(?:\./)?proofs/(\S+)/\w+\.antt:\d+:\d+: error(.*)$", re.MULTILINE)
-# a proof that names what an edit took away tells nothing of the contract
+# a proof that names what an edit removed says nothing about the contract
 TAKEN = re.compile(r"has no field|is not in scope|has no `|was not admitted")
 PARTS = ("src", "specs", "proofs")
 
@@ -50,7 +50,7 @@ def pairs_of(text):
 
 
 def function_at(source, file, at):
-    """The function of a file whose text holds an offset; none where the offset stands behind its end, as in a table."""
+    """The function of a file whose text contains an offset; None if the offset is after its end, as in a table."""
     found = None
     for match in FUNCTION.finditer(source, 0, at):
         found = match
@@ -65,13 +65,13 @@ def function_at(source, file, at):
             owner = match
     module = pathlib.PurePath(file).relative_to("src").with_suffix("").parts
     module = tuple(it for it in module if it not in ("lib", "main", "mod"))
-    # the attributes of a function stand between it and the line before that is empty
+    # the attributes of a function are between it and the empty line before
     cycle = CYCLE.search(source, source.rfind("\n\n", 0, found.start()) + 1, found.start())
     return Function(file, module, (owner[2] or owner[1]).split("::")[-1] if owner else None, found[2], cycle and cycle[1])
 
 
 def read_edit(path, crate):
-    """An edit and the function that all of its changes stand in, if that is one; its complaint where it can't be applied."""
+    """An edit and the function that all of its changes are in, if there is one; the reason if it can't be applied."""
     pairs, functions = [*pairs_of(path.read_text())], set()
     for file, old, _ in pairs:
         if (crate / file).read_text().count(old) != 1 and old not in "".join(new for _, _, new in pairs):
@@ -84,7 +84,7 @@ def read_edit(path, crate):
 
 
 def checks_of(edits):
-    """Groups of edits that one check can try: those of different functions; each that stands in no function by itself."""
+    """Groups of edits that one check can try: those of different functions; each edit outside of functions alone."""
     groups = []
     for edit in edits:
         free = (it for it in groups if edit.function and all(other.function not in (None, edit.function) for other in it))
@@ -97,7 +97,7 @@ def checks_of(edits):
 
 
 def copy_into(top, name, room):
-    """Copies a crate and the libraries below it, as they are built."""
+    """Copies a crate and the libraries below it, as built."""
     named = crates_of(top)
     crates = with_below(named, name)
     write_list(room / "crates.txt", named, crates)
@@ -108,7 +108,7 @@ def copy_into(top, name, room):
 
 
 def said_of(crate, edits):
-    """What a check of a copy with these edits says; its files are then as before."""
+    """What a check of a copy with these edits prints; afterwards its files are as before."""
     texts = {}
     for edit in edits:
         for file, old, new in edit.pairs:
@@ -140,7 +140,7 @@ def is_refused(crate, function, said):
 
 
 def tried(name, crate, edits):
-    """Tries a group and tells of each of its edits whether it is refused; one by one those of which the check doesn't say so."""
+    """Tries a group and yields each of its edits with whether it is refused; those about which the check says nothing are tried one by one."""
     status, said = said_of(crate, edits)
     reached = re.search(r"^logic=not-proved", said, re.MULTILINE)
     for edit in edits:
@@ -155,7 +155,7 @@ def tried(name, crate, edits):
 
 
 def try_crate(top, name, kind):
-    """Tries all of a crate's edits of a kind and returns how many were not refused."""
+    """Tries all edits of a kind in a crate and returns how many were not refused."""
     wrong, edits = 0, []
     with tempfile.TemporaryDirectory(prefix="more-edits-") as folder:
         room = pathlib.Path(folder)

@@ -1,7 +1,6 @@
 """Lints this repository with its own program: own_repository.py PROGRAM.
 
-Its workflows and its action have no fault; and in a copy in which one key is misspelled the program finds that.
-Prints one line for each case.
+Its workflows and its action have no fault, and in a copy with one misspelled key the program finds it. Prints a line for each case.
 """
 
 import pathlib
@@ -27,7 +26,7 @@ def clean(name, program, words):
 
 
 def misspelled(program):
-    """A copy whose first workflow has one key that isn't one."""
+    """A copy whose first workflow has a misspelled key."""
     first = sorted((TOP / WORKFLOWS).glob("*.yml"))[0]
     text = first.read_text(encoding="utf-8").replace("    runs-on:", "    run-on:", 1)
     row = text.splitlines().index("    run-on: ubuntu-latest") + 1

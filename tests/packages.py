@@ -1,9 +1,9 @@
-"""Tests the package for Debian that `./release --deb` makes, the manual page, and what shells complete: packages.py PROGRAM.
+"""Tests the Debian package that `./release --deb` makes, the manual page, and shell completion: packages.py PROGRAM.
 
-The package has the same bytes from two folders; dpkg installs it below a root of its own where the C library is new enough, and else
-refuses it; its programs run from there, the clients find theirs, and its removal leaves nothing. The manual page has the words of the
-program's help and its version, and what bash, zsh and fish complete is asked of them. A case whose command isn't on this machine (dpkg,
-mandoc, fish, zsh) is skipped. Prints one line for each case.
+The package has the same bytes when made in two folders; dpkg installs it below a root of its own if the C library is new enough, and
+otherwise refuses it; its programs run from there, the clients find theirs, and removing it leaves nothing. The manual page has the words of
+the program's help and its version, and bash, zsh and fish are asked what they complete. A case whose command is missing on this machine
+(dpkg, mandoc, fish, zsh) is skipped. Prints a line for each case.
 """
 
 import gzip
@@ -19,7 +19,7 @@ from release import clone, failed, run
 from running import CALLED, CALLER, MISSING_INPUT, WORKFLOWS, run_in_room, write_files
 
 WORDS = ["--oneline", "--root", "--session", "--help"]
-# Of what is on the pages, by command.
+# Some of the words on the manual pages, by command.
 PAGES = {
     "actionlint": [*WORDS, "Takes commands from standard input", "actionlint --root \"$(git rev-parse --show-toplevel)\""],
     "actionlint-report": ["--form", "--ignore CODE[:PATH]", "--shellcheck", "--version"],
@@ -41,13 +41,13 @@ def made(folder, program, to):
 
 
 def dpkg(root, *words):
-    """Runs dpkg over a root of its own, as any user."""
+    """Runs dpkg on a root of its own, as any user."""
     given = ["--force-not-root", "--force-script-chrootless", f"--root={root}", f"--log={root}/log", *words]
     return run(["dpkg", *given], env=ENVIRONMENT)
 
 
 def scratch_root(room, glibc):
-    """A root in which nothing but the C library is installed."""
+    """A root in which only the C library is installed."""
     root = pathlib.Path(tempfile.mkdtemp(dir=room))
     for name in ("info", "updates"):
         (root / "var/lib/dpkg" / name).mkdir(parents=True)
@@ -56,14 +56,14 @@ def scratch_root(room, glibc):
 
 
 def repository(room):
-    """A folder with a workflow that lacks an input of an action."""
+    """A folder with a workflow that doesn't give an input of an action."""
     folder = pathlib.Path(tempfile.mkdtemp(dir=room))
     write_files(folder, {f"{WORKFLOWS}/c.yml": CALLER, "a/action.yml": CALLED})
     return folder
 
 
 def installed(package, root, room, version):
-    """Installs the package, runs what it brings, and removes it."""
+    """Installs the package, runs its programs, and removes it."""
     wrong = failed(dpkg(root, "-i", package))
     lint = run([root / "usr/bin/actionlint", "--oneline"], cwd=repository(room), env=ENVIRONMENT)
     wrong += failed(lint, 1) + ([] if lint.stdout == MISSING_INPUT else [f"it reports {lint.stdout}"])
@@ -78,13 +78,13 @@ def installed(package, root, room, version):
 
 
 def refused(package, room):
-    """With an older C library dpkg doesn't set it up."""
+    """With an older C library dpkg doesn't configure it."""
     ran = dpkg(scratch_root(room, "2.33-1"), "-i", package)
     return [] if ran.returncode and b"depends on libc6 (>= 2.34)" in ran.stderr else [f"status {ran.returncode}: {ran.stderr}"]
 
 
 def control(package, version):
-    """What the package says of itself."""
+    """What the package says about itself."""
     said = run(["dpkg-deb", "-f", package]).stdout.decode()
     wanted = ["Package: juzbrost-actionlint", f"Version: {version}", "Architecture: amd64", "Depends: libc6 (>= 2.34)",
               "Recommends: python3, python3-pylsp-jsonrpc, python3-yaml"]
@@ -92,7 +92,7 @@ def control(package, version):
 
 
 def contents(package, version, room):
-    """The log of changes is one as Debian has it, with the version; and the clients are those alone that work without the repository."""
+    """The changelog has Debian's form and the version; and there are only the clients that work without the repository."""
     root = room / "unpacked"
     wrong = failed(run(["dpkg-deb", "-x", package, root]))
     log = gzip.decompress((root / "usr/share/doc/juzbrost-actionlint/changelog.gz").read_bytes()).decode()
@@ -113,7 +113,7 @@ def manual_page(prefix, command, needed, version):
 
 
 def bash_completes(file, typed, folder):
-    """What bash completes of the last of the words that were typed."""
+    """What bash completes for the last of the words typed."""
     command = typed.split(" ")[0]
     script = 'source "$1"; COMP_WORDS=($2); [[ $2 == *" " ]] && COMP_WORDS+=(""); COMP_CWORD=$((${#COMP_WORDS[@]} - 1)); '
     script += f'_{command.replace("-", "_")}; printf "%s\\n" "${{COMPREPLY[@]}}"'
@@ -121,14 +121,14 @@ def bash_completes(file, typed, folder):
 
 
 def fish_completes(file, typed, folder):
-    """What fish completes of a line."""
+    """What fish completes for a line."""
     given = ["fish", "--no-config", "-c", "source $argv[1]; complete -C $argv[2]", file, typed]
     ran = run(given, cwd=folder, env=ENVIRONMENT | {"HOME": str(folder)})
     return sorted(it.split("\t")[0] for it in ran.stdout.decode().splitlines())
 
 
 def zsh_words(file):
-    """What the file gives to zsh's `_arguments`, each a word with its text and its values."""
+    """What the file passes to zsh's `_arguments`: each word with its text and its values."""
     script = '_arguments() { print -rl -- "$@" }; source $1'
     return run(["zsh", "-fc", script, "zsh", file], env=ENVIRONMENT).stdout.decode().splitlines()
 
@@ -165,7 +165,7 @@ def shells(share, room):
 
 
 def cases(program, room):
-    """Each case with what differs, or nothing where it can't be run."""
+    """Each case with what differs, or None if it can't be run."""
     if not shutil.which("dpkg-deb"):
         yield "package", None
         return

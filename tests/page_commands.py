@@ -1,14 +1,13 @@
 """Runs the commands that pages show, and compares what they print: page_commands.py PROGRAM [PAGE]...
 
-Fenced blocks of a page (README.md and all of docs/ and the other pages at the top, unless pages are named) are marked in the line that
-opens them:
+Fenced blocks of a page (by default README.md, all of docs/ and the other pages at the top) are marked in the line that opens them:
 
     ```console run          each line `$ COMMAND` is run by bash in a copy of the repository that carries the program and has nothing
                             built; the lines below it are what it prints on both streams, where `...` stands for any lines
     ```console run empty    the same in an empty folder, with the program as `actionlint` on the PATH
-    ```LANGUAGE file=PATH   the block is a file; where it is a workflow or an action, the program finds it clean
+    ```LANGUAGE file=PATH   the block is a file; if it is a workflow or an action, the program finds no fault in it
 
-A block's commands share one shell. Of the system they see /usr/bin and /bin. Prints one line for each block, and fails where there is none.
+A block's commands share one shell, with only /usr/bin and /bin of the system. Prints a line for each block, and fails if there is none.
 """
 
 import os
@@ -27,7 +26,7 @@ SECONDS = 120
 
 
 def commands_of(text):
-    """The commands of a block, each with the lines that it prints; lines that begin with `> ` go on with a command."""
+    """The commands of a block, each with the lines that it prints; lines that begin with `> ` continue a command."""
     found = []
     for line in text.splitlines():
         if line.startswith("$ "):
@@ -40,13 +39,13 @@ def commands_of(text):
 
 
 def script_of(commands):
-    """A script that marks where the output of each command begins, and leaves each the status of the one before it."""
+    """A script that marks where the output of each command begins, and keeps the status of the previous command for each."""
     parts = [f"printf '{MARK}'\n(exit $status)\n{command}\nstatus=$?\n" for command, _ in commands]
     return "status=0\n" + "".join(parts)
 
 
 def matches(lines, wanted):
-    """Whether lines are those wanted, where `...` stands for any."""
+    """Whether lines match the expected ones, where `...` matches any lines."""
     parts = ["(?:.*\n)*" if it == "..." else re.escape(it) + "\n" for it in wanted]
     return re.fullmatch("".join(parts), "".join(it + "\n" for it in lines)) is not None
 
@@ -80,7 +79,7 @@ class Machine:
         return [it.splitlines() for it in ran.stdout.decode(errors="replace").split(MARK)[1:]]
 
     def run(self, text, empty):
-        """What of a block's commands prints something else."""
+        """The commands of a block that print something else."""
         commands = commands_of(text)
         outputs = self.outputs(commands, empty)
         found = [f"{len(outputs)} of {len(commands)} commands were run"] if len(outputs) != len(commands) else []
@@ -90,7 +89,7 @@ class Machine:
         return found
 
     def lint(self, path, text):
-        """What the program says of a file of a page, where it takes such files."""
+        """What the program says about a file on a page, if it lints such files."""
         folder = pathlib.Path(tempfile.mkdtemp(dir=self.room))
         write_files(folder, {path: text.encode()})
         ran = subprocess.run([self.program, "--oneline", path], cwd=folder, capture_output=True, check=False, timeout=SECONDS)

@@ -1,7 +1,7 @@
-"""Compares the pages with the sources: pages.py TOP [--write]. With `--write` what follows from the sources is written anew first.
+"""Compares the pages with the sources: pages.py TOP [--write]. `--write` first rewrites what follows from the sources.
 
 Runs fault_pages.py, links.py, each NAME_page.py of this folder that doesn't need the built program, tidy.py and case_copies.py; those that
-can write say `--write` in their first line. Prints a line for each, and what is wrong. Ends with 0 where all were as expected.
+can write have `--write` in their first line. Prints a line for each, and what is wrong. The status is 0 if all were as expected.
 """
 
 import pathlib
@@ -21,7 +21,7 @@ def run(script, *words):
 
 
 def can_write(script):
-    """Whether a script can write its page anew."""
+    """Whether a script can rewrite its page."""
     return "--write" in (HERE / script).read_text(encoding="utf-8").splitlines()[0]
 
 

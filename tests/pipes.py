@@ -2,8 +2,8 @@
 
     python3 tests/pipes.py PROGRAM
 
-Each exchange has so many seconds; a program that holds a reply back until more input comes doesn't answer in time. Prints one line
-for each case, as `rt try --cases` does: `case=NAME output=expected status=N`, or what differs.
+Each exchange has a time limit; a program that holds a reply back until more input arrives exceeds it. Prints a line for each case, as
+`rt try --cases` does: `case=NAME output=expected status=N`, or what differs.
 """
 
 import os
@@ -15,7 +15,7 @@ from running import EMPTY_REPORT, SCRIPT, exit_status, report
 
 SECONDS = 20
 
-# a command, cut where each piece is sent by itself, and its reply
+# a command, in the pieces in which it is sent, and its reply
 TALK = [
     ([b"report\n"], b"status 0\n"),
     ([b"put .github/workflows/a.yml 0\n", b"\n"], b"ok 1\n"),
@@ -29,7 +29,7 @@ TALK = [
 
 
 def read_reply(program, size):
-    """Reads so many bytes, or as many as come in time."""
+    """Reads this many bytes, or as many as arrive in time."""
     got = b""
     while len(got) < size:
         ready, _, _ = select.select([program.stdout], [], [], SECONDS)
@@ -43,7 +43,7 @@ def read_reply(program, size):
 
 
 def is_silent(program):
-    """Whether no further byte waits."""
+    """Whether no more bytes arrive."""
     return not select.select([program.stdout], [], [], 0.05)[0]
 
 

@@ -1,9 +1,9 @@
-"""The places of a program where it asks for memory, read from its machine code.
+"""The places where a program allocates memory, read from its machine code.
 
-A place is a call that can lead to the allocator: one of a function that is the allocator, or that calls or jumps to such a function. There
-a want of memory comes back, and what follows hands it on. The code is compiled with no frame pointers and says nothing of how its stack
-is unwound; so for each call is found how far the stack's top is from the function's own return address then. By that tests/growths.c finds
-all calls that a growth stands under.
+A place is a call that can lead to the allocator: a call of a function that is the allocator, or that calls or jumps to such a function.
+Running out of memory returns there, and the code after it passes the error on. The code is compiled without frame pointers and doesn't say
+how to unwind its stack, so this module determines for each call how far the top of the stack is from the function's own return address.
+With that, tests/growths.c finds all calls that lead to an allocation.
 
 Needs `objdump`.
 """
@@ -31,7 +31,7 @@ def signed(digits):
 
 
 def functions_of(program):
-    """The functions of a program: of each its start, its name and its instructions, each with its address, word and operands."""
+    """The functions of a program, each with its start, its name and its instructions, and these with address, word and operands."""
     words = ["objdump", "-d", "--no-show-raw-insn", "-j", ".text", "-j", ".plt", program]
     found = []
     for line in subprocess.run(words, capture_output=True, text=True, check=True).stdout.split("\n"):
@@ -43,8 +43,8 @@ def functions_of(program):
 
 
 def moved(state, word, rest):
-    """The state behind an instruction: how far the stack's top is below the function's return address, how far %rbp is, where it was made
-    a frame's, and how far %r11 is, to which a loop takes the stack's top down step by step, where a frame is larger than a page."""
+    """The state after an instruction: how far the top of the stack is below the function's return address, how far %rbp is if it was made a
+    frame pointer, and how far %r11 is, to which a loop lowers the top step by step if a frame is larger than a page."""
     depth, frame, bottom = state
     if (word, rest) == ("mov", "%rsp,%r11"):
         return depth, frame, depth
@@ -57,7 +57,7 @@ def moved(state, word, rest):
 
 
 def moved_top(depth, frame, word, rest):
-    """The same of the stack's top and %rbp, where no loop moves the top."""
+    """The same for the top of the stack and %rbp, if no loop moves the top."""
     if word.startswith("push"):
         return depth + 8, frame
     if word.startswith("pop"):
@@ -72,20 +72,20 @@ def moved_top(depth, frame, word, rest):
 
 
 class Function:
-    """A function: the calls that it makes, each with where it returns to, the depth of the stack and what is called, and its jumps."""
+    """A function: its calls, each with its return address, the depth of the stack and the callee, and its jumps."""
 
     def __init__(self, start, name, instructions):
         self.start, self.name, self.instructions = start, name, instructions
         self.index = {address: at for at, (address, _, _) in enumerate(instructions)}
         self.states, self.calls, self.jumps, self.tables = {}, [], set(), []
         self.walk(0, (0, 0, 0))
-        # what no jump names is reached by a table of jumps
+        # code that no jump names is reached through a jump table
         for at, (_, word, _) in enumerate(instructions):
             if at not in self.states and self.tables and word not in FILLING:
                 self.walk(at, self.tables[0])
 
     def walk(self, at, state):
-        """Follows the code from an instruction on."""
+        """Follows the code from an instruction."""
         todo = [(at, state)]
         while todo:
             at, state = todo.pop()
@@ -94,25 +94,25 @@ class Function:
                 todo += self.step(at, state)
 
     def step(self, at, state):
-        """What follows an instruction, with its states."""
+        """The instructions that follow an instruction, with their states."""
         _, word, rest = self.instructions[at]
         state = moved(state, word, rest)
-        behind = [(at + 1, state)]
+        following = [(at + 1, state)]
         if word in ENDS:
             return []
         if word == "call":
             self.calls.append((self.return_of(at), state[0], self.target(rest)))
         if not word.startswith("j"):
-            return behind
-        behind = [] if word == "jmp" else behind
+            return following
+        following = [] if word == "jmp" else following
         target = self.target(rest)
         if target is None:
             self.tables.append(state)
-            return behind
+            return following
         if target not in self.index:
             self.jumps.add(target)
-            return behind
-        return [*behind, (self.index[target], state)]
+            return following
+        return [*following, (self.index[target], state)]
 
     def return_of(self, at):
         """Where a call returns to."""
@@ -140,8 +140,8 @@ def leading(functions):
 
 
 class Places:
-    """The places of a program, each by the address that its call returns to, with the name of its function; and how deep the stack is at
-    each call, for tests/growths.c. `main` jumps to the program's first function."""
+    """The places of a program by the return address of their call, with the name of the function; and the depth of the stack at each call,
+    for tests/growths.c. `main` jumps to the program's first function."""
 
     def __init__(self, program):
         functions = [Function(*it) for it in functions_of(program)]

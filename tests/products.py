@@ -1,5 +1,5 @@
-"""Folders in which one count times another would be taken, in time or in memory, and what is reported of each: for tests/hostile.py, which
-compares the reports under a limit of memory, and bench/products.py, which measures them.
+"""Folders in which the product of two counts would be taken, in time or in memory, and the report of each. tests/hostile.py compares the
+reports under a limit of memory, and bench/products.py measures them.
 """
 
 from itertools import islice, product
@@ -19,18 +19,18 @@ CALLED_ELSEWHERE = b"uses: o/r/.github/workflows/w.yml@v"
 
 
 def lacking(position, called, kind):
-    """What is reported of a call at this line and column that gives nothing."""
+    """The report about a call at this line and column that gives nothing."""
     return b"".join(b'%s%s: required input "%s" of "%s" is missing [%s]\n' % (AT, position, name, called, kind) for name in INPUTS)
 
 
 def with_outputs(count, jobs):
-    """A workflow whose first job has so many outputs, with further jobs."""
+    """A workflow whose first job has this many outputs, followed by other jobs."""
     outputs = b", ".join(b"o%04d: x" % number for number in range(count))
     return {WORKFLOW: b"on: push\njobs:\n  a: {runs-on: u, outputs: {%s}, steps: [{run: x}]}\n" % outputs + jobs}
 
 
 def reading_outputs(steps):
-    """A job with 10,000 outputs, and steps of one that needs it."""
+    """A job with 10,000 outputs, and steps of a job that needs it."""
     return with_outputs(10_000, b"  b:\n    needs: a\n    runs-on: u\n    steps:\n" + steps), b""
 
 
@@ -47,51 +47,51 @@ def branches_with_many_outputs():
 
 
 def operands_with_many_outputs():
-    """Expressions of so many operands that are all of many outputs, each of which reads the last of them."""
+    """Expressions with many operands that are objects with many outputs, each of which reads the last output."""
     operands = b" || ".join([b"needs.a.outputs"] * 1_000)
     steps = b"      - run: ${{ (%s).o9999 }}\n" % operands * 40
     return reading_outputs(steps)
 
 
 def fields_of_many_outputs(of):
-    """Expressions on what all outputs have in common, of a job or of two branches."""
+    """Expressions on what all outputs of a job or of two branches have in common."""
     steps = b"      - run: ${{ contains(%s.*, 'x') }}\n" % of * 12_000
     return reading_outputs(steps)
 
 
 def matrix_of(values, read=b"      - run: ${{ matrix.r.k00000 }} ${{ matrix.r.a.k09999 }}\n"):
-    """A workflow with a matrix of these values of one row, and steps: unless others are given, one that reads a field of the first value and
-    one of the last."""
+    """A workflow with a matrix that has these values in one row, and steps: by default one that reads a field of the first value and one of
+    the last."""
     start = b"on: push\njobs:\n  a:\n    strategy: {matrix: {%s}}\n    runs-on: u\n    steps:\n"
     return {WORKFLOW: start % values + read}, b""
 
 
 def mappings_of_a_row():
-    """A row of a matrix whose values are mappings, each with a key of its own, and with a mapping of such a key."""
+    """A row of a matrix whose values are mappings, each with a key of its own, and a mapping with such a key."""
     values = b", ".join(b"{k%05d: 1, a: {k%05d: 1}}" % (number, number) for number in range(10_000))
     return matrix_of(b"r: [%s]" % values)
 
 
 def last_of_mappings_of_a_row():
-    """Expressions that read the key which the last of a row's mappings has."""
+    """Expressions that read the key of the last mapping in a row."""
     values = b", ".join(b"{k%05d: 1}" % number for number in range(10_000))
     return matrix_of(b"r: [%s]" % values, b"      - run: ${{ matrix.r.k09999 }}\n" * 12_000)
 
 
 def last_of_mappings_below_a_row():
-    """Expressions that read a key which the last of many mappings has, each a level below a value of a row."""
+    """Expressions that read a key of the last of many mappings, each one level below a value of a row."""
     values = b", ".join(b"{a: {k%05d: 1}}" % number for number in range(10_000))
     return matrix_of(b"r: [%s]" % values, b"      - run: ${{ matrix.r.a.k09999 }}\n" * 12_000)
 
 
 def all_of_a_mapping(read):
-    """Expressions on what all of many mappings have in common, which stand in one."""
+    """Expressions on what all of many mappings inside one mapping have in common."""
     values = b", ".join(b"k%05d: {x: 1}" % number for number in range(16_000))
     return matrix_of(b"a: [{%s}]" % values, b"      - run: ${{ contains(%s, '1') }}\n" % read * 10_000)
 
 
 def all_of_two_mappings():
-    """Expressions on what all of many mappings have in common, half of which stand in each of two rows."""
+    """Expressions on what all of many mappings have in common, half of them in each of two rows."""
     rows = b", ".join(b"%c: [{%s}]" % (row, b", ".join(b"%c%05d: {x: 1}" % (row, number) for number in range(8_000))) for row in b"ab")
     return matrix_of(rows, b"      - run: ${{ contains(matrix.*[0].*.x, '1') }}\n" * 10_000)
 
@@ -103,21 +103,21 @@ def mappings_of_includes():
 
 
 def outputs_of_all_steps(count, reads):
-    """Expressions on the last output that so many steps have, each of which calls an action with many outputs."""
+    """Expressions on the last output of many steps, each of which calls an action with many outputs."""
     steps = b"".join(b"      - {id: s%04d, uses: ./a}\n" % number for number in range(count))
     read = b"      - run: ${{ contains(steps.*.outputs.o9999, 'x') }}\n" * reads
     return {WORKFLOW: STEPS + steps + read, ACTION: action_with_outputs()}, b""
 
 
 def outputs_of_called_jobs():
-    """Expressions on the last output that many needed jobs have, each of which calls a workflow with many outputs."""
+    """Expressions on the last output of many needed jobs, each of which calls a workflow with many outputs."""
     call = b"uses: ./%s/b.yml" % WORKFLOWS.encode()
     files, told = needed_jobs(4_000, call, b"contains(needs.*.outputs.o9999, 'x')")
     return files | {f"{WORKFLOWS}/b.yml": workflow_with_outputs()}, told
 
 
 def scripts_full_of_stars():
-    """Jobs that all need the same jobs with many outputs, each with a script that has an expression and stars that go over no fields."""
+    """Jobs that all need the same jobs with many outputs, each with a script that has an expression and stars outside of it."""
     needed = b"".join(b"  n%02d: {runs-on: u, outputs: {%s}, steps: [{run: x}]}\n" % (
         job, b", ".join(b"o%02d-%03d: x" % (job, number) for number in range(400))) for job in range(60))
     names = b", ".join(b"n%02d" % job for job in range(60))
@@ -128,7 +128,7 @@ def scripts_full_of_stars():
 
 
 def deep_in_common(read, depth=3, width=7, count=40):
-    """Expressions on what mappings of so many rows of a matrix have in common, which stand this deep in others of so many entries."""
+    """Expressions on what mappings in many rows of a matrix have in common, this deep inside others with this many entries."""
     def mapping(depth, name):
         if depth == 0:
             return b"{x: 1}"
@@ -137,38 +137,37 @@ def deep_in_common(read, depth=3, width=7, count=40):
     return matrix_of(rows, b"      - run: ${{ contains(%s, '1') }}\n" % read * 9_000)
 
 
-def paths_that_differ(value, behind, count=5_000, values=10_000, beside=b""):
-    """Expressions on what the values of a mapping have in common, by different paths: each of 13 steps by name or by `.*`. Beside each
-    mapping on the way stands another, which has this in it.
-    """
+def paths_that_differ(value, rest, count=5_000, values=10_000, beside=b""):
+    """Expressions on what the values of a mapping have in common, by different paths: each takes 13 steps by name or by `.*`. Each mapping
+    on the way has a sibling that contains the same."""
     mapping = b"{%s}" % b", ".join(b"k%04d: %s" % (number, value) for number in range(values))
     for _ in range(13):
         mapping = b"{a: %s, b: {%s}}" % (mapping, beside)
     paths = islice(product((b".a", b".*[0]"), repeat=13), count)
-    read = b"".join(b"      - run: ${{ contains(matrix.r%s%s, '1') }}\n" % (b"".join(path), behind) for path in paths)
+    read = b"".join(b"      - run: ${{ contains(matrix.r%s%s, '1') }}\n" % (b"".join(path), rest) for path in paths)
     return matrix_of(b"r: [%s]" % mapping, read)
 
 
 def below(depth, value=b"{x: 1}"):
-    """A value so deep below keys in mappings of one entry."""
+    """A value this deep below keys in mappings with one entry."""
     for _ in range(depth):
         value = b"{n: %s}" % value
     return value
 
 
 def paths_and_names(depth, values):
-    """Expressions by different paths, each with so many names behind what all values have in common."""
+    """Expressions by different paths, each followed by several names after what all values have in common."""
     return paths_that_differ(below(depth - 1), b".*" + b".n" * (depth - 1) + b".x", 4_500, values)
 
 
-def names_behind_brackets(depth, values, last):
-    """Expressions that read by names, the last of them this, behind a bracket round what all values of a matrix have in common."""
+def names_after_brackets(depth, values, last):
+    """Expressions that read by names, ending with this one, after brackets around what all values of a matrix have in common."""
     mapping = b"{%s}" % b", ".join(b"k%04d: %s" % (number, below(depth)) for number in range(values))
     return matrix_of(b"r: [%s]" % mapping, b"      - run: ${{ contains((matrix.r.*)%s%s, '1') }}\n" % (b".n" * depth, last) * 1_800)
 
 
 def many_steps(count):
-    """So many steps, each with an id."""
+    """Steps, each with an id."""
     return STEPS + b"".join(b"      - {id: s%04d, run: x}\n" % number for number in range(count))
 
 
@@ -185,7 +184,7 @@ def steps_between_branches():
 
 
 def needed_jobs(count, job, expression, reads=None):
-    """So many jobs of this kind, and another that needs all of them, with so many expressions, or else as many as there are jobs."""
+    """Jobs of this kind, and another that needs all of them, with this many expressions, by default one for each job."""
     names = [b"j%05d" % number for number in range(count)]
     jobs = b"".join(b"  %s: {%s}\n" % (name, job) for name in names)
     steps = b"      - run: ${{ %s }}\n" % expression * (reads or count)
@@ -194,12 +193,12 @@ def needed_jobs(count, job, expression, reads=None):
 
 
 def output_of_needed_jobs(expression, reads):
-    """So many expressions, in a job that needs 6,000 jobs, each of which has an output of one name."""
+    """Expressions in a job that needs 6,000 jobs, each of which has an output with the same name."""
     return needed_jobs(6_000, b"runs-on: u, outputs: {a: x}, steps: [{run: x}]", expression, reads)
 
 
 def outputs_of_needed_jobs(expression, first=b""):
-    """Expressions on an output of the last of many needed jobs, each of which has one of a name of its own, behind one of this kind."""
+    """Expressions on an output of the last of many needed jobs, each with an output of its own, preceded by a job of this kind."""
     names = [b"j%04d" % number for number in range(5_000)]
     jobs = b"".join(b"  %s: {runs-on: u, outputs: {o%s: x}, steps: [{run: x}]}\n" % (name, name) for name in names)
     steps = b"      - run: ${{ contains(%s.outputs.oj4999, 'x') }}\n" % expression * 9_000
@@ -213,13 +212,13 @@ def outputs_of_many_steps():
 
 
 def steps_with_all_before(count):
-    """So many steps, each of which reads an output of all steps before it."""
+    """Steps each of which reads an output of all steps before it."""
     steps = b"".join(b"      - {id: t%05d, run: \"${{ contains(steps.*.outputs.x, 'y') }}\"}\n" % number for number in range(count))
     return {WORKFLOW: many_steps(1) + steps}, b""
 
 
 def steps_that_call_an_action_each(count):
-    """So many steps, each of which calls an action of its own, and behind each an expression on an output of all before it."""
+    """Steps each of which calls an action of its own, and after each an expression on an output of all steps before it."""
     called = b"name: A\ndescription: d\noutputs: {o%04d: {value: x}, p: {value: x}}\nruns: {using: composite, steps: []}\n"
     files = {f"a{number:04}/action.yml": called % number for number in range(count)}
     step = b"      - {id: s%04d, uses: ./a%04d}\n      - run: ${{ contains(steps.*.outputs.p, 'x') }}\n"
@@ -253,7 +252,7 @@ def last_key_of_a_mapping():
 
 
 def chain_of_needs():
-    """Jobs each of which needs the one before."""
+    """Jobs each of which needs the previous one."""
     first = b"on: push\njobs:\n  j00000: {%s}\n" % CALLED_ELSEWHERE
     others = b"".join(b"  j%05d: {needs: j%05d, %s}\n" % (number, number - 1, CALLED_ELSEWHERE) for number in range(1, 16_000))
     return {WORKFLOW: first + others}, b""
@@ -267,7 +266,7 @@ def calls_that_lack():
 
 
 def calls_of_many_optional_inputs(steps):
-    """Calls of an action with many inputs that needn't be given, in about as many nodes as a file may have."""
+    """Calls of an action with many optional inputs, in about as many nodes as a file can have."""
     inputs = b",".join(b"i%d:" % number for number in range(40_000))
     action = b"name: A\ndescription: d\ninputs: {%s}\nruns: {using: node20, main: m.js}\n" % inputs
     return {WORKFLOW: b"on: push\njobs: {a: {runs-on: u, steps: [%s]}}\n" % b",".join(steps), ACTION: action}, b""
@@ -281,8 +280,7 @@ def aliases_of_a_call():
 
 def calls_at_one_place():
     """Calls that share the text of their `uses` by an alias, each of which gives another one of many inputs: the report has a line for each
-    input, since no call gives all of them.
-    """
+    input, since no call gives all of them."""
     names = [b"i%05d" % number for number in range(24_900)]
     inputs = b", ".join(b"%s: {required: true}" % name for name in names)
     action = b"name: A\ndescription: d\ninputs: {%s}\nruns: {using: node20, main: m.js}\n" % inputs
@@ -292,9 +290,8 @@ def calls_at_one_place():
 
 
 def calls_of_a_long_name(first, others, places):
-    """Steps, and others after them, that give an input which an action with a long name doesn't have. The report has a line for each place
-    of the input, by line and column.
-    """
+    """Steps, and others after them, that give an input that an action with a long name doesn't have. The report has a line for each place
+    of the input, by line and column."""
     name = b"a" * 900_000
     action = b"name: %s\ndescription: d\nruns: {using: node20, main: m.js}\n" % name
     steps = b"".join(b"      - %s\n" % step for step in first + others)
@@ -303,29 +300,29 @@ def calls_of_a_long_name(first, others, places):
 
 
 def aliases_of_two_steps():
-    """Aliases of two steps by one `uses` in turn."""
+    """Aliases of two steps with the same `uses` in turn."""
     steps = [b"&s {uses: &u ./a, with: {x: 1}}", b"&t {uses: *u, with: {x: 1}}"]
     return calls_of_a_long_name(steps, [b"*s", b"*t"] * 6_000, [b"6:34", b"7:30"])
 
 
 def steps_that_give_one_mapping():
-    """Steps each with a `uses` of its own that share what they give by an alias."""
+    """Steps, each with its own `uses`, that share what they give by an alias."""
     return calls_of_a_long_name([b"{uses: ./a, with: &w {x: 1}}"], [b"{uses: ./a, with: *w}"] * 10_000, [b"6:31"])
 
 
 def all_of_many_outputs():
-    """Expressions that are all of many outputs."""
+    """Expressions that are the object of many outputs."""
     steps = b"      - run: ${{ toJSON(needs.a.outputs) }}\n" * 12_000
     return reading_outputs(steps)
 
 
 def values(count):
-    """So many outputs of a file that is called."""
+    """The outputs of a called file."""
     return b", ".join(b"o%04d: {value: x}" % number for number in range(count))
 
 
 def workflow_with_outputs():
-    """A workflow that is called, with many outputs."""
+    """A called workflow with many outputs."""
     return b"on: {workflow_call: {outputs: {%s}}}\njobs: {a: {runs-on: u, steps: [{run: x}]}}\n" % values(10_000)
 
 
@@ -346,7 +343,7 @@ def steps_that_call_one_with_many_outputs():
     return {WORKFLOW: STEPS + steps, ACTION: action_with_outputs()}, b""
 
 
-# by name what makes a folder's files, each a path with its bytes, and the lines of its report
+# by name: a function that makes a folder's files, by path, and the lines of its report
 FOLDERS = {
     "last-of-10000-outputs-12000-times": last_of_many_outputs,
     "all-of-10000-outputs-12000-times": all_of_many_outputs,
@@ -371,8 +368,8 @@ FOLDERS = {
     "by-4500-paths-and-6-names": lambda: paths_and_names(6, 5_800),
     "by-4500-paths-and-8-names": lambda: paths_and_names(8, 4_500),
     "in-common-by-8000-paths-that-meet-others": lambda: paths_that_differ(b"{x: 1}", b".*.x", 8_000, 6_000, b"c: {x: 1}"),
-    "14-names-behind-brackets": lambda: names_behind_brackets(14, 2_900, b""),
-    "9-names-behind-brackets": lambda: names_behind_brackets(8, 4_400, b".x"),
+    "14-names-after-brackets": lambda: names_after_brackets(14, 2_900, b""),
+    "9-names-after-brackets": lambda: names_after_brackets(8, 4_400, b".x"),
     "output-of-6000-needs-in-brackets": lambda: output_of_needed_jobs(b"contains((needs.*).outputs.a, 'x')", 3_000),
     "output-of-6000-needs-in-brackets-by-index": lambda: output_of_needed_jobs(b"contains((needs[*]).outputs.a, 'x')", 3_000),
     "output-of-6000-needs-in-branches-in-brackets": lambda: output_of_needed_jobs(

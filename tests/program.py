@@ -1,9 +1,9 @@
-"""Runs the built program as a person does: folders on the disk, words, statuses, and what the system can refuse.
+"""Runs the built program as a person does: folders on disk, arguments, statuses, and what the system can refuse.
 
     python3 tests/program.py PROGRAM
 
 Each case compares the status and both streams with what docs/COMMAND-LINE.md says, and prints one line, as `rt try --cases` does:
-`case=NAME output=expected status=N`, or what differs. The cases of limits of the system run the program under them.
+`case=NAME output=expected status=N`, or what differs. The cases about limits of the system run the program under them.
 """
 
 import os
@@ -35,7 +35,7 @@ def passed_over(*paths):
     return b"".join(line(b"passed over " + path.encode() + b", which leads out of the folder") for path in paths)
 
 
-# ---- words
+# ---- arguments
 
 
 def words(place):
@@ -129,7 +129,7 @@ def refusals(place):
 
 
 def control_characters(place):
-    """Each control character of a path is a `?` where the path is printed."""
+    """Each control character in a path is printed as a `?`."""
     no = b""
     controls = "".join(map(chr, range(1, 32))) + "\x7f"
     place.fresh({f"{WORKFLOWS}/a\x1b]0;b\x7f.yml": b""})
@@ -139,7 +139,7 @@ def control_characters(place):
 
 
 def bind_socket(path):
-    """A socket at a path, which may be longer than the system takes at once."""
+    """A socket at a path, which may be longer than the system accepts at once."""
     folder, name = os.path.split(path)
     before = os.open(".", os.O_RDONLY)
     os.chdir(folder)
@@ -149,7 +149,7 @@ def bind_socket(path):
     os.close(before)
 
 
-# how a name can lead to no regular file; and whether there is something behind its links
+# how a name can lead to something that isn't a regular file; and whether its links lead to anything
 KINDS = {
     "link-to-nothing": (lambda path: os.symlink("someone@host.1234:5678", path), False),
     "link-to-itself": (lambda path: os.symlink(os.path.basename(path), path), False),
@@ -162,7 +162,7 @@ KINDS = {
 
 
 def kinds(place):
-    """Of what is listed only regular files are taken, behind their links; a FILE or a called file that is none can't be read."""
+    """Of what is listed only regular files are linted, after following links; a FILE or a called file that isn't regular can't be read."""
     no = b""
     path = f"{WORKFLOWS}/.#a.yml"
     for name, (make, there) in KINDS.items():
@@ -183,8 +183,8 @@ SECRET = b"a-secret-of-another-folder"
 
 
 def links_out(place):
-    """A listed or called file to which links lead out of the folder is passed over, and said; one that the words name can't be read. Of
-    what lies outside nothing is printed."""
+    """A listed or called file that links lead out of the folder is skipped with a message; one named as an argument can't be read. Nothing
+    outside is printed."""
     no = b""
     outside = place.fresh({"f.yml": SECRET, "action.yml": SECRET, "workflows/secret.yml": SECRET, "workflows/sub/secret.yml": SECRET})
     path = f"{WORKFLOWS}/a.yml"
@@ -216,7 +216,7 @@ def links_out(place):
     os.symlink(os.path.join(outside, "f.yml"), os.path.join(place.folder, WORKFLOWS, "b.yml"))
     absent = f'{path}:4:11: workflow "./{WORKFLOWS}/b.yml" is not in the folder [workflow-call]\n'
     place.case("listed-link-that-is-called-too", 1, absent.encode(), passed_over(f"{WORKFLOWS}/b.yml"), ["--oneline"])
-    # a folder beside this one, whose name goes on where this one's ends
+    # a sibling of this folder whose name begins with this one's
     folder = place.fresh({path: CLEAN})
     beside = f"{folder}-beside"
     os.mkdir(beside)
@@ -249,7 +249,7 @@ def links_inside(place):
     os.symlink(folder, os.path.join(place.folder, "link"))
     place.case("links-inside-over-a-link", 1, both, no, ["--oneline", "--root", "link"])
     place.case("links-inside-over-a-link-with-a-slash", 1, both, no, ["--oneline", "--root", "link/"])
-    # a folder whose own path isn't text: without links its files are linted, and where links lead isn't known
+    # a folder whose own path isn't text: its files are linted unless they are links, whose targets aren't known
     place.fresh({"\udcff/" + path: data for path, data in files.items()})
     where = os.path.join(place.folder, "\udcff")
     place.case("folder-whose-path-is-no-text", 0, no, no, ["--oneline"], cwd=where)
@@ -259,7 +259,7 @@ def links_inside(place):
 
 
 def long_names(place):
-    """A name that the system doesn't take is no file's."""
+    """A name that the system doesn't accept names no file."""
     no = b""
     name = "x" * 300
     calling = lambda path: CLEAN.replace(b"run: echo", b"uses: ./" + path.encode())
@@ -270,7 +270,7 @@ def long_names(place):
                                                      f"    uses: ./{WORKFLOWS}/{name}.yml\n".encode())})
     absent = f'{WORKFLOWS}/a.yml:4:11: workflow "./{WORKFLOWS}/{name}.yml" is not in the folder [workflow-call]\n'
     place.case("called-workflow-of-a-name-of-300-bytes", 1, absent.encode(), no, ["--oneline"])
-    # the longest path that a call can name, below a folder of a path that is nearly as long as the system takes
+    # the longest path that a call can name, below a folder whose path is nearly as long as the system accepts
     longest = "/".join(["y" * 200] * 5)
     place.fresh({f"{WORKFLOWS}/a.yml": calling(longest)})
     root = "./" * 2_000
@@ -295,7 +295,7 @@ def calls(place):
     place.fresh({workflow: CALLER, "a/action.yml": CALLED, "a/action.yaml": b""})
     empty = b"a/action.yaml:1:1: file is empty [syntax-check]\n"
     place.case("second-candidate-is-linted-and-answers-nothing", 1, MISSING_INPUT + empty, no, ["--oneline"])
-    # the action that is called calls the next one, in which the fault is
+    # the called action calls the next one, which has the fault
     composite = b"name: B\ndescription: d\nruns:\n  using: composite\n  steps:\n    - uses: ./a\n"
     place.fresh({workflow: CLEAN.replace(b"run: echo", b"uses: ./b"), "b/action.yml": composite, "a/action.yml": CALLED})
     place.case("action-called-by-an-action", 1, b'b/action.yml:6:13: required input "who" of "A" is missing [action]\n', no, ["--oneline"])
@@ -306,8 +306,8 @@ def calls(place):
 
 
 def order_of_calls(place):
-    """Of the paths that calls leave open the first is tried at each turn, also where a file that was just taken left it open; the first
-    fault ends the run, and a file is read before it is counted."""
+    """Of the paths that calls still wait for, the first one is tried each time, even if the file read last asked for it; the first fault
+    ends the run, and a file is read before it is counted."""
     no = b""
     workflow, large = f"{WORKFLOWS}/m.yml", b"#" * 1_048_577
     calling = lambda *names: CLEAN.replace(b"      - run: echo\n", b"".join(b"      - uses: ./%s\n" % name.encode() for name in names))
@@ -398,7 +398,7 @@ def streams(place):
 
 
 def full_pipe():
-    """A pipe that doesn't block and takes nothing more, with how many bytes are in it."""
+    """A non-blocking pipe that accepts nothing more, with the number of bytes in it."""
     reader, writer = os.pipe()
     os.set_blocking(writer, False)
     filled = 0
@@ -410,7 +410,7 @@ def full_pipe():
 
 
 def run_to_full_pipe(place, words, stdin, then):
-    """A run whose output is such a pipe, of which another thread does something after a while."""
+    """A run whose output is such a pipe; another thread does something with it after a while."""
     reader, writer, filled = full_pipe()
     answers = []
 
@@ -428,14 +428,14 @@ def run_to_full_pipe(place, words, stdin, then):
 
 
 def read_all(reader):
-    """What comes of a pipe until it ends."""
+    """What arrives from a pipe until its end."""
     with open(reader, "rb", closefd=False) as pipe:
         return pipe.read()
 
 
 def waiting_output(place):
-    """Output that doesn't block, as programs over Node hand it on, is waited for: nothing of a report is lost where it is full. Where its
-    reader goes meanwhile, the write has failed."""
+    """The program waits when its output is non-blocking, as from Node, and full: nothing of a report is lost. If the reader goes away
+    meanwhile, the write has failed."""
     no = b""
     place.fresh({f"{WORKFLOWS}/a.yml": b"on: push\njobs: {}\n" + b"".join(b"k%05d: 1\n" % number for number in range(5_000))})
     told = b"".join(b'.github/workflows/a.yml:%d:1: unexpected key "k%05d" [syntax-check]\n' % (3 + it, it) for it in range(5_000))
@@ -471,7 +471,7 @@ def memory(place):
             if wholes == 4:
                 break
         elif stops or ran.stdout or ran.returncode not in (127, -signal.SIGSEGV, -signal.SIGKILL, -signal.SIGABRT):
-            # below some size the system does not start the program at all
+            # below some size the system doesn't start the program at all
             wrong.append(f"at {size} bytes: status {ran.returncode}, stdout {show(ran.stdout)}, stderr {show(ran.stderr)}")
     if stops == 0 or wholes == 0:
         wrong.append(f"memory ran out {stops} times, and sufficed {wholes} times")
@@ -479,8 +479,8 @@ def memory(place):
 
 
 def memory_and_stack(place):
-    """Under each limit of memory a deep expression ends in the whole answer, in status 3, or, where the system refuses the stack its
-    growth, by its signal; in the two latter with nothing printed."""
+    """Under each limit of memory a deep expression ends with the whole answer, with status 3, or, if the system refuses to grow the stack,
+    with its signal; in the last two cases nothing is printed."""
     content = b"run: echo ${{ " + b"1||1&&1==1<contains(" * 50 + b"github.reff" + b",1)" * 50 + b" }}"
     place.fresh({f"{WORKFLOWS}/a.yml": CLEAN.replace(b"run: echo", content)})
     whole = place.run(["--oneline"])
@@ -497,7 +497,7 @@ def memory_and_stack(place):
 
 
 def sizes(place):
-    """A file size limit where its signal is ignored, and the deepest files and expressions under a small stack."""
+    """A limit on file size while its signal is ignored, and the deepest files and expressions with a small stack."""
     place.fresh({f"{WORKFLOWS}/a.yml": b""})
     ran, held = place.run_to_file(20, ["--oneline"])
     wrong = differences_of(ran, 3, b"", line(b"write failed"))
@@ -516,7 +516,7 @@ def sizes(place):
 
 
 def on_a_small_stack(place, name, data, kibibytes, status):
-    """A workflow's run with a stack of so many KiB is the one with an ample stack."""
+    """A workflow's run with a stack of this many KiB is the same as with an ample one."""
     place.fresh({f"{WORKFLOWS}/a.yml": data})
     plain = place.run(["--oneline"])
     small = place.run(["--oneline"], limits=limit(resource.RLIMIT_STACK, kibibytes * 1024))

@@ -1,10 +1,9 @@
 """Compares docs/PROVED.md with the crates, and README.md's table with it: proved_page.py TOP.
 
-Each clause that the table of promises names stands on the function that it names, and README.md's table has just the promises that have
-a number. Each crate of crates.txt that the program stands on, and `toy`, has rows in the table of crates; what a row is of is a public item
-of its crate, and the clauses in brackets behind it are its own; a definition's file that a row names is there. If a clause is a record, its
-fields count as clauses. Where the kit's `rt` is on the PATH, the logic that is trusted is the one by which that kit proves. Prints what
-isn't so.
+Each clause in the table of promises belongs to the function that the table names, and README.md's table has exactly the numbered promises.
+Each crate of crates.txt that the program depends on, and `toy`, has rows in the table of crates; a row is about a public item of its crate,
+and the clauses in brackets after it are its own; a definition's file that a row names exists. If a clause is a record, its fields count as
+clauses. If the kit's `rt` is on the PATH, the trusted logic is the one with which that kit proves. Prints what isn't so.
 """
 
 import pathlib
@@ -31,12 +30,12 @@ LOGIC = re.compile(r"\blogic ([0-9a-f]{16})\b")
 
 
 def sources(crate, files="src/**/*.rt"):
-    """The sources of a crate, as one text; or its other files."""
+    """The sources of a crate, or its other files, as one text."""
     return "\n".join(it.read_text(encoding="utf-8") for it in sorted(crate.glob(files)))
 
 
 def contracts(source, definitions):
-    """The names of the clauses of each function, of equal names each, with the fields of the records that they are."""
+    """The names of the clauses of each function, with the fields of their records; all of them for functions with equal names."""
     fields = {name: set(FIELD.findall(text)) for name, text in RECORD.findall(definitions)}
     found = {}
     for match in FUNCTION.finditer(source):
@@ -48,7 +47,7 @@ def contracts(source, definitions):
 
 
 def missing(named, found):
-    """What a cell names that isn't there: of each of its parts the functions stand before a colon, their clauses behind it."""
+    """What a cell names that doesn't exist. In each of its parts the functions come before a colon, and their clauses after it."""
     for part in named.split(";"):
         functions, _, clauses = part.partition(": ")
         wanted = set(NAME.findall(clauses))
@@ -58,7 +57,7 @@ def missing(named, found):
 
 
 def items_of(source):
-    """What the sources of a crate declare or hand on."""
+    """What the sources of a crate declare or re-export."""
     found = set(ITEM.findall(source))
     for names in re.findall(r"^pub use [\w:]+::\{?([\w, \n]+)\}?;", source, re.MULTILINE):
         found.update(re.findall(r"\w+", names))
@@ -66,7 +65,7 @@ def items_of(source):
 
 
 def rows_of(page):
-    """The rows of each crate: what each is of, and what it says."""
+    """The rows of each crate: what each is about, and what it says."""
     found, crate = {}, None
     for name, items, text in OF_CRATE.findall(page.partition("## Crate by crate")[2].partition("\n## ")[0]):
         crate = name or crate

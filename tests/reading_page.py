@@ -1,10 +1,10 @@
 """Makes docs/READING.md, or compares it: reading_page.py TOP [--write].
 
-The page names the definitions that the public theorems rest on, each module behind those that it uses. They are found in the sources: the
-names that a function's contract uses, by the `use` lines of its file, and then the names that each of these definitions uses
-(`definitions.py`). None of them may stand in `specs/Private`, which holds words of private contracts. Where an `impl` names proofs of its
-trait's laws (`specs/Proofs`), what counts are the laws, which the trait states. Modules that use one another stand side by side, and the
-page says so. No name stands for two of these definitions.
+The page lists the definitions that the public theorems depend on, each module after those it uses. They are found in the sources: the names
+in a function's contract, by the `use` lines of its file, and then the names that each of these definitions uses (`definitions.py`). None of
+them may be in `specs/Private`, which holds words of private contracts. If an `impl` names proofs of its trait's laws (`specs/Proofs`), the
+laws count, which the trait states. Modules that use one another are listed together, and the page says so. No two of these definitions have
+the same name.
 """
 
 import pathlib
@@ -17,7 +17,7 @@ from definitions import USE, Definitions, imports, words_of
 
 PAGE = "docs/READING.md"
 MARK = "<!-- What follows is made by tests/reading_page.py. -->\n"
-# What is promised, and the crate, the file and the functions or blocks whose contracts say so.
+# Each promise, with the crate, the file and the functions or blocks whose contracts make it.
 THEOREMS = (
     ("R", "a scalar, and the tree of a file's bytes, or the one fault", (
         ("al_scalar", "reader.rt", ("pub fn read_scalar",)),
@@ -41,7 +41,7 @@ THEOREMS = (
     ("S", "the output of a script", (("al_cli_scripts", "run.rt", ("pub fn run_session", "pub fn run_commands")),)),
     ("F", "the report and status of a folder", (("al_cli", "linted.rt", ("pub fn lint_all",)),)),
 )
-# the one name that two of the definitions have: what is done with what was read, where lines are left and where anchors are known
+# the only name that two of the definitions share: what follows reading, with the remaining lines and with the known anchors
 SHARED = {"◌>>=◌"}
 # the trait whose laws a theorem's `impl` proves: its crate, its file, and its opening
 LAWS = {"L": ("al_session_folder", "lint.rt", ("pub trait Lint",))}
@@ -55,8 +55,8 @@ def contract(source, opening):
 
 
 def roots_of(top, definitions, crate, file, openings):
-    """The definitions that the contracts name, and what clauses see of the types that the crate hands on: their values, and not what holds of
-    each."""
+    """The definitions that the contracts name, and the parts of the crate's re-exported types that clauses can see: their values, but not
+    their invariants."""
     handed_on = words_of((top / "crates" / crate / "src" / "lib.rt").read_text())
     source = (top / "crates" / crate / "src" / file).read_text()
     words = set().union(*(words_of(contract(source, it)) for it in openings))
@@ -73,7 +73,7 @@ def roots_of(top, definitions, crate, file, openings):
 
 
 def in_order(modules, below):
-    """Groups of modules, each behind those that it uses; in a group of several each uses all others, by whatever way."""
+    """Groups of modules, each after those it uses; in a group of several, each uses all others, directly or not."""
     groups, numbers, lows, stack = [], {}, {}, []
 
     def visit(one):
@@ -96,7 +96,7 @@ def in_order(modules, below):
 
 
 class Page:
-    """What follows the introduction: the theorems, and the modules that they rest on, crate by crate."""
+    """What follows the introduction: the theorems, and the modules that they depend on, crate by crate."""
 
     def __init__(self, top):
         self.top, self.definitions = top, Definitions(top)
@@ -117,7 +117,7 @@ class Page:
         return found
 
     def modules_below(self, module):
-        """The modules that what is needed of one uses, in the order of its `use` lines."""
+        """The modules that the needed parts of a module use, in the order of its `use` lines."""
         used = {other for item in self.items[module] for other, _ in self.definitions.used_by(module, item)} - {module}
         return sorted(used, key=lambda it: it.name)
 
@@ -131,7 +131,7 @@ class Page:
             yield f"| {letter} | {what} | {'; '.join(map(place, contracts))} | {len(found)} | {lines:,} | {modules} |"
 
     def crate(self, crate):
-        """The table of a crate's modules, each behind those that it uses."""
+        """The table of a crate's modules, each after those it uses."""
         modules = [it for it in self.items if it.name.startswith(f"{crate}.")]
         if not modules:
             return
@@ -151,12 +151,12 @@ class Page:
         return f"| `{short(module)}` | {lines} | {all_lines} | {letters} | {says} |"
 
     def shared_names(self):
-        """The names that stand for two of the definitions and more."""
+        """The names that two or more of the definitions have."""
         names = [it for items in self.items.values() for it in items]
         return {it for it in names if names.count(it) > 1} - SHARED
 
     def library_words(self):
-        """The words of libraries that the definitions use, an operator without the places of its arguments."""
+        """The words of libraries that the definitions use; operators without the places of their arguments."""
         own = {it.partition(".")[0] for it in self.definitions.modules}
         for module, items in self.items.items():
             words = set().union(*(self.definitions.words(module, it) for it in items))
@@ -172,7 +172,7 @@ class Page:
 
 
 def short(module):
-    """A module's way below its crate's `specs`."""
+    """A module's path below its crate's `specs`."""
     return ".".join(module.name.split(".")[2:])
 
 

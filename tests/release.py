@@ -1,10 +1,10 @@
-"""Tests ./release over a commit of this tree: release.py PROGRAM.
+"""Tests ./release on a commit of this tree: release.py PROGRAM.
 
-The archive has the same bytes from two folders and in a hook of git, names in order and no owner, and its checksum is right; what it holds
-is the program, the pages, whose links lead to what is there, and the clients; the executable starts in an empty root that has nothing but
-the libraries which it loads (as a user this takes `unshare`); `--install` puts the same files there, over older ones too, which it names,
-and changes nothing where something else is in the way; a clone of another user is told as git tells it, and one that can't be written gives
-the program that it carries; the steps that docs/CI.md shows for an archive run; wrong words are refused. Prints one line for each case.
+The archive has the same bytes when made in two folders and in a git hook, sorted names and no owner, and its checksum is right. It contains
+the program, the pages, whose links work, and the clients. The executable starts in an empty root with only the libraries that it loads
+(without root this takes `unshare`). `--install` puts the same files there, also over older ones, which it lists, and changes nothing if
+something else is in the way. For another user's clone git's own message is shown, and a read-only clone gives the program that it carries.
+The steps that docs/CI.md shows for an archive run, and wrong arguments are refused. Prints a line for each case.
 """
 
 import os
@@ -32,7 +32,7 @@ def failed(ran, status=0):
 
 
 def clone(folder, program=None):
-    """A repository with the files of this tree in one commit, always the same; with the sources too where it carries a program."""
+    """A repository with the files of this tree in one commit, which is always the same; with the sources too if it carries a program."""
     copy_files(folder, re.compile(rf"(docs|clients|tools{'|crates|prebuilt' * bool(program)})/|[^/]*$").match)
     if program:
         carry(folder, program)
@@ -48,7 +48,7 @@ def made(folder, program, to):
 
 
 def contents(archive):
-    """Names in order, no owner, one time, and no file that others may write."""
+    """Sorted names, no owner, one time, and no file that others may write."""
     wrong = []
     with tarfile.open(archive) as tar:
         members = tar.getmembers()
@@ -71,7 +71,7 @@ def unpacked(archive, room):
 
 
 def files_of(folder):
-    """Each file below a folder with its bytes, or where it leads."""
+    """Each file below a folder with its bytes, or the target of a link."""
     found = {}
     for path in sorted(folder.rglob("*")):
         if path.is_symlink():
@@ -82,7 +82,7 @@ def files_of(folder):
 
 
 def alone(program, room):
-    """Starts the executable in an empty root with the libraries that it loads and nothing else."""
+    """Starts the executable in an empty root with only the libraries that it loads."""
     root = room / "root"
     for line in run(["ldd", program]).stdout.decode().splitlines():
         for path in re.findall(r"(/\S+)", line):
@@ -114,7 +114,7 @@ def steps_of_the_page(archive, room):
 
 
 def installed(folder, program, prefix, archived):
-    """Puts the release where an older one is, and something else beside it: it has the archive's files, and says which it took away."""
+    """Installs over an older release with another file beside it: the result has the archive's files, and the replaced ones are listed."""
     (prefix / "bin").mkdir(parents=True)
     (prefix / "bin/actionlint").write_text("an older one")
     (prefix / "bin/other").write_text("another's")
@@ -131,14 +131,14 @@ def installed(folder, program, prefix, archived):
 
 
 def cloned_with_crlf(folder, room):
-    """A clone has the committed bytes where git would end each line with CRLF."""
+    """A clone has the committed bytes even if git would end each line with CRLF."""
     wrong = failed(run(["git", "clone", "-q", "-c", "core.autocrlf=true", folder, room / "cloned"]))
     here, there = ({name: it for name, it in files_of(it).items() if not name.startswith(".git/")} for it in (folder, room / "cloned"))
     return wrong + ([] if here == there else [f"differing: {sorted(name for name in here if here[name] != there.get(name))[:5]}"])
 
 
 def from_a_hook(folder, program, archive):
-    """By relative paths where CDPATH leads elsewhere, in a hook of another repository: the same archive."""
+    """By relative paths although CDPATH leads elsewhere, in a hook of another repository: the same archive."""
     room = folder.parent
     other = room / "other"
     for name in (folder.name, "out-c"):
@@ -151,7 +151,7 @@ def from_a_hook(folder, program, archive):
 
 
 def in_the_way(folder, program, room):
-    """What isn't of a release where one is to be put: nothing changes."""
+    """If something that isn't from a release is in the way, nothing changes."""
     wrong = []
     for name, file in (("bin/actionlint", "bin/actionlint/a"), ("share/actionlint", "share/actionlint/a")):
         prefix = room / name.replace("/", "-")
@@ -165,14 +165,14 @@ def in_the_way(folder, program, room):
 
 
 def of_another(folder, room):
-    """A clone of another user: git's own words, which say what to do."""
+    """Another user's clone: git's own message, which says what to do."""
     pretended = {"GIT_TEST_ASSUME_DIFFERENT_OWNER": "1", "GIT_CONFIG_COUNT": "0"}
     ran = run([folder / "release", "--install", room / "never"], env=os.environ | pretended)
     return failed(ran, 1) + ([] if b"safe.directory" in ran.stderr and b"has none" not in ran.stderr else [show(ran.stderr)])
 
 
 def reading_alone(folder, room):
-    """A clone that can't be written, for another user where this is root: the program that it carries is put into a folder."""
+    """A read-only clone, as another user if this is root: the program that it carries is installed into a folder."""
     room.chmod(0o755)
     run(["chmod", "-R", "a=rX", folder]).check_returncode()
     (room / "home").mkdir()
@@ -191,7 +191,7 @@ def reading_alone(folder, room):
 
 
 def words(folder, program, room):
-    """Words that are refused, and `--help`, which isn't."""
+    """Arguments that are refused, and `--help`, which isn't."""
     return (
         failed(run([folder / "release", "--bogus", "x"]), 2)
         + failed(run([folder / "release", "--help"]))

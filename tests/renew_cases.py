@@ -1,10 +1,10 @@
-"""Shows how a program's outputs differ from those that the cases of a folder hold, and writes them anew.
+"""Shows how a program's outputs differ from those in the cases of a folder, and rewrites them.
 
     python3 tests/renew_cases.py [--write] PROGRAM FOLDER [WORD..]
 
-For use behind a wanted change, of a message for instance: it prints, for each case whose output or status is another one (cases are as
-tests/run_cases.py has them), the lines that go and come, and last how many cases differ and how often each pair of lines does. With
-`--write` it puts the new ones in the place of the old: read what it shows first, since from then on they are what is expected.
+For use after an intended change, for instance of a message. For each case whose output or status has changed (cases are as in
+tests/run_cases.py) it prints the removed and the added lines, and finally how many cases differ and how often each pair of lines does.
+`--write` replaces the old outputs: read what is shown first, since from then on it is what is expected.
 """
 
 import collections
@@ -20,12 +20,12 @@ def lines_of(data, status):
 
 
 def changes(old, new):
-    """The lines that go and those that come."""
+    """The removed and the added lines."""
     return [line for line in difflib.unified_diff(old, new, lineterm="", n=0) if line[:1] in "+-" and line[:3] not in ("+++", "---")]
 
 
 def renew(case, ran):
-    """Writes what a case is to give from now on."""
+    """Writes the new expected output of a case."""
     case.with_name(case.name + ".stdout").write_bytes(ran.stdout)
     status = case.with_name(case.name + ".status")
     if ran.returncode or status.exists():

@@ -1,7 +1,7 @@
-"""Tests the picture of README.md: report_picture.py PROGRAM, or --write.
+"""Tests the picture in README.md: report_picture.py PROGRAM, or --write.
 
-The program's report of examples/broken is the one of examples/broken.report, whose lines were put down by hand, and docs/report.svg is a
-terminal that shows it. With `--write` the picture is drawn anew from examples/broken.report. Prints one line for each case.
+The program's report on examples/broken is that of examples/broken.report, which was written by hand, and docs/report.svg is a terminal that
+shows it. `--write` redraws the picture from examples/broken.report. Prints a line for each case.
 """
 
 import html
@@ -20,7 +20,7 @@ SIZE, ADVANCE, LEADING, MARGIN, BAR = 14, 8.43, 19, 16, 30
 
 
 def text(row, line):
-    """A line of the terminal; its length is given, so that columns meet in any font."""
+    """A line of the terminal; its length is given, so columns are aligned in any font."""
     place = f'x="{MARGIN}" y="{BAR + MARGIN + row * LEADING}" textLength="{len(line) * ADVANCE:.2f}"'
     return f'  <text {place} xml:space="preserve">{html.escape(line, quote=False)}</text>\n' if line else ""
 

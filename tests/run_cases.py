@@ -2,10 +2,10 @@
 
     python3 tests/run_cases.py PROGRAM FOLDER [WORD..]
 
-A case is a file, which is what stands on standard input, in the FOLDER or in a folder below it; its NAME is its path from there. Beside it
-stand NAME.stdout, the exact output, and NAME.status, the status of the run (0 without it); NAME.args holds the words of its run, one a
-line, and without it the run gets the WORDs. Prints a line for each case, in order of their paths: `case=NAME output=expected status=N`, or
-how the output or the status differs. Ends with 0 where there was a case and each was as expected.
+A case is a file with the standard input of a run, in FOLDER or in a folder below it; its NAME is its path from there. Beside it are
+NAME.stdout, the exact output, and NAME.status, the status of the run (0 without it); NAME.args holds the arguments of its run, one per
+line; without it the run gets the WORDs. Prints a line for each case, sorted by path: `case=NAME output=expected status=N`, or how the
+output or the status differs. The status is 0 if there was a case and each was as expected.
 """
 
 import pathlib
@@ -16,26 +16,26 @@ SECONDS = 60
 
 
 def words_of(case, words):
-    """The words of a case's run."""
+    """The arguments of a case's run."""
     own = case.with_name(case.name + ".args")
     return own.read_text().splitlines() if own.exists() else words
 
 
 def status_of(case):
-    """The status of a case's run."""
+    """The expected status of a case."""
     own = case.with_name(case.name + ".status")
     return int(own.read_text()) if own.exists() else 0
 
 
 def cases_in(folder):
-    """The cases of a folder and of those below it: of each, under its name, its file; in order of their paths, part by part."""
+    """The cases of a folder and of those below it: the file of each by its name, sorted by path, part by part."""
     top = pathlib.Path(folder)
     found = sorted(it for it in top.rglob("*") if it.with_name(it.name + ".stdout").exists())
     return {it.relative_to(top).as_posix(): it for it in found}
 
 
 def run(program, case, words):
-    """Runs a case: its output, its status and what it wrote on standard error; None where it doesn't end."""
+    """Runs a case: its output, its status and its standard error; None if it doesn't end."""
     try:
         with case.open("rb") as script:
             return subprocess.run([program, *words_of(case, words)], stdin=script, capture_output=True, timeout=SECONDS, check=False)
@@ -44,7 +44,7 @@ def run(program, case, words):
 
 
 def difference(got, wanted):
-    """Where two outputs part, with what stands there."""
+    """The first place where two outputs differ, with what is there."""
     at = next((i for i, (a, b) in enumerate(zip(got, wanted)) if a != b), min(len(got), len(wanted)))
     return f"at byte {at}, expected {wanted[at : at + 200]!r}, found {got[at : at + 200]!r}"
 

@@ -1,7 +1,7 @@
-"""What the tests of the built program share: folders of the disk, runs, scripts, reports, and the lines that tell of a case.
+"""What the tests of the built program share: folders on disk, runs, scripts, reports, and the lines printed for a case.
 
-A case prints one line, as `rt try --cases` does: `case=NAME output=expected status=N`, or what differs. As root the program runs as
-the user nobody, since root reads every file.
+A case prints one line, as `rt try --cases` does: `case=NAME output=expected status=N`, or what differs. If the test runs as root, the
+program runs as the user nobody, since root can read every file.
 """
 
 import os
@@ -17,7 +17,7 @@ import tempfile
 WORKFLOWS = ".github/workflows"
 CLEAN = b"on: push\njobs:\n  a:\n    runs-on: ubuntu-latest\n    steps:\n      - run: echo\n"
 EMPTY_REPORT = b".github/workflows/a.yml:1:1: file is empty [syntax-check]\n"
-# a workflow that calls an action, the action, and what the workflow lacks
+# a workflow that calls an action, the action, and the fault of the missing input
 CALLER = CLEAN.replace(b"run: echo", b"uses: ./a")
 CALLED = b"name: A\ndescription: d\ninputs:\n  who:\n    required: true\nruns:\n  using: node20\n  main: m.js\n"
 MISSING_INPUT = b'.github/workflows/c.yml:6:15: required input "who" of "A" is missing [action]\n'
@@ -31,7 +31,7 @@ results = {"right": 0, "wrong": 0}
 
 
 def built_program():
-    """The linter that was built here, or else the carried one."""
+    """The linter that was built here, otherwise the carried one."""
     top = pathlib.Path(__file__).resolve().parent.parent
     built = top / "crates/actionlint/out/actionlint"
     return built if built.is_file() else top / "prebuilt/actionlint"
@@ -55,12 +55,12 @@ def skip(name, why):
 
 
 def exit_status():
-    """The status of a test: 1 where a case was wrong, or none was run."""
+    """The status of a test: 1 if a case was wrong, or none was run."""
     return 1 if results["wrong"] or not results["right"] else 0
 
 
 def write_files(folder, files):
-    """Writes files below a folder, each a path with its bytes."""
+    """Writes files below a folder, by path."""
     for path, data in files.items():
         whole = os.path.join(folder, path)
         os.makedirs(os.path.dirname(whole), exist_ok=True)
@@ -69,12 +69,12 @@ def write_files(folder, files):
 
 
 def show(data):
-    """A front of some output, for a person."""
+    """The beginning of some output, for a person."""
     return repr(data[:300]) + (f" and {len(data) - 300} bytes more" if len(data) > 300 else "")
 
 
 def differences_of(ran, status, out, err):
-    """What of a run isn't as it should be. `None` is not compared; a function is asked."""
+    """What of a run isn't as it should be. `None` isn't compared; a function is called."""
     found = []
     for what, got, wanted in (("status", ran.returncode, status), ("stdout", ran.stdout, out), ("stderr", ran.stderr, err)):
         if wanted is None:
@@ -89,7 +89,7 @@ def differences_of(ran, status, out, err):
 
 
 class Place:
-    """A folder of the disk with a copy of the program, which runs with the folder as the current one."""
+    """A folder on disk with a copy of the program, which runs with the folder as the current one."""
 
     def __init__(self, program):
         self.room = tempfile.mkdtemp(prefix="actionlint-test-")
@@ -101,7 +101,7 @@ class Place:
         self.folder = None
 
     def fresh(self, files=None, folders=()):
-        """A new folder with these files, each a path with its bytes."""
+        """A new folder with these files, by path."""
         self.count += 1
         self.folder = os.path.join(self.room, str(self.count))
         os.makedirs(self.folder)
@@ -131,10 +131,10 @@ class Place:
         return ran
 
     def run_to_file(self, size, words, stdin=b""):
-        """Runs the program with its output into a file that takes so many bytes, and answers what the file holds too."""
+        """Runs the program with its output into a file that accepts only some bytes; answers also what the file holds."""
         target = os.path.join(self.room, "output")
         with open(target, "wb") as output:
-            # the signal that the system sends here would end the program with no answer
+            # the signal that the system sends here would end the program without an answer
             ran = self.run(words, stdin, small_files(size), stdout=output, restore_signals=False)
         with open(target, "rb") as output:
             return ran, output.read()
@@ -146,7 +146,7 @@ class Place:
         return ran
 
     def remove(self):
-        """Removes all that was made."""
+        """Removes everything that was made."""
         shutil.rmtree(self.room, ignore_errors=True)
 
 
@@ -156,7 +156,7 @@ def limit(which, value):
 
 
 def small_files(size):
-    """Files take so many bytes, and the writes behind fail."""
+    """Files accept this many bytes, and later writes fail."""
 
     def limits():
         signal.signal(signal.SIGXFSZ, signal.SIG_IGN)
@@ -166,7 +166,7 @@ def small_files(size):
 
 
 def line(text):
-    """A line of standard error by the program."""
+    """A line on standard error by the program."""
     return b"actionlint: " + text + b"\n"
 
 
@@ -181,15 +181,15 @@ def delete(path):
 
 
 def edits_and_reports(out):
-    """The output of a script of edits, each followed by `report`: of each edit its reply, the report, and its status. None where the
-    output is of another form."""
+    """The output of a script of edits, each followed by `report`: for each edit its reply, the report, and its status. None if the output
+    has another form."""
     found = re.findall(rb"(ok \d+|refused E\d)\n((?:[^\n]*\]\n)*)status (\d)\n", out)
     whole = b"".join(b"%s\n%sstatus %s\n" % parts for parts in found)
     return [(reply, lines, int(status)) for reply, lines, status in found] if whole == out else None
 
 
 def line_lengths(data):
-    """For each line, counted from 1, how many characters stand on it, its break's too."""
+    """For each line, counted from 1, the number of its characters, including its break."""
     breaks = [match.end() for match in re.finditer(rb"\r\n|\n|\r", data)]
     starts = [0, *breaks]
     ends = [*breaks, len(data)]
@@ -197,7 +197,7 @@ def line_lengths(data):
 
 
 def wrong_line(reported, folder):
-    """The first of a report's lines that breaks what must hold for any folder of paths with their bytes, and what it breaks."""
+    """The first line of a report that breaks what must hold for any folder of files by path, and what it breaks."""
     last_path, last_place, seen = b"", (0, 0), set()
     for text in reported.split(b"\n")[:-1]:
         match = FAULT.match(text)
@@ -219,7 +219,7 @@ def wrong_line(reported, folder):
 
 
 def each(name, runs):
-    """Reports one case of many runs, each a number and what differs in it; the first that differs ends it."""
+    """Reports one case of many runs, each a number and what differs in it; the first difference ends it."""
     count = 0
     for number, differences in runs:
         count += 1
@@ -230,7 +230,7 @@ def each(name, runs):
 
 
 def run_parts(*parts):
-    """Runs the parts of a test, each a function of a place, over the program that the words name; answers the status."""
+    """Runs the parts of a test, each a function of a place, over the program that the arguments name; answers the status."""
     if len(sys.argv) != 2:
         print(f"{os.path.basename(sys.argv[0])} PROGRAM", file=sys.stderr)
         return 2

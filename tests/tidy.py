@@ -1,9 +1,9 @@
 """Checks the layout of the crates: tidy.py TOP WHAT.. [--write].
 
 WHAT is `src` or `specs` (no line is longer than 140 characters), `proofs` (none is longer than 200), `heads` (each module of lemmas says at
-its head what it serves), `kinds` (no definition uses words of private contracts, `specs/Private`, neither uses worked rows, `specs/Rows`,
-and none of them uses proofs, also those of `specs/Proofs`) or `names` (each name that a `use` line brings in stands somewhere else in its
-file). With `--write` the names that don't are taken out; then `rt fmt` and `rt check` are to be run in each crate that has changed.
+its top what it is for), `kinds` (definitions use neither words of private contracts, `specs/Private`, nor worked examples, `specs/Rows`, and
+none of all these uses proofs, including those of `specs/Proofs`) or `names` (each name that a `use` line imports occurs somewhere else in
+its file). `--write` removes the names that don't; then `rt fmt` and `rt check` have to be run in each changed crate.
 """
 
 import pathlib
@@ -12,7 +12,7 @@ import sys
 
 LONGEST = {"src": 140, "specs": 140, "proofs": 200}
 ENDINGS = {"src": ".rt", "specs": ".antt", "proofs": ".antt"}
-# the folders of `specs/` that stand apart from what the product means, each of which may use those before it
+# the folders of `specs/` that aren't about what the product means; each may use those before it
 KINDS = ["Private", "Rows", "Proofs"]
 # proofs of the crates
 PROOFS = re.compile(r"\bRattle\.((?!std\.)\w+\.proofs\.\w+)")
@@ -21,15 +21,15 @@ MODULE = re.compile(r"\bRattle\.\w+\.specs\.(\w+(?:\.\w+)*)")
 USE = re.compile(r"^ *(?P<passed>pub )?(?:ghost )?use (?P<path>[^{};\n]+?)(?:\{(?P<list>[^}]*)\})?;?\n", re.MULTILINE)
 COMMENT = re.compile(r"^ *(?:--|//).*$", re.MULTILINE)
 BREAKS = r"\s.,;:(){}\[\]\"⌜⌝"
-# words as the definitions have them, and as the code has them
+# words of the definitions, and of the code
 WORDS = {".antt": [re.compile(f"[^{BREAKS}]+")], ".rt": [re.compile(f"[^{BREAKS}]+"), re.compile(r"\w+")]}
-# what uses these doesn't name them: a trait's methods, and lines of `do`
+# these are used without being named: a trait's methods, and lines of `do`
 UNSEEN = {"BufRead", "Context", "Error", "FromStr", "Hash", "Iterator", "Lint", "MetadataExt", "Model", "OpenFile", "Read", "Write", "WriteFault", "_",
           "◌>>=◌"}
 
 
 def files_of(top, folder):
-    """The files of such a folder of each crate."""
+    """The files of such a folder in each crate."""
     return sorted(top.glob(f"crates/*/{folder}/**/*{ENDINGS[folder]}"))
 
 
@@ -42,7 +42,7 @@ def long_lines(top, folder):
 
 
 def headless(top):
-    """The modules of lemmas that don't say at their head what they serve."""
+    """The modules of lemmas that don't say at their top what they are for."""
     for file in sorted(it for it in top.glob("crates/*/proofs/*.antt") if it.stem != "Lib"):
         if not file.read_text(encoding="utf-8").startswith("--"):
             yield f"{file.relative_to(top)} doesn't say what it serves"
@@ -66,27 +66,27 @@ def later_kinds(top):
 
 
 def listed(use):
-    """What a `use` line brings in, each as it is written there."""
+    """What a `use` line imports, each as written there."""
     if use["list"] is None:
         return [use["path"].strip()]
     return [it for it in (item.strip() for item in re.split(r"[,\n]", use["list"])) if it]
 
 
 def known_as(item):
-    """The name by which what is brought in stands in the file."""
+    """The name under which an import occurs in the file."""
     name = item.rpartition(" as ")[2] if " as " in item else re.split(r"[.:]", item)[-1]
     return name.strip().strip("«»")
 
 
 def is_named(item, words, text):
-    """Whether a text has the name of what is brought in: of an operator each part."""
+    """Whether a text has the name of an import; of an operator, each part."""
     name = known_as(item)
     parts = [it for it in re.split(r"◌|\s", name) if it]
     return name in UNSEEN or item == "self" or all(it in words if re.fullmatch(r"[\w'-]+", it) else it in text for it in parts)
 
 
 def unused(text, ending):
-    """The names that a file brings in and doesn't name, each with its `use` line."""
+    """The names that a file imports and doesn't use, each with its `use` line."""
     rest = COMMENT.sub("", USE.sub("", text))
     words = {word for kind in WORDS[ending] for word in kind.findall(rest)}
     for use in USE.finditer(text):
@@ -96,13 +96,13 @@ def unused(text, ending):
 
 
 def without(use, names):
-    """A `use` line without some of what it brings in."""
+    """A `use` line without some of its imports."""
     kept = [it for it in listed(use) if it not in names]
     return use[0].replace("{" + (use["list"] or "") + "}", "{" + ", ".join(kept) + "}") if kept else ""
 
 
 def unused_names(top, is_written):
-    """The names that files bring in and don't name; those are taken out where that is asked for."""
+    """The names that files import and don't use; they are removed if that is asked for."""
     for file in [it for folder in ENDINGS for it in files_of(top, folder)]:
         text = file.read_text(encoding="utf-8")
         found = list(unused(text, file.suffix))

@@ -1,9 +1,9 @@
-"""Tests ./actionlint and the scripts of tools/ in a copy with crates of a few lines and a command `rt` that only pretends.
+"""Tests ./actionlint and the scripts of tools/ in a copy with crates of a few lines and a fake `rt`.
 
     python3 tests/wrapper.py TOP
 
-That `rt` takes down each call, tells of each crate as the kit's does, and "builds" a program which prints its words. Prints one line for
-each case: `case=NAME output=expected status=N`, or what differs.
+That `rt` logs each call, reports on each crate like the kit's, and "builds" a program that prints its arguments. Prints a line for each
+case: `case=NAME output=expected status=N`, or what differs.
 """
 
 import os
@@ -32,13 +32,13 @@ esac
 """
 CARRIED = '#!/bin/sh\necho "carried $*"\n'
 COPIED = ("actionlint", "tools/build.py", "tools/crates.py", "tools/find_program.sh", "tools/prebuilt.py", "tools/schedule.py")
-# The commands of the system that the wrapper takes, beside python3.
+# The system's commands that the wrapper uses, besides python3.
 NEEDED = ("sh", "bash", "awk", "find", "sort", "xargs", "sha256sum", "readlink", "mkdir", "touch", "mv", "rm", "cat", "chmod")
 ROWS = "".join(f"| `{crate}` | 1,000 | {seconds} | 1,407 |\n" for crate, seconds in (("low", 100), ("middle", 200), ("actionlint", 700)))
 
 
 class Copy:
-    """A copy of the wrapper with three crates of the program, and one that isn't its."""
+    """A copy of the wrapper with three crates of the program, and one that isn't part of it."""
 
     def __init__(self, top):
         self.room = pathlib.Path(tempfile.mkdtemp(prefix="actionlint-wrapper-"))
@@ -70,7 +70,7 @@ class Copy:
         return subprocess.run(command, env=self.environment(**more), capture_output=True, text=True, timeout=60, check=False)
 
     def run(self, *words, by=None, folder=None, **more):
-        """Runs the wrapper, and returns its status and output and which commands of the kit it called."""
+        """Runs the wrapper; returns its status, its output and the commands of the kit that it called."""
         self.calls.write_text("")
         command = [str(by or self.top / "actionlint"), *words]
         pipes = {"capture_output": True, "text": True, "timeout": 60, "check": False, **self.user}
@@ -78,13 +78,13 @@ class Copy:
         return ran.returncode, ran.stdout, ran.stderr, [line.split()[0] for line in self.calls.read_text().splitlines()]
 
     def carry(self, **more):
-        """Has the copy carry a program whose hash is that of the sources."""
+        """Makes the copy carry a program with the hash of the sources."""
         made = self.called("python3", str(self.top / "tools/prebuilt.py"), "--renew", **more)
         (self.top / "prebuilt/actionlint").write_text(CARRIED)
         return made.returncode
 
     def without(self, *commands):
-        """A folder for the PATH with what the wrapper needs, but for some commands."""
+        """A folder for the PATH with what the wrapper needs, except for some commands."""
         tools = pathlib.Path(tempfile.mkdtemp(dir=self.room))
         tools.chmod(0o755)
         for name in (*NEEDED, "python3"):
@@ -100,7 +100,7 @@ class Copy:
 
 
 def expect(name, got, **wanted):
-    """Reports a case: what of a run is wanted, by name."""
+    """Reports a case: the expected parts of a run, by name."""
     said = dict(zip(("status", "out", "err", "calls"), got))
     wrong = []
     for key, it in wanted.items():
@@ -163,7 +163,7 @@ def test_places(copy):
 
 
 def runs(process):
-    """Whether a process runs: there is one of that number, which hasn't ended."""
+    """Whether a process with this number exists and hasn't ended."""
     try:
         return pathlib.Path("/proc", process, "stat").read_text().rpartition(")")[2].split()[0] != "Z"
     except FileNotFoundError:
@@ -247,7 +247,7 @@ def test_which(copy):
 
 
 def test_missing_commands(copy):
-    """Without python3 or rt a carried program that fits is run, and else one sentence says what is missing."""
+    """Without python3 or rt, a carried program that fits is run; otherwise one sentence says what is missing."""
     copy.run()
     copy.carry()
     both = copy.without("python3", "rt")
@@ -275,7 +275,7 @@ def test_missing_commands(copy):
 
 
 def test_reading_alone(copy):
-    """A user who can't write to the clone: what was found is kept in the folder of caches."""
+    """A user who can't write to the clone: what was found is kept in the cache folder."""
     copy.run()
     copy.carry()
     copy.forget()
@@ -309,7 +309,7 @@ def test_reading_alone(copy):
 
 
 def test_estimate(copy):
-    """What a build tells of its time: by the seconds of docs/PROVING.md and the processors that it has."""
+    """What a build says about its time: from the seconds on docs/PROVING.md and the number of processors."""
     (copy.top / "docs").mkdir()
     (copy.top / "docs/PROVING.md").write_text(ROWS)
     expect("time-of-a-build", copy.run(RT_JOBS="1"), status=0, calls=BUILDS, err=has("about 17 minutes of one processor"))
@@ -327,7 +327,7 @@ def test_estimate(copy):
 
 
 def touched(copy):
-    """The wrapper, behind a change of a source's time that has it look again."""
+    """The wrapper after a source's time has changed, so it looks again."""
     os.utime(copy.source())
     return copy.top / "actionlint"
 
