@@ -1,11 +1,11 @@
-"""What an edit costs in an editor: bench/clients.py [PROGRAM], after ./test or a build of crates/actionlint. Needs the
-libraries of the language server.
+"""What an edit costs in an editor: bench/clients.py [PROGRAM], after ./test or a build of crates/actionlint. Needs the libraries of the
+language server.
 
-From the change that the editor sends until the diagnostics of that version are there, through the language server and the linter: in a
+Measures the time from a change in the editor until the diagnostics of that version arrive, through the language server and the linter: in a
 folder of 200 workflows with one fault each and with ten, beside 4,095 files without faults and with one each, and of an action that all 200
-workflows call. Then completion, hovering and definitions among 200 workflows, and what files of strangers cost, each shape twice, the
-second time twice as large, so that the ratio tells whether the work is linear; the memory of both programs over 20,000 edits; and the time
-of 1,000 folders with a file of SARIF each, as docs/CI.md does it.
+workflows call. Then completion, hovering and definitions among 200 workflows; what hostile files cost, each shape at two sizes, the second
+twice the first, so the ratio shows whether the work is linear; the memory of both programs over 20,000 edits; and the time of 1,000 folders
+with a SARIF file each, as on docs/CI.md.
 """
 
 import os
@@ -46,18 +46,18 @@ WAIT_SECONDS = 60
 
 
 def workflow(faults):
-    """A workflow of some kilobytes, of whose jobs so many have a fault."""
+    """A workflow of some kilobytes in which this many jobs have a fault."""
     jobs = "".join(STEP.format(job=job, property="reff" if job < faults else "ref") for job in range(JOBS))
     return f"on: push\njobs:\n{jobs}"
 
 
 def workflows(count, text):
-    """So many workflows, by their paths."""
+    """Workflows, by path."""
     return {f"{WORKFLOWS}w{number:04}.yml": text for number in range(count)}
 
 
 class Folder:
-    """A folder with an editor, and one of its workflows open."""
+    """A folder with an editor, in which one of its workflows is open."""
 
     def __init__(self, linter, files):
         self.root = tempfile.mkdtemp(prefix="actionlint-bench-")
@@ -75,7 +75,7 @@ class Folder:
         self.processes = (self.editor.child.pid, child)
 
     def edit(self):
-        """Changes the open workflow, and answers the seconds until its diagnostics are there."""
+        """Changes the open workflow; returns the seconds until its diagnostics arrive."""
         self.version += 1
         sent = time.monotonic()
         self.editor.change(self.path, self.text + "#" * (self.version % 40) + "\n")
@@ -85,7 +85,7 @@ class Folder:
                 return arrived - sent
 
     def edit_action(self, number):
-        """Changes the interface of the action, and answers the seconds until all its callers' diagnostics are there."""
+        """Changes the interface of the action; returns the seconds until the diagnostics of all its callers arrive."""
         sent = time.monotonic()
         self.editor.change(ACTION, FILES[ACTION].replace("who", "who" if number % 2 else "whom"))
         self.editor.settle()
@@ -129,7 +129,7 @@ def tell_edits(linter, count, faults):
 
 
 def tell_requests(linter):
-    """Times of what is asked for while one types in a folder of 200 workflows, each behind an edit whose diagnostics are there."""
+    """Times of requests while typing in a folder of 200 workflows, each after an edit whose diagnostics have arrived."""
     folder = Folder(linter, workflows(200, workflow(1)))
     lines = folder.text.split("\n")
     places = {word: {"line": number, "character": lines[number].index(word) + len(word)}
@@ -162,22 +162,22 @@ def tell_full_folder(linter):
 
 
 def looks_like_calls(pieces):
-    """A script of so many pieces, 4 bytes each, that begin as a call does."""
+    """A script of pieces of 4 bytes that begin like a call."""
     return HEAD + "      - run: |\n          uses " + "./a," * pieces + "\n"
 
 
 def calls(steps):
-    """So many calls of actions that aren't there."""
+    """Calls of actions that don't exist."""
     return HEAD + "".join(f"      - uses: ./d{step:06}\n" for step in range(steps))
 
 
 def wrong_keys(count):
-    """So many faults on one line."""
+    """Faults on one line."""
     return "{" + ",".join(f"k{number:06}: 1" for number in range(count)) + "}\n"
 
 
 def undefined(count):
-    """So many faults that are nearly a name."""
+    """Faults that are similar to a name."""
     return HEAD + "".join(f"      - run: echo ${{{{ github.acto{number:04} }}}}\n" for number in range(count))
 
 
@@ -190,7 +190,7 @@ SHAPES = {
 
 
 def tell_shapes(linter):
-    """What a file costs from the start to its diagnostics, at an edit, when one hovers, and when one asks for quick fixes of all of it."""
+    """What a file costs until its first diagnostics, for an edit, for hovering, and for quick fixes of the whole file."""
     for name, (shape, count) in SHAPES.items():
         rows = []
         for size in (count, 2 * count):
@@ -210,7 +210,7 @@ def tell_shapes(linter):
 
 
 def tell_buffers(linter):
-    """How long it takes until all buffers are shown that an editor opens at once."""
+    """How long it takes until all buffers that an editor opens at once are shown."""
     took = []
     for count in (1_000, 2_000):
         files = workflows(count, FAULTY)
@@ -225,7 +225,7 @@ def tell_buffers(linter):
 
 
 def tell_missing_inputs(linter):
-    """A folder with a caller of 600,000 faults."""
+    """A folder with a caller that has 600,000 faults."""
     inputs = "".join(f"  i{number}: {{required: true}}\n" for number in range(1_000))
     action = f"name: A\ndescription: d\ninputs:\n{inputs}runs: {{using: node20, main: m.js}}\n"
     caller = HEAD + "".join(f"      - uses: ./b\n        with:\n          x{number}: 1\n" for number in range(600))
@@ -249,7 +249,7 @@ def tell_memory(linter):
 
 
 def tell_folders(linter, count=1_000):
-    """Many repositories, each with its own file of SARIF."""
+    """Many repositories, each with its own SARIF file."""
     top = tempfile.mkdtemp(prefix="actionlint-bench-")
     names = [f"{top}/{number:04}" for number in range(count)]
     for name in names:

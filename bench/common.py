@@ -13,18 +13,18 @@ TOP = pathlib.Path(__file__).resolve().parent.parent
 SESSION = ["--session", "--oneline"]
 WORKFLOW = ".github/workflows/a.yml"
 EMPTY = "on: push\njobs: {}\n"
-# the event parsers beside which reading and linting are measured: by its library the program of bench/ that runs it
+# the event parsers with which reading and linting are compared: the program in bench/ for each library
 PEERS = {"yaml": "yaml_events.c", "fyaml": "fyaml_events.c"}
 
 
 def program(crate):
-    """The program of a crate, where ./test or a build of the crate leaves it, or else the carried one."""
+    """The program of a crate, as left by ./test or a build of the crate, otherwise the carried one."""
     built = TOP / "crates" / crate / "out" / crate
     return built if built.is_file() else TOP / "prebuilt" / crate
 
 
 def peers(folder):
-    """The programs of the peers, compiled into a folder: libyaml's and then libfyaml's."""
+    """The programs around libyaml and then libfyaml, compiled into a folder."""
     made = []
     for library, source in PEERS.items():
         made.append(pathlib.Path(folder) / library)
@@ -46,8 +46,8 @@ def run_seconds(command, data=b"", folder=None, output=subprocess.PIPE):
 
 
 def least_in_turns(runs, measures):
-    """The least answer of each measure in so many rounds. The measures take turns, so that all of them see the same load of the machine,
-    and each round begins with the next one: what a run finds in caches depends on the one before it."""
+    """The least result of each measure over some rounds. The measures take turns, so all of them see the same load of the machine, and each
+    round begins with the next one, since what a run finds in caches depends on the run before it."""
     least = [float("inf")] * len(measures)
     for first in range(runs):
         for turn in range(len(measures)):
@@ -57,8 +57,8 @@ def least_in_turns(runs, measures):
 
 
 def measured(command, data=b"", folder=None):
-    """The processor seconds of a run whose output nobody reads, and its greatest memory in bytes, by GNU time (Debian's time): a program
-    counts as its own what the one that starts it holds, and that holds little."""
+    """The processor seconds of a run whose output nobody reads, and its greatest memory in bytes, by GNU time (Debian's time): a program is
+    also charged for the memory of the one that starts it, and time takes little."""
     with tempfile.NamedTemporaryFile("r") as told:
         subprocess.run(["time", "-q", "-f", "%U %S %M", "-o", told.name, *command], input=data, cwd=folder, stdout=subprocess.DEVNULL,
                        stderr=subprocess.DEVNULL, check=False)
@@ -80,7 +80,7 @@ def write_files(folder, files):
 
 
 def put_seconds(files):
-    """What a script takes that puts these files, all of which are taken."""
+    """What a script takes that puts these files, all of which are accepted."""
     took, _, out = run_seconds([program("actionlint"), *SESSION], put_commands(files))
     if out.count(b"ok ") != len(files):
         sys.exit(f"the files were not taken: {out[:80]}")

@@ -1,13 +1,12 @@
-"""How the time to lint a folder grows with its files: bench/folder.py, after ./test or a build of crates/actionlint, or else with the carried
-program.
+"""How the time to lint a folder grows with its files: bench/folder.py, after ./test or a build of crates/actionlint, otherwise with the
+carried program.
 
-Folders are linted as a person lints them, without a word: copies of a workflow of some size; a workflow with actions of its own; one that
-calls listed workflows, whose name stands before theirs or behind them; workflows that share some actions. Each time is the least of several
-runs in one run of this program. Each file is read and checked once, so that ten times the files take about ten times as long, and twice
-the calls twice; where each called file had its callers checked again, or the files that aren't there were looked for anew at each file,
-ten times the files would take a hundred times as long, and twice the calls four times. The last lines compare folders with scripts that put
-the same files. More than `MOST` times as long is an error, except where a script puts callers first: there each is checked again for each
-file that it calls.
+Folders are linted without arguments, as by a person: copies of a workflow of some size; a workflow with actions of its own; one that calls
+listed workflows, and whose name sorts before or after theirs; workflows that share some actions. Each time is the least of several runs.
+Each file is read and checked once, so ten times the files take about ten times as long, and twice the calls twice. If the callers of each
+called file were checked again, or missing files looked for again at each file, ten times the files would take a hundred times as long, and
+twice the calls four times. The last lines compare folders with scripts that put the same files. More than `MOST` times as long is an error,
+except for a script that puts callers first: there each is checked again for each file that it calls.
 """
 
 import functools
@@ -27,7 +26,7 @@ MOST = {10: 15, 2: 3, 1: 2}
 
 
 def copies(count):
-    """So many copies of a workflow that calls nothing of the folder."""
+    """Copies of a workflow that calls nothing in the folder."""
     text = EXAMPLE.read_text()
     return [(f"{WORKFLOWS}/{number:04}.yml", text) for number in range(count)]
 
@@ -39,24 +38,24 @@ def steps(numbers):
 
 
 def actions(count):
-    """So many actions."""
+    """Actions."""
     return [(f"actions/a{number:04}/action.yml", ACTION) for number in range(count)]
 
 
 def with_actions(count):
-    """One workflow with so many actions of its own."""
+    """One workflow with actions of its own."""
     return [*actions(count), (f"{WORKFLOWS}/a.yml", steps(range(count)))]
 
 
 def with_workflows(caller, count):
-    """A workflow of this name with so many jobs that each call a workflow of the list."""
+    """A workflow with this name whose jobs each call a workflow of the list."""
     names = [f"w{number:04}.yml" for number in range(count)]
     jobs = "".join(f"  j{number}:\n    uses: ./{WORKFLOWS}/{name}\n" for number, name in enumerate(names))
     return [*((f"{WORKFLOWS}/{name}", CALLED) for name in names), (f"{WORKFLOWS}/{caller}", f"on: push\njobs:\n{jobs}")]
 
 
 def with_shared_actions(count):
-    """So many workflows that each call the same ten actions, which stand first."""
+    """Workflows that each call the same ten actions, which come first."""
     text = EXAMPLE.read_text() + "\n  shared:\n" + steps(range(10)).split("  a:\n")[1]
     return [*actions(10), *((f"{WORKFLOWS}/{number:04}.yml", text) for number in range(count))]
 
@@ -70,7 +69,7 @@ def seconds(folder):
 
 
 def compare(name, sizes, times):
-    """Prints what each size takes, and how it compares with the one before; whether none takes more than it may."""
+    """Prints what each size takes and its ratio to the previous one; returns whether none takes more than allowed."""
     sizes_and_times = list(zip(sizes, times))
     line = f"{sizes[0]} {name} {times[0]:.3f}s"
     kept = True

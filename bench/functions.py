@@ -1,12 +1,12 @@
-"""Tells which functions of a crate take the prover's time: functions.py TOP CRATE [COUNT].
+"""Shows which functions of a crate take the prover's time: functions.py TOP CRATE [COUNT].
 
     cd crates/al_base && rm -r out && rt check --jobs 1; cd ../..
     python3 bench/functions.py . al_base
 
-A check with one job keeps each module that it has proved in the crate's out/, one after another; so the time between two files is that of
-the later one. TOP is the repository. Prints the COUNT (20) functions that took the longest, each with the seconds of its proof and those of
-what the prover makes of its code (moves, drops, loans); a cycle's functions, which are proved together, stand as `+` and the cycle's name.
-Files that an earlier check kept count for nothing, so only a check from nothing tells all.
+A check with one job keeps each proved module in the crate's out/, one after another, so the time between two files is that of the later
+one. TOP is the repository. Prints the COUNT (20) functions that took the longest, each with the seconds of its proof and those of what the
+prover derives from its code (moves, drops, loans); the functions of a cycle, which are proved together, are shown as `+` and the cycle's
+name. Files that an earlier check kept don't count, so only a check from scratch shows everything.
 """
 
 import collections
@@ -14,13 +14,13 @@ import pathlib
 import re
 import sys
 
-# Longer than any module takes: two files so far apart are of two checks.
+# Longer than any module takes: two files this far apart are from two checks.
 BREAK = 300.0
 MODULE = re.compile(r"Rattle-\w+?[.-](?:proofs\.)?(?P<function>.+?)(?P<proof>\.Proof)?(?:\.[\w+-]+?)?(?:\.decls)?\.oantt")
 
 
 def kept_files(folder):
-    """When each module was kept, in seconds, and its file's name, in order of time."""
+    """When each module was kept, in seconds, with its file's name, sorted by time."""
     return sorted((it.stat().st_mtime_ns / 1e9, it.name) for it in folder.rglob("*.oantt"))
 
 

@@ -1,12 +1,12 @@
-"""Runs the gate and tells what each crate took of it: gate.py TOP COMMAND ..
+"""Runs the gate and shows what each crate took of it: gate.py TOP COMMAND ..
 
     python3 bench/gate.py . ./test
 
-The command's output goes through. A few times a second the processes that the command started are looked at in /proc: the prover, by its
-crate and by what it is at (a must-fail edit has a folder of its own, a check of tests the flag --test), its processor seconds and the
-largest memory that one process of it has held. What a process took between the last look and its end is missing of that, so the whole is
-asked of the kernel, which has it exactly. Behind the command's end a table for docs/PROVING.md is printed. TOP is the repository whose
-crates.txt, sources and edits the table goes by.
+The command's output is passed through. A few times a second the processes that the command started are looked up in /proc: those of the
+prover, with their crate and their task (a must-fail edit has a folder of its own, a check of tests the flag --test), their processor
+seconds and the largest memory of a single process. What a process used between the last look and its end is missing there, so the total is
+taken from the kernel, which has it exactly. When the command has ended, a table for docs/PROVING.md is printed. TOP is the repository with
+the crates.txt, sources and edits of the table.
 """
 
 import os
@@ -20,14 +20,15 @@ import time
 sys.path.insert(0, str(pathlib.Path(__file__).resolve().parent.parent / "tools"))
 from crates import crates_of
 
-# How often is looked, in seconds.
+# The interval between looks, in seconds.
 PAUSE = 0.25
 STEPS = ("proof", "tests", "edits")
 TICKS = os.sysconf("SC_CLK_TCK")
 
 
 class Step:
-    """What a step of a crate took: each process's seconds, the largest one's memory in bytes, and when it was first and last seen."""
+    """What a step of a crate took: the seconds of each process, the memory of the largest one in bytes, and when it was first and last
+    seen."""
 
     def __init__(self, now):
         self.seconds, self.memory, self.first, self.last = {}, 0, now, now
@@ -45,7 +46,7 @@ class Step:
 
 
 def stats():
-    """The parent, start and processor seconds of each process that is there."""
+    """The parent, start and processor seconds of each process."""
     found = {}
     for name in os.listdir("/proc"):
         if not name.isdigit():
@@ -60,7 +61,7 @@ def stats():
 
 
 def below(top, found):
-    """The processes that a process started, and those that these started."""
+    """The processes that a process started, directly or not."""
     children = {}
     for process, (parent, _, _) in found.items():
         children.setdefault(parent, []).append(process)
@@ -72,7 +73,7 @@ def below(top, found):
 
 
 def step_of(process):
-    """Which crate a process of the prover is at, and what with; nothing for other processes."""
+    """The crate of a process of the prover, and its task; nothing for other processes."""
     try:
         with open(f"/proc/{process}/cmdline", "rb") as file:
             words = file.read().decode(errors="replace").split("\0")
@@ -86,7 +87,7 @@ def step_of(process):
 
 
 def memory_of(process):
-    """The most memory that a process has held, in bytes."""
+    """The greatest memory that a process has had, in bytes."""
     try:
         with open(f"/proc/{process}/status", encoding="utf-8", errors="replace") as file:
             return next((int(line.split()[1]) * 1024 for line in file if line.startswith("VmHWM:")), 0)
@@ -95,7 +96,7 @@ def memory_of(process):
 
 
 def watch(command):
-    """Runs a command and returns its status, what its steps took, and its elapsed seconds."""
+    """Runs a command and returns its status, what its steps took, and the elapsed seconds."""
     steps, kinds, start = {}, {}, time.monotonic()
     child = subprocess.Popen(command)
     signal.signal(signal.SIGTERM, lambda *_: child.terminate())
@@ -113,7 +114,7 @@ def watch(command):
 
 
 def longest_chain(named, steps):
-    """The seconds and steps of the longest chain: a proof waits for the crates below, tests too, and edits for both of their crate."""
+    """The seconds and steps of the longest chain: proofs and tests wait for the crates below, and edits for both of their crate."""
 
     def seconds(crate, step):
         return steps[crate, step].elapsed() if (crate, step) in steps else 0
@@ -131,7 +132,7 @@ def longest_chain(named, steps):
 
 
 def depth(named, crate):
-    """How many crates stand below one another under a crate."""
+    """The number of layers of crates below a crate."""
     return 1 + max((depth(named, it) for it in named[crate] if it in named), default=0)
 
 
@@ -143,7 +144,7 @@ def size_of(top, crate):
 
 
 def cell(steps, crate, step):
-    """Seconds and memory of a step, where there was one."""
+    """Seconds and memory of a step, if there was one."""
     if (crate, step) not in steps:
         return " | "
     it = steps[crate, step]

@@ -1,10 +1,10 @@
-"""How the time to check a file grows with its size: bench/growth.py [WORD]..., after ./test or a build of crates/actionlint, or else with
-the carried program. With WORDs only the shapes are measured whose names hold one of them.
+"""How the time to check a file grows with its size: bench/growth.py [WORD]..., after ./test or a build of crates/actionlint, otherwise with
+the carried program. With WORDs only the shapes are measured whose names contain one of them.
 
-Scripts put each shape at half and at its whole size, and the same nodes or bytes where nothing checks them: what the check takes is the
-difference. Times are the least of several runs that take turns, less that of a workflow without jobs. Where a check is linear, or linear
-but for a logarithm, the time doubles with the size or grows a little more; where each item were compared with all others, it would grow
-fourfold. Needs may take time in proportion to their entries, which are the square of the jobs where each job needs all: fourfold.
+Scripts put each shape at half and at full size, and the same nodes or bytes where nothing checks them: the difference is the time of the
+check. Times are the least of several runs that take turns, minus that of a workflow without jobs. If a check is linear, up to a logarithm,
+the time about doubles with the size; if each item were compared with all others, it would grow fourfold. Needs may take time in proportion
+to their entries, which are the square of the number of jobs if each job needs all: fourfold.
 """
 
 import functools
@@ -41,17 +41,17 @@ NEEDING_JOB = """  job{n:05}:
 
 
 def keys(number):
-    """A mapping of keys that differ."""
+    """A mapping of different keys."""
     return "".join(f"      K{n:05}: v\n" for n in range(number))
 
 
 def equal_keys(number):
-    """A mapping of one key again and again."""
+    """A mapping with the same key again and again."""
     return "      K: v\n" * number
 
 
 def jobs(number):
-    """Jobs of one step."""
+    """Jobs with one step."""
     return "".join(f"      J{n:05}:\n        runs-on: u\n        steps: [{{run: make}}]\n" for n in range(number))
 
 
@@ -61,12 +61,12 @@ def job(number, needs):
 
 
 def chain(number):
-    """Each job needs the one before it."""
+    """Each job needs the previous one."""
     return "".join(job(n, f"J{n - 1:05}" if n else "") for n in range(number))
 
 
 def cycle(number):
-    """Each job needs the one before it, and the first the last."""
+    """Each job needs the previous one, and the first the last."""
     return "".join(job(n, f"J{(n - 1) % number:05}") for n in range(number))
 
 
@@ -82,62 +82,62 @@ def free(number):
 
 
 def ids(number):
-    """Steps with ids that differ."""
+    """Steps with different ids."""
     return "    steps:\n" + "".join(f"      - {{id: S{n:05}, run: make}}\n" for n in range(number))
 
 
 def rows(number):
-    """A matrix of many rows, each of which is excluded."""
+    """A matrix with many rows, each of which is excluded."""
     above = "    strategy:\n      matrix:\n"
     row = "".join(f"        R{n:05}: [x]\n" for n in range(number))
     return above + row + "        exclude:\n" + "".join(f"          - R{n:05}: x\n" for n in range(number))
 
 
 def script(number):
-    """A script with a deprecated command in each line."""
+    """A script with a deprecated command on each line."""
     return "    steps:\n      - run: |\n" + '          echo "::set-output name=a::b"\n' * number
 
 
 def colons(number):
-    """A script of colons, at each of which a command might begin."""
+    """A script of colons, at each of which a command could begin."""
     return "    steps:\n      - run: |\n" + f"          {'::' * 30}\n" * number
 
 
 def seeing_steps(number):
-    """One job of steps with ids, each of which looks at the step before it and at the first."""
+    """One job of steps with ids, each of which refers to the step before it and to the first."""
     body = "".join(STEP.format(n=n, last=max(n - 1, 0), pad="." * 90) for n in range(1, number))
     return f"{STEPS}      - {{id: step00000, run: make}}\n{body}"
 
 
 def seeing_jobs(number):
-    """Jobs that need the one before them and one in the middle."""
+    """Jobs that need the previous one and one in the middle."""
     body = "".join(NEEDING_JOB.format(n=n, last=n - 1, first=n // 2, pad="." * 60) for n in range(1, number))
     return f"{JOBS}  job00000: {{runs-on: ubuntu-latest, outputs: {{a: x, b: y}}, steps: [{{run: make}}]}}\n{body}"
 
 
 def action(number):
-    """An action of required inputs."""
+    """An action with required inputs."""
     return f"{ACTION}inputs:\n" + "".join(f"  i{n:05}:\n    required: true\n" for n in range(number))
 
 
 def callable_workflow(number):
-    """A callable workflow of required inputs."""
+    """A callable workflow with required inputs."""
     inputs = "".join(f"      i{n:05}:\n        type: string\n        required: true\n" for n in range(number))
     return f"on:\n  workflow_call:\n    inputs:\n{inputs}jobs: {{}}\n"
 
 
 def given(number, indent, name="I"):
-    """What gives each of these inputs."""
+    """Values for each of these inputs."""
     return "".join(f"{' ' * indent}{name}{n:05}: v\n" for n in range(number))
 
 
 def step_giving(number, name):
-    """An action of inputs, and a step that gives as many of this name."""
+    """An action with inputs, and a step that gives inputs with this name."""
     return [("a/action.yml", action(number)), (CALLER, f"{STEPS}      - uses: ./a\n        with:\n{given(number, 10, name)}")]
 
 
 def job_giving(number):
-    """A workflow of inputs, and a job that gives all of them."""
+    """A workflow with inputs, and a job that gives all of them."""
     caller = f"{JOBS}  a:\n    uses: ./.github/workflows/w.yml\n    with:\n{given(number, 6)}"
     return [(".github/workflows/w.yml", callable_workflow(number)), (CALLER, caller)]
 
@@ -148,27 +148,27 @@ def many_calls(number):
 
 
 def step_of_ats(number):
-    """One `uses` of a step that may be cut at many places, none of them right."""
+    """One `uses` of a step that could be split at many places, none of them right."""
     return [(CALLER, f"{STEPS}      - uses: {'a@' * (number // 2)}\n")]
 
 
 def job_of_ats(number):
-    """The same of a job, with all parts but a file's name before them."""
+    """The same for a job, with all parts except a file's name before them."""
     return [(CALLER, f"{JOBS}  a:\n    uses: o/r/.github/workflows/{'a@' * (number // 2)}\n")]
 
 
 def nodes(above, shape):
-    """Nodes below the lines above them, and below a key that takes anything."""
+    """Nodes below the lines above them, and below a key that accepts anything."""
     return lambda number: [(WORKFLOW, above + shape(number))], lambda number: [(WORKFLOW, ANYTHING + deeper(shape(number)))]
 
 
 def deeper(text):
-    """The same nodes, where the key of a job that holds them is one of a mapping in the job."""
+    """The same nodes, but the key that holds them in a job is inside a mapping of the job."""
     return re.sub("^    (steps|strategy):", r"      \1:", text)
 
 
 def expressions(shape):
-    """A workflow with expressions, and with what is none in their place."""
+    """A workflow with expressions, and with other texts in their place."""
     return lambda number: [(WORKFLOW, shape(number))], lambda number: [(WORKFLOW, shape(number).replace("${{", "$(("))]
 
 
@@ -203,7 +203,7 @@ SHAPES = {
 
 
 def main():
-    """Prints a table: for each shape the times at both sizes and their ratio, where it is checked and where it is only read."""
+    """Prints a table: the times of each shape at both sizes and their ratio, when checked and when only read."""
     print(f"{'':34} {'checked':>30} {'only read':>30}")
     print(f"{'shape':34}" + f" {'half':>9} {'whole':>9} {'whole/half':>10}" * 2)
     for name, (checked, read, size) in SHAPES.items():

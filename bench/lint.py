@@ -1,10 +1,10 @@
-"""What a whole lint takes, beside the bare event parsers of libyaml and libfyaml on the same bytes: bench/lint.py [BEFORE], after ./test
-or a build of crates/actionlint. BEFORE is a program of another version, which takes its turns in the same run.
+"""What a whole lint takes, compared with the bare event parsers of libyaml and libfyaml on the same bytes: bench/lint.py [BEFORE], after
+./test or a build of crates/actionlint. BEFORE is a program of another version, which takes its turns in the same run.
 
-It needs a C compiler, both libraries with their headers (Debian's libyaml-dev and libfyaml-dev) and valgrind. Each file is put into a
-session that reports; a peer reads it and keeps nothing. Ratios are to libyaml. Times are the least of several runs that take turns, start
-of the process included; instructions are counted by callgrind, since times on a shared machine move by half. Folders are linted without a
-word, beside the peers on the same files, each opened by its name; and beside yamllint, where Debian's package of it is installed.
+Needs a C compiler, both libraries with their headers (Debian's libyaml-dev and libfyaml-dev) and valgrind. Each file is put into a session
+that reports; a peer reads it and keeps nothing. Ratios are to libyaml. Times are the least of several runs that take turns, including the
+start of the process; instructions are counted by callgrind, since times on a shared machine vary by half. Folders are linted without
+arguments, compared with the peers on the same files, each opened by its name, and with yamllint, if Debian's package of it is installed.
 """
 
 import functools
@@ -52,23 +52,23 @@ EXPRESSION = " && ".join(f"github.event_name == 'push{n:04}'" for n in range(600
 
 
 def workflow(count):
-    """A workflow of so many jobs of the usual kind."""
+    """A workflow with this many jobs of the usual kind."""
     return "on: push\njobs:\n" + "".join(JOB.format(n=n) for n in range(count))
 
 
 def steps(lines, count):
-    """A workflow of one job with so many steps of these lines."""
+    """A workflow with one job that has this many steps of these lines."""
     return "on: push\njobs:\n  build:\n    runs-on: ubuntu-latest\n    steps:\n" + "".join(lines.format(n=n) for n in range(count))
 
 
 def jobs(count):
-    """A workflow with so many jobs of one step each."""
+    """A workflow with this many jobs of one step each."""
     job = "  job{}:\n    runs-on: ubuntu-latest\n    steps:\n      - run: make\n"
     return "on: push\njobs:\n" + "".join(job.format(n) for n in range(count))
 
 
 def inputs(count):
-    """A workflow that declares so many inputs and reads each."""
+    """A workflow that declares inputs and reads each."""
     declared = "".join(f"      input{n}:\n        type: string\n" for n in range(count))
     read = "".join(f"          I{n}: ${{{{ inputs.input{n} }}}}\n" for n in range(count))
     job = "jobs:\n  build:\n    runs-on: ubuntu-latest\n    steps:\n      - run: make\n        env:\n"
@@ -76,13 +76,13 @@ def inputs(count):
 
 
 def matrix(rows):
-    """A workflow whose matrix includes so many rows."""
+    """A workflow whose matrix includes this many rows."""
     head = "on: push\njobs:\n  build:\n    runs-on: ubuntu-latest\n    strategy:\n      matrix:\n        include:\n"
     return head + "".join(f"          - {{version: {n}, os: linux}}\n" for n in range(rows)) + "    steps:\n      - run: make\n"
 
 
 def aliases(count):
-    """A workflow with so many nodes behind aliases of one step's environment."""
+    """A workflow in which this many nodes come from aliases of one step's environment."""
     step = "      - run: make\n        env: &shared {" + ", ".join(f"V{n}: x" for n in range(50)) + "}\n"
     again = "      - run: make\n        env: *shared\n"
     return "on: push\njobs:\n  build:\n    runs-on: ubuntu-latest\n    steps:\n" + step + again * (count // 101)
@@ -97,11 +97,11 @@ def shapes():
     yield "5,000 inputs, each read", inputs(5_000)
     yield "a matrix of 10,000 rows", matrix(10_000)
     yield "40 expressions of 21,000 bytes", steps(f"      - run: make\n        if: {EXPRESSION}\n", 40)
-    yield "90,000 nodes behind aliases", aliases(90_000)
+    yield "90,000 nodes by aliases", aliases(90_000)
 
 
 def fill(folder, count, jobs_of_each):
-    """Puts so many workflows of so many jobs into a folder, and answers their paths and how many bytes they have."""
+    """Puts workflows with this many jobs into a folder; returns their paths and the number of their bytes."""
     text = workflow(jobs_of_each)
     files = [(f".github/workflows/{number:04}.yml", text) for number in range(count)]
     write_files(folder, files)
@@ -109,7 +109,7 @@ def fill(folder, count, jobs_of_each):
 
 
 def seconds(command, data, folder):
-    """What one run takes, which ends without a fault."""
+    """The time of one run, which ends without a fault."""
     took, status, out = run_seconds(command, data, folder)
     if status:
         sys.exit(f"{command[0]} ended with {status}: {out[:200]}")
@@ -125,7 +125,7 @@ def instructions(command, data, folder):
 
 
 def compare(name, size, commands, inputs, folder=None):
-    """Prints the times and instructions of the commands on files of so many bytes, each with its own standard input."""
+    """Prints the times and instructions of the commands on files with this many bytes, each with its own standard input."""
     measures = [functools.partial(seconds, *it, folder) for it in zip(commands, inputs)]
     first, *others = least_in_turns(RUNS, measures)
     counted = [instructions(*it, folder) for it in zip(commands, inputs)]
@@ -144,7 +144,7 @@ def compare_with_yamllint(program_path, made):
 
 
 def main():
-    """Prints a table: for each shape the peers, this program and the one before."""
+    """Prints a table: the peers, this program and the earlier one for each shape."""
     programs = [program("actionlint"), *(pathlib.Path(it).resolve() for it in sys.argv[1:])]
     with tempfile.TemporaryDirectory() as made:
         others = [[it] for it in peers(made)]

@@ -1,8 +1,8 @@
-"""The memory and the stack that runs take: bench/memory.py, after ./test or a build of crates/actionlint, or else with the carried
+"""The memory and the stack that runs take: bench/memory.py, after ./test or a build of crates/actionlint, otherwise with the carried
 program. Needs GNU time (Debian's time).
 
-Each file is put into a session that reports. Of large ones the greatest memory of the run is told; of deep ones the least stack under which
-the run is the one that it is with an ample stack, in steps of 8 KiB. Folders are linted, and their processor time is told too.
+Each file is put into a session that reports. For large files the greatest memory of the run is shown; for deep ones the least stack with
+which the run is the same as with an ample stack, in steps of 8 KiB. Folders are linted, and their processor time is shown too.
 """
 
 import resource
@@ -38,12 +38,12 @@ DEEP = {
 
 
 def copies(text):
-    """A hundred workflows of one text."""
+    """A hundred workflows with the same text."""
     return [(f".github/workflows/{number:03}.yml", text) for number in range(100)]
 
 
 def ring(count):
-    """So many workflows, each of which calls the next, and the last one the first."""
+    """Workflows each of which calls the next, and the last one the first."""
     call = "on: workflow_call\njobs:\n  a:\n    uses: ./.github/workflows/{:04}.yml\n"
     return [(f".github/workflows/{number:04}.yml", call.format((number + 1) % count)) for number in range(count)]
 
@@ -63,7 +63,7 @@ def greatest_memory(text):
 
 
 def run_on(stack, text):
-    """The status and the output of the same run, with a stack of so many bytes."""
+    """The status and the output of the same run, with a stack of this many bytes."""
     held = lambda: resource.setrlimit(resource.RLIMIT_STACK, (stack, stack))
     run = subprocess.run([program("actionlint"), *SESSION], input=put_commands([(WORKFLOW, text)]) + REPORT, stdout=subprocess.PIPE,
                          stderr=subprocess.DEVNULL, check=False, preexec_fn=held)
@@ -71,7 +71,7 @@ def run_on(stack, text):
 
 
 def least_stack(text):
-    """The least stack that suffices, in bytes: what suffices for one number of steps does for more."""
+    """The least stack that suffices, in bytes: if a number of steps suffices, so do more."""
     wanted = run_on(AMPLE, text)
     short, enough = 0, AMPLE // STEP
     while enough - short > 1:

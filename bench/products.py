@@ -1,8 +1,8 @@
-"""What folders take in which one count times another could be taken: bench/products.py, after ./test or a build of
-crates/actionlint, or else with the carried program. Needs GNU time (Debian's time).
+"""What folders take in which the product of two counts could be taken: bench/products.py, after ./test or a build of crates/actionlint,
+otherwise with the carried program. Needs GNU time (Debian's time).
 
-The folders are those of tests/products.py, which tests/hostile.py lints under a limit of memory. Each is linted several times, and the
-least processor time is told, with the greatest memory of a run and the bytes of the report.
+The folders are those of tests/products.py, which tests/hostile.py lints under a limit of memory. Each is linted several times; the least
+processor time is shown, with the greatest memory of a run and the bytes of the report.
 """
 
 import subprocess
@@ -18,7 +18,7 @@ RUNS = 3
 
 
 def reported(folder):
-    """What is reported of a folder."""
+    """The report on a folder."""
     return subprocess.run([program("actionlint"), "--oneline"], cwd=folder, stdout=subprocess.PIPE, check=False).stdout
 
 

@@ -1,10 +1,10 @@
-"""What a report costs where all faults stand on one line: bench/report.py, after ./test or a build of crates/actionlint, or else with the
+"""What a report costs if all faults are on one line: bench/report.py, after ./test or a build of crates/actionlint, otherwise with the
 carried program.
 
-One workflow has its faults on one line, behind many spaces, so that each column is some hundred thousand; the other one has
-as many faults, each on a line of its own. A report's time is that of a script with some reports less that of the same one
-without any, each the least of several runs, which take turns. Columns are counted on from the fault before: were each
-counted from the start of its line, the first workflow would take hundreds of times as long.
+One workflow has its faults on one line, after many spaces, so each column is some hundred thousand; the other one has as many faults, each
+on its own line. The time of a report is that of a script with some reports minus that of the same script without any, each the least of
+several runs, which take turns. Columns are counted from the previous fault: if each were counted from the start of its line, the first
+workflow would take hundreds of times as long.
 """
 
 import functools
@@ -23,7 +23,7 @@ OWN_LINES = JOB + "\n" + "    - []\n" * FAULTS
 
 
 def seconds(text, reports):
-    """What a script takes that puts a workflow and reports so many times."""
+    """The time of a script that puts a workflow and reports this many times."""
     script = put_commands([(WORKFLOW, text)]) + b"report\n" * reports
     took, _, out = run_seconds([program("actionlint"), *SESSION], script)
     faults = out.count(b"\n") - 1 - reports

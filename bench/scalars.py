@@ -1,8 +1,8 @@
 """How the time to read one scalar grows with its bytes: bench/scalars.py, after ./test or a build of crates/al_dump.
 
-Each shape of scalar is read at a quarter, half and the whole of its size by the program `al_dump`, which also prints its
-text with the offset of each byte. Where reading is linear, the time doubles with the size. The times are the least of
-several runs in one run of this program, less the time of the empty scalar.
+Each shape of scalar is read at a quarter, half and all of its size by the program `al_dump`, which also prints its text with the offset of
+each byte. If reading is linear, the time doubles with the size. The times are the least of several runs, minus the time of the empty
+scalar.
 """
 
 import functools

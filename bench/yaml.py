@@ -1,10 +1,9 @@
-"""How long a file of YAML takes to read, beside the event parsers of libyaml and libfyaml on the same bytes: bench/yaml.py [BEFORE],
-after ./test or a build of crates/al_dump. BEFORE is a `al_dump` program of another version, whose times are taken in the same run.
+"""How long a YAML file takes to read, compared with the event parsers of libyaml and libfyaml on the same bytes: bench/yaml.py [BEFORE],
+after ./test or a build of crates/al_dump. BEFORE is an `al_dump` program of another version, whose times are taken in the same run.
 
-It needs a C compiler and both libraries with their headers (Debian's libyaml-dev and libfyaml-dev). Each file ends with a line at
-which all readers stop with a fault, so that none prints a tree, and all before it is read by each. Each time is the least of
-several runs that take turns, less that for this line alone. Each shape is read at half and at its whole size:
-where reading is linear, the time grows as the bytes do.
+Needs a C compiler and both libraries with their headers (Debian's libyaml-dev and libfyaml-dev). Each file ends with a line at which all
+readers stop with a fault, so none prints a tree, and each reads everything before it. Each time is the least of several runs that take
+turns, minus that for this line alone. Each shape is read at half and at full size: if reading is linear, the time grows like the bytes.
 """
 
 import functools
@@ -45,7 +44,7 @@ JOB = """  job{n}:
 
 
 def workflow(size):
-    """A workflow of jobs of the usual kind, of about so many bytes."""
+    """A workflow of jobs of the usual kind, with about this many bytes."""
     parts = ["on: push\njobs:\n"]
     length = len(parts[0])
     number = 0
@@ -57,7 +56,7 @@ def workflow(size):
 
 
 def shapes(size):
-    """Files of one shape each, of about so many bytes."""
+    """Files of one shape each, with about this many bytes."""
     yield "a workflow", workflow(size)
     yield "plain scalar, one line", b"on: push\njobs: " + b"a b " * (size // 4) + b"\n"
     yield "plain scalar, lines of three bytes", b"on: push\njobs: a\n" + b" b\n" * (size // 3)
@@ -73,7 +72,7 @@ def shapes(size):
 
 
 def shared_shapes(size):
-    """Files of about so many bytes in which anchors and aliases stand."""
+    """Files with about this many bytes that contain anchors and aliases."""
     names = range(49_000 * size // SIZE)
     yield "anchors and aliases of other names", b"on: push\njobs: [" + b"".join(b"&a%05d v, *a%05d, " % (n, n) for n in names) + b"]\n"
     yield "aliases of one scalar", b"on: push\njobs: [&a v" + b", *a" * (98_000 * size // SIZE) + b"]\n"
@@ -84,7 +83,7 @@ def shared_shapes(size):
 
 
 def seconds(command, is_ours, file):
-    """What one run takes. Ours reads a file up to its last line."""
+    """The time of one run. Ours reads a file up to its last line."""
     took, _, out = run_seconds(command, file)
     if is_ours and (at := json.loads(out)["fault"]["start"]) != len(file) - len(LAST):
         sys.exit(f"a fault at {at} of {len(file)} bytes")
@@ -92,14 +91,14 @@ def seconds(command, is_ours, file):
 
 
 def least(commands, files):
-    """For each file the least time that each command takes to read it. The first commands are the peers'."""
+    """The least time that each command takes to read each file. The first commands are the peers'."""
     measures = [functools.partial(seconds, command, number >= len(PEERS), file) for file in files for number, command in enumerate(commands)]
     times = least_in_turns(RUNS, measures)
     return [times[first : first + len(commands)] for first in range(0, len(times), len(commands))]
 
 
 def main():
-    """Prints a table. A reader of another version may know no aliases, so it isn't given files with any."""
+    """Prints a table. A reader of another version may not know aliases, so it isn't given files with any."""
     with tempfile.TemporaryDirectory() as folder:
         commands = [[it] for it in peers(folder)] + [[path, "yaml"] for path in [program("al_dump"), *sys.argv[1:]]]
         before = "  this/before" if sys.argv[1:] else ""

@@ -140,7 +140,8 @@ def is_refused(crate, function, said):
 
 
 def tried(name, crate, edits):
-    """Tries a group and yields each of its edits with whether it is refused; those about which the check says nothing are tried one by one."""
+    """Tries a group and yields each of its edits with whether it is refused; those about which the check says nothing are tried one by
+    one."""
     status, said = said_of(crate, edits)
     reached = re.search(r"^logic=not-proved", said, re.MULTILINE)
     for edit in edits:

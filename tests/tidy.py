@@ -1,9 +1,9 @@
 """Checks the layout of the crates: tidy.py TOP WHAT.. [--write].
 
 WHAT is `src` or `specs` (no line is longer than 140 characters), `proofs` (none is longer than 200), `heads` (each module of lemmas says at
-its top what it is for), `kinds` (definitions use neither words of private contracts, `specs/Private`, nor worked examples, `specs/Rows`, and
-none of all these uses proofs, including those of `specs/Proofs`) or `names` (each name that a `use` line imports occurs somewhere else in
-its file). `--write` removes the names that don't; then `rt fmt` and `rt check` have to be run in each changed crate.
+its top what it is for), `kinds` (definitions use neither words of private contracts, `specs/Private`, nor worked examples, `specs/Rows`,
+and none of all these uses proofs, including those of `specs/Proofs`) or `names` (each name that a `use` line imports occurs somewhere else
+in its file). `--write` removes the names that don't; then `rt fmt` and `rt check` have to be run in each changed crate.
 """
 
 import pathlib

@@ -21,12 +21,12 @@ def schedule(top, crates, processors):
     named, known = crates_of(top), seconds_of(top)
     below = {it: [name for name in named[it] if name in crates] for it in crates}
     seconds = {it: known.get(it, UNKNOWN_SECONDS) for it in crates}
-    behind = {}
+    chain = {}
 
     def longest(crate):
-        if crate not in behind:
-            behind[crate] = seconds[crate] + max((longest(it) for it in crates if crate in below[it]), default=0)
-        return behind[crate]
+        if crate not in chain:
+            chain[crate] = seconds[crate] + max((longest(it) for it in crates if crate in below[it]), default=0)
+        return chain[crate]
 
     ends, free = {}, [0] * processors
     waiting = sorted(crates, key=longest, reverse=True)
