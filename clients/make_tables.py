@@ -1,11 +1,11 @@
 #!/usr/bin/env python3
 """Writes the tables of the clients from the rest of the repository:
 
-    make_tables.py [--check]        with --check they are compared, and nothing is written
+    make_tables.py [--check]        --check compares them, and writes nothing
 
-`actionlint_client/faults.json` has the entries of docs/FAULTS*.md: of each fault its code, message and place, and what the page says of it.
-`actionlint_client/names.json` has the lists of names that the linter knows, out of the definitions that its code is proved equal to.
-`actionlint_client/syntax.json` has what may stand where, out of the same definitions, and of each name what docs/MEANINGS.md says.
+`actionlint_client/faults.json` has the entries of docs/FAULTS*.md: the code, message and place of each fault, and what the page says.
+`actionlint_client/names.json` has the lists of names that the linter knows, from the definitions that its code is proved to match.
+`actionlint_client/syntax.json` has what is allowed where, from the same definitions, and what docs/MEANINGS.md says about each name.
 """
 from __future__ import annotations
 
@@ -23,7 +23,7 @@ OUT = Path(__file__).resolve().parent / "actionlint_client"
 LINK_IN_PAGE = re.compile(r"\]\((#[^)]*)\)")
 MEANINGS_ROW = re.compile(r"^\| (?:\*([^*]+)\* )?\| `([^`]+)` \| (.+) \|$", re.M)
 UNCHECKED = " (unchecked)"
-# Where the sections stand that the linter doesn't check: below which key of a shape, and whether names of one's own come between.
+# The places of the sections that the linter doesn't check: the key of a shape above each, and whether free names come between.
 UNCHECKED_PLACES = {("Job", "environment"): ("Environment", False), ("Job", "services"): ("Container", True),
                     ("Container", "credentials"): ("Credentials", False), ("Strategy", "matrix"): ("Matrix", False),
                     ("Action", "inputs"): ("ActionInput", True), ("Action", "outputs"): ("ActionOutput", True),
@@ -48,7 +48,7 @@ def main(words: list[str]) -> int:
 
 
 def faults(docs: Path) -> list[dict]:
-    """The entries of all pages, in the order of their codes. Links within a page lead to it from everywhere."""
+    """The entries of all pages, in the order of their codes. Links within a page work from everywhere."""
     rows = []
     for entry in fault_entries.entries(docs):
         local = lambda markdown: LINK_IN_PAGE.sub(rf"]({entry.page}\1)", markdown)
@@ -59,7 +59,7 @@ def faults(docs: Path) -> list[dict]:
 
 
 def repaired_files(case: Path) -> list[str]:
-    """The repaired file of a fault's case as Markdown, and before it the other files of its folder, by their paths."""
+    """The repaired file of a fault's case as Markdown, preceded by the other files of its folder, by path."""
     files = fault_entries.files_of(case.with_name(f"{case.name}-repaired"))
     shown = [f"`{path}`:\n\n```yaml\n{data.decode()}```" for path, data in list(files.items())[:-1]]
     return [*shown, f"```yaml\n{list(files.values())[-1].decode()}```"]
@@ -95,7 +95,7 @@ def names(crates: Path) -> dict[str, list[str]]:
 
 
 def syntax(top: Path) -> dict[str, dict | list]:
-    """What each shape of a value takes, the rows of the table of places, contexts, functions, activity types, and meanings by list."""
+    """What each shape of a value accepts, the rows of the table of places, contexts, functions, activity types, and meanings by list."""
     crates = top / "crates"
     meanings, heading = {}, ""
     for begun, name, meaning in MEANINGS_ROW.findall((top / "docs/MEANINGS.md").read_text(encoding="utf-8")):
@@ -117,7 +117,7 @@ def syntax(top: Path) -> dict[str, dict | list]:
 
 
 def shapes(text: str, meanings: dict[str, dict]) -> dict[str, dict]:
-    """Of each shape which scalars and items it takes, and its keys: those of a section, or free ones with values of a shape."""
+    """For each shape, the scalars and items that it accepts, and its keys: those of a section, or free ones with values of a shape."""
     found: dict[str, dict] = {}
     for name, right in lists_page.EQUATION.findall(text):
         anything = right.strip() == "None"
@@ -140,7 +140,7 @@ def shapes(text: str, meanings: dict[str, dict]) -> dict[str, dict]:
 
 
 def fields(text: str) -> dict[str, dict]:
-    """The fields of a section: `need` is True, None, or the key that stands in its place; `clash` the key that it can't stand beside."""
+    """The fields of a section: `need` is True, None, or the key that can replace it; `clash` is the key that it can't be combined with."""
     return {key: {"shape": shape, "need": need, "clash": other} for key, shape, need, _, other in lists_page.fields_of(text)}
 
 

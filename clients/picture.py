@@ -1,6 +1,6 @@
 #!/usr/bin/python3
-"""Draws docs/neovim*.svg: a terminal with Neovim that shows the faults of a workflow, what can stand at a cursor, and what a key means,
-from what the editor really writes to the terminal.
+"""Draws docs/neovim*.svg: a terminal with Neovim that shows the faults of a workflow, completion at a cursor, and the meaning of a key, from
+what the editor really writes to the terminal.
 
     picture.py PROGRAM [NAME...]        needs Neovim and a terminal emulator in Python (Debian: neovim, python3-pyte)
 """
@@ -64,7 +64,7 @@ vim.defer_fn(function() KEYS end, 4000)
 vim.defer_fn(function() vim.cmd('redraw!') end, 7000)
 vim.defer_fn(function() vim.cmd('qall!') end, 8000)
 """
-# By picture the text that it shows, and what is done there before it is taken.
+# For each picture, the text that it shows, and what is typed before it is taken.
 PICTURES = {
     "neovim": ("faults of a workflow", ""),
     "neovim-completion": ("what can stand at a cursor", "keys('11G$F.lC<C-x><C-o>')"),
@@ -75,7 +75,7 @@ SECONDS = 30
 
 
 def screen_of(program: str, keys: str) -> pyte.Screen:
-    """The terminal as the editor had it before it ended."""
+    """The terminal just before the editor ended."""
     top = tempfile.mkdtemp(prefix="actionlint-picture-")
     write(top, {WORKFLOWS + "build.yml": WORKFLOW, "greet/action.yml": ACTION, "init.lua": INIT.replace("KEYS", keys)})
     environment = {**os.environ, "CLIENTS": str(CLIENTS), "PROGRAM": os.path.abspath(program), "HOME": top, "LC_ALL": "C.UTF-8"}
@@ -89,7 +89,7 @@ def screen_of(program: str, keys: str) -> pyte.Screen:
 
 
 def runs_of(row: dict) -> list[tuple[int, str, str, bool]]:
-    """Of a row the runs of equal look: the first column, the text, its colour, and whether it is bold."""
+    """The runs of equal style in a row: the first column, the text, its color, and whether it is bold."""
     runs: list[tuple[int, str, str, bool]] = []
     for column in range(COLUMNS):
         cell = row[column]

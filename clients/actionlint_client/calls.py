@@ -12,11 +12,12 @@ MAX_DEPTH = 64
 
 
 class NotRead(Exception):
-    """YAML that the linter doesn't read: too deep, with a second document, a tag, an alias of nothing or a key that is no mere scalar."""
+    """YAML that the linter doesn't read: too deep, with a second document, a tag, an alias without an anchor or a key that isn't a plain
+    scalar."""
 
 
 def callees(path: str, data: bytes) -> frozenset[str] | None:
-    """The paths at which the calls of a file look for actions, or None where the file is no YAML."""
+    """The paths at which the calls of a file look for actions, or None if the file isn't valid YAML."""
     if b"uses" not in data and b"\\" not in data:
         return frozenset()
     try:
@@ -38,7 +39,8 @@ def _root(events: Iterator[yaml.Event]) -> Node:
 
 
 def _node(event: yaml.Event, events: Iterator[yaml.Event], anchors: dict[str, Node], depth: int) -> Node:
-    """The node that begins with an event. What stands behind an alias is shared, and of equal keys the first counts, as for the linter."""
+    """The node that begins with an event. The contents of an anchor are shared by its aliases, and the first of equal keys counts, as for
+    the linter."""
     if isinstance(event, yaml.AliasEvent):
         if event.anchor not in anchors:
             raise NotRead
@@ -80,7 +82,7 @@ def _under(node: Node, key: str) -> Node:
 
 
 def _action_files(uses: str) -> list[str]:
-    """The files at which a call looks for an action: none where it is none of this folder."""
+    """The files at which a call looks for an action; none if the action isn't in this folder."""
     if not uses.startswith("./") or "${{" in uses:
         return []
     folder = uses[2:].removesuffix("/")

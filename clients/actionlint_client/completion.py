@@ -1,4 +1,4 @@
-"""What can stand at a cursor: keys of the section, values of the key, and names in expressions."""
+"""What is allowed at a cursor: keys of the section, values of the key, and names in expressions."""
 from __future__ import annotations
 
 import re
@@ -25,8 +25,8 @@ FIRST_VALUES = {("workflow", "on"): "push", ("workflow", "jobs"): "\n  build:\n 
 
 @dataclass(frozen=True)
 class Offer:
-    """A name that can stand at the cursor, the text to insert, and what it is, in a word and in sentences. Offers of a lower rank come
-    first. With `arguments` it is a function call whose arguments are to be filled in."""
+    """A name that is allowed at the cursor, the text to insert, and what it is, in a word and in sentences. Offers of a lower rank come
+    first. With `arguments` it is a function call whose arguments are still to be written."""
 
     label: str
     kind: str
@@ -69,7 +69,7 @@ def cursor_at(project: Project, file: str, point: Point, is_strict: bool = True)
 
 
 def offers(project: Project, file: str, point: Point, is_strict: bool = True) -> tuple[Span, list[Offer]]:
-    """What can stand at a point, and the characters that it replaces; `is_strict` is that of the cursor."""
+    """What is allowed at a point, and the characters that it replaces; `is_strict` is that of the cursor."""
     cursor = cursor_at(project, file, point, is_strict)
     place = cursor.place
     if point < place.span.start:
@@ -90,7 +90,7 @@ def offers(project: Project, file: str, point: Point, is_strict: bool = True) ->
     if place.role is not Role.KEY:
         known = {offer.label for offer in found}
         found += [offer for offer in values(cursor) if offer.label not in known]
-    if is_behind_sign(project.lines(file)[point.line], place):
+    if is_after_sign(project.lines(file)[point.line], place):
         found = [replace(offer, text=" " + offer.text) for offer in found]
     if key_of(place.path)[1] == "cron" and place.before[:1] not in ("'", '"'):
         line = project.lines(file)[point.line]
@@ -98,7 +98,7 @@ def offers(project: Project, file: str, point: Point, is_strict: bool = True) ->
     return place.span, found
 
 
-def is_behind_sign(line: str, place: Place) -> bool:
+def is_after_sign(line: str, place: Place) -> bool:
     """Whether nothing is typed yet, not even the space after a colon or a dash."""
     return not place.typed and not place.before.strip() and line[:place.span.start.column][-1:] in (":", "-")
 

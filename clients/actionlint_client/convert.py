@@ -1,7 +1,7 @@
 """actionlint-report: runs the linter and writes its report in another format, for people or for programs.
 
-It runs the linter itself, so that a run that could not go on never passes for one without faults: the exit status is the linter's, but for
-faults that are ignored and notes of shellcheck.
+It runs the linter itself, so a run that could not go on never looks like one without faults: the exit status is the linter's, except for
+ignored faults and notes of shellcheck.
 """
 from __future__ import annotations
 

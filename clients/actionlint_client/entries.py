@@ -20,7 +20,7 @@ SHOWN_MESSAGES = 10
 
 
 class Entry(NamedTuple):
-    """What a page says of a fault: its message with `{0}` and `{1}` for its arguments, and Markdown; `why` and `repair` can be empty."""
+    """What a page says about a fault: its message with `{0}` and `{1}` for its arguments, and Markdown; `why` and `repair` can be empty."""
 
     code: str
     message: str
@@ -42,8 +42,8 @@ class Entry(NamedTuple):
             return None if inner else ()
         if not between:
             return (inner,)
-        before, found, behind = inner.rpartition(between[0])
-        return (before, behind) if found else None
+        before, found, after = inner.rpartition(between[0])
+        return (before, after) if found else None
 
 
 @lru_cache(maxsize=None)
@@ -69,7 +69,7 @@ def link_of(entry: Entry, docs: str) -> str:
 
 
 def plain_text(markdown: str) -> str:
-    """The first paragraph of Markdown without links. Links in brackets are left out, and of others the text stays."""
+    """The first paragraph of Markdown without links. Links in brackets are removed; other links are replaced by their text."""
     return LINK.sub(r"\1", LINK_IN_BRACKETS.sub("", markdown.split("\n\n", 1)[0]))
 
 

@@ -52,11 +52,11 @@ class Part:
     length: int = 0
 
     def prefix(self) -> bytes:
-        """What each of the lines begins with."""
+        """The beginning of each of the lines."""
         return self.path.encode("utf-8") + b":"
 
     def passes_over(self, text: bytes, form: Form) -> bool:
-        """Whether these lines are all of this file, whose first faults are there already; then they are counted."""
+        """Whether these lines are all about this file, which already has its first faults; then they are only counted."""
         prefix, breaks = self.prefix(), text.count(b"\n")
         if (len(self.faults) < MAX_FAULTS or form.is_mistakable or not text.startswith(prefix)
                 or text.count(b"\n" + prefix) != breaks):
@@ -201,8 +201,8 @@ def _common_suffix(first: bytes, second: bytes) -> int:
 
 
 def _greatest(most: int, are_equal: Callable[[int, int], bool]) -> int:
-    """The greatest length of a common part, by bisection: `are_equal` compares from one length to another, so each byte is compared about
-    once."""
+    """The greatest length of a common part, by bisection. `are_equal` compares the bytes between two lengths, so each byte is compared
+    about once."""
     low, high = 0, most
     while low < high:
         middle = (low + high + 1) // 2

@@ -64,13 +64,13 @@ class Form:
         self._out.write(text.encode("utf-8"))
 
     def begin(self) -> None:
-        """What stands before the first problem."""
+        """What comes before the first problem."""
 
     def add(self, problem: Problem) -> None:
         raise NotImplementedError
 
     def end(self, outcome: Outcome) -> None:
-        """What stands behind the last problem."""
+        """What comes after the last problem."""
 
 
 class JsonLines(Form):

@@ -33,7 +33,7 @@ def near(wrong: str, known: Iterable[str], count: int = 3, likeness: float = LEA
 
 
 def near_name(message: str) -> str | None:
-    """The name that is most like the one in a message; None where it isn't about a known list, or none is like it."""
+    """The name most similar to the one in the message; None if it isn't about a known list, or no name is similar."""
     entry, wrong = entry_of(message), argument_of(message)
     if entry is None or entry.code not in LISTS or wrong is None:
         return None

@@ -28,7 +28,7 @@ SUM = re.compile(rf"({CHAIN.pattern}|'[^']*')((?:\s*\+\s*(?:{CHAIN.pattern}|'[^'
 
 
 class Expression(NamedTuple):
-    """An expression without its braces, where it stands, and how its value is quoted as YAML."""
+    """An expression without its braces, its place, and how its value is quoted in YAML."""
 
     text: str
     span: Span
@@ -60,7 +60,7 @@ def expression_of(case: Case) -> Expression | None:
 
 
 def rewritten(title: str, change: Callable[[str], str | None]) -> Callable[[Case], Iterable[Repair]]:
-    """A repair that makes another expression of the whole one."""
+    """A repair that replaces the whole expression."""
     def repairs(case: Case) -> Iterable[Repair]:
         expression = expression_of(case)
         text = change(expression.text) if expression else None
@@ -72,14 +72,14 @@ def rewritten(title: str, change: Callable[[str], str | None]) -> Callable[[Case
 
 
 def in_yaml(text: str, expression: Expression) -> str:
-    """A new text of an expression: in single quotes of YAML a quote stands twice."""
+    """A new text for an expression: inside single quotes in YAML, quotes are doubled."""
     if expression.style != "'":
         return text
     return re.sub(r"'+", lambda match: match[0] if len(match[0]) % 2 == 0 else match[0] * 2, text)
 
 
 def _outside_texts(text: str, change: Callable[[str], str]) -> str:
-    """A text in which what isn't in quotes is changed."""
+    """A text with changes only outside of quotes."""
     parts, at = [], 0
     for match in STRING.finditer(text):
         parts += [change(text[at:match.start()]), match[0]]
@@ -112,7 +112,7 @@ def _double_braces(text: str) -> str | None:
 
 
 def _github_variables(text: str) -> str:
-    """`$GITHUB_REF` as `github.ref`, another variable as one of `env`."""
+    """`$GITHUB_REF` as `github.ref`, any other variable as a property of `env`."""
     return _outside_texts(text, lambda part: VARIABLE.sub(
         lambda match: "github." + match[2].lower() if match[1] else "env." + match[2], part))
 
@@ -130,7 +130,7 @@ def _json_list(entries: str) -> str:
 
 
 def chosen(text: str) -> str | None:
-    """`a ? b : c` as `a && b || c`, which expressions have."""
+    """`a ? b : c` as `a && b || c`, since expressions have no conditional operator."""
     condition, question, rest = text.partition("?")
     yes, colon, no = rest.partition(" : " if " : " in rest else ":")
     return f"{condition.rstrip()} && {yes.strip()} || {no.strip()} " if question and colon else None
@@ -157,7 +157,7 @@ chosen_by_call = rewritten('write "&&" and "||"', _chosen_by_call)
 
 
 def _formatted(text: str) -> str | None:
-    """`a + 'b'` as a call of format; where no text is added, it may be a sum, which expressions don't have."""
+    """`a + 'b'` as a call of format. Without a string it may be a sum, which expressions don't have."""
     def call(match: re.Match) -> str:
         parts = [part.strip() for part in re.split(r"\s*\+\s*", match[0])]
         if not any(part.startswith("'") for part in parts):
@@ -183,7 +183,7 @@ def _open_brackets(text: str) -> list[str]:
 
 
 def _without_rest(text: str) -> str | None:
-    """An expression without the operator at its end, or without a bracket too many."""
+    """An expression without the operator at its end, or without a surplus bracket."""
     stripped = text.rstrip()
     changed = re.sub(r"\s*(?:&&|\|\||==|!=|[<>]=?|,|\.|\))$", "", stripped)
     return changed + text[len(stripped):] if changed != stripped else None
@@ -218,7 +218,7 @@ def closed_braces(case: Case) -> Iterable[Repair]:
 
 
 def whole_chain(case: Case) -> tuple[tuple[str, ...], Span]:
-    """The names of the chain that has the fault, and where it stands."""
+    """The names of the chain that has the fault, and its place."""
     line, column = case.line, case.span.start.column
     for match in CHAIN.finditer(line):
         if match.start() <= column < match.end():
@@ -227,7 +227,7 @@ def whole_chain(case: Case) -> tuple[tuple[str, ...], Span]:
 
 
 def word_as_text(case: Case) -> Iterable[Repair]:
-    """The text around the fault, up to the next spaces, in quotes."""
+    """The text around the fault, up to the nearest spaces, in quotes."""
     expression = expression_of(case)
     line, column = case.line, case.span.start.column
     start = column - len(re.search(r"[^\s'\"()=!,]*$", line[:column])[0])
@@ -259,7 +259,7 @@ def as_json(case: Case) -> Iterable[Repair]:
 
 
 def one_pair(case: Case) -> Iterable[Repair]:
-    """A condition with one pair of braces around all of it, or with none."""
+    """A condition with one pair of braces around all of it, or without any."""
     here = case.value
     if here is None or here.value.kind != "scalar" or len(here.value.value) > MAX_CONDITION_CHARACTERS:
         return
@@ -294,7 +294,7 @@ def fewer_arguments(case: Case) -> Iterable[Repair]:
 
 
 def _format_call(case: Case) -> tuple[list[str], Span] | None:
-    """The arguments of the call of format around the fault, and where they stand."""
+    """The arguments of the call of format around the fault, and their place."""
     start = case.line.rfind("format(", 0, case.span.end.column)
     if start < 0:
         return None
@@ -304,7 +304,7 @@ def _format_call(case: Case) -> tuple[list[str], Span] | None:
 
 
 def right_format(case: Case) -> Iterable[Repair]:
-    """As many arguments as placeholders, or the other way; braces that are none twice."""
+    """As many arguments as placeholders, or the other way round; braces that aren't placeholders doubled."""
     call = _format_call(case)
     if call is None or not call[0]:
         return

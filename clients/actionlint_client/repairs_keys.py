@@ -24,7 +24,7 @@ WORKFLOW = f"on: push\njobs:\n  {JOB.replace(chr(10), chr(10) + '  ')}\n"
 ACTION = "name: Name\ndescription: Description\nruns:\n  using: composite\n  steps:\n    - run: make\n      shell: bash\n"
 FLAGS = {"yes": "true", "on": "true", "y": "true", "1": "true", "true": "true", "no": "false", "off": "false", "n": "false", "0": "false",
          "false": "false"}
-# Keys that are often written for another one, which is too far from them for a near name.
+# Keys that are often written instead of another one that isn't similar enough to be found.
 OTHER_NAMES = {"timeout": "timeout-minutes", "command": "run", "script": "run", "image": "container", "branch": "branches", "tag": "tags",
                "path": "paths", "environment-variables": "env", "depends-on": "needs", "depends_on": "needs", "requires": "needs",
                "condition": "if", "when": "if", "title": "name", "dir": "working-directory", "cwd": "working-directory", "triggers": "on",
@@ -49,7 +49,7 @@ def in_its_quotes(case: Case, name: str) -> Repair:
 
 
 def one_level_deeper(case: Case) -> Iterable[Repair]:
-    """The keys of `defaults` below `run`, and the rows of a matrix below `matrix`; of a job those of `defaults`."""
+    """The keys of `defaults` moved below `run`, and the rows of a matrix below `matrix`; also the keys of a job's `defaults`."""
     here = case.key
     if here is None:
         return
@@ -64,7 +64,7 @@ def one_level_deeper(case: Case) -> Iterable[Repair]:
 
 
 def _below(case: Case, here: Found, above: str, belongs: Callable[[str], bool]) -> Iterable[Repair]:
-    """Those entries around a key that belong below another key, which isn't there; they stand side by side."""
+    """The consecutive entries around a key that belong below another key, which is missing."""
     numbers = [number for number, (key, _) in enumerate(here.parent.entries) if belongs(key.value)]
     if numbers != list(range(numbers[0], numbers[-1] + 1)):
         return
@@ -80,7 +80,7 @@ def _below(case: Case, here: Found, above: str, belongs: Callable[[str], bool]) 
 
 
 def part_of_value(case: Case) -> Iterable[Repair]:
-    """A text with a comma that was cut in brackets, in quotes."""
+    """A text that was cut at a comma in brackets, in quotes."""
     here = case.key
     if here is None or here.key is None or not here.parent.is_flow or here.value.value:
         return
@@ -92,15 +92,15 @@ def part_of_value(case: Case) -> Iterable[Repair]:
 
 
 def step_of_keys(case: Case) -> Iterable[Repair]:
-    """The keys of a step that stand beside an empty `steps`, as its first step."""
+    """The keys of a step beside an empty `steps`, as its first step."""
     here = case.key
     names_ = here.parent.names() if here else []
     if here is None or here.key is None or here.parent.is_flow or "steps" not in names_:
         return
-    behind = here.parent.entries[names_.index("steps") + 1:]
+    after = here.parent.entries[names_.index("steps") + 1:]
     steps = here.parent.get("steps")
-    if steps and steps.kind == "scalar" and not steps.value and behind and behind[0][0] is here.key:
-        step = [(key, value) for key, value in behind if key.value in table()["shapes"]["Step"]["keys"]]
+    if steps and steps.kind == "scalar" and not steps.value and after and after[0][0] is here.key:
+        step = [(key, value) for key, value in after if key.value in table()["shapes"]["Step"]["keys"]]
         yield case.of("make it a step", *_indented(case, step[:1], "- "), *_indented(case, step[1:], "  "))
 
 
@@ -112,14 +112,14 @@ def deleted(case: Case) -> Iterable[Repair]:
 
 
 def another_job(case: Case) -> Iterable[Repair]:
-    """A job of the same key with one of its own."""
+    """A second job with the same key under a new key."""
     here = case.key
     if here and here.path[:-1] == ("jobs",):
         yield case.replace(f'change to "{here.path[-1]}-2"', f"{here.path[-1]}-2")
 
 
 def missing_key(case: Case) -> Iterable[Repair]:
-    """The key with a value to begin with."""
+    """The missing key with a first value."""
     here = case.value
     name = case.arguments[0]
     if here is None or here.value.kind != "mapping" or name not in MISSING:
@@ -137,7 +137,7 @@ def missing_key(case: Case) -> Iterable[Repair]:
 
 
 def step_of_its_own(case: Case) -> Iterable[Repair]:
-    """Of a step with `uses` and `run` two, where each stands on lines of its own."""
+    """A step with `uses` and `run` split into two, if each is on lines of its own."""
     here = case.key
     if here and here.key and case.line[:here.key.span.start.column].strip() == "" and len(here.path) > 1 and isinstance(here.path[-2], int):
         column = here.key.span.start.column
@@ -148,7 +148,7 @@ def step_of_its_own(case: Case) -> Iterable[Repair]:
 
 
 def other_kind(case: Case) -> Iterable[Repair]:
-    """A list where one is wanted, a space behind dashes, a first job, and an alias in place of `<<`."""
+    """A list if one is expected, a space after dashes, a first job, and an alias in place of `<<`."""
     here = case.value
     yield from _spaced_dashes(case)
     if case.arguments[0] == "jobs":
@@ -178,7 +178,7 @@ def other_kind(case: Case) -> Iterable[Repair]:
 
 
 def _scalars_as_other(case: Case, here: Found) -> Iterable[Repair]:
-    """A list of texts as a mapping, a script, or a text alone."""
+    """A list of texts as a mapping, as a script, or as a single text."""
     items, span = here.value.items, _tight(case, here.value)
     texts = [item.value for item in items if item.kind == "scalar"]
     if not items or len(texts) != len(items):
@@ -197,7 +197,7 @@ def _scalars_as_other(case: Case, here: Found) -> Iterable[Repair]:
 
 
 def _of_its_section(case: Case, here: Found) -> Iterable[Repair]:
-    """What a schedule, steps, a job or an input is to be, made of the text or the mapping in its place."""
+    """A schedule, steps, a job or an input, made from the text or the mapping in its place."""
     value, text, name = here.value, case.slice(here.value.span), case.arguments[0]
     is_text = value.kind == "scalar" and bool(value.value)
     column = here.key.span.start.column if here.key else 0
@@ -228,7 +228,7 @@ def _of_its_section(case: Case, here: Found) -> Iterable[Repair]:
 
 
 def _settings_of_event(case: Case, here: Found) -> Iterable[Repair]:
-    """What stands behind an event as its activity types, or as its branches."""
+    """The value of an event as its activity types, or as its branches."""
     event, value = str(here.path[-1]), here.value
     items = value.items or [value]
     is_of_types = {item.value for item in items} <= set(table()["activity types"].get(event, []))
@@ -239,30 +239,30 @@ def _settings_of_event(case: Case, here: Found) -> Iterable[Repair]:
 
 
 def _indented_keys(case: Case, here: Found) -> Iterable[Repair]:
-    """The keys of a job below it, where they stand beside it."""
+    """The keys of a job, moved below it if they are beside it."""
     if here.value.value or is_within_flow(case, here.path):
         return
-    behind = [(key, value) for key, value in here.parent.entries if here.key and key.span.start > here.key.span.start]
-    keys = itertools.takewhile(lambda entry: entry[0].value in table()["shapes"]["Job"]["keys"], behind)
+    after = [(key, value) for key, value in here.parent.entries if here.key and key.span.start > here.key.span.start]
+    keys = itertools.takewhile(lambda entry: entry[0].value in table()["shapes"]["Job"]["keys"], after)
     edits = _indented(case, keys, "  ")
     if edits:
         yield case.of("indent the keys of the job", *edits)
 
 
 def _indented_jobs(case: Case) -> Iterable[Repair]:
-    """The jobs below `jobs`, where they stand beside it."""
+    """The jobs, moved below `jobs` if they are beside it."""
     tree, jobs = case.tree, case.at("jobs")
     if tree is None or jobs is None or jobs.kind != "scalar" or jobs.value:
         return
-    behind = tree.entries[tree.names().index("jobs") + 1:]
-    found = itertools.takewhile(lambda entry: entry[0].value not in table()["shapes"]["Workflow"]["keys"], behind)
+    after = tree.entries[tree.names().index("jobs") + 1:]
+    found = itertools.takewhile(lambda entry: entry[0].value not in table()["shapes"]["Workflow"]["keys"], after)
     edits = _indented(case, found, "  ")
     if edits:
         yield case.of("indent the jobs", *edits)
 
 
 def _indented(case: Case, entries: Iterable[tuple[Node, Node]], by: str) -> list[Edit]:
-    """Edits that put a text before the lines of entries: `- ` before the first line alone, and below it as many spaces."""
+    """Edits that put a text before the lines of entries: for `- `, before the first line only, and as many spaces before the others."""
     edits = []
     for key, value in entries:
         column = key.span.start.column if by.strip() else 0
@@ -272,13 +272,13 @@ def _indented(case: Case, entries: Iterable[tuple[Node, Node]], by: str) -> list
 
 
 def _tight(case: Case, node: Node) -> Span:
-    """The span of a node without the lines behind it."""
+    """The span of a node without the lines after it."""
     line = last_line(node, case.lines)
     return node.span if node.span.end.line == line else Span(node.span.start, Point(line, len(case.lines[line])))
 
 
 def as_list(case: Case, mapping: Node) -> Iterable[Repair]:
-    """A mapping in lines as the one entry of a list, or each of its entries as one."""
+    """A block mapping as the only entry of a list, or each of its entries as one."""
     first, last = mapping.span.start.line, last_line(mapping, case.lines)
     start = mapping.span.start
     edits = [Edit(Span.at(start), "- ")]
@@ -287,7 +287,7 @@ def as_list(case: Case, mapping: Node) -> Iterable[Repair]:
 
 
 def as_mapping(case: Case, sequence: Node) -> Iterable[Repair]:
-    """A list of mappings in lines without its dashes."""
+    """A list of block mappings without its dashes."""
     if sequence.is_flow or not sequence.items or any(item.kind != "mapping" or item.is_flow for item in sequence.items):
         return
     edits = []
@@ -318,7 +318,7 @@ def _first_job(case: Case) -> Iterable[Repair]:
 
 
 def _without_merge(case: Case) -> Iterable[Repair]:
-    """The alias alone where a mapping has nothing else but `<<`, or what the alias stands for in its place."""
+    """The alias alone if a mapping has nothing but `<<`, otherwise what the alias stands for in its place."""
     if case.tree is None:
         return
     parents = {(): case.tree, **{path: value for path, _, value in walk(case.tree)}}

@@ -1,4 +1,4 @@
-"""Repairs of names in expressions: near ones, and what makes a name known where it stands."""
+"""Repairs of names in expressions: similar ones, and changes that make a name known at its place."""
 from __future__ import annotations
 
 import re
@@ -17,7 +17,7 @@ from .syntax import table
 from .text import Point, Span
 from .tree import Node, Path
 
-# Of so many properties each may be meant.
+# With this many properties, any of them may be meant.
 FEW_NAMES = 3
 SUM_OF_NUMBERS = re.compile(r"([\w.-]+?)\s*([-+*/%])\s*([\w.-]+)")
 CALL_OF_TEXT = re.compile(r"(\w+)\(\s*([\w.-]+)\s*(?:,\s*'([^'|]*)'\s*,\s*'([^'|]*)'\s*)?\)")
@@ -25,7 +25,7 @@ CALL_OF_TEXT = re.compile(r"(\w+)\(\s*([\w.-]+)\s*(?:,\s*'([^'|]*)'\s*,\s*'([^'|
 OTHER_PROPERTIES = {"branch": "ref_name", "branch_name": "ref_name", "tag": "ref_name", "tag_name": "ref_name", "sha_short": "sha",
                     "commit": "sha", "commit_sha": "sha", "user": "actor", "author": "actor", "repo": "repository",
                     "owner": "repository_owner", "event_type": "event_name", "build_number": "run_number", "run": "run_id"}
-# By functions of other languages what a shell has for them.
+# For functions of other languages, the shell's equivalents.
 SHELL_COMMANDS = {"replace": "sed 's|{0}|{1}|g'", "tolower": "tr '[:upper:]' '[:lower:]'", "lower": "tr '[:upper:]' '[:lower:]'",
                   "toupper": "tr '[:lower:]' '[:upper:]'", "upper": "tr '[:lower:]' '[:upper:]'", "trim": "xargs"}
 
@@ -82,7 +82,7 @@ def _chain_before(case: Case) -> tuple[str, ...]:
 
 
 def of_github(case: Case) -> Iterable[Repair]:
-    """A property of `github` without its context, or by the variable of its name."""
+    """A property of `github` that is written without its context, or as the variable of its name."""
     name = case.arguments[0].lower().removeprefix("github_")
     name = OTHER_PROPERTIES.get(name, name)
     if name in table()["contexts"]["github"]["properties"]:
@@ -90,20 +90,20 @@ def of_github(case: Case) -> Iterable[Repair]:
 
 
 def other_property(case: Case) -> Iterable[Repair]:
-    """The property of `github` that is meant by another word."""
+    """The property of `github` that another word means."""
     meant = OTHER_PROPERTIES.get(case.arguments[0].lower())
     if meant and _chain_before(case)[:1] == ("github",):
         yield case.replace(f'change to "{meant}"', meant)
 
 
 def _braces(case: Case) -> tuple[re.Match, Span] | None:
-    """The braces around the fault with what is in them, and where they stand."""
+    """The braces around the fault with their contents, and their place."""
     match = next((match for match in BRACES.finditer(case.line) if match.start() <= case.span.start.column < match.end()), None)
     return (match, Span.on_line(case.span.start.line, match.start(), match.end())) if match else None
 
 
 def computed_by_shell(case: Case) -> Iterable[Repair]:
-    """What expressions can't compute, by the shell of the script: a sum, or another text."""
+    """What expressions can't compute, in the language of the script's shell: a sum, or another text."""
     here, braces = case.scalar, _braces(case)
     if here is None or braces is None or here.path[-1:] != ("run",) or case.shell_of(here) not in ("bash", "sh"):
         return
@@ -118,7 +118,7 @@ def computed_by_shell(case: Case) -> Iterable[Repair]:
 
 
 def declared_row(case: Case) -> Iterable[Repair]:
-    """The row in the matrix of the job."""
+    """A new row in the matrix of the job."""
     chain, _ = whole_chain(case)
     job = case.at("jobs", case.job) if case.job else None
     if job is None or len(chain) < 2 or chain[0].lower() != "matrix":
@@ -136,7 +136,7 @@ def declared_row(case: Case) -> Iterable[Repair]:
 
 
 def as_text(case: Case) -> Iterable[Repair]:
-    """A word that isn't a context in quotes, or a function with the brackets that it lacks."""
+    """A word that isn't a context, in quotes; or a function with its missing brackets."""
     if case.arguments[0].lower() in [name.lower() for name in names()["functions"]]:
         yield case.replace('add "()"', case.written + "()")
     chain, span = whole_chain(case)
@@ -178,7 +178,7 @@ def _need(case: Case, job: str, name: str) -> Edit:
 
 
 def output_of_job(case: Case) -> Iterable[Repair]:
-    """An output of a step of another job as an output of that job."""
+    """An output of another job's step, as an output of that job."""
     chain, span = whole_chain(case)
     tree, job = case.tree, case.job
     if tree is None or job is None or len(chain) != 4 or chain[0].lower() != "steps" or chain[2].lower() != "outputs":
@@ -201,7 +201,7 @@ def output_of_job(case: Case) -> Iterable[Repair]:
 
 
 def declared_input(case: Case) -> Iterable[Repair]:
-    """The input as one of those that the file declares."""
+    """The input, as a new one of the file."""
     chain, _ = whole_chain(case)
     if not chain or chain[0].lower() != "inputs" or case.tree is None:
         return
@@ -229,7 +229,7 @@ def _declaring(case: Case, way: Path, name: str, title: str, *edits: Edit) -> It
 
 
 def other_context(case: Case) -> Iterable[Repair]:
-    """What is available in place of a context that isn't: the value of a variable, `vars`, or an input of an action."""
+    """An available context in place of one that isn't: the value of a variable, `vars`, or an input of an action."""
     chain, span = whole_chain(case)
     if len(chain) < 2 or case.tree is None:
         return
@@ -270,7 +270,7 @@ def _value_of_variable(case: Case, name: str, span: Span) -> Iterable[Repair]:
 
 
 def _by_env(case: Case, chain: tuple[str, ...], span: Span) -> Iterable[Repair]:
-    """A secret in the condition of a step by a variable of its job, as conditions can't read secrets."""
+    """A secret in the condition of a step, by way of a variable of its job, since conditions can't read secrets."""
     job = case.at("jobs", case.job) if case.job else None
     if job is None or case.scalar is None or case.scalar.path[2:3] != ("steps",):
         return
@@ -290,7 +290,7 @@ def _secret_variable(chain: tuple[str, ...]) -> tuple[str, str]:
 
 
 def _moved_to_steps(case: Case, chain: tuple[str, ...], span: Span) -> Iterable[Repair]:
-    """The condition of a job as that of each of its steps, where a variable of the job stands for a secret."""
+    """The condition of a job, moved to each of its steps, with a variable of the job in place of a secret."""
     job = case.at("jobs", case.job or "")
     condition, steps = (job.key("if"), job.get("steps")) if job else (None, None)
     if not job or condition is None or steps is None or any(step.get("if") for step in steps.items):
@@ -305,7 +305,7 @@ def _moved_to_steps(case: Case, chain: tuple[str, ...], span: Span) -> Iterable[
 
 
 def moved_variable(case: Case) -> Iterable[Repair]:
-    """A variable of a job as one of its steps, where more can be used."""
+    """A variable of a job, moved to its step, where more contexts are available."""
     here, job = case.scalar, case.at("jobs", case.job) if case.job else None
     if here is None or here.key is None or job is None or here.path[2:3] != ("env",) or len(here.path) != 4:
         return
@@ -326,7 +326,7 @@ def moved_variable(case: Case) -> Iterable[Repair]:
 
 
 def by_variable(case: Case) -> Iterable[Repair]:
-    """A text that anybody can write as a variable of the step, which the shell doesn't read as commands."""
+    """A text that anybody can write, by way of a variable of the step, which the shell doesn't read as commands."""
     here, braces = case.scalar, _braces(case)
     if here is None or braces is None or here.path[-1:] != ("run",):
         return
@@ -360,7 +360,7 @@ def _shell_variable(case: Case, match: re.Match, name: str, shell: str) -> str |
 
 
 def declared_output(case: Case) -> Iterable[Repair]:
-    """The output as one of those of the job that is needed, or of the workflow that it calls."""
+    """The output, as a new one of the needed job or of the workflow that it calls."""
     chain, _ = whole_chain(case)
     job = case.at("jobs", chain[1]) if len(chain) == 4 and chain[0].lower() == "needs" and chain[2].lower() == "outputs" else None
     if job is None:
@@ -381,7 +381,7 @@ def declared_output(case: Case) -> Iterable[Repair]:
 
 
 def _declared_by(case: Case, callee: str, name: str) -> Iterable[Repair]:
-    """The output as one of a workflow that is called, with no value yet."""
+    """The output, as a new one of a called workflow, without a value yet."""
     tree = case.project.tree(callee)
     on = tree.get("on") if tree else None
     call, key = (on.get("workflow_call"), on.key("workflow_call")) if on else (None, None)

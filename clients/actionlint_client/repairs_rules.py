@@ -1,4 +1,4 @@
-"""Repairs of what a file says by itself that GitHub refuses, or accepts and never does."""
+"""Repairs of faults within one file that GitHub refuses, or accepts without doing what was meant."""
 from __future__ import annotations
 
 import re
@@ -19,7 +19,7 @@ PRESETS = {"@hourly": "0 * * * *", "@daily": "0 0 * * *", "@midnight": "0 0 * * 
 WORD_OF_CRON = re.compile(r"[A-Za-z]{3,}")
 GREATEST = (59, 23, 31, 12, 6)
 MAX_SCHEDULE_CHARACTERS = 200
-# Values that are often written for another one, which is too far from them for a near name.
+# Values that are often written instead of another one that isn't similar enough to be found.
 OTHER_VALUES = {"text": "string", "str": "string", "int": "number", "integer": "number", "float": "number", "bool": "boolean",
                 "list": "choice", "array": "string", "readonly": "read", "read-only": "read", "rw": "write", "admin": "write",
                 "all": "write-all", "merged": "closed", "merge": "closed", "updated": "synchronize", "pushed": "synchronize",
@@ -35,7 +35,7 @@ POWERSHELLS = ("pwsh", "powershell")
 
 
 def several_events(case: Case) -> Iterable[Repair]:
-    """Events that stand in one text as a list."""
+    """Several events in one text, as a list."""
     here = case.value
     words = re.split(r"[\s,|/]+", here.value.value.strip()) if here else []
     if here and len(words) > 1 and all(word in names()["events"] for word in words):
@@ -44,7 +44,7 @@ def several_events(case: Case) -> Iterable[Repair]:
 
 
 def other_event(case: Case) -> Iterable[Repair]:
-    """The event that is meant by a word that is none; of `cron` with a time the schedule."""
+    """The event that is meant by an unknown word; for `cron` with a time, the schedule."""
     meant = OTHER_EVENTS.get(case.arguments[0].lower().replace("-", "_"))
     here = case.key
     if here and here.key and meant == "schedule" and here.value.kind == "scalar" and here.value.value:
@@ -55,14 +55,14 @@ def other_event(case: Case) -> Iterable[Repair]:
 
 
 def near_listed(case: Case) -> Iterable[Repair]:
-    """A name of the list that is nearly this one."""
+    """A similar name of the list."""
     known, wrong = names()[LISTS[case.code]], case.arguments[0]
     meant = [OTHER_VALUES[wrong.lower()]] if OTHER_VALUES.get(wrong.lower()) in known else []
     yield from (in_its_quotes(case, name) for name in dict.fromkeys([*meant, *near(wrong, known)]))
 
 
 def every_listed(case: Case) -> Iterable[Repair]:
-    """Each name of a short list, the nearest first."""
+    """Each name of a short list, the most similar first."""
     known, wrong = names()[LISTS[case.code]], case.arguments[0]
     meant = [OTHER_VALUES[wrong.lower()]] if wrong.lower() in OTHER_VALUES else []
     command_line = [wrong + " {0}"] if case.code == "G12" and wrong else []
@@ -70,7 +70,7 @@ def every_listed(case: Case) -> Iterable[Repair]:
 
 
 def pattern(case: Case) -> Iterable[Repair]:
-    """A pattern without `./` or the signs of regular expressions at its ends, and without spaces in it."""
+    """A pattern without `./` or signs of regular expressions at its ends, and without spaces."""
     here = case.value
     if here is None:
         return
@@ -100,7 +100,7 @@ def schedule(case: Case) -> Iterable[Repair]:
 
 
 def _bounded(field: str, most: int) -> str:
-    """A field whose values above the greatest one begin again at the least."""
+    """A field in which values above the greatest one wrap around to the least."""
     least = 1 if most in (31, 12) else 0
 
     def bounded(match: re.Match) -> str:
@@ -150,7 +150,7 @@ def another_id(case: Case) -> Iterable[Repair]:
 
 
 def near_job(case: Case) -> Iterable[Repair]:
-    """A job of the file in place of one that isn't there, or none."""
+    """A similar job of the file in place of one that doesn't exist, or removes it."""
     here = case.value
     if here and case.tree:
         jobs = [name for name in case.tree.names("jobs") if name != case.job]
@@ -206,7 +206,7 @@ def list_of_row(case: Case) -> Iterable[Repair]:
 
 
 def near_row(case: Case) -> Iterable[Repair]:
-    """A row of the matrix that is nearly this one, or the item without it."""
+    """A similar row of the matrix, or the item without it."""
     here = case.key
     matrix = case.at("jobs", case.job, "strategy", "matrix") if case.job else None
     if here and matrix:
@@ -268,7 +268,7 @@ def with_shell(case: Case) -> Iterable[Repair]:
 
 
 def output_value(case: Case) -> Iterable[Repair]:
-    """A value of the output: an output of a step with this name, where there is one."""
+    """A value of the output: an output of a step with this name, if there is one."""
     here = case.key
     if here is None or here.key is None:
         return

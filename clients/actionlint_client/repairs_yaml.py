@@ -29,7 +29,7 @@ def with_quotes(case: Case) -> Iterable[Repair]:
 
 
 def as_schedule(case: Case) -> Iterable[Repair]:
-    """A schedule of every minute, which begins with a star, in quotes and as often as GitHub runs one."""
+    """A schedule of every minute, which begins with a star, in quotes and as frequent as GitHub allows."""
     span = case.rest_span(case.span.start.line)
     fields = case.slice(span).split() if span else []
     if span and len(fields) == 5 and fields[0] == "*" and re.search(r"\bcron:\s*$", case.line[:span.start.column]):
@@ -53,7 +53,7 @@ def _quoted_item(case: Case) -> Iterable[Repair]:
 
 
 def as_block(case: Case) -> Iterable[Repair]:
-    """A script in lines of its own."""
+    """A script on lines of its own."""
     span = case.rest_span(case.span.start.line)
     line = case.outline.lines[case.span.start.line]
     if span and line.elements and line.elements[-1].name == "run":
@@ -72,7 +72,7 @@ def pair_below(case: Case) -> Iterable[Repair]:
 
 
 def as_condition(case: Case) -> Iterable[Repair]:
-    """`a ? b : c` as `a && b || c`, which expressions have."""
+    """`a ? b : c` as `a && b || c`, since expressions have no conditional operator."""
     for at, text in expressions_in(case.line):
         changed = chosen(text)
         if changed:
@@ -142,7 +142,7 @@ def spaces_for_tabs(case: Case) -> Iterable[Repair]:
 
 
 def script_in_lines(case: Case) -> Iterable[Repair]:
-    """A script whose further lines stand at the indent of its key, below that key."""
+    """A script whose later lines begin at the column of its key, moved below that key."""
     number = case.span.start.line - 1
     while number > 0 and not case.outline.lines[number].elements:
         number -= 1
@@ -160,7 +160,7 @@ def script_in_lines(case: Case) -> Iterable[Repair]:
 
 
 def as_expression(case: Case) -> Iterable[Repair]:
-    """A condition that begins in double quotes, as it would in a shell, as an expression; and one whose braces have no dollar."""
+    """A condition that begins in double quotes, as in a shell, as an expression; or one whose braces lack the dollar."""
     span = case.rest_span(case.span.start.line)
     text = case.slice(span) if span else ""
     if span and text.startswith("{{") and text.endswith("}}"):
@@ -232,14 +232,14 @@ def without_character(case: Case) -> Iterable[Repair]:
 
 
 def without_line(case: Case) -> Iterable[Repair]:
-    """The text without the fault's line, as where it begins a second document or is a directive."""
+    """The text without the fault's line, for instance if the line begins a second document or is a directive."""
     number = case.span.start.line
     if number + 1 < len(case.lines):
         yield case.replace("delete the line", "", Span(Point(number, 0), Point(number + 1, 0)))
 
 
 def text_on_next_line(case: Case) -> Iterable[Repair]:
-    """The text behind `|` on a line of its own."""
+    """The text after `|`, on a line of its own."""
     line = case.outline.lines[case.span.start.line]
     column = line.elements[-1].column if line.elements else 0
     rest = case.line[case.span.start.column:]
@@ -249,7 +249,7 @@ def text_on_next_line(case: Case) -> Iterable[Repair]:
 
 
 def quoted_key(case: Case) -> Iterable[Repair]:
-    """A key that begins with a sign in quotes."""
+    """A key that begins with a sign, in quotes."""
     match = re.match(r"^( *(?:- +)?)([^\s'\"][^:]*)(?=:(?: |$))", case.line)
     if match:
         span = Span.on_line(case.span.start.line, match.start(2), match.end(2))

@@ -163,9 +163,9 @@ def _filled(value: str, known: list[int | None], start: int) -> list[int]:
     for character in value:
         begins_line.append(character == "\n" or character in " \t" and begins_line[-1])
     for index in range(len(value) - 1, -1, -1):
-        behind = offsets[index + 1]
-        if offsets[index] is None and behind is not None and value[index] != "\n" and begins_line[index]:
-            offsets[index] = behind - 1
+        following = offsets[index + 1]
+        if offsets[index] is None and following is not None and value[index] != "\n" and begins_line[index]:
+            offsets[index] = following - 1
     places, last = [], start
     for offset in offsets:
         last = last + 1 if offset is None else offset

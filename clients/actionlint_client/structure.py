@@ -30,7 +30,7 @@ class Link(NamedTuple):
 
 
 def part_of(project: Project, file: str) -> Part | None:
-    """The workflow or the action, or None if the file never was valid YAML."""
+    """The workflow or the action, or None if the file has never been valid YAML."""
     tree, lines = project.tree(file), project.lines(file)
     if tree is None or tree.kind != "mapping":
         return None
@@ -94,7 +94,7 @@ def address_of(uses: str) -> str | None:
 
 
 def folds(project: Project, file: str) -> list[tuple[int, int]]:
-    """The first and the last lines of top-level keys, jobs and steps that stand on several lines."""
+    """The first and the last lines of top-level keys, jobs and steps that take several lines."""
     tree, lines, part = project.tree(file), project.lines(file), part_of(project, file)
     found = [(key.span.start.line, last_line(value, lines)) for key, value in (tree.entries if tree else ())]
     for one in part.parts if part else ():

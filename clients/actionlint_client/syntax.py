@@ -27,13 +27,13 @@ def table() -> dict[str, dict]:
 
 
 def meaning(heading: str, name: str) -> str | None:
-    """What docs/MEANINGS.md says of a name below a heading."""
+    """What docs/MEANINGS.md says about a name below a heading."""
     return table()["meanings"].get(heading, {}).get(name)
 
 
 def shape_at(file: str, path: Path, levels: tuple[dict[str, str], ...]) -> dict | None:
-    """What the value at a path is to be, or None where nothing is known of it. `levels` are the keys of each mapping on the way, with
-    texts: by them one knows which kind of action this is."""
+    """The shape of the value at a path, or None if it isn't known. `levels` are the keys of each mapping on the way, with texts, which show
+    the kind of an action."""
     name: str | None = "Workflow" if is_workflow(file) else "Action"
     shapes = table()["shapes"]
     for number, step in enumerate((*path, None)):
@@ -75,7 +75,7 @@ def is_condition(file: str, path: Path, levels: tuple[dict[str, str], ...]) -> b
 
 
 def available(file: str, path: Path, levels: tuple[dict[str, str], ...]) -> tuple[list[str], list[str]] | None:
-    """The contexts and the functions that an expression at a path can use, or None where there are no expressions."""
+    """The contexts and the functions available to an expression at a path, or None if there are no expressions."""
     around, key = key_of(path)
     section = section_at(file, around, levels) or ""
     if key in NO_EXPRESSIONS.get("runs" if section.endswith("runs") else section, ()):
@@ -105,7 +105,7 @@ def _begins(row: list[str], steps: list[str]) -> bool:
 
 
 def value_words(shape: dict | None) -> str:
-    """What a shape takes, in a few words."""
+    """What a shape accepts, in a few words."""
     if shape is None:
         return ""
     shapes = table()["shapes"]

@@ -113,7 +113,7 @@ def walk(node: Node, path: Path = ()) -> Iterator[tuple[Path, Node | None, Node]
 
 
 def last_line(node: Node, lines: list[str]) -> int:
-    """The last line on which a node stands."""
+    """The last line of a node."""
     below = [value for _, value in node.entries] or node.items
     if node.alias is None and not node.is_flow and below:
         return last_line(below[-1], lines)

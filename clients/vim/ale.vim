@@ -1,4 +1,4 @@
-" For Vim with ALE: faults as one types, by the language server. Source this file in vimrc, behind ALE:
+" For Vim with ALE: faults as you type, from the language server. Source this file in vimrc, after ALE:
 "   source /path/clients/vim/ale.vim
 "   let g:ale_linters = {'yaml': ['actionlint_lsp']}
 "   let g:actionlint_lsp = '/path/clients/actionlint-lsp'      where it isn't on the PATH

@@ -13,7 +13,7 @@ endif
 execute 'CompilerSet makeprg=' . escape(shellescape(s:found[0], 1) . ' --oneline', ' \|"')
 CompilerSet errorformat=%f:%l:%c:\ %m\ [%*[a-z-]],%-G%.%#
 
-" The linter counts characters and Vim counts bytes, so columns behind characters of several bytes are put right.
+" The linter counts characters and Vim counts bytes, so columns after multibyte characters are corrected.
 augroup actionlint
   autocmd!
   autocmd QuickFixCmdPost make call s:columns()
