@@ -1,5 +1,5 @@
-"""What an edit of a session costs beside other files, and what a report costs if files call one another: bench/session.py, after ./test or a
-build of crates/actionlint, otherwise with the carried program.
+"""What an edit of a session costs beside other files, and what a report costs if files call one another: bench/session.py, after ./test or
+a build of crates/actionlint, otherwise with the carried program.
 
 A time is that of a script with more edits or reports minus that of one with fewer, the least of several runs that take turns. Files have a
 line or two, so the session's own work shows, except for callers of 10 KB with 200 expressions. A put of an existing file finds it by hash,

@@ -1,6 +1,6 @@
 #!/usr/bin/python3
-"""Draws docs/neovim*.svg: a terminal with Neovim that shows the faults of a workflow, completion at a cursor, and the meaning of a key, from
-what the editor really writes to the terminal.
+"""Draws docs/neovim*.svg: a terminal with Neovim that shows the faults of a workflow, completion at a cursor, and the meaning of a key,
+from what the editor really writes to the terminal.
 
     picture.py PROGRAM [NAME...]        needs Neovim and a terminal emulator in Python (Debian: neovim, python3-pyte)
 """

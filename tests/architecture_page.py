@@ -15,7 +15,7 @@ import sys
 
 ROW = re.compile(r"^\| `(\w+)` \| (.*) \| ?(.*?) ?\|$")
 PUBLIC = "| Public | With it | Cut by |"
-TABLE = "| Crate | Does | Stands on |"
+TABLE = "| Crate | Does | Depends on |"
 PROGRAM = "actionlint"
 COLOURS = ["#dbe9f6", "#dff0d8", "#fde9c9", "#f6dbe2", "#e6e0f3", "#d9f0ef", "#eeeeee", "#f3efc4", "#e3d5c8"]
 HEAD = """\

@@ -159,7 +159,7 @@ def shared_nodes(place):
     names = b"[" + b"".join(b"&a%05d v, *a%05d, " % (number, number) for number in range(49_000)) + b"]"
     reported(place, "names-49000", names, b'1:1: wrong kind of value for "file" [syntax-check]', limits=held_back)
     text = b"a: &a " + b"x" * 1_000_000 + b"\nb: *a\nc: *a\n"
-    reported(place, "text-behind-two-aliases", text, b"3:4: too many nodes [syntax-check]", limits=held_back)
+    reported(place, "text-by-two-aliases", text, b"3:4: too many nodes [syntax-check]", limits=held_back)
 
 
 # a called workflow that asks its callers for as many inputs

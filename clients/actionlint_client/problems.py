@@ -82,7 +82,7 @@ def first_sentence(text: str) -> str:
     return text if end < 0 else text[:end + 1]
 
 
-def _comes_after(problem: Problem, context: str) -> bool:
+def _follows(problem: Problem, context: str) -> bool:
     """Whether the fault comes after a context's name and a dot or a bracket."""
     before = problem.line()[:problem.fault.column - 1].rstrip(" '[.").rstrip()
     return before.lower().endswith(context)
@@ -110,6 +110,6 @@ SLIPS = (
     Slip("K5", _wants("flag"), "`true` or `false` is expected, without quotes."),
     Slip("G3", lambda problem, pattern: pattern.removeprefix("!").startswith("./"),
          "Paths begin at the repository's root, without `./` in front."),
-    Slip("X13", lambda problem, name: _comes_after(problem, "needs"), "A job must list in its own `needs` each job whose results it reads."),
+    Slip("X13", lambda problem, name: _follows(problem, "needs"), "A job must list in its own `needs` each job whose results it reads."),
     Slip("C7", _lacks_ref, "An action or a workflow in another repository needs `@REF` at its end: a branch, a tag or a commit."),
 )

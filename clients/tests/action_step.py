@@ -1,6 +1,6 @@
 #!/usr/bin/env python3
-"""The step of the composite action as a runner would start it: its report, its SARIF and its status; and the linter finds the action and
-the example of a workflow without fault. No runner of GitHub is involved.
+"""The step of the composite action, started as a runner would: its report, its SARIF and its status; and the linter finds no fault in the
+action and the example workflow. No runner of GitHub is involved.
 
     action_step.py PROGRAM [NAME...]
 """
@@ -44,7 +44,7 @@ class Runner:
 
 @CASES.case
 def own_files(program: str) -> None:
-    """The action and the workflow of the example have no fault."""
+    """The action and the example workflow have no fault."""
     files = {WORKFLOWS + "lint.yml": CLIENTS / "github/example.yml", "action.yml": TOP / "action.yml"}
     runner = Runner(program, {path: file.read_text(encoding="utf-8") for path, file in files.items()})
     assert runner.step()[0] == 0
@@ -55,7 +55,7 @@ def own_files(program: str) -> None:
 
 @CASES.case
 def reports_and_statuses(program: str) -> None:
-    """The faults stand between the lines that stop and resume commands, and before the matcher goes."""
+    """The faults are between the lines that stop and resume commands, before the matcher is removed."""
     runner = Runner(program, {WORKFLOWS + "wrong.yml": "on: pussh\njobs: {}\n", WORKFLOWS + "right.yml": "on: push\njobs: {}\n",
                               "my action/action.yml": "name: x\n"})
     status, lines = runner.step(sarif="faults.sarif")
@@ -78,7 +78,7 @@ def reports_and_statuses(program: str) -> None:
 
 @CASES.case
 def no_linter(_: str) -> None:
-    """Where the one that is named, or any at all, isn't there, the status is 3 and a line says what names one."""
+    """If the named linter or any linter is missing, the status is 3 and a line says how to name one."""
     with tempfile.TemporaryDirectory(prefix="actionlint-test-") as here:
         shutil.copytree(CLIENTS, here + "/clients", ignore=shutil.ignore_patterns("tests"))
         for program, why in (("nowhere/it", "there is no such program"), ("", "there is none that runs here, beside the clients or on the PATH")):
@@ -104,7 +104,7 @@ def nothing_to_write_sarif_with(program: str) -> None:
 
 @CASES.case
 def lines_that_look_like_commands(program: str) -> None:
-    """Paths and standard error stay between the lines that stop and resume commands, from before the first run on."""
+    """Paths and standard error are between the lines that stop and resume commands, from before the first run."""
     path, refused = "::error::x/action.yml", "##[add-mask]x"
     runner = Runner(program, {path: "name: x\n", **FILES})
     status, lines = runner.step(path)
@@ -116,7 +116,7 @@ def lines_that_look_like_commands(program: str) -> None:
 
 @CASES.case
 def names_that_look_like_options(program: str) -> None:
-    """A file that is named as an option is linted, and doesn't lead the linter to another folder."""
+    """A file named like an option is linted, and doesn't lead the linter to another folder."""
     path = "--root=clean/action.yml"
     runner = Runner(program, {path: "name: x\n", "clean/.github/workflows/a.yml": FILES[FILE].replace("reff", "ref")})
     status, lines = runner.step(path, "faults.sarif")
@@ -129,7 +129,7 @@ def names_that_look_like_options(program: str) -> None:
 
 @CASES.case
 def a_link_in_the_place_of_the_report(program: str) -> None:
-    """SARIF isn't written through a link of the repository, and the step doesn't pass."""
+    """SARIF isn't written through a link in the repository, and the step fails."""
     runner = Runner(program, {FILE: FILES[FILE].replace("reff", "ref"), "other": "x"})
     os.symlink("other", runner.root + "/faults.sarif")
     status, lines = runner.step(sarif="faults.sarif")

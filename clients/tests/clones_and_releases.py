@@ -1,4 +1,5 @@
-"""Where a person has the clients, for tests of what pages show: a clone, in which nothing was built, or a release; their own, or others'."""
+"""The places where a user has the clients, for tests of what pages show: a clone in which nothing was built, or a release; writable or
+not."""
 from __future__ import annotations
 
 import atexit
@@ -27,7 +28,7 @@ NOBODY = 65_534
 
 @dataclass(frozen=True)
 class Room:
-    """A repository with a fault, its folder's folder, which is the home of who works there, and their environment."""
+    """A repository with a fault, the folder around it, which is the user's home, and the environment."""
 
     top: str
     root: str
@@ -35,7 +36,7 @@ class Room:
     place: Place
 
     def run(self, words: list[str]) -> tuple[int, str]:
-        """Runs a command in the repository; its status, and what it said."""
+        """Runs a command in the repository; returns its status and what it printed."""
         done = subprocess.run(words, cwd=self.root, env=self.environment, stdout=subprocess.PIPE, stderr=subprocess.STDOUT, check=False,
                               **self.place.as_user())
         return done.returncode, done.stdout.decode()
@@ -43,7 +44,7 @@ class Room:
 
 @dataclass(frozen=True)
 class Place:
-    """What the pages call /opt/juzbrost, the program that is to be found there, and the user who works with it, if it isn't this one."""
+    """What the pages call /opt/juzbrost, the program that has to be found there, and the user, if it isn't this one."""
 
     name: str
     folder: Path
@@ -55,7 +56,7 @@ class Place:
 
     @contextmanager
     def repository(self, files: dict[str, str]) -> Iterator[Room]:
-        """A repository of git with these files, whose name isn't ASCII, and which is the user's."""
+        """A git repository with these files, which belongs to the user, and whose name isn't ASCII."""
         top = tempfile.mkdtemp(prefix="actionlint-test-")
         root = os.path.join(top, "répo")
         git_files = {path: text for path, text in files.items() if path.startswith(".git/")}
@@ -76,7 +77,7 @@ class Place:
 
 @lru_cache(maxsize=None)
 def places(program: str) -> tuple[Place, ...]:
-    """A clone that carries a program, the same for a user who can't write there, and for that user a release, unpacked."""
+    """A clone that carries a program, the same for a user who can't write there, and an unpacked release for that user."""
     assert not shutil.which("actionlint", path=PATH) and not shutil.which("rt", path=PATH), f"a linter or the kit is on {PATH}"
     room = Path(tempfile.mkdtemp(prefix="actionlint-test-"))
     atexit.register(shutil.rmtree, room, ignore_errors=True)
@@ -102,7 +103,7 @@ def places(program: str) -> tuple[Place, ...]:
 
 
 def in_each(cases: Cases, is_taken: Callable[[Place], bool]) -> Callable[[Callable[[Place], None]], Case]:
-    """Has a function of a place run as a case, in each of some places."""
+    """Makes a function of a place a case in each of some places."""
     def as_case(function: Callable[[Place], None]) -> Case:
         def case(program: str) -> None:
             for place in filter(is_taken, places(program)):

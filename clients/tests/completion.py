@@ -1,5 +1,5 @@
 #!/usr/bin/env python3
-"""What completion offers: names by place, and each offer is taken by the linter where it is put in.
+"""What completion offers: names by place, and the linter accepts each offer once it is inserted.
 
     completion.py PROGRAM [NAME...]
 """
@@ -24,7 +24,7 @@ CASES = Cases("completion")
 CALLED, ACTION = WORKFLOWS + "called.yml", "greet/action.yml"
 SECONDS = 20.0
 PUTS = int(os.environ.get("PUTS", "800"))
-# A folder without fault, in which most keys stand.
+# A folder without faults that has most keys.
 FOLDER = {
     FILE: """name: Build
 run-name: Build of ${{ github.actor }}
@@ -161,10 +161,10 @@ branding:
   icon: bell
 """,
 }
-# Faults that stand at the beginning of a mapping or at a call, of what is still to be written there.
+# Faults at the start of a mapping or at a call, about what is still to be written there.
 STILL_LACKING = (" is missing", " is required here")
 TOKEN = re.compile(r"[\w./-]+")
-# Places and what has to be offered there, the first one first; and what must not be.
+# Places with what must be offered there, the first offer first, and what must not be.
 JOB = "on: push\njobs:\n  a:\n    runs-on: u\n    steps:\n      - {id: one, run: make}\n      - {id: two, run: make}\n  b:\n    needs: a\n"
 PLACES = {
     "keys of a workflow, needed ones first": ("|", {"on", "jobs", "name", "permissions"}, {"runs-on", "steps"}),
@@ -270,7 +270,7 @@ def by_place(program: str) -> None:
 
 @CASES.case
 def each_once(program: str) -> None:
-    """No name is offered twice at a place, also where it could be a key and a value."""
+    """No name is offered twice at a place, even if it could be both a key and a value."""
     for what, text in {"events below their key": "on:\n  |\njobs: {}\n", **{what: text for what, (text, _, _) in PLACES.items()}}.items():
         labels = [offer.label for offer in offered(text)]
         assert len(set(labels)) == len(labels), (what, labels)
@@ -278,7 +278,7 @@ def each_once(program: str) -> None:
 
 @CASES.case
 def entries_have_dashes(program: str) -> None:
-    """Where the dash of an entry isn't there yet, it comes with the key, and the linter finds no fault there."""
+    """If the dash of an entry isn't there yet, it comes with the key, and the linter finds no fault there."""
     whole = """on:
   push:
   schedule:
@@ -339,7 +339,7 @@ def texts_and_order(program: str) -> None:
 
 
 class Linter:
-    """The faults of a folder, of which one file changes."""
+    """The faults of a folder in which one file changes."""
 
     def __init__(self, program: str, folder: dict[str, str]):
         self.session = Session([program], False, SECONDS)
@@ -352,7 +352,7 @@ class Linter:
 
 
 def put(text: str, span: Span, new: str) -> tuple[str, int, int]:
-    """A text with an offer put in, and where that begins and ends."""
+    """A text with an offer inserted, and where that begins and ends."""
     lines = text.split("\n")
     start = sum(len(line) + 1 for line in lines[:span.start.line]) + span.start.column
     end = sum(len(line) + 1 for line in lines[:span.end.line]) + span.end.column
@@ -360,7 +360,7 @@ def put(text: str, span: Span, new: str) -> tuple[str, int, int]:
 
 
 def touches(text: str, fault: Fault, start: int, end: int) -> bool:
-    """Whether a fault's place is that of what was put in."""
+    """Whether a fault is at the inserted text."""
     lines = text.split("\n")
     first = sum(len(line) + 1 for line in lines[:fault.line - 1]) + fault.column - 1
     return first < end and start < first + max(fault.width or 1, 1)

@@ -1,5 +1,5 @@
 #!/usr/bin/env python3
-"""While a buffer is no YAML the faults of its other lines stay; and how grave each fault is.
+"""While a buffer isn't valid YAML, the faults on its other lines stay; and the severity of each fault.
 
     earlier.py PROGRAM [NAME...]
 """
@@ -30,13 +30,13 @@ def undefined(number: int) -> str:
 
 
 def shown(editor, path: str = FILE) -> list[tuple[int, str]]:
-    """Of each diagnostic its line and its message."""
+    """The line and the message of each diagnostic."""
     return sorted((one["range"]["start"]["line"], one["message"]) for one in editor.diagnostics().get(path, []))
 
 
 @CASES.case
 def a_key_without_its_colon(program: str) -> None:
-    """The ten faults on other lines stay and are marked, at the places that they have now, and hovering tells of them."""
+    """The ten faults on other lines stay and are marked, at their current places, and hovering explains them."""
     editor = start(program, {FILE: TEXT})
     editor.open(FILE, TEXT)
     editor.settle()
@@ -61,7 +61,8 @@ def a_key_without_its_colon(program: str) -> None:
 
 @CASES.case
 def the_line_of_the_fault(program: str) -> None:
-    """What stood on the line that is no YAML, or on one that was changed since, isn't shown; once it is YAML again, all is as reported."""
+    """Faults on the invalid line, or on one that has changed since, aren't shown; once it is valid YAML again, everything is as
+    reported."""
     editor = start(program, {FILE: TEXT})
     editor.open(FILE, TEXT)
     broken = TEXT.replace(STEP.format("p3"), STEP.format("p3").replace("run:", "'run:"))
@@ -93,7 +94,7 @@ def the_line_of_the_fault(program: str) -> None:
 
 @CASES.case
 def what_it_calls_stays(program: str) -> None:
-    """The faults of an action that a buffer calls don't come and go with the buffer's YAML."""
+    """The faults of an action that a buffer calls don't come and go while the buffer isn't valid YAML."""
     editor = start(program, {**FILES, ACTION: "name: A\n"})
     editor.open(CALLED, FILES[CALLED])
     editor.settle()
@@ -107,7 +108,7 @@ def what_it_calls_stays(program: str) -> None:
 
 @CASES.case
 def switched_off(program: str) -> None:
-    """With the option only what the linter says is shown: the one fault."""
+    """With the option only what the linter reports is shown: the one fault."""
     editor = start(program, {**FILES, ACTION: "name: A\n", CALLED: FILES[CALLED] + STEP.format("p0")}, words=("--no-earlier-faults",))
     editor.open(CALLED, FILES[CALLED] + STEP.format("p0"))
     editor.settle()
@@ -120,7 +121,7 @@ def switched_off(program: str) -> None:
 
 @CASES.case
 def opened_as_no_yaml(program: str) -> None:
-    """A file that is opened as no YAML has the faults of the saved file on the lines that it shares with that, until it is closed."""
+    """A file that isn't valid YAML when opened has the faults of the saved file on the lines that both share, until it is closed."""
     editor = start(program, {FILE: TEXT})
     editor.open(FILE, TEXT + "  b\n")
     editor.settle()
@@ -136,7 +137,7 @@ def opened_as_no_yaml(program: str) -> None:
 
 @CASES.case
 def where_lines_go(_: str) -> None:
-    """Faults move with their lines, whatever ends these; those of lines that were changed go."""
+    """Faults move with their lines, whatever the line breaks; those of changed lines disappear."""
     found = FileFaults(tuple(Fault("a", line, 1, "m", "k", 1) for line in (1, 2, 3, 4, 5)), 7)
     for before, after, lines in (
             (b"a\nb\nc\nd\ne", b"a\nb\nc\nd\ne", [1, 2, 3, 4, 5]),

@@ -1,4 +1,4 @@
-"""A small editor for tests: it starts the language server, sends what editors send, and keeps the diagnostics that it is given."""
+"""A small editor for tests: it starts the language server, sends what editors send, and keeps the diagnostics that it receives."""
 from __future__ import annotations
 
 import json
@@ -21,8 +21,8 @@ class Editor:
     def __init__(self, program: str | None, root: bytes | None, watches: bool = True, words: tuple[str, ...] = (), capabilities: dict = {},
                  server: Path = SERVER, environment: dict[str, str] | None = None, inherited: tuple[int, ...] = (),
                  folder: str | None = None, root_path: str | None = None):
-        """`inherited` are open files that the server is started with, and `folder` is its current one. With `root_path`, the server is told
-        the root as such a path, where `{}` stands for it, and not as a URI."""
+        """`inherited` are open files with which the server is started, and `folder` is its current one. With `root_path`, the server is
+        given the root as such a path, with `{}` in its place, and not as a URI."""
         self.root = root
         self.shown: dict[str, dict] = {}
         self.messages: list[str] = []
@@ -56,7 +56,7 @@ class Editor:
         self.notify("textDocument/didOpen", {"textDocument": {"uri": uri, "languageId": "yaml", "version": 1, "text": text}})
 
     def change(self, path: str, text: str, held: bool = False) -> None:
-        """Changes a buffer. What is held goes out with the next message in one write, so that the server isn't idle between the two."""
+        """Changes a buffer. A held change is sent with the next message in one write, so the server isn't idle between the two."""
         self.change_uri(self.uri(path), text, held)
 
     def change_uri(self, uri: str, text: str, held: bool = False) -> None:
@@ -86,7 +86,8 @@ class Editor:
                                                         "context": {"diagnostics": [], **context}})["result"]
 
     def settle(self) -> None:
-        """Waits until the server has taken all that was sent: it answers a request after what came before, here one that it lacks."""
+        """Waits until the server has handled everything that was sent: it answers a request, here of an unknown method, after what came
+        before."""
         self.request("test/settle", {})
 
     def diagnostics(self) -> dict[str, list[dict]]:
@@ -168,12 +169,12 @@ def read_message(out: BinaryIO) -> dict | None:
 
 
 def children(pid: int) -> list[int]:
-    """What a process started that still runs."""
+    """The processes that a process started and that still run."""
     with open(f"/proc/{pid}/task/{pid}/children", encoding="ascii") as opened:
         return [int(word) for word in opened.read().split()]
 
 
 def memory(pid: int, which: str = "VmRSS") -> int:
-    """KiB of memory that a process has, or by `VmHWM` has had at most."""
+    """The memory of a process in KiB, or with `VmHWM` the greatest that it has had."""
     with open(f"/proc/{pid}/status", encoding="utf-8") as opened:
         return next(int(line.split()[1]) for line in opened if line.startswith(which + ":"))

@@ -1,6 +1,6 @@
 #!/usr/bin/env python3
-"""What editors do beside showing the faults of a workflow: other files keep their server, a client is asked for once, a task's matcher takes
-each fault.
+"""What editors do besides showing the faults of a workflow: other files keep their server, one client is started, the matcher of a task
+recognizes each fault.
 
     editor_details.py PROGRAM [NAME...]
 """
@@ -21,7 +21,7 @@ from repositories import FILE, FILES, TOP, WORKFLOWS, new_folder, write
 CASES = Cases("editor-details")
 ANYWHERE = "/opt/juzbrost"
 SECONDS = 180
-# Opens a workflow, and then another file of the repository, which has the server that Emacs knows for YAML: one that never answers.
+# Opens a workflow, and then another file of the repository, with the server that Emacs knows for YAML: one that never answers.
 LISP_OF_OTHERS = """
 (add-to-list 'auto-mode-alist '("\\\\.ya?ml\\\\'" . yaml-mode))
 (setq eglot-connect-timeout 60 eglot-sync-connect 60)
@@ -44,7 +44,7 @@ LISP_OF_OTHERS = """
   (kill-emacs 0))
 (run-with-timer 0.5 nil #'test-run)
 """
-# What Neovim 0.8 and later have: a start that finds a client of the same name and folder again.
+# As in Neovim 0.8 and later: a start that reuses a client with the same name and folder.
 LUA_OF_LATER = """
 local started, clients = {}, {}
 vim.lsp.start = function(config, options)
@@ -89,7 +89,7 @@ endfor
 call writefile(roots, $OUT)
 qall!
 """
-# Reads lines from standard input, and writes of those that an expression matches the groups that a pattern names.
+# Reads lines from standard input; of those that match an expression, writes the groups that a pattern names.
 MATCHER = """
 const pattern = JSON.parse(process.argv[1]);
 const lines = require('fs').readFileSync(0, 'utf8').split('\\n');
@@ -100,7 +100,7 @@ console.log(JSON.stringify(found.map((match) => names.map((name) => match[patter
 
 
 def snippet(name: str) -> str:
-    """The snippet of a name on the page, for this folder."""
+    """The snippet with a name on the page, for this folder."""
     page = (TOP / "docs/EDITORS.md").read_text(encoding="utf-8")
     found = re.search(rf"<!-- run: {name} -->\n^```\w+\n(.*?)^```$", page, re.M | re.S)
     assert found, name
@@ -108,7 +108,7 @@ def snippet(name: str) -> str:
 
 
 def lines_of(words: list[str], program: str, files: dict[str, str]) -> list[str]:
-    """What an editor writes in a folder with a workflow and another YAML file. `{}` in the words is the folder of `files`."""
+    """What an editor writes in a folder with a workflow and another YAML file. `{}` in the arguments is the folder of `files`."""
     root = new_folder({**FILES, "other.yml": "a: b\n"})
     top = os.path.dirname(root)
     write(top, {f"configuration/{name}": text for name, text in files.items()})
@@ -130,7 +130,7 @@ def lines_of(words: list[str], program: str, files: dict[str, str]) -> list[str]
 
 @CASES.case
 def emacs_other_files(program: str) -> None:
-    """A YAML file that the linter doesn't take keeps the server that Emacs has for it."""
+    """A YAML file that the linter doesn't lint keeps the server that Emacs has for it."""
     folders = "(dolist (folder (directory-files \"/usr/share/emacs/site-lisp/elpa\" t \"\\\\`[^.]\")) (add-to-list 'load-path folder))\n"
     found = lines_of(["emacs", "-Q", "-nw", "-l", "{}/init.el", "-l", "{}/test.el"], program,
                      {"init.el": folders + snippet("emacs"), "test.el": LISP_OF_OTHERS})
@@ -139,7 +139,7 @@ def emacs_other_files(program: str) -> None:
 
 @CASES.case
 def neovim_with_start(program: str) -> None:
-    """Where Neovim has `vim.lsp.start` it is asked for the client of a buffer, and not for other files."""
+    """If Neovim has `vim.lsp.start`, it is called for the client of a buffer, and not for other files."""
     assert lines_of(["nvim", "--headless", "-i", "NONE", "-u", "{}/init.lua", "-S", "{}/test.lua"], program,
                     {"init.lua": snippet("neovim"), "test.lua": LUA_OF_LATER}) == ["{ true }"]
 
@@ -152,14 +152,14 @@ def neovim_in_a_worktree(program: str) -> None:
 
 @CASES.case
 def ale_in_a_worktree(program: str) -> None:
-    """The folder of both files is the worktree's."""
+    """Both files belong to the worktree's folder."""
     assert lines_of(["vim.nox", "-N", "-i", "NONE", "-n", "-u", "{}/vimrc", "-S", "{}/test.vim"], program,
                     {"vimrc": snippet("ale"), "test.vim": VIM_IN_A_WORKTREE}) == ["actionlint_lsp1"] * 2
 
 
 @CASES.case
 def tasks(program: str) -> None:
-    """The matcher takes of the task's output each fault, whole, and nothing else."""
+    """The matcher finds each fault in the task's output, whole, and nothing else."""
     (task,) = json.loads(snippet("tasks"))["tasks"]
     environment = {**os.environ, "ACTIONLINT": program}
     for folder in sorted(path for path in (TOP / "examples").iterdir() if (path / WORKFLOWS).is_dir()):

@@ -1,6 +1,6 @@
 #!/usr/bin/env python3
-"""Real editors: each opens and edits the files of a small repository, and after each step what it shows is what the linter says of the
-folder with the unsaved buffers in place of the saved files.
+"""Real editors: each opens and edits the files of a small repository, and after each step it shows what the linter reports for the folder
+with the unsaved buffers in place of the saved files.
 
     editors.py PROGRAM [neovim] [emacs] [vim]
     EDITS=100 SEED=1 editors.py PROGRAM neovim        random edits in Neovim instead of the fixed steps
@@ -33,7 +33,7 @@ SECONDS, SECONDS_AN_EDIT = 180, 5
 
 
 def expected(program: str, root: str, buffers: dict[str, str]) -> list[tuple]:
-    """What the linter says of a copy of the folder with the buffers written."""
+    """What the linter reports for a copy of the folder with the buffers written."""
     copy = root + "-copy"
     shutil.copytree(root, copy)
     write(copy, buffers)
@@ -46,7 +46,7 @@ def expected(program: str, root: str, buffers: dict[str, str]) -> list[tuple]:
 
 def in_terminal(words: list[str], environment: dict[str, str], seconds: float, rows: int = ROWS, columns: int = COLUMNS,
                 folder: str = ".", user: int | None = None) -> bytes:
-    """Runs an editor in a terminal of its own, and answers what it wrote there."""
+    """Runs an editor in a terminal of its own; returns what it wrote there."""
     child, screen = pty.fork()
     if child == 0:
         os.chdir(folder)
@@ -72,7 +72,7 @@ def in_terminal(words: list[str], environment: dict[str, str], seconds: float, r
 
 
 def steps_of(editor: str, program: str, root: str) -> dict:
-    """What the editor tells: its steps, each with what it shows, its buffers, and the files that were written."""
+    """The editor's log: its steps, each with what it shows, its buffers, and the files that were written."""
     out = root + ".json"
     environment = {**os.environ, "FOLDER": root, "CLIENTS": str(CLIENTS), "PROGRAM": program, "OUT": out, "HOME": os.path.dirname(root),
                    "LC_ALL": "C.UTF-8"}

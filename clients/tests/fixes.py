@@ -1,5 +1,5 @@
 #!/usr/bin/env python3
-"""Quick fixes: of slips of people the line that mends each; every one that is offered takes the fault away and brings none.
+"""Quick fixes: for mistakes that people make, the line that repairs each; every offered fix removes the fault and causes none.
 
     fixes.py PROGRAM [NAME...]
 """
@@ -56,7 +56,7 @@ jobs:
 NOT_CALLABLE = {WORKFLOWS + "b.yml": "on: push\njobs:\n  x: {runs-on: u, steps: [{run: make}]}\n"}
 COMPOSITE = "name: a\ndescription: b\nruns:\n  using: composite\n  steps:\n    - run: "
 TWO_JOBS = STEP + "run: make\n  test:\n    runs-on: ubuntu-latest\n"
-# By code of a fault, values of a step's `run`.
+# For each code, values of a step's `run` with that fault.
 LONG_VALUES = (
     ("X9", "echo ${{ case(" + "a," * 2_400 + "((1))) }}"),
     ("X9", "echo ${{ f(" + "a," * 2_400),
@@ -68,7 +68,7 @@ LONG_VALUES = (
     ("X16", "echo ${{ format('{" + "9" * 4_500 + "}', 'a') }}"),
     ("G4", "1" * 4_900),
 )
-# By slip: the text, and a line that one of its fixes makes; also other files of its folder, and the file of the slip and of the line.
+# For each mistake: the text, and a line that one of its fixes makes; also other files of its folder, and the files of both.
 SLIPS: dict[str, tuple] = {
     "a backtick": (STEP + "name: `x`" + TAIL, "      - name: '`x`'"),
     "a bracket": (STEP + "name: [WIP] build" + TAIL, "      - name: '[WIP] build'"),
@@ -85,10 +85,10 @@ SLIPS: dict[str, tuple] = {
     "an open bracket": ("on: [push, issues\njobs: {}\n", "on: [push, issues]"),
     "an escape": (STEP + "name: \"C:\\dir\"" + TAIL, "      - name: 'C:\\dir'"),
     "no colon": (JOB.replace("runs-on:", "runs-on") + "    steps: []\n", "    runs-on: ubuntu-latest"),
-    "no space behind a colon": (JOB.replace("runs-on: ", "runs-on:") + "    steps: []\n", "    runs-on: ubuntu-latest"),
-    "no space behind a dash": (STEP[:-1] + "run: make\n", "      - run: make"),
+    "no space after a colon": (JOB.replace("runs-on: ", "runs-on:") + "    steps: []\n", "    runs-on: ubuntu-latest"),
+    "no space after a dash": (STEP[:-1] + "run: make\n", "      - run: make"),
     "too deep": (STEP + "name: x\n          run: make\n", "        run: make"),
-    "text behind a header": (STEP + "run: | make\n", "          make"),
+    "text after a header": (STEP + "run: | make\n", "          make"),
     "a second document": (STEP + "run: make\n---\n", "      - run: make"),
     "a ternary": (STEP + "run: echo ${{ github.ref == 'x' ? 'a' : 'b' }}\n", "      - run: echo ${{ github.ref == 'x' && 'a' || 'b' }}"),
     "a key": ("on: push\njobs:\n  a:\n    run-on: u\n", "    runs-on: u"),
@@ -284,7 +284,7 @@ FAR_FROM_ALL = ("on: push\njobs: {a: {runs-on: '${{ zzzzzz(1) }}'}}\n",
 
 
 class Folder:
-    """A folder in a session, and its files for those who look for names."""
+    """A folder in a session, and its files for features that look up names."""
 
     def __init__(self, program: str, texts: dict[str, str]):
         self.program, self.texts = [program], texts
@@ -303,7 +303,7 @@ class Folder:
 
 @CASES.case
 def slips(program: str) -> None:
-    """The line that mends each slip is made by one of its fixes."""
+    """One of the fixes of each mistake makes the line that repairs it."""
     for what, (text, line, *more) in SLIPS.items():
         others, file, changed = (*more, {}, FILE, FILE)[:3] if len(more) != 1 else (more[0], FILE, FILE)
         folder = Folder(program, {**others, file: text})
@@ -315,7 +315,7 @@ def slips(program: str) -> None:
 
 @CASES.case
 def nothing_for_some(program: str) -> None:
-    """What is far from every name has no fix, nor has a file without fault."""
+    """A word that isn't similar to any name has no fix, nor has a file without faults."""
     for text in FAR_FROM_ALL:
         folder = Folder(program, {FILE: text})
         (fault,) = folder.faults()
@@ -324,7 +324,8 @@ def nothing_for_some(program: str) -> None:
 
 @CASES.case
 def faults_that_come_back(program: str) -> None:
-    """A text that is no YAML hides its other faults. A fix that brings back those of the text before is offered, and no other."""
+    """A text that isn't valid YAML hides its other faults. A fix after which those of the previous text come back is offered, but no others
+    may."""
     folder = Folder(program, {FILE: STEP + "name: `x`\n        shel: bash\n" + "        run: make\n"})
     (fault,) = folder.faults()
     assert not fixes([program], SECONDS, folder.project, [fault])
@@ -336,7 +337,7 @@ def faults_that_come_back(program: str) -> None:
 
 @contextmanager
 def within(seconds: float) -> Iterator[None]:
-    """Fails if a block takes this process more seconds of a processor."""
+    """Fails if a block takes this process more than some seconds of processor time."""
     def stop(*_: object) -> None:
         raise AssertionError(f"more than {seconds} seconds")
     before = signal.signal(signal.SIGPROF, stop)
@@ -350,7 +351,7 @@ def within(seconds: float) -> Iterator[None]:
 
 @CASES.case
 def lines_of_a_stranger(program: str) -> None:
-    """Whatever a line of up to 5,000 characters holds, its repairs are found at once, and none is longer than a file can be."""
+    """Whatever a line of up to 5,000 characters contains, its repairs are found at once, and none is longer than a file can be."""
     for code, value in LONG_VALUES:
         (entry,) = (entry for entry in entries() if entry.code == code)
         text = STEP + "run: " + value + "\n"
@@ -363,15 +364,15 @@ def lines_of_a_stranger(program: str) -> None:
 
 @CASES.case
 def every_code(program: str) -> None:
-    """Each code of a repair is one of the pages; most codes have repairs."""
+    """Each code with repairs is on the pages; most codes have repairs."""
     codes = {entry.code for entry in entries()}
     assert set(REPAIRS) <= codes and len(REPAIRS) >= 60, (set(REPAIRS) - codes, len(REPAIRS))
 
 
 @CASES.case
 def random_slips(program: str) -> None:
-    """Of texts with a few characters changed: repairs are found without an error, and what is offered takes its fault away and brings
-    none, as a run of the linter over the changed folder says."""
+    """Texts with a few characters changed: repairs are found without an error, and each offered one removes its fault and causes none, by a
+    run of the linter on the changed folder."""
     chance = random.Random(int(os.environ.get("SEED", "1")))
     texts = [(text, more[0] if more else {}, more[1] if len(more) > 1 else FILE) for text, _, *more in SLIPS.values()]
     offered = 0
@@ -398,7 +399,7 @@ def check_fix(program: str, folder: Folder, faults: list[Fault], fault: Fault, r
 
 @CASES.case
 def a_report_that_is_too_long(program: str) -> None:
-    """A linter that is stopped in the middle of a report says nothing of that on standard error, which is the editor's."""
+    """A linter that is stopped in the middle of a report prints nothing about that on standard error, which is the editor's."""
     with tempfile.TemporaryFile() as said:
         kept = os.dup(2)
         os.dup2(said.fileno(), 2)
@@ -418,7 +419,7 @@ def a_report_that_is_too_long(program: str) -> None:
 
 @CASES.case
 def a_trial(program: str) -> None:
-    """The session of a trial holds callers and what they call, and is as before after each trial."""
+    """The session of a trial holds callers and what they call, and is unchanged after each trial."""
     folder = Folder(program, {FILE: STEP + "uses: ./act\n        with: {who: x}\n", **ACTION})
     trial = Trial([program], SECONDS, folder.project, "act/action.yml")
     assert not trial.before

@@ -1,5 +1,5 @@
 #!/usr/bin/env python3
-"""Hovering over a fault shows its entry; a quick fix puts the near name in its place, and the linter then has one fault less.
+"""Hovering over a fault shows its entry; a quick fix inserts the similar name, and the linter then has one fault less.
 
     hover_and_fixes.py PROGRAM [NAME...]
 """
@@ -17,7 +17,7 @@ TABLE = {row["code"]: row for row in json.loads((CLIENTS / "actionlint_client/fa
 DOCS = "https://example.org/docs"
 STEP = "jobs:\n  a:\n    runs-on: ubuntu-latest\n    steps:\n      - run: echo {}\n"
 EVERYWHERE = {"start": {"line": 0, "character": 0}, "end": {"line": 100, "character": 0}}
-# Files with one fault, and what becomes of the named line.
+# Files with one fault, the name that replaces the wrong one, and the resulting line.
 FIXED = {
     "event": ("on: pussh\njobs: {}\n", "push", "on: push"),
     "quoted event": ("on: ['pussh', \"pull-request\"]\njobs: {}\n", "push", "on: ['push', \"pull-request\"]"),
@@ -30,7 +30,7 @@ FIXED = {
     "function": ("on: push\n" + STEP.format("${{ startWith('ab', 'a') }}"), "startsWith", "      - run: echo ${{ startsWith('ab', 'a') }}"),
     "property": ("on: push\n" + STEP.format("${{ github.acto }}"), "actor", "      - run: echo ${{ github.actor }}"),
     "property in brackets": ("on: push\n" + STEP.format("${{ github['acto'] }}"), "actor", "      - run: echo ${{ github['actor'] }}"),
-    "behind two units": ("on: push\n" + STEP.format("\U0001F600 ${{ github.acto }}"), "actor",
+    "after two units": ("on: push\n" + STEP.format("\U0001F600 ${{ github.acto }}"), "actor",
                          "      - run: echo \U0001F600 ${{ github.actor }}"),
     "shell": ("on: push\n" + STEP.format("a") + "        shell: bsh\n", "bash", "        shell: bash"),
     "permission scope": ("on: push\npermissions:\n  content: read\njobs: {}\n", "contents", "  contents: read"),
@@ -68,7 +68,7 @@ def an_entry(program: str) -> None:
 
 @CASES.case
 def two_entries_and_plain_text(program: str) -> None:
-    """Faults at one place are shown one below the other; an editor that takes no Markdown is told so."""
+    """Faults at one place are shown one below the other; an editor that doesn't accept Markdown gets plain text."""
     editor = start(program, {FILE: "name: x\n"}, capabilities={"textDocument": {"hover": {"contentFormat": ["plaintext"]}}})
     editor.open(FILE, "nam: x\n")
     shown = editor.hover(FILE, 0, 0)
@@ -87,7 +87,7 @@ def two_entries_and_plain_text(program: str) -> None:
 
 @CASES.case
 def fixes(program: str) -> None:
-    """Of each list of names one that is nearly right; after the fix the fault is gone and none has come."""
+    """For each list of names one that is nearly right; after the fix the fault is gone and there is no new one."""
     editor = start(program, {FILE: RIGHT})
     editor.open(FILE, RIGHT)
     for what, (text, name, line) in FIXED.items():
@@ -115,14 +115,14 @@ def fixes(program: str) -> None:
 
 @CASES.case
 def where_fixes_are_asked_for(program: str) -> None:
-    """Fixes are those of the faults in the range, of the text as it is now, and of the kinds that are wanted."""
+    """Fixes are for the faults in the range, in the current text, and of the requested kinds."""
     editor = start(program, {FILE: RIGHT})
     editor.open(FILE, "on: pussh\njobs: {}\n")
     here = {"start": {"line": 0, "character": 5}, "end": {"line": 0, "character": 5}}
     there = {"start": {"line": 1, "character": 0}, "end": {"line": 1, "character": 0}}
     assert editor.actions(FILE, here) and not editor.actions(FILE, there)
     assert editor.actions(FILE, here, only=["quickfix"]) and not editor.actions(FILE, here, only=["refactor"])
-    # often, since a server that answers of the text before may have become idle, and right, between the two messages of one write
+    # repeated, since a server that answers for the old text may become idle, and right, between the two messages of one write
     for _ in range(50):
         editor.change(FILE, "\non: pussh\njobs: {}\n", held=True)
         assert not editor.actions(FILE, here), "the text is another one now"

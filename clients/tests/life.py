@@ -1,5 +1,5 @@
 #!/usr/bin/env python3
-"""How long a folder has a linter, which URIs are one file, and what the server opens on a disk that was made by a stranger.
+"""How long a folder has a linter, which URIs are the same file, and what the server opens on a hostile disk.
 
     life.py PROGRAM [NAME...]
 """
@@ -29,7 +29,7 @@ from actionlint_client.workspace import Workspace
 CASES = Cases("life")
 OUTSIDE = "its real path is outside of the folder"
 BROKEN_ACTION = "name: A\n"
-# What `select` can't take any more.
+# The first descriptor that `select` can't handle.
 MANY_DESCRIPTORS = 1_030
 
 
@@ -72,7 +72,7 @@ def a_folder_is_let_go(program: str) -> None:
 
 @CASES.case
 def a_folder_that_nobody_watches(program: str) -> None:
-    """An editor watches its workspace alone: where a file of another folder is open, the server looks at that disk."""
+    """An editor watches only its workspace: if a file of another folder is open, the server checks that folder on disk itself."""
     editor = start(program, FILES)
     top = tempfile.mkdtemp(prefix="actionlint-test-")
     write(top, {ACTION: FILES[ACTION], FILE: RIGHT})
@@ -103,7 +103,7 @@ def a_folder_without_files(program: str) -> None:
 
 @CASES.case
 def many_descriptors(program: str) -> None:
-    """Descriptors beyond those of `select` are as good as others, and the limit that a program starts with is no limit of folders."""
+    """Descriptors too large for `select` work like others, and the limit that a program starts with doesn't limit the number of folders."""
     soft, hard = resource.getrlimit(resource.RLIMIT_NOFILE)
     resource.setrlimit(resource.RLIMIT_NOFILE, (hard, hard))
     opened = tuple(os.open(os.devnull, os.O_RDONLY) for _ in range(MANY_DESCRIPTORS))
@@ -126,7 +126,7 @@ def many_descriptors(program: str) -> None:
 
 @CASES.case
 def the_first_pause_that_ends(_: str) -> None:
-    """Of the folders whose linters are paused, the one that may start first isn't kept waiting for the others."""
+    """Among the folders whose linters are paused, the one that may start first doesn't wait for the others."""
     pauses = {b"/nowhere/a": 9.0, b"/nowhere/b": 0.5, b"/nowhere/c": 0.0}
     workspace = Workspace(lambda root: SimpleNamespace(folder=SimpleNamespace(delay=lambda: pauses[root])),
                           SimpleNamespace(watches=lambda: True), SimpleNamespace())
@@ -138,7 +138,7 @@ def the_first_pause_that_ends(_: str) -> None:
 
 @CASES.case
 def uris_that_are_refused(program: str) -> None:
-    """A URI that no file can have is passed over, and what comes behind it is taken."""
+    """A URI that no file can have is ignored, and what comes after it is handled."""
     editor = start(program, FILES)
     linters = len(children(editor.child.pid))
     for uri in ("file:///x/a%00b/.github/workflows/a.yml", "file:///x%00/action.yml", "file:action.yml", "file://elsewhere/action.yml",
@@ -186,7 +186,7 @@ def two_uris_of_one_path(program: str) -> None:
 
 @CASES.case
 def opened_twice(program: str) -> None:
-    """A file that is opened again, after a folder around its own came into the workspace, is still one file."""
+    """A file that is opened again, after a folder around its own was added to the workspace, is still one file."""
     top = tempfile.mkdtemp(prefix="actionlint-test-")
     os.makedirs(top + "/a")
     editor = Editor(program, None)
@@ -217,7 +217,7 @@ def a_root_path(program: str) -> None:
 
 @CASES.case
 def links_that_leave_the_folder(program: str) -> None:
-    """What lies outside behind its links is passed over, and told once; links within the folder are followed."""
+    """Files outside that links lead to are skipped, with one message; links within the folder are followed."""
     outside = tempfile.mkdtemp(prefix="actionlint-test-")
     write(outside, {"secret.yml": "SECRET: x\n", "action.yml": BROKEN_ACTION})
     first, second, third = WORKFLOWS + "first.yml", WORKFLOWS + "second.yml", WORKFLOWS + "third.yml"
@@ -242,7 +242,7 @@ def links_that_leave_the_folder(program: str) -> None:
 
 @CASES.case
 def many_links_that_leave(_: str) -> None:
-    """A folder that is full of them doesn't fill the screen."""
+    """A folder full of them doesn't fill the screen."""
     with tempfile.TemporaryDirectory(prefix="actionlint-test-") as root:
         said: list[str] = []
         looked_at = Disk(os.fsencode(root), said.append)
@@ -256,7 +256,7 @@ def many_links_that_leave(_: str) -> None:
 
 @CASES.case
 def a_root_behind_a_link(program: str) -> None:
-    """The folder itself may be a link, and its own real path counts."""
+    """The folder itself may be a link; its real path counts."""
     top = tempfile.mkdtemp(prefix="actionlint-test-")
     write(top + "/real", FILES)
     os.symlink("real", top + "/link")
@@ -269,7 +269,7 @@ def a_root_behind_a_link(program: str) -> None:
 
 @CASES.case
 def pipes_and_devices(program: str) -> None:
-    """A listed one is passed over, a called one can't be read, and none is waited for."""
+    """A listed one is skipped, a called one can't be read, and none is waited for."""
     editor = start(program, {**FILES, WORKFLOWS + "b.yml": RIGHT.replace("run: echo", "uses: ./pipe\n      - run: echo")})
     os.makedirs(os.path.join(editor.root, b"pipe"))
     os.mkfifo(os.path.join(editor.root, b"pipe/action.yml"))
@@ -305,7 +305,7 @@ def actions_that_can_be_called(_: str) -> None:
 
 @CASES.case
 def what_may_not_be_read(_: str) -> None:
-    """What the linter can't read is unreadable here too, and a link out of the folder is skipped whether or not it can be followed."""
+    """What the linter can't read is unreadable here too, and a link out of the folder is skipped whether or not its target is readable."""
     with tempfile.TemporaryDirectory(prefix="actionlint-test-") as top:
         root = top + "/folder"
         listed, outside = WORKFLOWS + "b.yml", WORKFLOWS + "c.yml"
@@ -337,7 +337,7 @@ def check_unreadable(top: str, listed: str, outside: str) -> None:
 
 
 def as_nobody(check: Callable[[], None]) -> None:
-    """Runs a check as a user who may not read everything, as root may."""
+    """Runs a check as a user without permission to read everything, as root has."""
     if os.geteuid():
         check()
         return
@@ -357,7 +357,7 @@ def as_nobody(check: Callable[[], None]) -> None:
 
 @CASES.case
 def what_changes_between_the_look_and_the_opening(program: str) -> None:
-    """What was opened is looked at: a pipe that took a file's place isn't waited for, nor is a file outside read."""
+    """The opened file is checked: a pipe that took a file's place isn't waited for, and a file outside isn't read."""
     with tempfile.TemporaryDirectory(prefix="actionlint-test-") as top:
         root, file = top + "/folder", top + "/folder/" + FILE
         for replaced in ("pipe", "link"):
@@ -383,7 +383,7 @@ def what_changes_between_the_look_and_the_opening(program: str) -> None:
 
 @CASES.case
 def a_name_that_is_too_long(program: str) -> None:
-    """A call of an action whose name no disk can hold is one of an action that isn't there."""
+    """A call of an action whose name no disk can hold is a call of a missing action."""
     editor = start(program, {FILE: WRONG.replace("run: echo", "uses: ./" + "n" * 300 + "\n      - run: echo"), ACTION: FILES[ACTION]})
     assert editor.texts(FILE) == [UNDEFINED] and not editor.messages
     assert set(editor.diagnostics()) == {FILE}

@@ -1,6 +1,6 @@
 #!/usr/bin/env python3
-"""The server's work is linear in what it is sent: calls, reports, buffers, ranges and quick fixes, also of files that a stranger wrote.
-Nothing is timed here: what is done is counted. bench/clients.py has the times.
+"""The server's work is linear in what it is sent: calls, reports, buffers, ranges and quick fixes, also for hostile files. Nothing is timed
+here; the work is counted. bench/clients.py has the times.
 
     linear.py PROGRAM [NAME...]
 """
@@ -73,7 +73,7 @@ def random_steps(chance: random.Random) -> str:
             f"      - {{uses: '{other}'}}\n", f"      - &s{chance.randrange(2)}\n        uses: {other}\n",
             f"      - *s{chance.randrange(2)}\n", *NO_CALLS]))
     text = HEAD + "".join(steps)
-    # Only in anchors' names do the two readers of YAML differ here.
+    # The two readers of YAML differ here only in the names of anchors.
     if chance.random() < 0.5 or "&" in text or "*" in text:
         return text
     at = chance.randrange(len(text))
@@ -82,7 +82,7 @@ def random_steps(chance: random.Random) -> str:
 
 @CASES.case
 def calls_by_chance(program: str) -> None:
-    """Of files by chance the actions that are there and are called are those that the linter lints besides."""
+    """In random files, the called actions that exist are those that the linter lints as well."""
     chance = random.Random(7)
     with tempfile.TemporaryDirectory(prefix="actionlint-test-") as root:
         actions = {f"{folder}/{name}" for folder in FOLDERS for name in ("action.yml", "action.yaml")} | {"action.yml"}
@@ -112,7 +112,7 @@ def texts_that_look_like_calls(program: str) -> None:
 
 
 class Silent:
-    """An editor that hears nothing."""
+    """An editor that ignores everything."""
 
     def watches(self) -> bool:
         return True
@@ -126,7 +126,7 @@ class Silent:
 
 @CASES.case
 def many_buffers(program: str) -> None:
-    """However many buffers are opened, changed and closed in a burst, the disk is looked at once."""
+    """However many buffers are opened, changed and closed in a burst, the disk is scanned once."""
     paths = [f"{WORKFLOWS}{number:03}.yml" for number in range(200)]
     root = tempfile.mkdtemp(prefix="actionlint-test-")
     write(root, {path: RIGHT for path in paths})
@@ -152,7 +152,7 @@ def many_buffers(program: str) -> None:
 
 @CASES.case
 def bursts(program: str) -> None:
-    """Many edits that come together make few reports."""
+    """Many edits that arrive together cause few reports."""
     folder = tempfile.mkdtemp(prefix="actionlint-test-")
     log = folder + "/log"
     editor = start(script(folder, f'#!/bin/sh\ntee -a "{log}" | "{program}" "$@"\n'), FILES)
@@ -170,7 +170,7 @@ def bursts(program: str) -> None:
 
 @CASES.case
 def fixes_of_many_faults(program: str) -> None:
-    """Quick fixes over 400 faults take one linter more, and those of the first faults are offered."""
+    """Quick fixes over 400 faults start one more linter, and those of the first faults are offered."""
     folder = tempfile.mkdtemp(prefix="actionlint-test-")
     log = folder + "/log"
     text = HEAD + "".join(f"      - run: echo ${{{{ github.acto{number} }}}}\n" for number in range(400))
@@ -187,7 +187,7 @@ def fixes_of_many_faults(program: str) -> None:
 
 @CASES.case
 def ranges_on_a_long_line(_: str) -> None:
-    """Columns are those of a reader that counts anew for each fault, and the line is looked through once."""
+    """Columns are those of a reader that starts counting at each fault anew, and the line is scanned once."""
     chance = random.Random(3)
     text = "".join(chance.choice("aé\u2028\U0001F600 -") for _ in range(2_000))
     lines = positions.Lines(b"x\n" + text.encode(), True)
@@ -213,7 +213,8 @@ def ranges_on_a_long_line(_: str) -> None:
 
 @CASES.case
 def many_missing_inputs(program: str) -> None:
-    """600 calls that each lack 1,000 inputs: the first 1,000 faults are shown and how many more there are, and the other files' too."""
+    """600 calls that each lack 1,000 inputs: the first 1,000 faults are shown with the number of the others, and so are the other files'
+    faults."""
     inputs = "".join(f"  i{number}: {{required: true}}\n" for number in range(1_000))
     calls = "".join(f"      - uses: ./a\n        with:\n          x{number}: 1\n" for number in range(600))
     editor = start(program, {FILE: WRONG, CALLED: HEAD + calls, ACTION: TWO_REQUIRED.replace("  who: {required: true}\n", inputs)})
@@ -230,7 +231,7 @@ def many_missing_inputs(program: str) -> None:
 
 @CASES.case
 def a_report_that_is_too_long(program: str) -> None:
-    """The file with most of it is left out until it changes, and that is told; the others are shown."""
+    """The file with most of it is left out until it changes, with a message; the others are shown."""
     held, most = faults.MAX_HELD_BYTES, faults.MAX_REPORT_BYTES
     faults.MAX_HELD_BYTES, faults.MAX_REPORT_BYTES = 5_000, 20_000
     root = tempfile.mkdtemp(prefix="actionlint-test-")
@@ -261,7 +262,7 @@ def report_line(chance: random.Random, path: str, snippets: bool) -> str:
 
 @CASES.case
 def reports_by_chance(_: str) -> None:
-    """Whatever changed between two reports, what is taken of the second is what a reader that never saw the first takes of it."""
+    """Whatever changed between two reports, the faults read from the second are those of a reader that never saw the first."""
     chance = random.Random(5)
     for snippets, mistakable, held in ((False, False, True), (True, False, True), (True, True, True), (False, False, False)):
         form, reader, files = Form(set(PATHS), mistakable, snippets), FaultReader(), {}
@@ -287,7 +288,7 @@ def reports_by_chance(_: str) -> None:
 
 @CASES.case
 def only_what_changed_is_parsed(_: str) -> None:
-    """Of a report over 4,096 files with a fault each, the lines of one file are parsed after an edit of it."""
+    """In a report over 4,096 files with a fault each, only the lines of one file are parsed after it was edited."""
     paths = [f"{WORKFLOWS}{number:04}.yml" for number in range(4_096)]
     form, reader, parsed = Form(set(paths), False, False), FaultReader(), []
     parse = faults.parse_fault

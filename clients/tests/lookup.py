@@ -23,7 +23,7 @@ CASES = Cases("lookup")
 WHERE = "--program or the variable ACTIONLINT names the linter"
 NONE = f"cannot start actionlint: there is none that runs here, beside the clients or on the PATH; {WHERE}"
 
-# Runs a client by a Python that lacks some modules, where the system has another Python or none.
+# Runs a client by a Python that lacks some modules, on a system with another Python or none.
 WITHOUT_MODULES = """
 import os, runpy, sys
 sys.path.insert(0, os.path.dirname({client!r}))
@@ -37,7 +37,7 @@ ALL_MODULES = ("pylsp_jsonrpc", "yaml.cyaml")
 # An action that PyYAML doesn't read without libyaml, and the one that it calls.
 TAB_BEFORE_A_COLON = "name: A\ndescription: d\nruns:\n  using: composite\n  steps:\n    - run: make\n      shell\t: bash\n    - uses: ./b\n"
 
-# Runs a program by a Python that says that it is old.
+# Runs a program by a Python that claims to be old.
 OLD_PYTHON = """
 import runpy, sys
 sys.argv = sys.argv[1:]
@@ -47,13 +47,13 @@ runpy.run_path(sys.argv[0], run_name="__main__")
 
 
 def ran(words: Sequence[str | Path], **how) -> tuple[int, str, str]:
-    """Runs a program without input; answers its status and both streams."""
+    """Runs a program without input; returns its status and both streams."""
     done = subprocess.run(words, stdin=subprocess.DEVNULL, stdout=subprocess.PIPE, stderr=subprocess.PIPE, text=True, check=False, **how)
     return done.returncode, done.stdout, done.stderr
 
 
 class Tree:
-    """Copies of the clients below share/actionlint of a folder, with what may lie around them."""
+    """Copies of the clients below share/actionlint of a folder, with what can be around them."""
 
     def __init__(self) -> None:
         self.room = Path(tempfile.mkdtemp(prefix="actionlint-test-"))
@@ -62,7 +62,7 @@ class Tree:
         self.environment = {"PATH": PATH, "HOME": str(self.room)}
 
     def add(self, path: str, text: str = "exit 0") -> str:
-        """A program below the folder, whose path is answered."""
+        """Adds a program below the folder; returns its path."""
         whole = self.room / path
         whole.parent.mkdir(parents=True, exist_ok=True)
         whole.write_text(f"#!/bin/sh\n{text}\n", encoding="utf-8")
@@ -87,7 +87,7 @@ class Tree:
 
 @CASES.case
 def order(_: str) -> None:
-    """Each in its turn, as those before it go."""
+    """Each is found as soon as those before it are gone."""
     tree = Tree()
     beside = "a prefix/share/actionlint"
     named, variable, on_path = tree.add("named"), tree.add("variable"), tree.add("path/actionlint")
@@ -114,8 +114,8 @@ def order(_: str) -> None:
 
 @CASES.case
 def names(_: str) -> None:
-    """A linter is named by its path, also from the current folder on, or by its name on the PATH; nothing takes the place of one that isn't
-    there."""
+    """A linter is named by its path, also relative to the current folder, or by its name on the PATH; nothing replaces one that doesn't
+    exist."""
     tree = Tree()
     named = tree.add("my linters/it's")
     tree.add("a prefix/bin/actionlint")
@@ -133,14 +133,14 @@ def names(_: str) -> None:
 
 @CASES.case
 def its_own_tests(_: str) -> None:
-    """`clients/test` asks the finder beside it, wherever CDPATH leads."""
+    """`clients/test` calls the finder beside it, wherever CDPATH leads."""
     found = ran(["clients/test", "/nowhere"], cwd=TOP, env={**os.environ, "CDPATH": "."})
     assert found == (3, "", f"cannot start /nowhere: there is no such program; {WHERE}\n"), found
 
 
 @CASES.case
 def reports(program: str) -> None:
-    """actionlint-report runs the program of its release, and without one says what names one."""
+    """actionlint-report runs the program of its release, and if there is none it says how to name one."""
     tree = Tree()
     write(str(tree.room / "repository"), FILES)
     command = tree.room / "a prefix/bin/actionlint-report"
@@ -157,7 +157,7 @@ def reports(program: str) -> None:
 
 @CASES.case
 def language_server(program: str) -> None:
-    """The same of the language server, which tells it once."""
+    """The same for the language server, which says so once."""
     tree = Tree()
     root = tree.room / "repository"
     write(str(root), FILES)
@@ -198,7 +198,7 @@ def a_relative_program(program: str) -> None:
 
 @CASES.case
 def what_python_lacks(program: str) -> None:
-    """An old Python is named in one line. The status of a report that it can't make isn't that of faults."""
+    """An old Python is reported in one line. The status for a report that can't be made isn't that for faults."""
     for client in ("actionlint-lsp", "actionlint-report"):
         found = ran([sys.executable, "-c", OLD_PYTHON, CLIENTS / client, "--program", program])
         assert found == (3, "", f"actionlint: the clients need Python 3.9 or later, and {sys.executable} is older\n"), found
@@ -211,8 +211,8 @@ def what_python_lacks(program: str) -> None:
 
 @CASES.case
 def a_python_without_libyaml(program: str) -> None:
-    """The system's Python runs the clients in its place, so that what a file calls is the same everywhere; without one, a line says what is
-    missing, and a report that can't be made leaves nothing behind."""
+    """The system's Python runs the clients instead, so what a file calls is the same everywhere; if that isn't possible, a line says what
+    is missing, and a report that can't be made leaves no file."""
     tree = Tree()
     root = tree.room / "repository"
     write(str(root), {**FILES, ACTION: TAB_BEFORE_A_COLON, "b/action.yml": "name: B\n"})
@@ -233,7 +233,7 @@ def a_python_without_libyaml(program: str) -> None:
 
 @CASES.case
 def a_module_of_the_current_folder(program: str) -> None:
-    """Where PYTHONPATH puts one before a library, the library is found all the same. (The input is empty, so the server ends at once.)"""
+    """If PYTHONPATH puts one before a library, the library is found all the same. (The input is empty, so the server ends at once.)"""
     tree = Tree()
     write(str(tree.room), {"yaml.py": ""})
     found = ran([sys.executable, tree.without(CLIENTS / "actionlint-lsp", (), sys.executable), "--program", program], cwd=tree.room,

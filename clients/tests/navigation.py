@@ -1,5 +1,5 @@
 #!/usr/bin/env python3
-"""Definitions, references and renaming of the names of a folder; what a file is made of; and hovering where there is no fault.
+"""Definitions, references and renaming of names in a folder; the structure of a file; and hovering where there is no fault.
 
     navigation.py PROGRAM [NAME...]
 """
@@ -28,7 +28,7 @@ SECONDS = 20.0
 RENAMES = int(os.environ.get("RENAMES", "50"))
 TEXTS = int(os.environ.get("TEXTS", "400"))
 TYPED = "a:-'\"{[\t\n }])&*#!$=|é\u2028\x85"
-# Of a name, by its line with `|` in it, the lines of what it stands for: the file and the line's text, the definition first.
+# For each name, given by its line with a `|` in it, the lines of all its places: the file and the line's text, the definition first.
 CALLS_PLAN = [(FILE, "plan:"), (FILE, "needs: [plan]"), (FILE, "if: ${{ github.event_name == 'push' && needs.plan.result == 'success' }}"),
               (FILE, "LIST: ${{ needs.plan.outputs.list }}"), (FILE, "needs: plan")]
 STEP_TEXTS = "- run: echo ${{ steps.greet.outputs.text }} ${{ steps.list.conclusion }}"
@@ -82,7 +82,7 @@ def point_in(text: str, marked: str) -> Point:
 
 @CASES.case
 def places(program: str) -> None:
-    """Where a name and all of the same stand, in the file that declares it and in those that call it."""
+    """All places of a name, in the file that declares it and in its callers."""
     project = project_of(FOLDER)
     for what, (file, marked, wanted) in NAMES.items():
         found = occurrence_at(project, file, point_in(FOLDER[file], marked))
@@ -97,7 +97,7 @@ def places(program: str) -> None:
 
 @CASES.case
 def anchors(program: str) -> None:
-    """An alias leads to the last anchor of its name, and quotes and anchors aren't a part of a name."""
+    """An alias refers to the last anchor of its name, and quotes and anchors aren't part of a name."""
     text = ("on: push\nenv: &e\n  A: b\njobs:\n  'a':\n    env: *e\n    runs-on: u\n"
             "  b:\n    needs: &n \"a\"\n    env: &e {C: d}\n    runs-on: u\n"
             "  c:\n    env: *e\n    needs: *n\n")
@@ -112,7 +112,7 @@ def anchors(program: str) -> None:
 
 @CASES.case
 def names_in_texts(program: str) -> None:
-    """A text in an expression has no names, but the one between square brackets is one."""
+    """A string in an expression has no names, except in square brackets, where it is one."""
     text = "on: push\njobs:\n  a:\n    runs-on: u\n    steps:\n      - id: s\n        run: make\n"
     text += "      - if: contains('a steps.s b', steps['s'].outcome)\n"
     project = project_of({FILE: text})
@@ -122,7 +122,8 @@ def names_in_texts(program: str) -> None:
 
 @CASES.case
 def a_rename(program: str) -> None:
-    """In a called file it changes the callers; one that makes a fault is refused with its text, and so is what is no name."""
+    """In a called file it changes the callers; a name that would cause a fault is refused with the text of the fault, and so is anything
+    that isn't a name."""
     linter, project = Program([program], SECONDS), project_of(FOLDER)
     edits = rename(linter, project, ACTION, Point(3, 3), "whom")
     assert set(edits) == {ACTION, FILE}
@@ -141,7 +142,7 @@ def a_rename(program: str) -> None:
 
 @CASES.case
 def faults_that_were_there(program: str) -> None:
-    """A fault whose message has the name doesn't forbid a new one."""
+    """A fault whose message contains the name doesn't prevent a new one."""
     text = "on: push\njobs:\n  a:\n    needs: a\n    runs-on: u\n"
     project = project_of({FILE: text})
     edits = rename(Program([program], SECONDS), project, FILE, Point(2, 2), "b")
@@ -150,7 +151,8 @@ def faults_that_were_there(program: str) -> None:
 
 @CASES.case
 def random_renames(program: str) -> None:
-    """Any name of a folder without fault becomes a new one, and the linter finds no fault; with the old name again all is as before."""
+    """Any name in a folder without faults gets a new one, and the linter finds no fault; with the old name again everything is as
+    before."""
     chance = random.Random(int(os.environ.get("SEED", "1")))
     linter = Linter(program, FOLDER)
     asked_linter = Program([program], SECONDS)
@@ -178,7 +180,7 @@ def random_renames(program: str) -> None:
 
 @CASES.case
 def meanings(program: str) -> None:
-    """Of each name under the cursor what it is and what it means."""
+    """For each name under the cursor, what it is and what it means."""
     project = project_of(FOLDER)
     for marked, (head, text) in HOVERED.items():
         found = explanation(project, FILE, point_in(FOLDER[FILE], marked))
@@ -213,7 +215,7 @@ def parts(program: str) -> None:
 
 @CASES.case
 def random_texts(program: str) -> None:
-    """Of texts with random changes, at random places, everything can be asked; places lie in the text."""
+    """For texts with random changes, every request is answered at random places, with places inside the text."""
     chance = random.Random(int(os.environ.get("SEED", "1")))
     for _ in range(TEXTS):
         file = chance.choice(list(FOLDER))
@@ -240,7 +242,7 @@ def random_texts(program: str) -> None:
 
 @CASES.case
 def by_the_protocol(program: str) -> None:
-    """The same as an editor asks for it, with columns in UTF-16 units."""
+    """The same through an editor's requests, with columns in UTF-16 units."""
     text = FOLDER[FILE].replace("          echo \"${{ inputs.level }}\"", "          echo \"\U0001F600 ${{ inputs.level }}\"")
     editor = start(program, {**FOLDER, FILE: text})
     editor.open(FILE, text)

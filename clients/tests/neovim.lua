@@ -2,7 +2,7 @@
 local folder = os.getenv('FOLDER')
 vim.opt.runtimepath:prepend(os.getenv('CLIENTS') .. '/neovim')
 vim.cmd('filetype on')
--- The cursor can stand behind a line's last character, as it does while one types.
+-- The cursor can be after a line's last character, as it is while typing.
 vim.opt.virtualedit = 'onemore'
 require('actionlint').setup({
   cmd = { os.getenv('CLIENTS') .. '/actionlint-lsp', '--program', os.getenv('PROGRAM'), '--no-earlier-faults' },
@@ -142,7 +142,7 @@ local function go()
   vim.cmd('silent! bdelete! ' .. folder .. '/a/action.yml')
   local saved = table.concat(vim.fn.readfile(folder .. '/.github/workflows/a.yml'), '\n') .. '\n'
   settled({ ['.github/workflows/a.yml'] = saved })
-  -- The disk changes behind Neovim's back: it watches nothing, so the server looks by itself.
+  -- The disk changes without Neovim: it watches nothing, so the server looks by itself.
   local new = '.github/workflows/new.yml'
   vim.fn.writefile({ 'on: pussh', 'jobs: {}' }, folder .. '/' .. new)
   vim.wait(PATIENCE, function() return shows(new) end, 50)

@@ -1,5 +1,5 @@
 #!/usr/bin/env python3
-"""pre-commit with the hooks of this repository, from a clone that carries the linter, in a repository of git, without a network.
+"""pre-commit with the hooks of this repository, from a clone that carries the linter, in a git repository, without a network.
 
     pre_commit.py PROGRAM [NAME...]
 """
@@ -44,14 +44,14 @@ class Commits:
         subprocess.run(["pre-commit", "install"], cwd=self.root, check=True, env=self.environment, stdout=subprocess.DEVNULL)
 
     def commit(self, files: dict[str, str], status: int = 0) -> str:
-        """A commit of changed files on top of the last one; what was said."""
+        """Commits changed files; returns what was printed."""
         git(self.root, "reset", "-q", "--hard") if self._has_commit() else None
         write(self.root, files)
         git(self.root, "add", ".")
         return git(self.root, "commit", "-m", "change", status=status, environment=self.environment)
 
     def delete(self, path: str, status: int = 0) -> str:
-        """A commit that only deletes a file; what was said."""
+        """Commits only the deletion of a file; returns what was printed."""
         git(self.root, "rm", "-q", path)
         return git(self.root, "commit", "-m", "deletion", status=status, environment=self.environment)
 
@@ -60,15 +60,15 @@ class Commits:
 
 
 def check(program: str, hook: str, all_files: bool) -> None:
-    """The hook passes right files and stops wrong ones; the one for all files stops what breaks a caller, the other is skipped where no
-    workflow and no action changed."""
+    """The hook passes right files and stops wrong ones; the one for all files stops what breaks a caller, and the other one is skipped if
+    no workflow and no action changed."""
     commits = Commits(program, hook)
     assert "Passed" in commits.commit({})
     assert FAULT in commits.commit({FILE: FILES[FILE]}, status=1)
-    # A file that is named as an option is linted by the hook that is given files, and leads neither to another folder.
+    # A file named like an option is linted by the hook that gets files, and leads neither hook to another folder.
     said = commits.commit({OPTION: "name: x\n"}, status=0 if all_files else 1)
     assert all_files or OPTION + ":1:1:" in said, said
-    # A fault that a changed action makes in a workflow that isn't changed.
+    # A fault that a changed action causes in an unchanged workflow.
     said = commits.commit({ACTION: FILES[ACTION]}, status=1 if all_files else 0)
     assert ("required input" in said) == all_files, said
     assert ("Passed" if all_files else "Skipped") in commits.commit({"README": "y\n"})

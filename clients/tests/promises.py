@@ -1,7 +1,7 @@
 #!/usr/bin/env python3
-"""What the language server promises at limits and when things go wrong: nothing is stale, nothing is lost, and the person is told.
+"""What the language server promises at limits and when things go wrong: nothing is stale, nothing is lost, and the user is told.
 
-    promises.py PROGRAM [NAME...]         `many_reads` and `many_edits` run only where they are named, since they take minutes
+    promises.py PROGRAM [NAME...]         `many_reads` and `many_edits` run only if named, since they take minutes
 """
 from __future__ import annotations
 
@@ -33,7 +33,7 @@ PAUSE_SECONDS = 10
 
 
 def start(program: str, files: dict[str, str], **options) -> Editor:
-    """An editor in a new repository with these files, of which all is shown."""
+    """An editor in a new repository with these files, once everything is shown."""
     root = tempfile.mkdtemp(prefix="actionlint-test-")
     os.makedirs(root + "/.git")
     write(root, files)
@@ -48,7 +48,7 @@ def end(editor: Editor) -> None:
 
 
 def save(editor: Editor, path: str, data: bytes) -> None:
-    """Another program writes a file, and the editor tells it."""
+    """Another program writes a file, and the editor reports it."""
     whole = os.path.join(editor.root, path.encode())
     os.makedirs(os.path.dirname(whole), exist_ok=True)
     Path(os.fsdecode(whole)).write_bytes(data)
@@ -57,7 +57,7 @@ def save(editor: Editor, path: str, data: bytes) -> None:
 
 
 def script(folder: str, text: str) -> str:
-    """A program that stands for the linter."""
+    """A program in place of the linter."""
     file = folder + "/actionlint"
     Path(file).write_text(text, encoding="utf-8")
     os.chmod(file, stat.S_IRWXU)
@@ -92,7 +92,7 @@ def large_files(program: str) -> None:
 
 @CASES.case
 def a_full_folder(program: str) -> None:
-    """4,096 files and one more; where one goes, the one that had no room is linted."""
+    """4,096 files and one more; once one is deleted, the file that did not fit is linted."""
     last = WORKFLOWS + "zz.yml"
     editor = start(program, {**{f"{WORKFLOWS}{number:04}.yml": "on: push\njobs: {}\n" for number in range(MAX_FILES)}, last: WRONG})
     assert editor.texts(last) == [FULL]
@@ -138,7 +138,7 @@ def names_that_are_refused(program: str) -> None:
 
 @CASES.case
 def control_characters_of_a_name(program: str) -> None:
-    """A message is one line, and controls no terminal."""
+    """A message is one line, and can't control a terminal."""
     editor = start(program, {FILE: RIGHT, WORKFLOWS + "\x1b[31m\n\u202e.yml": RIGHT})
     (said,) = editor.messages
     assert "/<U+001B>[31m<U+000A><U+202E>.yml: " in said and said.endswith(BAD_PATH), said
@@ -147,7 +147,7 @@ def control_characters_of_a_name(program: str) -> None:
 
 @CASES.case
 def a_long_path(program: str) -> None:
-    """A path of 1,024 bytes is linted, and one of a byte more is refused; a command's line could not hold longer ones."""
+    """A path of 1,024 bytes is linted, and one that is a byte longer is refused; a command's line could not hold it."""
     editor = start(program, {FILE: RIGHT})
     for length in (1_024, 1_025, 3_000):
         path = "d/" * ((length - len("action.yml")) // 2) + "action.yml"
@@ -198,7 +198,7 @@ def the_linter_is_killed(program: str) -> None:
 
 @CASES.case
 def the_linter_goes_and_comes_back(program: str) -> None:
-    """While there is no linter nothing is shown, as all that was shown may be wrong; once there is one, all is."""
+    """Without a linter nothing is shown, since what was shown may be wrong; once there is one, everything is."""
     folder = tempfile.mkdtemp(prefix="actionlint-test-")
     link = folder + "/actionlint"
     os.symlink(program, link)
@@ -224,7 +224,7 @@ def the_linter_goes_and_comes_back(program: str) -> None:
 
 @CASES.case
 def a_linter_that_answers_nonsense(program: str) -> None:
-    """One that answers something else, reads without an answer, neither reads nor answers, or ends."""
+    """A linter that prints nonsense, reads without answering, neither reads nor answers, or ends."""
     folder = tempfile.mkdtemp(prefix="actionlint-test-")
     for body in ("echo hello", "cat > /dev/null", "exec sleep 100", "exit 3", "head -c 300 > /dev/null; exit 3",
                  "echo ok 1; echo ok 1; echo ok 1; echo nonsense; echo status 1; cat > /dev/null"):
@@ -236,7 +236,7 @@ def a_linter_that_answers_nonsense(program: str) -> None:
 
 @CASES.case
 def a_linter_that_hangs(program: str) -> None:
-    """It is stopped and replaced behind a pause, and the person is told."""
+    """It is stopped and replaced after a pause, and the user is told."""
     folder = tempfile.mkdtemp(prefix="actionlint-test-")
     editor = start(script(folder, f'#!/bin/sh\nif [ -e "{folder}/hang" ]; then exec sleep 100; fi\nexec "{program}" "$@"\n'), FILES,
                    words=("--timeout", "1"))
@@ -283,7 +283,7 @@ while True:
 
 @CASES.case
 def many_faults_on_a_line(program: str) -> None:
-    """The lines of files in the report would be as many bytes as faults times the line, here some 75 MB: they are left out."""
+    """The source lines in the report would take the number of faults times the length of the line, here some 75 MB: they are left out."""
     count, path = 2_000, WORKFLOWS + "long.yml"
     editor = start(program, {FILE: WRONG})
     editor.open(path, "{" + ",".join(f"k{number}: 1" for number in range(count)) + "}\n")
@@ -300,7 +300,7 @@ def many_faults_on_a_line(program: str) -> None:
 
 @CASES.case
 def ranges(program: str) -> None:
-    """Columns are UTF-16 units, behind marks of byte order, all breaks of lines, and bytes that are no text; ends are those of marks."""
+    """Columns are UTF-16 units, after byte order marks, all kinds of line breaks, and invalid bytes; ends are those of the marks."""
     editor = start(program, {FILE: WRONG})
     mark, path = WORKFLOWS + "mark.yml", WORKFLOWS + "b.yml"
     save(editor, mark, b"\xef\xbb\xbfnam: x\n")
@@ -336,7 +336,7 @@ def what_a_diagnostic_carries(program: str) -> None:
 
 @CASES.case
 def several_folders(program: str) -> None:
-    """Folders come and go; of one that goes nothing is shown any more. A file without a folder has its repository's."""
+    """Folders are added and removed; nothing of a removed one is shown any more. A file without a folder has its repository's."""
     first = start(program, FILES)
     second = tempfile.mkdtemp(prefix="actionlint-test-")
     write(second, {FILE: WRONG})
@@ -366,7 +366,7 @@ def several_folders(program: str) -> None:
 
 @CASES.case
 def a_renamed_file(program: str) -> None:
-    """The old name has no fault any more, the new one has it."""
+    """The old name has no fault any more, and the new one has it."""
     editor = start(program, FILES)
     new = WORKFLOWS + "new.yml"
     os.rename(os.path.join(editor.root, FILE.encode()), os.path.join(editor.root, new.encode()))
@@ -379,7 +379,7 @@ def a_renamed_file(program: str) -> None:
 
 @CASES.case
 def without_asking(program: str) -> None:
-    """Diagnostics come by themselves, also those of files that aren't open."""
+    """Diagnostics arrive unasked, also for files that aren't open."""
     editor = start(program, FILES)
     editor.open(FILE, WRONG)
     editor.open(ACTION, FILES[ACTION])
@@ -395,7 +395,7 @@ def without_asking(program: str) -> None:
 
 @CASES.case
 def without_watching(program: str) -> None:
-    """Where the editor doesn't watch the disk, the server looks at it."""
+    """If the editor doesn't watch the disk, the server does."""
     editor = start(program, FILES, watches=False)
     assert not editor.requests
     write(os.fsdecode(editor.root), {FILE: RIGHT})
@@ -408,7 +408,7 @@ def without_watching(program: str) -> None:
 
 @CASES.long_case
 def many_reads(program: str) -> None:
-    """The linter ends after 1,048,576 reads; another one takes its place, and the person is told."""
+    """The linter ends after 1,048,576 reads; another one replaces it, and the user is told."""
     root = tempfile.mkdtemp(prefix="actionlint-test-")
     write(root, FILES)
     said: list[str] = []
@@ -427,7 +427,7 @@ def many_reads(program: str) -> None:
 
 @CASES.long_case
 def many_edits(program: str) -> None:
-    """Over 20,000 edits the memory of the server and of the linter stays as it is."""
+    """Over 20,000 edits the memory of the server and of the linter stays the same."""
     editor = start(program, FILES)
     editor.open(FILE, WRONG)
     sizes = []

@@ -33,7 +33,7 @@ def message(parts: dict) -> bytes:
 
 
 def answers(program: str, *frames: bytes) -> tuple[int, list[dict]]:
-    """The status of a server that is sent these frames, and all that it sends."""
+    """The status of a server that is sent these frames, and everything that it sends."""
     done = subprocess.run([sys.executable, str(SERVER), "--program", program], input=b"".join(frames), stdout=subprocess.PIPE,
                           stderr=subprocess.DEVNULL, timeout=60, check=False)
     sent = io.BytesIO(done.stdout)
@@ -41,13 +41,13 @@ def answers(program: str, *frames: bytes) -> tuple[int, list[dict]]:
 
 
 def codes(found: list[dict]) -> list[tuple]:
-    """Of each answer its id, and the code of its error or None."""
+    """The id of each answer, with the code of its error or None."""
     return [(one["id"], one.get("error", {}).get("code")) for one in found if "method" not in one]
 
 
 @CASES.case
 def headers(program: str) -> None:
-    """The fields of a header come in any order, and their names in any case of letters."""
+    """The fields of a header come in any order, and their names in any case."""
     kind = b"Content-Type: application/vscode-jsonrpc; charset=utf-8\r\n"
     for header in (kind + b"Content-Length: %d\r\n\r\n", b"Content-Length: %d\r\n" + kind + b"\r\n", b"content-length:%d\r\n\r\n"):
         status, found = answers(program, frame(message(INITIALIZE), header), frame(message(SHUTDOWN), header), frame(message(EXIT), header))
@@ -57,7 +57,8 @@ def headers(program: str) -> None:
 
 @CASES.case
 def before_and_after(program: str) -> None:
-    """Before `initialize` and after `shutdown` a request has an error, and a notification no effect. There is one `initialize`."""
+    """Before `initialize` and after `shutdown`, a request is answered with an error, and a notification has no effect. There is only one
+    `initialize`."""
     document = {"uri": "file:///nowhere/.github/workflows/a.yml", "languageId": "yaml", "version": 1, "text": WRONG}
     opened = message({"method": "textDocument/didOpen", "params": {"textDocument": document}})
     asked = {"method": "textDocument/hover", "params": {"textDocument": document, "position": {"line": 0, "character": 0}}}
@@ -73,7 +74,7 @@ def before_and_after(program: str) -> None:
 
 @CASES.case
 def formats(program: str) -> None:
-    """What a name means is Markdown, unless the editor takes only plain text."""
+    """The meaning of a name is in Markdown, unless the editor accepts only plain text."""
     for taken, wanted in ((None, "markdown"), (["plaintext", "markdown"], "markdown"), (["plaintext"], "plaintext")):
         features = {"hover": {"contentFormat": taken}, "completion": {"completionItem": {"documentationFormat": taken}}} if taken else {}
         editor = start(program, {FILE: "name: x\n"}, capabilities={"textDocument": features})
@@ -86,7 +87,8 @@ def formats(program: str) -> None:
 
 @CASES.case
 def wrong_messages(program: str) -> None:
-    """What is no message, or is one that isn't known, has an error where it can have an answer, and what comes behind it is taken."""
+    """Something that isn't a message, or an unknown message, is answered with an error if it can be answered, and what comes after it is
+    handled."""
     unread, no_message = (None, PARSE_ERROR), (None, INVALID_REQUEST)
     rows = ((b"{", [unread]), (b"\xff", [unread]), (b"[" * 100_000, [unread]), (b"", [unread]), (b"[]", [no_message]), (b"3", [no_message]),
             (b"null", [no_message]), (message({"id": 5, "method": ["x"]}), [no_message]), (message({}), []), (message({"id": 5}), []),
@@ -100,7 +102,7 @@ def wrong_messages(program: str) -> None:
 
 @CASES.case
 def wrong_parameters(program: str) -> None:
-    """A request whose parameters are wrong has an error, and a notification changes nothing."""
+    """A request with wrong parameters is answered with an error, and such a notification changes nothing."""
     editor = start(program, FILES)
     for params in ({}, [1], {"textDocument": {"uri": 5}}, {"textDocument": {"uri": "http://x/y", "text": ""}},
                    {"textDocument": {"uri": "file:///x/y", "text": 3}}, {"textDocument": {"uri": "file:///nowhere"}}):
@@ -116,7 +118,7 @@ def wrong_parameters(program: str) -> None:
 
 @CASES.case
 def odd_positions(program: str) -> None:
-    """A position past the end of a line or of the text, or between the two halves of a character, is a place as any other."""
+    """A position past the end of a line or of the text, or between the two halves of a character, is handled like any other."""
     text = WRONG.replace("echo", "\U0001F600")
     editor = start(program, {FILE: text})
     editor.open(FILE, text)
@@ -142,7 +144,7 @@ def odd_ids(program: str) -> None:
 
 @CASES.case
 def cut_messages(program: str) -> None:
-    """Input that ends in a message, or whose header tells no length, ends the server with status 1, and its linter with it."""
+    """Input that ends inside a message, or a header without a length, ends the server with status 1, and its linter with it."""
     for sent in (b"Content-Length: 100\r\n\r\n{", b"Content-Length: 5", b"Content-Length: x\r\n\r\n{}", b"Content-Length: -1\r\n\r\n{}",
                  b"Hello\r\n\r\n{}", b"\r\n\r\n"):
         editor = start(program, FILES)

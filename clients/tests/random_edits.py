@@ -1,8 +1,8 @@
 #!/usr/bin/env python3
-"""Random edits of buffers and of the disk through the language server, with completions and new names among them. After each burst, what
-the editor shows is what the linter says of the folder with the unsaved buffers in place of the saved files.
+"""Random edits of buffers and of the disk through the language server, including completions and renamings. After each burst, the editor
+shows what the linter reports for the folder with the unsaved buffers in place of the saved files.
 
-    random_edits.py PROGRAM [EDITS [SEED [BURST]]]      with BURST up to so many edits go out before the next comparison (1)
+    random_edits.py PROGRAM [EDITS [SEED [BURST]]]      up to BURST edits (1) are sent before the next comparison
 """
 from __future__ import annotations
 
@@ -74,7 +74,7 @@ TYPED = "a:-'\"{[\t\n é\U0001F600\x07&*#"
 
 
 class Texts:
-    """Texts of files by chance."""
+    """Random texts of files."""
 
     def __init__(self, chance: random.Random):
         self.chance = chance
@@ -108,7 +108,7 @@ class Texts:
             job="./" + WORKFLOWS + pick(["call.yml", "c.yml", "none.yml", "ü 1.yml"]))
 
     def edited(self, text: str) -> str:
-        """What a person types: a few characters go or come, or a line does."""
+        """What a person types: a few characters, or a line, are added or removed."""
         at = self.chance.randrange(len(text) + 1)
         kind = self.chance.randrange(5)
         if kind == 0:
@@ -127,7 +127,7 @@ class Texts:
 
 
 class World:
-    """A folder on the disk, an editor of it, and beside it a mirror that has the unsaved texts too."""
+    """A folder on disk, an editor of it, and a mirror that also has the unsaved texts."""
 
     def __init__(self, program: str, seed: int):
         self.chance = random.Random(seed)
@@ -144,7 +144,7 @@ class World:
         self.editor = Editor(program, self.root, words=("--no-earlier-faults",))
 
     def write(self, path: str, text: str | None) -> None:
-        """A file of the disk, or none of this name."""
+        """Writes a file on disk, or deletes it."""
         _write(self.root, path, text)
         self.disk.pop(path, None)
         if text is not None:
@@ -155,7 +155,7 @@ class World:
         _write(self.mirror, path, self.buffers.get(path, self.disk.get(path)))
 
     def step(self) -> str:
-        """One edit; what it was."""
+        """Makes one edit; returns what it was."""
         path = self.chance.choice(PATHS + OTHERS)
         if self.buffers and self.chance.random() < 0.6:
             path = self.chance.choice(sorted(self.buffers))
@@ -192,7 +192,7 @@ class World:
         self.reflect(path)
 
     def _complete(self, path: str) -> str:
-        """Something that is offered at a place of a buffer is put in."""
+        """Inserts something that is offered at a place of a buffer."""
         answer = self.editor.request("textDocument/completion", self._place(path))
         found = (answer["result"] or {}).get("items")
         if found:
@@ -200,7 +200,7 @@ class World:
         return f"complete {path}"
 
     def _rename(self, path: str) -> str:
-        """What a name of a buffer stands for gets another one, in files that aren't open too, unless that is refused."""
+        """Renames what a name in a buffer refers to, also in files that aren't open, unless that is refused."""
         name = self.chance.choice(["more", "new_name", "a b"])
         answer = self.editor.request("textDocument/rename", {**self._place(path, RENAMED), "newName": name})
         changes = (answer.get("result") or {}).get("changes") or {}
@@ -216,7 +216,7 @@ class World:
         return f"{'rename-name' if changes else 'refuse-name'} {path}"
 
     def _place(self, path: str, pattern: re.Pattern = WORD) -> dict:
-        """A place in a word of a buffer, or at its start where it has none."""
+        """A place in a word of a buffer, or its start if it has none."""
         words = list(pattern.finditer(self.buffers[path]))
         at = self.chance.choice(words).start() + self.chance.randrange(2) if words else 0
         before = LINE_BREAK.split(self.buffers[path][:at])
@@ -242,7 +242,7 @@ class World:
         return f"write {path}"
 
     def compare(self, told: str) -> int:
-        """How many faults are shown; an edit after which they differ from the linter's ends the test."""
+        """Returns how many faults are shown; ends the test if they differ from the linter's after an edit."""
         expected = set(reported(self.program, self.mirror))
         found = in_characters(self.editor.diagnostics(), {**self.disk, **self.buffers})
         # Open files and what they call are shown too.
@@ -257,7 +257,7 @@ class World:
 
 
 def applied(text: str, edits: list[dict]) -> str:
-    """A text after edits of an editor, which don't overlap."""
+    """A text after an editor's edits, which don't overlap."""
     starts = [0, *(match.end() for match in LINE_BREAK.finditer(text))]
 
     def offset(position: dict) -> int:

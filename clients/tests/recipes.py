@@ -1,6 +1,6 @@
 #!/usr/bin/env python3
-"""Each step of a workflow that the pages, the repository's workflows or the composite action show and that runs the linter: what a runner
-would take for commands in its output. The texts are run by bash, in a folder whose paths and keys look like commands.
+"""Each step in a workflow on the pages, in the repository's workflows or in the composite action that runs the linter: which lines of its
+output a runner would take for commands. The texts are run by bash, in a folder whose paths and keys look like commands.
 
     recipes.py PROGRAM [NAME...]
 """
@@ -21,7 +21,7 @@ CASES = Cases("recipes")
 FENCED = re.compile(r"^```ya?ml[^\n]*\n(.*?)^```$", re.M | re.S)
 RUN = re.compile(r"^( *)(?:- )?run: (?:\|\n((?:\1   *[^\n]*\n|\n)+)|([^\n|>][^\n]*)\n)", re.M)
 LINTS = re.compile(r"(^|[\s/*])actionlint(-report)?( |$)", re.M)
-# As GitHub's runner reads a line: its newer form begins the line, its older one stands anywhere in it.
+# As GitHub's runner reads a line: the newer form is at its start, the older one anywhere in it.
 COMMAND = re.compile(r"^\s*::(?P<new>[\w-]+)[^:]*(?:::|$)|##\[(?P<old>[\w-]+)")
 STOP = re.compile(r"^::stop-commands::(\S+)$")
 OWN = {"add-matcher", "remove-matcher"}
@@ -34,7 +34,7 @@ CALLS = "jobs:\n  a:\n    runs-on: u\n    steps:\n      - uses: './::set-output 
 
 
 def obeyed(lines: list[str]) -> list[str]:
-    """The commands that a runner obeys in these lines, but for those that stop and resume commands."""
+    """The commands that a runner obeys in these lines, except those that stop and resume commands."""
     found, token = [], None
     for line in lines:
         if token is not None:
@@ -48,7 +48,7 @@ def obeyed(lines: list[str]) -> list[str]:
 
 
 def steps_that_lint() -> dict[str, str]:
-    """The texts under `run` that start the linter, by where they stand."""
+    """The texts under `run` that start the linter, by their origin."""
     pages = [*TOP.glob("*.md"), *(TOP / "docs").glob("*.md"), CLIENTS / "README.md"]
     texts = [(f"{page.name}", block) for page in pages for block in FENCED.findall(page.read_text(encoding="utf-8"))]
     texts += [(path.name, path.read_text(encoding="utf-8")) for path in (TOP / ".github/workflows").glob("*.yml")]
@@ -62,7 +62,7 @@ def steps_that_lint() -> dict[str, str]:
 
 
 def hostile_folder(program: str) -> tempfile.TemporaryDirectory:
-    """A folder of hostile names in which the linter stands wherever a step looks for it."""
+    """A folder with hostile names, in which the linter is wherever a step looks for it."""
     folder = tempfile.TemporaryDirectory(prefix="actionlint-test-")
     write(folder.name, {**HOSTILE, ".github/workflows/b.yml": "on: push\n" + CALLS})
     for path in ("actionlint", "actionlint-1/bin/actionlint", "bin/actionlint"):
@@ -72,7 +72,7 @@ def hostile_folder(program: str) -> tempfile.TemporaryDirectory:
 
 
 def output_of(script: str, folder: str, **variables: str) -> tuple[int, list[str]]:
-    """A step as the runner starts it: the status, and the lines of both streams together."""
+    """Runs a step like the runner; returns the status, and the lines of both streams together."""
     environment = {**os.environ, "PATH": f"{folder}/bin:{os.environ['PATH']}", **variables}
     done = subprocess.run(["bash", "-e", "-c", script], cwd=folder, env=environment, stdout=subprocess.PIPE, stderr=subprocess.STDOUT,
                           check=False)
@@ -81,7 +81,7 @@ def output_of(script: str, folder: str, **variables: str) -> tuple[int, list[str
 
 @CASES.case
 def the_folder_is_hostile(program: str) -> None:
-    """Without the lines around it the report gives the runner commands, on both streams."""
+    """Without the lines around it, the report gives the runner commands, on both streams."""
     with hostile_folder(program) as folder:
         status, lines = output_of("actionlint --oneline", folder)
         assert status == 1 and {"set-output", "add-mask"} <= set(obeyed(lines)), lines
@@ -91,7 +91,7 @@ def the_folder_is_hostile(program: str) -> None:
 
 @CASES.case
 def steps(program: str) -> None:
-    """No step gives a command but its own, and each has the linter's status."""
+    """No step gives commands except its own, and each has the linter's status."""
     found = steps_that_lint()
     assert len(found) >= 2, found.keys()
     with hostile_folder(program) as folder:
@@ -120,7 +120,7 @@ def composite_action(program: str) -> None:
 
 @CASES.case
 def annotations(program: str) -> None:
-    """The form for GitHub gives annotations alone, on both streams."""
+    """The format for GitHub gives only annotations, on both streams."""
     report = shlex.join([sys.executable, str(CLIENTS / "actionlint-report"), "--form", "github", "--program", "actionlint"])
     for files in ("", "-- '##[add-mask]x'"):
         with hostile_folder(program) as folder:

@@ -52,7 +52,7 @@ def new_folder(files: dict[str, str]) -> tempfile.TemporaryDirectory:
 
 @CASES.case
 def names_that_look_like_options(program: str) -> None:
-    """A FILE behind `--` is one, whatever its name."""
+    """What comes after `--` is a FILE, whatever its name."""
     path = "--root=clean/action.yml"
     with new_folder({path: "name: x\n", "clean/" + FILE: RIGHT}) as folder:
         status, text, _ = run(program, folder, "--form", "jsonl", "--", path)
@@ -61,7 +61,7 @@ def names_that_look_like_options(program: str) -> None:
 
 @CASES.case
 def long_messages(program: str) -> None:
-    """A text of a megabyte that holds the fixed parts of messages, or beginnings of faults, takes time linear in it."""
+    """A text of a megabyte that contains the fixed parts of messages, or beginnings of faults, takes time linear in it."""
     for part in ('" is not defined in "', "a:1:1: "):
         text = part * (900_000 // len(part))
         with new_folder({FILE: f"on: push\njobs:\n  a:\n    uses: '{text}'\n"}) as folder:
@@ -72,7 +72,7 @@ def long_messages(program: str) -> None:
 
 @CASES.case
 def many_faults(program: str) -> None:
-    """They are written as they come; SARIF has as many as GitHub takes of a run, and says how many were left out."""
+    """They are written as they arrive; SARIF has as many as GitHub accepts in a run, and says how many were left out."""
     with new_folder({"linter": MANY_FAULTS}) as folder:
         linter = folder + "/linter"
         os.chmod(linter, 0o755)
@@ -103,7 +103,8 @@ def long_lines(program: str) -> None:
 
 @CASES.case
 def characters(program: str) -> None:
-    """JSON has no character that a reader takes for an end of a line or that turns the direction of a text, and text none at all."""
+    """JSON has no character that a reader takes for the end of a line or that changes the direction of text, and the format `text` has none
+    of these characters."""
     hidden = "".join(chr(one) for one in (0x85, 0x9B, 0x2028, 0x2029, 0x202A, 0x202E, 0x2066, 0x2069))
     path = WORKFLOWS + "\u202ea.yml"
     with new_folder({path: 'on: push\njobs: {}\n"a\\x85\\x9b\\u2028\\u2029\\u202a\\u202e\\u2066\\u2069b": 1\n'}) as folder:
@@ -116,7 +117,7 @@ def characters(program: str) -> None:
 
 
 def json_texts(value: object) -> str:
-    """All texts in what JSON holds, one after another."""
+    """All texts inside a JSON value, one after another."""
     if isinstance(value, str):
         return value
     items = value.values() if isinstance(value, dict) else value if isinstance(value, list) else []
@@ -125,7 +126,7 @@ def json_texts(value: object) -> str:
 
 @CASES.case
 def links_in_messages(program: str) -> None:
-    """A key that looks like a link of SARIF is told as text, whose brackets and backslashes have one before them."""
+    """A key that looks like a SARIF link is shown as text: its brackets and backslashes are preceded by a backslash."""
     with new_folder({FILE: 'on: push\njobs: {}\n"[a](https://example.org/)\\\\": 1\n'}) as folder:
         _, text, _ = run(program, folder)
         (one,) = json.loads(text)["runs"][0]["results"]
@@ -137,7 +138,7 @@ def links_in_messages(program: str) -> None:
 
 @CASES.case
 def commands_in_annotations(program: str) -> None:
-    """Whatever a path, a key or standard error holds stands in the text of an annotation, and begins no line."""
+    """Whatever a path, a key or standard error contains is in the text of an annotation, and never begins a line."""
     path = "::set-output name=x::1, 50%/action.yml"
     with new_folder({path: 'name: x\n"##[add-mask]x": 1\n', FILE: RIGHT}) as folder:
         status, text, errors = run(program, folder, "--form", "github", "--", path)
@@ -169,7 +170,7 @@ def programs_that_are_not_the_linter(program: str) -> None:
 
 
 def shell_script(folder: str, text: str) -> str:
-    """A program that stands for the linter."""
+    """A program in place of the linter."""
     write(folder, {"linter": f"#!/bin/sh\n{text}\n"})
     os.chmod(folder + "/linter", 0o755)
     return folder + "/linter"
@@ -177,7 +178,7 @@ def shell_script(folder: str, text: str) -> str:
 
 @CASES.case
 def odd_files_to_write(program: str) -> None:
-    """What is no regular file is neither written nor replaced, nor waited for; no link below the current folder is followed."""
+    """Anything but a regular file is neither written nor replaced, nor waited for; no link below the current folder is followed."""
     with new_folder({FILE: RIGHT, "kept": "old", "elsewhere/kept": "old"}) as folder:
         os.symlink("kept", folder + "/link")
         os.symlink("nowhere", folder + "/loose")
@@ -215,7 +216,7 @@ def closed_or_full_output(program: str) -> None:
 
 @CASES.case
 def closed_or_full_errors(program: str) -> None:
-    """Standard error that takes nothing changes neither the report nor the status."""
+    """Standard error that accepts nothing changes neither the report nor the status."""
     with new_folder(FILES) as folder:
         for words in (["--form", "jsonl", "--ignore", "K1"], ["--form", "jsonl", "--ignore", "X13"], ["no.yml"], ["--bogus"], ["--out", "x"]):
             status, text, _ = run(program, folder, *words)
@@ -235,7 +236,7 @@ def another_locale(program: str) -> None:
 
 @CASES.case
 def the_old_report_stays_whole(program: str) -> None:
-    """A report takes the old one's place at once, and only where it is whole."""
+    """A report replaces the old one at once, and only when it is complete."""
     with new_folder(FILES) as folder:
         out = folder + "/x/faults"
         write(folder, {"x/faults": "old"})
@@ -254,7 +255,7 @@ def the_old_report_stays_whole(program: str) -> None:
 
 @CASES.case
 def output_that_does_not_block(program: str) -> None:
-    """A pipe that is full for a while is waited for, also where writing to it doesn't block."""
+    """The program waits for a pipe that is full for a while, even if it is non-blocking."""
     keys = "".join(f"k{number}: 1\n" for number in range(2_000))
     with new_folder({FILE: "on: push\njobs: {}\n" + keys}) as folder:
         read, written = os.pipe()
@@ -268,7 +269,7 @@ def output_that_does_not_block(program: str) -> None:
 
 @CASES.case
 def signals(program: str) -> None:
-    """They end the program by the signal, without a word, and leave no file."""
+    """They end the program by the signal, without a message, and leave no file."""
     for number in (signal.SIGINT, signal.SIGTERM, signal.SIGHUP):
         end_by(number)
 
@@ -291,7 +292,7 @@ def end_by(number: signal.Signals) -> None:
 
 @CASES.case
 def a_reader_that_goes(program: str) -> None:
-    """One line says that nobody reads the rest, of a report as of an entry; there is no other word of it."""
+    """One line says that nobody reads the rest, of a report as well as of an entry, and nothing else is printed."""
     with tempfile.TemporaryDirectory(prefix="actionlint-test-") as folder:
         write(folder, FILES)
         for words in (["--explain", "X13"], ["--form", "text"], ["--form", "sarif"]):

@@ -1,5 +1,5 @@
 #!/usr/bin/env python3
-"""The forms of actionlint-report for people and for GitHub, what it says of a code, and faults that aren't to count.
+"""The formats of actionlint-report for people and for GitHub, its explanation of a code, and ignored faults.
 
     report_forms.py PROGRAM [NAME...]
 """
@@ -52,7 +52,7 @@ BROKEN = """.github/workflows/release.yml:4:5: unexpected key "branch" [syntax-c
 5 faults in 1 file
 """
 STEP = "on: push\njobs:\n  a:\n    runs-on: ubuntu-latest\n    steps:\n      - "
-# The commonest slips, each with what a person is told first.
+# The most common mistakes, each with the advice shown first.
 ADVICE = {
     'on: {push: {branches: [**/x]}}\n': 'Y18: Text that begins with `*`, such as a branch pattern, needs quotes.',
     "on: push\njobs:\n  a:\n    if: !cancelled()\n": "Y8: Text that begins with `!` needs quotes, such as a pattern",
@@ -94,7 +94,7 @@ def run(program: str, folder: str, *words: str, **variables: str) -> tuple[int, 
 
 @CASES.case
 def text(program: str) -> None:
-    """Each fault has its line, its code, a near name and the repair; the last line has the count. Links lead to the pages."""
+    """Each fault has its line, its code, a similar name and the repair; the last line has the count. Links lead to the pages."""
     broken = str(TOP / "examples/broken")
     assert run(program, broken, "--form", "text") == (1, BROKEN, "")
     status, said, _ = run(program, str(TOP), "--form", "text", "--docs", DOCS, "--root", broken)
@@ -110,7 +110,7 @@ def text(program: str) -> None:
 
 @CASES.case
 def advice(program: str) -> None:
-    """Of the commonest slips the text below the fault's line is the sentence that helps."""
+    """For the most common mistakes, the text below the fault's line is the sentence that helps."""
     with tempfile.TemporaryDirectory(prefix="actionlint-test-") as folder:
         for file, expected in ADVICE.items():
             write(folder, {FILE: file})
@@ -122,7 +122,7 @@ def advice(program: str) -> None:
 
 @CASES.case
 def near_names(program: str) -> None:
-    """The nearest name of a list, unless none is near."""
+    """The most similar name of a list, unless none is similar."""
     with tempfile.TemporaryDirectory(prefix="actionlint-test-") as folder:
         for condition, near in (("sucess()", "success"), ("failed()", "failure"), ("gihub.ref == 'a'", "github"),
                                 ("github.ref == main", None), ("github.event_nam == 'a'", "event_name"), ("zzzzz()", None)):
@@ -134,7 +134,7 @@ def near_names(program: str) -> None:
 
 @CASES.case
 def sentences_of_entries(program: str) -> None:
-    """What is said in place of the first sentence stands in the entry too, and every entry has a sentence."""
+    """What is printed in place of the first sentence is in the entry too, and every entry has a sentence."""
     by_code = {entry.code: plain_text(entry.repair).lower() for entry in entries()}
     for slip in SLIPS:
         assert slip.sentence.lower().removesuffix(".") in by_code[slip.code], slip
@@ -144,7 +144,7 @@ def sentences_of_entries(program: str) -> None:
 
 @CASES.case
 def color(program: str) -> None:
-    """On a terminal, unless NO_COLOR is set; anywhere where it is asked for."""
+    """On a terminal, unless NO_COLOR is set; anywhere if requested."""
     broken = str(TOP / "examples/broken")
     plain = run(program, broken, "--form", "text")[1]
     colored = run(program, broken, "--form", "text", "--color", "always")[1]
@@ -188,7 +188,7 @@ def github(program: str) -> None:
 
 @CASES.case
 def levels(program: str) -> None:
-    """What GitHub itself only warns of is a warning in each form that has levels, and counts as a fault."""
+    """What GitHub itself only warns about is a warning in each format that has levels, and counts as a fault."""
     step = "on: push\njobs:\n  a:\n    runs-on: ubuntu-latest\n    steps:\n      - "
     warned = step + "run: echo '::set-output name=x::y'\n"
     failing = step + "run: echo '::set-env name=x::y'\n"
@@ -222,7 +222,7 @@ def sarif(program: str) -> None:
 
 @CASES.case
 def links_in_json_lines(program: str) -> None:
-    """Each has the address of its entry where that of the pages is given."""
+    """Each has the address of its entry if that of the pages is given."""
     for words, expected in ((["--docs", DOCS], f"{DOCS}/FAULTS.md#k1-unexpected-key-0"), ([], None)):
         _, said, _ = run(program, str(TOP / "examples/broken"), "--form", "jsonl", *words)
         assert json.loads(said.splitlines()[0])["link"] == expected, said
@@ -230,7 +230,7 @@ def links_in_json_lines(program: str) -> None:
 
 @CASES.case
 def explain(program: str) -> None:
-    """The entry of a code; another text is a wrong word."""
+    """The entry of a code; any other text is a wrong argument."""
     status, said, errors = run(program, "/", "--explain", "x13")
     assert (status, errors) == (0, "") and said.startswith('X13: property ".." is not defined\n\n'), said
     assert "\n\nRepair: Write a property" in said and "\n    on: push\n" in said and "```" not in said and "](" not in said, said
@@ -240,7 +240,7 @@ def explain(program: str) -> None:
 
 @CASES.case
 def ignored_faults(program: str) -> None:
-    """They don't count, in the status neither, and are counted; a wrong rule or a file of rules that isn't there ends the run."""
+    """They don't count, not even for the status, but their number is shown; a wrong rule or a missing file of rules ends the run."""
     with tempfile.TemporaryDirectory(prefix="actionlint-test-") as folder:
         write(folder, {**FILES, WORKFLOWS + "b.yml": FILES[FILE], "kept": f"\ufeff# known\r\n\nC3\r\n  X13:{FILE}\n"})
         for words, status, count in (
@@ -253,7 +253,7 @@ def ignored_faults(program: str) -> None:
             assert (found, said.splitlines()[-1]) == (status, count), (words, said)
         found, said, errors = run(program, folder, "--form", "jsonl", "--ignore-file", "kept")
         assert (found, errors) == (1, "actionlint-report: 1 fault in 1 file, 2 ignored\n") and len(said.splitlines()) == 1, (said, errors)
-        # A run that could not go on is told as one, whatever is ignored.
+        # A run that could not go on is reported as such, whatever is ignored.
         assert run(program, folder, "--ignore", "X13", "no.yml")[0] == 3
         for words, why in ((["--ignore", "X99"], "'X99' is no code"), (["--ignore", "expression"], "is no code"), (["--ignore", "X13:"], "names no file"),
                            (["--ignore-file", "none"], "cannot read none: No such file")):
@@ -263,7 +263,7 @@ def ignored_faults(program: str) -> None:
 
 @CASES.case
 def without_libraries(program: str) -> None:
-    """Reports need python3 alone."""
+    """Reports need only python3."""
     with tempfile.TemporaryDirectory(prefix="actionlint-test-") as folder:
         for module in ("yaml", "pylsp_jsonrpc"):
             Path(folder, f"{module}.py").write_text("raise ImportError\n", encoding="utf-8")

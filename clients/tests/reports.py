@@ -1,5 +1,5 @@
 #!/usr/bin/env python3
-"""The forms of reports of folders, the examples where none is named: the faults are those of the linter, at their characters.
+"""The report formats on folders, by default the examples: the faults are those of the linter, at their characters.
 
     reports.py PROGRAM [FOLDER...]
 """
@@ -36,7 +36,7 @@ def escaped(message: str) -> str:
 
 
 def compare(program: str, folder: str) -> None:
-    """Both forms of a folder's report with what the linter prints of it."""
+    """Compares both formats of a folder's report with what the linter prints."""
     expected = reported(program, os.fsencode(folder))
     status, text, _ = run(program, "sarif", "--root", folder)
     log = json.loads(text)
@@ -60,7 +60,7 @@ def compare(program: str, folder: str) -> None:
 
 @CASES.case
 def folders(program: str) -> None:
-    """Those of the words, or the examples."""
+    """The folders given as arguments, otherwise the examples."""
     assert FOLDERS or EXAMPLES
     for folder in FOLDERS or EXAMPLES:
         compare(program, folder)
@@ -68,7 +68,7 @@ def folders(program: str) -> None:
 
 @CASES.case
 def code_quality(program: str) -> None:
-    """GitLab's form has all faults; fingerprints stay where lines move, and of equal faults no two are the same."""
+    """GitLab's format has all faults; fingerprints stay the same when lines move, and no two equal faults have the same."""
     with tempfile.TemporaryDirectory(prefix="actionlint-test-") as folder:
         twice = FILES[FILE] + "      - run: echo ${{ github.reff }}\n"
         prints = []
@@ -88,7 +88,7 @@ def code_quality(program: str) -> None:
 
 @CASES.case
 def characters(program: str) -> None:
-    """Columns are characters, also behind those of two UTF-16 units and of four bytes; names are escaped in addresses."""
+    """Columns are characters, also after those of two UTF-16 units and of four bytes; names are escaped in addresses."""
     with tempfile.TemporaryDirectory(prefix="actionlint-test-") as folder:
         path = WORKFLOWS + "é 1%.yml"
         write(folder, {path: FILES[FILE].replace("echo", "\U0001F600é")})
@@ -107,7 +107,7 @@ def characters(program: str) -> None:
 
 @CASES.case
 def runs_that_cannot_go_on(program: str) -> None:
-    """The status is the linter's, and SARIF tells it; without a linter there is no report."""
+    """The status is the linter's, and SARIF reports it; without a linter there is no report."""
     status, text, errors = run(program, "sarif", "--root", "/nonexistent")
     (found,) = json.loads(text)["runs"]
     assert status == 3 and errors.startswith(b"actionlint: cannot read"), (status, errors)

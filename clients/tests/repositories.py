@@ -1,4 +1,4 @@
-"""Small repositories for the tests, and what the linter itself says of them."""
+"""Small repositories for the tests, and what the linter itself reports for them."""
 from __future__ import annotations
 
 import os
@@ -56,7 +56,7 @@ def write(root: str, files: dict[str, str]) -> None:
 
 
 def git(root: str, *words: str, status: int = 0, environment: dict | None = None) -> str:
-    """Runs git, and answers what it said. If the test runs in a hook of git, that hook's repository is none of its business."""
+    """Runs git; returns what it printed. If the test runs in a git hook, that hook's repository isn't used."""
     given = {name: value for name, value in (environment or os.environ).items() if name not in OF_A_HOOK}
     done = subprocess.run(["git", "-c", "user.name=t", "-c", "user.email=t@t", "-c", "init.defaultBranch=main", *words], cwd=root,
                           stdout=subprocess.PIPE, stderr=subprocess.STDOUT, env=given, check=False)
@@ -66,7 +66,7 @@ def git(root: str, *words: str, status: int = 0, environment: dict | None = None
 
 
 def new_folder(files: dict[str, str]) -> str:
-    """A repository of git with these files, below a folder of its own whose name is not ASCII."""
+    """A git repository with these files, in a folder of its own whose name isn't ASCII."""
     root = os.path.join(tempfile.mkdtemp(prefix="actionlint-test-"), "répo")
     write(root, files)
     git(root, "init", "-q")
@@ -77,7 +77,7 @@ def new_folder(files: dict[str, str]) -> str:
 
 def reported(program: str, root: bytes, files: list[str] = ()) -> list[tuple]:
     """(path, line, column, message with kind) of each fault that the linter prints."""
-    # The folder is the current one, since the word behind --root must be UTF-8 and its name need not.
+    # The folder is the current one, since the argument of --root must be UTF-8 and its name need not be.
     done = subprocess.run([program, "--oneline", *files], cwd=root, stdout=subprocess.PIPE, stderr=subprocess.PIPE, check=False)
     assert done.returncode in (0, 1), f"status {done.returncode}: {done.stderr!r}"
     found = [FAULT.fullmatch(line) for line in done.stdout.decode().split("\n")[:-1]]

@@ -1,5 +1,5 @@
 #!/usr/bin/env python3
-"""Notes of shellcheck: each at its place in the file, whatever the scalar that its script stands in. Needs Debian's shellcheck and
+"""Notes of shellcheck: each is at its place in the file, whatever the kind of scalar around its script. Needs Debian's shellcheck and
 python3-yaml.
 
     shellcheck_notes.py PROGRAM [NAME...]
@@ -21,7 +21,7 @@ from actionlint_client.scripts import NotRead, Script, scripts_and_calls, withou
 CASES = Cases("shellcheck")
 REPORT = str(CLIENTS / "actionlint-report")
 STEPS = "on: push\njobs:\n  a:\n    runs-on: ubuntu-latest\n    steps:\n"
-# Steps, and where a note stands that a variable lacks its quotes (SC2086), counted by hand: below STEPS the first line is 6.
+# Steps, and the place of a note about a variable without quotes (SC2086), counted by hand: the first line below STEPS is 6.
 PLACES = {
     "plain": ('      - run: echo ${{ github.sha }} "é😀" $x\n', (6, 42)),
     "plain over lines": ("      - run: echo\n          a\n\n          echo $x\n", (9, 16)),
@@ -40,7 +40,7 @@ PLACES = {
     "an anchor of a name that was used": ("      - run: &r echo a\n      - run: &r echo $x\n", (7, 22)),
     "an alias of a block": ("      - run: &r |\n          echo $x\n      - run: *r\n", (7, 16)),
 }
-# Jobs and steps, and the shell of their script; None where shellcheck isn't asked.
+# Jobs and steps, and the shell of their script; None if shellcheck isn't run.
 SHELLS = {
     "  a:\n    runs-on: ubuntu-latest\n    steps:\n      - run: x\n": "bash",
     "  a:\n    runs-on: windows-latest\n    steps:\n      - run: x\n": None,
@@ -63,7 +63,7 @@ def run(program: str, folder: str, *words: str) -> tuple[int, list[dict], str]:
 
 @CASES.case
 def places(program: str) -> None:
-    """Through each kind of scalar, and behind characters of several bytes."""
+    """In each kind of scalar, and after multibyte characters."""
     with tempfile.TemporaryDirectory(prefix="actionlint-test-") as folder:
         for what, (steps, place) in PLACES.items():
             write(folder, {FILE: STEPS + steps})
@@ -77,7 +77,7 @@ def places(program: str) -> None:
 
 
 def check_script(text: str, script: Script) -> None:
-    """Each character of a script, blanks aside, stands where it is said to stand, unless an escape or an expression is written there."""
+    """Each character of a script, except blanks, is at the place computed for it, unless an escape or an expression is written there."""
     assert len(script.offsets) == len(script.text) + 1 and script.offsets == sorted(script.offsets), script
     for character, offset in zip(script.text, script.offsets):
         assert character.isspace() or text[offset] == character or character == "x" or text[offset] in "\\'", (character, offset, script)
@@ -85,7 +85,7 @@ def check_script(text: str, script: Script) -> None:
 
 @CASES.case
 def every_character(program: str) -> None:
-    """Of all scripts of the examples and of the files of the cases above."""
+    """In all scripts of the examples and of the files of the cases above."""
     texts = [path.read_text(encoding="utf-8") for path in Path(TOP / "examples").rglob("*.yml")]
     texts += [STEPS + steps for steps, _ in PLACES.values()]
     scripts = [(text, script) for text in texts for script in scripts_and_calls(text)[0]]
@@ -107,14 +107,14 @@ def shells(program: str) -> None:
 
 @CASES.case
 def expressions(program: str) -> None:
-    """Words of the same length stand for them; braces in quotes don't end them, and what has no end stays."""
+    """Words of the same length replace them; braces in quotes don't end them, and an unclosed one stays."""
     assert without_expressions("a${{ b }}c ${{ '}}' }}${{ d") == "axxxxxxxxc " + "x" * 11 + "${{ d"
     assert without_expressions("${{ a\nb }}") == "x" * 10
 
 
 @CASES.case
 def files_that_are_called(program: str) -> None:
-    """What the workflows call is looked at too, in each shell, by its own notes; a file that the linter can't read is passed over."""
+    """What the workflows call is checked too, in each shell, with its own notes; a file that the linter can't read is skipped."""
     action = "name: a\ndescription: b\nruns:\n  using: composite\n  steps:\n    - run: echo $x\n      shell: sh\n"
     with tempfile.TemporaryDirectory(prefix="actionlint-test-") as top:
         folder = top + "/repository"
@@ -138,7 +138,7 @@ def files_that_are_called(program: str) -> None:
 
 @CASES.case
 def a_file_that_only_a_job_names(program: str) -> None:
-    """The linter doesn't read it, so it may hold anything."""
+    """The linter doesn't read it, so it may contain anything."""
     with tempfile.TemporaryDirectory(prefix="actionlint-test-") as folder:
         for text in ("[" * 100_000, "- " * 100_000, "{a: " * 100_000):
             write(folder, {FILE: "on: push\njobs:\n  a:\n    uses: ./b/c.yml\n", "b/c.yml": text})
@@ -148,7 +148,7 @@ def a_file_that_only_a_job_names(program: str) -> None:
 
 @CASES.case
 def off_unless_asked_for(program: str) -> None:
-    """And where shellcheck isn't there, the run doesn't pass for one without notes."""
+    """And if shellcheck is missing, the run doesn't pass for one without notes."""
     with tempfile.TemporaryDirectory(prefix="actionlint-test-") as folder:
         write(folder, {FILE: STEPS + PLACES["plain"][0]})
         done = subprocess.run([sys.executable, REPORT, "--program", program, "--form", "text"], cwd=folder, stdout=subprocess.PIPE,
@@ -164,7 +164,7 @@ def off_unless_asked_for(program: str) -> None:
 
 @CASES.case
 def another_program(program: str) -> None:
-    """A shellcheck that prints something else than notes ends the run with status 3 and one line."""
+    """A shellcheck that prints something other than notes ends the run with status 3 and one line."""
     with tempfile.TemporaryDirectory(prefix="actionlint-test-") as folder:
         write(folder, {FILE: STEPS + PLACES["plain"][0]})
         for said, status in (("", 3), ("nonsense", 0), ("[]", 0), ("{}", 0)):

@@ -3,8 +3,8 @@
 
     snippets.py PROGRAM [NAME...]
 
-Each runs as its page says, with a PATH on which there is no linter and nothing of the kit: in a clone in which nothing was built and which
-carries PROGRAM, in the same clone as a user who can't write to it, and as such a user in a release that was unpacked.
+Each runs as its page says, with a PATH that has neither the linter nor the kit: in a clone in which nothing was built and which carries
+PROGRAM, in the same clone as a user who can't write to it, and as such a user in an unpacked release.
 """
 from __future__ import annotations
 
@@ -28,7 +28,7 @@ PAGES = ("README.md", "docs/EDITORS.md", "docs/CI.md", "docs/COMMAND-LINE.md")
 FENCED = re.compile(r"(?:<!-- (?:run: ([\w-]+)|(not run)) -->\n)?^```\w+(?: file=\S+)?\n(.*?)^```$", re.M | re.S)
 SECONDS = 60
 EXPRESSION = re.compile(r"\$\{\{ ([\w.]+) \}\}")
-# What each editor does behind its snippet: opens the file, waits for the fault, and writes its messages.
+# What each editor does after its snippet: opens the file, waits for the fault, and writes its messages.
 LUA = """
 vim.cmd('filetype on')
 vim.cmd('edit ' .. os.getenv('FILE'))
@@ -68,7 +68,7 @@ qall!
 
 
 def snippets() -> dict[str, list[str]]:
-    """The snippets by their names."""
+    """The snippets by name."""
     found: dict[str, list[str]] = {}
     for page in PAGES:
         text = (TOP / page).read_text(encoding="utf-8")
@@ -80,12 +80,12 @@ def snippets() -> dict[str, list[str]]:
 
 
 def of_page(name: str, place: Place) -> list[str]:
-    """The snippets of a name, for a place. Two pages may show one."""
+    """The snippets with a name, for a place. Two pages may have the same one."""
     return [text.replace(ANYWHERE, str(place.folder)) for text in snippets()[name]]
 
 
 def messages_in(words: list[str], place: Place, files: dict[str, str]) -> list[str]:
-    """What an editor shows of the file with the fault. `{}` in the words is the folder of `files`, its configuration."""
+    """What an editor shows for the file with the fault. `{}` in the arguments is the folder of `files`, its configuration."""
     with place.repository(FILES) as room:
         write(room.top, {f"configuration/{name}": text for name, text in files.items()})
         environment = {**room.environment, "FILE": os.path.join(room.root, FILE), "OUT": room.top + "/out", "LC_ALL": "C.UTF-8"}
@@ -118,7 +118,7 @@ def ale(place: Place) -> None:
 
 
 def made(place: Place, script: str) -> list[str]:
-    """What :make puts into the quickfix list behind a script."""
+    """What :make puts into the quickfix list after a script."""
     return messages_in(["vim.nox", "-Nes", "-u", "NONE", "-S", "{}/make.vim"], place, {"make.vim": script + "silent make!\n" + QUICKFIX})
 
 
@@ -131,7 +131,7 @@ def make(place: Place) -> None:
 
 @in_each_clone(CASES)
 def workflow(place: Place) -> None:
-    """The one of clients/github. Like any other its steps are those of the action, and it has no fault."""
+    """The one in clients/github. Like any other, its steps are those of the action, and it has no fault."""
     (text,) = snippets()["workflow"]
     assert text == (CLIENTS / "github/example.yml").read_text(encoding="utf-8")
     run_workflow(place, text)
@@ -149,7 +149,7 @@ def scanning(place: Place) -> None:
 
 @CASES.case
 def archive(program: str) -> None:
-    """Its steps are run by tests/release.py; here it has no fault."""
+    """tests/release.py runs its steps; here it has no fault."""
     (text,) = snippets()["archive"]
     with tempfile.TemporaryDirectory(prefix="actionlint-test-") as root:
         write(root, {WORKFLOWS + "lint.yml": text})
@@ -174,7 +174,7 @@ def run_workflow(place: Place, text: str, uploaded: str | None = None) -> None:
 
 
 def run_action(place: Place, room: Room, inputs: dict[str, str]) -> tuple[int, str]:
-    """Runs the one step of the action as a runner does, with the clone as the folder into which it got the action."""
+    """Runs the only step of the action like a runner, with the clone as the folder into which the action was downloaded."""
     action = yaml.safe_load((place.folder / "action.yml").read_text(encoding="utf-8"))
     (step,) = action["runs"]["steps"]
     values = {f"inputs.{name}": inputs.get(name, one["default"]) for name, one in action["inputs"].items()}
@@ -191,7 +191,7 @@ def run_action(place: Place, room: Room, inputs: dict[str, str]) -> tuple[int, s
 
 
 def run_lines(place: Place, name: str, room: Room, *replaced: tuple[str, str]) -> list[int]:
-    """Runs the lines of a snippet, or the commands of its `script`, and answers their statuses."""
+    """Runs the lines of a snippet, or the commands of its `script`; returns their statuses."""
     (text,) = of_page(name, place)
     for old, new in replaced:
         text = text.replace(old, new)
@@ -261,7 +261,7 @@ def git_hook(place: Place) -> None:
 
 @in_each_place(CASES)
 def tasks(place: Place) -> None:
-    """The command of the task; editor_details.py reads its output by the matcher."""
+    """The command of the task; editor_details.py parses its output with the matcher."""
     (text,) = of_page("tasks", place)
     (task,) = json.loads(text)["tasks"]
     with place.repository(FILES) as room:
@@ -270,7 +270,7 @@ def tasks(place: Place) -> None:
 
 @in_each_clone(CASES)
 def recipe(place: Place) -> None:
-    """A step that stops commands around the report; tests/recipes.py has what a report can hold."""
+    """A step that stops commands around the report; tests/recipes.py shows what a report can contain."""
     (text,) = of_page("recipe", place)
     (step,) = yaml.safe_load(text)
     with place.repository({**FILES, "step.sh": step["run"]}) as room:
@@ -285,7 +285,7 @@ def recipe(place: Place) -> None:
 
 @CASES.case
 def matcher(_: str) -> None:
-    """The one of clients/github, which matcher.js and tests/command_line_page.py apply."""
+    """The one in clients/github, which matcher.js and tests/command_line_page.py apply."""
     (text,) = snippets()["matcher"]
     assert text == (CLIENTS / "github/matcher.json").read_text(encoding="utf-8")
 

@@ -23,7 +23,7 @@ LEAST_LINES = 1_000
 
 
 def printed_lines() -> list[bytes]:
-    """The fault lines of the outputs that the cases and the examples should have."""
+    """The lines with faults in the expected outputs of the cases and the examples."""
     files = [*sorted((TOP / "tests/cases").rglob("*.stdout")), *sorted((TOP / "examples").glob("*.oneline"))]
     return [line for file in files for line in FAULT_LINE.findall(file.read_bytes())]
 
@@ -36,7 +36,7 @@ def made_anew(program: str) -> None:
 
 @CASES.case
 def every_code(program: str) -> None:
-    """The codes are those that the linter's code names."""
+    """The codes are those in the linter's code."""
     codes = CODE.findall((TOP / "crates/al_base/src/codes.rt").read_text(encoding="utf-8"))
     assert codes and sorted(codes) == sorted(entry.code for entry in entries.entries()), codes
     assert all(entry.text and entry.why and entry.repair for entry in entries.entries())
@@ -44,7 +44,7 @@ def every_code(program: str) -> None:
 
 @CASES.case
 def one_entry_each(program: str) -> None:
-    """Each printed message is made from exactly one entry, and each entry is seen."""
+    """Each printed message comes from exactly one entry, and each entry occurs."""
     lines = printed_lines()
     assert len(lines) >= LEAST_LINES, len(lines)
     seen = set()
@@ -59,7 +59,7 @@ def one_entry_each(program: str) -> None:
 
 @CASES.case
 def fixes_have_lists(program: str) -> None:
-    """Each fault with a near name has an argument and a list, and each list is used."""
+    """Each fault about a similar name has an argument and a list, and each list is used."""
     by_code = {entry.code: entry for entry in entries.entries()}
     assert all("{0}" in by_code[code].message for code in names.LISTS)
     assert set(names.LISTS.values()) == set(names.names())
@@ -68,7 +68,7 @@ def fixes_have_lists(program: str) -> None:
 
 @CASES.case
 def every_name_has_a_meaning(program: str) -> None:
-    """Each key by its section, and each name of a list; and no name that isn't there has one."""
+    """Each key by its section, and each name of a list; and no other name has one."""
     table, lists = syntax.table(), names.names()
     wanted = {shape["section"]: set(shape["keys"]) for shape in table["shapes"].values() if shape.get("section")}
     fixed = {f"properties of {context}": set(found["properties"]) for context, found in table["contexts"].items()}
@@ -83,7 +83,7 @@ def every_name_has_a_meaning(program: str) -> None:
 
 @CASES.case
 def shapes_are_known(program: str) -> None:
-    """Each shape that a shape leads to is one, and the sections are those of docs/LISTS.md with those that aren't checked."""
+    """Each shape that a shape refers to exists, and the sections are those of docs/LISTS.md and the unchecked ones."""
     shapes = syntax.table()["shapes"]
     for name, shape in shapes.items():
         below = [shape["items"], shape["free"], *(row["shape"] for row in shape.get("keys", {}).values())]

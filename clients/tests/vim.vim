@@ -14,7 +14,7 @@ execute 'source ' . s:clients . '/vim/ale.vim'
 
 let s:steps = []
 
-" ALE 3.3 takes the protocol's columns, which are UTF-16 units, for Vim's, which are bytes: behind other characters than ASCII its marks
+" ALE 3.3 takes the protocol's columns, which are UTF-16 units, for Vim's, which are bytes: after non-ASCII characters its marks
 " stand too far to the left or right. Here they are read as what they are.
 function! s:characters(line, column) abort
   let units = 0

@@ -174,7 +174,7 @@ WRONG_VERSIONS = {name: WrongVersion(*row) for name, *row in (
 
 
 def edited_copy(version: WrongVersion, top: str) -> Path:
-    """A repository with the wrong version of the clients, and the rest as it is."""
+    """A repository with the mutated clients, and everything else unchanged."""
     for name in ("docs", "examples", "tests"):
         (Path(top) / name).symlink_to(CLIENTS.parent / name)
     copy = Path(top) / "clients"
@@ -189,7 +189,7 @@ def edited_copy(version: WrongVersion, top: str) -> Path:
 
 
 def is_refused(version: WrongVersion, program: str) -> bool:
-    """Whether the test fails by what it asserts, and not by something else."""
+    """Whether the test fails by an assertion, and not by something else."""
     script, *words = version.test.split()
     with tempfile.TemporaryDirectory(prefix="actionlint-test-") as top:
         copy = edited_copy(version, top)
@@ -207,7 +207,7 @@ def line_of(name: str, program: str) -> str:
 
 
 def main(words: list[str]) -> int:
-    # Side by side, since most of them wait.
+    # In parallel, since they mostly wait.
     with ThreadPoolExecutor(max_workers=SIDE_BY_SIDE) as pool:
         lines = list(pool.map(line_of, words[1:] or WRONG_VERSIONS, itertools.repeat(os.path.abspath(words[0]))))
     print("\n".join(lines))
