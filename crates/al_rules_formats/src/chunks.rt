@@ -81,21 +81,6 @@ fn short_text(bytes: &[u8]) -> Option<&str>
     }
 }
 
-/// Whether a text is one chunk.
-fn has_lone_chunk(alloc: Global, around: Around, text: &str) -> Result<bool, AllocError>
-    requires { is_short text.now ≡ true }
-    ensures { IfOk result (λ r. r ≡ lone_chunk around text.now) }
-{
-    let (found, fault) = chunks(alloc, text)?;
-    if fault.is_some() {
-        return Ok(false);
-    }
-    match found.as_slice() {
-        [chunk] => Ok(stands_alone(around, text.as_bytes(), chunk.span)),
-        _ => Ok(false),
-    }
-}
-
 /// Whether a text is one expression, `${{ .. }}`, with only what is allowed outside its braces.
 ///
 /// `false` for a text of more than 4,194,304 bytes or that isn't UTF-8: no file has such a text. Fails with `AllocError` when out of
@@ -103,8 +88,15 @@ fn has_lone_chunk(alloc: Global, around: Around, text: &str) -> Result<bool, All
 pub fn is_lone_chunk(alloc: Global, around: Around, text: &[u8]) -> Result<bool, AllocError>
     ensures { IfOk result (λ r. r ≡ lone_chunk around text.now) }
 {
-    match short_text(text) {
-        Some(text) => has_lone_chunk(alloc, around, text),
-        None => Ok(false),
+    let Some(text) = short_text(text) else {
+        return Ok(false);
+    };
+    let (found, fault) = chunks(alloc, text)?;
+    if fault.is_some() {
+        return Ok(false);
+    }
+    match found.as_slice() {
+        [chunk] => Ok(stands_alone(around, text.as_bytes(), chunk.span)),
+        _ => Ok(false),
     }
 }

@@ -2,7 +2,6 @@
 
 ghost use Rattle.al_expr_grammar.specs.Tokens.{begins_name, goes_on_name};
 ghost use Rattle.al_rules_formats.specs.Names.{is_id as id, is_variable as variable, is_variable_byte};
-ghost use Rattle.std.specs.List.{list_all};
 ghost use Rattle.std.specs.Prelude.{◌≡◌};
 
 /// Whether an id can begin with a byte.
@@ -19,19 +18,12 @@ fn continues(byte: u8) -> bool
     begins(byte) || byte.is_ascii_digit() || byte == b'-'
 }
 
-/// Whether all of some bytes may.
-fn all_continue(bytes: &[u8]) -> bool
-    ensures { result ≡ list_all goes_on_name bytes.now }
-{
-    bytes.iter().all(|byte| continues(*byte))
-}
-
 /// Whether a text is an id of a job or a step: an ASCII letter or `_`, then ASCII letters, digits, `_` and `-`.
 pub fn is_id(text: &[u8]) -> bool
     ensures { result ≡ id text.now }
 {
     match text {
-        [first, rest @ ..] => begins(*first) && all_continue(rest),
+        [first, rest @ ..] => begins(*first) && rest.iter().all(|byte| continues(*byte)),
         [] => false,
     }
 }
@@ -43,19 +35,9 @@ fn may_name(byte: u8) -> bool
     !matches!(byte, b' ' | b'=' | b'&')
 }
 
-/// Whether all of some bytes may.
-fn may_all_name(bytes: &[u8]) -> bool
-    ensures { result ≡ list_all is_variable_byte bytes.now }
-{
-    bytes.iter().all(|byte| may_name(*byte))
-}
-
 /// Whether a text is the name of an environment variable: it isn't empty, and has no space, `=` or `&`.
 pub fn is_variable(text: &[u8]) -> bool
     ensures { result ≡ variable text.now }
 {
-    match text {
-        [] => false,
-        [_, ..] => may_all_name(text),
-    }
+    !text.is_empty() && text.iter().all(|byte| may_name(*byte))
 }

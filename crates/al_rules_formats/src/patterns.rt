@@ -3,9 +3,7 @@
 ghost use Rattle.al_rules_formats.specs.Patterns.{are_items_from, after_not as without_not, has_barred as barred, is_barred};
 ghost use Rattle.al_rules_formats.specs.Patterns.{is_pattern as pattern, is_right};
 ghost use Rattle.al_rules_formats.specs.Private.PatternStates.{outside as outside_class, read as read_one};
-ghost use Rattle.std.specs.List.{list_any, starts_with};
-ghost use Rattle.std.specs.Prelude.{◌≡◌, codes, false, nat_eq, IfOk};
-ghost use Rattle.std.specs.Str.{chars};
+ghost use Rattle.std.specs.Prelude.{◌≡◌, false, IfOk};
 
 use std::alloc::{AllocError, Global};
 
@@ -95,13 +93,6 @@ fn after_not(characters: &[char]) -> &[char]
     }
 }
 
-/// Whether a path begins with `./`.
-fn is_relative(characters: &[char]) -> bool
-    ensures { result ≡ starts_with nat_eq characters.now (codes "./") }
-{
-    matches!(characters, ['.', '/', ..])
-}
-
 /// Whether filters of branches and tags can't have a character.
 fn is_barred_character(c: char) -> bool
     ensures { result ≡ is_barred c }
@@ -109,20 +100,13 @@ fn is_barred_character(c: char) -> bool
     matches!(c, ' ' | '~' | '^' | ':')
 }
 
-/// Whether one of these characters is such.
-fn has_barred_character(characters: &[char]) -> bool
-    ensures { result ≡ list_any is_barred characters.now }
-{
-    characters.iter().any(|c| is_barred_character(*c))
-}
-
 /// Whether a filter has something that filters of its kind can't have.
 fn has_barred(filter: Filter, characters: &[char]) -> bool
     ensures { result ≡ barred filter characters.now }
 {
     match filter {
-        Filter::Names => has_barred_character(characters),
-        Filter::Paths => is_relative(after_not(characters)),
+        Filter::Names => characters.iter().any(|c| is_barred_character(*c)),
+        Filter::Paths => matches!(after_not(characters), ['.', '/', ..]),
     }
 }
 
@@ -133,17 +117,6 @@ fn is_right_pattern(filter: Filter, characters: &[char]) -> bool
     !has_barred(filter, characters) && (are_items(characters) || are_items(after_not(characters)))
 }
 
-/// The characters of a text. Fails with `AllocError` when out of memory.
-fn characters_of(alloc: Global, text: &str) -> Result<Vec<char>, AllocError>
-    ensures { IfOk result (λ v. v.items ≡ chars text.now) }
-{
-    let mut characters = Vec::new(alloc);
-    for c in text.chars() {
-        characters.push(c)?;
-    }
-    Ok(characters)
-}
-
 /// Whether a text is a filter pattern: an optional `!`, then one or more items, without what filters of this kind can't have.
 ///
 /// Bytes that aren't UTF-8 are read as U+FFFD. Fails with `AllocError` when out of memory.
@@ -151,6 +124,6 @@ pub fn is_pattern(alloc: Global, filter: Filter, text: &[u8]) -> Result<bool, Al
     ensures { IfOk result (λ r. r ≡ pattern filter text.now) }
 {
     let text = String::from_utf8_lossy(alloc, text)?;
-    let characters = characters_of(alloc, text.as_str())?;
+    let characters: Vec<char> = text.as_str().chars().collect(alloc)?;
     Ok(is_right_pattern(filter, characters.as_slice()))
 }

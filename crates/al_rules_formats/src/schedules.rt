@@ -1,18 +1,15 @@
 //! Schedules: five fields, each a set of numbers (GitHub, "Events that trigger workflows", `schedule`).
 
-ghost use Rattle.al_rules_formats.specs.Schedules.{collect_all, from_to as numbers_from_to, head_of, items_of_field};
+ghost use Rattle.al_rules_formats.specs.Schedules.{from_to as numbers_from_to, head_of, items_of_field, item_parts, minute_set};
 ghost use Rattle.al_rules_formats.specs.Schedules.{is_field as field_is_right, is_just_below, is_too_often as too_often};
-ghost use Rattle.al_rules_formats.specs.Schedules.{item_parts, minute_set};
-ghost use Rattle.al_rules_formats.specs.Schedules.{day_names, minutes_in, month_names, number_in as in_range_number, written_number};
+ghost use Rattle.al_rules_formats.specs.Schedules.{day_names, month_names, number_in as in_range_number, written_number};
 ghost use Rattle.al_rules_formats.specs.Schedules.{picks as item_picks};
 ghost use Rattle.al_rules_formats.specs.Schedules.{range, schedule_of, schedule_value, words};
 ghost use Rattle.al_rules_formats.specs.Texts.{pieces};
 ghost use Rattle.al_base.specs.Ascii.{ascii};
-ghost use Rattle.al_rules_formats.specs.Private.Views.{least_thousand, range_of, range_name};
-ghost use Rattle.al_base.specs.Names.{same_name};
-ghost use Rattle.std.specs.List.{list_any, filter};
-ghost use Rattle.std.specs.Map.{lookup};
-ghost use Rattle.std.specs.Prelude.{◌≡◌, ◌<◌, ◌≤◌, ◌+◌, ◌*◌, ◌&&◌, [], ◌∷◌, ◌++◌, map, length, nat_lt, option_map, IfOk, OnOk};
+ghost use Rattle.al_rules_formats.specs.Private.Views.{least_thousand, range_of};
+ghost use Rattle.std.specs.List.{list_any};
+ghost use Rattle.std.specs.Prelude.{◌≡◌, ◌<◌, ◌&&◌, [], ◌∷◌, map, option_map, IfOk};
 
 use crate::texts::split;
 use al_base::is_same_name;
@@ -161,19 +158,9 @@ fn number(text: &[u8]) -> Option<u32>
         if !byte.is_ascii_digit() {
             return None;
         }
-        number = at_most_thousand(number, *byte - b'0');
+        number = (number * 10 + u32::from(*byte - b'0')).min(1_000);
     }
     Some(number)
-}
-
-/// A number with one more digit, at most 1,000.
-fn at_most_thousand(number: u32, digit: u8) -> u32
-    requires { number ≤ 1000 }
-    ensures value { result ≡ least_thousand (number * 10 + digit) }
-    ensures small { result ≤ 1000 }
-{
-    let next = number * 10 + digit as u32;
-    if next < 1_000 { next } else { 1_000 }
 }
 
 /// The number that these digits are, if it is in the range.
@@ -189,27 +176,17 @@ fn number_in(low: u32, high: u32, text: &[u8]) -> Option<u32>
     }
 }
 
-/// The number that a name stands for.
-fn named_number(names: &[Name], text: &[u8]) -> Option<u32>
-    ensures { result ≡ lookup (same_name text.now) (map range_name names.now) }
-{
-    for name in names {
-        if is_same_name(text, name.name.as_bytes()) {
-            return Some(name.number);
-        }
-    }
-    None
-}
-
-/// The number that a value of a field is.
+/// The number that a value of a field is: a name's, or one in its range.
 fn value(range: Range, text: &[u8]) -> Option<u32>
     requires { range.high < 1000 }
     ensures { result ≡ schedule_value (range_of range) text.now }
 {
-    match named_number(range.names, text) {
-        Some(number) => Some(number),
-        None => number_in(range.low, range.high, text),
+    for name in range.names {
+        if is_same_name(text, name.name.as_bytes()) {
+            return Some(name.number);
+        }
     }
+    number_in(range.low, range.high, text)
 }
 
 /// The numbers from one to another in steps, unless the second is lower.
@@ -288,18 +265,8 @@ fn field(alloc: Global, range: Range, text: &[u8]) -> Result<Option<Vec<Item>>, 
     ensures { IfOk result (λ r. option_map (λ v. v.items) r ≡ items_of_field (range_of range) text.now) }
 {
     let parts = split(alloc, text, b',')?;
-    items_of(alloc, range, parts.as_slice())
-}
-
-/// The items that these texts are, if all are valid.
-fn items_of(alloc: Global, range: Range, parts: &[&[u8]]) -> Result<Option<Vec<Item>>, AllocError>
-    requires { range.high < 1000 }
-    ensures { IfOk result
-        (λ r. option_map (λ v. v.items) r
-        ≡ collect_all (map (λ item. item_parts (range_of range) (pieces (ascii "/") item)) (map (λ p. p.now) parts.now))) }
-{
     let mut items = Vec::new(alloc);
-    for part in parts {
+    for part in &parts {
         match item_at(alloc, range, part)? {
             Some(item) => items.push(item)?,
             None => return Ok(None),
@@ -320,23 +287,13 @@ fn is_field(alloc: Global, range: Range, text: &[u8]) -> Result<bool, AllocError
 fn words_of(alloc: Global, text: &[u8]) -> Result<Vec<&[u8]>, AllocError>
     ensures { IfOk result (λ v. map (λ p. p.now) v.items ≡ words text.now) }
 {
-    let parts = split(alloc, text, b' ')?;
-    without_empty(alloc, parts.as_slice())
-}
-
-/// The texts that aren't empty.
-fn without_empty<'a>(alloc: Global, parts: &[&'a [u8]]) -> Result<Vec<&'a [u8]>, AllocError>
-    ensures { IfOk result
-        (λ v. map (λ p. p.now) v.items
-        ≡ filter (λ w. nat_lt 0 (length w)) (map (λ p. p.now) parts.now)) }
-{
-    let mut found = Vec::new(alloc);
-    for part in parts {
+    let mut words = Vec::new(alloc);
+    for part in &split(alloc, text, b' ')? {
         if !part.is_empty() {
-            found.push(*part)?;
+            words.push(*part)?;
         }
     }
-    Ok(found)
+    Ok(words)
 }
 
 /// Whether the fields after the minutes are valid.
@@ -365,29 +322,18 @@ fn are_right(
     is_field(alloc, WEEKDAYS, weekdays)
 }
 
-/// The minutes of a schedule with these fields, if it is valid.
-fn minutes(alloc: Global, fields: &[&[u8]]) -> Result<Option<Vec<Item>>, AllocError>
-    ensures { IfOk result
-        (λ r. option_map (λ v. v.items) r ≡ minutes_in (map (λ p. p.now) fields.now)) }
-{
-    match fields {
-        [minutes, hours, days, months, weekdays] => {
-            if are_right(alloc, hours, days, months, weekdays)? {
-                field(alloc, MINUTES, minutes)
-            } else {
-                Ok(None)
-            }
-        }
-        _ => Ok(None),
-    }
-}
-
 /// The items of a schedule's minutes, or `None` if the text isn't a schedule. Fails with `AllocError` when out of memory.
 pub fn schedule(alloc: Global, text: &[u8]) -> Result<Option<Vec<Item>>, AllocError>
     ensures { IfOk result (λ r. option_map (λ v. v.items) r ≡ schedule_of text.now) }
 {
     let fields = words_of(alloc, text)?;
-    minutes(alloc, fields.as_slice())
+    let [minutes, hours, days, months, weekdays] = fields.as_slice() else {
+        return Ok(None);
+    };
+    if !are_right(alloc, hours, days, months, weekdays)? {
+        return Ok(None);
+    }
+    field(alloc, MINUTES, minutes)
 }
 
 /// Whether an item has a number.
@@ -407,25 +353,15 @@ fn is_member(number: u32, items: &[Item]) -> bool
     items.iter().any(|item| picks(number, *item))
 }
 
-/// Adds a minute, if one of these items has it.
-fn add_minute(items: &[Item], minute: u32, found: &mut Vec<u32>) -> Result<(), AllocError>
-    ensures { OnOk result
-        (found.new.items
-        ≡ found.old.items ++ filter (λ n. list_any (item_picks n) items.now) (minute ∷ [])) }
-{
-    if is_member(minute, items) {
-        found.push(minute)?;
-    }
-    Ok(())
-}
-
 /// The minutes that these items have.
 fn minutes_of(alloc: Global, items: &[Item]) -> Result<Vec<u32>, AllocError>
     ensures { IfOk result (λ v. v.items ≡ minute_set items.now) }
 {
     let mut found = Vec::new(alloc);
     for minute in 0..60 {
-        add_minute(items, minute, &mut found)?;
+        if is_member(minute, items) {
+            found.push(minute)?;
+        }
     }
     Ok(found)
 }
