@@ -1,8 +1,8 @@
 -- What loops over lists have done after one more item, and properties of the first entries of each key.
 use Rattle.std.specs.Prelude.{ℕ, Bool, List, [], ◌∷◌, ◌++◌, ◌+◌, ◌<◌, length, if◌then◌else◌}
 use Rattle.std.proofs.Common.{◌≡◌, ap, append_assoc, map, cond, add-one, drop, drop-cons, get_or, subst, sym, take, ◌∙◌}
-use Rattle.std.proofs.lemmas.List.{flat_map_more, get_or-map, length-map, map-append, map_more}
-use Rattle.std.specs.List.{AllByRecursion, flat_map}
+use Rattle.std.proofs.lemmas.List.{get_or-map, length-map, map-append, map_more}
+use Rattle.std.specs.List.{AllByRecursion}
 use Rattle.al_base.proofs.Elements.{each_both, each_either}
 use Rattle.al_yaml_tree.specs.Node.{Node}
 use Rattle.al_tree.specs.Keys.{key_of, keys_in}
@@ -49,11 +49,3 @@ module _ (is_in : List (List ℕ) → List ℕ → Bool) {X : Type 0} (f : X →
       ∙ ap (λ ks. (found ++ new) ++ firsts_by is_in ks left) (texts_next key_of f xs i x within is)
       ∙ append_assoc found new (firsts_by is_in (before ++ key_of (f x) ∷ []) left)
       ∙ ap (λ es. found ++ firsts_by is_in before es) (sym (left_next f xs i x within is))
-
--- what is appended for the items so far, after one more item
-pub gave_next : {X Y Z : Type 0} (v : X → Y) (f : Y → List Z) (xs : List X) (i : ℕ) (d : X) (old mid new : List Z) → i < length xs
-    → mid ≡ old ++ flat_map f (map v (take i xs)) → new ≡ mid ++ f (v (get_or xs i d)) → new ≡ old ++ flat_map f (map v (take (i + 1) xs))
-gave_next v f xs i d old mid new within before here =
-    here ∙ ap (λ l. l ++ f (v (get_or xs i d))) before
-    ∙ flat_map_more f old (map v (take i xs)) (v (get_or xs i d))
-    ∙ ap (λ l. old ++ flat_map f l) (sym (map_more v xs i d within))

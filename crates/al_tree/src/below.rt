@@ -1,7 +1,6 @@
 //! Values below paths of keys.
 ghost use Rattle.std.specs.Prelude.{◌≡◌, ◌∷◌, [], map, option_map};
 ghost use Rattle.al_tree.specs.Declarations as declarations;
-ghost use Rattle.al_tree.specs.Declarations.{says};
 ghost use Rattle.al_tree.specs.Values.{value_below};
 ghost use Rattle.al_yaml_tree.specs.View.{view};
 
@@ -36,22 +35,15 @@ pub fn has_value(node: &Node, key: &str) -> bool
     value(node, key).is_some()
 }
 
-/// Whether a node is a scalar with a text.
-fn has_text(node: &Node, text: &str) -> bool
-    ensures { result ≡ says [] text.now (view node.now) }
-{
-    match node.scalar() {
-        Some(scalar) => scalar.text() == text.as_bytes(),
-        None => false,
-    }
-}
-
 /// Whether the root of an action says that it is composite.
 pub fn is_composite(root: &Node) -> bool
     ensures { result ≡ declarations.is_composite (view root.now) }
 {
-    match value_below_two(root, "runs", "using") {
-        Some(node) => has_text(node, "composite"),
+    let Some(using) = value_below_two(root, "runs", "using") else {
+        return false;
+    };
+    match using.scalar() {
+        Some(scalar) => scalar.text() == b"composite".as_slice(),
         None => false,
     }
 }

@@ -32,21 +32,6 @@ struct Demand<'a> {
     above: &'a [u8],
 }
 
-/// Adds the fault of a required key that is missing.
-fn check_row(row: &Row, all: KeySet<'_>, at: Span, faults: &mut FaultSink) -> Result<(), AllocError>
-    ensures { OnOk result (faults.new
-        ≡ faults.old ++ missing_fault at (holds all.entry) (field_view row.now)) }
-{
-    if is_needed(row.need, all) && !all.contains(row.key.as_bytes()) {
-        let start = Span {
-            start: at.start,
-            end: at.start,
-        };
-        faults.report_text(start, Code::Key(KeyCode::Missing), row.key.as_bytes())?;
-    }
-    Ok(())
-}
-
 /// Adds the faults of all required keys that are missing.
 fn check_missing(
     rows: &[Row],
@@ -57,8 +42,15 @@ fn check_missing(
     ensures { OnOk result (faults.new
         ≡ faults.old ++ flat_map (missing_fault at (holds all.entry)) (map field_view rows.now)) }
 {
+    let start = Span {
+        start: at.start,
+        end: at.start,
+    };
     for row in rows {
-        check_row(row, all, at, faults)?;
+        let key = row.key.as_bytes();
+        if is_needed(row.need, all) && !all.contains(key) {
+            faults.report_text(start, Code::Key(KeyCode::Missing), key)?;
+        }
     }
     Ok(())
 }
@@ -96,12 +88,12 @@ fn check_scalar(
     if demand.takes_null && is_null_scalar(scalar.scalar) {
         return Ok(());
     }
-    match rule_of(demand.shape) {
+    let Some(rule) = rule_of(demand.shape) else {
+        return Ok(());
+    };
+    match scalar_fault(rule.scalars, scalar.scalar) {
         None => Ok(()),
-        Some(rule) => match scalar_fault(rule.scalars, scalar.scalar) {
-            None => Ok(()),
-            Some(key) => faults.report_text(scalar.span, Code::Key(key), demand.above),
-        },
+        Some(key) => faults.report_text(scalar.span, Code::Key(key), demand.above),
     }
 }
 

@@ -3,7 +3,7 @@ ghost use Rattle.std.specs.Prelude.{◌≡◌, [], map, option_map, IfOk};
 ghost use Rattle.std.specs.Option.{option_map_or};
 ghost use Rattle.al_tree.specs.Declarations as declarations;
 ghost use Rattle.al_tree.specs.Declarations.{named_among};
-ghost use Rattle.al_tree.specs.Values.{firsts_by, member_of};
+ghost use Rattle.al_tree.specs.Values.{member_of};
 ghost use Rattle.al_yaml_tree.specs.View.{view};
 
 use crate::values::{Member, member_positions, members};
@@ -11,11 +11,14 @@ use al_base::is_same_name;
 use al_yaml_tree::Node;
 use std::alloc::{AllocError, Global};
 
-/// Of members with equal names the first.
-fn first_named<'a>(alloc: Global, members: &[Member<'a>]) -> Result<Vec<Member<'a>>, AllocError>
-    ensures { IfOk result
-        (λ v. map member_of v.items ≡ firsts_by declarations.named_among [] (map member_of members.now)) }
+/// What a mapping declares: its entries in order, of equal names the first; of another node nothing.
+///
+/// Fails with `AllocError` when out of memory.
+pub fn declared_in(alloc: Global, node: &Node) -> Result<Vec<Member<'_>>, AllocError>
+    ensures { IfOk result (λ v. map member_of v.items ≡ declarations.declared_in (view node.now)) }
 {
+    let members = members(alloc, node)?;
+    let members = members.as_slice();
     let positions = member_positions(alloc, members)?;
     let mut found = Vec::new(alloc);
     for (i, member) in members.iter().enumerate() {
@@ -24,15 +27,6 @@ fn first_named<'a>(alloc: Global, members: &[Member<'a>]) -> Result<Vec<Member<'
         }
     }
     Ok(found)
-}
-
-/// What a mapping declares: its entries in order, of equal names the first; of another node nothing.
-///
-/// Fails with `AllocError` when out of memory.
-pub fn declared_in(alloc: Global, node: &Node) -> Result<Vec<Member<'_>>, AllocError>
-    ensures { IfOk result (λ v. map member_of v.items ≡ declarations.declared_in (view node.now)) }
-{
-    first_named(alloc, members(alloc, node)?.as_slice())
 }
 
 /// What a mapping declares, where there is one. Fails with `AllocError` when out of memory.

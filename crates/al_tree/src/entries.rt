@@ -10,22 +10,6 @@ use crate::keys::key_of;
 use al_scalar::Scalar;
 use al_yaml_tree::{Entry, Node};
 
-/// The key of an entry.
-#[tactic(auto, using(al_yaml_tree::proofs::ViewLemmas::entry_parts))]
-fn key_node(entry: &Entry) -> &Node
-    ensures { view result.now ≡ (entry_view entry.now).0 }
-{
-    &entry.key
-}
-
-/// The value of an entry.
-#[tactic(auto, using(al_yaml_tree::proofs::ViewLemmas::entry_parts))]
-fn value_of(entry: &Entry) -> &Node
-    ensures { view result.now ≡ (entry_view entry.now).1 }
-{
-    &entry.value
-}
-
 /// The first entry with a key.
 fn entry_among<'a>(entries: &'a [Entry], key: &str) -> Option<&'a Entry>
     ensures { option_map (λ e. entry_view e.now) result
@@ -40,18 +24,20 @@ fn entry_among<'a>(entries: &'a [Entry], key: &str) -> Option<&'a Entry>
 }
 
 /// The node of the first occurrence of a key.
+#[tactic(auto, using(al_yaml_tree::proofs::ViewLemmas::entry_parts))]
 pub(crate) fn key_among<'a>(entries: &'a [Entry], key: &str) -> Option<&'a Node>
     ensures { option_map (λ n. view n.now) result
         ≡ option_map (λ e. e.0) (find (is_key key.now) (map entry_view entries.now)) }
 {
-    Some(key_node(entry_among(entries, key)?))
+    Some(&entry_among(entries, key)?.key)
 }
 
 /// The value of the first entry with a key.
+#[tactic(auto, using(al_yaml_tree::proofs::ViewLemmas::entry_parts))]
 pub(crate) fn value_among<'a>(entries: &'a [Entry], key: &str) -> Option<&'a Node>
     ensures { option_map (λ n. view n.now) result ≡ value_in key.now (map entry_view entries.now) }
 {
-    Some(value_of(entry_among(entries, key)?))
+    Some(&entry_among(entries, key)?.value)
 }
 
 /// The value of the first entry with a key, if it is a scalar.

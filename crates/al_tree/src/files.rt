@@ -93,7 +93,7 @@ pub fn read_action(alloc: Global, doc: Doc) -> Result<(Action, Vec<Fault>), Allo
 }
 
 /// The section that the root of a file should be.
-fn root_shape(kind: FileKind) -> Shape
+pub fn root_shape(kind: FileKind) -> Shape
     ensures { result ≡ shape_of kind }
 {
     match kind {

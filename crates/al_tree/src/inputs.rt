@@ -1,7 +1,6 @@
 //! The types that inputs are declared with.
 ghost use Rattle.std.specs.Prelude.{◌≡◌};
 ghost use Rattle.al_tree.specs.Inputs as inputs;
-ghost use Rattle.al_tree.specs.Inputs.{input_named};
 ghost use Rattle.al_yaml_tree.specs.View.{view};
 
 use crate::values::text_under;
@@ -15,25 +14,20 @@ pub enum InputType {
     String,
 }
 
-/// The type of this name. Any other text is a string's, as `choice` and `environment` are.
-fn type_named(text: &[u8]) -> InputType
-    ensures { result ≡ input_named text.now }
-{
-    if text == b"boolean".as_slice() {
-        InputType::Boolean
-    } else if text == b"number".as_slice() {
-        InputType::Number
-    } else {
-        InputType::String
-    }
-}
-
 /// The type under `type` in what declares an input; without one it is a string.
 pub fn input_of(node: &Node) -> InputType
     ensures { result ≡ inputs.input_of (view node.now) }
 {
-    match text_under(node, "type") {
-        Some(text) => type_named(text.scalar.text()),
-        None => InputType::String,
+    let Some(name) = text_under(node, "type") else {
+        return InputType::String;
+    };
+    // Any other text is a string's, as `choice` and `environment` are.
+    let name = name.scalar.text();
+    if name == b"boolean".as_slice() {
+        InputType::Boolean
+    } else if name == b"number".as_slice() {
+        InputType::Number
+    } else {
+        InputType::String
     }
 }

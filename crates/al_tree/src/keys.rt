@@ -1,7 +1,6 @@
 //! The text of a key, and the keys of a mapping.
 
 ghost use Rattle.al_tree.specs.Keys.{IsIndexOf, has_first, holds, key_of as key_in, key_text as text_in, keys_in, repeats};
-ghost use Rattle.al_base.specs.NamePlaces.{TellsFirsts, is_first_text, text_place, text_position};
 ghost use Rattle.al_base.specs.Names.{among};
 ghost use Rattle.al_yaml_tree.specs.View.{entry_view, view};
 ghost use Rattle.std.specs.Prelude.{◌≡◌, ◌<◌, length, map, slice_index_or, take, IfOk, []};
@@ -43,19 +42,6 @@ fn is_key_among(key: &[u8], entries: &[Entry]) -> bool
     false
 }
 
-/// The first positions of the keys of some entries. Fails with `AllocError` if memory runs out.
-fn positions_of(alloc: Global, entries: &[Entry]) -> Result<TextPositions<'_>, AllocError>
-    ensures position { IfOk result (λ p. text_position p ≡ text_place (keys_in (map entry_view entries.now))) }
-    ensures first { let ks = keys_in (map entry_view entries.now) in
-        IfOk result (λ p. TellsFirsts (text_place ks) ks (is_first_text p)) }
-{
-    let mut keys = Vec::with_capacity(alloc, entries.len())?;
-    for entry in entries {
-        keys.push(key_of(entry))?;
-    }
-    TextPositions::of(alloc, keys.as_slice())
-}
-
 /// The keys of a mapping, prepared for lookups.
 #[derive(Drop)]
 pub struct KeyIndex<'a> {
@@ -77,7 +63,11 @@ impl<'a> KeyIndex<'a> {
                 positions: None,
             });
         }
-        let positions = positions_of(alloc, entries)?;
+        let mut keys = Vec::with_capacity(alloc, entries.len())?;
+        for entry in entries {
+            keys.push(key_of(entry))?;
+        }
+        let positions = TextPositions::of(alloc, keys.as_slice())?;
         Ok(KeyIndex {
             entries,
             positions: Some(positions),

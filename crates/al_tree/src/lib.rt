@@ -25,7 +25,9 @@ pub use below::{action_steps, has_value, is_composite, value_below_three, value_
 pub use check::shape_faults;
 pub use declarations::{declared_at, declared_in, is_named_among};
 pub use examples::rows;
-pub use files::{Action, FileKind, Tree, Workflow, document_faults, read_action, read_workflow};
+pub use files::{
+    Action, FileKind, Tree, Workflow, document_faults, read_action, read_workflow, root_shape,
+};
 pub use inputs::{InputType, input_of};
 pub use keys::{EntryKey, KeyIndex, KeySet, key_of, key_text};
 pub use kinds::{file_kind, is_action, is_workflow, is_workflow_name};

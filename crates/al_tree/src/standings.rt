@@ -6,11 +6,8 @@ ghost use Rattle.al_tree.specs.Faults.{runs_of as runs, standing as stands, stan
 ghost use Rattle.al_tree.specs.Keys.{holds};
 ghost use Rattle.al_tree.specs.Table.{clash_of, field_view, keys_view, need_of, others_of};
 ghost use Rattle.al_yaml_tree.specs.View.{entry_view};
-ghost use Rattle.al_tree.specs.Names.{is_event as event};
-ghost use Rattle.al_tree.specs.declared.table.Shape.TheVariants.{Any, On};
-ghost use Rattle.al_tree.specs.declared.table.Trigger.TheVariants.{Event};
 ghost use Rattle.std.specs.Bool.{then_some};
-ghost use Rattle.std.specs.Prelude.{◌≡◌, find, if◌then◌else◌, map, option_map};
+ghost use Rattle.std.specs.Prelude.{◌≡◌, find, map, option_map};
 ghost use Rattle.std.specs.Str.{bytes_eq};
 
 use crate::entries::scalar_among;
@@ -111,17 +108,6 @@ fn clash(clash: Clash, seen: KeySet<'_>, all: KeySet<'_>) -> Option<&'static str
     }
 }
 
-/// The shape of an event; that of any value if the event is unknown.
-fn event_shape(key: &[u8]) -> Shape
-    ensures { result ≡ (if event key.now then On Event else Any) }
-{
-    if is_event(key) {
-        Shape::On(Trigger::Event)
-    } else {
-        Shape::Any
-    }
-}
-
 /// The standing of an entry without a row.
 fn standing_without_row(others: Others, key: EntryKey<'_>, all: KeySet<'_>) -> Standing
     ensures { standing_view result
@@ -132,7 +118,8 @@ fn standing_without_row(others: Others, key: EntryKey<'_>, all: KeySet<'_>) -> S
         _ if key.is_repeated => Standing::Repeated,
         Others::Wrong => Standing::Unexpected(None),
         Others::WrongBeside(other) => Standing::Unexpected(if_in(all, other)),
-        Others::Events => Standing::Expected(event_shape(key.key), None),
+        Others::Events if is_event(key.key) => Standing::Expected(Shape::On(Trigger::Event), None),
+        Others::Events => Standing::Expected(Shape::Any, None),
     }
 }
 

@@ -2,19 +2,18 @@
 
 ghost use Rattle.al_base.specs.NamePlaces.{TellsFirsts, is_first_name, name_place, name_position};
 ghost use Rattle.al_tree.specs.Keys.{keys_in};
-ghost use Rattle.al_base.specs.Names.{among};
-ghost use Rattle.al_tree.specs.Values.{entries_at, entries_in, firsts_by, items_at, items_in, key_at, member_of, text_at_key, text_in};
+ghost use Rattle.al_tree.specs.Values.{entries_at, entries_in, items_at, items_in, key_at, member_of, text_at_key, text_in};
 ghost use Rattle.al_tree.specs.Values.{texts_at, texts_in, value_at, scalar_node_of};
-ghost use Rattle.al_yaml_tree.specs.View.{entry_view, view};
+ghost use Rattle.al_yaml_tree.specs.View.{view};
 ghost use Rattle.std.specs.List.{filter_map};
-ghost use Rattle.std.specs.Prelude.{◌≡◌, [], map, option_map, IfOk};
+ghost use Rattle.std.specs.Prelude.{◌≡◌, map, option_map, IfOk};
 
 use crate::entries::{key_among, value_among};
 use crate::keys::{KeyIndex, key_text};
 use crate::scalars::is_null_scalar;
 use al_base::{NamePositions, Span};
 use al_scalar::Scalar;
-use al_yaml_tree::{Entry, Node};
+use al_yaml_tree::Node;
 use std::alloc::{AllocError, Global};
 use std::slice;
 
@@ -138,10 +137,21 @@ pub struct Member<'a> {
 pub fn members(alloc: Global, node: &Node) -> Result<Vec<Member<'_>>, AllocError>
     ensures { IfOk result (λ v. map member_of v.items ≡ entries_in (view node.now)) }
 {
-    match node.mapping() {
-        Some(entries) => first_members(alloc, entries),
-        None => Ok(Vec::new(alloc)),
+    let Some(entries) = node.mapping() else {
+        return Ok(Vec::new(alloc));
+    };
+    let index = KeyIndex::of(alloc, entries)?;
+    let mut firsts = Vec::with_capacity(alloc, entries.len())?;
+    for (i, entry) in entries.iter().enumerate() {
+        let is_new = !index.key_at(i).is_repeated;
+        if is_new {
+            firsts.push(Member {
+                key: &entry.key,
+                value: &entry.value,
+            })?;
+        }
     }
+    Ok(firsts)
 }
 
 /// The entries of the mapping under a key in order, only the first of equal keys; no entries if there is no mapping.
@@ -181,30 +191,4 @@ pub fn member_positions(alloc: Global, members: &[Member<'_>]) -> Result<NamePos
 {
     let keys = key_texts(alloc, members)?;
     NamePositions::of(alloc, keys.as_slice())
-}
-
-/// An entry as a member.
-#[tactic(auto, using(al_yaml_tree::proofs::ViewLemmas::entry_parts))]
-fn as_member(entry: &Entry) -> Member<'_>
-    ensures { member_of result ≡ entry_view entry.now }
-{
-    Member {
-        key: &entry.key,
-        value: &entry.value,
-    }
-}
-
-/// The entries whose key no earlier entry has.
-fn first_members(alloc: Global, entries: &[Entry]) -> Result<Vec<Member<'_>>, AllocError>
-    ensures { IfOk result (λ v. map member_of v.items ≡ firsts_by among [] (map entry_view entries.now)) }
-{
-    let index = KeyIndex::of(alloc, entries)?;
-    let mut firsts = Vec::with_capacity(alloc, entries.len())?;
-    for (i, entry) in entries.iter().enumerate() {
-        let is_new = !index.key_at(i).is_repeated;
-        if is_new {
-            firsts.push(as_member(entry))?;
-        }
-    }
-    Ok(firsts)
 }

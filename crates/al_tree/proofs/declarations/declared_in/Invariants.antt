@@ -2,7 +2,7 @@ use Rattle.std.proofs.Common.{◌≡◌, ◌++◌, [], take, drop, map}
 use Rattle.al_tree.specs.Keys.{keys_in}
 use Rattle.al_tree.specs.Values.{firsts_by, member_of}
 use Rattle.al_tree.specs.Declarations.{named_among}
-use Rattle.al_tree.proofs.declarations.first_named.Given as goal
+use Rattle.al_tree.proofs.declarations.declared_in.Given as goal
 
 -- the members found so far, followed by those of the rest with new names, are the first ones of each name
 abbrev pub invariant-loop-i : goal.invariant-loop-i

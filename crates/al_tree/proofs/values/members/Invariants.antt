@@ -4,7 +4,7 @@ use Rattle.al_tree.specs.Keys.{keys_in}
 use Rattle.al_tree.specs.Values.{member_of}
 use Rattle.al_base.specs.Names.{among}
 use Rattle.al_tree.specs.Values.{firsts_by}
-use Rattle.al_tree.proofs.values.first_members.Given as goal
+use Rattle.al_tree.proofs.values.members.Given as goal
 
 -- the members found so far, followed by those of the rest with new keys, are the first ones of each key
 abbrev pub invariant-loop-i : goal.invariant-loop-i

@@ -7,12 +7,12 @@ use Rattle.al_tree.proofs.Lists.{firsts_next, text_there}
 use Rattle.al_tree.specs.Keys.{key_of, keys_in}
 use Rattle.al_tree.specs.Values.{member_of}
 use Rattle.al_tree.specs.Declarations.{named_among}
-use Rattle.al_tree.proofs.declarations.first_named.Goals.{then-is_first+in_ok-push, else-is_first}
-use Rattle.al_tree.proofs.declarations.first_named.Goals as goal
+use Rattle.al_tree.proofs.declarations.declared_in.Goals.{then-is_first+in_ok-push, else-is_first}
+use Rattle.al_tree.proofs.declarations.declared_in.Goals as goal
 
 pub loop-i-preserved : goal.loop-i-preserved
 loop-i-preserved c =
-    let members = c.args.members.now in
+    let members = c.as_slice-members.result.now in
     let i = c.loop-i.i in
     let member = c.index-members-i.result in
     let key = key_of (member_of member) in

@@ -1,16 +1,17 @@
 use Rattle.std.proofs.Common.{◌≡◌, ◌∷◌, ◌++◌, [], ap, append-nil, map, sym, take, ◌∙◌, if◌then◌else◌}
 use Rattle.std.proofs.lemmas.List.{map-append}
+use Rattle.al_yaml_tree.proofs.ViewLemmas.{entry_parts}
 use Rattle.al_yaml_tree.specs.View.{entry_view}
 use Rattle.al_tree.specs.Keys.{key_of, keys_in}
 use Rattle.al_base.specs.Names.{among}
 use Rattle.al_tree.specs.Values.{member_of}
 use Rattle.al_tree.proofs.Lists.{firsts_next, text_there}
-use Rattle.al_tree.proofs.values.first_members.Goals.{then-is_new+in_ok-push, else-is_new}
-use Rattle.al_tree.proofs.values.first_members.Goals as goal
+use Rattle.al_tree.proofs.values.members.Goals.{then-is_new+in_ok-push, else-is_new}
+use Rattle.al_tree.proofs.values.members.Goals as goal
 
 pub loop-i-preserved : goal.loop-i-preserved
 loop-i-preserved c =
-    let es = c.args.entries.now in
+    let es = c.in-Some.entries.now in
     let i = c.loop-i.i in
     let e = c.index-entries-i.result in
     let before = keys_in (map entry_view (take i es)) in
@@ -22,8 +23,8 @@ loop-i-preserved c =
     elim c.if-is_new.branch [
       | then-is_new+in_ok-push w ↦
           ap (λ v. map member_of v.items) w.firsts-is ∙ ap (map member_of) w.in_ok-push.ensures.items
-          ∙ map-append member_of c.loop-i.firsts.items (w.as_member.result ∷ [])
-          ∙ ap (λ m. members ++ m ∷ []) w.as_member.ensures
+          ∙ map-append member_of c.loop-i.firsts.items (_ ∷ [])
+          ∙ ap (λ m. members ++ m ∷ []) (sym (entry_parts e))
           ∙ ap (λ b. members ++ (if b then [] else entry_view e ∷ [])) (sym w.if-is_new.true)
       | else-is_new w ↦
           ap (λ v. map member_of v.items) w.firsts-is ∙ sym (append-nil members)
