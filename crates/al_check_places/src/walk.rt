@@ -12,7 +12,6 @@ ghost use Rattle.al_check_places.specs.Places.{places_of_items, places_of, rule_
 ghost use Rattle.al_check_places.specs.Private.Walks as walks;
 ghost use Rattle.al_check_places.specs.Private.Walks.{places_in, way_in};
 ghost use Rattle.al_check_places.specs.Ways.{under, way_step_view};
-ghost use Rattle.al_tree.specs.Files.{shape_of as file_shape};
 ghost use Rattle.al_yaml_tree.specs.View.{entries_of, entry_view, nodes_of, view};
 
 use crate::positions::{Position, position_at};
@@ -22,7 +21,7 @@ use al_base::Span;
 use al_scalar::Scalar;
 use al_tree::{
     FileKind, KeyIndex, Keys, Rule, ScalarNode, ScalarSet, Shape, Standing, contains_chunk,
-    is_null_scalar, key_of, refine, rule_of, scalar_fault, standing_of,
+    is_null_scalar, key_of, refine, root_shape, rule_of, scalar_fault, standing_of,
 };
 use al_yaml_tree::{Entry, Kind, Node};
 use std::alloc::{AllocError, Global};
@@ -279,15 +278,6 @@ fn find_entry<'a>(
     }
 }
 
-fn shape_of(kind: FileKind) -> Shape
-    ensures { result ≡ file_shape kind }
-{
-    match kind {
-        FileKind::Workflow => Shape::Workflow,
-        FileKind::Action => Shape::Action,
-    }
-}
-
 /// The scalars of a file that have expressions, in the order of the file: conditions, and texts with `${{`. Other texts have no fault.
 ///
 /// Fails with `AllocError` when out of memory.
@@ -295,7 +285,7 @@ pub fn places(alloc: Global, kind: FileKind, root: &Node) -> Result<Vec<Place<'_
     ensures { IfOk result (λ v. map place_of v.items ≡ places_of kind (view root.now)) }
 {
     let asked = Asked {
-        shape: shape_of(kind),
+        shape: root_shape(kind),
         is_item: false,
     };
     let mut walk = Walk {

@@ -1,6 +1,6 @@
 //! Ways from the root of a file to a scalar, and which of them lead to expressions.
 ghost use Rattle.std.specs.Prelude.{◌≡◌, [], ◌∷◌, map};
-ghost use Rattle.al_check_places.specs.Paths.{key_view, path};
+ghost use Rattle.al_check_places.specs.Paths.{key_view};
 ghost use Rattle.al_check_places.specs.Ways as ways;
 ghost use Rattle.al_check_places.specs.Ways.{begins_one, is_one, keys_of, way_step_view};
 
@@ -127,46 +127,6 @@ const SCRIPTS: &[&[Key]] = &[
     &[Named("runs"), Named("steps"), Named("run")],
 ];
 
-fn of_call() -> &'static [&'static [Key]]
-    ensures { map (λ p. map key_view p.now) result.now
-        ≡ map path ("on.workflow_call.inputs.*.default" ∷ "on.workflow_call.outputs.*.value" ∷ []) }
-{
-    OF_CALL
-}
-
-fn not_in_workflow() -> &'static [&'static [Key]]
-    ensures { map (λ p. map key_view p.now) result.now
-        ≡ map path ("jobs.*.needs" ∷ "jobs.*.uses" ∷ "jobs.*.steps.id" ∷ "jobs.*.steps.uses" ∷ []) }
-{
-    NOT_IN_WORKFLOW
-}
-
-fn of_interface() -> &'static [&'static [Key]]
-    ensures { map (λ p. map key_view p.now) result.now
-        ≡ map path ("inputs.*.default" ∷ "outputs.*.value" ∷ []) }
-{
-    OF_INTERFACE
-}
-
-fn not_in_runs() -> &'static [&'static [Key]]
-    ensures { map (λ p. map key_view p.now) result.now
-        ≡ map path ("runs.using" ∷ "runs.steps.id" ∷ "runs.steps.uses" ∷ []) }
-{
-    NOT_IN_RUNS
-}
-
-fn conditions() -> &'static [&'static [Key]]
-    ensures { map (λ p. map key_view p.now) result.now ≡ ways.conditions }
-{
-    CONDITIONS
-}
-
-fn scripts() -> &'static [&'static [Key]]
-    ensures { map (λ p. map key_view p.now) result.now ≡ ways.scripts }
-{
-    SCRIPTS
-}
-
 /// Whether the keys begin with one of these paths.
 fn begins_any(paths: &[&[Key]], keys: &[&[u8]]) -> bool
     ensures { result
@@ -197,9 +157,9 @@ fn is_checked_in_workflow(keys: &[&[u8]]) -> bool
     ensures { result ≡ ways.is_checked_in_workflow (map (λ k. k.now) keys.now) }
 {
     if begins_keys(&[Named("on")], keys) {
-        begins_any(of_call(), keys)
+        begins_any(OF_CALL, keys)
     } else {
-        !begins_any(not_in_workflow(), keys)
+        !begins_any(NOT_IN_WORKFLOW, keys)
     }
 }
 
@@ -208,9 +168,9 @@ fn is_checked_in_action(steps: usize, keys: &[&[u8]]) -> bool
     ensures { result ≡ ways.is_checked_in_action steps (map (λ k. k.now) keys.now) }
 {
     if begins_keys(&[Named("runs")], keys) {
-        !begins_any(not_in_runs(), keys)
+        !begins_any(NOT_IN_RUNS, keys)
     } else {
-        begins_any(of_interface(), keys) && steps == 3
+        begins_any(OF_INTERFACE, keys) && steps == 3
     }
 }
 
@@ -228,12 +188,12 @@ pub(crate) fn is_checked(kind: FileKind, way: &Way<'_>) -> bool
 pub(crate) fn is_condition(way: &Way<'_>) -> bool
     ensures { result ≡ is_one ways.conditions (keys_of (map way_step_view way.now.steps.items)) }
 {
-    is_any(conditions(), way.keys())
+    is_any(CONDITIONS, way.keys())
 }
 
 /// Whether the node at the end of a way is a step's script.
 pub(crate) fn is_script(way: &Way<'_>) -> bool
     ensures { result ≡ is_one ways.scripts (keys_of (map way_step_view way.now.steps.items)) }
 {
-    is_any(scripts(), way.keys())
+    is_any(SCRIPTS, way.keys())
 }
