@@ -137,6 +137,13 @@ def cloned_with_crlf(folder, room):
     return wrong + ([] if here == there else [f"differing: {sorted(name for name in here if here[name] != there.get(name))[:5]}"])
 
 
+def from_a_link(folder, program, archive, room):
+    """Started by a link from another folder: the same archive."""
+    (room / "link").symlink_to(folder / "release")
+    ran = run([room / "link", "--program", program, "--to", room / "by-link"], cwd=room)
+    return failed(ran) or ([] if (room / "by-link" / archive.name).read_bytes() == archive.read_bytes() else ["the bytes differ"])
+
+
 def from_a_hook(folder, program, archive):
     """By relative paths although CDPATH leads elsewhere, in a hook of another repository: the same archive."""
     room = folder.parent
@@ -190,13 +197,21 @@ def reading_alone(folder, room):
     return wrong
 
 
+def refused(folder, arguments, said):
+    """What differs if ./release should refuse these arguments with status 2 and a line that says this before the usage."""
+    ran = run([folder / "release", *arguments])
+    line = f"release: {said}usage: release [--program PROGRAM] [[--deb] [--to DIR] | --install PREFIX]\n"
+    return failed(ran, 2) + ([] if ran.stderr.decode() == line else [show(ran.stderr)])
+
+
 def words(folder, program, room):
     """Arguments that are refused, and `--help`, which isn't."""
     return (
-        failed(run([folder / "release", "--bogus", "x"]), 2)
+        refused(folder, ["bogus"], "unknown argument bogus; ")
+        + refused(folder, ["--bogus", "x"], "unknown argument --bogus; ")
+        + refused(folder, ["--to"], "--to needs a value; ")
+        + refused(folder, ["--program", program, "--install", ""], "--install needs a value; ")
         + failed(run([folder / "release", "--help"]))
-        + failed(run([folder / "release", "--to"]), 2)
-        + failed(run([folder / "release", "--program", program, "--install", ""]), 2)
         + failed(run([folder / "release", "--install", room / "none", "--deb"]), 2)
         + failed(run([folder / "release", "--install", room / "none", "--to", room / "none"]), 2)
         + failed(run([folder / "release", "--program", room / "nowhere", "--to", room / "none"]), 1)
@@ -216,6 +231,7 @@ def cases(program, room):
     yield "same-bytes-from-another-folder", wrong + ([] if same else ["the bytes differ"])
     yield "clone-with-crlf", cloned_with_crlf(first, room)
     yield "from-a-hook", from_a_hook(first, program, archive)
+    yield "from-a-link", from_a_link(first, program, archive, room)
     yield "checksum", failed(run(["sha256sum", "-c", f"{archive.name}.sha256"], cwd=archive.parent))
     yield "what-is-in-it", contents(archive)
     (room / "here").mkdir()

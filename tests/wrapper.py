@@ -109,6 +109,12 @@ def expect(name, got, **wanted):
     report(name, said["status"], wrong)
 
 
+def compare(copy, name, status, out, err="", **more):
+    """Reports a case: what `prebuilt.py --compare` prints."""
+    ran = copy.called("python3", str(copy.top / "tools/prebuilt.py"), "--compare", **more)
+    expect(f"compare-{name}", (ran.returncode, ran.stdout, ran.stderr), status=status, out=out, err=err)
+
+
 def has(text):
     return lambda said: text in said
 
@@ -204,8 +210,8 @@ def test_prebuilt(copy):
     os.utime(copy.source())
     expect("same-bytes-still-fit", copy.run("x"), out="carried x\n", calls=["version"])
     expect("other-kit-of-the-logic", copy.run("x", KIT="2", by=touched(copy)), out="carried x\n", calls=["version"])
-    ran = copy.called("python3", str(copy.top / "tools/prebuilt.py"), "--compare", KIT="2")
-    report("compare-with-another-kit", ran.returncode, [] if ran.stdout == "older\n" else [ran.stdout])
+    compare(copy, "with-another-kit", 0, "older\n", KIT="2")
+    compare(copy, "nothing-built", 1, "", "crates/actionlint/out/actionlint isn't there: ./actionlint --build-anew builds it\n")
     expect("other-logic-builds", copy.run("x", LOGIC="2", by=touched(copy)), out="built x\n", calls=["version", *BUILDS])
     copy.forget()
     copy.run()
@@ -218,14 +224,11 @@ def test_prebuilt(copy):
     copy.forget()
     copy.source().write_text("// two\n")
     expect("other-sources-build", copy.run("x"), out="built x\n", calls=BUILDS)
-    ran = copy.called("python3", str(copy.top / "tools/prebuilt.py"), "--compare")
-    report("compare-older", ran.returncode, [] if ran.stdout == "older\n" else [ran.stdout])
+    compare(copy, "older", 0, "older\n")
     copy.source().write_text("// one\n")
-    ran = copy.called("python3", str(copy.top / "tools/prebuilt.py"), "--compare")
-    report("compare-another-program", ran.returncode, [] if ran.returncode == 1 and not ran.stdout else [ran.stdout])
+    compare(copy, "another-program", 1, "", "prebuilt/actionlint isn't the program that these sources give, though its hash is theirs\n")
     (copy.top / "prebuilt/actionlint").write_bytes((copy.top / "crates/actionlint/out/actionlint").read_bytes())
-    ran = copy.called("python3", str(copy.top / "tools/prebuilt.py"), "--compare")
-    report("compare-the-same", ran.returncode, [] if ran.stdout == "fits\n" else [ran.stdout + ran.stderr])
+    compare(copy, "the-same", 0, "fits\n")
     (copy.top / "prebuilt/actionlint").write_text(CARRIED)
     copy.forget()
     no_kit = {"PATH": copy.without("rt")}

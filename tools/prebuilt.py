@@ -48,6 +48,8 @@ def compare():
         print("none")
     elif ask("kit_of_prebuilt") != kit():
         print("older")
+    elif not BUILT.is_file():
+        sys.exit("crates/actionlint/out/actionlint isn't there: ./actionlint --build-anew builds it")
     elif PREBUILT.read_bytes() == BUILT.read_bytes():
         print("fits")
     else:

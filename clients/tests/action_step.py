@@ -116,12 +116,12 @@ def lines_that_look_like_commands(program: str) -> None:
 
 @CASES.case
 def names_that_look_like_options(program: str) -> None:
-    """A file named like an option is linted, and doesn't lead the linter to another folder."""
+    """A file named like an option is linted, and doesn't lead the linter to another folder. The SARIF file can have such a name too."""
     path = "--root=clean/action.yml"
     runner = Runner(program, {path: "name: x\n", "clean/.github/workflows/a.yml": FILES[FILE].replace("reff", "ref")})
-    status, lines = runner.step(path, "faults.sarif")
+    status, lines = runner.step(path, "--faults.sarif")
     assert status == 1 and all(line.startswith(path + ":") for line in lines[2:-2]) and len(lines) > 4, lines
-    with open(runner.root + "/faults.sarif", encoding="utf-8") as opened:
+    with open(runner.root + "/--faults.sarif", encoding="utf-8") as opened:
         found = json.load(opened)["runs"][0]["results"]
     assert len(found) == len(lines) - 4 and {one["ruleId"] for one in found} == {"K2"}, found
     shutil.rmtree(runner.root)
