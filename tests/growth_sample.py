@@ -1,7 +1,7 @@
 """Refuses allocations of the linter in turn, as many as ./test has time for: growth_sample.py PROGRAM [TESTS].
 
-TESTS are the built tests of crates/al_tests, by default those of the clone. Needs a C compiler; without one each case is skipped.
-tests/growths.py, run by hand, refuses all of them and records the places.
+TESTS are the built tests of crates/al_tests, by default those of the clone; without them the first case is skipped. Needs a C compiler;
+without one each case is skipped. tests/growths.py, run by hand, refuses all of them and records the places.
 
 - Ten edits in a session, with reports and statuses after them, each allocation refused: a refused edit leaves everything as it was, and is
   accepted when it is repeated.
@@ -30,7 +30,9 @@ def spread(count):
 
 
 def ten_edits_in_a_session(folder, tests):
-    """What differs when each allocation of the test is refused in turn."""
+    """What differs when each allocation of the test is refused in turn; None without the test."""
+    if tests is None:
+        return None
     done = Growths(folder, tests).each([EDITS], b"", ["%d"], passes)
     return [f"wrong with growths {done.wrong} of {done.growths} refused"] if done.wrong or done.growths == 0 else []
 
@@ -63,7 +65,7 @@ def growths_of_other_runs(growths, runs):
 def main(words):
     """Prints a line for each case; the status is 1 if one of them differs."""
     program = pathlib.Path(words[0]).resolve()
-    tests = pathlib.Path(words[1]).resolve() if len(words) > 1 else TESTS
+    tests = pathlib.Path(words[1]).resolve() if len(words) > 1 else TESTS if TESTS.is_file() else None
     if shutil.which("cc") is None:
         for name in CASES:
             skip(name, "cc isn't there")
@@ -78,7 +80,10 @@ def main(words):
             growths_of_other_runs(growths, runs),
         )
     for name, differences in zip(CASES, found):
-        report(name, "-", differences)
+        if differences is None:
+            skip(name, "the tests of al_tests aren't built")
+        else:
+            report(name, "-", differences)
     return exit_status()
 
 

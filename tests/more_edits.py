@@ -188,4 +188,8 @@ def main(folder, *words):
 
 
 if __name__ == "__main__":
+    if len(sys.argv) == 1:
+        sys.exit(__doc__)
+    if not shutil.which("rt"):
+        sys.exit("the kit's command rt isn't on the PATH")
     main(*sys.argv[1:])

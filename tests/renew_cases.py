@@ -55,4 +55,6 @@ def main(program, folder, words, is_written):
 
 if __name__ == "__main__":
     given = [word for word in sys.argv[1:] if word != "--write"]
+    if len(given) < 2:
+        sys.exit(__doc__)
     sys.exit(main(given[0], given[1], given[2:], "--write" in sys.argv[1:]))

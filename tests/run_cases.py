@@ -74,4 +74,6 @@ def main(program, folder, words):
 
 
 if __name__ == "__main__":
+    if len(sys.argv) < 3:
+        sys.exit(__doc__)
     sys.exit(main(sys.argv[1], sys.argv[2], sys.argv[3:]))
