@@ -51,7 +51,7 @@ struct Walk<'a> {
 
 /// What the place of a node requires.
 #[derive(Clone, Copy)]
-struct Asked {
+struct Demand {
     shape: Shape,
     /// Whether the node is an item of a sequence.
     is_item: bool,
@@ -125,12 +125,12 @@ fn has_expression(way: &Way<'_>, scalar: &Scalar) -> bool
 
 /// Adds the place of a scalar, if it is checked and has an expression.
 fn find_scalar<'a>(
-    asked: Asked,
+    demand: Demand,
     scalar: ScalarNode<'a>,
     walk: &mut Walk<'a>,
 ) -> Result<(), AllocError>
     ensures found { OnOk result (places_in walk.new ≡ places_in walk.old
-        ++ scalar_places walk.old.kind (rule_or_any (table_rule asked.shape)) asked.is_item
+        ++ scalar_places walk.old.kind (rule_or_any (table_rule demand.shape)) demand.is_item
         (way_in walk.old) (scalar.entry).scalar.now (scalar.entry).span) }
     ensures way { OnOk result (walk.new.way.steps.items ≡ walk.old.way.steps.items) }
     ensures kind { OnOk result (walk.new.kind ≡ walk.old.kind) }
@@ -138,11 +138,11 @@ fn find_scalar<'a>(
     if !has_expression(&walk.way, scalar.scalar) {
         return Ok(());
     }
-    let rule = rule_at(asked.shape);
+    let rule = rule_at(demand.shape);
     if !fits(rule, scalar.scalar) || !is_checked(walk.kind, &walk.way) {
         return Ok(());
     }
-    let is_scalar_only = takes_scalars_only(rule) && !asked.is_item;
+    let is_scalar_only = takes_scalars_only(rule) && !demand.is_item;
     let place = place_at(walk, is_scalar_only, scalar);
     walk.found.push(place)?;
     Ok(())
@@ -151,9 +151,9 @@ fn find_scalar<'a>(
 /// Adds the places of a node, given what its place requires.
 #[tactic(auto, using(crate::proofs::Nodes::places_of_sequence, crate::proofs::Nodes::places_of_mapping))]
 #[cycle(finds)]
-fn find<'a>(asked: Asked, node: &'a Node, walk: &mut Walk<'a>) -> Result<(), AllocError>
+fn find<'a>(demand: Demand, node: &'a Node, walk: &mut Walk<'a>) -> Result<(), AllocError>
     ensures found { OnOk result (places_in walk.new ≡ places_in walk.old
-        ++ places_of_node walk.old.kind asked.shape asked.is_item (way_in walk.old) (view node.now)) }
+        ++ places_of_node walk.old.kind demand.shape demand.is_item (way_in walk.old) (view node.now)) }
     ensures way { OnOk result (walk.new.way.steps.items ≡ walk.old.way.steps.items) }
     ensures kind { OnOk result (walk.new.kind ≡ walk.old.kind) }
 {
@@ -163,18 +163,18 @@ fn find<'a>(asked: Asked, node: &'a Node, walk: &mut Walk<'a>) -> Result<(), All
                 scalar,
                 span: node.span,
             };
-            find_scalar(asked, scalar, walk)
+            find_scalar(demand, scalar, walk)
         }
-        Kind::Sequence(nodes) => match rule_at(asked.shape).items {
+        Kind::Sequence(nodes) => match rule_at(demand.shape).items {
             None => Ok(()),
             Some(inner) => find_items(inner, nodes.as_slice(), walk),
         },
         Kind::Mapping(entries) => find_entries(
-            rule_at(refine(asked.shape, entries.as_slice())).keys,
+            rule_at(refine(demand.shape, entries.as_slice())).keys,
             entries.as_slice(),
             walk,
         ),
-        Kind::Shared(inner) => find(asked, inner, walk),
+        Kind::Shared(inner) => find(demand, inner, walk),
     }
 }
 
@@ -188,12 +188,12 @@ fn find_items<'a>(shape: Shape, nodes: &'a [Node], walk: &mut Walk<'a>) -> Resul
 {
     let mut i = 0;
     for node in nodes {
-        let asked = Asked {
+        let demand = Demand {
             shape,
             is_item: true,
         };
         walk.way.enter_item(i)?;
-        find(asked, node, walk)?;
+        find(demand, node, walk)?;
         walk.way.leave();
         i += 1;
     }
@@ -266,12 +266,12 @@ fn find_entry<'a>(
         Standing::Unexpected(_) => Ok(()),
         Standing::Ignored => Ok(()),
         Standing::Expected(shape, _) => {
-            let asked = Asked {
+            let demand = Demand {
                 shape,
                 is_item: false,
             };
             walk.way.enter_value(key_of(entry))?;
-            find(asked, &entry.value, walk)?;
+            find(demand, &entry.value, walk)?;
             walk.way.leave();
             Ok(())
         }
@@ -284,7 +284,7 @@ fn find_entry<'a>(
 pub fn places(alloc: Global, kind: FileKind, root: &Node) -> Result<Vec<Place<'_>>, AllocError>
     ensures { IfOk result (λ v. map place_of v.items ≡ places_of kind (view root.now)) }
 {
-    let asked = Asked {
+    let demand = Demand {
         shape: root_shape(kind),
         is_item: false,
     };
@@ -294,6 +294,6 @@ pub fn places(alloc: Global, kind: FileKind, root: &Node) -> Result<Vec<Place<'_
         way: Way::new(alloc),
         found: Vec::new(alloc),
     };
-    find(asked, root, &mut walk)?;
+    find(demand, root, &mut walk)?;
     Ok(walk.found)
 }
