@@ -1,7 +1,6 @@
 //! The names of activity types, and of the types of inputs.
 
 ghost use Rattle.al_rules.specs.Names.{activities_of as activities_named};
-ghost use Rattle.al_rules.specs.Private.ActivityViews.{activity_row, row_types};
 ghost use Rattle.std.specs.Prelude.{◌≡◌, map, option_map};
 
 use al_base::is_among;
@@ -128,22 +127,14 @@ pub(crate) const DISPATCH_TYPES: &[&str] = &[
     "environment",
 ];
 
-/// The activity types of an event, among some rows.
-fn types_in(rows: &[Activities], event: &[u8]) -> Option<&'static [&'static str]>
-    ensures { option_map (λ ts. map (λ n. n.now) ts.now) result
-        ≡ row_types event.now (map activity_row rows.now) }
+/// The activity types of an event; `None` if any text is accepted.
+pub(crate) fn activities_of(event: &[u8]) -> Option<&'static [&'static str]>
+    ensures { option_map (λ ts. map (λ n. n.now) ts.now) result ≡ activities_named event.now }
 {
-    for row in rows {
+    for row in ACTIVITIES {
         if is_among(event, row.events) {
             return Some(row.types);
         }
     }
     None
-}
-
-/// The activity types of an event; `None` if any text is accepted.
-pub(crate) fn activities_of(event: &[u8]) -> Option<&'static [&'static str]>
-    ensures { option_map (λ ts. map (λ n. n.now) ts.now) result ≡ activities_named event.now }
-{
-    types_in(ACTIVITIES, event)
 }
