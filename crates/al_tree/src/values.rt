@@ -5,7 +5,6 @@ ghost use Rattle.al_tree.specs.Keys.{keys_in};
 ghost use Rattle.al_tree.specs.Values.{entries_at, entries_in, items_at, items_in, key_at, member_of, text_at_key, text_in};
 ghost use Rattle.al_tree.specs.Values.{texts_at, texts_in, value_at, scalar_node_of};
 ghost use Rattle.al_yaml_tree.specs.View.{view};
-ghost use Rattle.std.specs.List.{filter_map};
 ghost use Rattle.std.specs.Prelude.{◌≡◌, map, option_map, IfOk};
 
 use crate::entries::{key_among, value_among};
@@ -77,17 +76,7 @@ pub fn text_under<'a>(node: &'a Node, key: &str) -> Option<ScalarNode<'a>>
 pub fn texts(alloc: Global, node: &Node) -> Result<Vec<ScalarNode<'_>>, AllocError>
     ensures { IfOk result (λ v. map scalar_node_of v.items ≡ texts_in (view node.now)) }
 {
-    match node.sequence() {
-        Some(items) => item_texts(alloc, items),
-        None => item_texts(alloc, slice::from_ref(node)),
-    }
-}
-
-/// The scalars among some nodes, without those that are null.
-fn item_texts(alloc: Global, nodes: &[Node]) -> Result<Vec<ScalarNode<'_>>, AllocError>
-    ensures { IfOk result (λ v. map scalar_node_of v.items
-        ≡ filter_map text_in (map view nodes.now)) }
-{
+    let nodes = node.sequence().unwrap_or(slice::from_ref(node));
     let mut found = Vec::new(alloc);
     for node in nodes {
         if let Some(scalar) = text(node) {

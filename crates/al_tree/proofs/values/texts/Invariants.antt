@@ -2,7 +2,7 @@ use Rattle.std.proofs.Common.{◌≡◌, ◌++◌, drop, map}
 use Rattle.std.specs.List.{filter_map}
 use Rattle.al_yaml_tree.specs.View.{view}
 use Rattle.al_tree.specs.Values.{text_in, scalar_node_of}
-use Rattle.al_tree.proofs.values.item_texts.Given as goal
+use Rattle.al_tree.proofs.values.texts.Given as goal
 
 -- the texts found so far, followed by those of the remaining nodes, are all texts
 abbrev pub invariant-loop-node : goal.invariant-loop-node
