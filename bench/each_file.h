@@ -1,7 +1,7 @@
-/* The run of a peer: it reads the files that are named, or standard input where none is, and prints how many events they have. */
+/* The run of a peer: it reads the named files, by default standard input, and prints the number of their events. */
 #include <stdio.h>
 
-/* Adds the events of a file, and answers the status of a run that ends with it. */
+/* Adds the events of a file; returns the status of a run that ends with it. */
 static int read_events(FILE *file, unsigned long *events);
 
 int main(int count, char **names) {

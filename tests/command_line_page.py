@@ -131,13 +131,13 @@ class Repository:
         self.run("git", "init", "-q")
 
     def run(self, *words, below="."):
-        """Runs a command in the repository; answers its status and what it printed."""
+        """Runs a command in the repository; returns its status and what it printed."""
         where = os.path.join(self.folder, below)
         ran = subprocess.run(words, cwd=where, env=self.environment, stdout=subprocess.PIPE, stderr=subprocess.STDOUT, check=False, timeout=60)
         return ran.returncode, ran.stdout.decode()
 
     def commit(self, files=None, deleted=()):
-        """Writes and deletes files and commits all changes; answers the status and what was printed, and undoes a refused commit."""
+        """Writes and deletes files and commits all changes; returns the status and what was printed, and undoes a refused commit."""
         write_files(self.folder, files or {})
         for path in deleted:
             os.remove(os.path.join(self.folder, path))

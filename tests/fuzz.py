@@ -160,7 +160,7 @@ def some_edits(chance, files):
 
 
 def check_session(chance, script, edits, folder):
-    """Runs the edits, one of them repeated, and a report; answers the report with its status line."""
+    """Runs the edits, one of them repeated, and a report; returns the report with its status line."""
     repeated = b""
     if folder:
         path = chance.choice(sorted(folder))
@@ -182,7 +182,7 @@ def check_session(chance, script, edits, folder):
 
 
 def one_round(chance, files):
-    """Checks a session of some edits; answers how many there were, and the report at the end."""
+    """Checks a session of some edits; returns how many there were, and the report at the end."""
     script, edits, folder = some_edits(chance, files)
     reported = check_session(chance, script, edits, folder)
     afresh = b"".join(put(path, folder[path]) for path in chance.sample(sorted(folder), len(folder))) + REPORT

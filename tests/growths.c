@@ -1,9 +1,9 @@
-/* Counts the growths of a program, refuses those that GROWTH names, and notes the calls that growths stand under: see tests/growths.py.
+/* Counts the allocations of a program, refuses those that GROWTH names, and notes the calls that lead to them: see tests/growths.py.
 
-   GROWTH is a growth's number, or 5- for the fifth and all behind it. GROWTH_FRAMES names a file of the program's calls in order, each
-   where it returns to, how far the stack's top then is below the return address of the function that calls, and whether that is the
-   program's first. At the end goes to standard error how many growths there were, and under which calls those that were refused stood, or,
-   where none is to be, all of them. */
+   GROWTH is an allocation's number, or 5- for the fifth and all later ones. GROWTH_FRAMES names a file of the program's calls in order:
+   the address that each returns to, how far the top of the stack then is below the return address of the calling function, and whether that
+   is the program's first function. At the end, the number of allocations is written to standard error, with the calls that led to refused
+   ones, or to all of them if none is to be refused. */
 #define _GNU_SOURCE
 #include <dlfcn.h>
 #include <errno.h>
@@ -31,7 +31,7 @@ static int take_program(struct dl_phdr_info *object, size_t size, void *unused) 
   return 1;
 }
 
-/* Nothing here asks the allocator. */
+/* Nothing here allocates. */
 static void read_frames(const char *name) {
   struct stat file;
   int from = open(name, O_RDONLY);
@@ -65,8 +65,8 @@ static size_t call_of(size_t back) {
   return low < count && frames[low].back == back ? low : count;
 }
 
-/* Notes the calls on the stack, from the place of a return address on, up to the program's first function. A growth that the C library asks
-   for itself has none. */
+/* Notes the calls on the stack, from the place of a return address, up to the program's first function. An allocation by the C library for
+   itself has none. */
 static void note(const size_t *at) {
   size_t call = call_of(*at - program);
   if (call == count && *at - program > frames[count - 1].back) return;
@@ -79,7 +79,7 @@ static void note(const size_t *at) {
   lost = *at - program;
 }
 
-/* whether this growth, asked for by a call whose return address stands there, is one to refuse */
+/* whether to refuse this allocation, requested by a call whose return address is there */
 static int refused(const size_t *at) {
   int is_refused;
   if (!started) start();
@@ -90,7 +90,7 @@ static int refused(const size_t *at) {
   return is_refused;
 }
 
-/* where the return address of a function stands */
+/* where the return address of a function is */
 #define RETURN ((size_t *)__builtin_frame_address(0) + 1)
 
 void *malloc(size_t size) {

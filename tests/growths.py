@@ -171,7 +171,7 @@ def tell_places(names, refused):
 
 
 def refused_in_turn(growths, runs, names):
-    """Refuses the allocations of the named runs and prints what went wrong; answers whether all went well, and the places."""
+    """Refuses the allocations of the named runs and prints what went wrong; returns whether all went well, and the places."""
     well, total, places = True, 0, set()
     for name in names:
         done = growths.each(*runs[name], ["%d", "%d-"], stops)
@@ -184,7 +184,7 @@ def refused_in_turn(growths, runs, names):
 
 
 def refused_everywhere(growths, runs, names, places):
-    """Refuses allocations at all places that any run reaches; answers whether all went well and no place is missing."""
+    """Refuses allocations at all places that any run reaches; returns whether all went well and no place is missing."""
     reached = dict(zip(runs, in_turn(lambda it: growths.run(*runs[it]), runs)))
     well, refused = refused_in_turn(growths, runs, names)
     tell_places(places.names, refused)
@@ -207,7 +207,7 @@ def growths_of_an_edit(growths, count):
 
 
 def counted(growths, script):
-    """Prints the number of allocations of each edit; answers whether one edit makes few more beside many files."""
+    """Prints the number of allocations of each edit; returns whether one edit makes few more beside many files."""
     edits = commands_in(script)
     sums = [growths.of_script(edits[:count]) for count in range(len(edits) + 1)]
     print("growths of each of the ten edits:", *(after - before for before, after in zip(sums, sums[1:])))
@@ -217,7 +217,7 @@ def counted(growths, script):
 
 
 def in_a_session(growths):
-    """Refuses each allocation of ten edits; answers whether all went well."""
+    """Refuses each allocation of ten edits; returns whether all went well."""
     done = growths.each([EDITS], b"", ["%d"], passes)
     print(f"ten edits in a session: {done.growths} growths, each refused in turn; wrong: {done.wrong}", flush=True)
     return done.growths > 0 and not done.wrong

@@ -50,7 +50,7 @@ def difference(got, wanted):
 
 
 def is_right(program, name, case, words):
-    """Runs a case and prints its line; answers whether output and status were as expected."""
+    """Runs a case and prints its line; returns whether output and status were as expected."""
     ran = run(program, case, words)
     if ran is None:
         print(f"case={name} output=none, no end after {SECONDS} seconds")

@@ -131,7 +131,7 @@ class Place:
         return ran
 
     def run_to_file(self, size, words, stdin=b""):
-        """Runs the program with its output into a file that accepts only some bytes; answers also what the file holds."""
+        """Runs the program with its output into a file that accepts only some bytes; also returns what the file holds."""
         target = os.path.join(self.room, "output")
         with open(target, "wb") as output:
             # the signal that the system sends here would end the program without an answer
@@ -230,7 +230,7 @@ def each(name, runs):
 
 
 def run_parts(*parts):
-    """Runs the parts of a test, each a function of a place, over the program that the arguments name; answers the status."""
+    """Runs the parts of a test, each a function of a place, over the program that the arguments name; returns the status."""
     if len(sys.argv) != 2:
         print(f"{os.path.basename(sys.argv[0])} PROGRAM", file=sys.stderr)
         return 2
@@ -244,7 +244,7 @@ def run_parts(*parts):
 
 
 def run_in_room(cases):
-    """Runs cases over the program that the arguments name, in an empty folder; answers the status. A case is its name with what is wrong,
+    """Runs cases over the program that the arguments name, in an empty folder; returns the status. A case is its name with what is wrong,
     or None if a command that it needs isn't there."""
     if len(sys.argv) != 2:
         print(f"{os.path.basename(sys.argv[0])} PROGRAM", file=sys.stderr)

@@ -1,4 +1,4 @@
-;;; actionlint.el --- Faults of workflows as one types, by eglot  -*- lexical-binding: t -*-
+;;; actionlint.el --- Faults of workflows as you type, by eglot  -*- lexical-binding: t -*-
 
 ;; (add-to-list 'load-path "/path/clients/emacs")
 ;; (require 'actionlint)

@@ -400,7 +400,7 @@ def each_is_taken_on_a_new_line(program: str) -> None:
 
 
 def check_some(linter: Linter, path: str, before: str, after: str, chance: random.Random, most: int) -> int:
-    """Checks some of the offers between the two parts of a text; answers how many."""
+    """Checks some of the offers between the two parts of a text; returns how many."""
     span, found = offers_between(before, after, path)
     chosen = chance.sample(found, min(len(found), most))
     for offer in chosen:

@@ -1,5 +1,5 @@
-// Reads printed fault lines from standard input and a matcher from its first argument: each line has to match, and to be put together
-// again from what the matcher takes of it. The pattern is read by JavaScript, as GitHub's runner reads it by .NET.
+// Reads printed fault lines from standard input and a matcher from its first argument: each line has to match, and the matched parts have
+// to make up the line again. JavaScript reads the pattern here; GitHub's runner reads it with .NET.
 const fs = require('fs');
 const pattern = JSON.parse(fs.readFileSync(process.argv[2], 'utf8')).problemMatcher[0].pattern[0];
 const regexp = new RegExp(pattern.regexp);

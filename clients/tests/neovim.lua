@@ -33,7 +33,7 @@ local function shown()
   return found
 end
 
--- Waits until the server has answered, before which it shows what it has.
+-- Waits until the server has answered; until then the old faults are shown.
 local function answered()
   local function is_served() return next(vim.lsp.buf_get_clients(0)) ~= nil end
   assert(vim.wait(PATIENCE, is_served, 20), 'no server was started')
@@ -62,7 +62,7 @@ local function settled(disk, quiet)
   table.insert(steps, { shown = shown(), buffers = buffers, disk = disk })
 end
 
--- Asks the server as a key would make Neovim ask, and answers the result.
+-- Sends the request that a key would make Neovim send; returns the result.
 local function ask(method, more)
   local params = vim.tbl_extend('force', vim.lsp.util.make_position_params(), more or {})
   for _, answer in pairs(vim.lsp.buf_request_sync(0, method, params, PATIENCE) or {}) do
@@ -86,7 +86,7 @@ local function hover_and_fix()
   end
 end
 
--- Completes a property as CTRL-X CTRL-O does, and answers what is offered.
+-- Completes a property as CTRL-X CTRL-O does; returns what is offered.
 local function offered(row, column)
   vim.api.nvim_win_set_cursor(0, { row, column })
   local before = vim.fn.line('.')
@@ -99,7 +99,7 @@ local function offered(row, column)
   return found
 end
 
--- Names in a.yml: what is offered, what a name means, where it leads, and another one in its place.
+-- Names in a.yml: completion, hovering, definition and renaming.
 local function names()
   vim.api.nvim_buf_set_lines(0, -1, -1, false, { '      - id: one', '        run: make', '      - if: steps.' })
   local last = vim.api.nvim_buf_line_count(0)

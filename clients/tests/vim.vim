@@ -15,7 +15,7 @@ execute 'source ' . s:clients . '/vim/ale.vim'
 let s:steps = []
 
 " ALE 3.3 takes the protocol's columns, which are UTF-16 units, for Vim's, which are bytes: after non-ASCII characters its marks
-" stand too far to the left or right. Here they are read as what they are.
+" are misplaced. Here they are read as what they are.
 function! s:characters(line, column) abort
   let units = 0
   let number = 0
@@ -62,12 +62,12 @@ function! s:settled(disk, quiet = 1.5) abort
   call add(s:steps, {'shown': s:shown(), 'buffers': buffers, 'disk': a:disk})
 endfunction
 
-" Names in the current buffer, a.yml: what is offered, and where a name leads.
+" Names in the current buffer, a.yml: completion and definition.
 function! s:names() abort
   call append('$', ['      - id: one', '        run: make', '      - if: steps.'])
   doautocmd TextChanged
   call s:settled({})
-  " ALE completes in insert mode alone, in which no function runs.
+  " ALE completes only in insert mode, in which no function runs.
   call ale#util#Mode()
   function! ale#util#Mode(...) abort
     return 'i'

@@ -1,7 +1,7 @@
 " For Vim with ALE: faults as you type, from the language server. Source this file in vimrc, after ALE:
 "   source /path/clients/vim/ale.vim
 "   let g:ale_linters = {'yaml': ['actionlint_lsp']}
-"   let g:actionlint_lsp = '/path/clients/actionlint-lsp'      where it isn't on the PATH
+"   let g:actionlint_lsp = '/path/clients/actionlint-lsp'      if it isn't on the PATH
 " ALE's own linter `actionlint` starts another program by other options, so this one has a name of its own.
 function! s:root(buffer) abort
   let path = expand('#' . a:buffer . ':p')

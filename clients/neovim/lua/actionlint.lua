@@ -1,9 +1,9 @@
--- For Neovim 0.7 and later: faults and names as one types, by the language server. Stands on 'runtimepath' as lua/actionlint.lua.
+-- For Neovim 0.7 and later: faults and names as you type, from the language server. It is lua/actionlint.lua on 'runtimepath'.
 --   require('actionlint').setup()                                         the server is on the PATH
 --   require('actionlint').setup({ cmd = { '/path/actionlint-lsp' } })     the server and its options
 local M = {}
 
--- The client of each repository, where Neovim doesn't keep them itself (before 0.8).
+-- The client of each repository, if Neovim doesn't keep them itself (before 0.8).
 local clients = {}
 
 -- The nearest folder, from this one upwards, with workflows or a .git, which is a file in a worktree and in a submodule; else itself.
