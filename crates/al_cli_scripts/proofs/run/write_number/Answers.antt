@@ -1,8 +1,6 @@
 use Rattle.std.proofs.Common.{◌≡◌, ◌++◌, ◌∷◌, []}
 use Rattle.std.specs.Fmt.{decimal}
-use Rattle.std.proofs.KnownBytes.{Appends-trans}
-use Rattle.std.proofs.lemmas.Result.{err_from_is_err_and, on_err_weaker}
-use Rattle.al_base.proofs.Bytes.{AppendsPrefix-after, AppendsPrefix-wider}
+use Rattle.al_base.proofs.Writing.{after, fails_early}
 use Rattle.al_cli_scripts.proofs.run.write_number.Goals as goal
 
 pub returns-in_err-write_all-2-clause-err : goal.returns-in_err-write_all-2-clause-err
