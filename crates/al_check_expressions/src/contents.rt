@@ -120,19 +120,27 @@ fn move_fault(scalar: &Scalar, by: usize, fault: Fault) -> Fault
     }
 }
 
-/// Adds the faults of an expression that begins at an index, with their spans in the file.
-fn move_faults(
-    scalar: &Scalar,
-    by: usize,
-    found: Vec<Fault>,
+/// Adds the faults of an expression that begins at an index of a text, with their spans in the file.
+fn check_expression(
+    types: &mut Types<'_>,
+    text: &Text<'_>,
+    content: &str,
+    start: usize,
     faults: &mut FaultSink,
 ) -> Result<(), AllocError>
-    requires room { HasRoom scalar.now }
-    requires fits { by < 2 ^ 32 }
-    ensures { OnOk result (faults.new ≡ faults.old ++ map (fault_in_file scalar.now by) found.items) }
+    requires shown { IsShown types.old text.now.scope.now }
+    requires room { HasRoom text.now.scalar.now }
+    requires fits { start < 2 ^ 32 }
+    ensures ok { OnOk result (faults.new ≡ faults.old
+        ++ map (fault_in_file text.now.scalar.now start) (content_faults
+        (scope_view types.old text.now.scope.now) text.now.is_alone text.now.is_scalar_only
+        content.now)) }
+    ensures kept { BeginsWith (objects_of types.new) (objects_of types.old) }
 {
-    for fault in found {
-        faults.push(move_fault(scalar, by, fault))?;
+    let mut found = FaultSink::new(faults.alloc());
+    check_content(types, text, content, &mut found)?;
+    for fault in found.into_faults() {
+        faults.push(move_fault(text.scalar, start, fault))?;
     }
     Ok(())
 }
@@ -145,32 +153,6 @@ fn is_one(len: usize, chunks: &[Chunk<'_>]) -> bool
         [chunk] => chunk.span.start == 3 && chunk.span.end as usize + 2 == len,
         _ => false,
     }
-}
-
-/// Adds the faults of a chunk of a text.
-fn check_chunk(
-    types: &mut Types<'_>,
-    text: &Text<'_>,
-    chunk: &Chunk<'_>,
-    faults: &mut FaultSink,
-) -> Result<(), AllocError>
-    requires shown { IsShown types.old text.now.scope.now }
-    requires room { HasRoom text.now.scalar.now }
-    requires cut { IsCutFrom (text_of text.now.scalar.now) chunk.now }
-    requires alone { text.now.is_alone ≡ is_one_chunk (text_of text.now.scalar.now) }
-    ensures ok { OnOk result
-        (faults.new ≡ faults.old ++ chunk_faults (scope_view types.old text.now.scope.now)
-        text.now.is_scalar_only text.now.scalar.now (span_of_chunk chunk.now)) }
-    ensures kept { BeginsWith (objects_of types.new) (objects_of types.old) }
-{
-    let mut found = FaultSink::new(faults.alloc());
-    check_content(types, text, chunk.content, &mut found)?;
-    move_faults(
-        text.scalar,
-        chunk.span.start as usize,
-        found.into_faults(),
-        faults,
-    )
 }
 
 /// Adds the faults of the chunks of a text.
@@ -190,7 +172,8 @@ fn check_each(
     ensures kept { BeginsWith (objects_of types.new) (objects_of types.old) }
 {
     for chunk in chunks {
-        check_chunk(types, text, chunk, faults)?;
+        let start = chunk.span.start as usize;
+        check_expression(types, text, chunk.content, start, faults)?;
     }
     Ok(())
 }
@@ -224,32 +207,6 @@ fn check_chunks(
     }
 }
 
-/// Adds the faults of a condition that is one expression.
-fn check_whole(
-    types: &mut Types<'_>,
-    scope: &Scope,
-    place: &Place<'_>,
-    faults: &mut FaultSink,
-) -> Result<(), AllocError>
-    requires shown { IsShown types.old scope.now }
-    requires readable { IsReadable (place_of place.now) }
-    ensures ok { OnOk result
-        (faults.new ≡ faults.old ++ map (fault_in_file place.now.scalar.now 0) (content_faults
-        (scope_view types.old scope.now) true place.now.is_scalar_only
-        (text_of place.now.scalar.now))) }
-    ensures kept { BeginsWith (objects_of types.new) (objects_of types.old) }
-{
-    let text = Text {
-        scope,
-        scalar: place.scalar,
-        is_alone: true,
-        is_scalar_only: place.is_scalar_only,
-    };
-    let mut found = FaultSink::new(faults.alloc());
-    check_content(types, &text, place.scalar.as_str(), &mut found)?;
-    move_faults(place.scalar, 0, found.into_faults(), faults)
-}
-
 /// Whether the whole text at a place is one expression: the place is a condition, and the text has no chunk.
 pub(crate) fn is_whole(place: &Place<'_>) -> bool
     ensures { result ≡ contents.is_whole (place_of place.now) }
@@ -271,9 +228,14 @@ pub(crate) fn check_place(
         ++ place_faults (scope_view types.old scope.now) (place_of place.now)) }
     ensures kept { BeginsWith (objects_of types.new) (objects_of types.old) }
 {
-    if is_whole(place) {
-        check_whole(types, scope, place, faults)
-    } else {
-        check_chunks(types, scope, place, faults)
+    if !is_whole(place) {
+        return check_chunks(types, scope, place, faults);
     }
+    let text = Text {
+        scope,
+        scalar: place.scalar,
+        is_alone: true,
+        is_scalar_only: place.is_scalar_only,
+    };
+    check_expression(types, &text, place.scalar.as_str(), 0, faults)
 }

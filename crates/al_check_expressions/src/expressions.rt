@@ -1,6 +1,5 @@
 //! All expressions of a file.
-ghost use Rattle.std.specs.List.{flat_map};
-ghost use Rattle.std.specs.Prelude.{◌≡◌, ◌++◌, ◌+◌, map, All, OnOk};
+ghost use Rattle.std.specs.Prelude.{◌≡◌, ◌++◌, ◌+◌, OnOk};
 ghost use Rattle.al_check_expressions.specs.FileExpressions.{expression_faults as faults_in, expression_faults_at};
 ghost use Rattle.al_check_expressions.specs.Inside.{IsReadable};
 ghost use Rattle.al_check_contexts.specs.Answered.{known_of};
@@ -34,25 +33,6 @@ fn check_at<'a>(
     Ok(())
 }
 
-/// Adds the faults of the expressions at some places.
-fn check_each<'a>(
-    env: &mut Env<'a>,
-    places: &[Place<'a>],
-    faults: &mut FaultSink,
-) -> Result<(), AllocError>
-    requires at { IsAtPosition env.old }
-    requires readable { All (λ p. IsReadable (place_of p)) places.now }
-    ensures moved { OnOk result (HasMoved env.new env.old) }
-    ensures ok { let f = file_of env.old in OnOk result (faults.new ≡ faults.old
-        ++ flat_map (expression_faults_at f.kind (known_of f.known) (view f.root.now))
-        (map place_of places.now)) }
-{
-    for place in places {
-        check_at(env, *place, faults)?;
-    }
-    Ok(())
-}
-
 /// Adds the faults of all expressions of the environment's file, X1 to X20, with spans in the file, given what is known of the outputs
 /// of its calls. Moves the environment to the last place with an expression.
 ///
@@ -68,5 +48,8 @@ pub fn expression_faults(env: &mut Env<'_>, faults: &mut FaultSink) -> Result<()
 {
     let file = env.file();
     let found = places(env.alloc(), file.kind, file.root)?;
-    check_each(env, found.as_slice(), faults)
+    for place in &found {
+        check_at(env, *place, faults)?;
+    }
+    Ok(())
 }

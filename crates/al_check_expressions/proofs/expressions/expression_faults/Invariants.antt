@@ -5,7 +5,7 @@ use Rattle.al_check_contexts.specs.Environments.{HasMoved, file_of}
 use Rattle.al_check_places.specs.Places.{place_of}
 use Rattle.al_yaml_tree.specs.View.{view}
 use Rattle.al_check_expressions.specs.FileExpressions.{expression_faults_at}
-use Rattle.al_check_expressions.proofs.expressions.check_each.Given as goal
+use Rattle.al_check_expressions.proofs.expressions.expression_faults.Given as goal
 
 abbrev pub invariant-loop-place : goal.invariant-loop-place
 invariant-loop-place l =
@@ -13,5 +13,5 @@ invariant-loop-place l =
     let faults_at = expression_faults_at file.kind (known_of file.known) (view file.root.now) in
     record {
       moved : HasMoved l.env l.fn.env;
-      all : l.faults ++ flat_map faults_at (map place_of (drop l.place-index l.places)) ≡ l.fn.faults ++ flat_map faults_at (map place_of l.places);
+      all : l.faults ++ flat_map faults_at (map place_of (drop l.place-index l.place-items)) ≡ l.fn.faults ++ flat_map faults_at (map place_of l.place-items);
     }
