@@ -6,7 +6,7 @@ ghost use Rattle.std.specs.Option.{option_copied, option_map};
 ghost use Rattle.al_session_folder.specs.Meaning.{IsUpTo};
 ghost use Rattle.al_base.specs.Counted.{count_after};
 ghost use Rattle.al_session_folder.specs.Folder.{answer, bytes_at, interface_in};
-ghost use Rattle.al_session_folder.specs.Kept.{next_folder, file_after, faults_of, folder_of, AreKept, IsKept, IsView};
+ghost use Rattle.al_session_folder.specs.Kept.{next_folder, faults_of, folder_of, AreKept, IsKept, IsView};
 
 use crate::kept::{Files, KeptFile};
 use crate::lint::{Lint, Target};
@@ -71,8 +71,8 @@ impl<'a, L: Lint> FolderView<'a, L> {
         ensures kept { IfSome result (λ file. IsKept L.meaning L.is_unit at.now file.now) }
     {
         match self.path {
-            Some(path) => find_after(self.files, path, self.next, at),
-            None => self.files.get(at),
+            Some(path) if at == path => self.next,
+            _ => self.files.get(at),
         }
     }
 
@@ -166,17 +166,4 @@ impl<'a, L: Lint> FolderView<'a, L> {
         }
         Ok(lists)
     }
-}
-
-// The file at a path, if `path` has `next`.
-fn find_after<'a, U, I>(
-    files: &'a Files<U, I>,
-    path: &str,
-    next: Option<&'a KeptFile<U, I>>,
-    at: &str,
-) -> Option<&'a KeptFile<U, I>>
-    ensures { option_copied result
-        ≡ file_after files.now.entries path.now (option_copied next.entry) at.now }
-{
-    if at == path { next } else { files.get(at) }
 }
