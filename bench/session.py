@@ -126,7 +126,7 @@ def new_times(is_backward, counts):
     return times_of_more([(b"", beside(count, EMPTY, is_backward)) for count in counts], counts)
 
 
-def front_times(counts):
+def first_path_times(counts):
     """The time of a put of a new path that sorts before all others, with its delete."""
     both = put_commands([(FIRST, EMPTY)]) + b"delete %s\n" % FIRST.encode()
     return times_of_more([(it, it + both * SOME) for it in (beside(count, EMPTY) for count in counts)], [SOME] * len(counts))
@@ -173,7 +173,7 @@ def main():
         edit, put = large_caller_times(count)
         print(f"an edit of an interface, for each of {count} callers of {len(LARGE_CALLER)} bytes with 200 expressions: {edit * 1e3:.3f} ms, "
               f"{edit / put:.2f} times a put of one, {put * 1e3:.3f} ms", flush=True)
-    print_edits("put of a new path in front, and its delete", BESIDE, front_times(BESIDE))
+    print_edits("put of a new first path, and its delete", BESIDE, first_path_times(BESIDE))
     for name, is_backward in ORDERS.items():
         print_edits(name, NEW, new_times(is_backward, NEW))
     for way in BETWEEN:

@@ -19,7 +19,7 @@ TABLE = "| Crate | Does | Depends on |"
 PROGRAM = "actionlint"
 COLOURS = ["#dbe9f6", "#dff0d8", "#fde9c9", "#f6dbe2", "#e6e0f3", "#d9f0ef", "#eeeeee", "#f3efc4", "#e3d5c8"]
 HEAD = """\
-// The crates of the program, each above those that it stands on. Made from crates.txt by tests/architecture_page.py.
+// The crates of the program, each above those it depends on. Made from crates.txt by tests/architecture_page.py.
 digraph layers {
   graph [rankdir=TB, nodesep=0.25, ranksep=0.35, bgcolor="white", fontname="Helvetica"]
   node [shape=box, style="rounded,filled", color="#555555", fontname="Helvetica", fontsize=12, height=0.32]
@@ -101,7 +101,7 @@ def titles_of(dot):
 
 
 def read(path):
-    """A file's text, or None if it doesn't exist."""
+    """A file's text, or nothing if it doesn't exist."""
     return path.read_text(encoding="utf-8") if path.exists() else ""
 
 
@@ -111,13 +111,13 @@ def differences(top):
     rows, groups = rows_of(page), groups_of(page)
     grouped = [name for name, _ in groups]
     found = [f"{it} has {rows.count(it)} rows" for it in crates if rows.count(it) != 1]
-    found += [f"{it} stands {grouped.count(it)} times beside a public crate" for it in shown_in(crates) if grouped.count(it) != 1]
+    found += [f"{it} has {grouped.count(it)} rows in the table of public crates" for it in shown_in(crates) if grouped.count(it) != 1]
     measured = re.findall(r"^\| `(\w+)` \| [\d,]+ \|", read(top / "docs/PROVING.md"), re.MULTILINE)
     found += [f"there is no crate {it}" for it in sorted({*rows, *grouped, *measured} - set(crates))]
     if found:
         return found
     dot, svg = read(top / "docs/layers.dot"), read(top / "docs/layers.svg")
-    found += [] if page == with_columns(page, crates) else ["a row stands on other crates than crates.txt says"]
+    found += [] if page == with_columns(page, crates) else ["a row has other dependencies than crates.txt"]
     found += [] if dot == dot_of(crates, groups) else ["docs/layers.dot isn't the one of crates.txt"]
     found += [] if drawn_in(svg) == titles_of(dot) and titles_of(dot) else ["docs/layers.svg isn't the drawing of docs/layers.dot"]
     return found

@@ -36,7 +36,7 @@ def unmakable(edit):
     for path, old, new in pairs_of(edit.read_text()):
         source = made.get(path) or (crate / path).read_text()
         if source.count(old) != 1:
-            yield f"{edit}: this stands {source.count(old)} times in {path}: {old}"
+            yield f"{edit}: this occurs {source.count(old)} times in {path}: {old}"
         made[path] = source.replace(old, new)
 
 

@@ -143,10 +143,10 @@ def compare_index(top, head, wanted, write):
     """Compares an index of docs/FAULTS.md, or writes it."""
     path = top / "docs" / "FAULTS.md"
     text = path.read_text()
-    stands = re.search(re.escape(head) + r"(?:\|.*\n)*", text)
-    if write and stands:
-        path.write_text(text.replace(stands[0], wanted))
-    elif not stands or stands[0] != wanted:
+    index = re.search(re.escape(head) + r"(?:\|.*\n)*", text)
+    if write and index:
+        path.write_text(text.replace(index[0], wanted))
+    elif not index or index[0] != wanted:
         return ["an index of docs/FAULTS.md isn't that of the entries: fault_pages.py TOP --write writes it"]
     return []
 

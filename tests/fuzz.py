@@ -188,11 +188,11 @@ def one_round(chance, files):
     afresh = b"".join(put(path, folder[path]) for path in chance.sample(sorted(folder), len(folder))) + REPORT
     fresh, _, _ = run(afresh)
     same = fresh.split(b"\n", len(folder))[-1] == reported
-    check(same, script, "the report isn't the one of the folder linted from nothing")
-    front = script[:chance.randint(0, len(script))]
-    out, status, _ = run(front)
-    is_cut = status in (0, 1, 2) and (status == 2) == out.endswith(b"bad command\n")
-    check(is_cut, front, f"a script that is cut ends with status {status} and {out[-80:]!r}")
+    check(same, script, "the report isn't the one of the folder linted from scratch")
+    prefix = script[:chance.randint(0, len(script))]
+    out, status, _ = run(prefix)
+    ends_right = status in (0, 1, 2) and (status == 2) == out.endswith(b"bad command\n")
+    check(ends_right, prefix, f"a truncated script ends with status {status} and {out[-80:]!r}")
     return edits, reported
 
 

@@ -192,7 +192,7 @@ def refused_everywhere(growths, runs, names, places):
     ours = {it for ran in reached.values() for it in ran.places if places.names.get(it, "").split("::")[0] in project}
     for place in sorted(ours - refused):
         name = next(it for it, ran in reached.items() if place in ran.places)
-        print(f"{name} reaches a place of {places.names.get(place)} that no chosen run does: choose anew")
+        print(f"{name} reaches a place of {places.names.get(place)} that no chosen run does: choose again")
         well = False
     return well
 

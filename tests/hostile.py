@@ -72,30 +72,30 @@ TALK_OUTPUT = b"".join(reply for _, reply, _ in TALK)
 # ---- truncated files
 
 
-def front_differences(place, front, told):
+def prefix_differences(place, prefix, told):
     """Where the session's answer for a file differs from the folder with this file, or from what holds for any file."""
     reply, reported, status = told
-    place.write(WORKFLOW, front)
+    place.write(WORKFLOW, prefix)
     wrong = differences_of(place.run(["--oneline", "--root", "."]), status, reported, NO)
     if reply != b"ok 1":
         wrong.append(f"the reply was {reply!r}")
-    broken = wrong_line(reported, {WORKFLOW: front})
+    broken = wrong_line(reported, {WORKFLOW: prefix})
     return wrong + [broken] if broken else wrong
 
 
-def fronts(place):
+def prefixes(place):
     """Each prefix of four files: accepted, reported as for the folder, and each place inside the file."""
     whole_files = {"clean": WITH_REF, "with-a-matrix": WITH_MATRIX, "that-calls-itself": CALLS_ITSELF,
                    "with-a-shared-job": WITH_A_SHARED_JOB}
     for name, data in whole_files.items():
         place.fresh()
         files = [data[:size] for size in range(len(data) + 1)]
-        ran = place.run(SCRIPT, b"".join(put(WORKFLOW, front) + REPORT for front in files))
+        ran = place.run(SCRIPT, b"".join(put(WORKFLOW, prefix) + REPORT for prefix in files))
         told = edits_and_reports(ran.stdout) or []
         if len(told) != len(files):
-            report(f"fronts-of-a-file-{name}", ran.returncode, [f"stdout was {show(ran.stdout)}"])
+            report(f"prefixes-of-a-file-{name}", ran.returncode, [f"stdout was {show(ran.stdout)}"])
             continue
-        each(f"fronts-of-a-file-{name}", ((len(front), front_differences(place, front, it)) for front, it in zip(files, told)))
+        each(f"prefixes-of-a-file-{name}", ((len(prefix), prefix_differences(place, prefix, it)) for prefix, it in zip(files, told)))
 
 
 # ---- files at their limits
@@ -483,6 +483,6 @@ def narrow_output(place):
 
 
 if __name__ == "__main__":
-    sys.exit(run_parts(fronts, limits, one_line, shared_nodes, equal_faults, folder_of_4096, ring_of_4096, calls_of_one_file,
+    sys.exit(run_parts(prefixes, limits, one_line, shared_nodes, equal_faults, folder_of_4096, ring_of_4096, calls_of_one_file,
                        many_of_both, many_edits, many_called_files, calls_of_absent_files, folder_of_links, pieces_of_a_script, lines_of_input,
                        input_without_end, narrow_output))

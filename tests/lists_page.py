@@ -322,12 +322,12 @@ def main(folder, *write):
     text = path.read_text()
     for table in lists(pathlib.Path(folder) / "crates"):
         head = "".join(table.splitlines(True)[:2])
-        stands = re.search(re.escape(head) + r"(?:\|.*\n)*", text)
-        if not stands:
-            sys.exit(f"{path}: no table with the head\n\n{head}")
+        found = re.search(re.escape(head) + r"(?:\|.*\n)*", text)
+        if not found:
+            sys.exit(f"{path}: no table with the header\n\n{head}")
         if write:
-            text = text.replace(stands[0], table)
-        elif stands[0] != table:
+            text = text.replace(found[0], table)
+        elif found[0] != table:
             sys.exit(f"{path}: a table isn't the one of the definitions, which is\n\n{table}\n`lists_page.py TOP --write` writes it")
     if write:
         path.write_text(text)

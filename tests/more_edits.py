@@ -128,8 +128,8 @@ def said_of(crate, edits):
 
 def is_refused(crate, function, said):
     """Whether the lines of a check say that a goal of the function fails, or a proof below the folder of its own proofs."""
-    # a method's name goes by the module of its type, and the proof of a cycle of calls by the cycle's name: of a function that calls itself
-    # alone by its own
+    # a method's name has the module of its type, and the proof of a call cycle has the cycle's name; for a
+    # function that calls itself alone, that is its own
     way = rf"(?:\w+{{0}})*\S*{function.owner}\S*" if function.owner else "{0}".join(function.module)
     name = rf"(?:{function.name}|\+{function.cycle or function.name})"
     goal = re.compile("::".join(it for it in (crate, way.format("::"), name) if it))

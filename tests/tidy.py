@@ -106,7 +106,7 @@ def unused_names(top, is_written):
     for file in [it for folder in ENDINGS for it in files_of(top, folder)]:
         text = file.read_text(encoding="utf-8")
         found = list(unused(text, file.suffix))
-        yield from (f"{file.relative_to(top)} brings in {known_as(it)} and doesn't name it" for _, names in found for it in names)
+        yield from (f"{file.relative_to(top)} imports {known_as(it)} and doesn't use it" for _, names in found for it in names)
         if is_written:
             for use, names in reversed(found):
                 text = text[: use.start()] + without(use, names) + text[use.end() :]

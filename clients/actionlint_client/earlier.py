@@ -27,13 +27,13 @@ class Earlier:
         texts."""
         before, after = lines_of(self.data), lines_of(data)
         most = min(len(before), len(after))
-        front = next((number for number in range(most) if before[number] != after[number]), most)
-        back = next((number for number in range(most - front) if before[-1 - number] != after[-1 - number]), most - front)
+        prefix = next((number for number in range(most) if before[number] != after[number]), most)
+        suffix = next((number for number in range(most - prefix) if before[-1 - number] != after[-1 - number]), most - prefix)
         moved = []
         for fault in self.found.faults:
-            if fault.line <= front:
+            if fault.line <= prefix:
                 moved.append(fault)
-            elif fault.line > len(before) - back:
+            elif fault.line > len(before) - suffix:
                 moved.append(replace(fault, line=fault.line + len(after) - len(before)))
         return Earlier(data, FileFaults(tuple(moved), self.found.more))
 

@@ -168,7 +168,7 @@ TOKEN = re.compile(r"[\w./-]+")
 JOB = "on: push\njobs:\n  a:\n    runs-on: u\n    steps:\n      - {id: one, run: make}\n      - {id: two, run: make}\n  b:\n    needs: a\n"
 PLACES = {
     "keys of a workflow, needed ones first": ("|", {"on", "jobs", "name", "permissions"}, {"runs-on", "steps"}),
-    "those that don't stand there": ("on: push\n|\njobs: {}\n", {"env", "defaults"}, {"on", "jobs"}),
+    "those that aren't there yet": ("on: push\n|\njobs: {}\n", {"env", "defaults"}, {"on", "jobs"}),
     "keys of a job": (JOB + "    |", {"runs-on", "uses", "strategy"}, {"needs", "on", "run"}),
     "keys beside uses": (JOB + "    uses: ./x\n    |", {"with", "secrets"}, {"runs-on", "steps", "env"}),
     "keys of a step": (JOB + "    steps:\n      - |", {"run", "uses", "name"}, {"runs-on"}),

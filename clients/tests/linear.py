@@ -187,7 +187,7 @@ def fixes_of_many_faults(program: str) -> None:
 
 @CASES.case
 def ranges_on_a_long_line(_: str) -> None:
-    """Columns are those of a reader that starts counting at each fault anew, and the line is scanned once."""
+    """Columns are those of a reader that counts from the start for each fault, and the line is scanned once."""
     chance = random.Random(3)
     text = "".join(chance.choice("aé\u2028\U0001F600 -") for _ in range(2_000))
     lines = positions.Lines(b"x\n" + text.encode(), True)

@@ -105,7 +105,7 @@ def order(_: str) -> None:
     tree.add(f"{beside}/actionlint", "exit 3")
     assert tree.found(**own) == (0, built, "")
     tree.add(f"{beside}/crates/actionlint/out/actionlint", "exit 1")
-    assert tree.found(**own) == (0, carried, ""), "one that doesn't run here is passed over"
+    assert tree.found(**own) == (0, carried, ""), "one that doesn't run here is skipped"
     os.remove(carried)
     assert tree.found(**own) == (0, on_path, "")
     assert tree.found() == (3, "", NONE)
