@@ -67,7 +67,7 @@ vim.defer_fn(function() vim.cmd('qall!') end, 8000)
 # For each picture, the text that it shows, and what is typed before it is taken.
 PICTURES = {
     "neovim": ("faults of a workflow", ""),
-    "neovim-completion": ("what can stand at a cursor", "keys('11G$F.lC<C-x><C-o>')"),
+    "neovim-completion": ("completion at a cursor", "keys('11G$F.lC<C-x><C-o>')"),
     "neovim-hover": ("what a key means", "vim.cmd('normal! 6G6|') vim.lsp.buf.hover()"),
 }
 LEAVES_SCREEN = b"\x1b[?1049l"
