@@ -1,6 +1,5 @@
 """Checks that no two cases below a folder have the same input, arguments and output: case_copies.py FOLDER.."""
 
-import pathlib
 import sys
 
 from run_cases import cases_in, words_of

@@ -16,7 +16,7 @@ import shutil
 import sys
 import tempfile
 
-from corpus import TOP, all_runs
+from corpus import all_runs
 from growths import BESIDE, CHOSEN, EDITS, MOST, TEN_EDITS, TESTS, Growths, growths_of_an_edit, in_turn, passes, stops
 from running import exit_status, report, skip
 

@@ -11,7 +11,6 @@ Prints a line for each edit; the status is 1 if one isn't refused or can't be tr
 """
 
 import collections
-import os
 import pathlib
 import re
 import shutil

@@ -7,11 +7,9 @@ the program's help and its version, and bash, zsh and fish are asked what they c
 """
 
 import gzip
-import os
 import pathlib
 import re
 import shutil
-import subprocess
 import sys
 import tempfile
 

@@ -8,7 +8,6 @@ The steps that docs/CI.md shows for an archive run, and wrong arguments are refu
 """
 
 import os
-import pathlib
 import re
 import shutil
 import subprocess
