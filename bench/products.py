@@ -1,5 +1,5 @@
-"""What folders take in which the product of two counts could be taken: bench/products.py, after ./test or a build of crates/actionlint,
-otherwise with the carried program. Needs GNU time (Debian's time).
+"""What folders take for which a lint could take the product of two counts, in time or memory: bench/products.py, after ./test or a build of
+crates/actionlint, otherwise with the carried program. Needs GNU time (Debian's time).
 
 The folders are those of tests/products.py, which tests/hostile.py lints under a limit of memory. Each is linted several times; the least
 processor time is shown, with the greatest memory of a run and the bytes of the report.

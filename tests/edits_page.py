@@ -13,7 +13,7 @@ from more_edits import pairs_of
 
 ROW = re.compile(r"^\| (?:(\w+) )?\| (`\w+`(?:, `\w+`)*) \| (.*) \|$", re.MULTILINE)
 BY = re.compile(r"\bedits? ((?:`\w+`(?: \(`\w+`\))?(?:, | and )?)+)")
-# cases and their folders, after the word `case`; and what else is named by a path
+# cases and their folders, after the word "case"; and what else is named by a path
 CASES = re.compile(r"\bcases? (?:[^`;]*\()?((?:`\w[\w/-]*`(?:, )?)+)")
 PATHS = re.compile(r"`(?!tests/)[\w-]+/[\w/-]+`")
 TESTS = re.compile(r"tests? ((?:`\w+`(?:, | and )?)+) of `(\w+)`")

@@ -251,8 +251,8 @@ def held_to(told):
 
 
 def many_of_both(place):
-    """Folders in which the product of two counts would be taken in time or memory; steps that read all earlier steps, many inputs each of
-    which is read, and jobs in a ring, each of which is reported with its need."""
+    """Folders for which a lint could take time or memory in proportion to the product of two counts; steps that read all earlier steps,
+    many inputs each of which is read, and jobs in a ring, each of which is reported with its need."""
     for name, make in FOLDERS.items():
         files, told = make()
         place.fresh(files)

@@ -1,5 +1,5 @@
-"""Folders in which the product of two counts would be taken, in time or in memory, and the report of each. tests/hostile.py compares the
-reports under a limit of memory, and bench/products.py measures them.
+"""Folders for which a lint could take time or memory in proportion to the product of two counts, and the report on each. tests/hostile.py
+compares the reports under a limit of memory, and bench/products.py measures them.
 """
 
 from itertools import islice, product

@@ -58,7 +58,7 @@ class PutFile:
 
 @dataclass
 class LeftOut:
-    """Bytes of a file that are no longer put, since the linter ended at them too often, and what stands for the reply."""
+    """Bytes of a file that are no longer put, since the linter ended at them too often, and a substitute for the reply."""
 
     data: bytes
     reply: str
@@ -143,7 +143,7 @@ class Folder:
         return None
 
     def delay(self) -> float:
-        """The seconds until the linter may be started again, 0 where it may now."""
+        """The seconds until the linter may be started again, 0 if it may be now."""
         return self._restarts.delay()
 
     def data_of(self, path: str) -> bytes:

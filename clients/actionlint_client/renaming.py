@@ -22,7 +22,7 @@ class Refusal(Exception):
 
 
 def renamable_at(project: Project, file: str, point: Point) -> Occurrence | None:
-    """The name at a point, where it is declared in a file of the folder."""
+    """The name at a point, if it is declared in a file of the folder."""
     found = occurrence_at(project, file, point)
     if found is None or found.symbol.kind == "file":
         return None

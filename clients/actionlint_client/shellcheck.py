@@ -55,7 +55,7 @@ class SourceFile:
 def notes(root: str, files: list[str], refused: set[str], say: Callable[[str], None]) -> Iterator[Problem]:
     """The notes on all scripts of the files and of what they call, or of all workflows, in the order of the scripts. Files that aren't
     valid YAML for the linter are skipped, and `say` is told about those that can't be read here."""
-    # (the linter has already told which links it passed over)
+    # (the linter has already said which links it skipped)
     disk = Disk(os.fsencode(root), lambda _: None)
     found = _scripts(disk, files, refused, say)
     while some := list(islice(found, SCRIPTS_OF_A_RUN)):

@@ -197,7 +197,7 @@ def odd_files_to_write(program: str) -> None:
 
 
 def redirected(program: str, folder: str, where: str, words: list[str]) -> tuple[int, str, str]:
-    """The status and both streams of actionlint-report, of which a shell has redirected some."""
+    """The status and both streams of actionlint-report, some of them redirected by a shell."""
     done = subprocess.run(["sh", "-c", f'exec "$@" {where}', "sh", sys.executable, REPORT, "--program", program, *words], cwd=folder,
                           stdout=subprocess.PIPE, stderr=subprocess.PIPE, text=True, check=False)
     return done.returncode, done.stdout, done.stderr
