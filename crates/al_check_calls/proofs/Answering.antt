@@ -1,20 +1,22 @@
 -- The kept calls with their answers are the file's calls with their answers.
-use Rattle.std.proofs.Common.{◌≡◌, ◌<◌, ◌+◌, ◌++◌, ◌∙◌, ℕ, List, [], ◌∷◌, Option, Some, None, ap, append-nil, append_assoc, drop, get_or, length, map, option_map, refl, sym}
-use Rattle.std.proofs.lemmas.List.{drop_more}
-use Rattle.std.specs.Prelude.{IfSome, slice_get, slice_index_or}
+use Rattle.std.proofs.Common.{Bor, ◌≡◌, ◌<◌, ◌+◌, ◌++◌, ◌∙◌, ℕ, List, [], ◌∷◌, zero, suc, Option, Some, None, ap, append-nil, append_assoc, drop, get_or, length, map, option_map, refl, sym}
+use Rattle.std.proofs.Math.Seq.{drop-drop}
+use Rattle.std.proofs.lemmas.Option.{slice_get_past, slice_get_read}
+use Rattle.std.specs.Prelude.{IfSome, slice_get, slice_index_or, unwrap_or}
 use Rattle.std.specs.List.{AllByRecursion, cons_option, filter_map}
-use Rattle.std.specs.Option.{option_map_or}
+use Rattle.std.specs.Option.{option_copied, option_map_or}
+use Rattle.std.specs.Slice.{IsItemAt}
 use Rattle.al_base.proofs.Elements.{each_cons}
 use Rattle.al_base.specs.declared.codes.CallCode.TheVariants.{CallCycle}
 use Rattle.al_session_folder.specs.declared.lint.Target.{Target}
 use Rattle.al_yaml_tree.specs.Node.{Node}
+use Rattle.al_tree.proofs.Lists.{left_next}
 use Rattle.al_tree.specs.declared.files.FileKind.{FileKind}
 use Rattle.al_check_interfaces.specs.declared.interfaces.Interface.{Interface}
 use Rattle.al_check_interfaces.specs.FolderCalls.{AreCallsOf, FolderCall, as_folder_call, folder_call}
 use Rattle.al_check_interfaces.specs.Uses.{Call, calls_in, target_in, that_uses}
 use Rattle.al_check_interfaces.specs.declared.calls.FolderCall as code
 use Rattle.al_check_calls.specs.Answers.{Answered, answered_by, calls_with_answers}
-use Rattle.al_check_calls.specs.Private.AnswerViews.{answered_at}
 
 -- ---- what is true of all calls is true of those with answers
 
@@ -34,14 +36,9 @@ each_answered P (c ∷ cs) answers p =
 abbrev with_answer : List (Option Interface) → Call → Answered
 with_answer answers c = answered_by c (slice_index_or answers 0 None)
 
-abbrev answered_of_kept : List FolderCall → List (Option Interface) → List Answered
+abbrev pub answered_of_kept : List FolderCall → List (Option Interface) → List Answered
 answered_of_kept [] answers = []
 answered_of_kept (k ∷ ks) answers = cons_option (option_map (with_answer answers) k.0) (answered_of_kept ks (drop 1 answers))
-
-of_seen : (calls : List Call) (kept : List code.FolderCall) (answers : List (Option Interface)) →
-    answered_at calls (map (λ c. c.number) kept) answers ≡ answered_of_kept (map (folder_call calls) kept) answers
-of_seen calls [] answers = refl
-of_seen calls (c ∷ kept) answers = ap (λ l. cons_option (option_map (with_answer answers) (slice_get calls c.number)) l) (of_seen calls kept (drop 1 answers))
 
 of_kept : (cs : List Call) (answers : List (Option Interface)) → answered_of_kept (filter_map as_folder_call cs) answers ≡ calls_with_answers cs answers
 of_kept [] answers = refl
@@ -54,24 +51,36 @@ of_kept (c ∷ cs) answers = by (target_in c.form) (of_kept cs)
     by (Some t) rest = ap (λ l. with_answer answers c ∷ l) (rest (drop 1 answers))
 
 pub all_answered : (kind : FileKind) (root : Node) (kept : List code.FolderCall) (answers : List (Option Interface)) → AreCallsOf kind root kept →
-    answered_at (calls_in kind root) (map (λ c. c.number) kept) answers ≡ calls_with_answers (calls_in kind root) answers
-all_answered kind root kept answers are =
-    of_seen (calls_in kind root) kept answers ∙ ap (λ ks. answered_of_kept ks answers) are ∙ of_kept (calls_in kind root) answers
+    answered_of_kept (map (folder_call (calls_in kind root)) kept) answers ≡ calls_with_answers (calls_in kind root) answers
+all_answered kind root kept answers are = ap (λ ks. answered_of_kept ks answers) are ∙ of_kept (calls_in kind root) answers
 
 -- ---- one more call
+
+-- the item that a slice gives for an index
+pub item_at : {X : Type 0} (xs : List X) (i : ℕ) (r : Option (Bor X)) → IsItemAt xs i r → slice_get xs i ≡ option_copied r
+item_at xs i None item = slice_get_past xs i item.3
+item_at xs i (Some x) item = slice_get_read xs (length xs) i x.now refl item.3.0 item.1
+
+-- the answer at an index is the first of those from there on
+pub answer_there : (answers : List (Option (Bor Interface))) (i : ℕ) → option_copied (unwrap_or (slice_get answers i) None)
+    ≡ slice_index_or (drop i (map (λ a. option_copied a) answers)) 0 None
+answer_there [] zero = refl
+answer_there [] (suc i) = refl
+answer_there (a ∷ answers) zero = refl
+answer_there (a ∷ answers) (suc i) = answer_there answers i
 
 put_next : {X : Type 0} (o : Option X) (old new rest whole : List X) → new ≡ old ++ cons_option o [] → old ++ cons_option o rest ≡ whole → new ++ rest ≡ whole
 put_next None old new rest whole more so_far = ap (λ l. l ++ rest) (more ∙ append-nil old) ∙ so_far
 put_next (Some x) old new rest whole more so_far = ap (λ l. l ++ rest) more ∙ append_assoc old (x ∷ []) rest ∙ so_far
 
-pub answered_more : (calls : List Call) (kept : List code.FolderCall) (i : ℕ) (call : code.FolderCall) (left others : List (Option Interface)) (answer : Option Interface)
-    (old new whole : List Answered) → i < length kept → call ≡ get_or kept i call → answer ≡ slice_index_or left 0 None → others ≡ drop 1 left →
-    new ≡ old ++ cons_option (option_map (λ c. answered_by c answer) (slice_get calls call.number)) [] →
-    old ++ answered_at calls (map (λ c. c.number) (drop i kept)) left ≡ whole → new ++ answered_at calls (map (λ c. c.number) (drop (i + 1) kept)) others ≡ whole
-answered_more calls kept i call left others answer old new whole room is first after more so_far =
-    let one : drop i kept ≡ call ∷ drop (i + 1) kept = drop_more kept i call room ∙ sym (ap (λ c. c ∷ drop (i + 1) kept) is) in
-    let numbers = map (λ (c : code.FolderCall). c.number) (drop (i + 1) kept) in
-    ap (λ l. new ++ answered_at calls numbers l) after
-    ∙ put_next (option_map (with_answer left) (slice_get calls call.number)) old new (answered_at calls numbers (drop 1 left)) whole
-    (more ∙ ap (λ a. old ++ cons_option (option_map (λ c. answered_by c a) (slice_get calls call.number)) []) first)
-    (ap (λ l. old ++ answered_at calls (map (λ c. c.number) l) left) (sym one) ∙ so_far)
+pub answered_more : (calls : List Call) (kept : List code.FolderCall) (i : ℕ) (k : code.FolderCall) (answers : List (Option Interface)) (o : Option Call)
+    (old new whole : List Answered) → i < length kept → k ≡ get_or kept i k → slice_get calls k.number ≡ o →
+    new ≡ old ++ cons_option (option_map (with_answer (drop i answers)) o) [] →
+    old ++ answered_of_kept (map (folder_call calls) (drop i kept)) (drop i answers) ≡ whole →
+    new ++ answered_of_kept (map (folder_call calls) (drop (i + 1) kept)) (drop (i + 1) answers) ≡ whole
+answered_more calls kept i k answers o old new whole room is there more so_far =
+    let rest = map (folder_call calls) (drop (i + 1) kept) in
+    ap (λ l. new ++ answered_of_kept rest l) (sym (drop-drop 1 i answers))
+    ∙ put_next (option_map (with_answer (drop i answers)) (slice_get calls k.number)) old new (answered_of_kept rest (drop 1 (drop i answers))) whole
+    (more ∙ ap (λ c. old ++ cons_option (option_map (with_answer (drop i answers)) c) []) (sym there))
+    (ap (λ l. old ++ answered_of_kept l (drop i answers)) (sym (left_next (folder_call calls) kept i k room is)) ∙ so_far)

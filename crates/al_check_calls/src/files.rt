@@ -1,15 +1,8 @@
 //! The faults of a file that depend on the answers of its calls.
-ghost use Rattle.std.specs.Prelude.{◌++◌, map, All, OnOk};
-ghost use Rattle.std.specs.List.{flat_map};
+ghost use Rattle.std.specs.Prelude.{◌++◌, map, OnOk};
 ghost use Rattle.std.specs.Option.{option_copied};
-ghost use Rattle.al_check_calls.specs.Answers.{answered_faults};
-ghost use Rattle.al_check_calls.specs.Private.AnswerViews.{answered_of, typing_in};
 ghost use Rattle.al_check_calls.specs.FileCalls as file_calls;
-ghost use Rattle.al_check_calls.specs.FileCalls.{AreShort};
-ghost use Rattle.al_check_calls.specs.Private.Comparing.{AreToldByUses};
 ghost use Rattle.al_session_folder.specs.Meaning.{AreAnswers};
-ghost use Rattle.al_check_expressions.specs.FileExpressions as expressions;
-ghost use Rattle.al_check_contexts.specs.Answered.{known_of};
 ghost use Rattle.al_base.specs.Growth.{SameSet};
 ghost use Rattle.al_base.specs.Limits.{largest_file};
 ghost use Rattle.al_check_interfaces.specs.FolderCalls.{AreCallsOf};
@@ -18,56 +11,16 @@ ghost use Rattle.al_yaml_tree.specs.Spans.{IsLaid};
 ghost use Rattle.al_yaml_tree.specs.Texts.{HasTexts};
 ghost use Rattle.al_yaml_tree.specs.View.{view};
 
-use crate::answers::{Answered, with_answers};
+use crate::answers::with_answers;
 use crate::faults::check_calls;
 use crate::known::known_outputs;
 use al_base::FaultSink;
-use al_check_contexts::{Env, File};
+use al_check_contexts::Env;
 use al_check_expressions::expression_faults;
 use al_check_interfaces::{FolderCall, Interface, calls_in};
 use al_tree::FileKind;
 use al_yaml_tree::Node;
 use std::alloc::AllocError;
-
-/// Adds the faults of a file's expressions and calls, given what is known of the outputs of the calls.
-fn check_file<'a>(
-    file: File<'a>,
-    answered: &[Answered<'a>],
-    faults: &mut FaultSink,
-) -> Result<(), AllocError>
-    requires laid { IsLaid largest_file (view file.root.now) }
-    requires texts { HasTexts (view file.root.now) }
-    requires short { All (λ a. AreShort (view a.call.site.node.now)) answered.now }
-    requires answers { AreToldByUses (map answered_of answered.now) }
-    ensures { let f = file.entry in OnOk result (SameSet faults.new (faults.old
-        ++ (expressions.expression_faults f.kind (known_of f.known) (view f.root.now)
-        ++ flat_map (answered_faults (typing_in f)) (map answered_of answered.now)))) }
-{
-    let mut env = Env::new(faults.alloc(), file)?;
-    expression_faults(&mut env, faults)?;
-    check_calls(&mut env, answered, faults)?;
-    Ok(())
-}
-
-/// Adds the faults of a file's expressions and calls, given the calls with their answers.
-fn check_with_answers<'a>(
-    kind: FileKind,
-    root: &'a Node,
-    answered: &[Answered<'a>],
-    faults: &mut FaultSink,
-) -> Result<(), AllocError>
-    requires laid { IsLaid largest_file (view root.now) }
-    requires texts { HasTexts (view root.now) }
-    requires short { All (λ a. AreShort (view a.call.site.node.now)) answered.now }
-    requires answers { AreToldByUses (map answered_of answered.now) }
-    ensures { OnOk result
-        (SameSet faults.new (faults.old
-        ++ file_calls.faults_by kind (view root.now) (map answered_of answered.now))) }
-{
-    let known = known_outputs(faults.alloc(), answered)?;
-    check_file(known.file(kind, root), answered, faults)?;
-    Ok(())
-}
 
 /// A file that calls: its kind, its tree, and its kept calls of files in the folder.
 #[derive(Clone, Copy)]
@@ -100,6 +53,9 @@ pub fn faults_with_answers<'a>(
     let alloc = faults.alloc();
     let calls = calls_in(alloc, file.kind, file.root)?;
     let answered = with_answers(alloc, calls.as_slice(), file.calls, answers)?;
-    check_with_answers(file.kind, file.root, answered.as_slice(), faults)?;
+    let known = known_outputs(alloc, answered.as_slice())?;
+    let mut env = Env::new(alloc, known.file(file.kind, file.root))?;
+    expression_faults(&mut env, faults)?;
+    check_calls(&mut env, answered.as_slice(), faults)?;
     Ok(())
 }

@@ -1,10 +1,10 @@
 //! What is known of outputs from the answers of calls.
-ghost use Rattle.std.specs.Prelude.{◌≡◌, map, is_some, IfOk, Some};
+ghost use Rattle.std.specs.Prelude.{◌≡◌, map, is_some, IfOk};
 ghost use Rattle.al_check_calls.specs.Outputs.{called_outputs};
 ghost use Rattle.al_check_calls.specs.Private.AnswerViews.{answered_of};
 ghost use Rattle.al_check_contexts.specs.Answered.{known_in, known_of};
 ghost use Rattle.al_check_calls.specs.FileCalls.{known_of_call};
-ghost use Rattle.al_check_calls.specs.Private.KnownLists.{ArePlaced, Naming, Takes, all_call_outputs, position_of};
+ghost use Rattle.al_check_calls.specs.Private.KnownLists.{ArePlaced, Naming, Takes, all_call_outputs};
 ghost use Rattle.al_check_calls.specs.Private.Comparing.{AreToldByUses};
 ghost use Rattle.al_yaml_tree.specs.View.{view};
 
@@ -36,65 +36,23 @@ impl<'a> Lists<'a> {
         }
     }
 
-    /// The position of the outputs of the calls by a text, if they have one.
-    fn known_position(&self, of_step: bool, text: &'a [u8]) -> Option<usize>
-        ensures { result ≡ position_of self.now of_step text.entry.now }
-    {
-        self.positions.get(&(of_step, text)).copied()
-    }
-
-    /// Adds the list of the outputs of the calls by a text that has no position yet, and returns its position. Fails with
-    /// `AllocError` when out of memory, as everything here does.
-    fn add(
-        &mut self,
-        of_step: bool,
-        text: &'a [u8],
-        names: &'a NameList,
-    ) -> Result<usize, AllocError>
-        ensures { IfOk result
-            (λ position. Takes self.old self.new of_step text.entry.now
-            (Some names.entry.now) (Some position)) }
-    {
-        let position = self.lists.len();
-        self.lists.push(names)?;
-        self.positions.insert((of_step, text), position)?;
-        Ok(position)
-    }
-
-    /// The position of the list of the outputs of the calls by a text.
-    fn position_by(
-        &mut self,
-        of_step: bool,
-        text: &'a [u8],
-        names: &'a NameList,
-    ) -> Result<usize, AllocError>
-        ensures { IfOk result
-            (λ position. Takes self.old self.new of_step text.entry.now
-            (Some names.entry.now) (Some position)) }
-    {
-        match self.known_position(of_step, text) {
-            Some(known) => Ok(known),
-            None => {
-                let added = self.add(of_step, text, names)?;
-                Ok(added)
-            }
-        }
-    }
-
-    /// The position of the outputs of a call; `None` if nothing is known of them.
+    /// The position of the outputs of a call; `None` if nothing is known of them. Fails with `AllocError` when out of memory.
     fn position(&mut self, answered: Answered<'a>) -> Result<Option<usize>, AllocError>
         ensures { let a = answered_of answered.entry in IfOk result
             (λ position. Takes self.old self.new (is_some a.call.site.step) a.call.text
             (called_outputs a) position) }
     {
-        match outputs_of(answered) {
-            None => Ok(None),
-            Some(names) => {
-                let of_step = answered.call.site.step.is_some();
-                let position = self.position_by(of_step, uses_text(answered.call), names)?;
-                Ok(Some(position))
-            }
+        let Some(names) = outputs_of(answered) else {
+            return Ok(None);
+        };
+        let key = (answered.call.site.step.is_some(), uses_text(answered.call));
+        if let Some(known) = self.positions.get(&key) {
+            return Ok(Some(*known));
         }
+        let position = self.lists.len();
+        self.lists.push(names)?;
+        self.positions.insert(key, position)?;
+        Ok(Some(position))
     }
 }
 

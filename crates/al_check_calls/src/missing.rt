@@ -1,40 +1,19 @@
 //! Mandatory parameters that calls don't give: C3 and C6. The fault is at `uses` and names only the parameter. So for calls behind
 //! aliases of one `uses`, a parameter is looked up until one of them doesn't give it, and reported once.
 ghost use Rattle.std.specs.Prelude.{◌≡◌, ◌++◌, ◌∷◌, [], map, IfOk, IfSome, OnOk};
-ghost use Rattle.al_base.specs.NamePlaces.{name_place, name_position};
 ghost use Rattle.std.specs.List.{flat_map};
-ghost use Rattle.std.specs.List.Sorted.{IsPermutation};
 ghost use Rattle.al_base.specs.Growth.{SameSet};
 ghost use Rattle.al_check_calls.specs.CallFaults as meant;
 ghost use Rattle.al_check_calls.specs.Private.AnswerViews.{compared_of};
 ghost use Rattle.al_check_calls.specs.Private.Comparing as comparing;
 ghost use Rattle.al_check_calls.specs.Private.Comparing.{HaveOneSignature, IsSaid, TellSignatures};
-ghost use Rattle.al_tree.specs.Keys.{keys_in};
 
 use crate::comparisons::{Comparison, call_alike, given_by};
 use crate::reports::{called_name, code_at, uses_span};
-use al_base::{CallCode, Caller, FaultSink, NamePositions};
+use al_base::{CallCode, Caller, FaultSink};
 use al_check_interfaces::{Parameter, ParameterKind, caller_of};
 use al_tree::member_positions;
-use std::alloc::{AllocError, Global};
-
-/// A call, and the names that it gives.
-#[derive(Drop)]
-struct Giver<'a> {
-    call: Comparison<'a>,
-    names: NamePositions,
-}
-
-fn giver_of<'a>(alloc: Global, call: Comparison<'a>) -> Result<Giver<'a>, AllocError>
-    ensures call { IfOk result (λ g. compared_of g.call ≡ compared_of call.entry) }
-    ensures names { let q = compared_of call.entry in IfOk result
-        (λ g. name_position g.names
-        ≡ name_place (keys_in (meant.given_by q.kind q.call.site.node))) }
-{
-    let given = given_by(alloc, call.kind, call.call.site.node)?;
-    let names = member_positions(alloc, given.as_slice())?;
-    Ok(Giver { call, names })
-}
+use std::alloc::AllocError;
 
 fn missing_code(kind: ParameterKind) -> CallCode
     ensures { result ≡ meant.missing_code kind }
@@ -60,39 +39,6 @@ fn report_missing(
     faults.report_two(uses_span(call.call), code, name, called)
 }
 
-/// Whether a call gives a parameter.
-fn is_given(alloc: Global, giver: &Giver<'_>, parameter: &Parameter) -> Result<bool, AllocError>
-    requires { let q = compared_of giver.now.call in name_position giver.now.names
-        ≡ name_place (keys_in (meant.given_by q.kind q.call.site.node)) }
-    ensures { IfOk result
-        (λ b. b ≡ comparing.gives (compared_of giver.now.call) parameter.now) }
-{
-    let position = giver.names.get(alloc, parameter.name.as_bytes())?;
-    Ok(position.is_some())
-}
-
-/// Adds C3 or C6 of a parameter, or keeps the parameter if the call gives it.
-fn check_parameter<'a>(
-    giver: &Giver<'_>,
-    parameter: &'a Parameter,
-    left: &mut Vec<&'a Parameter>,
-    faults: &mut FaultSink,
-) -> Result<(), AllocError>
-    requires { let q = compared_of giver.now.call in name_position giver.now.names
-        ≡ name_place (keys_in (meant.given_by q.kind q.call.site.node)) }
-    ensures faults { OnOk result (faults.new ≡ faults.old
-        ++ comparing.fault_unless_given (compared_of giver.now.call) parameter.entry.now) }
-    ensures left { OnOk result (map (λ p. p.now) left.new.items
-        ≡ map (λ p. p.now) left.old.items
-        ++ comparing.parameter_if_given (compared_of giver.now.call) parameter.entry.now) }
-{
-    if is_given(faults.alloc(), giver, parameter)? {
-        left.push(parameter)?;
-        return Ok(());
-    }
-    report_missing(giver.call, parameter, faults)
-}
-
 /// Adds C3 and C6 of these parameters, and returns those that the call gives. If there are no parameters, what the call gives isn't
 /// looked at.
 fn check_parameters<'a>(
@@ -107,13 +53,19 @@ fn check_parameters<'a>(
         ≡ flat_map (comparing.parameter_if_given (compared_of call.entry))
         (map (λ p. p.now) parameters.now)) }
 {
-    let mut left = Vec::new(faults.alloc());
+    let alloc = faults.alloc();
+    let mut left = Vec::new(alloc);
     if let [] = parameters {
         return Ok(left);
     }
-    let giver = giver_of(faults.alloc(), call)?;
+    let given = given_by(alloc, call.kind, call.call.site.node)?;
+    let names = member_positions(alloc, given.as_slice())?;
     for parameter in parameters {
-        check_parameter(&giver, *parameter, &mut left, faults)?;
+        if names.get(alloc, parameter.name.as_bytes())?.is_some() {
+            left.push(*parameter)?;
+            continue;
+        }
+        report_missing(call, *parameter, faults)?;
     }
     Ok(left)
 }
@@ -153,22 +105,6 @@ fn check_next<'a>(
     Ok(found)
 }
 
-/// Adds C3 and C6 of calls, one after another.
-fn check_in_turn<'a>(calls: &[Comparison<'a>], faults: &mut FaultSink) -> Result<(), AllocError>
-    requires { TellSignatures (map compared_of calls.now) }
-    ensures { OnOk result (SameSet faults.new (faults.old
-        ++ flat_map comparing.missing_of (map compared_of calls.now))) }
-{
-    let mut previous = None;
-    let mut left = Vec::new(faults.alloc());
-    for i in 0..calls.len() {
-        let call = calls[i];
-        left = check_next(previous, left.as_slice(), call, faults)?;
-        previous = Some(call);
-    }
-    Ok(())
-}
-
 /// The key by which calls are sorted: the place of `uses`, then who calls, then the kind.
 fn order_of(call: &Comparison<'_>) -> (u32, Caller, ParameterKind) {
     (
@@ -176,15 +112,6 @@ fn order_of(call: &Comparison<'_>) -> (u32, Caller, ParameterKind) {
         caller_of(call.call.site),
         call.kind,
     )
-}
-
-/// Sorts calls, so that those by one `uses` are adjacent.
-fn in_order<'a>(comparisons: Vec<Comparison<'a>>) -> Vec<Comparison<'a>>
-    ensures { IsPermutation comparisons.entry.items result.items }
-{
-    let mut calls = comparisons;
-    calls.sort_unstable_by_key(|call| order_of(call));
-    calls
 }
 
 /// Adds C3 and C6 of calls, of equal faults at least one. Takes time proportional to what the calls give, and to the mandatory parameters
@@ -197,6 +124,14 @@ pub(crate) fn check_missing(
     ensures { OnOk result (SameSet faults.new
         (faults.old ++ flat_map comparing.missing_of (map compared_of comparisons.entry.items))) }
 {
-    let calls = in_order(comparisons);
-    check_in_turn(calls.as_slice(), faults)
+    let mut calls = comparisons;
+    // Calls by one `uses` are then adjacent.
+    calls.sort_unstable_by_key(|call| order_of(call));
+    let mut previous = None;
+    let mut left = Vec::new(faults.alloc());
+    for call in &calls {
+        left = check_next(previous, left.as_slice(), *call, faults)?;
+        previous = Some(*call);
+    }
+    Ok(())
 }

@@ -1,6 +1,5 @@
 //! The values under `with` of a job, each with its type.
-ghost use Rattle.std.specs.Prelude.{◌≡◌, [], map, true, unwrap_or, IfOk, OnOk};
-ghost use Rattle.std.specs.Option.{option_copied};
+ghost use Rattle.std.specs.Prelude.{◌≡◌, map, true, IfOk, OnOk};
 ghost use Rattle.al_check_calls.specs.Private.AnswerViews.{given_at, typing_in};
 ghost use Rattle.al_check_interfaces.specs.CallViews.{call_of};
 ghost use Rattle.al_check_contexts.specs.Answered.{known_of};
@@ -74,16 +73,6 @@ fn value_type<'a>(env: &mut Env<'a>, given: JobInput<'a>) -> Result<Ty, AllocErr
     }
 }
 
-/// The text of a job's key; empty if there is none.
-fn text_or_empty<'a>(text: Option<&'a [u8]>) -> &'a [u8]
-    ensures { result.now ≡ unwrap_or (option_copied text.entry) [] }
-{
-    match text {
-        None => &[],
-        Some(text) => text,
-    }
-}
-
 /// The values that a job's call gives, each with its type. Moves the environment to the values.
 pub(crate) fn job_values<'a>(
     env: &mut Env<'a>,
@@ -96,7 +85,7 @@ pub(crate) fn job_values<'a>(
         ≡ values_in (typing_in (file_of env.old)) (call_of call.entry)) }
 {
     let alloc = env.alloc();
-    let job = text_or_empty(call.site.job);
+    let job = call.site.job.unwrap_or(&[]);
     let given = members_under(alloc, call.site.node, "with")?;
     let mut values = Vec::new(alloc);
     for member in &given {

@@ -1,6 +1,6 @@
 -- The code's calls, values and answers as the specification has them.
-use Rattle.std.specs.Prelude.{ℕ, List, [], ◌∷◌, Bool, drop, Option, option_map, slice_get, slice_index_or, None}
-use Rattle.std.specs.List.{cons_option, list_all}
+use Rattle.std.specs.Prelude.{List, Bool}
+use Rattle.std.specs.List.{list_all}
 use Rattle.std.specs.Option.{option_copied}
 use Rattle.al_tree.specs.Values.{member_of}
 use Rattle.al_types.specs.Types.{Parts}
@@ -10,10 +10,8 @@ use Rattle.al_check_contexts.specs.declared.env.File.{File}
 use Rattle.al_expr_types.specs.Tables.{is_known, objects_of}
 use Rattle.al_expr_types.specs.Types.{type_in}
 use Rattle.al_expr_types.specs.declared.types.Types.{Types}
-use Rattle.al_check_interfaces.specs.declared.interfaces.Interface.{Interface}
 use Rattle.al_check_interfaces.specs.CallViews.{call_of}
-use Rattle.al_check_interfaces.specs.Uses.{Call}
-use Rattle.al_check_calls.specs.Answers.{Answered, Typing, answered_by}
+use Rattle.al_check_calls.specs.Answers.{Answered, Typing}
 use Rattle.al_check_calls.specs.CallFaults.{Given}
 use Rattle.al_check_calls.specs.FileCalls.{typing}
 use Rattle.al_check_calls.specs.Private.Comparing.{Comparison, GivenName}
@@ -45,10 +43,3 @@ name_of n = record { by = compared_of n.by; entry = member_of n.member }
 -- the types that the calls of a file give
 abbrev pub typing_in : File → Typing
 typing_in f = typing f.kind (known_of f.known) (view f.root.now)
-
--- the calls with these numbers, with their answers
-abbrev pub answered_at : List Call → List ℕ → List (Option Interface) → List Answered
-answered_at calls [] answers = []
-answered_at calls (number ∷ more) answers =
-    cons_option (option_map (λ c. answered_by c (slice_index_or answers 0 None)) (slice_get calls number))
-    (answered_at calls more (drop 1 answers))

@@ -4,11 +4,11 @@ use Rattle.std.specs.List.{flat_map}
 use Rattle.al_base.specs.Growth.{SameSet}
 use Rattle.al_check_calls.specs.Private.AnswerViews.{compared_of}
 use Rattle.al_check_calls.specs.Private.Comparing.{IsSaid, missing_of}
-use Rattle.al_check_calls.proofs.missing.check_in_turn.Given as goal
+use Rattle.al_check_calls.proofs.missing.check_missing.Given as goal
 
-abbrev pub invariant-loop-i : goal.invariant-loop-i
-invariant-loop-i l = record {
-  there : IfSome l.previous (λ p. Contains (map compared_of l.calls) (compared_of p));
+abbrev pub invariant-loop-call : goal.invariant-loop-call
+invariant-loop-call l = record {
+  there : IfSome l.previous (λ p. Contains (map compared_of l.call-items) (compared_of p));
   said : IfSome l.previous (λ p. IsSaid (compared_of p) (map (λ q. q.now) l.left.items) l.faults);
-  set : SameSet l.faults (l.fn.faults ++ flat_map missing_of (map compared_of (take l.i l.calls)));
+  set : SameSet l.faults (l.fn.faults ++ flat_map missing_of (map compared_of (take l.call-index l.call-items)));
 }
