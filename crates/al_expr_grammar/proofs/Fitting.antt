@@ -12,8 +12,7 @@ use Rattle.al_base.specs.FirstBytes.{begins_with, first_is}
 use Rattle.al_expr_grammar.specs.Tokens.{begins_name, goes_on_name, with_digits, hex_len, fraction_len}
 use Rattle.al_base.specs.Ascii.{is_sign}
 use Rattle.al_expr_grammar.specs.Tokens.{exponent_len, decimal_tail, decimal_len, unsigned_len, number_len, add_to, text_tail}
-use Rattle.al_expr_grammar.specs.Private.TextTails.{after_byte, tail_from}
-use Rattle.al_expr_grammar.proofs.TextTails.{tail_is}
+use Rattle.al_expr_grammar.proofs.TextTails.{after_byte, tail_from, tail_is}
 use Rattle.al_expr_grammar.specs.Private.TokenStates.{Fits}
 use Rattle.al_expr_grammar.specs.Tokens.{text_read, number_read, name_read}
 

@@ -1,7 +1,18 @@
--- `tail_from`, byte by byte, agrees with the definition of `text_tail`.
+-- The end of a text, byte by byte, as the definition of `text_tail` has it.
 use Rattle.std.proofs.Common.{◌≡◌, ℕ, List, [], ◌∷◌, Bool, true, false, cond, Option, Some, None, refl, ap, ◌∙◌, arith}
 use Rattle.al_expr_grammar.specs.Tokens.{add_to, is_quote, text_tail}
-use Rattle.al_expr_grammar.specs.Private.TextTails.{after_byte, tail_from}
+
+-- one byte of a text: whether a quote came before it, and whether it is a quote itself
+abbrev pub after_byte : Bool → Bool → (Bool → Option ℕ) → Option ℕ
+after_byte false quote go = add_to 1 (go quote)
+after_byte true true go = add_to 1 (go false)
+after_byte true false go = Some 0
+
+-- The number of bytes up to the end of a text. The flag says that the last byte was a quote, which may close it.
+abbrev pub tail_from : Bool → List ℕ → Option ℕ
+tail_from false [] = None
+tail_from true [] = Some 0
+tail_from quote (b ∷ bs) = after_byte quote (is_quote b) (λ q. tail_from q bs)
 
 twice : (o : Option ℕ) → add_to 1 (add_to 1 o) ≡ add_to 2 o
 twice None = refl

@@ -1,9 +1,7 @@
 //! The expressions in a text, each between `${{` and `}}`.
 
 ghost use Rattle.std.specs.Prelude.{◌≡◌, ◌≤◌, ◌<◌, ◌+◌, ◌^◌, ◌&&◌, IfOk, IfSome, All, map, length};
-ghost use Rattle.std.specs.Str.{IsCharBoundary};
 ghost use Rattle.al_base.specs.Limits.{longest_text};
-ghost use Rattle.al_base.specs.Spans.{span};
 ghost use Rattle.al_expr_grammar.specs.Chunks.{before_opening, chunks_of, closes, closing_position, is_outside_quotes};
 ghost use Rattle.al_expr_grammar.specs.Chunks.{open_fault, opens, span_of_chunk, IsCutFrom};
 
@@ -96,24 +94,6 @@ fn open_fault(start: usize, content: &[u8]) -> Option<Fault>
     }
 }
 
-/// The chunk whose content is between these offsets.
-fn cut(text: &str, start: usize, end: usize) -> Chunk
-    requires within { start ≤ end }
-    requires room { length text.now < 2 ^ 32 }
-    requires start { IsCharBoundary text.now start }
-    requires end { IsCharBoundary text.now end }
-    ensures span { span_of_chunk result ≡ span start end }
-    ensures content { IsCutFrom text.now result }
-{
-    Chunk {
-        content: &text[start..end],
-        span: Span {
-            start: start as u32,
-            end: end as u32,
-        },
-    }
-}
-
 /// The closed chunks of a text, in order, and the fault at its end, if there is one. Spans are byte offsets in the
 /// text.
 ///
@@ -135,8 +115,16 @@ pub fn chunks(alloc: Global, text: &str) -> Result<(Vec<Chunk>, Option<Fault>), 
         let Some(len) = closing_position(content) else {
             return Ok((found, open_fault(start, content)));
         };
-        found.push(cut(text, start, start + len))?;
-        at = start + len + 2;
+        let end = start + len;
+        let span = Span {
+            start: start as u32,
+            end: end as u32,
+        };
+        found.push(Chunk {
+            content: &text[start..end],
+            span,
+        })?;
+        at = end + 2;
     }
     Ok((found, None))
 }

@@ -1,21 +1,18 @@
 //! The tokens of a content, or the character at which they end early.
 
-ghost use Rattle.std.specs.Prelude.{map, IfOk, IfSome, MatchOption, MatchResult, ◌≡◌, ◌≤◌, ◌<◌, ◌+◌, ◌^◌, Some, [], ◌∷◌, length, false};
+ghost use Rattle.std.specs.Prelude.{map, IfOk, IfSome, MatchOption, MatchResult, ◌≡◌, ◌≤◌, ◌<◌, ◌^◌, Some, [], ◌∷◌, length};
 ghost use Rattle.std.specs.Int.{is_in_range};
 ghost use Rattle.std.specs.List.{prefix_len};
 ghost use Rattle.al_expr_grammar.specs.Lexeme.{seen};
-ghost use Rattle.al_expr_grammar.specs.Tokens.{begins_name, goes_on_name, is_blank_byte, mark};
 ghost use Rattle.al_base.specs.Ascii.{is_sign};
 ghost use Rattle.al_base.specs.Limits.{longest_text};
-ghost use Rattle.al_expr_grammar.specs.Tokens.{word_kind, text_tail, text_read, name_read, number_read};
-ghost use Rattle.al_expr_grammar.specs.Tokens.{number_len, read, tokens_of, AllRead};
-ghost use Rattle.al_expr_grammar.specs.Tokens.{last_quote};
+ghost use Rattle.al_expr_grammar.specs.Tokens.{begins_name, goes_on_name, is_blank_byte, mark};
+ghost use Rattle.al_expr_grammar.specs.Tokens.{word_kind, text_tail, read, tokens_of, AllRead, last_quote};
 ghost use Rattle.al_expr_grammar.specs.Private.TokenStates.{unread, Fits};
-ghost use Rattle.al_expr_grammar.specs.Private.TextTails.{tail_from};
 ghost use Rattle.al_expr_grammar.specs.Refusal.{fault_of_lexed};
 
 use crate::faults::{plain_fault, unclosed_text};
-use crate::number::{is_digit, number_len};
+use crate::number::number_len;
 use crate::token::{Keyword, Operator, Token, TokenKind};
 use al_base::{ExpressionCode, Fault, Span};
 use std::alloc::{AllocError, Global};
@@ -57,13 +54,7 @@ fn is_sign(b: u8) -> bool
 fn begins_name(b: u8) -> bool
     ensures { result ≡ begins_name b }
 {
-    (b'A' <= b && b <= b'Z') || (b'a' <= b && b <= b'z') || b == b'_'
-}
-
-fn continues_name(b: u8) -> bool
-    ensures { result ≡ goes_on_name b }
-{
-    begins_name(b) || is_digit(b) || b == b'-'
+    b.is_ascii_alphabetic() || b == b'_'
 }
 
 /// The length of the name at the start.
@@ -71,7 +62,10 @@ fn name_len(bytes: &[u8]) -> usize
     ensures value { result ≡ prefix_len goes_on_name bytes.now }
     ensures within { result ≤ length bytes.now }
 {
-    bytes.iter().take_while(|b| continues_name(**b)).count()
+    bytes
+        .iter()
+        .take_while(|b| begins_name(**b) || b.is_ascii_digit() || **b == b'-')
+        .count()
 }
 
 /// The number of bytes at the start that continue a character.
@@ -103,7 +97,7 @@ fn name_kind(name: &[u8]) -> TokenKind
 /// The number of bytes after the opening quote of a string, the closing one included; `None` if it is never closed. A
 /// doubled quote is part of the string.
 fn text_len(bytes: &[u8]) -> Option<usize>
-    ensures value { result ≡ tail_from false bytes.now }
+    ensures value { result ≡ text_tail bytes.now }
     ensures within { IfSome result (λ n. n ≤ length bytes.now) }
 {
     let mut closes = false;
@@ -143,34 +137,6 @@ fn mark_at(bytes: &[u8]) -> Read
     }
 }
 
-/// The name at the start.
-fn name_at(bytes: &[u8]) -> Read
-    ensures { result ≡ name_read bytes.now }
-{
-    let len = name_len(bytes);
-    Read::Token(name_kind(&bytes[..len]), len)
-}
-
-/// The number at the start.
-fn number_at(bytes: &[u8]) -> Read
-    ensures { result ≡ number_read (number_len bytes.now) }
-{
-    match number_len(bytes) {
-        0 => Read::BadCharacter,
-        len => Read::Token(TokenKind::Number, len),
-    }
-}
-
-/// The string after its opening quote.
-fn text_at(rest: &[u8]) -> Read
-    ensures { result ≡ text_read (text_tail rest.now) }
-{
-    match text_len(rest) {
-        Some(len) => Read::Token(TokenKind::Text, 1 + len),
-        None => Read::OpenText,
-    }
-}
-
 /// The first byte, and the rest.
 fn split(bytes: &[u8]) -> Option<(u8, &[u8])>
     ensures { MatchOption result (bytes.now ≡ []) (λ x. bytes.now ≡ x.0 ∷ x.1.now) }
@@ -192,11 +158,18 @@ fn read_at(bytes: &[u8]) -> Read
     if is_blank(first) {
         Read::Blank
     } else if begins_name(first) {
-        name_at(bytes)
+        let len = name_len(bytes);
+        Read::Token(name_kind(&bytes[..len]), len)
     } else if first == b'\'' {
-        text_at(rest)
-    } else if is_digit(first) || is_sign(first) {
-        number_at(bytes)
+        match text_len(rest) {
+            Some(len) => Read::Token(TokenKind::Text, 1 + len),
+            None => Read::OpenText,
+        }
+    } else if first.is_ascii_digit() || is_sign(first) {
+        match number_len(bytes) {
+            0 => Read::BadCharacter,
+            len => Read::Token(TokenKind::Number, len),
+        }
     } else {
         mark_at(bytes)
     }

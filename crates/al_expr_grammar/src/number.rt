@@ -6,34 +6,20 @@ ghost use Rattle.std.specs.List.{prefix_len};
 ghost use Rattle.al_expr_grammar.specs.Tokens.{with_digits, fraction_len, exponent_len, hex_len, decimal_len};
 ghost use Rattle.al_expr_grammar.specs.Tokens.{unsigned_len, number_len};
 
-/// Whether a byte is a decimal digit.
-pub fn is_digit(b: u8) -> bool
-    ensures { result ≡ is_ascii_digit b }
-{
-    b'0' <= b && b <= b'9'
-}
-
-/// Whether a byte is a hexadecimal digit, of either case.
-fn is_hex_digit(b: u8) -> bool
-    ensures { result ≡ is_ascii_hexdigit b }
-{
-    is_digit(b) || (b'A' <= b && b <= b'F') || (b'a' <= b && b <= b'f')
-}
-
 /// The number of digits at the start.
 fn digits_len(bytes: &[u8]) -> usize
     ensures value { result ≡ prefix_len is_ascii_digit bytes.now }
     ensures within { result ≤ length bytes.now }
 {
-    bytes.iter().take_while(|b| is_digit(**b)).count()
+    bytes.iter().take_while(|b| b.is_ascii_digit()).count()
 }
 
-/// The number of hexadecimal digits at the start.
+/// The number of hexadecimal digits at the start, in either case.
 fn hex_digits_len(bytes: &[u8]) -> usize
     ensures value { result ≡ prefix_len is_ascii_hexdigit bytes.now }
     ensures within { result ≤ length bytes.now }
 {
-    bytes.iter().take_while(|b| is_hex_digit(**b)).count()
+    bytes.iter().take_while(|b| b.is_ascii_hexdigit()).count()
 }
 
 /// The length of a part that needs at least one digit: this many bytes, then digits.
