@@ -4,7 +4,6 @@ pub mod Alike
 pub mod Parts
 pub mod UndefinedNames
 pub mod MissingNames
-pub mod Lone
 pub mod Short
 pub mod Told
 pub mod KnownLists

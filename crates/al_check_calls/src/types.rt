@@ -13,6 +13,7 @@ ghost use Rattle.al_scalar.specs.Scalar.{text_of};
 ghost use Rattle.al_types.specs.Types.{Parts};
 
 use al_base::FaultSink;
+use al_check_expressions::is_one_expression;
 use al_check_objects::class_type_of;
 use al_expr_grammar::{Chunk, chunks, parse_expr};
 use al_expr_types::{Base, Ty, Types};
@@ -59,29 +60,16 @@ fn text_type(scalar: &Scalar) -> Ty
     }
 }
 
-/// The content of the only chunk of a scalar, if the chunk is all of its text.
-fn content_of_only<'a>(scalar: &Scalar, chunk: &Chunk<'a>) -> Option<&'a str>
-    requires cut { IsCutFrom (text_of scalar.now) chunk.now }
-    requires only { (chunks_of (text_of scalar.now)).chunks ≡ span_of_chunk chunk.now ∷ [] }
-    ensures { option_copied result ≡ content_where_one (text_of scalar.now) }
-{
-    if chunk.span.start == 3 && chunk.span.end as usize + 2 == scalar.text().len() {
-        return Some(chunk.content);
-    }
-    None
-}
-
 /// The content of a scalar with these chunks, if its text is one expression.
-#[tactic(auto, using(crate::proofs::Lone::no_content))]
 fn content_of<'a>(scalar: &Scalar, chunks: &[Chunk<'a>]) -> Option<&'a str>
     requires cut { All (IsCutFrom (text_of scalar.now)) chunks.now }
     requires found { map span_of_chunk chunks.now ≡ (chunks_of (text_of scalar.now)).chunks }
     ensures { option_copied result ≡ content_where_one (text_of scalar.now) }
 {
-    if chunks.len() == 1 {
-        return content_of_only(scalar, &chunks[0]);
+    if !is_one_expression(scalar.text().len(), chunks) {
+        return None;
     }
-    None
+    Some(chunks.first()?.content)
 }
 
 /// The type of a scalar that is given to an input.

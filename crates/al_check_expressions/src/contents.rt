@@ -145,8 +145,8 @@ fn check_expression(
     Ok(())
 }
 
-/// Whether these chunks are a single one that extends over all bytes of a text.
-fn is_one(len: usize, chunks: &[Chunk<'_>]) -> bool
+/// Whether a text of `len` bytes with these chunks is one expression: it has a single chunk, which extends over all bytes.
+pub fn is_one_expression(len: usize, chunks: &[Chunk<'_>]) -> bool
     ensures { result ≡ is_whole_span len (map span_of_chunk chunks.now) }
 {
     match chunks {
@@ -197,7 +197,7 @@ fn check_chunks(
     let text = Text {
         scope,
         scalar: place.scalar,
-        is_alone: is_one(content.len(), found.as_slice()),
+        is_alone: is_one_expression(content.len(), found.as_slice()),
         is_scalar_only: place.is_scalar_only,
     };
     check_each(types, &text, found.as_slice(), faults)?;
