@@ -1,5 +1,5 @@
 -- Files that are kept without a check, and are checked once all of them are there.
-use Rattle.std.proofs.Common.{◌≡◌, ℕ, true, false, true≢false, List, [], ◌∷◌, length, map, get_or}
+use Rattle.std.proofs.Common.{◌≡◌, ◌≤◌, ℕ, take, true, false, true≢false, List, [], ◌∷◌, length, map, get_or}
 use Rattle.std.proofs.Common.{String, Vec, refl, sym, ◌∙◌, ap, arith}
 use Rattle.std.specs.Prelude.{string_bytes, bytes_eq, IsSome}
 use Rattle.std.specs.Global.{Global}
@@ -7,7 +7,7 @@ use Rattle.std.specs.Option.{option_map, option_map_or}
 use Rattle.std.specs.List.{AllByRecursion}
 use Rattle.std.specs.List.Sorted.{IsStrictlySortedBy}
 use Rattle.std.specs.Map.{lookup}
-use Rattle.std.proofs.lemmas.List.{length-map}
+use Rattle.std.proofs.lemmas.List.{length-map, take_all}
 use Rattle.std.proofs.lemmas.List.Elements.{recursion_from_All}
 use Rattle.std.proofs.lemmas.List.Folds.{list_any_at}
 use Rattle.indexmap.specs.IndexSet.{contains_text}
@@ -17,6 +17,7 @@ use Rattle.al_session_folder.specs.declared.kept.KeptFile.{KeptFile}
 use Rattle.al_session_folder.specs.Folder.{bytes_at, faults_in, paths_of}
 use Rattle.al_session_folder.specs.Affected.{is_among}
 use Rattle.al_session_folder.specs.Kept.{Files, folder_of, file_at, faults_of, AllKept, Callers}
+use Rattle.al_session_folder.proofs.Places.{paths_of-folder_of}
 use Rattle.al_session_folder.proofs.Views.{bytes_self, kept_at, part_at}
 use Rattle.al_session.specs.Builder.{AreLoaded}
 use Rattle.al_session.specs.Session.{AreLinted}
@@ -51,6 +52,11 @@ module _ {U I S R : Type 0} (m : Meaning I) (is_unit : U → List ℕ → List �
           → e.1.faults.items ≡ faults_in m (folder_of es) (string_bytes e.0) e.1.bytes.items) l
       others [] all = tt
       others (e ∷ l) all = (λ none. absurd (true≢false (sym all.0 ∙ none)), others l all.1)
+
+-- the paths that are collected once no file is left
+pub all_paths : {U I : Type 0} (es : Files U I) (i : ℕ) (paths : List (List ℕ)) → length es ≤ i → paths ≡ map (λ e. string_bytes e.0) (take i es)
+    → paths ≡ paths_of (folder_of es)
+all_paths es i paths ended are = rw (take_all i es ended) at are ∙ paths_of-folder_of es
 
 -- the calls that are kept at a path
 pub calls_kept : {U I : Type 0} (m : Meaning I) (is_unit : U → List ℕ → List ℕ → Type 0) (files : Files U I) (q : List ℕ) → AllKept m is_unit files

@@ -3,8 +3,8 @@
 ghost use Rattle.std.specs.Prelude.{◌≡◌, ◌≢◌, [], None, length, IfOk, OnOk, OnErr, IfErr};
 ghost use Rattle.std.specs.Option.{option_copied, option_map};
 ghost use Rattle.al_base.specs.Counted.{count_after};
-ghost use Rattle.al_session_folder.specs.Folder.{bytes_at, paths_of, put_refusal, refusal_or_memory, with_file};
-ghost use Rattle.al_session_folder.specs.Kept.{folder_of, AreKept};
+ghost use Rattle.al_session_folder.specs.Folder.{bytes_at, put_refusal, refusal_or_memory, with_file};
+ghost use Rattle.al_session_folder.specs.Kept.{folder_of};
 ghost use Rattle.al_session_folder.specs.Meaning.{IsUpTo};
 ghost use Rattle.al_session.specs.Builder.{IsLoaded};
 ghost use Rattle.al_session.specs.Private.Edits.{IsAllowed};
@@ -14,9 +14,7 @@ use crate::edit::{file_of, keep_file, set_faults};
 use crate::indexed::IndexedFiles;
 use crate::refused::put_refused;
 use crate::session::Session;
-use al_base::Path;
-use al_session_folder::{Files, FolderView, Lint, Refused, Target, file_number, owned_path};
-use indexmap::IndexMap;
+use al_session_folder::{FolderView, Lint, Refused, Target, file_number, owned_path};
 use std::alloc::{AllocError, Global};
 use std::marker::Model;
 
@@ -52,11 +50,7 @@ impl<L: Lint> SessionBuilder<L> {
     {
         SessionBuilder {
             lint,
-            kept: IndexedFiles {
-                alloc,
-                files: IndexMap::new(alloc),
-                callers: IndexMap::new(alloc),
-            },
+            kept: IndexedFiles::new(alloc),
         }
     }
 
@@ -71,10 +65,7 @@ impl<L: Lint> SessionBuilder<L> {
     pub fn bytes(&self, path: &str) -> Option<&[u8]>
         ensures { option_copied result ≡ bytes_at self.now.folder path.now }
     {
-        match self.kept.files.get(path) {
-            Some(file) => Some(file.bytes.as_slice()),
-            None => None,
-        }
+        self.kept.bytes(path)
     }
 
     /// The calls of a file, in order; `None` if no file has this path. Doesn't allocate.
@@ -168,24 +159,12 @@ fn check_all<L: Lint>(
         (L.checks_of lint.new ≡ count_after (L.checks_of lint.old) (length (folder_in kept.old))) }
     ensures reads { L.reads_of lint.new ≡ L.reads_of lint.old }
 {
-    let paths = paths_in::<L>(kept.alloc, &kept.files)?;
+    let mut paths = Vec::new(kept.alloc);
+    for index in 0..kept.files.len() {
+        let (name, _) = file_number(&kept.files, index);
+        paths.push(owned_path(kept.alloc, name.as_str())?)?;
+    }
     let lists = FolderView::of(&kept.files).check_paths(lint, kept.alloc, &paths)?;
     set_faults(&mut kept.files, &paths, lists);
     Ok(())
-}
-
-// The paths of the files, in order.
-fn paths_in<L: Lint>(
-    alloc: Global,
-    files: &Files<L::Unit, L::Iface>,
-) -> Result<Vec<Path>, AllocError>
-    requires { AreKept L.meaning L.is_unit files.now.entries }
-    ensures { IfOk result (λ paths. paths.items ≡ paths_of (folder_of files.now.entries)) }
-{
-    let mut paths = Vec::new(alloc);
-    for index in 0..files.len() {
-        let (name, _) = file_number(files, index);
-        paths.push(owned_path(alloc, name.as_str())?)?;
-    }
-    Ok(paths)
 }

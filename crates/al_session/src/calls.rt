@@ -23,8 +23,7 @@ pub(crate) fn find_graph<L: Lint>(
     if calls.is_some() {
         return Ok(());
     }
-    let found = call_graph::<L>(alloc, files)?;
-    *calls = Some(found);
+    *calls = Some(call_graph::<L>(alloc, files)?);
     Ok(())
 }
 

@@ -1,6 +1,12 @@
 //! The kept files of a folder, with the index of their callers.
 
+ghost use Rattle.std.specs.Prelude.{◌≡◌, []};
+ghost use Rattle.std.specs.Option.{option_copied};
+ghost use Rattle.al_session_folder.specs.Folder.{bytes_at};
+ghost use Rattle.al_session_folder.specs.Kept.{folder_of};
+
 use al_session_folder::{Callers, Files};
+use indexmap::IndexMap;
 use std::alloc::Global;
 
 /// The files by path, the index of their callers, and the allocator for more of them.
@@ -9,4 +15,28 @@ pub struct IndexedFiles<U, I> {
     pub alloc: Global,
     pub files: Files<U, I>,
     pub callers: Callers,
+}
+
+impl<U, I> IndexedFiles<U, I> {
+    /// No files. Doesn't allocate.
+    pub(crate) fn new(alloc: Global) -> IndexedFiles<U, I>
+        ensures files { result.files.entries ≡ [] }
+        ensures callers { result.callers.entries ≡ [] }
+    {
+        IndexedFiles {
+            alloc,
+            files: IndexMap::new(alloc),
+            callers: IndexMap::new(alloc),
+        }
+    }
+
+    /// The bytes of a file; `None` if no file has this path. Doesn't allocate.
+    pub(crate) fn bytes(&self, path: &str) -> Option<&[u8]>
+        ensures { option_copied result ≡ bytes_at (folder_of self.now.files.entries) path.now }
+    {
+        match self.files.get(path) {
+            Some(file) => Some(file.bytes.as_slice()),
+            None => None,
+        }
+    }
 }

@@ -25,13 +25,12 @@ ghost use Rattle.al_session.specs.Session.{IsLinted, ReadsForPut, folder_in};
 use crate::calls::{find_graph, found_graph};
 use crate::edit::{put_file, remove_file};
 use crate::indexed::IndexedFiles;
-use crate::refused::put_refused;
-use al_base::{Fault, Output, Path, Stop, path_fault};
+use crate::refused::{delete_refused, put_refused};
+use al_base::{Fault, Output, Path, Stop};
 use al_session_folder::{
     CallGraph, LinkedFiles, Lint, Paths, Refused, find_call_cycle_faults, has_call_cycles,
     has_faults, join_files, missing_paths, write_files,
 };
-use indexmap::IndexMap;
 use std::alloc::{AllocError, Global};
 use std::io::Write;
 use std::marker::Model;
@@ -80,11 +79,7 @@ impl<L: Lint> Session<L> {
     {
         Session {
             lint,
-            kept: IndexedFiles {
-                alloc,
-                files: IndexMap::new(alloc),
-                callers: IndexMap::new(alloc),
-            },
+            kept: IndexedFiles::new(alloc),
             calls: None,
         }
     }
@@ -115,10 +110,7 @@ impl<L: Lint> Session<L> {
     pub fn bytes(&self, path: &str) -> Option<&[u8]>
         ensures { option_copied result ≡ bytes_at self.now.folder path.now }
     {
-        match self.kept.files.get(path) {
-            Some(file) => Some(file.bytes.as_slice()),
-            None => None,
-        }
+        self.kept.bytes(path)
     }
 
     /// The faults of a file in report order, each once, with byte spans that lie in the file; `None` if no file has
@@ -190,23 +182,6 @@ impl<L: Lint> Session<L> {
         }
     }
 
-    // Why a delete is refused, other than for lack of memory.
-    #[tactic(auto, using(std::proofs::lemmas::Bool::Decides::nat_tests), unfolding(al_session_folder::specs::Folder::delete_refusal))]
-    fn delete_refused(&self, path: &str) -> Option<Refused>
-        ensures { result ≡ delete_refusal L.meaning self.now.folder path.now }
-    {
-        if path_fault(path).is_some() {
-            return Some(Refused::BadPath);
-        }
-        if !self.lint.accepts(path) {
-            return Some(Refused::NotAccepted);
-        }
-        if self.bytes(path).is_none() {
-            return Some(Refused::NoSuchFile);
-        }
-        None
-    }
-
     /// Removes a file from the folder, and checks the files that this affects. Reads no file.
     ///
     /// # Errors
@@ -231,7 +206,7 @@ impl<L: Lint> Session<L> {
             (without_file self.old.folder path.now)))) }
         ensures reads { self.new.reads ≡ self.old.reads }
     {
-        if let Some(refused) = self.delete_refused(path) {
+        if let Some(refused) = delete_refused(&self.lint, &self.kept.files, path) {
             return Err(refused);
         }
         // Removing the file changes the numbers of those after it.
@@ -257,8 +232,7 @@ impl<L: Lint> Session<L> {
         }
         find_graph::<L>(self.kept.alloc, &self.kept.files, &mut self.calls)?;
         let linked = LinkedFiles::new(&self.kept.files, found_graph(&self.calls));
-        let some = has_call_cycles::<L>(&linked);
-        if some {
+        if has_call_cycles::<L>(&linked) {
             return Ok(1);
         }
         Ok(0)

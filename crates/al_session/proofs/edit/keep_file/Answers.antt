@@ -1,68 +1,71 @@
-use Rattle.std.proofs.Common.{sym, ap, arith, ◌∙◌, is_some, length, inl, inr, Some}
-use Rattle.indexmap.specs.IndexSet.{contains_text}
+use Rattle.std.proofs.Common.{true≢false, sym, ap, arith, ◌∙◌, is_some, length, inl, inr, Some}
 use Rattle.std.specs.Prelude.{bytes_eq, string_bytes}
-use Rattle.std.specs.List.{insert}
+use Rattle.std.specs.String.{string_eq}
 use Rattle.std.specs.Map.{set_value}
-use Rattle.indexmap.specs.IndexMap.{spare}
+use Rattle.indexmap.specs.IndexSet.{contains_text}
+use Rattle.indexmap.proofs.MapLemmas.{absent_from_lookup, insert_entry-absent, or_len-absent}
+use Rattle.indexmap.proofs.MoveLemmas.{push_moved}
 use Rattle.al_session_folder.specs.Kept.{file_at, folder_of}
 use Rattle.al_session_folder.proofs.Places.{absent, found, gap, length-folder_of}
 use Rattle.al_session_folder.proofs.Views.{has_file}
 use Rattle.al_session.proofs.Puts.{index_changed, lacks_file}
 use Rattle.al_session.proofs.edit.keep_file.Goals as goal
 
-pub put_in_place-requires : goal.put_in_place-requires
-put_in_place-requires g c =
+pub unreachable-requires : goal.unreachable-requires
+unreachable-requires g c =
     let es = c.args.kept.now.files.entries in
-    ap (λ m. is_some (file_at m.entries c.args.path.now)) c.index_file.ensures.files
-    ∙ has_file es c.args.path.now ∙ ap is_some (found c.args.path.now (folder_of es) c.in-Ok.field-0 (sym c.place_in.ensures ∙ c.in-Ok.is)).finds
+    let p = c.args.path.now in
+    true≢false (sym (ap (λ m. is_some (file_at m.entries p)) c.index_file.ensures.files ∙ has_file es p
+    ∙ ap is_some (found p (folder_of es) c.in-Ok.field-0 (sym c.place_in.ensures ∙ c.in-Ok.is)).finds) ∙ ap is_some (sym c.in_default.ensures.value))
 
-pub put_at-requires-clause-room : goal.put_at-requires-clause-room
-put_at-requires-clause-room g c = omega (arith, ap spare c.index_file-in-Err.ensures.files, c.in_ok-reserve-in-Err.ensures.ok)
-
-pub put_at-requires-clause-place : goal.put_at-requires-clause-place
-put_at-requires-clause-place g c =
+pub shift_insert-requires-clause-in_bounds : goal.shift_insert-requires-clause-in_bounds
+shift_insert-requires-clause-in_bounds g c =
     let es = c.args.kept.now.files.entries in
     let within = (gap c.args.path.now (folder_of es) c.in-Err.index (sym c.place_in.ensures ∙ c.in-Err.is)).within in
     omega (arith, within, length-folder_of es, ap (λ m. length m.entries) c.index_file-in-Err.ensures.files, ap length c.reserve.ensures.entries)
 
-pub put_at-requires-clause-new : goal.put_at-requires-clause-new
-put_at-requires-clause-new g c =
+pub shift_insert-requires-clause-below_len : goal.shift_insert-requires-clause-below_len
+shift_insert-requires-clause-below_len g c = λ there.
     let es = c.args.kept.now.files.entries in
-    let p = c.args.path.now in
-    ap (λ m. file_at m.entries (string_bytes c.in_ok-name-in-Err.name)) c.index_file-in-Err.ensures.files
+    let new = ap (λ m. file_at m.entries (string_bytes c.in_ok-name-in-Err.name)) c.index_file-in-Err.ensures.files
     ∙ ap (λ l. file_at l (string_bytes c.in_ok-name-in-Err.name)) c.reserve.ensures.entries ∙ ap (file_at es) c.in_ok-name-in-Err.ensures.ok
-    ∙ lacks_file es p (absent (folder_of es) p c.in-Err.index c.requires.view.kept.ordered (sym c.place_in.ensures ∙ c.in-Err.is))
+    ∙ lacks_file es c.args.path.now (absent (folder_of es) c.args.path.now c.in-Err.index c.requires.loaded.kept.ordered (sym c.place_in.ensures ∙ c.in-Err.is)) in
+    absurd (true≢false (sym there ∙ ap is_some new))
 
-pub returns-in_ok-index_file-in-Ok-clause-files : goal.returns-in_ok-index_file-in-Ok-clause-files
-returns-in_ok-index_file-in-Ok-clause-files g c =
+pub returns-in-Some-clause-files : goal.returns-in-Some-clause-files
+returns-in-Some-clause-files g c =
     let es = c.args.kept.now.files.entries in
     let p = c.args.path.now in
     inl (
       has_file es p ∙ ap is_some (found p (folder_of es) c.in-Ok.field-0 (sym c.place_in.ensures ∙ c.in-Ok.is)).finds,
-      c.put_in_place.ensures ∙ ap (λ m. set_value (λ k. bytes_eq p (string_bytes k)) m.entries c.args.file) c.index_file.ensures.files,
+      (c.get_mut.follows.holds c.args.file).0 ∙ ap (λ m. set_value (λ k. bytes_eq p (string_bytes k)) m.entries c.args.file) c.index_file.ensures.files,
     )
 
-pub returns-in_ok-index_file-in-Ok-clause-index : goal.returns-in_ok-index_file-in-Ok-clause-index
-returns-in_ok-index_file-in-Ok-clause-index g c = index_changed g.L.Lint.meaning (folder_of c.args.kept.now.files.entries) c.args.path.now c.args.kept.now.callers
-    c.index_file.new.kept.callers c.requires.index (Some c.args.file.bytes.items) (contains_text c.args.file.calls.candidates) c.requires.view.kept.ordered
-    c.requires.view.next.calls.candidates c.in_ok-index_file-in-Ok.ensures.moved
+pub returns-in-Some-clause-index : goal.returns-in-Some-clause-index
+returns-in-Some-clause-index g c = index_changed g.L.Lint.meaning (folder_of c.args.kept.now.files.entries) c.args.path.now c.args.kept.now.callers
+    c.index_file.new.kept.callers c.requires.loaded.index (Some c.args.file.bytes.items) (contains_text c.args.file.calls.candidates) c.requires.loaded.kept.ordered
+    c.requires.file.calls.candidates c.in_ok-index_file-in-Ok.ensures.moved
 
-pub returns-in_ok-index_file-in-Err-clause-files : goal.returns-in_ok-index_file-in-Err-clause-files
-returns-in_ok-index_file-in-Err-clause-files g c =
+pub returns-in-Ok-shift_insert-clause-files : goal.returns-in-Ok-shift_insert-clause-files
+returns-in-Ok-shift_insert-clause-files g c =
     let es = c.args.kept.now.files.entries in
+    let name = c.in_ok-name-in-Err.name in
     let place = sym c.place_in.ensures ∙ c.in-Err.is in
-    let room = c.requires.room (absent (folder_of es) c.args.path.now c.in-Err.index c.requires.view.kept.ordered place) in
+    let lacks = absent (folder_of es) c.args.path.now c.in-Err.index c.requires.loaded.kept.ordered place in
+    let same = ap (λ m. m.entries) c.index_file-in-Err.ensures.files ∙ c.reserve.ensures.entries in
+    let none = absent_from_lookup (string_eq name) es (ap (file_at es) c.in_ok-name-in-Err.ensures.ok ∙ lacks_file es c.args.path.now lacks) in
+    let within = (gap c.args.path.now (folder_of es) c.in-Err.index place).within in
     inr (
       c.in-Err.index,
-      c.in_ok-name-in-Err.name,
+      name,
       c.in_ok-name-in-Err.ensures.ok,
       place,
-      omega (arith, room, length-folder_of es),
-      c.put_at.ensures ∙ ap (λ m. insert m.entries c.in-Err.index (c.in_ok-name-in-Err.name, c.args.file)) c.index_file-in-Err.ensures.files
-          ∙ ap (λ l. insert l c.in-Err.index (c.in_ok-name-in-Err.name, c.args.file)) c.reserve.ensures.entries,
+      omega (arith, c.requires.room lacks, length-folder_of es),
+      c.in-Ok-shift_insert.ensures.entries ∙ rw (same, insert_entry-absent string_eq name c.args.file es none, or_len-absent (string_eq name) es none)
+          (push_moved es (name, c.args.file) c.in-Err.index (omega (arith, within, length-folder_of es))),
     )
 
-pub returns-in_ok-index_file-in-Err-clause-index : goal.returns-in_ok-index_file-in-Err-clause-index
-returns-in_ok-index_file-in-Err-clause-index g c = index_changed g.L.Lint.meaning (folder_of c.args.kept.now.files.entries) c.args.path.now c.args.kept.now.callers
-    c.index_file-in-Err.new.kept.callers c.requires.index (Some c.args.file.bytes.items) (contains_text c.args.file.calls.candidates) c.requires.view.kept.ordered
-    c.requires.view.next.calls.candidates c.in_ok-index_file-in-Err.ensures.moved
+pub returns-in-Ok-shift_insert-clause-index : goal.returns-in-Ok-shift_insert-clause-index
+returns-in-Ok-shift_insert-clause-index g c = index_changed g.L.Lint.meaning (folder_of c.args.kept.now.files.entries) c.args.path.now c.args.kept.now.callers
+    c.index_file-in-Err.new.kept.callers c.requires.loaded.index (Some c.args.file.bytes.items) (contains_text c.args.file.calls.candidates) c.requires.loaded.kept.ordered
+    c.requires.file.calls.candidates c.in_ok-index_file-in-Err.ensures.moved

@@ -1,6 +1,0 @@
-use Rattle.std.proofs.Common.{◌≡◌, map, take}
-use Rattle.std.specs.Prelude.{string_bytes}
-use Rattle.al_session.proofs.builder.paths_in.Given as goal
-
-abbrev pub invariant-loop-index : goal.invariant-loop-index
-invariant-loop-index g l = l.paths.items ≡ map (λ e. string_bytes e.0) (take l.index l.files.entries)
