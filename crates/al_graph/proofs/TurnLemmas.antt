@@ -1,13 +1,13 @@
 -- Adding edges one after another, and transposing a graph.
-use Rattle.std.proofs.Common.{◌≡◌, ℕ, ◌+◌, ◌<◌, ◌≤◌, List, [], ◌∷◌, ◌++◌, Vec, drop, get_or, length, refl, subst, sym, ap, ◌∙◌, arith, set, take, replicate, ⊎_elim, inl, inr}
+use Rattle.std.proofs.Common.{◌≡◌, ℕ, ◌+◌, ◌<◌, ◌≤◌, List, [], ◌∷◌, ◌++◌, Vec, get_or, length, refl, subst, sym, ap, ◌∙◌, arith, set, take, replicate, ◌⊎◌, ⊎_elim, inl, inr}
 use Rattle.std.specs.declared.alloc.Global.{Global}
 use Rattle.std.specs.Prelude.{Contains}
 use Rattle.std.proofs.lemmas.List.{get_or-set_other, get_or-replicate, get_or_past, length-map, length-replicate, map-set, take_more}
 use Rattle.std.proofs.lemmas.List.Elements.{Contains-append_left, Contains-append_right, Contains-append_cases}
 use Rattle.std.proofs.lemmas.Grind.{get_or-set_at}
 use Rattle.std.proofs.lemmas.Bool.{cases_eq, cases_lt}
-use Rattle.al_graph.specs.Graphs.{AddsEdges, Edge, IsTranspose, Walk, edges_of, here, onward}
-use Rattle.al_graph.proofs.Lists.{is_one, none_in, one_is, written}
+use Rattle.al_graph.specs.Graphs.{Edge, IsTranspose, Walk, edges_of, here, onward}
+use Rattle.al_graph.proofs.Lists.{is_one, none_in, one_is}
 use Rattle.al_graph.proofs.Edges.{edges_at}
 use Rattle.al_graph.proofs.Orders.{both_walks}
 
@@ -16,6 +16,12 @@ no_edges = []
 
 abbrev In : ℕ → List ℕ → Type 0
 In k ns = Contains ns k
+
+-- edges from some nodes to one were added
+pub record AddsEdges (nodes : List ℕ) (to : ℕ) (old new : List (List ℕ)) : Type 0 where
+  pub kept : (j k : ℕ) → Edge old j k → Edge new j k
+  pub all : (j : ℕ) → Contains nodes j → Edge new j to
+  pub only : (j k : ℕ) → Edge new j k → Edge old j k ⊎ (Contains nodes j × (k ≡ to))
 
 -- adding one edge
 pub edge_added : (old new : List (List ℕ)) (from to : ℕ) → from < length old → new ≡ set old from (get_or old from [] ++ to ∷ []) → AddsEdges (from ∷ []) to old new
@@ -79,13 +85,6 @@ turned_next graph a b i nodes is t m = record {
 pub turned_all : (graph other : List (List ℕ)) → TurnedTo (length graph) graph other → IsTranspose graph other
 turned_all graph other t j k =
     (λ e. ⊎_elim (λ lt. t.all j k lt e) (λ past. absurd (none_in k (subst (In k) (get_or_past graph j [] past) e))) (cases_lt j (length graph)), λ e. (t.only j k e).1)
-
--- the same in the code's view, where the graph is written through a slice
-pub turned_write : (graph : List (List ℕ)) (items begun after : List (Vec ℕ Global)) (len i : ℕ) (nodes : List ℕ) → begun ≡ items → len ≡ length items → length after ≡ length begun
-    → nodes ≡ get_or graph i [] → TurnedTo i graph (edges_of items) → AddsEdges nodes i (edges_of begun) (edges_of after)
-    → TurnedTo (i + 1) graph (edges_of (take len (after ++ drop (length after) items)))
-turned_write graph items begun after len i nodes b l a is t m =
-    rw (written after items len (a ∙ ap length b) l) (turned_next graph (edges_of begun) (edges_of after) i nodes is (rw b t) m)
 
 pub turned_end : (graph : List (Vec ℕ Global)) (other : List (List ℕ)) (i : ℕ) → i ≡ length graph → TurnedTo i (edges_of graph) other → IsTranspose (edges_of graph) other
 turned_end graph other i e t =

@@ -1,5 +1,5 @@
 -- Directed graphs, and walks along their edges.
-use Rattle.std.specs.Prelude.{◌≡◌, ◌↔◌, ◌⊎◌, ℕ, List, [], map, Vec, Contains, slice_index_or}
+use Rattle.std.specs.Prelude.{◌↔◌, ℕ, List, [], map, Vec, Contains, slice_index_or}
 use Rattle.std.specs.declared.alloc.Global.{Global}
 
 -- for each node, the nodes that its edges lead to
@@ -22,9 +22,3 @@ StronglyConnected graph j k = Walk graph j k × Walk graph k j
 -- each graph has the reversed edges of the other
 abbrev pub IsTranspose : List (List ℕ) → List (List ℕ) → Type 0
 IsTranspose graph other = (j k : ℕ) → Edge graph j k ↔ Edge other k j
-
--- edges from some nodes to one were added
-pub record AddsEdges (nodes : List ℕ) (to : ℕ) (old new : List (List ℕ)) : Type 0 where
-  pub kept : (j k : ℕ) → Edge old j k → Edge new j k
-  pub all : (j : ℕ) → Contains nodes j → Edge new j to
-  pub only : (j k : ℕ) → Edge new j k → Edge old j k ⊎ (Contains nodes j × (k ≡ to))

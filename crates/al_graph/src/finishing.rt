@@ -3,7 +3,7 @@
 ghost use Rattle.al_graph.specs.Private.Finishing.{IsFinished, IsSearch, cost, frame_of, frames_of};
 ghost use Rattle.al_graph.specs.Graphs.{Edge, edges_of};
 ghost use Rattle.al_graph.specs.Private.Marks.{Marked};
-ghost use Rattle.std.specs.Prelude.{◌≡◌, ℕ, ◌<◌, ◌++◌, ◌∷◌, [], false, true, length, slice_index_or, set, IfOk, OnOk, MatchOption};
+ghost use Rattle.std.specs.Prelude.{◌≡◌, ℕ, ◌<◌, ◌++◌, ◌∷◌, [], false, true, length, slice_index_or, set, IfOk, OnOk};
 
 use std::alloc::{AllocError, Global};
 
@@ -12,16 +12,6 @@ use std::alloc::{AllocError, Global};
 struct Frame<'a> {
     node: usize,
     rest: &'a [usize],
-}
-
-/// The first of some nodes, and the rest.
-fn split(nodes: &[usize]) -> Option<(usize, &[usize])>
-    ensures { MatchOption result (nodes.now ≡ []) (λ x. nodes.now ≡ x.0 ∷ x.1.now) }
-{
-    match nodes {
-        [] => None,
-        [first, rest @ ..] => Some((*first, rest)),
-    }
 }
 
 /// Enters a node.
@@ -65,7 +55,7 @@ fn advance<'a>(
         < cost (edges_of graph.now) seen.old.items
         (frames_of frames.old.items ++ frame_of frame.entry ∷ [])) }
 {
-    let Some((next, rest)) = split(frame.rest) else {
+    let [next, rest @ ..] = frame.rest else {
         order.push(frame.node)?;
         return Ok(());
     };
@@ -73,10 +63,10 @@ fn advance<'a>(
         node: frame.node,
         rest,
     })?;
-    if seen[next] {
+    if seen[*next] {
         return Ok(());
     }
-    enter(graph, next, seen, frames)?;
+    enter(graph, *next, seen, frames)?;
     Ok(())
 }
 

@@ -7,7 +7,7 @@
 
 ghost use Rattle.al_graph.specs.Private.Labelling.{IsBackward, IsLabelling, Labels};
 ghost use Rattle.al_graph.specs.Graphs.{Edge, StronglyConnected, edges_of};
-ghost use Rattle.std.specs.Prelude.{◌≡◌, ℕ, ◌<◌, ◌+◌, ◌↔◌, ◌∷◌, [], None, length, slice_index_or, vec_len, Contains, IfOk, OnOk};
+ghost use Rattle.std.specs.Prelude.{◌≡◌, ℕ, ◌<◌, ◌+◌, ◌↔◌, ◌∷◌, [], None, length, slice_index_or, vec_len, IfOk, OnOk};
 
 use crate::finishing::finish_order;
 use crate::turning::transpose;
@@ -28,22 +28,6 @@ fn label_node(
     if labels[node].is_none() {
         labels[node] = Some(label);
         waiting.push(node)?;
-    }
-    Ok(())
-}
-
-/// Labels those nodes that have no label, and adds them to a list.
-fn label_nodes(
-    nodes: &[usize],
-    label: usize,
-    labels: &mut Vec<Option<usize>>,
-    waiting: &mut Vec<usize>,
-) -> Result<(), AllocError>
-    requires { (k : ℕ) → Contains nodes.now k → k < length labels.old.items }
-    ensures { OnOk result (Labels nodes.now label labels.old.items labels.new.items waiting.old.items waiting.new.items) }
-{
-    for node in nodes {
-        label_node(*node, label, labels, waiting)?;
     }
     Ok(())
 }
@@ -71,7 +55,9 @@ fn label_from(
     }
     label_node(order[at], at, labels, waiting)?;
     while let Some(node) = waiting.pop() {
-        label_nodes(graph[node].as_slice(), at, labels, waiting)?;
+        for next in graph[node].as_slice() {
+            label_node(*next, at, labels, waiting)?;
+        }
     }
     Ok(())
 }
@@ -96,17 +82,6 @@ fn label_all(
     Ok(labels)
 }
 
-/// The nodes in such an order that, if an edge leads from a node to an earlier one, every node between the two can
-/// reach the edge's start.
-fn backward_order(alloc: Global, graph: &[Vec<usize>]) -> Result<Vec<usize>, AllocError>
-    requires { (j k : ℕ) → Edge (edges_of graph.now) j k → k < length graph.now }
-    ensures { IfOk result (λ order. IsBackward (edges_of graph.now) order.items) }
-{
-    let back = transpose(alloc, graph)?;
-    let order = finish_order(alloc, back.as_slice())?;
-    Ok(order)
-}
-
 /// A label for each node of a graph, the same for two nodes if and only if they are in one strongly connected component. No label is
 /// `None`.
 ///
@@ -121,7 +96,8 @@ pub fn strongly_connected_components(
         → (slice_index_or labels.items j None ≡ slice_index_or labels.items k None)
         ↔ StronglyConnected (edges_of graph.now) j k) }
 {
-    let order = backward_order(alloc, graph)?;
+    let back = transpose(alloc, graph)?;
+    let order = finish_order(alloc, back.as_slice())?;
     let labels = label_all(alloc, graph, order.as_slice())?;
     Ok(labels)
 }

@@ -1,7 +1,7 @@
 //! The transpose of a graph.
 
-ghost use Rattle.al_graph.specs.Graphs.{AddsEdges, Edge, IsTranspose, edges_of};
-ghost use Rattle.std.specs.Prelude.{◌≡◌, ℕ, ◌<◌, [], length, vec_len, replicate, Contains, IfOk, OnOk};
+ghost use Rattle.al_graph.specs.Graphs.{Edge, IsTranspose, edges_of};
+ghost use Rattle.std.specs.Prelude.{◌≡◌, ℕ, ◌<◌, [], length, vec_len, replicate, IfOk};
 
 use std::alloc::{AllocError, Global};
 
@@ -30,17 +30,6 @@ fn without_edges(alloc: Global, counts: &[usize]) -> Result<Vec<Vec<usize>>, All
     Ok(graph)
 }
 
-/// Adds an edge from each of some nodes to one node.
-fn add_edges(from: &[usize], to: usize, graph: &mut [Vec<usize>]) -> Result<(), AllocError>
-    requires { (k : ℕ) → Contains from.now k → k < length graph.old }
-    ensures { OnOk result (AddsEdges from.now to (edges_of graph.old) (edges_of graph.new)) }
-{
-    for node in from {
-        graph[*node].push(to)?;
-    }
-    Ok(())
-}
-
 /// The transpose of a graph: the same nodes, with each edge reversed.
 ///
 /// Takes time linear in nodes and edges. Fails with `AllocError` when out of memory.
@@ -52,7 +41,9 @@ pub fn transpose(alloc: Global, graph: &[Vec<usize>]) -> Result<Vec<Vec<usize>>,
     let counts = edge_counts(alloc, graph)?;
     let mut transpose = without_edges(alloc, counts.as_slice())?;
     for (node, nodes) in graph.iter().enumerate() {
-        add_edges(nodes.as_slice(), node, transpose.as_mut_slice())?;
+        for to in nodes {
+            transpose[*to].push(node)?;
+        }
     }
     Ok(transpose)
 }

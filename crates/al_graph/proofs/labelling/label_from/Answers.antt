@@ -1,10 +1,9 @@
-use Rattle.std.proofs.Common.{rules, ◌≡◌, ◌∙◌, ◌<◌, [], None, is_some, true, get_or, length, arith, refl, subst, sym}
-use Rattle.std.specs.Prelude.{Contains}
-use Rattle.std.proofs.lemmas.List.{get_or_read, length-map, nil_from_length}
+use Rattle.std.proofs.Common.{rules, ap, ◌+◌, length-append, take, ◌≡◌, ◌∙◌, ◌<◌, [], None, is_some, true, get_or, length, arith, refl, sym}
+use Rattle.std.proofs.lemmas.List.{get_or_read, length-map, nil_from_length, take_all}
 use Rattle.std.proofs.lemmas.List.Elements.{Contains-get_or}
 use Rattle.al_graph.specs.Graphs.{edges_of}
-use Rattle.al_graph.proofs.Edges.{edges_at}
-use Rattle.al_graph.proofs.LabelLemmas.{labelling_next, labelling_start, no_waiting, skipped, node_inside}
+use Rattle.al_graph.proofs.Edges.{edge_inside, edges_at}
+use Rattle.al_graph.proofs.LabelLemmas.{labelling_next, labels_next, labelling_start, no_waiting, skipped, node_inside}
 use Rattle.al_graph.proofs.labelling.label_from.Goals as goal
 
 pub index-requires : goal.index-requires
@@ -47,28 +46,37 @@ offset_bounds-graph-node c =
     let below : c.in-Some.node < length c.args.graph.now = omega (arith, inside, nodes) in
     search rules
 
-pub label_nodes-requires : goal.label_nodes-requires
-label_nodes-requires c k h =
+pub label_node-requires-in-loop-next : goal.label_node-requires-in-loop-next
+label_node-requires-in-loop-next c =
     let inside = node_inside (edges_of c.args.graph.now) c.args.order.now c.loop-node.labels.items c.args.at c.loop-node.waiting.items _ c.in-Some.node c.in-Some.ensures.items c.loop-node.invariant in
     let nodes : length (edges_of c.args.graph.now) ≡ length c.args.graph.now = length-map c.args.graph.now _ in
     let below : c.in-Some.node < length c.args.graph.now = omega (arith, inside, nodes) in
-    let same : c.as_slice.result.now ≡ get_or (edges_of c.args.graph.now) c.in-Some.node [] = c.as_slice.ensures.value
-    ∙ sym (edges_at c.args.graph.now c.in-Some.node c.index-graph-node.result below c.index-graph-node.is) in
-    let next : k < length c.args.graph.now = c.requires.edges_in c.in-Some.node k (subst (λ l. Contains l k) same h) in
-    let size = c.loop-node.invariant.size in
-    omega (arith, next, nodes, size)
+    let next = edge_inside c.args.graph.now c.requires.edges_in c.in-Some.node c.loop-next.next-index c.index-graph-node.result c.as_slice-next-items.result.now
+    below c.index-graph-node.is c.as_slice-next-items.ensures.value c.loop-next-test.true in
+    omega (arith, next, nodes, c.loop-node.invariant.size, c.loop-next.invariant.size)
+
+pub loop-next-preserved : goal.loop-next-preserved
+loop-next-preserved c =
+    labels_next c.as_slice-next-items.result.now c.loop-next.next-index c.args.at _ _ _ _ _ _ c.loop-next-test.true c.loop-next.invariant c.in_ok-label_node-2.ensures
 
 pub loop-node-preserved : goal.loop-node-preserved
 loop-node-preserved c =
     let inside = node_inside (edges_of c.args.graph.now) c.args.order.now c.loop-node.labels.items c.args.at c.loop-node.waiting.items _ c.in-Some.node c.in-Some.ensures.items c.loop-node.invariant in
     let nodes : length (edges_of c.args.graph.now) ≡ length c.args.graph.now = length-map c.args.graph.now _ in
     let below : c.in-Some.node < length c.args.graph.now = omega (arith, inside, nodes) in
-    let same : c.as_slice.result.now ≡ get_or (edges_of c.args.graph.now) c.in-Some.node [] = c.as_slice.ensures.value
+    let same : c.as_slice-next-items.result.now ≡ get_or (edges_of c.args.graph.now) c.in-Some.node [] = c.as_slice-next-items.ensures.value
     ∙ sym (edges_at c.args.graph.now c.in-Some.node c.index-graph-node.result below c.index-graph-node.is) in
-    labelling_next (edges_of c.args.graph.now) c.args.order.now c.loop-node.labels.items c.label_nodes.new.labels.items c.args.at
-    c.in-Some.node c.loop-node.waiting.items _ c.label_nodes.new.waiting.items
+    let all : take c.loop-next.next-index c.as_slice-next-items.result.now ≡ get_or (edges_of c.args.graph.now) c.in-Some.node [] =
+    take_all c.loop-next.next-index c.as_slice-next-items.result.now (omega (arith, c.loop-next-test.false)) ∙ same in
+    labelling_next (edges_of c.args.graph.now) c.args.order.now c.loop-node.labels.items c.loop-next.labels.items c.args.at
+    c.in-Some.node c.loop-node.waiting.items _ c.loop-next.waiting.items
     (λ j k e. let next = c.requires.edges_in j k e in omega (arith, next, nodes)) c.requires.order c.requires.at_in
-    c.in-Some.ensures.items c.loop-node.invariant (rw same at c.in_ok-label_nodes.ensures)
+    c.in-Some.ensures.items c.loop-node.invariant (rw all at c.loop-next.invariant)
+
+pub loop-node-smaller : goal.loop-node-smaller
+loop-node-smaller c =
+    let items : length c.loop-node.waiting.items ≡ length c.pop.new.self.items + 1 = ap length c.in-Some.ensures.items ∙ length-append c.pop.new.self.items _ in
+    omega (arith, items, c.loop-next.invariant.count)
 
 pub returns-clause-emptied : goal.returns-clause-emptied
 returns-clause-emptied c = nil_from_length c.pop.new.self.items (search rules)
