@@ -21,12 +21,15 @@ use Rattle.al_tree.specs.declared.files.FileKind.{FileKind}
 use Rattle.al_tree.specs.declared.files.Tree.{Tree}
 use Rattle.al_check_interfaces.proofs.CallLists.{kept_faults, kept_targets}
 use Rattle.al_check_interfaces.specs.Interfaces.{interface_of}
+use Rattle.al_check_interfaces.specs.declared.interfaces.Interface.{Interface}
 use Rattle.al_check_interfaces.specs.declared.interfaces.Interface.TheVariants.{Unreadable}
 use Rattle.al_check_interfaces.specs.Uses as uses
 use Rattle.al_check_interfaces.specs.Uses.{calls_in, cycle_faults, target_in, that_uses}
 use Rattle.al_check_interfaces.specs.declared.calls.FolderCall.{FolderCall}
 use Rattle.al_check.specs.Calling.{call_targets, file_interface, file_targets, shown_by, shown_read, targets_read}
-use Rattle.al_check.specs.Reading.{CallsGiven, IsGiven, IsRead}
+use Rattle.al_check.specs.FileFaults.{document_faults, file_faults}
+use Rattle.al_check.specs.Proofs.Laws.{faults_given}
+use Rattle.al_check.specs.Reading.{CallsGiven, IsGiven, IsRead, IsTree}
 use Rattle.al_check.specs.Sites.{file_sites}
 use Rattle.al_check.specs.Units.{HasCalls, IsUnit, calls_kept, interface_kept}
 use Rattle.al_check.specs.declared.files.ReadFile.{ReadFile}
@@ -63,6 +66,11 @@ targets_called file kind bytes is = targets_are kind bytes file.tree is.given
 
 pub interface_shown : (file : ReadFile) (kind : FileKind) (bytes : List ℕ) → IsRead file kind bytes → shown_by file ≡ file_interface kind bytes
 interface_shown file kind bytes is = interface_is kind bytes file.tree is.given
+
+pub document_read : (t : Tree) (kind : FileKind) (bytes : List ℕ) (answers : List (Option Interface)) → IsTree kind bytes t →
+    document_faults (kind_in t) (root_of t) answers ≡ file_faults kind bytes answers
+document_read t kind bytes answers is =
+    ap (λ k. document_faults k (root_of t) answers) is.kind_is ∙ ap (faults_given kind bytes answers) (sym is.root_is)
 
 -- ---- the calls that reading kept
 

@@ -1,28 +1,20 @@
 //! Files as they were read, and their faults.
 ghost use Rattle.std.specs.List.{flat_map};
-ghost use Rattle.std.specs.Prelude.{◌≡◌, ◌≤◌, ◌++◌, [], ◌∷◌, length, map, IfOk, OnOk};
+ghost use Rattle.std.specs.Prelude.{◌≡◌, ◌≤◌, ◌++◌, length, map, IfOk, OnOk};
 ghost use Rattle.std.specs.Option.{option_copied};
 ghost use Rattle.al_tree.specs.Faults.{root_faults};
-ghost use Rattle.al_base.specs.Growth.{SameSet};
 ghost use Rattle.al_base.specs.FaultLists.{fault_list};
 ghost use Rattle.al_base.specs.Limits.{largest_file};
 ghost use Rattle.al_tree.specs.Files.{kind_in, root_of, shape_of};
-ghost use Rattle.al_yaml_tree.specs.Document.{tree_of};
-ghost use Rattle.al_yaml_tree.specs.Spans.{AreFrom, IsInside, IsLaid};
-ghost use Rattle.al_yaml_tree.specs.Texts.{HasTexts};
 ghost use Rattle.al_yaml_tree.specs.View.{view};
-ghost use Rattle.al_check_interfaces.specs.Interfaces as interfaces;
 ghost use Rattle.al_check_interfaces.specs.FolderCalls.{AreCallsOf};
 ghost use Rattle.al_check_interfaces.specs.Uses as uses;
 ghost use Rattle.al_session_folder.specs.Meaning.{AreAnswers};
-ghost use Rattle.al_check_calls.specs.FileCalls as file_calls;
 ghost use Rattle.al_check.specs.FileFaults as meant;
 ghost use Rattle.al_check.specs.Calling as calling;
 ghost use Rattle.al_check.specs.Calling.{shown_by};
 ghost use Rattle.al_tree.specs.declared.files.FileKind.{FileKind};
-ghost use Rattle.al_check.specs.FileFaults.{own_faults};
 ghost use Rattle.al_check.specs.Reading.{IsRead};
-ghost use Rattle.al_check.specs.RuleFaults.{rule_faults};
 
 use crate::printing::with_printed_args;
 use al_base::{Code, Fault, FaultSink, add_copies, fault_list};
@@ -30,7 +22,6 @@ use al_check_calls::{Calling, faults_with_answers};
 use al_check_interfaces::{FolderCall, Interface, calls_in, folder_calls, interface_of};
 use al_rules::rules;
 use al_scalar::YamlFault;
-use al_session_folder::Target;
 use al_tree::{FileKind, Tree, read_action, read_workflow};
 use al_yaml::read_yaml;
 use al_yaml_tree::Doc;
@@ -70,16 +61,6 @@ fn tree_as(alloc: Global, kind: FileKind, doc: Doc) -> Result<(Tree, Vec<Fault>)
     }
 }
 
-/// Adds the faults of rules to those of keys and values.
-fn with_rules(alloc: Global, tree: &Tree, keys: Vec<Fault>) -> Result<Vec<Fault>, AllocError>
-    ensures { IfOk result (λ own. SameSet own.items (keys.items
-        ++ rule_faults (kind_in tree.now) (root_of tree.now))) }
-{
-    let mut own = keys;
-    rules(alloc, tree, &mut own)?;
-    Ok(own)
-}
-
 /// The calls of files in the folder that a document makes. Adds the fault of every invalid `uses`.
 fn document_calls(
     alloc: Global,
@@ -98,107 +79,29 @@ fn document_calls(
     Ok(kept)
 }
 
-/// A document that was read from these bytes, as a workflow or an action.
-fn read_tree(alloc: Global, source: Source<'_>, doc: Doc) -> Result<ReadFile, AllocError>
-    requires small { length source.bytes.now ≤ largest_file }
-    requires root { tree_of source.bytes.now ≡ Ok (view doc.root) }
-    requires inside { IsInside (length source.bytes.now) (view doc.root) }
-    requires laid { IsLaid (length source.bytes.now) (view doc.root) }
-    requires texts { HasTexts (view doc.root) }
-    requires from { AreFrom (length source.bytes.now) (view doc.root) }
+/// Reads the bytes of a file as a workflow or an action.
+pub(crate) fn read_file(alloc: Global, source: Source<'_>) -> Result<ReadFile, AllocError>
+    requires { length source.bytes.now ≤ largest_file }
     ensures { IfOk result (λ file. IsRead file (source.entry).kind (source.entry).bytes.now) }
 {
-    let (tree, keys) = tree_as(alloc, source.kind, doc)?;
-    let mut own = with_rules(alloc, &tree, keys)?;
+    let doc = match read_yaml(alloc, source.bytes)? {
+        Ok(doc) => doc,
+        Err(fault) => {
+            return Ok(ReadFile {
+                tree: Err(fault),
+                own: Vec::new(alloc),
+                calls: Vec::new(alloc),
+            });
+        }
+    };
+    let (tree, mut own) = tree_as(alloc, source.kind, doc)?;
+    rules(alloc, &tree, &mut own)?;
     let calls = document_calls(alloc, &tree, &mut own)?;
     Ok(ReadFile {
         tree: Ok(tree),
         own,
         calls,
     })
-}
-
-/// Reads the bytes of a file as a workflow or an action.
-pub(crate) fn read_file(alloc: Global, source: Source<'_>) -> Result<ReadFile, AllocError>
-    requires { length source.bytes.now ≤ largest_file }
-    ensures { IfOk result (λ file. IsRead file (source.entry).kind (source.entry).bytes.now) }
-{
-    match read_yaml(alloc, source.bytes)? {
-        Ok(doc) => read_tree(alloc, source, doc),
-        Err(fault) => Ok(ReadFile {
-            tree: Err(fault),
-            own: Vec::new(alloc),
-            calls: Vec::new(alloc),
-        }),
-    }
-}
-
-/// Adds the faults that depend on the answers of the file's calls: those of its expressions and of its calls.
-fn add_faults_with_answers(
-    tree: &Tree,
-    calls: &[FolderCall],
-    answers: &[Option<&Interface>],
-    faults: &mut FaultSink,
-) -> Result<(), AllocError>
-    requires laid { IsLaid largest_file (root_of tree.now) }
-    requires texts { HasTexts (root_of tree.now) }
-    requires calls { AreCallsOf (kind_in tree.now) (root_of tree.now) calls.now }
-    requires answers { AreAnswers
-        (uses.targets_of (uses.calls_in (kind_in tree.now) (root_of tree.now)))
-        (map (λ a. option_copied a) answers.now) }
-    ensures { OnOk result (SameSet faults.new (faults.old
-        ++ file_calls.faults_with_answers (kind_in tree.now) (root_of tree.now)
-        (map (λ a. option_copied a) answers.now))) }
-{
-    let file = Calling {
-        kind: tree.kind(),
-        root: tree.root(),
-        calls,
-    };
-    faults_with_answers(file, answers, faults)
-}
-
-/// These faults as they are printed, in report order, each once.
-fn in_report_order(alloc: Global, found: Vec<Fault>) -> Result<Vec<Fault>, AllocError>
-    ensures { IfOk result (λ list. list.items ≡ fault_list (map meant.printed_fault found.items)) }
-{
-    Ok(fault_list(with_printed_args(alloc, found)?))
-}
-
-/// The faults of a workflow or an action, including these faults of its own, in report order, each once.
-fn document_faults(
-    alloc: Global,
-    tree: &Tree,
-    file: &ReadFile,
-    answers: &[Option<&Interface>],
-) -> Result<Vec<Fault>, AllocError>
-    requires laid { IsLaid largest_file (root_of tree.now) }
-    requires texts { HasTexts (root_of tree.now) }
-    requires own { SameSet file.now.own.items (own_faults (kind_in tree.now) (root_of tree.now)) }
-    requires calls { AreCallsOf (kind_in tree.now) (root_of tree.now) file.now.calls.items }
-    requires answers { AreAnswers
-        (uses.targets_of (uses.calls_in (kind_in tree.now) (root_of tree.now)))
-        (map (λ a. option_copied a) answers.now) }
-    ensures { IfOk result (λ list. list.items
-        ≡ meant.document_faults (kind_in tree.now) (root_of tree.now)
-        (map (λ a. option_copied a) answers.now)) }
-{
-    let mut faults = FaultSink::new(alloc);
-    add_faults_with_answers(tree, file.calls.as_slice(), answers, &mut faults)?;
-    // The file's own faults, which are few, are appended to those found, which can be millions.
-    let mut found = faults.into_faults();
-    add_copies(alloc, &file.own, &mut found)?;
-    in_report_order(alloc, found)
-}
-
-/// The only fault of a file that isn't YAML.
-fn yaml_fault(alloc: Global, fault: YamlFault) -> Result<Vec<Fault>, AllocError>
-    ensures { IfOk result (λ found. found.items
-        ≡ (record { span = fault.span; code = Code.Yaml fault.code; args = [] }) ∷ []) }
-{
-    let mut faults = FaultSink::new(alloc);
-    faults.report_plain(fault.span, Code::Yaml(fault.code))?;
-    Ok(faults.into_faults())
 }
 
 /// The faults of a file that was read from this source, given the answers of its calls of files in the folder: its one
@@ -216,28 +119,24 @@ pub(crate) fn file_faults(
         ≡ meant.file_faults (source.entry).kind (source.entry).bytes.now
         (map (λ a. option_copied a) answers.now)) }
 {
-    match &file.tree {
-        Err(fault) => yaml_fault(alloc, *fault),
-        Ok(tree) => document_faults(alloc, tree, file, answers),
-    }
-}
-
-/// The targets of these calls.
-pub(crate) fn targets(alloc: Global, calls: &[FolderCall]) -> Result<Vec<Target>, AllocError>
-    ensures { IfOk result (λ found. found.items ≡ map (λ c. c.target) calls.now) }
-{
-    let mut found = Vec::new(alloc);
-    for call in calls {
-        found.push(call.target.copy(alloc)?)?;
-    }
-    Ok(found)
-}
-
-/// The interface that a document shows to its callers.
-fn tree_interface(alloc: Global, tree: &Tree) -> Result<Interface, AllocError>
-    ensures { IfOk result (λ i. i ≡ interfaces.interface_of (kind_in tree.now) (root_of tree.now)) }
-{
-    interface_of(alloc, tree.kind(), tree.root())
+    let mut faults = FaultSink::new(alloc);
+    let tree = match &file.tree {
+        Ok(tree) => tree,
+        Err(fault) => {
+            faults.report_plain(fault.span, Code::Yaml(fault.code))?;
+            return Ok(faults.into_faults());
+        }
+    };
+    let calling = Calling {
+        kind: tree.kind(),
+        root: tree.root(),
+        calls: file.calls.as_slice(),
+    };
+    faults_with_answers(calling, answers, &mut faults)?;
+    // The file's own faults, which are few, are appended to those found, which can be millions.
+    let mut found = faults.into_faults();
+    add_copies(alloc, &file.own, &mut found)?;
+    Ok(fault_list(with_printed_args(alloc, found)?))
 }
 
 /// The interface that a file shows to its callers.
@@ -246,6 +145,6 @@ pub(crate) fn file_interface(alloc: Global, file: &ReadFile) -> Result<Interface
 {
     match &file.tree {
         Err(_) => Ok(Interface::Unreadable),
-        Ok(tree) => tree_interface(alloc, tree),
+        Ok(tree) => interface_of(alloc, tree.kind(), tree.root()),
     }
 }

@@ -1,40 +1,18 @@
 //! The linter, as an `impl Lint` for sessions.
-ghost use Rattle.std.specs.Prelude.{◌≡◌, ◌∷◌, [], ℕ, List, Option};
+ghost use Rattle.std.specs.Prelude.{◌≡◌, Option};
 ghost use Rattle.al_tree.specs.Kinds.{file_kind};
 ghost use Rattle.al_check.specs.Linting.{linting};
 ghost use Rattle.al_check.specs.Units.{IsUnit};
 ghost use Rattle.al_check_interfaces.proofs.Exact.{exact};
 ghost use Rattle.al_check.specs.Proofs.Laws.{each_sited, faults_inside, faults_ordered, sites_inside};
-ghost use Rattle.al_session_folder.specs.Sites.{site_fault};
 
 use crate::files::{Source, file_interface, read_file};
 use crate::units::{Unit, brief_of, call_at, is_clean, unit_faults, unit_interface, unit_targets};
-use al_base::{Args, Fault};
-use al_check_interfaces::{FolderCall, Interface};
+use al_base::Fault;
+use al_check_interfaces::Interface;
 use al_session_folder::{Lint, Site, Target};
 use al_tree::{file_kind, is_action, is_workflow};
 use std::alloc::{AllocError, Global};
-
-/// The first text of a fault; empty if it has none.
-fn first_text(args: &Args) -> &str
-    ensures { (text : List ℕ) → args.now ≡ text ∷ [] → result.now ≡ text }
-{
-    match args.first() {
-        Some(text) => text,
-        None => "",
-    }
-}
-
-/// The fault of a call on a call cycle.
-fn site_of(call: &FolderCall) -> Site<'_>
-    ensures { (text : List ℕ) → call.now.fault.args ≡ text ∷ [] → site_fault result ≡ call.now.fault }
-{
-    Site {
-        code: call.fault.code,
-        span: call.fault.span,
-        text: first_text(&call.fault.args),
-    }
-}
 
 // A linter for one report keeps the trees of files up to this many bytes in total.
 const KEPT_BYTES: usize = 2_097_152;
@@ -147,7 +125,12 @@ impl Lint for Actions {
     }
 
     fn site<'a>(&self, unit: &'a Unit, call: usize) -> Site<'a> {
-        site_of(call_at(unit, call))
+        let fault = &call_at(unit, call).fault;
+        Site {
+            code: fault.code,
+            span: fault.span,
+            text: fault.args.first().unwrap_or(""),
+        }
     }
 
     fn checks(&self) -> u64 {

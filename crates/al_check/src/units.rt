@@ -9,7 +9,7 @@ ghost use Rattle.al_check.specs.FileFaults as faults;
 ghost use Rattle.al_check.specs.Reading.{IsRead};
 ghost use Rattle.al_check.specs.Units.{calls_kept, interface_kept, IsBriefOf, IsClean, IsUnit};
 
-use crate::files::{ReadFile, Source, file_faults, file_interface, read_file, targets};
+use crate::files::{ReadFile, Source, file_faults, file_interface, read_file};
 use al_base::Fault;
 use al_check_interfaces::{FolderCall, Interface};
 use al_session_folder::Target;
@@ -86,7 +86,11 @@ pub(crate) fn call_at(unit: &Unit, number: usize) -> &FolderCall
 pub(crate) fn unit_targets(alloc: Global, unit: &Unit) -> Result<Vec<Target>, AllocError>
     ensures { IfOk result (λ found. found.items ≡ map (λ c. c.target) (calls_kept unit.now)) }
 {
-    targets(alloc, calls_of(unit))
+    let mut targets = Vec::new(alloc);
+    for call in calls_of(unit) {
+        targets.push(call.target.copy(alloc)?)?;
+    }
+    Ok(targets)
 }
 
 /// The interface that a file shows to its callers.
@@ -98,23 +102,6 @@ pub(crate) fn unit_interface(alloc: Global, unit: &Unit) -> Result<Interface, Al
         Unit::Brief(brief) => brief.interface.copy(alloc),
         Unit::Clean(interface) => interface.copy(alloc),
     }
-}
-
-// The faults of a file, which is read again for this.
-fn faults_read_again(
-    alloc: Global,
-    source: Source<'_>,
-    answers: &[Option<&Interface>],
-) -> Result<Vec<Fault>, AllocError>
-    requires small { length source.bytes.now ≤ largest_file }
-    requires answers { AreAnswers (calling.file_targets source.kind source.bytes.now)
-        (map (λ a. option_copied a) answers.now) }
-    ensures { IfOk result (λ found. found.items
-        ≡ faults.file_faults (source.entry).kind (source.entry).bytes.now
-        (map (λ a. option_copied a) answers.now)) }
-{
-    let file = read_file(alloc, source)?;
-    file_faults(alloc, source, &file, answers)
 }
 
 /// The faults of a file, given the answers of its calls of files in the folder, in report order, each once.
@@ -134,7 +121,10 @@ pub(crate) fn unit_faults(
 {
     match unit {
         Unit::Whole(file) => file_faults(alloc, source, file, answers),
-        Unit::Brief(_) => faults_read_again(alloc, source, answers),
+        Unit::Brief(_) => {
+            let file = read_file(alloc, source)?;
+            file_faults(alloc, source, &file, answers)
+        }
         Unit::Clean(_) => Ok(Vec::new(alloc)),
     }
 }

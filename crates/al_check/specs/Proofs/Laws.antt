@@ -83,7 +83,7 @@ module _ (size : ℕ) (kind : FileKind) (root : Node) (i : IsInside size root) (
       AllByRecursion-fault_list (λ (x : Fault). LiesIn size x.span) (map printed_fault all_faults)
       (printed_lie size all_faults found_lie)
 
-abbrev faults_given : FileKind → List ℕ → List (Option Interface) → Result Node FaultAt → List Fault
+abbrev pub faults_given : FileKind → List ℕ → List (Option Interface) → Result Node FaultAt → List Fault
 faults_given kind bytes answers read = elim read [
   | Ok root ↦ document_faults kind root answers
   | Err fault ↦ record { span = fault_span bytes fault.at; code = code.Yaml fault.code; args = [] } ∷ []
