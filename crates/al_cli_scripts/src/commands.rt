@@ -1,6 +1,6 @@
 //! The commands of a script, as bytes.
 
-ghost use Rattle.std.specs.Prelude.{◌≡◌, ◌≢◌, ◌<◌, ◌≤◌, ◌+◌, MatchOption, length, All, take, drop, slice_index, decimal, IsTrue, ◌↔◌};
+ghost use Rattle.std.specs.Prelude.{◌≡◌, ◌≢◌, ◌<◌, ◌≤◌, ◌+◌, MatchOption, length, All, take, drop, slice_index};
 ghost use Rattle.al_base.specs.Limits.{longest_line};
 ghost use Rattle.al_cli_scripts.specs.Private.Next.{IsNext, IsLineOf, IsPutOf, IsLengthOf, IsPutLine, IsDeleteOf};
 ghost use Rattle.al_cli_scripts.specs.Script.{HasNoBreak, IsPathText};
@@ -80,15 +80,8 @@ fn find_break(bytes: &[u8]) -> Option<usize>
         (λ end. (end < length bytes.now) × (end ≤ longest_line) × HasNoBreak (take end bytes.now)
         × (slice_index bytes.now end ≡ 10)) }
 {
-    first_break(&bytes[..bytes.len().min(LONGEST_LINE + 1)])
-}
-
-pub(crate) fn first_break(bytes: &[u8]) -> Option<usize>
-    ensures { MatchOption result (HasNoBreak bytes.now)
-        (λ end. (end < length bytes.now) × HasNoBreak (take end bytes.now)
-        × (slice_index bytes.now end ≡ 10)) }
-{
-    bytes.iter().position(|b| *b == b'\n')
+    let start = &bytes[..bytes.len().min(LONGEST_LINE + 1)];
+    start.iter().position(|b| *b == b'\n')
 }
 
 // The command line with these bytes.
@@ -167,25 +160,17 @@ fn last_space(text: &[u8]) -> Option<usize>
 fn read_length(digits: &[u8]) -> Option<usize>
     ensures { IsLengthOf digits.now result }
 {
-    match str::from_utf8(digits) {
-        Err(_) => None,
-        Ok(text) => match text.parse::<u32>() {
-            Err(_) => None,
-            Ok(length) => {
-                // Signs and leading zeros aren't allowed: a number has one spelling.
-                if length < LENGTHS && is_written(length, text) {
-                    Some(length as usize)
-                } else {
-                    None
-                }
-            }
-        },
+    let Ok(text) = str::from_utf8(digits) else {
+        return None;
+    };
+    let Ok(length) = text.parse::<u32>() else {
+        return None;
+    };
+    // Signs and leading zeros aren't allowed: a number has one spelling.
+    let mut spelling = Buffer::new();
+    if length < LENGTHS && spelling.format(length) == text {
+        Some(length as usize)
+    } else {
+        None
     }
-}
-
-fn is_written(number: u32, text: &str) -> bool
-    ensures { IsTrue result ↔ (text.now ≡ decimal number) }
-{
-    let mut buffer = Buffer::new();
-    buffer.format(number) == text
 }

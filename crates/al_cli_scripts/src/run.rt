@@ -1,11 +1,11 @@
 //! A script run over a session: commands read, replies and reports written.
 
-ghost use Rattle.std.specs.Prelude.{Err, None, false, max, ◌≡◌, ◌≢◌, [], ◌<◌, ◌+◌, ◌≤◌, ◌++◌, ◌⊎◌, ℕ, List, length};
-ghost use Rattle.std.specs.Prelude.{drop, codes, IfOk, OnOk, OnErr, IfErr, IsErrOf, decimal, IsOkUnless};
+ghost use Rattle.std.specs.Prelude.{Err, None, false, max, ◌≡◌, ◌≢◌, [], ◌++◌, ◌⊎◌, ℕ, List, length};
+ghost use Rattle.std.specs.Prelude.{codes, IfOk, OnOk, OnErr, IfErr, IsErrOf, decimal};
 ghost use Rattle.std.specs.Io.KnownBytes.{Keeps};
-ghost use Rattle.al_base.specs.Counted.{count_after, HasRisen};
+ghost use Rattle.al_base.specs.Counted.{count_after};
 ghost use Rattle.al_base.specs.Streams.{bytes_left, turns_of, read_failures, largest_ask, bytes_written, write_failures};
-ghost use Rattle.al_base.specs.Streams.{Writes, WritesPrefix};
+ghost use Rattle.al_base.specs.Streams.{Writes, WritesOrFails, WritesPrefix};
 ghost use Rattle.al_cli_scripts.specs.Private.Next.{meaning};
 ghost use Rattle.al_cli_scripts.specs.Script.{IsPending, BeginsWithCommand};
 ghost use Rattle.al_cli_scripts.specs.Runs.{CountsFailures, LeavesFolder, Ends, Runs, Turns, run_state};
@@ -148,20 +148,12 @@ impl Run {
         match answer_all(session, &self.waiting, writer, self.oneline)? {
             Progress::Bad => Ok(Some(2)),
             Progress::Waits(done) => {
-                drop_prefix(&mut self.waiting, done);
+                self.waiting.drain(..done);
                 writer.flush()?;
                 Ok(None)
             }
         }
     }
-}
-
-// Drops the bytes of the commands that were answered.
-fn drop_prefix(waiting: &mut Vec<u8>, done: usize)
-    requires { done ≤ length waiting.old.items }
-    ensures { waiting.new.items ≡ drop done waiting.old.items }
-{
-    waiting.drain(..done);
 }
 
 // The result at the end of the input.
@@ -180,9 +172,8 @@ fn finish<W: Write>(
         × WritesPrefix W.contents writer.old writer.new
         (codes "bad command\n"))
         ⊎ Keeps (bytes_written W.contents writer.old) (bytes_written W.contents writer.new)) }
-    ensures failures { OnOk result (write_failures writer.new ≡ write_failures writer.old) }
-    ensures failed { IsErrOf result Stop.WriteFault
-        → HasRisen (write_failures writer.old) (write_failures writer.new) }
+    ensures failures { CountsFailures result Stop.WriteFault
+        (write_failures writer.old) (write_failures writer.new) }
     ensures only { IfErr result (λ e. (e ≡ WriteFault) ⊎ (e ≡ Memory)) }
     ensures unchanged { session.new ≡ session.old }
 {
@@ -206,9 +197,8 @@ fn answer_all<W: Write>(
         (bytes_written W.contents writer.old) (bytes_written W.contents writer.new)) }
     ensures err { OnErr result (IsStuck (replies.session oneline) session.old.folder waiting.now
         (bytes_written W.contents writer.old) (bytes_written W.contents writer.new)) }
-    ensures failures { OnOk result (write_failures writer.new ≡ write_failures writer.old) }
-    ensures failed { IsErrOf result Stop.WriteFault
-        → HasRisen (write_failures writer.old) (write_failures writer.new) }
+    ensures failures { CountsFailures result Stop.WriteFault
+        (write_failures writer.old) (write_failures writer.new) }
     ensures only { IfErr result (λ e. (e ≡ WriteFault) ⊎ (e ≡ Memory)) }
 {
     let mut done = 0;
@@ -243,9 +233,8 @@ fn answer<W: Write>(
     ensures err { OnErr result
         (WritesPrefix W.contents writer.old writer.new
         (replies.reply_to oneline session.old.folder (meaning command.entry))) }
-    ensures failures { OnOk result (write_failures writer.new ≡ write_failures writer.old) }
-    ensures failed { IsErrOf result Stop.WriteFault
-        → HasRisen (write_failures writer.old) (write_failures writer.new) }
+    ensures failures { CountsFailures result Stop.WriteFault
+        (write_failures writer.old) (write_failures writer.new) }
     ensures only { IfErr result (λ e. (e ≡ WriteFault) ⊎ (e ≡ Memory)) }
     ensures memory { IsErrOf result Stop.Memory
         → replies.refusal_of session.old.folder (meaning command.entry) ≡ None }
@@ -265,9 +254,8 @@ fn reply_to_edit<W: Write>(writer: &mut Output<W>, reply: Result<Edit, Refused>)
     ensures err { IfErr result
         (replies.ReplyStops reply (bytes_written W.contents writer.old)
         (bytes_written W.contents writer.new)) }
-    ensures failures { OnOk result (write_failures writer.new ≡ write_failures writer.old) }
-    ensures failed { IsErrOf result Stop.WriteFault
-        → HasRisen (write_failures writer.old) (write_failures writer.new) }
+    ensures failures { CountsFailures result Stop.WriteFault
+        (write_failures writer.old) (write_failures writer.new) }
 {
     match reply {
         Ok(edit) => write_number(writer, b"ok ", edit.rechecked.as_slice().len() as u64),
@@ -302,9 +290,8 @@ fn reply_to_report<W: Write>(
     ensures err { OnErr result
         (WritesPrefix W.contents writer.old writer.new
         (replies.reply_to oneline session.old.folder script.Report)) }
-    ensures failures { OnOk result (write_failures writer.new ≡ write_failures writer.old) }
-    ensures failed { IsErrOf result Stop.WriteFault
-        → HasRisen (write_failures writer.old) (write_failures writer.new) }
+    ensures failures { CountsFailures result Stop.WriteFault
+        (write_failures writer.old) (write_failures writer.new) }
     ensures only { IfErr result (λ e. (e ≡ WriteFault) ⊎ (e ≡ Memory)) }
     ensures unchanged { session.new ≡ session.old }
 {
@@ -315,16 +302,8 @@ fn reply_to_report<W: Write>(
 
 // Writes a line with a word and a number.
 fn write_number<W: Write>(writer: &mut Output<W>, word: &[u8], number: u64) -> Result<(), Stop>
-    ensures ok { OnOk result
-        (Writes W.contents writer.old writer.new
-        (word.now ++ decimal number ++ codes "\n")) }
-    ensures err { OnErr result
-        (WritesPrefix W.contents writer.old writer.new
-        (word.now ++ decimal number ++ codes "\n")) }
-    ensures failures { OnOk result (write_failures writer.new ≡ write_failures writer.old) }
-    ensures failed { OnErr result
-        (HasRisen (write_failures writer.old) (write_failures writer.new)) }
-    ensures only { IsOkUnless result Stop.WriteFault }
+    ensures { WritesOrFails W.contents writer.old writer.new result
+        (word.now ++ decimal number ++ codes "\n") }
 {
     let mut digits = Buffer::new();
     writer.write_all(word)?;

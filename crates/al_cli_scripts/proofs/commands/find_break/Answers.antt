@@ -8,4 +8,4 @@ use Rattle.al_cli_scripts.proofs.commands.find_break.Goals as goal
 pub returns : goal.returns
 returns c =
     let n : c.min.result ≡ min 2049 (length c.args.bytes.now) = search (rules, common_steps) in
-    find_is c.args.bytes.now _ _ (ap (λ k. take k c.args.bytes.now) n ∙ take_min 2049 c.args.bytes.now) c.first_break.ensures
+    find_is c.args.bytes.now (take c.min.result c.args.bytes.now) _ (ap (λ k. take k c.args.bytes.now) n ∙ take_min 2049 c.args.bytes.now) (search (rules, common_steps))

@@ -16,7 +16,7 @@ pub loop-done-preserved : goal.loop-done-preserved
 loop-done-preserved g c = record {
   within = let h = c.in-Whole.ensures.within in let e = ap length (rest_is c.args.waiting.now c.loop-done.done) in grind (arith, common_steps);
   served = rw c.in_ok-answer-in-Whole.ensures.after (Answering-next _ c.loop-done.invariant.served (meaning c.in-Whole.command) c.in-Whole.count c.in-Whole.ensures c.in_ok-answer-in-Whole.ensures.ok);
-  unfailed = c.in_ok-answer-in-Whole.ensures.failures ∙ c.loop-done.invariant.unfailed;
+  unfailed = c.in_ok-answer-in-Whole.ensures.failures.answered ∙ c.loop-done.invariant.unfailed;
 }
 
 pub returns-in_err-write_all-in-Wrong-clause-err : goal.returns-in_err-write_all-in-Wrong-clause-err

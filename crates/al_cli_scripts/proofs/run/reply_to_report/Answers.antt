@@ -26,4 +26,4 @@ returns-clause-err g c =
     (λ w. AppendsPrefix-after _ _ _ (report_of c.args.oneline linting folder) (codes "status " ++ decimal (status_of linting folder) ++ codes "\n") c.in_ok-report.ensures.all
     (status_front _ _ c.from.result (status_of linting folder) (c.from.ensures ∙ c.in_ok-status.ensures.status
     ∙ ap (λ (s : SessionState). status_of linting s.folder) c.report.ensures.unchanged) w))
-    c.write_number.ensures.err
+    c.write_number.ensures.prefix

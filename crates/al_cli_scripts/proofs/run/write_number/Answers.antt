@@ -1,19 +1,27 @@
-use Rattle.std.proofs.Common.{◌≡◌, ◌++◌, ◌∷◌, []}
+use Rattle.std.proofs.Common.{◌≡◌, ◌++◌, ◌∷◌, [], append_assoc, subst, sym}
 use Rattle.std.specs.Fmt.{decimal}
+use Rattle.al_base.specs.Streams.{WritesOrFails}
 use Rattle.al_base.proofs.Writing.{after, fails_early}
 use Rattle.al_cli_scripts.proofs.run.write_number.Goals as goal
 
-pub returns-in_err-write_all-2-clause-err : goal.returns-in_err-write_all-2-clause-err
-returns-in_err-write_all-2-clause-err g c =
-    let p = err_from_is_err_and c.from_residual-in_err-write_all-2.result c.from_residual-in_err-write_all-2.ensures.1 in
-    let e : c.as_bytes.result.now ≡ decimal c.args.number = cc in
-    rw p.1 (AppendsPrefix-wider _ _ (c.args.word.now ++ decimal c.args.number) (10 ∷ [])
-    (AppendsPrefix-after _ _ _ c.args.word.now (decimal c.args.number) c.in_ok-write_all.ensures.all
-    (rw e at c.in_err-write_all-2.ensures.prefix)))
+pub returns-in_err-write_all : goal.returns-in_err-write_all
+returns-in_err-write_all g c =
+    let parts = sym (append_assoc c.args.word.now (decimal c.args.number) (10 ∷ [])) in
+    subst (WritesOrFails _ _ _ _) parts
+    (fails_early _ _ _ _ _ c.args.word.now (decimal c.args.number ++ 10 ∷ []) c.from_residual.ensures.1 c.in_err-write_all.ensures)
 
-pub returns-clause-err : goal.returns-clause-err
-returns-clause-err g c =
+pub returns-in_err-write_all-2 : goal.returns-in_err-write_all-2
+returns-in_err-write_all-2 g c =
     let e : c.as_bytes.result.now ≡ decimal c.args.number = cc in
-    on_err_weaker c.write_all-3.result
-    (λ w. AppendsPrefix-after _ _ _ (c.args.word.now ++ decimal c.args.number) (10 ∷ [])
-    (Appends-trans _ _ _ c.args.word.now (decimal c.args.number) c.in_ok-write_all.ensures.all (rw e at c.in_ok-write_all-2.ensures.all)) w) c.write_all-3.ensures.prefix
+    let parts = sym (append_assoc c.args.word.now (decimal c.args.number) (10 ∷ [])) in
+    subst (WritesOrFails _ _ _ _) parts
+    (after _ _ _ _ _ c.args.word.now (decimal c.args.number ++ 10 ∷ []) c.in_ok-write_all.ensures.all c.in_ok-write_all.ensures.failures
+    (fails_early _ _ _ _ _ (decimal c.args.number) (10 ∷ []) c.from_residual-in_err-write_all-2.ensures.1 (rw e at c.in_err-write_all-2.ensures)))
+
+pub returns : goal.returns
+returns g c =
+    let e : c.as_bytes.result.now ≡ decimal c.args.number = cc in
+    let parts = sym (append_assoc c.args.word.now (decimal c.args.number) (10 ∷ [])) in
+    subst (WritesOrFails _ _ _ _) parts
+    (after _ _ _ _ _ c.args.word.now (decimal c.args.number ++ 10 ∷ []) c.in_ok-write_all.ensures.all c.in_ok-write_all.ensures.failures
+    (after _ _ _ _ _ (decimal c.args.number) (10 ∷ []) (rw e at c.in_ok-write_all-2.ensures.all) c.in_ok-write_all-2.ensures.failures c.write_all-3.ensures))
