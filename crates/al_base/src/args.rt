@@ -163,7 +163,9 @@ impl Args {
             Texts::One(text) => Ok(Args::one(printable(alloc, text.as_str())?)),
             Texts::Two(text, at) => {
                 let (first, second) = text.as_str().split_at(*at);
-                two_printable(alloc, first, second)
+                let first = printable(alloc, first)?;
+                let second = printable(alloc, second)?;
+                Args::two(alloc, first.as_str(), second.as_str())
             }
         }
     }
@@ -175,15 +177,6 @@ fn two_replaced(alloc: Global, first: &[u8], second: &[u8]) -> Result<Args, Allo
 {
     let first = String::from_utf8_lossy(alloc, first)?;
     let second = String::from_utf8_lossy(alloc, second)?;
-    Args::two(alloc, first.as_str(), second.as_str())
-}
-
-// Two texts as they are printed.
-fn two_printable(alloc: Global, first: &str, second: &str) -> Result<Args, AllocError>
-    ensures { IfOk result (λ args. args ≡ printable first.now ∷ printable second.now ∷ []) }
-{
-    let first = printable(alloc, first)?;
-    let second = printable(alloc, second)?;
     Args::two(alloc, first.as_str(), second.as_str())
 }
 

@@ -97,7 +97,7 @@ impl Lines {
         ensures column { result.column ≡ column_at bytes.now offset }
         ensures start { BeginsLine bytes.now offset result.start }
     {
-        if offset < from || self.line_of(bytes, offset) != known.line {
+        if offset < from || self.count_up_to(offset) as u32 != known.line {
             return self.location(bytes, offset);
         }
         Location {
@@ -105,16 +105,6 @@ impl Lines {
             column: column_from(bytes, from, known.column, offset),
             start: known.start,
         }
-    }
-
-    // The line of a byte offset.
-    fn line_of(&self, bytes: &[u8], offset: u32) -> u32
-        requires made { self.now ≡ line_starts bytes.now }
-        requires within { offset ≤ length bytes.now }
-        requires small { length bytes.now ≤ largest_file }
-        ensures { result ≡ line_at bytes.now offset }
-    {
-        self.count_up_to(offset) as u32
     }
 
     // How many lines begin at or before an offset.

@@ -1,7 +1,6 @@
 //! Sorted texts, each with its position in the original list.
 
 ghost use Rattle.std.specs.Prelude.{◌≡◌, ◌+◌, ◌<◌, ℕ, IfOk, IsPermutation, Some, length, slice_index_or};
-ghost use Rattle.std.specs.Ordering.{is_eq};
 ghost use Rattle.al_base.specs.SortedTexts.{AreNumbered, AreSorted, StandIn, TellPlaces, entry_key, is_own, key_cmp};
 ghost use Rattle.al_base.specs.SortedTexts.{place_of, position_among, sort_key, tail_number};
 
@@ -51,13 +50,6 @@ impl<T: AsSlice<u8> + Drop> Entry<T> {
             unequal => unequal,
         }
     }
-
-    /// Whether it has the text of another.
-    fn is_equal(&self, other: &Entry<T>) -> bool
-        ensures { result ≡ is_eq (key_cmp (entry_key T.items self.now) (entry_key T.items other.now)) }
-    {
-        self.compare(other.number, other.text.as_slice()).is_eq()
-    }
 }
 
 /// The entries in order. Those of equal texts stay in the order that they had. Fails with `AllocError` when out of memory.
@@ -104,7 +96,8 @@ fn place_after<T: AsSlice<u8> + Drop>(entries: &[Entry<T>], i: usize, before: us
     if i == 0 {
         return entry.position;
     }
-    if entries[i - 1].is_equal(entry) {
+    let earlier = &entries[i - 1];
+    if earlier.compare(entry.number, entry.text.as_slice()).is_eq() {
         return before;
     }
     entry.position

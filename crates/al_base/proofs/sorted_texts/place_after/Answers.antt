@@ -13,14 +13,14 @@ returns-then-i-eq0 g c =
     place_at items es c.args.i x x.position c.requires.within c.index-entries-i.is
     (new_place items es c.requires.order c.requires.numbers c.args.i x c.requires.within c.index-entries-i.is (λ k n. absurd (omega (arith, n, c.if-i-eq0.true))))
 
-pub returns-then-is_equal : goal.returns-then-is_equal
-returns-then-is_equal g c =
+pub returns-then-is_eq : goal.returns-then-is_eq
+returns-then-is_eq g c =
     let items = g.T.AsSlice.items in
     let es = c.args.entries.now in
     let x = c.index-entries-i.result in
     let y = c.index-entries-i-2.result in
     place_at items es c.args.i x c.args.before c.requires.within c.index-entries-i.is
-    (same_place items es y x (sym c.is_equal.ensures ∙ c.if-is_equal.true) ∙ ap (place_of items es) c.index-entries-i-2.is
+    (same_place items es y x (ap is_eq (sym (rw c.as_slice.ensures at c.compare.ensures)) ∙ sym c.is_eq.ensures ∙ c.if-is_eq.true) ∙ ap (place_of items es) c.index-entries-i-2.is
     ∙ c.requires.before (c.args.i - 1) y (omega (arith, c.if-i-eq0.false)))
 
 pub returns : goal.returns
@@ -34,4 +34,4 @@ returns g c =
     (λ k n. (let z : k ≡ c.args.i - 1 = omega (arith, n) in
     ap (λ j. is_eq (key_cmp (entry_key items (get_or es j x)) (entry_key items x))) z
     ∙ ap (λ v. is_eq (key_cmp (entry_key items v) (entry_key items x))) (get_or_default es (c.args.i - 1) x y (omega (arith, c.requires.within)) ∙ sym c.index-entries-i-2.is)
-    ∙ sym c.is_equal.ensures ∙ c.if-is_equal.false)))
+    ∙ ap is_eq (sym (rw c.as_slice.ensures at c.compare.ensures)) ∙ sym c.is_eq.ensures ∙ c.if-is_eq.false)))
