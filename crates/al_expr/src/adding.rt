@@ -63,8 +63,7 @@ fn add_fields<'a>(
     let mut map = FieldMap::new(alloc);
     for field in fields {
         let ty = add(alloc, types, &field.ty)?;
-        let more = map.and(alloc, field.name.as_bytes(), ty)?;
-        map = more;
+        map = map.and(alloc, field.name.as_bytes(), ty)?;
     }
     Ok(map)
 }

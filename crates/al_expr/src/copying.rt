@@ -35,8 +35,7 @@ fn copy_fields(alloc: Global, fields: &[Field]) -> Result<Vec<Field>, AllocError
 {
     let mut copies = Vec::new(alloc);
     for field in fields {
-        let copy = copy_field(alloc, field)?;
-        copies.push(copy)?;
+        copies.push(copy_field(alloc, field)?)?;
     }
     Ok(copies)
 }

@@ -100,8 +100,7 @@ fn add_fields(alloc: Global, fields: &[Field], sofar: Listing) -> Result<Listing
     let mut all = sofar;
     for (i, field) in fields.iter().enumerate() {
         if position(&fields[..i], field).is_none() {
-            let more = add_field(alloc, field, all)?;
-            all = more;
+            all = add_field(alloc, field, all)?;
         }
     }
     Ok(all)
@@ -134,8 +133,7 @@ fn put_or_fuse(alloc: Global, field: &Field, fields: Vec<Field>) -> Result<Vec<F
             Ok(all)
         }
         None => {
-            let copy = copy_field(alloc, field)?;
-            all.push(copy)?;
+            all.push(copy_field(alloc, field)?)?;
             Ok(all)
         }
     }

@@ -3,7 +3,6 @@
 ghost use Rattle.std.specs.Prelude.{◌≡◌, ◌<◌, IfOk, IfSome, length, map, true, []};
 ghost use Rattle.al_types.specs.FusedFields.{are_distinct};
 ghost use Rattle.al_types.specs.Indexes.{name_at};
-ghost use Rattle.al_types.specs.Puts.{firsts};
 ghost use Rattle.al_expr.specs.Trees.{field_of};
 
 use crate::copying::{copy_field, copy_rest};
@@ -32,20 +31,6 @@ pub(crate) fn position(fields: &[Field], other: &Field) -> Option<usize>
     None
 }
 
-/// Copies of the fields that are the first with their names. Fails with `AllocError` when out of memory, as everything here does.
-fn first_fields(alloc: Global, fields: &[Field]) -> Result<Vec<Field>, AllocError>
-    ensures { IfOk result (λ v. map field_of v.items ≡ firsts (map field_of fields.now)) }
-{
-    let mut all = Vec::new(alloc);
-    for (i, field) in fields.iter().enumerate() {
-        if position(&fields[..i], field).is_none() {
-            let copy = copy_field(alloc, field)?;
-            all.push(copy)?;
-        }
-    }
-    Ok(all)
-}
-
 impl Listing {
     ghost use Rattle.al_types.specs.Types.{Absent, object_type, parts_with};
     ghost use Rattle.al_expr.specs.Listings.{parts_in};
@@ -61,7 +46,7 @@ impl Listing {
         }
     }
 
-    /// A copy of an object's fields.
+    /// A copy of an object's fields: of those with one name, the first. Fails with `AllocError` when out of memory.
     pub(crate) fn of(
         alloc: Global,
         fields: &[Field],
@@ -70,9 +55,17 @@ impl Listing {
         ensures { IfOk result
             (λ l. parts_in l ≡ listed_parts (map field_of fields.now) (rest_of rest.now)) }
     {
-        let fields = first_fields(alloc, fields)?;
+        let mut first = Vec::new(alloc);
+        for (i, field) in fields.iter().enumerate() {
+            if position(&fields[..i], field).is_none() {
+                first.push(copy_field(alloc, field)?)?;
+            }
+        }
         let rest = copy_rest(alloc, rest)?;
-        Ok(Listing { fields, rest })
+        Ok(Listing {
+            fields: first,
+            rest,
+        })
     }
 
     /// The object with these fields.

@@ -1,10 +1,9 @@
 //! The trees of the types in a table.
 
-ghost use Rattle.std.specs.Prelude.{◌≡◌, ◌<◌, ◌≤◌, IfOk, length, map, take, true};
-ghost use Rattle.al_expr_types.specs.Names.{names_in};
+ghost use Rattle.std.specs.Prelude.{◌≡◌, ◌<◌, ◌≤◌, IfOk, length, true};
 ghost use Rattle.al_expr_types.specs.Tables.{is_known, objects_of, type_at};
 ghost use Rattle.al_expr_types.specs.Types.{are_fields_below, arrays_of, fields_parts, is_below, is_rest_below};
-ghost use Rattle.al_expr_types.specs.Types.{named_types, object_in, rest_in, scalar_type, strings_parts};
+ghost use Rattle.al_expr_types.specs.Types.{object_in, rest_in, scalar_type, strings_parts};
 ghost use Rattle.al_expr.specs.Listings.{parts_in};
 ghost use Rattle.al_expr.specs.Trees.{field_of, rest_of, ty_of};
 
@@ -80,8 +79,7 @@ fn object_listing(alloc: Global, types: &Types<'_>, n: u32) -> Result<Listing, A
             let mut all = Listing::new(alloc);
             for m in of.as_slice() {
                 let one = object_listing(alloc, types, *m)?;
-                let more = add_object(alloc, one.fields.as_slice(), &one.rest, all)?;
-                all = more;
+                all = add_object(alloc, one.fields.as_slice(), &one.rest, all)?;
             }
             Ok(all)
         }
@@ -102,35 +100,17 @@ fn fields_listing(
     requires inside { below ≤ length types.now.objects.items }
     ensures { IfOk result (λ l. parts_in l ≡ fields_parts (objects_of types.now) fields.now) }
 {
-    let trees = field_trees(alloc, types, fields, below)?;
+    let mut trees = Vec::new(alloc);
+    for i in 0..fields.count {
+        let (name, ty) = fields.map.at(i);
+        let tree = tree_below(alloc, types, ty, below as usize)?;
+        trees.push(field_with(alloc, name, tree)?)?;
+    }
     let rest = rest_tree(alloc, types, fields.rest, below)?;
     Ok(Listing {
         fields: trees,
         rest,
     })
-}
-
-#[cycle(taking)]
-fn field_trees(
-    alloc: Global,
-    types: &Types<'_>,
-    fields: &Fields<'_>,
-    below: u32,
-) -> Result<Vec<Field>, AllocError>
-    requires below { are_fields_below below fields.now ≡ true }
-    requires inside { below ≤ length types.now.objects.items }
-    ensures { IfOk result (λ v. map field_of v.items ≡ named_types (objects_of types.now)
-        (names_in fields.now.map.value.names)
-        (take fields.now.count fields.now.map.value.types.items)) }
-{
-    let mut trees = Vec::new(alloc);
-    for i in 0..fields.count {
-        let (name, ty) = fields.map.at(i);
-        let tree = tree_below(alloc, types, ty, below as usize)?;
-        let field = field_with(alloc, name, tree)?;
-        trees.push(field)?;
-    }
-    Ok(trees)
 }
 
 #[cycle(taking)]
@@ -172,8 +152,7 @@ fn strings_listing(alloc: Global, names: &NameList) -> Result<Listing, AllocErro
 {
     let mut fields = Vec::new(alloc);
     for i in 0..names.len() {
-        let field = field_with(alloc, names.at(i), Ty::String)?;
-        fields.push(field)?;
+        fields.push(field_with(alloc, names.at(i), Ty::String)?)?;
     }
     Listing::of(alloc, fields.as_slice(), &None)
 }

@@ -40,9 +40,9 @@ add_fields-loop-field-preserved t c =
     let sofar = fields_stay next now m kept c.loop-field.invariant.known ∙ c.loop-field.invariant.fields in
     record {
       kept = begins_trans _ _ _ c.loop-field.invariant.kept kept;
-      known = c.in_ok-more.ensures.below (length next.objects.items)
+      known = c.in_ok-map.ensures.below (length next.objects.items)
           (types_wider next.objects.items now.objects.items m kept c.loop-field.invariant.known) c.in_ok-ty.ensures.known;
-      fields = c.in_ok-more.ensures.fields (objects_of next)
+      fields = c.in_ok-map.ensures.fields (objects_of next)
           ∙ (λ d. put_new (sofar d) (c.as_bytes.ensures.value d, c.in_ok-ty.ensures.ty d))
           ∙ sym (ap firsts (mapped_more field_of fs i x c.loop-field-test.true c.field-item.is) ∙ firsts_more (map field_of (take i fs)) (field_of x));
     }

@@ -15,7 +15,7 @@ use Rattle.al_expr_types.proofs.Scans.{mapped_more}
 use Rattle.al_expr.proofs.Added.{added_first, added_later, added_none, parts_put, put_distinct, whole, with_rest}
 use Rattle.al_expr.proofs.Firsts.{none_if}
 use Rattle.al_expr.proofs.TreeViews.{object_view}
-use Rattle.al_expr.proofs.fusing.+fusing.Goals.{add_fields-then-is_none+in_ok-more, add_fields-else-is_none}
+use Rattle.al_expr.proofs.fusing.+fusing.Goals.{add_fields-then-is_none+in_ok-all, add_fields-else-is_none}
 use Rattle.al_expr.proofs.fusing.+fusing.Goals as goal
 
 pub add_fields-loop-i-init : goal.add_fields-loop-i-init
@@ -30,8 +30,8 @@ add_fields-loop-i-preserved t c =
     let ts : List TypedName = map field_of (take c.loop-i.i c.args.fields.now) in
     let more = ap (λ us. fuse_parts start (listed_parts us Absent)) (sym (mapped_more field_of c.args.fields.now c.loop-i.i x c.loop-i-test.true c.index-fields-i.is)) in
     elim c.if-is_none.branch [
-      | add_fields-then-is_none+in_ok-more w ↦ ap parts_in w.all-is
-          ∙ added_first ts p start old (parts_in w.in_ok-more.more) (none_if _ _ _ _ c.position.ensures.place c.is_none.ensures w.if-is_none.true) c.loop-i.invariant w.in_ok-more.ensures
+      | add_fields-then-is_none+in_ok-all w ↦ ap parts_in w.all-is
+          ∙ added_first ts p start old (parts_in w.in_ok-all.all) (none_if _ _ _ _ c.position.ensures.place c.is_none.ensures w.if-is_none.true) c.loop-i.invariant w.in_ok-all.ensures
           ∙ more
       | add_fields-else-is_none w ↦ ap parts_in w.all-is
           ∙ added_later ts p start old (none_if _ _ _ _ c.position.ensures.place c.is_none.ensures w.if-is_none.false) c.loop-i.invariant ∙ more
@@ -75,8 +75,8 @@ put_or_fuse-returns-in_ok-push-in-None t c =
     let p = field_of c.args.field.now in
     let place = c.position.ensures.place ∙ ap (λ fs. name_at (map field_of fs) p.0) c.as_slice.ensures.value in
     let new : name_at ts p.0 ≡ None = sym place ∙ c.in-None.is in
-    ap (map field_of) c.in_ok-push-in-None.ensures.items ∙ map-append field_of items (c.in_ok-copy-in-None.copy ∷ [])
-    ∙ ap (λ q. ts ++ q ∷ []) c.in_ok-copy-in-None.ensures ∙ sym (put_after ts p new ∙ put_new_after ts p (ap is_none new))
+    ap (map field_of) c.in_ok-push-in-None.ensures.items ∙ map-append field_of items (c.in_ok-copy_field-in-None.field-0 ∷ [])
+    ∙ ap (λ q. ts ++ q ∷ []) c.in_ok-copy_field-in-None.ensures ∙ sym (put_after ts p new ∙ put_new_after ts p (ap is_none new))
 
 pub fuse_more-returns-in_ok-whole-in-Object-more-2 : goal.fuse_more-returns-in_ok-whole-in-Object-more-2
 fuse_more-returns-in_ok-whole-in-Object-more-2 t c =

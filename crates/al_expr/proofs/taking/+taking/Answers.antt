@@ -17,8 +17,8 @@ use Rattle.al_expr_types.proofs.Scans.{mapped_more}
 use Rattle.al_expr.proofs.Firsts.{firsts_same}
 use Rattle.al_expr.proofs.taking.+taking.Goals as goal
 
-pub field_trees-loop-i-preserved : goal.field_trees-loop-i-preserved
-field_trees-loop-i-preserved t c =
+pub fields_listing-loop-i-preserved : goal.fields_listing-loop-i-preserved
+fields_listing-loop-i-preserved t c =
     let f = c.args.fields.now in
     let m = f.map.value in
     let g = type_in (objects_of c.args.types.now) in
@@ -35,27 +35,29 @@ field_trees-loop-i-preserved t c =
     let name = c.at.ensures.name ∙ ap (λ k. get_or (names_in k.names) i n) c.deref.ensures in
     let typed = c.at.ensures.ty ∙ ap (λ k. get_or k.types.items i ty) c.deref.ensures ∙ sym (get_or-take f.count m.types.items i ty c.loop-i-test.true) in
     let is = get_or-zip ns (map g ts) i one named within ∙ (λ d. (sym name d, (get_or-map g ts i ty ∙ sym (ap g typed)) d)) in
-    ap (map field_of) c.in_ok-push.ensures.items ∙ map-append field_of c.loop-i.trees.items (c.in_ok-field.field ∷ [])
-    ∙ (λ d. c.loop-i.invariant d ++ (c.in_ok-field.ensures ∙ ap (λ u. (n, u)) c.in_ok-tree.ensures) d ∷ [])
+    ap (map field_of) c.in_ok-push.ensures.items ∙ map-append field_of c.loop-i.trees.items (c.in_ok-field_with.field-0 ∷ [])
+    ∙ (λ d. c.loop-i.invariant d ++ (c.in_ok-field_with.ensures ∙ ap (λ u. (n, u)) c.in_ok-tree.ensures) d ∷ [])
     ∙ sym (take_more (zip ns (map g ts)) i one lt ∙ ap (λ p. take i (zip ns (map g ts)) ++ p ∷ []) is)
 
-pub field_trees-returns : goal.field_trees-returns
-field_trees-returns t c =
+pub fields_listing-invariant_of-result : goal.fields_listing-invariant_of-result
+fields_listing-invariant_of-result t c =
     let f = c.args.fields.now in
     let ns = names_in f.map.value.names in
     let ts = take f.count f.map.value.types.items in
     let us = map (type_in (objects_of c.args.types.now)) ts in
     let long = length-map ts (type_in (objects_of c.args.types.now)) in
-    c.loop-i.invariant ∙ take_all c.loop-i.i (zip ns us) (omega (arith, c.loop-i-test.false, length-zip ns us, long, length-take f.count f.map.value.types.items))
+    let all = c.loop-i.invariant ∙ take_all c.loop-i.i (zip ns us) (omega (arith, c.loop-i-test.false, length-zip ns us, long, length-take f.count f.map.value.types.items)) in
+    record { distinct = ap are_distinct all ∙ once_distinct ns us f.map.value.names.once }
 
-pub fields_listing-invariant_of-result : goal.fields_listing-invariant_of-result
-fields_listing-invariant_of-result t c =
+pub fields_listing-returns : goal.fields_listing-returns
+fields_listing-returns t c =
     let f = c.args.fields.now in
-    let m = f.map.value in
-    record {
-      distinct = ap are_distinct c.in_ok-trees.ensures
-          ∙ once_distinct (names_in m.names) (map (type_in (objects_of c.args.types.now)) (take f.count m.types.items)) m.names.once;
-    }
+    let ns = names_in f.map.value.names in
+    let ts = take f.count f.map.value.types.items in
+    let us = map (type_in (objects_of c.args.types.now)) ts in
+    let long = length-map ts (type_in (objects_of c.args.types.now)) in
+    let all = c.loop-i.invariant ∙ take_all c.loop-i.i (zip ns us) (omega (arith, c.loop-i-test.false, length-zip ns us, long, length-take f.count f.map.value.types.items)) in
+    λ d. parts_with (all d) (c.in_ok-rest.ensures d)
 
 pub object_listing-loop-m-preserved : goal.object_listing-loop-m-preserved
 object_listing-loop-m-preserved t c =
@@ -67,5 +69,5 @@ object_listing-loop-m-preserved t c =
     let rest = rest_of one.rest in
     let same = ap (λ xs. listed_parts (map field_of xs) rest) c.as_slice.ensures.value
     ∙ ap (λ us. parts_with us rest) (firsts_same (map field_of one.fields.items) one.distinct) ∙ c.in_ok-one-in-Common.ensures in
-    c.in_ok-more-in-Common.ensures ∙ (λ d. fuse_parts (c.loop-m.invariant d) (same d))
+    c.in_ok-all-in-Common.ensures ∙ (λ d. fuse_parts (c.loop-m.invariant d) (same d))
     ∙ sym (ap fuse_all (mapped_more f ns i m c.loop-m-test.true (get_or_default ns i 0 m c.loop-m-test.true)) ∙ fused_one_more (map f (take i ns)) (f m))

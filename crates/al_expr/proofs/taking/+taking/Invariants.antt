@@ -10,9 +10,6 @@ use Rattle.al_expr.proofs.taking.+taking.Given as goal
 abbrev pub decreases-tree_below : goal.decreases-tree_below
 decreases-tree_below l = 4 * l.below
 
-abbrev pub decreases-field_trees : goal.decreases-field_trees
-decreases-field_trees l = 4 * l.below + 1
-
 abbrev pub decreases-rest_tree : goal.decreases-rest_tree
 decreases-rest_tree l = 4 * l.below + 1
 
@@ -25,7 +22,7 @@ decreases-object_listing l = 4 * l.n + 3
 abbrev pub invariant-object_listing-loop-m : goal.invariant-object_listing-loop-m
 invariant-object_listing-loop-m l = parts_in l.all ≡ fuse_all (map (object_in (objects_of l.types)) (take l.m-index l.m-items))
 
-abbrev pub invariant-field_trees-loop-i : goal.invariant-field_trees-loop-i
-invariant-field_trees-loop-i l =
+abbrev pub invariant-fields_listing-loop-i : goal.invariant-fields_listing-loop-i
+invariant-fields_listing-loop-i l =
     map field_of l.trees.items
     ≡ take l.i (named_types (objects_of l.types) (names_in l.fields.map.value.names) (take l.fields.count l.fields.map.value.types.items))
