@@ -1,5 +1,5 @@
 -- The list of calls of files in the folder: appending one call, and its targets and faults.
-use Rattle.std.proofs.Common.{◌≡◌, ◌<◌, ◌+◌, ◌∙◌, ℕ, List, [], ◌∷◌, ◌++◌, Option, Some, None, ap, get_or, length, map, refl, slice_get, sym}
+use Rattle.std.proofs.Common.{◌≡◌, ◌<◌, ◌∙◌, ℕ, List, [], ◌∷◌, ◌++◌, Option, Some, None, ap, get_or, length, map, refl, slice_get, sym}
 use Rattle.std.specs.Prelude.{option_map}
 use Rattle.std.specs.List.{cons_option, filter_map}
 use Rattle.std.proofs.lemmas.List.{map-append}

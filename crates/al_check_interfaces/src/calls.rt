@@ -1,14 +1,13 @@
 //! The calls of files in the folder, as kept with a file that was read.
 ghost use Rattle.std.specs.Prelude.{◌≡◌, ◌++◌, [], map, slice_get, IfOk, List, OnOk, Some};
 ghost use Rattle.std.specs.List.{cons_option, filter_map, flat_map};
-ghost use Rattle.al_check_interfaces.specs.Forms as forms;
 ghost use Rattle.al_check_interfaces.specs.FolderCalls.{as_folder_call, folder_call};
 ghost use Rattle.al_check_interfaces.specs.CallViews.{call_of};
 ghost use Rattle.al_check_interfaces.specs.Uses as calling;
 
-use crate::forms::{Form, job_form, step_form};
+use crate::forms::{Form, form_by};
 use crate::sites::{Call, caller_of};
-use al_base::{Args, CallCode, Caller, Code, Fault, FaultSink};
+use al_base::{Args, CallCode, Code, Fault, FaultSink};
 use al_session_folder::Target;
 use std::alloc::{AllocError, Global};
 
@@ -21,16 +20,6 @@ pub struct FolderCall {
     pub target: Target,
     /// The fault to report if it is on a call cycle: C9, at its `uses`, with its text.
     pub fault: Fault,
-}
-
-/// What the text of a `uses` names.
-fn form(alloc: Global, caller: Caller, text: &[u8]) -> Result<Form, AllocError>
-    ensures { IfOk result (λ f. f ≡ forms.form_by caller text.now) }
-{
-    match caller {
-        Caller::Step => step_form(alloc, text),
-        Caller::Job => job_form(alloc, text),
-    }
 }
 
 /// A fault at the `uses` of a call that names its text.
@@ -57,7 +46,7 @@ fn add_call(
     ensures faults { OnOk result (faults.new ≡ faults.old ++ calling.wrong_uses (call_of call.entry)) }
 {
     let alloc = faults.alloc();
-    match form(alloc, caller_of(call.site), call.uses.scalar.text())? {
+    match form_by(alloc, caller_of(call.site), call.uses.scalar.text())? {
         Form::Local(target) => {
             let fault = that_uses(alloc, CallCode::CallCycle, call)?;
             kept.push(FolderCall {

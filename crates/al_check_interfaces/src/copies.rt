@@ -3,18 +3,7 @@ ghost use Rattle.std.specs.Prelude.{◌≡◌, IfOk};
 
 use crate::interfaces::{Interface, Parameter, Signature};
 use crate::lists::Parameters;
-use al_expr_types::Name;
 use std::alloc::{AllocError, Global};
-
-/// A copy of the name of an interface, if it has one.
-fn copy_of_title(alloc: Global, name: &Option<Name>) -> Result<Option<Name>, AllocError>
-    ensures { IfOk result (λ copy. copy ≡ name.now) }
-{
-    match name {
-        Some(name) => Ok(Some(name.copy(alloc)?)),
-        None => Ok(None),
-    }
-}
 
 pub(crate) fn copy_of_parameter(
     alloc: Global,
@@ -43,8 +32,12 @@ fn copy_of_parameters(alloc: Global, parameters: &Parameters) -> Result<Paramete
 fn copy_of_signature(alloc: Global, signature: &Signature) -> Result<Signature, AllocError>
     ensures { IfOk result (λ copy. copy ≡ signature.now) }
 {
+    let name = match &signature.name {
+        Some(name) => Some(name.copy(alloc)?),
+        None => None,
+    };
     Ok(Signature {
-        name: copy_of_title(alloc, &signature.name)?,
+        name,
         role: signature.role,
         inputs: copy_of_parameters(alloc, &signature.inputs)?,
         secrets: copy_of_parameters(alloc, &signature.secrets)?,

@@ -2,7 +2,6 @@
 ghost use Rattle.std.specs.Prelude.{◌≡◌, [], ◌∷◌, ◌++◌, ◌&&◌, map, IfOk};
 ghost use Rattle.std.specs.List.{list_all};
 ghost use Rattle.al_base.specs.Paths.{parts};
-ghost use Rattle.al_base.specs.declared.codes.Caller.TheVariants as by;
 ghost use Rattle.al_check_interfaces.specs.Forms as forms;
 
 use al_base::{Caller, Path, PathFault};
@@ -54,31 +53,22 @@ struct Before<'d, 'a> {
     ghost known: { whole ≡ list_all forms.is_some_text (map (λ p. p.now) done.now) },
 }
 
-/// Whether the text before a byte names a workflow of another repository.
-#[tactic(auto, using(crate::proofs::Cuts::all_more))]
-fn is_remote_workflow(before: Before<'_, '_>) -> bool
-    ensures { result
-        ≡ forms.is_remote by.Job (map (λ p. p.now) (before.entry).done.now
-        ++ (before.entry).last.now ∷ []) }
-{
-    if !are_texts(before.whole, before.last) {
-        return false;
-    }
-    match before.done {
-        [_, _, first, second] => is_workflow_path(first, second, before.last),
-        _ => false,
-    }
-}
-
+/// Whether the text before a byte names an action of another repository, for a step, or a workflow of one, for a job.
 #[tactic(auto, using(crate::proofs::Cuts::all_more))]
 fn is_remote(caller: Caller, before: Before<'_, '_>) -> bool
     ensures { result
         ≡ forms.is_remote caller (map (λ p. p.now) (before.entry).done.now
         ++ (before.entry).last.now ∷ []) }
 {
+    if !are_texts(before.whole, before.last) {
+        return false;
+    }
     match caller {
-        Caller::Step => are_texts(before.whole, before.last) && !before.done.is_empty(),
-        Caller::Job => is_remote_workflow(before),
+        Caller::Step => !before.done.is_empty(),
+        Caller::Job => match before.done {
+            [_, _, first, second] => is_workflow_path(first, second, before.last),
+            _ => false,
+        },
     }
 }
 
@@ -199,22 +189,6 @@ fn is_image(text: &[u8]) -> bool
     text.starts_with(b"docker://") && text.len() > 9
 }
 
-/// What the `uses` of a step names.
-pub(crate) fn step_form(alloc: Global, text: &[u8]) -> Result<Form, AllocError>
-    ensures { IfOk result (λ f. f ≡ forms.form_by by.Step text.now) }
-{
-    if contains_chunk(text) {
-        return Ok(Form::Wrong);
-    }
-    if text.starts_with(b"./") {
-        return local_step(alloc, folder_of(&text[2..]));
-    }
-    if is_image(text) {
-        return Ok(Form::Other);
-    }
-    remote(alloc, Caller::Step, text)
-}
-
 fn local_job(alloc: Global, rest: &[u8]) -> Result<Form, AllocError>
     ensures { IfOk result (λ f. f ≡ forms.local_job rest.now) }
 {
@@ -228,15 +202,18 @@ fn local_job(alloc: Global, rest: &[u8]) -> Result<Form, AllocError>
     }
 }
 
-/// What the `uses` of a job names.
-pub(crate) fn job_form(alloc: Global, text: &[u8]) -> Result<Form, AllocError>
-    ensures { IfOk result (λ f. f ≡ forms.form_by by.Job text.now) }
+/// What the text of a `uses` names.
+pub(crate) fn form_by(alloc: Global, caller: Caller, text: &[u8]) -> Result<Form, AllocError>
+    ensures { IfOk result (λ f. f ≡ forms.form_by caller text.now) }
 {
     if contains_chunk(text) {
         return Ok(Form::Wrong);
     }
-    if text.starts_with(b"./") {
-        return local_job(alloc, &text[2..]);
+    let is_local = text.starts_with(b"./");
+    match caller {
+        Caller::Step if is_local => local_step(alloc, folder_of(&text[2..])),
+        Caller::Job if is_local => local_job(alloc, &text[2..]),
+        Caller::Step if is_image(text) => Ok(Form::Other),
+        _ => remote(alloc, caller, text),
     }
-    remote(alloc, Caller::Job, text)
 }

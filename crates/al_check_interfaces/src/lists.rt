@@ -2,7 +2,7 @@
 ghost use Rattle.std.specs.Prelude.{◌≡◌, find, map, IfOk};
 ghost use Rattle.std.specs.Option.{option_copied};
 ghost use Rattle.al_base.specs.NamePlaces.{name_place, name_position};
-ghost use Rattle.al_check_interfaces.specs.Parameters.{has_parameter, is_mandatory, is_parameter, mandatory_of};
+ghost use Rattle.al_check_interfaces.specs.Parameters.{has_parameter, is_parameter, mandatory_of};
 
 use crate::copies::copy_of_parameter;
 use crate::interfaces::Parameter;
@@ -42,24 +42,16 @@ fn positions_of(alloc: Global, parameters: &[Parameter]) -> Result<NamePositions
     for parameter in parameters {
         names.push(parameter.name.as_bytes())?;
     }
-    let positions = NamePositions::of(alloc, names.as_slice())?;
-    Ok(positions)
+    NamePositions::of(alloc, names.as_slice())
 }
 
-/// Whether a parameter is mandatory: each call has to give it.
-fn is_mandatory(parameter: &Parameter) -> bool
-    ensures { result ≡ is_mandatory parameter.now }
-{
-    parameter.required && !parameter.has_default
-}
-
-/// Copies of the mandatory parameters.
+/// Copies of the mandatory parameters: each call has to give them.
 fn mandatory_in(alloc: Global, parameters: &[Parameter]) -> Result<Vec<Parameter>, AllocError>
     ensures { IfOk result (λ found. found.items ≡ mandatory_of parameters.now) }
 {
     let mut found = Vec::new(alloc);
     for parameter in parameters {
-        if is_mandatory(parameter) {
+        if parameter.required && !parameter.has_default {
             found.push(copy_of_parameter(alloc, parameter)?)?;
         }
     }

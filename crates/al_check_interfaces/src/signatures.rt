@@ -30,22 +30,15 @@ enum Declaring {
     Secrets,
 }
 
-/// Whether a node is `true`, ignoring ASCII case.
-fn is_true(node: &Node) -> bool
-    ensures { result ≡ interfaces.is_true (view node.now) }
-{
-    match node.scalar() {
-        Some(scalar) => is_same_name(scalar.text(), b"true"),
-        None => false,
-    }
-}
-
-/// Whether the parameter that a node declares is required.
+/// Whether the parameter that a node declares is required: the text of `required` is `true`, ignoring ASCII case.
 fn is_required(node: &Node) -> bool
     ensures { result ≡ interfaces.is_required (view node.now) }
 {
-    match value(node, "required") {
-        Some(node) => is_true(node),
+    let Some(required) = value(node, "required") else {
+        return false;
+    };
+    match required.scalar() {
+        Some(scalar) => is_same_name(scalar.text(), b"true"),
         None => false,
     }
 }
@@ -55,8 +48,7 @@ fn has_default(by: Declaring, node: &Node) -> bool
     ensures { result ≡ interfaces.has_default by (view node.now) }
 {
     match by {
-        Declaring::CallInputs => has_value(node, "default"),
-        Declaring::ActionInputs => has_value(node, "default"),
+        Declaring::CallInputs | Declaring::ActionInputs => has_value(node, "default"),
         Declaring::Secrets => false,
     }
 }
@@ -67,8 +59,7 @@ fn type_taken(by: Declaring, node: &Node) -> InputType
 {
     match by {
         Declaring::CallInputs => input_of(node),
-        Declaring::ActionInputs => InputType::String,
-        Declaring::Secrets => InputType::String,
+        Declaring::ActionInputs | Declaring::Secrets => InputType::String,
     }
 }
 
@@ -95,8 +86,7 @@ fn parameters(alloc: Global, by: Declaring, node: Option<&Node>) -> Result<Param
     for member in &declared {
         found.push(parameter(alloc, by, *member)?)?;
     }
-    let list = Parameters::new(alloc, found)?;
-    Ok(list)
+    Parameters::new(alloc, found)
 }
 
 /// The names that a node declares, if there is one.
@@ -109,8 +99,7 @@ fn declared_names(alloc: Global, node: Option<&Node>) -> Result<NameList, AllocE
     for member in &declared {
         names.push(Name::new(alloc, key_text(member.key))?)?;
     }
-    let list = NameList::new(alloc, names)?;
-    Ok(list)
+    NameList::new(alloc, names)
 }
 
 /// The `name` of a file.
@@ -179,17 +168,6 @@ fn workflow_signature(alloc: Global, root: &Node) -> Result<Signature, AllocErro
     })
 }
 
-/// What an action is to its callers.
-fn action_role(root: &Node) -> Role
-    ensures { result ≡ (interfaces.signature_of kind.Action (view root.now)).role }
-{
-    if is_composite(root) {
-        Role::Composite
-    } else {
-        Role::Action
-    }
-}
-
 /// The signature of an action.
 fn action_signature(alloc: Global, root: &Node) -> Result<Signature, AllocError>
     ensures { IfOk result (λ s. s ≡ interfaces.signature_of kind.Action (view root.now)) }
@@ -197,9 +175,14 @@ fn action_signature(alloc: Global, root: &Node) -> Result<Signature, AllocError>
     let name = name_of(alloc, root)?;
     let inputs = parameters(alloc, Declaring::ActionInputs, value(root, "inputs"))?;
     let outputs = declared_names(alloc, value(root, "outputs"))?;
+    let role = if is_composite(root) {
+        Role::Composite
+    } else {
+        Role::Action
+    };
     Ok(Signature {
         name,
-        role: action_role(root),
+        role,
         inputs,
         secrets: Parameters::new(alloc, Vec::new(alloc))?,
         outputs,
