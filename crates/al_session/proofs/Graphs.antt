@@ -1,10 +1,10 @@
 -- The graph of calls that a session keeps, after a put.
-use Rattle.std.proofs.Common.{◌≡◌, ℕ, List, Option, Some, None, subst}
+use Rattle.std.proofs.Common.{◌≡◌, ℕ, List, Option, Some, None}
 use Rattle.std.specs.Option.{option_map}
 use Rattle.al_session_folder.specs.Meaning.{Meaning}
 use Rattle.al_session_folder.specs.Folder.{Folder, with_file}
 use Rattle.al_session_folder.specs.Kept.{AreKept, Files, IsKept, file_at, folder_of}
-use Rattle.al_session_folder.specs.CallGraphs.{HasSameCalls, IsCallGraph}
+use Rattle.al_session_folder.specs.CallGraphs.{HasSameCalls}
 use Rattle.al_session_folder.specs.declared.kept.KeptFile.{KeptFile}
 use Rattle.al_session_folder.specs.declared.cycles.CallGraph.{CallGraph}
 use Rattle.al_session_folder.proofs.SameCalls.{graph_still, put_same_calls}
@@ -20,8 +20,3 @@ pub graph_put : {U I : Type 0} (m : Meaning I) (is_unit : U → List ℕ → Lis
     IsGraphIf m (folder_of files) calls → IsGraphIf m (with_file (folder_of files) p file.bytes.items) calls
 graph_put m is_unit files p file calls kept one same is =
     graph_by m (folder_of files) (with_file (folder_of files) p file.bytes.items) (put_same_calls m is_unit files p file kept one same) calls is
-
--- a graph that is there is the graph of calls
-pub graph_found : {I : Type 0} (m : Meaning I) (f : Folder) (calls : Option CallGraph) (found : CallGraph) → calls ≡ Some found → IsGraphIf m f calls →
-    IsCallGraph m f found.graph.items found.labels.items
-graph_found m f calls found is graph = subst (IsGraphIf m f) is graph

@@ -1,11 +1,13 @@
 //! The graph of calls that a session keeps beside its files.
 
-ghost use Rattle.std.specs.Prelude.{◌≡◌, Some, IsSome, OnOk, OnErr};
+ghost use Rattle.std.specs.Prelude.{◌≡◌, IsSome, OnOk, OnErr};
 ghost use Rattle.al_session_folder.specs.Folder.{with_file};
 ghost use Rattle.al_session_folder.specs.Kept.{AreKept, IsKept, folder_of};
 ghost use Rattle.al_session.specs.Private.Graphs.{IsGraphIf};
 
-use al_session_folder::{CallGraph, Files, KeptFile, Lint, call_graph, has_same_calls};
+use al_session_folder::{
+    CallGraph, Files, KeptFile, LinkedFiles, Lint, call_graph, has_same_calls,
+};
 use std::alloc::{AllocError, Global};
 
 /// Computes the graph of calls of these files, if it isn't known. On failure nothing changes.
@@ -27,13 +29,18 @@ pub(crate) fn find_graph<L: Lint>(
     Ok(())
 }
 
-/// The graph of calls, which was computed before.
-pub(crate) fn found_graph(calls: &Option<CallGraph>) -> &CallGraph
-    requires { IsSome calls.now }
-    ensures { calls.now ≡ Some result.now }
+/// These files with the graph of their calls, which was computed before.
+pub(crate) fn linked_files<'a, L: Lint>(
+    files: &'a Files<L::Unit, L::Iface>,
+    calls: &'a Option<CallGraph>,
+) -> LinkedFiles<'a, L>
+    requires kept { AreKept L.meaning L.is_unit files.now.entries }
+    requires graph { IsGraphIf L.meaning (folder_of files.now.entries) calls.now }
+    requires found { IsSome calls.now }
+    ensures { result ≡ folder_of files.now.entries }
 {
     match calls {
-        Some(found) => found,
+        Some(found) => LinkedFiles::new(files, found),
         None => unreachable!(),
     }
 }

@@ -22,14 +22,14 @@ ghost use Rattle.al_session_folder.specs.Report.{status_of, report_of};
 ghost use Rattle.al_session.specs.EditLaws.{OthersKeepFaults, PutsInAnyOrder, SamePutChangesNothing};
 ghost use Rattle.al_session.specs.Session.{IsLinted, ReadsForPut, folder_in};
 
-use crate::calls::{find_graph, found_graph};
+use crate::calls::{find_graph, linked_files};
 use crate::edit::{put_file, remove_file};
 use crate::indexed::IndexedFiles;
 use crate::refused::{delete_refused, put_refused};
 use al_base::{Fault, Output, Path, Stop};
 use al_session_folder::{
-    CallGraph, LinkedFiles, Lint, Paths, Refused, find_call_cycle_faults, has_call_cycles,
-    has_faults, join_files, missing_paths, write_files,
+    CallGraph, Lint, Paths, Refused, find_call_cycle_faults, has_call_cycles, has_faults,
+    join_files, missing_paths, write_files,
 };
 use std::alloc::{AllocError, Global};
 use std::io::Write;
@@ -77,11 +77,7 @@ impl<L: Lint> Session<L> {
         ensures checks { result.checks ≡ L.checks_of lint }
         ensures reads { result.reads ≡ L.reads_of lint }
     {
-        Session {
-            lint,
-            kept: IndexedFiles::new(alloc),
-            calls: None,
-        }
+        Session::of(lint, IndexedFiles::new(alloc))
     }
 
     /// A session of files that were read and checked. Doesn't allocate.
@@ -231,7 +227,7 @@ impl<L: Lint> Session<L> {
             return Ok(1);
         }
         find_graph::<L>(self.kept.alloc, &self.kept.files, &mut self.calls)?;
-        let linked = LinkedFiles::new(&self.kept.files, found_graph(&self.calls));
+        let linked = linked_files::<L>(&self.kept.files, &self.calls);
         if has_call_cycles::<L>(&linked) {
             return Ok(1);
         }
@@ -265,7 +261,7 @@ impl<L: Lint> Session<L> {
         ensures unchanged { self.new ≡ self.old }
     {
         find_graph::<L>(self.kept.alloc, &self.kept.files, &mut self.calls)?;
-        let linked = LinkedFiles::new(&self.kept.files, found_graph(&self.calls));
+        let linked = linked_files::<L>(&self.kept.files, &self.calls);
         let call_cycle_faults = find_call_cycle_faults(&self.lint, self.kept.alloc, &linked)?;
         let joined = join_files::<L>(self.kept.alloc, &self.kept.files, &call_cycle_faults)?;
         write_files::<L, W>(writer, &self.kept.files, &joined, oneline)
