@@ -195,7 +195,7 @@ begins-value : (p : Context) (t : List Cell) → true ≡ is_value_colon p t →
 begins-value p [] h = absurd (never (sym h))
 begins-value p (c ∷ cs) h = (and_parts (c.0 == 58) (ends_key p cs) (sym h)).0
 
-blanks_text : (ls : List Line) → first_text (blanks_dropped ls) ≡ after_blanks (first_text ls)
+pub blanks_text : (ls : List Line) → first_text (blanks_dropped ls) ≡ after_blanks (first_text ls)
 blanks_text [] = refl
 blanks_text (l ∷ ls) = refl
 
@@ -219,6 +219,12 @@ module _ (bytes : List ℕ) (at solid : ℕ) (from : at ≤ solid) (inside : sol
 
   pub flow_found : (q : Bool) → true ≡ is_value_colon flow (text_at bytes solid) → IsColon (items.after_colon_in_flow q (lines_at bytes at)) bytes at (Some (solid + 1))
   flow_found q h = found_by flow (q && begins 58 (text_at bytes at)) h
+
+  pub flow_missed : (q : Bool) → false ≡ (q && begins 58 (text_at bytes at)) → false ≡ is_value_colon flow (text_at bytes solid)
+      → items.after_colon_in_flow q (lines_at bytes at) ≡ None
+  flow_missed q h k =
+      ap (λ b. cond (b || is_value_colon flow (after_blanks (text_at bytes at))) (Some (past 1 (blanks_dropped (lines_at bytes at)))) None) (sym h)
+      ∙ ap (λ b. cond b (Some (past 1 (blanks_dropped (lines_at bytes at)))) None) (ap (is_value_colon flow) text_solid ∙ sym k)
 
 pub quoted_found : (bytes : List ℕ) (at : ℕ) (q : Bool) → at ≤ length bytes → true ≡ (q && begins 58 (text_at bytes at))
     → IsColon (items.after_colon_in_flow q (lines_at bytes at)) bytes at (Some (at + 1))

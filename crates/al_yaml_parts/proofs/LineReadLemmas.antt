@@ -18,7 +18,7 @@ use Rattle.al_yaml_tree.specs.Limits.{broken_limit}
 use Rattle.al_yaml_tree.specs.Content.{past, line_ended}
 use Rattle.al_yaml_tree.specs.Blocks.{ending_line, scalar_node_at}
 use Rattle.al_yaml_tree.specs.Keys.{Key, is_block_start, one_line, with_lines, plain_on_line, has_colon, key_before_colon}
-use Rattle.al_yaml_parts.specs.BlockReads.{after_colon_in_block, scalar_left}
+use Rattle.al_yaml_parts.specs.BlockReads.{after_colon_in_block}
 use Rattle.al_yaml_parts.specs.Places.{IsReadInside}
 use Rattle.al_yaml_parts.specs.Reads.{State, run, with_nodes, Refuses, Answers}
 use Rattle.al_yaml_parts.specs.declared.faults.ReadError.{ReadError}
@@ -170,11 +170,6 @@ key-given asked r o h k =
 abbrev after_scalar : Bool → Part tree.Node → Reading (Part tree.Node)
 after_scalar is_block = if is_block then gives else ending_line
 
-left-by : (r : value.ScalarRead) (is_block : Bool) → after_scalar is_block (part (tree.scalar_node r) r.span.end r.left)
-    ≡ (of_result (cond is_block (Ok r.left) (line_ended r.left)) >>= (λ left. gives (part (tree.scalar_node r) r.span.end left)))
-left-by r true = refl
-left-by r false = refl
-
 module _ (within : ℕ) (n m : State) (bytes : List ℕ) (at : ℕ) (inside : at ≤ length bytes) (fits : broken_limit n.nodes n.text (start_of at 1 0 ∷ []) ≡ None) (more : m ≡ with_nodes 1 n) where
   abbrev pub left_of : value.ScalarRead → Reading (Part tree.Node)
   left_of r = after_scalar (is_block_start (text_at bytes at)) (part (tree.scalar_node r) r.span.end r.left)
@@ -182,9 +177,16 @@ module _ (within : ℕ) (n m : State) (bytes : List ℕ) (at : ℕ) (inside : at
   pub line-starts : run n (scalar_node_at within (lines_at bytes at)) ≡ run m (of_result (scalar_at (block within) (lines_at bytes at)) >>= left_of)
   line-starts = rw (start-at bytes at inside, more) (run-start n 1 at 0 (of_result (scalar_at (block within) (lines_at bytes at)) >>= left_of) fits)
 
-  pub line-read : (r : ScalarRead) → scalar_at (block within) (lines_at bytes at) ≡ Ok (read_of bytes r)
-      → run n (scalar_node_at within (lines_at bytes at))
-      ≡ run m (of_result (scalar_left (lines_at bytes at) (lines_at bytes r.next)) >>= (λ left. gives (part (tree.scalar_node (read_of bytes r)) r.span.end left)))
-  line-read r read =
-      line-starts ∙ given-ok (scalar_at (block within) (lines_at bytes at)) left_of m (read_of bytes r) read
-      ∙ ap (run m) (left-by (read_of bytes r) (is_block_start (text_at bytes at)))
+  module _ (r : ScalarRead) (read : scalar_at (block within) (lines_at bytes at) ≡ Ok (read_of bytes r)) where
+    abbrev pub found : Part tree.Node
+    found = part (tree.scalar_node (read_of bytes r)) r.span.end (lines_at bytes r.next)
+
+    scalar-read : run n (scalar_node_at within (lines_at bytes at)) ≡ run m (after_scalar (is_block_start (text_at bytes at)) found)
+    scalar-read = line-starts ∙ given-ok (scalar_at (block within) (lines_at bytes at)) left_of m (read_of bytes r) read
+
+    pub block-read : true ≡ is_block_start (text_at bytes at) → run n (scalar_node_at within (lines_at bytes at)) ≡ run m (gives found)
+    block-read h = scalar-read ∙ ap (λ b. run m (after_scalar b found)) (sym h)
+
+    pub line-read : false ≡ is_block_start (text_at bytes at) → run n (scalar_node_at within (lines_at bytes at))
+        ≡ run m (of_result (line_ended (lines_at bytes r.next)) >>= (λ left. gives (part (tree.scalar_node (read_of bytes r)) r.span.end left)))
+    line-read h = scalar-read ∙ ap (λ b. run m (after_scalar b found)) (sym h)

@@ -3,7 +3,7 @@ use Rattle.std.specs.Prelude.{ℕ, ◌<◌, ◌≤◌, List, length, ◌==◌, n
 use Rattle.al_base.specs.declared.codes.YamlCode.TheVariants as yaml
 use Rattle.al_scalar.specs.Line.{Line, start, blanks_dropped}
 use Rattle.al_scalar.specs.ReadScalar.{read_of}
-use Rattle.al_scalar.specs.Places.{first_text, lines_at}
+use Rattle.al_scalar.specs.Places.{lines_at}
 use Rattle.al_scalar.specs.Taken.{fault}
 use Rattle.al_scalar.specs.declared.faults.FaultAt.{FaultAt}
 use Rattle.al_yaml_tree.specs.Content as content
@@ -34,10 +34,6 @@ IsOptionKey bytes at (Some key) = IsKeyAfter bytes at key
 -- the lines after the colon that follows a scalar
 abbrev pub after_colon_in_block : List Line → Option (List Line)
 after_colon_in_block ls = if keys.has_colon ls then Some (content.past 1 (blanks_dropped ls)) else None
-
--- the lines left after a scalar: a block scalar ends with its last line
-abbrev pub scalar_left : List Line → List Line → Result (List Line) FaultAt
-scalar_left ls left = if keys.is_block_start (first_text ls) then Ok left else content.line_ended left
 
 -- the next entry of a collection in a column, on the next content line, if there is one
 abbrev pub next_found : ℕ → content.Next → Result (Option (List Line)) FaultAt

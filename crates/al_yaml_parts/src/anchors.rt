@@ -67,10 +67,7 @@ pub fn name_end(bytes: &[u8], at: usize) -> usize
 fn name_at(bytes: &[u8], at: usize) -> &[u8]
     ensures { result.now ≡ content.anchor_name (lines_at bytes.now at) }
 {
-    if at >= bytes.len() {
-        return &bytes[..0];
-    }
-    if is_text_end(bytes, at) {
+    if at >= bytes.len() || is_text_end(bytes, at) {
         return &bytes[..0];
     }
     &bytes[at + 1..name_end(bytes, at + 1)]

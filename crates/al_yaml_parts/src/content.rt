@@ -56,10 +56,7 @@ pub fn next_content(bytes: &[u8], at: usize) -> Result<Next, FaultAt>
     ensures from { IfOk result (λ next. IsLineFrom at (length bytes.now) next) }
 {
     let line = next_text_line(bytes, at);
-    if line == bytes.len() {
-        return Ok(Next::Ended);
-    }
-    if is_document_marker(bytes, line) {
+    if line == bytes.len() || is_document_marker(bytes, line) {
         return Ok(Next::Ended);
     }
     let indent = indent(bytes, line);
@@ -73,15 +70,6 @@ pub fn next_content(bytes: &[u8], at: usize) -> Result<Next, FaultAt>
     Ok(Next::Line { indent, at: solid })
 }
 
-/// Whether the rest of the line is only blanks, or blanks and a comment.
-fn ends_line(bytes: &[u8], at: usize) -> bool
-    requires { at ≤ length bytes.now }
-    ensures { result ≡ content.ends_line (text_at bytes.now at) }
-{
-    let solid = blanks_end(bytes, at);
-    is_text_end(bytes, solid) || is_blank_or_end(bytes, at) && begins(bytes, solid, b'#')
-}
-
 /// The start of the line after a node, which must end its line.
 pub fn line_after(bytes: &[u8], at: usize) -> Result<usize, FaultAt>
     requires { at ≤ length bytes.now }
@@ -90,12 +78,13 @@ pub fn line_after(bytes: &[u8], at: usize) -> Result<usize, FaultAt>
     ensures inside { IfOk result (λ next. next ≤ length bytes.now) }
     ensures from { IfOk result (λ next. at ≤ next) }
 {
-    if ends_line(bytes, at) {
+    let solid = blanks_end(bytes, at);
+    if is_text_end(bytes, solid) || is_blank_or_end(bytes, at) && begins(bytes, solid, b'#') {
         return Ok(next_line(bytes, at));
     }
     Err(FaultAt {
         code: YamlCode::UnexpectedCharacter,
-        at: blanks_end(bytes, at),
+        at: solid,
     })
 }
 

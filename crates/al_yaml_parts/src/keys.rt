@@ -75,37 +75,23 @@ pub fn has_colon(bytes: &[u8], at: usize) -> bool
     after_colon(bytes, at).is_some()
 }
 
-/// Whether a colon that separates a key from its value in a flow mapping is at an offset.
-fn is_flow_colon(bytes: &[u8], at: usize) -> bool
-    requires { at ≤ length bytes.now }
-    ensures value { result ≡ plain.is_value_colon plain.flow (text_at bytes.now at) }
-    ensures begins { IsTrue result → line.begins 58 (text_at bytes.now at) ≡ true }
-{
-    begins(bytes, at, b':')
-        && (is_blank_or_end(bytes, at + 1) || begins_flow_indicator(bytes, at + 1))
-}
-
-/// Whether a colon directly follows a quoted key.
-fn is_quoted_colon(bytes: &[u8], at: usize, after_quote: bool) -> bool
-    requires { at ≤ length bytes.now }
-    ensures { result ≡ (after_quote && line.begins 58 (text_at bytes.now at)) }
-{
-    after_quote && begins(bytes, at, b':')
-}
-
 /// The offset after the colon that separates a flow mapping's key from its value, if one follows on the line.
 pub fn after_flow_colon(bytes: &[u8], at: usize, after_quote: bool) -> Option<usize>
     requires { at ≤ length bytes.now }
     ensures { IsColon (flow.after_colon_in_flow after_quote (lines_at bytes.now at)) bytes.now at result }
 {
-    if is_quoted_colon(bytes, at, after_quote) {
+    // a colon right after a quoted key needs no blank after it
+    if after_quote && begins(bytes, at, b':') {
         return Some(at + 1);
     }
     let solid = blanks_end(bytes, at);
-    if !is_flow_colon(bytes, solid) {
+    if !begins(bytes, solid, b':') {
         return None;
     }
-    Some(solid + 1)
+    if is_blank_or_end(bytes, solid + 1) || begins_flow_indicator(bytes, solid + 1) {
+        return Some(solid + 1);
+    }
+    None
 }
 
 /// Whether the next character in a flow mapping is a colon on a later line.

@@ -50,13 +50,7 @@ impl State {
     {
         let nodes = self.nodes.saturating_add(more);
         let text = self.text.saturating_add(text);
-        if nodes > MOST_NODES {
-            return Err(FaultAt {
-                code: YamlCode::TooManyNodes,
-                at,
-            });
-        }
-        if text > MOST_ALIAS_TEXT {
+        if nodes > MOST_NODES || text > MOST_ALIAS_TEXT {
             return Err(FaultAt {
                 code: YamlCode::TooManyNodes,
                 at,

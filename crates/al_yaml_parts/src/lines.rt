@@ -2,9 +2,8 @@
 
 ghost use Rattle.al_scalar.specs.Line as line;
 ghost use Rattle.al_scalar.specs.Places.{lines_at, text_at};
-ghost use Rattle.al_scalar.specs.LineEnds.{IsBreakByte};
 ghost use Rattle.al_yaml_tree.specs.Content as content;
-ghost use Rattle.std.specs.Prelude.{IsTrue, false, length, nat_le, nat_lt, true, ◌&&◌, ◌+◌, ◌<◌, ◌↔◌, ◌≡◌, ◌≤◌};
+ghost use Rattle.std.specs.Prelude.{false, length, nat_le, nat_lt, true, ◌&&◌, ◌+◌, ◌<◌, ◌≡◌, ◌≤◌};
 
 use al_scalar::lines::{after_break, is_line_end, line_end};
 
@@ -33,13 +32,6 @@ pub fn next_line(bytes: &[u8], at: usize) -> usize
     after_break(bytes, end)
 }
 
-/// Whether a byte is a break or part of one.
-fn is_break(byte: u8) -> bool
-    ensures { IsTrue result ↔ IsBreakByte byte }
-{
-    byte == b'\n' || byte == b'\r'
-}
-
 /// Whether there is no break between two offsets.
 pub fn is_same_line(bytes: &[u8], from: usize, to: usize) -> bool
     requires order { from ≤ to }
@@ -48,7 +40,7 @@ pub fn is_same_line(bytes: &[u8], from: usize, to: usize) -> bool
 {
     let mut i = from;
     'text: while i < to {
-        if is_break(bytes[i]) {
+        if bytes[i] == b'\n' || bytes[i] == b'\r' {
             return false;
         }
         i += 1;

@@ -3,7 +3,6 @@
 ghost use Rattle.al_scalar.specs.ReadScalar.{read_of, reading_at};
 ghost use Rattle.al_scalar.specs.Places.{lines_at};
 ghost use Rattle.al_yaml_tree.specs.Blocks as block;
-ghost use Rattle.al_yaml_parts.specs.BlockReads.{scalar_left};
 ghost use Rattle.al_yaml_parts.specs.Files.{left_at, size};
 ghost use Rattle.al_yaml_tree.specs.Flow as flow;
 ghost use Rattle.al_yaml_tree.specs.Node as tree;
@@ -19,7 +18,7 @@ use crate::file::File;
 use crate::limits::State;
 use crate::part::Part;
 use crate::starts::is_block_start;
-use al_scalar::{FaultAt, ScalarContext, ScalarRead, read_scalar};
+use al_scalar::{ScalarContext, ScalarRead, read_scalar};
 use al_yaml_tree::scalar_node;
 use std::alloc::Global;
 
@@ -71,22 +70,6 @@ pub fn empty_part(file: &File, state: &mut State, at: usize, next: usize) -> Res
     Ok(scalar_part(read, next))
 }
 
-/// The start of the line after a scalar; a block scalar ends with its last line.
-fn line_after_scalar(bytes: &[u8], at: usize, next: usize) -> Result<usize, FaultAt>
-    requires at { at ≤ length bytes.now }
-    requires inside { next ≤ length bytes.now }
-    ensures fault { IfErr result (λ f. f.at ≤ length bytes.now) }
-    ensures is { Shows (lines_at bytes.now)
-        (scalar_left (lines_at bytes.now at) (lines_at bytes.now next)) result }
-    ensures inside { IfOk result (λ left. left ≤ length bytes.now) }
-    ensures from { IfOk result (λ left. next ≤ left) }
-{
-    if is_block_start(bytes, at) {
-        return Ok(next);
-    }
-    line_after(bytes, next)
-}
-
 /// Reads a scalar in block context with the rest of its line.
 pub fn read_line_scalar(
     file: &File,
@@ -109,6 +92,11 @@ pub fn read_line_scalar(
         at,
         ScalarContext::BlockFromIndent(within as u32),
     )?;
-    let next = line_after_scalar(file.bytes, at, read.next)?;
+    // a block scalar ends with its last line
+    if is_block_start(file.bytes, at) {
+        let next = read.next;
+        return Ok(scalar_part(read, next));
+    }
+    let next = line_after(file.bytes, read.next)?;
     Ok(scalar_part(read, next))
 }

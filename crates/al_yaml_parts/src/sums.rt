@@ -18,17 +18,6 @@ pub struct Sums {
 }
 
 impl Sums {
-    /// The counts of no node.
-    fn none() -> Sums
-        ensures { result ≡ record { nodes = 0; text = 0; levels = 0 } }
-    {
-        Sums {
-            nodes: 0,
-            text: 0,
-            levels: 0,
-        }
-    }
-
     /// The counts of a collection itself, which is inside this many others.
     fn of_collection(levels: u32) -> Sums
         ensures nodes { result.nodes ≡ 1 }
@@ -56,16 +45,6 @@ impl Sums {
     }
 }
 
-/// A length as a saturating count.
-fn count_of(len: usize) -> u32
-    ensures { result ≡ most_counted len }
-{
-    if len < 4_294_967_295 {
-        return len as u32;
-    }
-    4_294_967_295
-}
-
 /// A node that is still to be counted, and how many of the counted collections it is inside.
 #[derive(Clone, Copy)]
 pub struct UncountedNode<'a> {
@@ -79,7 +58,11 @@ pub struct UncountedNode<'a> {
 pub fn sums_of(alloc: Global, node: &Node) -> Result<Sums, AllocError>
     ensures { IfOk result (IsSums (view node.now)) }
 {
-    let mut sums = Sums::none();
+    let mut sums = Sums {
+        nodes: 0,
+        text: 0,
+        levels: 0,
+    };
     let mut left = Vec::new(alloc);
     left.push(UncountedNode { node, levels: 0 })?;
     'nodes: while let Some(next) = left.pop() {
@@ -102,7 +85,7 @@ fn count<'a>(
     match &node.kind {
         Kind::Scalar(scalar) => Ok(Sums {
             nodes: 1,
-            text: count_of(scalar.text().len()),
+            text: scalar.text().len().min(u32::MAX as usize) as u32,
             levels,
         }),
         Kind::Sequence(items) => {

@@ -3,17 +3,18 @@ use Rattle.al_scalar.specs.Places.{text_at}
 use Rattle.al_scalar.proofs.LineCells.{lines-at_end}
 use Rattle.al_scalar.proofs.RestLemmas.{start-at}
 use Rattle.al_yaml_parts.proofs.ContentLemmas.{skipped-solid}
+use Rattle.al_yaml_parts.proofs.content.next_content.Goals.{then-line-bytes-via-then-line-bytes, then-line-bytes-via-else-line-bytes+then-is_document_marker}
 use Rattle.al_yaml_parts.proofs.content.next_content.Goals as goal
 
 pub returns-then-line-bytes-clause-is : goal.returns-then-line-bytes-clause-is
 returns-then-line-bytes-clause-is c =
-    rw (c.next_text_line-line.ensures.lines, lines-at_end c.args.bytes.now c.next_text_line-line.result c.if-line-bytes.true) refl
-
-pub returns-then-is_document_marker-clause-is : goal.returns-then-is_document_marker-clause-is
-returns-then-is_document_marker-clause-is c =
     let line = c.next_text_line-line in
-    let text = line.ensures.text (omega (arith, line.ensures.inside, c.if-line-bytes.false)) in
-    rw (line.ensures.lines, ← skipped-solid (text_at c.args.bytes.now line.result) text, ← c.if-is_document_marker.ensures) refl
+    elim c.then-line-bytes.branch [
+      | then-line-bytes-via-then-line-bytes w ↦ rw (line.ensures.lines, lines-at_end c.args.bytes.now line.result w.if-line-bytes.true) refl
+      | then-line-bytes-via-else-line-bytes+then-is_document_marker w ↦
+          let text = line.ensures.text (omega (arith, line.ensures.inside, w.if-line-bytes.false)) in
+          rw (line.ensures.lines, ← skipped-solid (text_at c.args.bytes.now line.result) text, ← w.if-is_document_marker.ensures) refl
+    ]
 
 pub returns-then-begins-clause-is : goal.returns-then-begins-clause-is
 returns-then-begins-clause-is c =

@@ -1,14 +1,18 @@
-use Rattle.std.proofs.Common.{arith, refl, inl, inr}
+use Rattle.std.proofs.Common.{arith, inl, inr}
 use Rattle.al_yaml_parts.proofs.KeyLemmas.{other_line, end-more}
-use Rattle.al_scalar.proofs.LineCells.{never}
+use Rattle.al_yaml_parts.proofs.lines.is_same_line.Goals.{then-bytes-i-eq10-via-then-bytes-i-eq10, then-bytes-i-eq10-via-else-bytes-i-eq10+then-bytes-i-eq13}
 use Rattle.al_yaml_parts.proofs.lines.is_same_line.Goals as goal
 
-pub returns-then-is_break : goal.returns-then-is_break
-returns-then-is_break c = other_line c.args.bytes.now c.args.from c.text.i c.args.to (omega arith) c.requires.inside (c.if-is_break.ensures.0 refl) c.text.invariant.line
+pub returns-then-bytes-i-eq10 : goal.returns-then-bytes-i-eq10
+returns-then-bytes-i-eq10 c =
+    other_line c.args.bytes.now c.args.from c.text.i c.args.to (omega arith) c.requires.inside (elim c.then-bytes-i-eq10.branch [
+      | then-bytes-i-eq10-via-then-bytes-i-eq10 w ↦ inl w.if-bytes-i-eq10.true
+      | then-bytes-i-eq10-via-else-bytes-i-eq10+then-bytes-i-eq13 w ↦ inr w.if-bytes-i-eq13.true
+    ]) c.text.invariant.line
 
 pub text-preserved : goal.text-preserved
 text-preserved c = record {
   from = omega arith;
   inside = omega arith;
-  line = end-more c.args.bytes.now c.args.from c.text.i (omega arith) (λ e. never (c.if-is_break.ensures.1 (inl e))) (λ e. never (c.if-is_break.ensures.1 (inr e))) c.text.invariant.line;
+  line = end-more c.args.bytes.now c.args.from c.text.i (omega arith) c.if-bytes-i-eq10.false c.if-bytes-i-eq13.false c.text.invariant.line;
 }
