@@ -1,8 +1,7 @@
 //! The steps and jobs of a file that call.
 ghost use Rattle.std.specs.Prelude.{◌≡◌, ◌++◌, [], map, IfOk, OnOk};
-ghost use Rattle.std.specs.List.{cons_option, filter_map, flat_map};
+ghost use Rattle.std.specs.List.{cons_option, filter_map};
 ghost use Rattle.al_tree.specs.Values.{member_of};
-ghost use Rattle.al_tree.specs.Files.{jobs_of};
 ghost use Rattle.al_check_interfaces.specs.CallViews.{bytes_of, call_of, site_of};
 ghost use Rattle.al_check_interfaces.specs.Uses as calling;
 ghost use Rattle.al_yaml_tree.specs.View.{view};
@@ -85,33 +84,24 @@ fn add_job<'a>(job: Member<'a>, out: &mut Vec<Call<'a>>) -> Result<(), AllocErro
     add_steps(key, items_under(job.value, "steps"), out)
 }
 
-/// The calls of the jobs of a workflow and of their steps.
-fn workflow_calls(alloc: Global, root: &Node) -> Result<Vec<Call<'_>>, AllocError>
-    ensures { IfOk result (λ v. map call_of v.items
-        ≡ filter_map calling.call_at (flat_map calling.job_sites (jobs_of (view root.now)))) }
-{
-    let jobs = members_under(alloc, root, "jobs")?;
-    let mut found = Vec::new(alloc);
-    for job in &jobs {
-        add_job(*job, &mut found)?;
-    }
-    Ok(found)
-}
-
 /// The calls of the jobs of a workflow, each before those of its steps, or those of the steps of a composite action.
 ///
 /// Fails with `AllocError` when out of memory.
 pub fn calls_in(alloc: Global, kind: FileKind, root: &Node) -> Result<Vec<Call<'_>>, AllocError>
     ensures { IfOk result (λ v. map call_of v.items ≡ calling.calls_in kind (view root.now)) }
 {
+    let mut found = Vec::new(alloc);
     match kind {
-        FileKind::Workflow => workflow_calls(alloc, root),
+        FileKind::Workflow => {
+            for job in &members_under(alloc, root, "jobs")? {
+                add_job(*job, &mut found)?;
+            }
+        }
         FileKind::Action => {
-            let mut found = Vec::new(alloc);
             if is_composite(root) {
                 add_steps(None, action_steps(root), &mut found)?;
             }
-            Ok(found)
         }
     }
+    Ok(found)
 }
