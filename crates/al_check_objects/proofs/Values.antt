@@ -2,7 +2,8 @@
 use Rattle.std.proofs.Common.{◌≡◌, ◌<◌, ◌+◌, ℕ, List, [], ◌∷◌, ◌++◌, Bool, Some, None, true, ap, refl, sym, drop, get_or, length, map, take, ◌∙◌}
 use Rattle.std.proofs.lemmas.List.{drop_more}
 use Rattle.std.specs.Option.{option_map_or}
-use Rattle.std.specs.Prelude.{Option, if◌then◌else◌}
+use Rattle.std.specs.Prelude.{Option, option_map, if◌then◌else◌, unwrap_or}
+use Rattle.std.specs.Borrow.{Bor}
 use Rattle.al_tree.specs.Keys.{key_of, key_text}
 use Rattle.al_tree.specs.Names.{is_combination_key}
 use Rattle.al_types.specs.FusedFields.{are_distinct}
@@ -20,6 +21,13 @@ use Rattle.al_check_objects.proofs.FieldLists.{put_together}
 use Rattle.al_expr_types.proofs.Scans.{mapped_more}
 
 -- ---- combinations
+
+-- the fields of a combination: those of its entries, or none
+pub combination_by : (n : Node) (o : Option (Bor (List code_entry.Entry))) (empty : Bor (List code_entry.Entry)) → empty.now ≡ [] →
+    option_map (λ es. map entry_view es.now) o ≡ mapping_in n → firsts (fields_of (entries_of (map entry_view (unwrap_or o empty).now))) ≡ combination n
+combination_by n None empty none is =
+    ap (λ es. firsts (fields_of (entries_of (map entry_view es)))) none ∙ ap (λ m. option_map_or (λ es. firsts (fields_of (entries_of es))) m []) is
+combination_by n (Some es) empty none is = ap (λ m. option_map_or (λ es. firsts (fields_of (entries_of es))) m []) is
 
 distinct_fields : (o : Option (List (Node × Node))) → are_distinct (option_map_or (λ es. firsts (fields_of (entries_of es))) o []) ≡ true
 distinct_fields None = refl

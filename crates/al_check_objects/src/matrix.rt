@@ -110,19 +110,7 @@ fn rows_type<'a>(alloc: Global, types: &mut Types<'a>, node: &'a Node) -> Result
     rows.into_type(types, None)
 }
 
-/// The object of a combination's entries; one without fields if it isn't a mapping.
-fn combination<'a>(alloc: Global, types: &mut Types<'a>, node: &'a Node) -> Result<Ty, AllocError>
-    ensures ty { IfOk result
-        (λ t. Means types.new t (strictly (matrix.combination (view node.entry.now)))) }
-    ensures kept { OnOk result (BeginsWith (objects_of types.new) (objects_of types.old)) }
-{
-    let Some(entries) = node.mapping() else {
-        return object_of(alloc, types, &[], None);
-    };
-    entries_type(alloc, types, entries)
-}
-
-/// What the object of the rows and those of the combinations have in common.
+/// What the object of the rows and those of the combinations have in common. A combination that isn't a mapping has no fields.
 fn include<'a>(
     alloc: Global,
     types: &mut Types<'a>,
@@ -136,7 +124,7 @@ fn include<'a>(
 {
     let mut all = Join::One(rows);
     for node in nodes {
-        let ty = combination(alloc, types, node)?;
+        let ty = entries_type(alloc, types, node.mapping().unwrap_or(&[]))?;
         all = all.and(alloc, ty)?;
     }
     types.type_or_any(all)
