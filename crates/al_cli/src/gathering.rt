@@ -90,7 +90,7 @@ pub fn gather<R: Files + AllocGlobal + Clone + Drop>(
 {
     let mut disk = SystemFolder::new(rt, words.root);
     let gathering = gather_from(alloc, &mut disk, words)?;
-    gathering.into_files()
+    Ok(gathering.files.into_list(alloc)?)
 }
 
 /// The same files, read and not checked yet, and the paths that were passed over.
@@ -122,15 +122,24 @@ pub fn load_from<D: Disk>(alloc: Global, disk: &mut D, words: &Words) -> Result<
     ensures unchecked { IfOk result (λ loaded. loaded.files.checks ≡ 0) }
 {
     let gathering = gather_from(alloc, disk, words)?;
-    Ok(gathering.into_gathered())
+    Ok(Gathered {
+        files: gathering.files.into_loaded(),
+        outside: gathering.outside,
+    })
 }
 
+// Takes the files that the command line asks for, and then those that they call.
 fn gather_from<D: Disk>(alloc: Global, disk: &mut D, words: &Words) -> Result<Gathering, Unread>
     ensures { IfOk result (λ gathering.
         AreInOrder (map (λ file. file.now) words.now.files.items) gathering.files) }
 {
     let mut gathering = Gathering::new(alloc);
-    gathering.take_asked(disk, words)?;
+    if words.files.is_empty() {
+        gathering.take_listed(disk)?;
+    } else {
+        gathering.take_named(disk, &words.files)?;
+    }
+    gathering.take_called(disk)?;
     Ok(gathering)
 }
 
@@ -139,13 +148,6 @@ fn without_dot(file: &str) -> &str
     ensures { result.now ≡ path_named file.now }
 {
     file.strip_prefix("./").unwrap_or(file)
-}
-
-fn list_workflows<D: Disk>(alloc: Global, disk: &mut D) -> Result<BTreeSet<String>, Unread> {
-    match disk.workflows(alloc) {
-        Ok(listed) => Ok(listed),
-        Err(error) => Err(disk_failure(alloc, WORKFLOWS, error)),
-    }
 }
 
 // The candidates of calls that aren't among the taken files.
@@ -167,11 +169,6 @@ impl Candidates {
         }
     }
 
-    // Whether a path waits, or was found to have no file.
-    fn has(&self, path: &str) -> bool {
-        self.waiting.contains(path) || self.absent.contains(path)
-    }
-
     // Adds a path to those that wait, unless its file was taken or it was tried.
     fn add(&mut self, alloc: Global, files: &TakenFiles, path: &Path) -> Result<(), Unread>
         requires waiting { AreAmong (called_by files.now) self.old.waiting.keys }
@@ -179,7 +176,7 @@ impl Candidates {
         ensures { OnOk result (AreAmong (called_by files.now) self.new.waiting.keys) }
     {
         let text = path.as_str();
-        if files.has(text) || self.has(text) {
+        if files.has(text) || self.waiting.contains(text) || self.absent.contains(text) {
             return Ok(());
         }
         self.waiting.insert(String::from_str(alloc, text)?)?;
@@ -250,35 +247,19 @@ impl Gathering {
         }
     }
 
-    // Takes the files that the command line asks for, and then those that they call.
-    fn take_asked<D: Disk>(&mut self, disk: &mut D, words: &Words) -> Result<(), Unread>
-        requires files { (self.old).files ≡ [] }
-        requires waiting { (self.old).candidates.waiting.keys ≡ [] }
-        ensures { OnOk result (AreInOrder (map (λ file. file.now) words.now.files.items)
-            (self.new).files) }
-    {
-        if words.files.is_empty() {
-            let listed = list_workflows(self.alloc, disk)?;
-            self.take_listed(disk, &listed)?;
-        } else {
-            self.take_named(disk, &words.files)?;
-        }
-        self.take_called(disk)
-    }
-
     // Takes the files that the folder lists.
-    fn take_listed<D: Disk>(
-        &mut self,
-        disk: &mut D,
-        listed: &BTreeSet<String>,
-    ) -> Result<(), Unread>
+    fn take_listed<D: Disk>(&mut self, disk: &mut D) -> Result<(), Unread>
         requires files { (self.old).files ≡ [] }
         ensures files { OnOk result
             (IsStrictlySortedBy (slice_cmp nat_cmp) (paths_of (self.new).files)) }
         ensures waiting { OnOk result
             ((self.new).candidates.waiting.keys ≡ (self.old).candidates.waiting.keys) }
     {
-        for path in listed {
+        let listed = match disk.workflows(self.alloc) {
+            Ok(listed) => listed,
+            Err(error) => return Err(disk_failure(self.alloc, WORKFLOWS, error)),
+        };
+        for path in &listed {
             let path = path.as_str();
             match self.take(disk, path)? {
                 Found::File => {}
@@ -289,7 +270,7 @@ impl Gathering {
         Ok(())
     }
 
-    // Takes the files that the command line names.
+    // Takes the files that the command line names, which must exist.
     fn take_named<D: Disk>(&mut self, disk: &mut D, files: &[&str]) -> Result<(), Unread>
         requires files { (self.old).files ≡ [] }
         ensures files { OnOk result (paths_of (self.new).files
@@ -298,22 +279,13 @@ impl Gathering {
             ((self.new).candidates.waiting.keys ≡ (self.old).candidates.waiting.keys) }
     {
         for file in files {
-            self.take_present(disk, without_dot(file))?;
+            let path = without_dot(file);
+            match self.take(disk, path)? {
+                Found::File => {}
+                _ => return Err(disk_failure(self.alloc, path, DiskError::Unreadable)),
+            }
         }
         Ok(())
-    }
-
-    // Takes a file that must exist.
-    fn take_present<D: Disk>(&mut self, disk: &mut D, path: &str) -> Result<(), Unread>
-        ensures files { OnOk result
-            (paths_of (self.new).files ≡ with_path (paths_of (self.old).files) path.now) }
-        ensures waiting { OnOk result
-            ((self.new).candidates.waiting.keys ≡ (self.old).candidates.waiting.keys) }
-    {
-        match self.take(disk, path)? {
-            Found::File => Ok(()),
-            _ => Err(disk_failure(self.alloc, path, DiskError::Unreadable)),
-        }
     }
 
     // Takes each called file that exists: each time the first path that hasn't been tried.
@@ -345,7 +317,7 @@ impl Gathering {
         let number = self.files.len();
         match self.take(disk, path.as_str())? {
             Found::File => {
-                self.await_calls(number)?;
+                self.candidates.add_calls(self.alloc, &self.files, number)?;
                 Ok(())
             }
             Found::Outside => {
@@ -389,27 +361,13 @@ impl Gathering {
             return Ok(Found::File);
         }
         match disk.read(self.alloc, path) {
-            Ok(Entry::File(bytes)) => {
-                self.put(path, bytes)?;
-                Ok(Found::File)
-            }
+            Ok(Entry::File(bytes)) => match self.files.put(self.alloc, path, bytes) {
+                Ok(()) => Ok(Found::File),
+                Err(reason) => Err(refusal(self.alloc, path, reason)),
+            },
             Ok(Entry::Absent) => Ok(Found::Absent),
             Ok(Entry::Outside) => Ok(Found::Outside),
             Err(error) => Err(disk_failure(self.alloc, path, error)),
-        }
-    }
-
-    // Puts a file that was read.
-    fn put(&mut self, path: &str, bytes: Vec<u8>) -> Result<(), Unread>
-        requires { bytes_at (folder_with [] (self.old).files) path.now ≡ None }
-        ensures put { OnOk result
-            ((self.new).files ≡ (self.old).files ++ (path.now, bytes.items) ∷ []) }
-        ensures waiting { (self.new).candidates.waiting.keys
-            ≡ (self.old).candidates.waiting.keys }
-    {
-        match self.files.put(self.alloc, path, bytes) {
-            Ok(()) => Ok(()),
-            Err(reason) => Err(refusal(self.alloc, path, reason)),
         }
     }
 
@@ -421,39 +379,9 @@ impl Gathering {
             (self.new).candidates.waiting.keys) }
     {
         for number in 0..self.files.len() {
-            self.await_calls(number)?;
+            self.candidates.add_calls(self.alloc, &self.files, number)?;
         }
         Ok(())
-    }
-
-    // Lets the candidates wait that the file of this number calls.
-    fn await_calls(&mut self, number: usize) -> Result<(), Unread>
-        requires { AreAmong (called_by (self.old).files) (self.old).candidates.waiting.keys }
-        ensures files { (self.new).files ≡ (self.old).files }
-        ensures waiting { OnOk result (AreAmong (called_by (self.new).files)
-            (self.new).candidates.waiting.keys) }
-    {
-        self.candidates.add_calls(self.alloc, &self.files, number)
-    }
-
-    // The files, and the paths that were skipped.
-    fn into_gathered(self) -> Gathered
-        ensures gathered { AreGathered self.files }
-        ensures made { result.files.folder ≡ folder_with [] self.files }
-        ensures unchecked { result.files.checks ≡ 0 }
-    {
-        Gathered {
-            files: self.files.into_loaded(),
-            outside: self.outside,
-        }
-    }
-
-    // The files with their bytes, in the order in which they were taken.
-    fn into_files(self) -> Result<Vec<(Path, Vec<u8>)>, Unread>
-        ensures gathered { AreGathered self.files }
-        ensures files { IfOk result (λ files. map owned_entry files.items ≡ self.files) }
-    {
-        Ok(self.files.into_list(self.alloc)?)
     }
 }
 

@@ -160,25 +160,8 @@ fn with_bytes(
 {
     let mut list = Vec::with_capacity(alloc, paths.len())?;
     for path in paths {
-        list.push(file_at(alloc, files, path)?)?;
+        let bytes = Vec::from_slice(alloc, files.bytes(path.as_str()).unwrap_or(&[]))?;
+        list.push((path, bytes))?;
     }
     Ok(list)
-}
-
-// The file at this path, with a copy of its bytes.
-fn file_at(alloc: Global, files: &Loaded, path: Path) -> Result<(Path, Vec<u8>), AllocError>
-    ensures { IfOk result (λ file. owned_entry file ≡ entry_in files.now.folder path) }
-{
-    let bytes = copy_of(alloc, files.bytes(path.as_str()))?;
-    Ok((path, bytes))
-}
-
-// A copy of some bytes; empty for `None`.
-fn copy_of(alloc: Global, bytes: Option<&[u8]>) -> Result<Vec<u8>, AllocError>
-    ensures { IfOk result (λ v. v.items ≡ unwrap_or (option_copied bytes.entry) []) }
-{
-    match bytes {
-        Some(bytes) => Vec::from_slice(alloc, bytes),
-        None => Ok(Vec::new(alloc)),
-    }
 }

@@ -35,7 +35,9 @@ impl<W: Write, C: Clock> Write for WaitingOutput<'_, W, C> {
     fn write(&mut self, buf: &[u8]) -> io::Result<usize> {
         for _ in 0..u64::MAX {
             match self.output.write(buf) {
-                Err(error) if error.kind() == ErrorKind::WouldBlock => pause(self.clock),
+                Err(error) if error.kind() == ErrorKind::WouldBlock => {
+                    thread::sleep(self.clock, Duration::from_millis(PAUSE));
+                }
                 answer => return answer,
             }
         }
@@ -45,8 +47,4 @@ impl<W: Write, C: Clock> Write for WaitingOutput<'_, W, C> {
     fn flush(&mut self) -> io::Result<()> {
         self.output.flush()
     }
-}
-
-fn pause<C: Clock>(clock: &C) {
-    thread::sleep(clock, Duration::from_millis(PAUSE));
 }

@@ -5,7 +5,7 @@ use Rattle.al_cli.proofs.gathering.Gathering.take_listed.Goals as goal
 pub loop-path-init : goal.loop-path-init
 loop-path-init g c =
     let gives = c.into_iter-path-iterator.ensures.into_iter_gives in
-    (sorted_start c.args.self.now.files c.args.listed.now.keys c.into_iter-path-iterator.result c.requires.files gives.0 gives.4, refl)
+    (sorted_start c.args.self.now.files _ c.into_iter-path-iterator.result c.requires.files gives.0 gives.4, refl)
 
 pub loop-path-preserved-in-File : goal.loop-path-preserved-in-File
 loop-path-preserved-in-File g c = (
