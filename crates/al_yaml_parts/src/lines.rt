@@ -38,12 +38,10 @@ pub fn is_same_line(bytes: &[u8], from: usize, to: usize) -> bool
     requires inside { to ≤ length bytes.now }
     ensures { result ≡ content.same_line (lines_at bytes.now from) (lines_at bytes.now to) }
 {
-    let mut i = from;
-    'text: while i < to {
+    for i in from..to {
         if bytes[i] == b'\n' || bytes[i] == b'\r' {
             return false;
         }
-        i += 1;
     }
     true
 }

@@ -41,10 +41,8 @@ pub fn spot_after(bytes: &[u8], at: usize, spot: Spot) -> Spot
     ensures tab { IsTabInside (length bytes.now) result }
 {
     match spot {
-        Spot::OwnLine => Spot::Compact(first_tab(bytes, at)),
-        Spot::Compact(None) => Spot::Compact(first_tab(bytes, at)),
-        Spot::Compact(Some(tab)) => Spot::Compact(Some(tab)),
-        Spot::AfterKey => Spot::AfterKey,
+        Spot::OwnLine | Spot::Compact(None) => Spot::Compact(first_tab(bytes, at)),
+        Spot::Compact(Some(_)) | Spot::AfterKey => spot,
     }
 }
 
@@ -62,10 +60,7 @@ pub fn tab_before(spot: Spot) -> Option<usize>
 pub fn is_after_key(spot: Spot) -> bool
     ensures { result ≡ block.is_after_key (spot_of spot) }
 {
-    match spot {
-        Spot::AfterKey => true,
-        Spot::OwnLine | Spot::Compact(_) => false,
-    }
+    matches!(spot, Spot::AfterKey)
 }
 
 /// Whether a content line holds the node: one deeper than what encloses it, or a sequence at the indent of its key.
@@ -73,11 +68,5 @@ pub fn is_deeper(bytes: &[u8], slot: Slot, indent: usize, at: usize) -> bool
     requires { at ≤ length bytes.now }
     ensures { result ≡ block.is_deeper (slot_of slot) indent (lines_at bytes.now at) }
 {
-    if slot.within <= indent {
-        return true;
-    }
-    if !slot.in_mapping || slot.within != indent + 1 {
-        return false;
-    }
-    is_dash(bytes, at)
+    slot.within <= indent || slot.in_mapping && slot.within == indent + 1 && is_dash(bytes, at)
 }
