@@ -1,6 +1,5 @@
 //! The type of `matrix`.
 ghost use Rattle.std.specs.Prelude.{◌≡◌, is_some, map, IfOk, List, OnOk, true};
-ghost use Rattle.std.specs.List.{list_any};
 ghost use Rattle.al_base.specs.Growth.{BeginsWith};
 ghost use Rattle.al_check_objects.specs.Matrix as matrix;
 ghost use Rattle.al_check_objects.specs.Matrix.{fields_of, include_all, items_type, rows_of};
@@ -136,40 +135,19 @@ fn is_scalar(node: &Node) -> bool
     node.scalar().is_some()
 }
 
-fn has_scalar(nodes: &[Node]) -> bool
-    ensures { result ≡ list_any (λ i. is_some (scalar_in i)) (map view nodes.now) }
+/// Whether `include` is known only when the workflow runs: it is a scalar, or one of its items is.
+fn is_open_include(combinations: &Node) -> bool
+    ensures { result ≡ matrix.is_open_include (view combinations.now) }
 {
-    for node in nodes {
-        if is_scalar(node) {
+    if is_scalar(combinations) {
+        return true;
+    }
+    for item in items(combinations) {
+        if is_scalar(item) {
             return true;
         }
     }
     false
-}
-
-/// Whether `include` is known only when the workflow runs.
-fn is_open_include(node: &Node) -> bool
-    ensures { result ≡ matrix.is_open_include (view node.now) }
-{
-    is_scalar(node) || has_scalar(items(node))
-}
-
-/// The type of a matrix.
-fn matrix_of<'a>(alloc: Global, types: &mut Types<'a>, node: &'a Node) -> Result<Ty, AllocError>
-    ensures ty { IfOk result (λ t. Means types.new t (matrix.matrix_of (view node.entry.now))) }
-    ensures kept { OnOk result (BeginsWith (objects_of types.new) (objects_of types.old)) }
-{
-    if is_scalar(node) {
-        return object_of(alloc, types, &[], Some(Ty::ANY));
-    }
-    let rows = rows_type(alloc, types, node)?;
-    let Some(combinations) = value(node, "include") else {
-        return Ok(rows);
-    };
-    if is_open_include(combinations) {
-        return object_of(alloc, types, &[], Some(Ty::ANY));
-    }
-    include(alloc, types, rows, items(combinations))
 }
 
 /// The type of `matrix` in a job; without a matrix an object without fields.
@@ -181,8 +159,18 @@ pub fn matrix_type<'a>(
     ensures ty { IfOk result (λ t. Means types.new t (matrix.matrix_type (view job.entry.now))) }
     ensures kept { OnOk result (BeginsWith (objects_of types.new) (objects_of types.old)) }
 {
-    match value_below_two(job, "strategy", "matrix") {
-        None => object_of(alloc, types, &[], None),
-        Some(node) => matrix_of(alloc, types, node),
+    let Some(node) = value_below_two(job, "strategy", "matrix") else {
+        return object_of(alloc, types, &[], None);
+    };
+    if is_scalar(node) {
+        return object_of(alloc, types, &[], Some(Ty::ANY));
     }
+    let rows = rows_type(alloc, types, node)?;
+    let Some(combinations) = value(node, "include") else {
+        return Ok(rows);
+    };
+    if is_open_include(combinations) {
+        return object_of(alloc, types, &[], Some(Ty::ANY));
+    }
+    include(alloc, types, rows, items(combinations))
 }
