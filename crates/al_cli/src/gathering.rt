@@ -1,18 +1,17 @@
 //! The files that a run without a script lints: those that it is given, and those that they call.
 
-ghost use Rattle.std.specs.Prelude.{◌≡◌, ◌≤◌, ◌∷◌, ◌++◌, [], IfOk, OnOk, None, length, map, string_bytes, true};
+ghost use Rattle.std.specs.Prelude.{◌≡◌, ◌≤◌, [], IfOk, OnOk, None, length, map, string_bytes, true};
 ghost use Rattle.std.specs.List.{AllByRecursion};
 ghost use Rattle.std.specs.List.Sorted.{IsStrictlySortedBy};
 ghost use Rattle.std.specs.Ordering.{nat_cmp};
 ghost use Rattle.std.specs.Cmp.Lexicographic.{slice_cmp};
 ghost use Rattle.al_base.specs.Limits.{largest_file};
 ghost use Rattle.al_session.specs.Affected.{is_among};
-ghost use Rattle.al_session.specs.Folder.{bytes_at, paths_of};
+ghost use Rattle.al_session.specs.Folder.{paths_of};
 ghost use Rattle.al_session.specs.Meaning.{candidates};
-ghost use Rattle.al_cli.specs.Linted.{folder_with};
 ghost use Rattle.al_cli.specs.Private.Turns.{AreAmong, IsCalling, IsTakenAs, IsTakenIfThere};
 ghost use Rattle.al_cli.specs.Taken.{AreGathered, AreInOrder, IsGathered, owned_entry};
-ghost use Rattle.al_cli.specs.Taken.{called_by, each_once, path_named, with_path};
+ghost use Rattle.al_cli.specs.Taken.{called_by, each_once, path_named};
 
 use crate::disk::{Disk, DiskError, Entry, SystemFolder, WORKFLOWS};
 use crate::taken::TakenFiles;
@@ -294,7 +293,9 @@ impl Gathering {
         ensures { OnOk result (IsCalling (self.old).files (self.new).files
             (self.new).candidates.waiting.keys) }
     {
-        self.await_all()?;
+        for number in 0..self.files.len() {
+            self.candidates.add_calls(self.alloc, &self.files, number)?;
+        }
         for _ in 0..u64::MAX {
             match self.candidates.waiting.pop_first() {
                 Some(path) => self.take_candidate(disk, path)?,
@@ -369,19 +370,6 @@ impl Gathering {
             Ok(Entry::Outside) => Ok(Found::Outside),
             Err(error) => Err(disk_failure(self.alloc, path, error)),
         }
-    }
-
-    // Lets the candidates wait that any file calls.
-    fn await_all(&mut self) -> Result<(), Unread>
-        requires { (self.old).candidates.waiting.keys ≡ [] }
-        ensures files { (self.new).files ≡ (self.old).files }
-        ensures waiting { OnOk result (AreAmong (called_by (self.new).files)
-            (self.new).candidates.waiting.keys) }
-    {
-        for number in 0..self.files.len() {
-            self.candidates.add_calls(self.alloc, &self.files, number)?;
-        }
-        Ok(())
     }
 }
 

@@ -1,11 +1,10 @@
 //! The files of a run, read and put one after another.
 
-ghost use Rattle.std.specs.Prelude.{◌≡◌, ◌++◌, [], ◌∷◌, map, unwrap_or, IfOk, OnOk, OnErr, None, is_some};
-ghost use Rattle.std.specs.Option.{option_copied};
+ghost use Rattle.std.specs.Prelude.{◌≡◌, ◌++◌, [], ◌∷◌, map, IfOk, OnOk, OnErr, None, is_some};
 ghost use Rattle.al_session.specs.Folder.{bytes_at};
 ghost use Rattle.al_tree.specs.Kinds.{is_accepted};
 ghost use Rattle.al_cli.specs.Linted.{folder_with};
-ghost use Rattle.al_cli.specs.Private.Kept.{AreKept, entries_in, entry_in};
+ghost use Rattle.al_cli.specs.Private.Kept.{AreKept, entries_in};
 ghost use Rattle.al_cli.specs.Private.Turns.{calls_at};
 ghost use Rattle.al_cli.specs.Taken.{AreGathered, owned_entry};
 
