@@ -62,12 +62,10 @@ pub fn characters(bytes: &[u8], from: usize, to: usize) -> usize
     ensures few { from + result ≤ to }
 {
     let mut count = 0;
-    let mut i = from;
-    'text: while i < to {
+    for i in from..to {
         if !is_continuation(bytes[i]) {
             count += 1;
         }
-        i += 1;
     }
     count
 }
