@@ -3,7 +3,6 @@
 ghost use Rattle.al_scalar.specs.ReadScalar.{read_of};
 ghost use Rattle.al_scalar.specs.Line as line;
 ghost use Rattle.al_scalar.specs.Places.{lines_at, text_at};
-ghost use Rattle.al_scalar.specs.Plain as plain;
 ghost use Rattle.al_yaml_parts.specs.BlockReads as block_reads;
 ghost use Rattle.al_yaml_parts.specs.BlockReads.{IsOptionKey, option_key};
 ghost use Rattle.al_yaml_tree.specs.Content as content;
@@ -12,7 +11,7 @@ ghost use Rattle.al_yaml_tree.specs.Flow as flow;
 ghost use Rattle.al_yaml_tree.specs.Keys as keys;
 ghost use Rattle.al_yaml_parts.specs.Places.{IsColon, IsReadInside};
 ghost use Rattle.al_yaml_parts.specs.Reads.{Answers, IsStopInside};
-ghost use Rattle.std.specs.Prelude.{IfErr, IfOk, IsTrue, length, true, ◌&&◌, ◌<◌, ◌≡◌, ◌≤◌};
+ghost use Rattle.std.specs.Prelude.{IfErr, IfOk, length, true, ◌&&◌, ◌<◌, ◌≡◌, ◌≤◌};
 
 use crate::anchors::{has_no_name, property_end};
 use crate::content::{gap_end, is_dash, is_skipped};

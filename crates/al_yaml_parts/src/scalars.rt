@@ -6,7 +6,7 @@ ghost use Rattle.al_yaml_tree.specs.Blocks as block;
 ghost use Rattle.al_yaml_parts.specs.Files.{left_at, size};
 ghost use Rattle.al_yaml_tree.specs.Flow as flow;
 ghost use Rattle.al_yaml_tree.specs.Node as tree;
-ghost use Rattle.al_yaml_parts.specs.Places.{IsReadInside, Shows};
+ghost use Rattle.al_yaml_parts.specs.Places.{IsReadInside};
 ghost use Rattle.al_yaml_parts.specs.Reads.{Answers, IsPartAfter, IsRead, IsStopInside, part_of, state_of};
 ghost use Rattle.al_yaml_tree.specs.View.{view};
 ghost use Rattle.std.specs.Prelude.{IfErr, IfOk, length, ◌+◌, ◌≡◌, ◌≤◌};
