@@ -64,7 +64,7 @@ def explain(code: str) -> int:
     """Prints the entry of a code, in any case. Raises OSError if it can't be written."""
     entry = next((entry for entry in entries() if entry.code == code.upper()), None)
     if entry is None:
-        return _fail(f"{code!r} is no code of a fault", WRONG_WORDS)
+        return _fail(f"{code!r} is not a fault code", WRONG_WORDS)
     with report_output(None) as out:
         out.write(explained(entry).encode() + b"\n")
     return 0

@@ -41,7 +41,7 @@ class Outcome:
     def count_line(self) -> str:
         """The counts, in words."""
         if not self.is_known():
-            return "nothing is known of the faults: the linter could not go on"
+            return "the faults are unknown: the linter could not go on"
         found = [_counted(self.faults, "fault"), *([f"{_counted(self.notes, 'note')} of shellcheck (not proved)"] if self.notes else [])]
         return (" and ".join(found) + (f" in {_counted(len(self.files), 'file')}" if self.files else "")
                 + (f", {self.ignored} ignored" if self.ignored else ""))

@@ -24,7 +24,7 @@ class Ignored:
             named, colon, path = rule.partition(":")
             code = named.upper()
             if not is_code(code):
-                raise WrongRule(f"{named!r} is no code of a fault")
+                raise WrongRule(f"{named!r} is not a fault code")
             if colon and not path:
                 raise WrongRule(f"{rule!r} names no file")
             self._rules.add((code, path))

@@ -133,7 +133,7 @@ def a_link_in_the_place_of_the_report(program: str) -> None:
     runner = Runner(program, {FILE: FILES[FILE].replace("reff", "ref"), "other": "x"})
     os.symlink("other", runner.root + "/faults.sarif")
     status, lines = runner.step(sarif="faults.sarif")
-    assert status == 3 and lines[2:-2] == ["actionlint-report: cannot write faults.sarif: it is no regular file"], lines
+    assert status == 3 and lines[2:-2] == ["actionlint-report: cannot write faults.sarif: it is not a regular file"], lines
     with open(runner.root + "/other", encoding="utf-8") as opened:
         assert opened.read() == "x"
     shutil.rmtree(runner.root)

@@ -150,7 +150,7 @@ def commands_in_annotations(program: str) -> None:
         status, text, errors = run(program, folder, "--form", "github", "--", "##[add-mask]x")
         assert (status, errors) == (3, "") and text.splitlines() == [
             "::error title=actionlint::actionlint: ##[add-mask]x: refused E2",
-            "nothing is known of the faults: the linter could not go on"], text
+            "the faults are unknown: the linter could not go on"], text
 
 
 @CASES.case

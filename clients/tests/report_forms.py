@@ -105,7 +105,7 @@ def text(program: str) -> None:
         write(folder, FILES)
         assert run(program, folder, "--form", "text")[1].endswith("\n\n2 faults in 2 files\n")
         assert run(program, folder, "--form", "text", "no.yml") == (
-            3, "nothing is known of the faults: the linter could not go on\n", "actionlint: no.yml: refused E2\n")
+            3, "the faults are unknown: the linter could not go on\n", "actionlint: no.yml: refused E2\n")
 
 
 @CASES.case
@@ -235,7 +235,7 @@ def explain(program: str) -> None:
     assert (status, errors) == (0, "") and said.startswith('X13: property ".." is not defined\n\n'), said
     assert "\n\nRepair: Write a property" in said and "\n    on: push\n" in said and "```" not in said and "](" not in said, said
     assert all(run(program, "/", "--explain", code)[0] == 0 for code in ("Y1", "K7", "C9"))
-    assert run(program, "/", "--explain", "X99") == (2, "", "actionlint-report: 'X99' is no code of a fault\n")
+    assert run(program, "/", "--explain", "X99") == (2, "", "actionlint-report: 'X99' is not a fault code\n")
 
 
 @CASES.case
@@ -255,8 +255,8 @@ def ignored_faults(program: str) -> None:
         assert (found, errors) == (1, "actionlint-report: 1 fault in 1 file, 2 ignored\n") and len(said.splitlines()) == 1, (said, errors)
         # A run that could not go on is reported as such, whatever is ignored.
         assert run(program, folder, "--ignore", "X13", "no.yml")[0] == 3
-        for words, why in ((["--ignore", "X99"], "'X99' is no code"), (["--ignore", "expression"], "is no code"), (["--ignore", "X13:"], "names no file"),
-                           (["--ignore-file", "none"], "cannot read none: No such file")):
+        for words, why in ((["--ignore", "X99"], "'X99' is not a fault code"), (["--ignore", "expression"], "is not a fault code"),
+                           (["--ignore", "X13:"], "names no file"), (["--ignore-file", "none"], "cannot read none: No such file")):
             found, said, errors = run(program, folder, *words)
             assert (found, said) == (2, "") and why in errors, (words, errors)
 
