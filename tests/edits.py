@@ -26,8 +26,8 @@ def called(folder, candidates):
     return next((path for path in candidates if path in folder), None)
 
 
-def leads_back(folder, path, candidates):
-    """Whether a call leads to this path, directly or along further calls."""
+def is_on_cycle(folder, path, candidates):
+    """Whether a call of this file is on a call cycle: it leads to the file again, directly or along further calls."""
     ahead, seen = [called(folder, candidates)], {None}
     while ahead:
         here = ahead.pop()
@@ -40,11 +40,11 @@ def leads_back(folder, path, candidates):
 
 
 def cycle_lines(folder):
-    """The lines about call cycles that the report should have: those of calls from whose file calls lead back to the caller."""
+    """The lines about call cycles that the report should have: one for each call on a call cycle."""
     for path in sorted(folder):
         for row, text in enumerate(folder[path].text().decode().split("\n"), 1):
             before, uses, name = text.partition("uses: ")
-            if uses and leads_back(folder, path, candidates_of(name)):
+            if uses and is_on_cycle(folder, path, candidates_of(name)):
                 kind = "action" if name in FOLDERS else "workflow-call"
                 column = len(before + uses) + 1
                 yield f'{path}:{row}:{column}: call of "{name}" leads back to this file [{kind}]\n'.encode()
