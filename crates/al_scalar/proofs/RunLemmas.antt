@@ -8,7 +8,7 @@ use Rattle.std.proofs.lemmas.List.{take_all}
 use Rattle.al_base.proofs.Elements.{each_both}
 use Rattle.al_scalar.specs.Line.{Cell}
 use Rattle.al_scalar.specs.LineEnds.{cells_at, cells_between}
-use Rattle.al_scalar.specs.Private.Segments.{first_run, offset_in, offset_after, offset_from, offset_at, cells_from, AreAfter, AreFrom, IsRising, IsOrdered, GoesOn, AreInRange, run_cells}
+use Rattle.al_scalar.specs.Private.Segments.{first_run, offset_in, offset_after, offset_from, offset_at, cells_from, AreUpTo, AreFrom, IsRising, IsOrdered, GoesOn, AreInRange, run_cells}
 use Rattle.al_scalar.specs.declared.texts.Segment.{Segment}
 
 pub after-after : (found : ℕ) (s : Segment) (i : ℕ) → s.index ≤ i → offset_after found s i ≡ offset_in s i
@@ -22,25 +22,25 @@ offset_from-more found [] s i = refl
 offset_from-more found (t ∷ ts) s i = offset_from-more (offset_after found t i) ts s i
 
 -- If no run begins after index i, the last run gives its offset.
-offset_from-last : (found : ℕ) (s : Segment) (ss : List Segment) (d : Segment) (i : ℕ) → AreAfter i (s ∷ ss) → offset_from found (s ∷ ss) i ≡ offset_in (get_or (s ∷ ss) (length ss) d) i
+offset_from-last : (found : ℕ) (s : Segment) (ss : List Segment) (d : Segment) (i : ℕ) → AreUpTo i (s ∷ ss) → offset_from found (s ∷ ss) i ≡ offset_in (get_or (s ∷ ss) (length ss) d) i
 offset_from-last found s [] d i h = after-after found s i h.0
 offset_from-last found s (t ∷ ts) d i h = offset_from-last (offset_after found s i) t ts d i h.1
 
 -- ---- the order of runs
 
-AreAfter-up : (n m : ℕ) (ss : List Segment) → AreAfter n ss → n ≤ m → AreAfter m ss
-AreAfter-up n m [] h k = tt
-AreAfter-up n m (s ∷ ss) h k = (omega (arith, h.0), AreAfter-up n m ss h.1 k)
+AreUpTo-up : (n m : ℕ) (ss : List Segment) → AreUpTo n ss → n ≤ m → AreUpTo m ss
+AreUpTo-up n m [] h k = tt
+AreUpTo-up n m (s ∷ ss) h k = (omega (arith, h.0), AreUpTo-up n m ss h.1 k)
 
 -- appending a run
 pub IsOrdered-more : (n : ℕ) (ss : List Segment) (s : Segment) → IsOrdered n ss → s.index ≡ n → IsOrdered n (ss ++ s ∷ [])
 IsOrdered-more n ss s h e = (each_both (λ (t : Segment). t.index ≤ n) ss (s ∷ []) h.0 (omega (arith, e), tt), rising ss h.0 h.1)
   where
-    rising : (ss : List Segment) → AreAfter n ss → IsRising ss → IsRising (ss ++ s ∷ [])
+    rising : (ss : List Segment) → AreUpTo n ss → IsRising ss → IsRising (ss ++ s ∷ [])
     rising [] b r = (tt, tt)
     rising (t ∷ ts) b r = (each_both (λ (u : Segment). t.index ≤ u.index) ts (s ∷ []) r.0 (omega (arith, b.0, e), tt), rising ts b.1 r.1)
 
-last-of : (n : ℕ) (d s : Segment) (ss : List Segment) → AreAfter n (s ∷ ss) → (get_or (s ∷ ss) (length ss) d).index ≤ n
+last-of : (n : ℕ) (d s : Segment) (ss : List Segment) → AreUpTo n (s ∷ ss) → (get_or (s ∷ ss) (length ss) d).index ≤ n
 last-of n d s [] h = h.0
 last-of n d s (t ∷ ts) h = last-of n d t ts h.1
 
@@ -48,9 +48,9 @@ last-is : (d s : Segment) (ss : List Segment) → get_or (s ∷ ss) (length (s �
 last-is d s ss = let e : suc (length ss) - 1 ≡ length ss = omega arith in ap (λ k. get_or (s ∷ ss) k d) e
 
 -- The last run begins at or before index n.
-pub last-after : (d : Segment) (n : ℕ) (ss : List Segment) → AreAfter n ss → (length ss ≡ 0 → ⊥) → (get_or ss (length ss - 1) d).index ≤ n
-last-after d n [] h z = absurd (z refl)
-last-after d n (s ∷ ss) h z = subst (λ t. t.index ≤ n) (sym (last-is d s ss)) (last-of n d s ss h)
+pub last-up-to : (d : Segment) (n : ℕ) (ss : List Segment) → AreUpTo n ss → (length ss ≡ 0 → ⊥) → (get_or ss (length ss - 1) d).index ≤ n
+last-up-to d n [] h z = absurd (z refl)
+last-up-to d n (s ∷ ss) h z = subst (λ t. t.index ≤ n) (sym (last-is d s ss)) (last-of n d s ss h)
 
 -- ---- the first run and the last one
 
@@ -61,7 +61,7 @@ only-offset : (at i : ℕ) (ss : List Segment) → length ss ≡ 0 → offset_in
 only-offset at i [] z = sym (first-offset at i)
 only-offset at i (s ∷ ss) z = absurd (omega (arith, z))
 
-pub last-offset : (d : Segment) (at i : ℕ) (ss : List Segment) → AreAfter i (first_run at ∷ ss) → (length ss ≡ 0 → ⊥) → offset_in (get_or ss (length ss - 1) d) i ≡ offset_at (first_run at ∷ ss) i
+pub last-offset : (d : Segment) (at i : ℕ) (ss : List Segment) → AreUpTo i (first_run at ∷ ss) → (length ss ≡ 0 → ⊥) → offset_in (get_or ss (length ss - 1) d) i ≡ offset_at (first_run at ∷ ss) i
 last-offset d at i [] h z = absurd (z refl)
 last-offset d at i (s ∷ ss) h z = ap (λ t. offset_in t i) (last-is d s ss) ∙ sym (offset_from-last (offset_after 0 (first_run at) i) s ss d i h.1)
 
@@ -72,10 +72,10 @@ moving last n at k b m o e =
     let sum : last.offset + ((n + k) - last.index) ≡ at + k = omega (arith, b, o, e) in
     ap (λ x. cond x (last.offset + ((n + k) - last.index)) last.offset) (not-false last.moves m) ∙ sum
 
-pub goes-on : (last : Segment) (n at : ℕ) (ss : List Segment) → ((i : ℕ) → AreAfter i ss → offset_in last i ≡ offset_at ss i)
-    → AreAfter n ss → last.index ≤ n → not last.moves ≡ false → last.offset ≤ at
+pub goes-on : (last : Segment) (n at : ℕ) (ss : List Segment) → ((i : ℕ) → AreUpTo i ss → offset_in last i ≡ offset_at ss i)
+    → AreUpTo n ss → last.index ≤ n → not last.moves ≡ false → last.offset ≤ at
     → at - last.offset ≡ n - last.index → GoesOn ss n at true
-goes-on last n at ss f h b m o e = λ k. sym (f (n + k) (AreAfter-up n (n + k) ss h (omega arith))) ∙ moving last n at k b m o e
+goes-on last n at ss f h b m o e = λ k. sym (f (n + k) (AreUpTo-up n (n + k) ss h (omega arith))) ∙ moving last n at k b m o e
 
 -- before the first byte, with the first run alone
 pub first-goes-on : (ss : List Segment) (at : ℕ) → length ss ≡ 0 → GoesOn (first_run at ∷ ss) 0 at true
@@ -159,7 +159,7 @@ module _ (old : List Cell) (bs ds new : List ℕ) (ss ss' : List Segment) (n at 
   pub pushed-kept : AreInRange (cells_from 0 bs ss) → AreInRange (run_cells at moves 0 ds) → IsOrdered n ss' → IsOrdered (length new) ss' × AreInRange (cells_from 0 new ss')
   pushed-kept p q b =
       let long : n ≤ length new = omega (arith, e, ap length f, length-append bs ds) in
-      ((AreAfter-up n (length new) ss' b.0 long, b.1), subst AreInRange (sym pushed-text) (each_both (λ (c : Cell). c.1 < 2 ^ 32) old (run_cells at moves 0 ds) (subst AreInRange g p) q))
+      ((AreUpTo-up n (length new) ss' b.0 long, b.1), subst AreInRange (sym pushed-text) (each_both (λ (c : Cell). c.1 < 2 ^ 32) old (run_cells at moves 0 ds) (subst AreInRange g p) q))
 
 -- ---- binary search for the last run
 

@@ -4,7 +4,7 @@ ghost use Rattle.std.specs.Prelude.{◌≡◌, ℕ, ◌+◌, ◌<◌, ◌≤◌,
 ghost use Rattle.al_scalar.specs.Line.{Cell};
 ghost use Rattle.al_scalar.specs.LineEnds.{cells_between};
 ghost use Rattle.al_scalar.specs.Scalar.{offset_or};
-ghost use Rattle.al_scalar.specs.Private.Segments.{first_run, offset_in, offset_at, cells_from, AreAfter, AreInRange, IsRising};
+ghost use Rattle.al_scalar.specs.Private.Segments.{first_run, offset_in, offset_at, cells_from, AreUpTo, AreInRange, IsRising};
 ghost use Rattle.al_scalar.specs.Private.Segments.{IsOrdered, GoesOn, run_cells};
 ghost use Rattle.al_scalar.specs.Private.Forms.{short_cells, IsSound};
 ghost use Rattle.al_scalar.specs.declared.texts.Form.TheVariants.{Short};
@@ -67,8 +67,8 @@ impl Model for Runs {
 impl Runs {
     /// The last run.
     fn last(&self) -> Segment
-        ensures after { (n : ℕ) → AreAfter n self.now → result.index ≤ n }
-        ensures offset { (i : ℕ) → AreAfter i self.now
+        ensures up_to { (n : ℕ) → AreUpTo n self.now → result.index ≤ n }
+        ensures offset { (i : ℕ) → AreUpTo i self.now
             → offset_in result i ≡ offset_at self.now i }
     {
         let count = self.rest.len();
@@ -80,7 +80,7 @@ impl Runs {
 
     /// Whether an offset continues those of the last run, which extends to an index.
     fn goes_on(&self, index: usize, at: u32) -> bool
-        requires { AreAfter index self.now }
+        requires { AreUpTo index self.now }
         ensures { IsTrue result → GoesOn self.now index at true }
     {
         let last = self.last();
@@ -128,7 +128,7 @@ impl Runs {
     /// The run that contains an index: the last one that begins at or before it.
     fn run_of(&self, i: usize) -> Segment
         requires { IsRising self.now }
-        ensures after { result.index ≤ i }
+        ensures up_to { result.index ≤ i }
         ensures offset { offset_in result i ≡ offset_at self.now i }
     {
         let first = Segment::first(self.first);

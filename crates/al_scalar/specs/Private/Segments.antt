@@ -28,8 +28,8 @@ cells_from i [] ss = []
 cells_from i (b ∷ bs) ss = (b, offset_at ss i) ∷ cells_from (suc i) bs ss
 
 -- each run begins at index n or before it
-abbrev pub AreAfter : ℕ → List Segment → Type 0
-AreAfter n = AllByRecursion (λ (s : Segment). s.index ≤ n)
+abbrev pub AreUpTo : ℕ → List Segment → Type 0
+AreUpTo n = AllByRecursion (λ (s : Segment). s.index ≤ n)
 
 -- each run begins at index n or after it
 abbrev pub AreFrom : ℕ → List Segment → Type 0
@@ -42,7 +42,7 @@ IsRising (s ∷ ss) = AreFrom s.index ss × IsRising ss
 
 -- the runs of a text of n bytes
 abbrev pub IsOrdered : ℕ → List Segment → Type 0
-IsOrdered n ss = AreAfter n ss × IsRising ss
+IsOrdered n ss = AreUpTo n ss × IsRising ss
 
 -- from an index on, the offsets of the bytes increase by one from `at`, or are all `at`
 abbrev pub GoesOn : List Segment → ℕ → ℕ → Bool → Type 0

@@ -13,8 +13,8 @@ viewed : (first : Segment) (at i : ℕ) (ss rest view : List Segment) → first 
 viewed first at i ss rest view f e v =
     ap (λ s. offset_from (offset_after 0 s i) rest i) f ∙ ap (λ xs. offset_from (offset_after 0 (first_run at) i) xs i) e ∙ ap (λ xs. offset_at xs i) v
 
-first-after : (first : Segment) (at i : ℕ) → first ≡ first_run at → first.index ≤ i
-first-after first at i f = let none : 0 ≤ i = omega arith in subst (λ s. s.index ≤ i) (sym f) none
+first-up-to : (first : Segment) (at i : ℕ) → first ≡ first_run at → first.index ≤ i
+first-up-to first at i f = let none : 0 ≤ i = omega arith in subst (λ s. s.index ≤ i) (sym f) none
 
 pub halves-init : goal.halves-init
 halves-init c =
@@ -49,8 +49,8 @@ halves-preserved c =
           c.requires) c.if-rest-middle.false less c.halves.invariant.inside c.halves.invariant.above;
     }
 
-pub returns-then-low-eq0-clause-after : goal.returns-then-low-eq0-clause-after
-returns-then-low-eq0-clause-after c = first-after c.first-first.result c.self.inside.first c.args.i c.first-first.ensures
+pub returns-then-low-eq0-clause-up_to : goal.returns-then-low-eq0-clause-up_to
+returns-then-low-eq0-clause-up_to c = first-up-to c.first-first.result c.self.inside.first c.args.i c.first-first.ensures
 
 pub returns-then-low-eq0-clause-offset : goal.returns-then-low-eq0-clause-offset
 returns-then-low-eq0-clause-offset c =
@@ -58,7 +58,7 @@ returns-then-low-eq0-clause-offset c =
     let rest = c.as_slice-rest.result.now in
     let inside = c.self.inside in
     let high : c.halves.high ≡ 0 = omega (arith, c.if-low-eq0.true, c.halves-test.false) in
-    sym (after-after 0 first c.args.i (first-after first inside.first c.args.i c.first-first.ensures))
+    sym (after-after 0 first c.args.i (first-up-to first inside.first c.args.i c.first-first.ensures))
     ∙ search-none (offset_after 0 first c.args.i) rest c.args.i c.halves.high high c.halves.invariant.above
     ∙ viewed first inside.first c.args.i inside.rest.items rest c.args.self.now c.first-first.ensures c.as_slice-rest.ensures.value c.self.view_is
 
