@@ -101,10 +101,10 @@ impl NamePositions {
     }
 
     /// Where a name first occurs. Fails with `AllocError` when out of memory.
-    pub fn get(&self, alloc: Global, name: &[u8]) -> Result<Option<usize>, AllocError>
+    pub fn get(&self, name: &[u8]) -> Result<Option<usize>, AllocError>
         ensures { IfOk result (λ i. i ≡ name_position self.now name.now) }
     {
-        let lower = in_lower_case(alloc, name)?;
+        let lower = in_lower_case(*self.places.allocator(), name)?;
         Ok(position_by(self.entries.as_slice(), lower.as_slice()))
     }
 }

@@ -54,22 +54,27 @@ impl<'a> FieldMap<'a> {
         })
     }
 
+    /// Its allocator.
+    pub(crate) fn alloc(&self) -> Global {
+        *self.types.allocator()
+    }
+
     /// Appends a field, unless there is one with its name.
-    pub fn and(self, alloc: Global, name: &'a [u8], ty: Ty) -> Result<FieldMap<'a>, AllocError>
+    pub fn and(self, name: &'a [u8], ty: Ty) -> Result<FieldMap<'a>, AllocError>
         ensures fields { IfOk result (λ f. (ms : List Parts)
             → fields_in ms f ≡ put_new (fields_in ms self.entry) (name.now, type_in ms ty)) }
         ensures below { IfOk result (λ f. (k : ℕ) → is_map_below k self.entry ≡ true
             → is_below k ty ≡ true → is_map_below k f ≡ true) }
     {
-        let position = self.names.position(alloc, name)?;
+        let position = self.names.position(name)?;
         match position {
             Some(_) => Ok(self),
-            None => self.push(alloc, name, ty),
+            None => self.push(name, ty),
         }
     }
 
     /// Appends a field with a new name.
-    fn push(self, alloc: Global, name: &'a [u8], ty: Ty) -> Result<FieldMap<'a>, AllocError>
+    fn push(self, name: &'a [u8], ty: Ty) -> Result<FieldMap<'a>, AllocError>
         requires { name_place (names_in self.names) name.now ≡ None }
         ensures fields { IfOk result (λ f. (ms : List Parts)
             → fields_in ms f ≡ put_new (fields_in ms self.entry) (name.now, type_in ms ty)) }
@@ -77,7 +82,7 @@ impl<'a> FieldMap<'a> {
             → is_below k ty ≡ true → is_map_below k f ≡ true) }
     {
         let mut types = self.types;
-        let names = self.names.push(alloc, name)?;
+        let names = self.names.push(name)?;
         types.push(ty)?;
         Ok(FieldMap { names, types })
     }
@@ -113,14 +118,14 @@ impl<'a> FieldMap<'a> {
     }
 
     /// The type of the field with a name, ignoring ASCII case, if it is among the first `count` fields.
-    pub fn get(&self, alloc: Global, name: &[u8], count: usize) -> Result<Option<Ty>, AllocError>
+    pub fn get(&self, name: &[u8], count: usize) -> Result<Option<Ty>, AllocError>
         ensures ty { IfOk result (λ found. (ms : List Parts) → option_map (type_in ms) found
             ≡ field_at name.now
             (named_types ms (names_in self.now.names) (take count self.now.types.items))) }
         ensures below { IfOk result
             (λ found. (k : ℕ) → is_map_below k self.now ≡ true → is_rest_below k found ≡ true) }
     {
-        let position = self.names.position(alloc, name)?;
+        let position = self.names.position(name)?;
         match position {
             Some(i) => Ok(self.type_at(i, count)),
             None => Ok(None),

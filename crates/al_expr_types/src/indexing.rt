@@ -32,12 +32,12 @@ impl<'a> Types<'a> {
             → are_joins_below (length self.now.objects.items) m ≡ true) }
     {
         if let Some(index) = self.index_of(n) {
-            return sofar.and_object(self.alloc, index);
+            return sofar.and_object(index);
         }
         match self.object(n) {
-            Object::Fields(fields) => sofar.and_object(self.alloc, fields),
-            Object::Extension(extension) => sofar.and_object(self.alloc, &extension.fields),
-            Object::Strings(names) => sofar.and_strings(self.alloc, names),
+            Object::Fields(fields) => sofar.and_object(fields),
+            Object::Extension(extension) => sofar.and_object(&extension.fields),
+            Object::Strings(names) => sofar.and_strings(names),
             Object::Common(of) => {
                 let mut all = sofar;
                 for m in of.as_slice() {
@@ -82,7 +82,7 @@ impl<'a> Types<'a> {
         let types = self.types_of(&merging)?;
         let rest = self.join_type(others)?;
         let names = merging.into_names();
-        Fields::of(self.alloc, FieldMap { names, types }, rest)
+        Fields::of(FieldMap { names, types }, rest)
     }
 
     /// The number of fields of an object, by its index or by itself.

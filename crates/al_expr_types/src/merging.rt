@@ -68,13 +68,7 @@ impl<'a> FieldJoins<'a> {
     }
 
     /// Joins a type with what is at the position of a name.
-    fn join_at(
-        self,
-        alloc: Global,
-        name: &[u8],
-        i: usize,
-        ty: Ty,
-    ) -> Result<FieldJoins<'a>, AllocError>
+    fn join_at(self, name: &[u8], i: usize, ty: Ty) -> Result<FieldJoins<'a>, AllocError>
         requires { name_place (names_in self.names) name.now ≡ Some i }
         ensures found { IfOk result (λ m. (ms : List Parts) → found_in ms m
             ≡ and_named (found_in ms self.entry) name.now (Present (type_in ms ty))) }
@@ -83,12 +77,12 @@ impl<'a> FieldJoins<'a> {
     {
         let names = self.names;
         let mut joins = self.joins;
-        FieldJoins::join_into(alloc, &mut joins[i], ty)?;
+        FieldJoins::join_into(*joins.allocator(), &mut joins[i], ty)?;
         Ok(FieldJoins { names, joins })
     }
 
     /// Appends a new name, with its type.
-    fn push(self, alloc: Global, name: &'a [u8], ty: Ty) -> Result<FieldJoins<'a>, AllocError>
+    fn push(self, name: &'a [u8], ty: Ty) -> Result<FieldJoins<'a>, AllocError>
         requires { name_place (names_in self.names) name.now ≡ None }
         ensures found { IfOk result (λ m. (ms : List Parts) → found_in ms m
             ≡ and_named (found_in ms self.entry) name.now (Present (type_in ms ty))) }
@@ -96,33 +90,27 @@ impl<'a> FieldJoins<'a> {
             ≡ true → is_below k ty ≡ true → are_joins_below k m ≡ true) }
     {
         let mut joins = self.joins;
-        let names = self.names.push(alloc, name)?;
+        let names = self.names.push(name)?;
         joins.push(Join::One(ty))?;
         Ok(FieldJoins { names, joins })
     }
 
     /// Adds the type of a field: joined with what the fields with its name have in common, if there are any.
-    pub fn and(self, alloc: Global, name: &'a [u8], ty: Ty) -> Result<FieldJoins<'a>, AllocError>
+    pub fn and(self, name: &'a [u8], ty: Ty) -> Result<FieldJoins<'a>, AllocError>
         ensures found { IfOk result (λ m. (ms : List Parts) → found_in ms m
             ≡ and_named (found_in ms self.entry) name.now (Present (type_in ms ty))) }
         ensures below { IfOk result (λ m. (k : ℕ) → are_joins_below k self.entry
             ≡ true → is_below k ty ≡ true → are_joins_below k m ≡ true) }
     {
-        let position = self.names.position(alloc, name)?;
+        let position = self.names.position(name)?;
         match position {
-            Some(i) => self.join_at(alloc, name, i, ty),
-            None => self.push(alloc, name, ty),
+            Some(i) => self.join_at(name, i, ty),
+            None => self.push(name, ty),
         }
     }
 
     /// Adds the type of a field, if it is the first with its name.
-    fn and_first(
-        self,
-        alloc: Global,
-        name: &'a [u8],
-        is_first: bool,
-        ty: Ty,
-    ) -> Result<FieldJoins<'a>, AllocError>
+    fn and_first(self, name: &'a [u8], is_first: bool, ty: Ty) -> Result<FieldJoins<'a>, AllocError>
         ensures found { IfOk result (λ m. (ms : List Parts)
             → found_in ms m
             ≡ (if is_first then and_named (found_in ms self.entry) name.now
@@ -131,7 +119,7 @@ impl<'a> FieldJoins<'a> {
             ≡ true → is_below k ty ≡ true → are_joins_below k m ≡ true) }
     {
         if is_first {
-            return self.and(alloc, name, ty);
+            return self.and(name, ty);
         }
         Ok(self)
     }
@@ -139,7 +127,6 @@ impl<'a> FieldJoins<'a> {
     /// Adds some fields.
     pub(crate) fn and_fields(
         self,
-        alloc: Global,
         names: &Names<'a>,
         types: &[Ty],
     ) -> Result<FieldJoins<'a>, AllocError>
@@ -154,18 +141,14 @@ impl<'a> FieldJoins<'a> {
     {
         let mut all = self;
         for (i, ty) in types.iter().enumerate() {
-            let more = all.and(alloc, names.at(i), *ty)?;
+            let more = all.and(names.at(i), *ty)?;
             all = more;
         }
         Ok(all)
     }
 
     /// Adds string fields with these names.
-    pub(crate) fn and_strings(
-        self,
-        alloc: Global,
-        names: &'a NameList,
-    ) -> Result<FieldJoins<'a>, AllocError>
+    pub(crate) fn and_strings(self, names: &'a NameList) -> Result<FieldJoins<'a>, AllocError>
         ensures found { IfOk result (λ m. (ms : List Parts) → found_in ms m
             ≡ λ n. fuse_optional (found_in ms self.entry n)
             (optional (field_at n (strings names.now)))) }
@@ -174,18 +157,14 @@ impl<'a> FieldJoins<'a> {
     {
         let mut all = self;
         for i in 0..names.len() {
-            let more = all.and_first(alloc, names.at(i), names.is_first(i), Ty::STRING)?;
+            let more = all.and_first(names.at(i), names.is_first(i), Ty::STRING)?;
             all = more;
         }
         Ok(all)
     }
 
     /// Adds the fields of an object.
-    pub(crate) fn and_object(
-        self,
-        alloc: Global,
-        fields: &Fields<'a>,
-    ) -> Result<FieldJoins<'a>, AllocError>
+    pub(crate) fn and_object(self, fields: &Fields<'a>) -> Result<FieldJoins<'a>, AllocError>
         ensures found { IfOk result (λ m. (ms : List Parts) → found_in ms m
             ≡ λ n. fuse_optional (found_in ms self.entry n) ((fields_parts ms fields.now).0 n)) }
         ensures below { IfOk result
@@ -194,6 +173,6 @@ impl<'a> FieldJoins<'a> {
             → are_joins_below k m ≡ true) }
     {
         let map = &*fields.map;
-        self.and_fields(alloc, &map.names, &map.types.as_slice()[..fields.count])
+        self.and_fields(&map.names, &map.types.as_slice()[..fields.count])
     }
 }

@@ -14,6 +14,7 @@ use std::collections::btree_map::Entry;
 /// the name's length.
 #[derive(Drop)]
 pub(crate) struct NameIndex {
+    alloc: Global,
     /// Positions by the names in lower case. The last bytes come first as a number: numbers are fast to compare, and
     /// mostly differ.
     positions: BTreeMap<(u64, Vec<u8>), usize>,
@@ -33,21 +34,17 @@ impl NameIndex {
         ensures { place_in result ≡ λ name. None }
     {
         NameIndex {
+            alloc,
             positions: BTreeMap::new(alloc),
         }
     }
 
     /// Adds a name with its position, unless an equal one was added before.
-    pub(crate) fn insert(
-        &mut self,
-        alloc: Global,
-        name: &[u8],
-        position: usize,
-    ) -> Result<(), AllocError>
+    pub(crate) fn insert(&mut self, name: &[u8], position: usize) -> Result<(), AllocError>
         ensures { OnOk result
             (place_in self.new ≡ and_place (place_in self.old) name.now position) }
     {
-        match self.positions.entry(key_of(alloc, name)?)? {
+        match self.positions.entry(key_of(self.alloc, name)?)? {
             Entry::Occupied(_) => Ok(()),
             Entry::Vacant(entry) => {
                 entry.insert(position);
@@ -57,10 +54,10 @@ impl NameIndex {
     }
 
     /// The first position of a name.
-    pub(crate) fn get(&self, alloc: Global, name: &[u8]) -> Result<Option<usize>, AllocError>
+    pub(crate) fn get(&self, name: &[u8]) -> Result<Option<usize>, AllocError>
         ensures { IfOk result (λ i. i ≡ place_in self.now name.now) }
     {
-        let key = key_of(alloc, name)?;
+        let key = key_of(self.alloc, name)?;
         Ok(self.positions.get(&key).copied())
     }
 }

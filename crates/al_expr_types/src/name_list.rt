@@ -133,10 +133,10 @@ impl NameList {
     ghost use Rattle.al_base.specs.NamePlaces.{name_place};
 
     /// The list of these names. Fails with `AllocError` when out of memory.
-    pub fn new(alloc: Global, names: Vec<Name>) -> Result<NameList, AllocError>
+    pub fn new(names: Vec<Name>) -> Result<NameList, AllocError>
         ensures { IfOk result (λ l. l ≡ names.items) }
     {
-        let positions = positions_of(alloc, names.as_slice())?;
+        let positions = positions_of(*names.allocator(), names.as_slice())?;
         Ok(NameList { names, positions })
     }
 
@@ -152,7 +152,7 @@ impl NameList {
         ensures { IfOk result (λ copy. copy ≡ self.now) }
     {
         let names = copies_of(alloc, self.as_slice())?;
-        NameList::new(alloc, names)
+        NameList::new(names)
     }
 
     /// The name at a position.
@@ -171,10 +171,10 @@ impl NameList {
     }
 
     /// The position of a name, in any ASCII case. Fails with `AllocError` when out of memory, as below.
-    pub fn position(&self, alloc: Global, name: &[u8]) -> Result<Option<usize>, AllocError>
+    pub fn position(&self, name: &[u8]) -> Result<Option<usize>, AllocError>
         ensures { IfOk result (λ i. i ≡ name_place self.now name.now) }
     {
-        self.positions.get(alloc, name)
+        self.positions.get(name)
     }
 
     /// Whether the name at a position is the first of its name.

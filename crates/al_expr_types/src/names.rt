@@ -40,7 +40,7 @@ fn index_of(alloc: Global, names: &[&[u8]]) -> Result<NameIndex, AllocError>
 {
     let mut index = NameIndex::new(alloc);
     for (i, name) in names.iter().enumerate() {
-        index.insert(alloc, name, i)?;
+        index.insert(name, i)?;
     }
     Ok(index)
 }
@@ -105,26 +105,26 @@ impl<'a> Names<'a> {
     }
 
     /// The position of a name, ignoring ASCII case.
-    pub fn position(&self, alloc: Global, name: &[u8]) -> Result<Option<usize>, AllocError>
+    pub fn position(&self, name: &[u8]) -> Result<Option<usize>, AllocError>
         ensures { IfOk result (λ i. i ≡ name_place (names_in self.now) name.now) }
     {
         match &self.index {
-            Some(index) => index.get(alloc, name),
+            Some(index) => index.get(name),
             None => Ok(scan(self.names.as_slice(), name)),
         }
     }
 
     /// Appends a new name.
-    pub(crate) fn push(self, alloc: Global, name: &'a [u8]) -> Result<Names<'a>, AllocError>
+    pub(crate) fn push(self, name: &'a [u8]) -> Result<Names<'a>, AllocError>
         requires { name_place (names_in self) name.now ≡ None }
         ensures { IfOk result (λ ns. names_in ns ≡ names_in self.entry ++ name.now ∷ []) }
     {
         let mut names = self.names;
-        let found = index_for_more(alloc, names.as_slice(), self.index)?;
+        let found = index_for_more(*names.allocator(), names.as_slice(), self.index)?;
         match found {
             Some(sofar) => {
                 let mut index = sofar;
-                index.insert(alloc, name, names.len())?;
+                index.insert(name, names.len())?;
                 names.push(name)?;
                 Ok(Names {
                     names,

@@ -5,7 +5,7 @@ ghost use Rattle.std.specs.Prelude.{◌≤◌, length};
 use crate::fields::FieldMap;
 use crate::name_list::NameList;
 use crate::ty::Ty;
-use std::alloc::{AllocError, Global};
+use std::alloc::AllocError;
 use std::rc::Rc;
 
 /// A prefix of some fields, and the type of all other fields, if others are possible. Prefixes share the fields.
@@ -24,18 +24,14 @@ impl<'a> Fields<'a> {
     ghost use Rattle.al_expr_types.specs.Types.{are_fields_below, fields_parts, is_rest_below, rest_in};
 
     /// All fields of a map, and the type of other fields, if others are possible. Fails with `AllocError` when out of memory.
-    pub(crate) fn of(
-        alloc: Global,
-        map: FieldMap<'a>,
-        rest: Option<Ty>,
-    ) -> Result<Fields<'a>, AllocError>
+    pub(crate) fn of(map: FieldMap<'a>, rest: Option<Ty>) -> Result<Fields<'a>, AllocError>
         ensures parts { IfOk result (λ f. (ms : List Parts)
             → fields_parts ms f ≡ parts_with (fields_in ms map.entry) (rest_in ms rest)) }
         ensures below { IfOk result (λ f. (k : ℕ) → is_map_below k map.entry ≡ true
             → is_rest_below k rest ≡ true → are_fields_below k f ≡ true) }
     {
         let count = map.len();
-        let map = Rc::new(alloc, map)?;
+        let map = Rc::new(map.alloc(), map)?;
         Ok(Fields { map, count, rest })
     }
 }

@@ -121,10 +121,11 @@ impl<'a> Prefixes<'a> {
     ghost use Rattle.al_expr_types.specs.Types.{object_in};
 
     /// The fields of a map.
-    pub fn new(alloc: Global, map: FieldMap<'a>) -> Result<Prefixes<'a>, AllocError>
+    pub fn new(map: FieldMap<'a>) -> Result<Prefixes<'a>, AllocError>
         ensures map { IfOk result (λ p. map_in p ≡ map.entry) }
         ensures base { IfOk result (λ p. p.base ≡ None) }
     {
+        let alloc = map.alloc();
         let firsts = first_positions(alloc, map.types.as_slice())?;
         let map = Rc::new(alloc, map)?;
         Ok(Prefixes {

@@ -63,7 +63,7 @@ impl Fields<'_> {
     {
         match part {
             Part::Named(name) => {
-                let found = self.map.get(alloc, name, self.count)?;
+                let found = self.map.get(name, self.count)?;
                 and_one(alloc, found, sofar)
             }
             Part::Rest => and_one(alloc, self.rest, sofar),
@@ -76,13 +76,13 @@ impl Fields<'_> {
 }
 
 /// Whether a part of an object with string fields is a string.
-fn has_string(alloc: Global, names: &NameList, part: Part<'_>) -> Result<bool, AllocError>
+fn has_string(names: &NameList, part: Part<'_>) -> Result<bool, AllocError>
     ensures { IfOk result
         (λ b. part_in part.entry (strings_parts names.now) ≡ string_unless (not b)) }
 {
     match part {
         Part::Named(name) => {
-            let position = names.position(alloc, name)?;
+            let position = names.position(name)?;
             Ok(position.is_some())
         }
         Part::Rest => Ok(false),
@@ -103,7 +103,7 @@ fn gather_strings(
     ensures below { IfOk result
         (λ j. (n : ℕ) → is_join_below n sofar ≡ true → is_join_below n j ≡ true) }
 {
-    if has_string(alloc, names, part)? {
+    if has_string(names, part)? {
         return sofar.and(alloc, Ty::STRING);
     }
     Ok(sofar)

@@ -56,6 +56,11 @@ impl<'a> Types<'a> {
         }
     }
 
+    /// The allocator of its objects.
+    pub fn alloc(&self) -> Global {
+        self.alloc
+    }
+
     /// Adds an object, and returns its number. Fails with `AllocError` when out of memory, as everything here does.
     pub(crate) fn push(&mut self, object: Object<'a>) -> Result<u32, AllocError>
         requires { is_object_below (length self.old.objects.items) object ≡ true }
@@ -145,7 +150,7 @@ impl<'a> Types<'a> {
         ensures known { IfOk result (λ t. is_known self.new t ≡ true) }
         ensures kept { BeginsWith (objects_of self.new) (objects_of self.old) }
     {
-        let fields = Fields::of(self.alloc, map, rest)?;
+        let fields = Fields::of(map, rest)?;
         let number = self.push(Object::Fields(fields))?;
         Ok(Ty::object(number))
     }
