@@ -7,13 +7,10 @@ use crate::env::File;
 use crate::job_lists::JobList;
 use crate::known::Outputs;
 use al_expr_types::Ty;
-use std::alloc::Global;
 
 /// What the types of contexts are made from, as far as it is the same everywhere in a file.
 #[derive(Drop)]
 pub(crate) struct Basis<'a> {
-    /// The allocator for what isn't kept in the table of types.
-    pub(crate) alloc: Global,
     pub(crate) file: File<'a>,
     pub(crate) jobs: JobList<'a>,
     /// What is known of the outputs of calls.

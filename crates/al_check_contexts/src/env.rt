@@ -79,9 +79,8 @@ impl<'a> Env<'a> {
         let job_types = JobTypes::new(alloc, positions, jobs.as_slice().len())?;
         let mut step_types = TypeCache::new(alloc, positions)?;
         let mut types = Types::new(alloc);
-        let strategy = strategy_type(alloc, &mut types)?;
+        let strategy = strategy_type(&mut types)?;
         let basis = Basis {
-            alloc,
             file,
             jobs,
             outputs,
@@ -90,7 +89,7 @@ impl<'a> Env<'a> {
         let owner = owner_at(file.kind, file.root, None);
         let mut steps = StepFields::of(&mut types, &basis, &mut step_types, owner)?;
         let none_seen = steps.first(&mut types, 0)?;
-        let contexts = first_types(alloc, &mut types, file, none_seen)?;
+        let contexts = first_types(&mut types, file, none_seen)?;
         Ok(Env {
             basis,
             section: Section::Apart,
@@ -112,7 +111,7 @@ impl<'a> Env<'a> {
 
     /// The allocator, for whatever else a check of the file allocates.
     pub fn alloc(&self) -> Global {
-        self.basis.alloc
+        self.types.alloc()
     }
 
     /// The file.

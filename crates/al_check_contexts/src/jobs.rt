@@ -38,13 +38,12 @@ pub(crate) struct JobTypes {
 }
 
 /// The type of a job with these outputs. Fails with `AllocError` when out of memory, as everything here does.
-fn shown_with(alloc: Global, types: &mut Types<'_>, outputs: Ty) -> Result<Ty, AllocError>
+fn shown_with(types: &mut Types<'_>, outputs: Ty) -> Result<Ty, AllocError>
     requires { is_known types.old outputs ≡ true }
     ensures ty { IfOk result (λ t. Means types.new t (shown_with (type_at types.old outputs))) }
     ensures kept { OnOk result (BeginsWith (objects_of types.new) (objects_of types.old)) }
 {
     object_of(
-        alloc,
         types,
         &[(b"result", Ty::STRING), (b"outputs", outputs)],
         None,
@@ -67,15 +66,15 @@ fn called_type<'a>(
     if let Some(ty) = made.get(position) {
         return Ok(ty);
     }
-    let outputs = outputs_type(basis.alloc, types, basis.outputs.list(position), Ty::ANY)?;
-    let ty = shown_with(basis.alloc, types, outputs)?;
+    let outputs = outputs_type(types, basis.outputs.list(position), Ty::ANY)?;
+    let ty = shown_with(types, outputs)?;
     made.set(position, ty);
     Ok(ty)
 }
 
 /// The type of a job without outputs, which is made once.
 #[tactic(auto, using(al_base::proofs::Growing::growth))]
-fn bare_type(alloc: Global, types: &mut Types<'_>, made: &mut Option<Ty>) -> Result<Ty, AllocError>
+fn bare_type(types: &mut Types<'_>, made: &mut Option<Ty>) -> Result<Ty, AllocError>
     requires { KeepsBare types.old made.old }
     ensures ty { IfOk result (λ t. Means types.new t (shown_with (named_strings []))) }
     ensures keeps { OnOk result (KeepsBare types.new made.new) }
@@ -84,8 +83,8 @@ fn bare_type(alloc: Global, types: &mut Types<'_>, made: &mut Option<Ty>) -> Res
     if let Some(ty) = *made {
         return Ok(ty);
     }
-    let outputs = object_of(alloc, types, &[], None)?;
-    let ty = shown_with(alloc, types, outputs)?;
+    let outputs = object_of(types, &[], None)?;
+    let ty = shown_with(types, outputs)?;
     *made = Some(ty);
     Ok(ty)
 }
@@ -93,7 +92,6 @@ fn bare_type(alloc: Global, types: &mut Types<'_>, made: &mut Option<Ty>) -> Res
 /// The type of a job that doesn't call a workflow.
 #[tactic(auto, using(al_base::proofs::Growing::growth, al_expr_types::proofs::Returned::begins_ok))]
 fn own_type<'a>(
-    alloc: Global,
     types: &mut Types<'a>,
     made: &mut Option<Ty>,
     job: Member<'a>,
@@ -105,12 +103,12 @@ fn own_type<'a>(
     ensures keeps { OnOk result (KeepsBare types.new made.new) }
     ensures kept { OnOk result (BeginsWith (objects_of types.new) (objects_of types.old)) }
 {
-    let entries = members_under(alloc, job.value, "outputs")?;
+    let entries = members_under(types.alloc(), job.value, "outputs")?;
     if entries.len() == 0 {
-        return bare_type(alloc, types, made);
+        return bare_type(types, made);
     }
-    let outputs = declared_strings(alloc, types, entries.as_slice())?;
-    shown_with(alloc, types, outputs)
+    let outputs = declared_strings(types, entries.as_slice())?;
+    shown_with(types, outputs)
 }
 
 impl JobTypes {
@@ -153,7 +151,7 @@ impl JobTypes {
             let position = basis.outputs.position(Some(key_text(job.key)), None);
             return called_type(types, basis, &mut self.calls, position);
         }
-        own_type(basis.alloc, types, &mut self.bare, job)
+        own_type(types, &mut self.bare, job)
     }
 
     /// The type of the job at a position, which is made once.
@@ -193,11 +191,11 @@ impl JobTypes {
         if let Some(ty) = self.all {
             return Ok(ty);
         }
-        let mut fields = FieldList::new(basis.alloc);
+        let mut fields = FieldList::new(types.alloc());
         let members = basis.jobs.as_slice();
         for (i, job) in members.iter().enumerate() {
             let ty = self.get(types, basis, i)?;
-            fields = fields.and(basis.alloc, key_text(job.key), ty)?;
+            fields = fields.and(key_text(job.key), ty)?;
         }
         let ty = fields.into_type(types, None)?;
         self.all = Some(ty);
@@ -217,14 +215,14 @@ impl JobTypes {
         ensures keeps { OnOk result (KeepsJobsOf types.new basis.now self.new) }
         ensures kept { OnOk result (BeginsWith (objects_of types.new) (objects_of types.old)) }
     {
-        let mut fields = FieldList::new(basis.alloc);
-        let names = texts_under(basis.alloc, job, "needs")?;
+        let mut fields = FieldList::new(types.alloc());
+        let names = texts_under(types.alloc(), job, "needs")?;
         for name in names.as_slice() {
-            let Some(needed) = basis.jobs.position_of(basis.alloc, name.scalar.text())? else {
+            let Some(needed) = basis.jobs.position_of(name.scalar.text())? else {
                 continue;
             };
             let ty = self.get(types, basis, needed)?;
-            fields = fields.and(basis.alloc, key_text(basis.jobs.job_at(needed).key), ty)?;
+            fields = fields.and(key_text(basis.jobs.job_at(needed).key), ty)?;
         }
         fields.into_type(types, None)
     }

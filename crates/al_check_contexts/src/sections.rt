@@ -77,7 +77,7 @@ pub(crate) fn section_types<'a>(
         });
     };
     let needs = made.needs_type(types, basis, job.value)?;
-    let matrix = matrix_type(basis.alloc, types, job.value)?;
+    let matrix = matrix_type(types, job.value)?;
     Ok(SectionTypes {
         strategy: basis.strategy,
         needs,

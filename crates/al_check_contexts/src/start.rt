@@ -14,12 +14,11 @@ use crate::env::File;
 use al_check_objects::{github_type, inputs_type, job_type, object_of, runner_type};
 use al_expr_types::{Ty, Types};
 use al_expr_typing::ContextTypes;
-use std::alloc::{AllocError, Global};
+use std::alloc::AllocError;
 
 /// The types of contexts at the start of a file, with that of `steps`. Fails with `AllocError` when out of memory.
 #[tactic(auto, using(al_base::proofs::Growing::growth))]
 pub(crate) fn first_types<'a>(
-    alloc: Global,
     types: &mut Types<'a>,
     file: File<'a>,
     steps: Ty,
@@ -32,11 +31,11 @@ pub(crate) fn first_types<'a>(
         (position apart (before 0)))) }
     ensures kept { OnOk result (BeginsWith (objects_of types.new) (objects_of types.old)) }
 {
-    let github = github_type(alloc, types)?;
-    let strings = object_of(alloc, types, &[], Some(Ty::STRING))?;
-    let runner = runner_type(alloc, types)?;
-    let job = job_type(alloc, types)?;
-    let inputs = inputs_type(alloc, types, file.kind, file.root)?;
+    let github = github_type(types)?;
+    let strings = object_of(types, &[], Some(Ty::STRING))?;
+    let runner = runner_type(types)?;
+    let job = job_type(types)?;
+    let inputs = inputs_type(types, file.kind, file.root)?;
     Ok(ContextTypes {
         github,
         env: strings,

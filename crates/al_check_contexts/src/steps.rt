@@ -24,7 +24,7 @@ use al_check_objects::{FieldList, object_of};
 use al_check_places::Seen;
 use al_expr_types::{FieldMap, NameList, Prefixes, Ty, Types};
 use al_tree::text_under;
-use std::alloc::{AllocError, Global};
+use std::alloc::AllocError;
 
 /// The fields of `steps` if all steps of a job or an action are seen, and how many of them are if fewer steps are.
 #[derive(Drop)]
@@ -37,7 +37,6 @@ pub(crate) struct StepFields<'a> {
 /// The type of the outputs of a step or a job, by what is known of them. If nothing is, it is an object whose fields
 /// have this type.
 pub(crate) fn outputs_type<'a>(
-    alloc: Global,
     types: &mut Types<'a>,
     outputs: Option<&'a NameList>,
     others: Ty,
@@ -49,7 +48,7 @@ pub(crate) fn outputs_type<'a>(
     ensures kept { OnOk result (BeginsWith (objects_of types.new) (objects_of types.old)) }
 {
     match outputs {
-        None => object_of(alloc, types, &[], Some(others)),
+        None => object_of(types, &[], Some(others)),
         Some(names) => types.strings(names),
     }
 }
@@ -70,9 +69,8 @@ fn step_type<'a>(
     if let Some(ty) = made.get(position) {
         return Ok(ty);
     }
-    let outputs = outputs_type(basis.alloc, types, basis.outputs.list(position), Ty::STRING)?;
+    let outputs = outputs_type(types, basis.outputs.list(position), Ty::STRING)?;
     let ty = object_of(
-        basis.alloc,
         types,
         &[
             (b"conclusion", Ty::STRING),
@@ -107,7 +105,7 @@ fn and_step<'a>(
         Some(id) => {
             let position = basis.outputs.position(step.job, Some(step.index));
             let ty = step_type(types, basis, made, position)?;
-            fields.and(basis.alloc, id.scalar.text(), ty)
+            fields.and(id.scalar.text(), ty)
         }
     }
 }
@@ -128,13 +126,13 @@ impl<'a> StepFields<'a> {
         ensures kept { OnOk result (BeginsWith (objects_of types.new) (objects_of types.old)) }
     {
         let Some(owner) = owner else {
-            let prefixes = Prefixes::new(basis.alloc, FieldMap::new(basis.alloc))?;
-            let counts = Vec::new(basis.alloc);
+            let prefixes = Prefixes::new(FieldMap::new(types.alloc()))?;
+            let counts = Vec::new(types.alloc());
             return Ok(StepFields { prefixes, counts });
         };
         let steps = owner.steps;
-        let mut fields = FieldList::new(basis.alloc);
-        let mut counts = Vec::with_capacity(basis.alloc, steps.len().saturating_add(1))?;
+        let mut fields = FieldList::new(types.alloc());
+        let mut counts = Vec::with_capacity(types.alloc(), steps.len().saturating_add(1))?;
         counts.push(0)?;
         for (i, node) in steps.iter().enumerate() {
             let step = Step {
@@ -146,7 +144,7 @@ impl<'a> StepFields<'a> {
             counts.push(more.len())?;
             fields = more;
         }
-        let prefixes = Prefixes::new(basis.alloc, fields.into_map())?;
+        let prefixes = Prefixes::new(fields.into_map())?;
         Ok(StepFields { prefixes, counts })
     }
 

@@ -86,33 +86,33 @@ const STRATEGY: &[(&[u8], Ty)] = &[
 ];
 
 /// The type of `github`. Fails with `AllocError` when out of memory, as everything here does.
-pub fn github_type(alloc: Global, types: &mut Types<'_>) -> Result<Ty, AllocError>
+pub fn github_type(types: &mut Types<'_>) -> Result<Ty, AllocError>
     ensures ty { IfOk result (λ t. Means types.new t fixed.github_type) }
     ensures kept { OnOk result (BeginsWith (objects_of types.new) (objects_of types.old)) }
 {
-    object_of(alloc, types, GITHUB, None)
+    object_of(types, GITHUB, None)
 }
 
 /// The type of `runner`.
-pub fn runner_type(alloc: Global, types: &mut Types<'_>) -> Result<Ty, AllocError>
+pub fn runner_type(types: &mut Types<'_>) -> Result<Ty, AllocError>
     ensures ty { IfOk result (λ t. Means types.new t fixed.runner_type) }
     ensures kept { OnOk result (BeginsWith (objects_of types.new) (objects_of types.old)) }
 {
-    object_of(alloc, types, RUNNER, Some(Ty::ANY))
+    object_of(types, RUNNER, Some(Ty::ANY))
 }
 
 /// The type of `job`.
-pub fn job_type(alloc: Global, types: &mut Types<'_>) -> Result<Ty, AllocError>
+pub fn job_type(types: &mut Types<'_>) -> Result<Ty, AllocError>
     ensures ty { IfOk result (λ t. Means types.new t fixed.job_type) }
     ensures kept { OnOk result (BeginsWith (objects_of types.new) (objects_of types.old)) }
 {
-    object_of(alloc, types, JOB, Some(Ty::ANY))
+    object_of(types, JOB, Some(Ty::ANY))
 }
 
 /// The type of `strategy` in a job.
-pub fn strategy_type(alloc: Global, types: &mut Types<'_>) -> Result<Ty, AllocError>
+pub fn strategy_type(types: &mut Types<'_>) -> Result<Ty, AllocError>
     ensures ty { IfOk result (λ t. Means types.new t fixed.strategy_type) }
     ensures kept { OnOk result (BeginsWith (objects_of types.new) (objects_of types.old)) }
 {
-    object_of(alloc, types, STRATEGY, None)
+    object_of(types, STRATEGY, None)
 }

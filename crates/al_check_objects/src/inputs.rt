@@ -19,22 +19,20 @@ use al_yaml_tree::Node;
 use std::alloc::{AllocError, Global};
 
 /// The object of the inputs that an event of a workflow declares. Fails with `AllocError` when out of memory, as everything here does.
-fn event_inputs<'a>(
-    alloc: Global,
-    types: &mut Types<'a>,
-    root: &'a Node,
-    event: &str,
-) -> Result<Ty, AllocError>
+fn event_inputs<'a>(types: &mut Types<'a>, root: &'a Node, event: &str) -> Result<Ty, AllocError>
     ensures ty { IfOk result
         (λ t. Means types.new t
         (strictly (firsts (inputs.event_inputs event.now (view root.entry.now))))) }
     ensures kept { OnOk result (BeginsWith (objects_of types.new) (objects_of types.old)) }
 {
-    let declared = declared_at(alloc, value_below_three(root, "on", event, "inputs"))?;
-    let mut fields = FieldList::new(alloc);
+    let declared = declared_at(
+        types.alloc(),
+        value_below_three(root, "on", event, "inputs"),
+    )?;
+    let mut fields = FieldList::new(types.alloc());
     for input in declared.as_slice() {
         let ty = Ty::scalar(type_of_input(input_of(input.value)));
-        fields = fields.and(alloc, key_text(input.key), ty)?;
+        fields = fields.and(key_text(input.key), ty)?;
     }
     fields.into_type(types, None)
 }
@@ -42,7 +40,6 @@ fn event_inputs<'a>(
 /// The type of `inputs` in a file: in a workflow, what the object of its call inputs and that of its dispatch inputs have in common.
 #[tactic(auto, using(al_base::proofs::Growing::growth, al_expr_types::proofs::Returned::begins_ok))]
 pub fn inputs_type<'a>(
-    alloc: Global,
     types: &mut Types<'a>,
     kind: FileKind,
     root: &'a Node,
@@ -52,13 +49,13 @@ pub fn inputs_type<'a>(
 {
     match kind {
         FileKind::Workflow => {
-            let call = event_inputs(alloc, types, root, "workflow_call")?;
-            let dispatch = event_inputs(alloc, types, root, "workflow_dispatch")?;
+            let call = event_inputs(types, root, "workflow_call")?;
+            let dispatch = event_inputs(types, root, "workflow_dispatch")?;
             types.join(call, dispatch)
         }
         FileKind::Action => {
-            let declared = declared_at(alloc, value(root, "inputs"))?;
-            declared_strings(alloc, types, declared.as_slice())
+            let declared = declared_at(types.alloc(), value(root, "inputs"))?;
+            declared_strings(types, declared.as_slice())
         }
     }
 }

@@ -41,24 +41,24 @@ fn scalar_type(alloc: Global, scalar: &Scalar) -> Result<Ty, AllocError>
 
 /// The type of a value.
 #[cycle(values)]
-fn node_type<'a>(alloc: Global, types: &mut Types<'a>, node: &'a Node) -> Result<Ty, AllocError>
+fn node_type<'a>(types: &mut Types<'a>, node: &'a Node) -> Result<Ty, AllocError>
     ensures ty { IfOk result (λ t. Means types.new t (matrix.node_type (view node.entry.now))) }
     ensures kept { OnOk result (BeginsWith (objects_of types.new) (objects_of types.old)) }
 {
     match &node.kind {
-        Kind::Scalar(scalar) => scalar_type(alloc, scalar),
+        Kind::Scalar(scalar) => scalar_type(types.alloc(), scalar),
         Kind::Sequence(nodes) => {
-            let ty = items_type(alloc, types, nodes.as_slice())?;
+            let ty = items_type(types, nodes.as_slice())?;
             ty.in_arrays(1)
         }
-        Kind::Mapping(entries) => entries_type(alloc, types, entries.as_slice()),
-        Kind::Shared(inner) => node_type(alloc, types, inner),
+        Kind::Mapping(entries) => entries_type(types, entries.as_slice()),
+        Kind::Shared(inner) => node_type(types, inner),
     }
 }
 
 /// What the types of some values have in common; any type if there are no values.
 #[cycle(values)]
-fn items_type<'a>(alloc: Global, types: &mut Types<'a>, nodes: &'a [Node]) -> Result<Ty, AllocError>
+fn items_type<'a>(types: &mut Types<'a>, nodes: &'a [Node]) -> Result<Ty, AllocError>
     ensures ty { IfOk result
         (λ t. Means types.new t
         (or_any (option_of (items_type Absent (nodes_of (map view nodes.entry.now)))))) }
@@ -66,56 +66,47 @@ fn items_type<'a>(alloc: Global, types: &mut Types<'a>, nodes: &'a [Node]) -> Re
 {
     let mut all = Join::Nothing;
     for node in nodes {
-        let ty = node_type(alloc, types, node)?;
-        all = all.and(alloc, ty)?;
+        let ty = node_type(types, node)?;
+        all = all.and(types.alloc(), ty)?;
     }
     types.type_or_any(all)
 }
 
 /// The type of a mapping with these entries; of equal names the first counts.
 #[cycle(values)]
-fn entries_type<'a>(
-    alloc: Global,
-    types: &mut Types<'a>,
-    entries: &'a [Entry],
-) -> Result<Ty, AllocError>
+fn entries_type<'a>(types: &mut Types<'a>, entries: &'a [Entry]) -> Result<Ty, AllocError>
     ensures ty { IfOk result
         (λ t. Means types.new t
         (strictly (firsts (fields_of (entries_of (map entry_view entries.entry.now)))))) }
     ensures kept { OnOk result (BeginsWith (objects_of types.new) (objects_of types.old)) }
 {
-    let mut fields = FieldList::new(alloc);
+    let mut fields = FieldList::new(types.alloc());
     for entry in entries {
-        let ty = node_type(alloc, types, &entry.value)?;
-        fields = fields.and(alloc, key_of(entry), ty)?;
+        let ty = node_type(types, &entry.value)?;
+        fields = fields.and(key_of(entry), ty)?;
     }
     fields.into_type(types, None)
 }
 
 /// The object of a matrix's rows.
-fn rows_type<'a>(alloc: Global, types: &mut Types<'a>, node: &'a Node) -> Result<Ty, AllocError>
+fn rows_type<'a>(types: &mut Types<'a>, node: &'a Node) -> Result<Ty, AllocError>
     ensures ty { IfOk result (λ t. Means types.new t (strictly (rows_of (view node.entry.now)))) }
     ensures kept { OnOk result (BeginsWith (objects_of types.new) (objects_of types.old)) }
 {
-    let mut rows = FieldList::new(alloc);
-    let entries = members(alloc, node)?;
+    let mut rows = FieldList::new(types.alloc());
+    let entries = members(types.alloc(), node)?;
     for entry in entries.as_slice() {
         if is_combination_key(key_text(entry.key)) {
             continue;
         }
-        let ty = items_type(alloc, types, items(entry.value))?;
-        rows = rows.and(alloc, key_text(entry.key), ty)?;
+        let ty = items_type(types, items(entry.value))?;
+        rows = rows.and(key_text(entry.key), ty)?;
     }
     rows.into_type(types, None)
 }
 
 /// What the object of the rows and those of the combinations have in common. A combination that isn't a mapping has no fields.
-fn include<'a>(
-    alloc: Global,
-    types: &mut Types<'a>,
-    rows: Ty,
-    nodes: &'a [Node],
-) -> Result<Ty, AllocError>
+fn include<'a>(types: &mut Types<'a>, rows: Ty, nodes: &'a [Node]) -> Result<Ty, AllocError>
     requires { is_known types.old rows ≡ true }
     ensures ty { IfOk result (λ t. (ts : List TypedName) → Means types.old rows (strictly ts)
         → Means types.new t (strictly (include_all ts (map view nodes.entry.now)))) }
@@ -123,8 +114,8 @@ fn include<'a>(
 {
     let mut all = Join::One(rows);
     for node in nodes {
-        let ty = entries_type(alloc, types, node.mapping().unwrap_or(&[]))?;
-        all = all.and(alloc, ty)?;
+        let ty = entries_type(types, node.mapping().unwrap_or(&[]))?;
+        all = all.and(types.alloc(), ty)?;
     }
     types.type_or_any(all)
 }
@@ -151,26 +142,22 @@ fn is_open_include(combinations: &Node) -> bool
 }
 
 /// The type of `matrix` in a job; without a matrix an object without fields.
-pub fn matrix_type<'a>(
-    alloc: Global,
-    types: &mut Types<'a>,
-    job: &'a Node,
-) -> Result<Ty, AllocError>
+pub fn matrix_type<'a>(types: &mut Types<'a>, job: &'a Node) -> Result<Ty, AllocError>
     ensures ty { IfOk result (λ t. Means types.new t (matrix.matrix_type (view job.entry.now))) }
     ensures kept { OnOk result (BeginsWith (objects_of types.new) (objects_of types.old)) }
 {
     let Some(node) = value_below_two(job, "strategy", "matrix") else {
-        return object_of(alloc, types, &[], None);
+        return object_of(types, &[], None);
     };
     if is_scalar(node) {
-        return object_of(alloc, types, &[], Some(Ty::ANY));
+        return object_of(types, &[], Some(Ty::ANY));
     }
-    let rows = rows_type(alloc, types, node)?;
+    let rows = rows_type(types, node)?;
     let Some(combinations) = value(node, "include") else {
         return Ok(rows);
     };
     if is_open_include(combinations) {
-        return object_of(alloc, types, &[], Some(Ty::ANY));
+        return object_of(types, &[], Some(Ty::ANY));
     }
-    include(alloc, types, rows, items(combinations))
+    include(types, rows, items(combinations))
 }

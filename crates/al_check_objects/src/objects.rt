@@ -20,7 +20,6 @@ use std::alloc::{AllocError, Global};
 /// The object with these fields, which must have different names, and with others of the type `rest`, if given. Fails with `AllocError`
 /// when out of memory, as everything here does.
 pub fn object_of<'a>(
-    alloc: Global,
     types: &mut Types<'a>,
     fields: &[(&'a [u8], Ty)],
     rest: Option<Ty>,
@@ -33,23 +32,19 @@ pub fn object_of<'a>(
         (rest_in (objects_of types.old) rest))) }
     ensures kept { OnOk result (BeginsWith (objects_of types.new) (objects_of types.old)) }
 {
-    let map = FieldMap::of(alloc, fields)?;
+    let map = FieldMap::of(types.alloc(), fields)?;
     FieldList { map }.into_type(types, rest)
 }
 
 /// The object with a string field for the key of each entry, and no other fields.
-pub fn declared_strings<'a>(
-    alloc: Global,
-    types: &mut Types<'a>,
-    entries: &[Member<'a>],
-) -> Result<Ty, AllocError>
+pub fn declared_strings<'a>(types: &mut Types<'a>, entries: &[Member<'a>]) -> Result<Ty, AllocError>
     ensures ty { IfOk result
         (λ t. Means types.new t (named_strings (keys_in (map member_of entries.now)))) }
     ensures kept { OnOk result (BeginsWith (objects_of types.new) (objects_of types.old)) }
 {
-    let mut fields = FieldList::new(alloc);
+    let mut fields = FieldList::new(types.alloc());
     for entry in entries {
-        fields = fields.and(alloc, key_text(entry.key), Ty::STRING)?;
+        fields = fields.and(key_text(entry.key), Ty::STRING)?;
     }
     fields.into_type(types, None)
 }
