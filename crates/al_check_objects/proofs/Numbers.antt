@@ -1,8 +1,8 @@
 -- The types of scalars; the meaning of a type and of a list of fields in a longer table, and the length of such a list.
-use Rattle.std.proofs.Common.{◌≡◌, ℕ, List, [], ◌∷◌, length, map, refl, sym, ap, ◌∙◌, arith}
+use Rattle.std.proofs.Common.{◌≡◌, ℕ, List, [], ◌∷◌, length, map, refl, sym, ap, ◌∙◌, arith, Result, Ok, Err}
 use Rattle.std.proofs.lemmas.List.{length-map}
 use Rattle.std.proofs.lemmas.Slice.Zip.{seconds-zip}
-use Rattle.std.specs.Prelude.{zip}
+use Rattle.std.specs.Prelude.{zip, OnOk}
 use Rattle.al_base.specs.Growth.{BeginsWith}
 use Rattle.al_types.specs.Puts.{TypedName}
 use Rattle.al_types.specs.Types.{Any, String, Type'}
@@ -46,6 +46,11 @@ lists_stay new old l ts b h = record {
   known = types_wider new.objects.items old.objects.items l.map b h.known;
   are = fields_stay new old l.map b h.known ∙ h.are;
 }
+
+-- a fact that holds whatever the result is
+pub always : {T E P : Type 0} (r : Result T E) → P → OnOk r P
+always (Ok t) p = p
+always (Err e) p = tt
 
 -- ---- all fields at once
 

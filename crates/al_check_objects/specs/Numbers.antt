@@ -1,5 +1,6 @@
 -- The meaning of the types in a table.
-use Rattle.std.specs.Prelude.{◌≡◌, List, true, length}
+use Rattle.std.specs.Prelude.{◌≡◌, List, true, length, IfOk, OnOk, Result}
+use Rattle.al_base.specs.Growth.{BeginsWith}
 use Rattle.al_types.specs.Puts.{TypedName}
 use Rattle.al_types.specs.Types.{Type'}
 use Rattle.al_expr_types.specs.FieldMaps.{fields_in, is_map_below}
@@ -12,6 +13,11 @@ use Rattle.al_check_objects.specs.declared.field_lists.FieldList.{FieldList}
 pub record Means (types : Types) (t : Ty) (m : Type') : Type 0 where
   pub known : is_known types t ≡ true
   pub is : type_at types t ≡ m
+
+-- A call that returns this result makes a type that means this one, and only adds objects to the table.
+pub record Makes {E : Type 0} (old new : Types) (result : Result Ty E) (m : Type') : Type 0 where
+  pub ty : IfOk result (λ t. Means new t m)
+  pub kept : OnOk result (BeginsWith (objects_of new) (objects_of old))
 
 -- fields whose types refer to the table, and that mean these
 pub record Lists (types : Types) (l : FieldList) (ts : List TypedName) : Type 0 where

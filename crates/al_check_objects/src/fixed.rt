@@ -1,13 +1,10 @@
 //! The types of contexts that are the same in every file.
-ghost use Rattle.std.specs.Prelude.{IfOk, OnOk};
-ghost use Rattle.al_base.specs.Growth.{BeginsWith};
 ghost use Rattle.al_check_objects.specs.Fixed as fixed;
-ghost use Rattle.al_check_objects.specs.Numbers.{Means};
-ghost use Rattle.al_expr_types.specs.Tables.{objects_of};
+ghost use Rattle.al_check_objects.specs.Numbers.{Makes};
 
 use crate::objects::object_of;
 use al_expr_types::{Base, Scalar, Ty, Types};
-use std::alloc::{AllocError, Global};
+use std::alloc::AllocError;
 
 const BOOL: Ty = Ty {
     arrays: 0,
@@ -87,32 +84,28 @@ const STRATEGY: &[(&[u8], Ty)] = &[
 
 /// The type of `github`. Fails with `AllocError` when out of memory, as everything here does.
 pub fn github_type(types: &mut Types<'_>) -> Result<Ty, AllocError>
-    ensures ty { IfOk result (λ t. Means types.new t fixed.github_type) }
-    ensures kept { OnOk result (BeginsWith (objects_of types.new) (objects_of types.old)) }
+    ensures { Makes types.old types.new result fixed.github_type }
 {
     object_of(types, GITHUB, None)
 }
 
 /// The type of `runner`.
 pub fn runner_type(types: &mut Types<'_>) -> Result<Ty, AllocError>
-    ensures ty { IfOk result (λ t. Means types.new t fixed.runner_type) }
-    ensures kept { OnOk result (BeginsWith (objects_of types.new) (objects_of types.old)) }
+    ensures { Makes types.old types.new result fixed.runner_type }
 {
     object_of(types, RUNNER, Some(Ty::ANY))
 }
 
 /// The type of `job`.
 pub fn job_type(types: &mut Types<'_>) -> Result<Ty, AllocError>
-    ensures ty { IfOk result (λ t. Means types.new t fixed.job_type) }
-    ensures kept { OnOk result (BeginsWith (objects_of types.new) (objects_of types.old)) }
+    ensures { Makes types.old types.new result fixed.job_type }
 {
     object_of(types, JOB, Some(Ty::ANY))
 }
 
 /// The type of `strategy` in a job.
 pub fn strategy_type(types: &mut Types<'_>) -> Result<Ty, AllocError>
-    ensures ty { IfOk result (λ t. Means types.new t fixed.strategy_type) }
-    ensures kept { OnOk result (BeginsWith (objects_of types.new) (objects_of types.old)) }
+    ensures { Makes types.old types.new result fixed.strategy_type }
 {
     object_of(types, STRATEGY, None)
 }

@@ -1,10 +1,7 @@
 //! The types of `inputs`.
-ghost use Rattle.std.specs.Prelude.{IfOk, OnOk};
-ghost use Rattle.al_base.specs.Growth.{BeginsWith};
 ghost use Rattle.al_check_objects.specs.Inputs as inputs;
 ghost use Rattle.al_check_objects.specs.Objects.{strictly};
-ghost use Rattle.al_check_objects.specs.Numbers.{Means};
-ghost use Rattle.al_expr_types.specs.Tables.{objects_of};
+ghost use Rattle.al_check_objects.specs.Numbers.{Makes};
 ghost use Rattle.al_expr_types.specs.declared.types.Types as declared;
 ghost use Rattle.al_tree.specs.declared.files.FileKind.TheVariants as kind;
 ghost use Rattle.al_types.specs.Puts.{firsts};
@@ -16,14 +13,12 @@ use crate::scalars::type_of_input;
 use al_expr_types::{Ty, Types};
 use al_tree::{FileKind, declared_at, input_of, key_text, value, value_below_three};
 use al_yaml_tree::Node;
-use std::alloc::{AllocError, Global};
+use std::alloc::AllocError;
 
 /// The object of the inputs that an event of a workflow declares. Fails with `AllocError` when out of memory, as everything here does.
 fn event_inputs<'a>(types: &mut Types<'a>, root: &'a Node, event: &str) -> Result<Ty, AllocError>
-    ensures ty { IfOk result
-        (λ t. Means types.new t
-        (strictly (firsts (inputs.event_inputs event.now (view root.entry.now))))) }
-    ensures kept { OnOk result (BeginsWith (objects_of types.new) (objects_of types.old)) }
+    ensures { Makes types.old types.new result
+        (strictly (firsts (inputs.event_inputs event.now (view root.entry.now)))) }
 {
     let declared = declared_at(
         types.alloc(),
@@ -44,8 +39,7 @@ pub fn inputs_type<'a>(
     kind: FileKind,
     root: &'a Node,
 ) -> Result<Ty, AllocError>
-    ensures ty { IfOk result (λ t. Means types.new t (inputs.inputs_type kind (view root.entry.now))) }
-    ensures kept { OnOk result (BeginsWith (objects_of types.new) (objects_of types.old)) }
+    ensures { Makes types.old types.new result (inputs.inputs_type kind (view root.entry.now)) }
 {
     match kind {
         FileKind::Workflow => {

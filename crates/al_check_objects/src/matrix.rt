@@ -4,7 +4,7 @@ ghost use Rattle.al_base.specs.Growth.{BeginsWith};
 ghost use Rattle.al_check_objects.specs.Matrix as matrix;
 ghost use Rattle.al_check_objects.specs.Matrix.{fields_of, include_all, items_type, rows_of};
 ghost use Rattle.al_check_objects.specs.Objects.{strictly};
-ghost use Rattle.al_check_objects.specs.Numbers.{Means};
+ghost use Rattle.al_check_objects.specs.Numbers.{Makes, Means};
 ghost use Rattle.al_expr_types.specs.Tables.{is_known, objects_of};
 ghost use Rattle.al_expr_types.specs.declared.types.Types as declared;
 ghost use Rattle.al_types.specs.Puts.{TypedName, firsts};
@@ -42,8 +42,7 @@ fn scalar_type(alloc: Global, scalar: &Scalar) -> Result<Ty, AllocError>
 /// The type of a value.
 #[cycle(values)]
 fn node_type<'a>(types: &mut Types<'a>, node: &'a Node) -> Result<Ty, AllocError>
-    ensures ty { IfOk result (λ t. Means types.new t (matrix.node_type (view node.entry.now))) }
-    ensures kept { OnOk result (BeginsWith (objects_of types.new) (objects_of types.old)) }
+    ensures { Makes types.old types.new result (matrix.node_type (view node.entry.now)) }
 {
     match &node.kind {
         Kind::Scalar(scalar) => scalar_type(types.alloc(), scalar),
@@ -59,10 +58,8 @@ fn node_type<'a>(types: &mut Types<'a>, node: &'a Node) -> Result<Ty, AllocError
 /// What the types of some values have in common; any type if there are no values.
 #[cycle(values)]
 fn items_type<'a>(types: &mut Types<'a>, nodes: &'a [Node]) -> Result<Ty, AllocError>
-    ensures ty { IfOk result
-        (λ t. Means types.new t
-        (or_any (option_of (items_type Absent (nodes_of (map view nodes.entry.now)))))) }
-    ensures kept { OnOk result (BeginsWith (objects_of types.new) (objects_of types.old)) }
+    ensures { Makes types.old types.new result
+        (or_any (option_of (items_type Absent (nodes_of (map view nodes.entry.now))))) }
 {
     let mut all = Join::Nothing;
     for node in nodes {
@@ -75,10 +72,8 @@ fn items_type<'a>(types: &mut Types<'a>, nodes: &'a [Node]) -> Result<Ty, AllocE
 /// The type of a mapping with these entries; of equal names the first counts.
 #[cycle(values)]
 fn entries_type<'a>(types: &mut Types<'a>, entries: &'a [Entry]) -> Result<Ty, AllocError>
-    ensures ty { IfOk result
-        (λ t. Means types.new t
-        (strictly (firsts (fields_of (entries_of (map entry_view entries.entry.now)))))) }
-    ensures kept { OnOk result (BeginsWith (objects_of types.new) (objects_of types.old)) }
+    ensures { Makes types.old types.new result
+        (strictly (firsts (fields_of (entries_of (map entry_view entries.entry.now))))) }
 {
     let mut fields = FieldList::new(types.alloc());
     for entry in entries {
@@ -90,8 +85,7 @@ fn entries_type<'a>(types: &mut Types<'a>, entries: &'a [Entry]) -> Result<Ty, A
 
 /// The object of a matrix's rows.
 fn rows_type<'a>(types: &mut Types<'a>, node: &'a Node) -> Result<Ty, AllocError>
-    ensures ty { IfOk result (λ t. Means types.new t (strictly (rows_of (view node.entry.now)))) }
-    ensures kept { OnOk result (BeginsWith (objects_of types.new) (objects_of types.old)) }
+    ensures { Makes types.old types.new result (strictly (rows_of (view node.entry.now))) }
 {
     let mut rows = FieldList::new(types.alloc());
     let entries = members(types.alloc(), node)?;
@@ -143,8 +137,7 @@ fn is_open_include(combinations: &Node) -> bool
 
 /// The type of `matrix` in a job; without a matrix an object without fields.
 pub fn matrix_type<'a>(types: &mut Types<'a>, job: &'a Node) -> Result<Ty, AllocError>
-    ensures ty { IfOk result (λ t. Means types.new t (matrix.matrix_type (view job.entry.now))) }
-    ensures kept { OnOk result (BeginsWith (objects_of types.new) (objects_of types.old)) }
+    ensures { Makes types.old types.new result (matrix.matrix_type (view job.entry.now)) }
 {
     let Some(node) = value_below_two(job, "strategy", "matrix") else {
         return object_of(types, &[], None);

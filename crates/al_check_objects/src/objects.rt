@@ -1,9 +1,8 @@
 //! Objects with given fields.
 
 ghost use Rattle.std.specs.List.{list_all};
-ghost use Rattle.std.specs.Prelude.{◌≡◌, IfOk, OnOk, length, map, true};
-ghost use Rattle.al_base.specs.Growth.{BeginsWith};
-ghost use Rattle.al_check_objects.specs.Numbers.{Means};
+ghost use Rattle.std.specs.Prelude.{◌≡◌, length, map, true};
+ghost use Rattle.al_check_objects.specs.Numbers.{Makes};
 ghost use Rattle.al_expr_types.specs.Once.{are_once};
 ghost use Rattle.al_expr_types.specs.Tables.{objects_of, type_at};
 ghost use Rattle.al_expr_types.specs.Types.{is_below, is_rest_below, rest_in};
@@ -15,7 +14,7 @@ ghost use Rattle.al_types.specs.Types.{object_with};
 use crate::field_lists::FieldList;
 use al_expr_types::{FieldMap, Ty, Types};
 use al_tree::{Member, key_text};
-use std::alloc::{AllocError, Global};
+use std::alloc::AllocError;
 
 /// The object with these fields, which must have different names, and with others of the type `rest`, if given. Fails with `AllocError`
 /// when out of memory, as everything here does.
@@ -27,10 +26,8 @@ pub fn object_of<'a>(
     requires once { are_once (map (λ f. f.0.now) fields.now) ≡ true }
     requires known { list_all (is_below (length types.old.objects.items)) (map (λ f. f.1) fields.now) ≡ true }
     requires rest { is_rest_below (length types.old.objects.items) rest ≡ true }
-    ensures ty { IfOk result (λ t. Means types.new t
-        (object_with (map (λ f. (f.0.now, type_at types.old f.1)) fields.now)
-        (rest_in (objects_of types.old) rest))) }
-    ensures kept { OnOk result (BeginsWith (objects_of types.new) (objects_of types.old)) }
+    ensures { Makes types.old types.new result
+        (object_with (map (λ f. (f.0.now, type_at types.old f.1)) fields.now) (rest_in (objects_of types.old) rest)) }
 {
     let map = FieldMap::of(types.alloc(), fields)?;
     FieldList { map }.into_type(types, rest)
@@ -38,9 +35,8 @@ pub fn object_of<'a>(
 
 /// The object with a string field for the key of each entry, and no other fields.
 pub fn declared_strings<'a>(types: &mut Types<'a>, entries: &[Member<'a>]) -> Result<Ty, AllocError>
-    ensures ty { IfOk result
-        (λ t. Means types.new t (named_strings (keys_in (map member_of entries.now)))) }
-    ensures kept { OnOk result (BeginsWith (objects_of types.new) (objects_of types.old)) }
+    ensures { Makes types.old types.new result
+        (named_strings (keys_in (map member_of entries.now))) }
 {
     let mut fields = FieldList::new(types.alloc());
     for entry in entries {

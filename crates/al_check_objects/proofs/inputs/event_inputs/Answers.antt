@@ -23,10 +23,12 @@ loop-input-preserved c = λ types.
 pub into_type-requires-clause-fields : goal.into_type-requires-clause-fields
 into_type-requires-clause-fields c = (c.loop-input.invariant c.args.types.now).known
 
-pub returns-clause-ty : goal.returns-clause-ty
-returns-clause-ty c =
+pub returns : goal.returns
+returns c =
     let all = take_all c.loop-input.input-index c.as_slice-input-items.result.now (omega (arith, c.loop-input-test.false)) in
-    IfOk-weaker c.into_type.result _ _
-    (λ ty means.
-    rw (all, c.as_slice-input-items.ensures.value, c.in_ok-declared.ensures, c.value_below_three.ensures) at (means _ (c.loop-input.invariant c.args.types.now)))
-    c.into_type.ensures.ty
+    record {
+      ty = IfOk-weaker c.into_type.result _ _
+          (λ ty means. rw (all, c.as_slice-input-items.ensures.value, c.in_ok-declared.ensures, c.value_below_three.ensures)
+          at (means _ (c.loop-input.invariant c.args.types.now))) c.into_type.ensures.ty;
+      kept = c.into_type.ensures.kept;
+    }

@@ -9,12 +9,12 @@ use Rattle.al_yaml_tree.specs.View.{entries_of, entry_view, nodes_of, view}
 use Rattle.al_yaml_tree.proofs.ViewLemmas.{entry_parts}
 use Rattle.al_expr_types.specs.Joining.{join_in}
 use Rattle.al_expr_types.specs.Tables.{objects_of}
-use Rattle.al_expr_types.proofs.Returned.{both_ok}
+use Rattle.al_expr_types.proofs.Returned.{begins_ok, both_ok}
 use Rattle.al_expr_types.proofs.Keeping.{joined_longer, joined_wider, longer}
 use Rattle.al_check_objects.specs.Matrix.{fields_of, items_type, node_type}
 use Rattle.al_check_objects.specs.Objects.{strictly}
 use Rattle.al_expr_types.specs.FieldMaps.{fields_in}
-use Rattle.al_check_objects.proofs.Numbers.{lists_stay, means_as}
+use Rattle.al_check_objects.proofs.Numbers.{always, lists_stay, means_as}
 use Rattle.al_check_objects.proofs.Values.{entries_next, items_next}
 use Rattle.al_check_objects.proofs.matrix.+values.Goals as goal
 
@@ -53,20 +53,26 @@ entries_type-loop-entry-preserved t c =
       kept = begins_trans (objects_of c.args.types.now) (objects_of before) (objects_of now) was.kept made.kept;
     }
 
-pub items_type-returns-clause-ty : goal.items_type-returns-clause-ty
-items_type-returns-clause-ty t c =
+pub items_type-returns : goal.items_type-returns
+items_type-returns t c =
     let sofar = join_in (objects_of c.loop-node.types) c.loop-node.all in
     let none = drop_all c.loop-node.node-index c.args.nodes.now (omega (arith, c.loop-node-test.false)) in
     let all = sym (ap (λ ns. items_type sofar (nodes_of (map view ns))) none) ∙ c.loop-node.invariant.all in
-    both_ok c.type_or_any.result c.type_or_any.ensures.ty c.type_or_any.ensures.known
-    (λ ty is known. record { known = known; is = is ∙ ap (λ o. or_any (option_of o)) all })
+    record {
+      ty = both_ok c.type_or_any.result c.type_or_any.ensures.ty c.type_or_any.ensures.known
+          (λ ty is known. record { known = known; is = is ∙ ap (λ o. or_any (option_of o)) all });
+      kept = always c.type_or_any.result (begins_trans _ _ _ c.loop-node.invariant.kept c.type_or_any.ensures.kept);
+    }
 
-pub entries_type-returns-clause-ty : goal.entries_type-returns-clause-ty
-entries_type-returns-clause-ty t c =
+pub entries_type-returns : goal.entries_type-returns
+entries_type-returns t c =
     let types = c.loop-entry.types in
     let was = c.loop-entry.invariant in
     let fields = fields_in (objects_of types) c.loop-entry.fields.map in
     let none = drop_all c.loop-entry.entry-index c.args.entries.now (omega (arith, c.loop-entry-test.false)) in
     let all = ap strictly (sym (ap (λ ys. put_all put_new fields (fields_of (entries_of (map entry_view ys)))) none) ∙ was.all) in
-    IfOk-weaker c.into_type.result _ _
-    (λ ty means. means_as c.into_type.new.types ty _ _ all (means fields (record { known = was.known; are = refl }))) c.into_type.ensures.ty
+    record {
+      ty = IfOk-weaker c.into_type.result _ _
+          (λ ty means. means_as c.into_type.new.types ty _ _ all (means fields (record { known = was.known; are = refl }))) c.into_type.ensures.ty;
+      kept = begins_ok c.into_type.result _ _ _ was.kept c.into_type.ensures.kept;
+    }

@@ -5,6 +5,7 @@ use Rattle.al_base.proofs.Growing.{begins_trans}
 use Rattle.al_tree.specs.Names.{is_combination_key}
 use Rattle.al_tree.specs.Values.{member_of}
 use Rattle.al_expr_types.specs.Tables.{objects_of}
+use Rattle.al_expr_types.proofs.Returned.{begins_ok}
 use Rattle.al_check_objects.specs.Matrix.{row_field}
 use Rattle.al_check_objects.proofs.FieldLists.{put_if_next}
 use Rattle.al_check_objects.proofs.Numbers.{lists_stay}
@@ -36,9 +37,13 @@ loop-entry-preserved c =
       kept = begins_trans (objects_of c.args.types.now) (objects_of before) (objects_of now) was.kept made.kept;
     }
 
-pub returns-clause-ty : goal.returns-clause-ty
-returns-clause-ty c =
+pub returns : goal.returns
+returns c =
     let items = c.as_slice-entry-items.result.now in
     let all = take_all c.loop-entry.entry-index items (omega (arith, c.loop-entry-test.false)) in
-    IfOk-weaker c.into_type.result _ _
-    (λ ty means. rw (all, c.as_slice-entry-items.ensures.value, c.in_ok-entries.ensures) at (means _ c.loop-entry.invariant.rows)) c.into_type.ensures.ty
+    record {
+      ty = IfOk-weaker c.into_type.result _ _
+          (λ ty means. rw (all, c.as_slice-entry-items.ensures.value, c.in_ok-entries.ensures) at (means _ c.loop-entry.invariant.rows))
+          c.into_type.ensures.ty;
+      kept = begins_ok c.into_type.result _ _ _ c.loop-entry.invariant.kept c.into_type.ensures.kept;
+    }

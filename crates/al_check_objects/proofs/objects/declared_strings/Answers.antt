@@ -17,9 +17,12 @@ loop-entry-preserved c = λ types.
 pub into_type-requires-clause-fields : goal.into_type-requires-clause-fields
 into_type-requires-clause-fields c = (c.loop-entry.invariant c.args.types.now).known
 
-pub returns-clause-ty : goal.returns-clause-ty
-returns-clause-ty c =
+pub returns : goal.returns
+returns c =
     let entries = c.args.entries.now in
     let all = take_all c.loop-entry.entry-index entries (omega (arith, c.loop-entry-test.false)) in
-    IfOk-weaker c.into_type.result _ _
-    (λ ty means. rw (all, strings_once _, ← map-map key_of member_of entries) at (means _ (c.loop-entry.invariant c.args.types.now))) c.into_type.ensures.ty
+    record {
+      ty = IfOk-weaker c.into_type.result _ _
+          (λ ty means. rw (all, strings_once _, ← map-map key_of member_of entries) at (means _ (c.loop-entry.invariant c.args.types.now))) c.into_type.ensures.ty;
+      kept = c.into_type.ensures.kept;
+    }

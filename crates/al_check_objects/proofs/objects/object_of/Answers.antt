@@ -10,13 +10,16 @@ use Rattle.al_check_objects.proofs.objects.object_of.Goals as goal
 pub into_type-requires-clause-fields : goal.into_type-requires-clause-fields
 into_type-requires-clause-fields c = ap (list_all (is_below (length c.args.types.now.objects.items))) c.in_ok-map.ensures.types ∙ c.requires.known
 
-pub returns-clause-ty : goal.returns-clause-ty
-returns-clause-ty c =
+pub returns : goal.returns
+returns c =
     let types = c.args.types.now in
-    IfOk-weaker c.into_type.result _ _
-    (λ t means. means _ (record {
-      known = ap (list_all (is_below (length types.objects.items))) c.in_ok-map.ensures.types ∙ c.requires.known;
-      are = (λ d. zip (c.in_ok-map.ensures.names d) (map (type_in (objects_of types)) (c.in_ok-map.ensures.types d)))
-          ∙ zip_maps (λ f. f.0.now) (λ f. f.1) (type_in (objects_of types)) c.args.fields.now;
-    }))
-    c.into_type.ensures.ty
+    record {
+      ty = IfOk-weaker c.into_type.result _ _
+          (λ t means. means _ (record {
+            known = ap (list_all (is_below (length types.objects.items))) c.in_ok-map.ensures.types ∙ c.requires.known;
+            are = (λ d. zip (c.in_ok-map.ensures.names d) (map (type_in (objects_of types)) (c.in_ok-map.ensures.types d)))
+                ∙ zip_maps (λ f. f.0.now) (λ f. f.1) (type_in (objects_of types)) c.args.fields.now;
+          }))
+          c.into_type.ensures.ty;
+      kept = c.into_type.ensures.kept;
+    }
