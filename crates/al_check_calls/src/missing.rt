@@ -61,7 +61,7 @@ fn check_parameters<'a>(
     let given = given_by(alloc, call.kind, call.call.site.node)?;
     let names = member_positions(alloc, given.as_slice())?;
     for parameter in parameters {
-        if names.get(alloc, parameter.name.as_bytes())?.is_some() {
+        if names.get(parameter.name.as_bytes())?.is_some() {
             left.push(*parameter)?;
             continue;
         }
@@ -100,7 +100,7 @@ fn check_next<'a>(
         }
     }
     let wanted = call.signature.parameters(call.kind);
-    let all = wanted.mandatory(faults.alloc())?;
+    let all = wanted.mandatory()?;
     let found = check_parameters(call, all.as_slice(), faults)?;
     Ok(found)
 }

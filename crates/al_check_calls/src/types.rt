@@ -20,25 +20,20 @@ use al_expr_types::{Base, Ty, Types};
 use al_expr_typing::{Scope, type_of};
 use al_scalar::Scalar;
 use al_tree::contains_chunk;
-use std::alloc::{AllocError, Global};
+use std::alloc::AllocError;
 
 /// The type of an expression: any type if the expression has a fault, which is reported at the expression.
 #[tactic(auto, using(al_base::proofs::Growing::growth))]
-fn content_type(
-    alloc: Global,
-    types: &mut Types<'_>,
-    scope: &Scope,
-    content: &str,
-) -> Result<Ty, AllocError>
+fn content_type(types: &mut Types<'_>, scope: &Scope, content: &str) -> Result<Ty, AllocError>
     requires { IsShown types.old scope.now }
     ensures ty { IfOk result (λ t. type_at types.new t
         ≡ meant.content_type (scope_view types.old scope.now) content.now) }
     ensures known { IfOk result (λ t. is_known types.new t ≡ true) }
     ensures kept { BeginsWith (objects_of types.new) (objects_of types.old) }
 {
-    match parse_expr(alloc, content)? {
+    match parse_expr(types.alloc(), content)? {
         Ok(expr) => {
-            let mut faults = FaultSink::new(alloc);
+            let mut faults = FaultSink::new(types.alloc());
             let ty = type_of(types, scope, &expr, &mut faults)?;
             Ok(ty)
         }
@@ -75,7 +70,6 @@ fn content_of<'a>(scalar: &Scalar, chunks: &[Chunk<'a>]) -> Option<&'a str>
 /// The type of a scalar that is given to an input.
 #[tactic(auto, using(al_base::proofs::Growing::growth))]
 pub(crate) fn scalar_type(
-    alloc: Global,
     types: &mut Types<'_>,
     scope: &Scope,
     scalar: &Scalar,
@@ -88,11 +82,11 @@ pub(crate) fn scalar_type(
     ensures known { IfOk result (λ t. is_known types.new t ≡ true) }
     ensures kept { BeginsWith (objects_of types.new) (objects_of types.old) }
 {
-    let (found, _) = chunks(alloc, scalar.as_str())?;
+    let (found, _) = chunks(types.alloc(), scalar.as_str())?;
     match content_of(scalar, found.as_slice()) {
         None => Ok(text_type(scalar)),
         Some(content) => {
-            let ty = content_type(alloc, types, scope, content)?;
+            let ty = content_type(types, scope, content)?;
             Ok(ty)
         }
     }

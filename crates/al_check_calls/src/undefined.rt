@@ -36,11 +36,11 @@ fn is_free_for(kind: ParameterKind, caller: Caller, name: &[u8]) -> bool
 }
 
 /// Whether a call can give a name.
-fn is_taken(alloc: Global, by: Comparison<'_>, name: &[u8]) -> Result<bool, AllocError>
+fn is_taken(by: Comparison<'_>, name: &[u8]) -> Result<bool, AllocError>
     ensures { let q = compared_of by.entry in IfOk result (λ b. b
         ≡ meant.is_taken q.kind q.call q.signature name.now) }
 {
-    if by.signature.parameters(by.kind).has(alloc, name)? {
+    if by.signature.parameters(by.kind).has(name)? {
         return Ok(true);
     }
     Ok(is_free_for(by.kind, caller_of(by.call.site), name))
@@ -60,7 +60,7 @@ fn check_name(name: GivenName<'_>, faults: &mut FaultSink) -> Result<(), AllocEr
     ensures { OnOk result (faults.new ≡ faults.old ++ comparing.undefined_at (name_of name.entry)) }
 {
     let text = key_text(name.member.key);
-    if is_taken(faults.alloc(), name.by, text)? {
+    if is_taken(name.by, text)? {
         return Ok(());
     }
     let code = code_at(name.by.call, undefined_code(name.by.kind));

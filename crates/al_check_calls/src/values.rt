@@ -67,7 +67,7 @@ fn value_type<'a>(env: &mut Env<'a>, given: JobInput<'a>) -> Result<Ty, AllocErr
         Some(scalar) => {
             let place = place_of_value(given.job, given.member.key, scalar);
             env.go_to(place)?;
-            let ty = scalar_type(env.alloc(), &mut env.types, &env.scope, scalar)?;
+            let ty = scalar_type(&mut env.types, &env.scope, scalar)?;
             Ok(ty)
         }
     }

@@ -55,7 +55,7 @@ fn check_value(
     ensures { OnOk result ((ms : List Parts) → faults.new ≡ faults.old
         ++ meant.wrong_input (call_of call.entry) inputs.now (given_in ms value.now)) }
 {
-    let Some(input) = inputs.find(faults.alloc(), key_text(value.member.key))? else {
+    let Some(input) = inputs.find(key_text(value.member.key))? else {
         return Ok(());
     };
     if is_right(value.ty, input.takes) {

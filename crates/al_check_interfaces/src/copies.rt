@@ -26,7 +26,7 @@ fn copy_of_parameters(alloc: Global, parameters: &Parameters) -> Result<Paramete
     for parameter in parameters.as_slice() {
         copies.push(copy_of_parameter(alloc, parameter)?)?;
     }
-    Parameters::new(alloc, copies)
+    Parameters::new(copies)
 }
 
 fn copy_of_signature(alloc: Global, signature: &Signature) -> Result<Signature, AllocError>

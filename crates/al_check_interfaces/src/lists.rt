@@ -60,9 +60,10 @@ fn mandatory_in(alloc: Global, parameters: &[Parameter]) -> Result<Vec<Parameter
 
 impl Parameters {
     /// The list of these parameters. Fails with `AllocError` when out of memory.
-    pub(crate) fn new(alloc: Global, parameters: Vec<Parameter>) -> Result<Parameters, AllocError>
+    pub(crate) fn new(parameters: Vec<Parameter>) -> Result<Parameters, AllocError>
         ensures { IfOk result (λ l. l ≡ parameters.items) }
     {
+        let alloc = *parameters.allocator();
         let positions = positions_of(alloc, parameters.as_slice())?;
         let mandatory = mandatory_in(alloc, parameters.as_slice())?;
         Ok(Parameters {
@@ -80,10 +81,10 @@ impl Parameters {
     }
 
     /// The mandatory ones. Fails with `AllocError` when out of memory.
-    pub fn mandatory(&self, alloc: Global) -> Result<Vec<&Parameter>, AllocError>
+    pub fn mandatory(&self) -> Result<Vec<&Parameter>, AllocError>
         ensures { IfOk result (λ v. map (λ p. p.now) v.items ≡ mandatory_of self.now) }
     {
-        let mut found = Vec::with_capacity(alloc, self.mandatory.len())?;
+        let mut found = Vec::with_capacity(*self.mandatory.allocator(), self.mandatory.len())?;
         for parameter in &self.mandatory {
             found.push(parameter)?;
         }
@@ -91,21 +92,20 @@ impl Parameters {
     }
 
     /// The first parameter with a name, ignoring ASCII case. Fails with `AllocError` when out of memory.
-    pub fn find(&self, alloc: Global, name: &[u8]) -> Result<Option<&Parameter>, AllocError>
+    pub fn find(&self, name: &[u8]) -> Result<Option<&Parameter>, AllocError>
         ensures { IfOk result (λ p. option_copied p ≡ find (is_parameter name.now) self.now) }
     {
-        match self.positions.get(alloc, name)? {
+        match self.positions.get(name)? {
             Some(i) => Ok(Some(&self.parameters[i])),
             None => Ok(None),
         }
     }
 
     /// Whether a parameter has a name, ignoring ASCII case. Fails with `AllocError` when out of memory.
-    pub fn has(&self, alloc: Global, name: &[u8]) -> Result<bool, AllocError>
+    pub fn has(&self, name: &[u8]) -> Result<bool, AllocError>
         ensures { IfOk result (λ b. b ≡ has_parameter self.now name.now) }
     {
-        let position = self.positions.get(alloc, name)?;
-        Ok(position.is_some())
+        Ok(self.positions.get(name)?.is_some())
     }
 }
 

@@ -86,7 +86,7 @@ fn parameters(alloc: Global, by: Declaring, node: Option<&Node>) -> Result<Param
     for member in &declared {
         found.push(parameter(alloc, by, *member)?)?;
     }
-    Parameters::new(alloc, found)
+    Parameters::new(found)
 }
 
 /// The names that a node declares, if there is one.
@@ -99,7 +99,7 @@ fn declared_names(alloc: Global, node: Option<&Node>) -> Result<NameList, AllocE
     for member in &declared {
         names.push(Name::new(alloc, key_text(member.key))?)?;
     }
-    NameList::new(alloc, names)
+    NameList::new(names)
 }
 
 /// The `name` of a file.
@@ -184,7 +184,7 @@ fn action_signature(alloc: Global, root: &Node) -> Result<Signature, AllocError>
         name,
         role,
         inputs,
-        secrets: Parameters::new(alloc, Vec::new(alloc))?,
+        secrets: Parameters::new(Vec::new(alloc))?,
         outputs,
     })
 }

@@ -89,7 +89,7 @@ pub fn gather<R: Files + AllocGlobal + Clone + Drop>(
 {
     let mut disk = SystemFolder::new(rt, words.root);
     let gathering = gather_from(alloc, &mut disk, words)?;
-    Ok(gathering.files.into_list(alloc)?)
+    Ok(gathering.files.into_list()?)
 }
 
 /// The same files, read and not checked yet, and the paths that were passed over.
@@ -169,7 +169,7 @@ impl Candidates {
     }
 
     // Adds a path to those that wait, unless its file was taken or it was tried.
-    fn add(&mut self, alloc: Global, files: &TakenFiles, path: &Path) -> Result<(), Unread>
+    fn add(&mut self, files: &TakenFiles, path: &Path) -> Result<(), Unread>
         requires waiting { AreAmong (called_by files.now) self.old.waiting.keys }
         requires called { is_among path.now (called_by files.now) ≡ true }
         ensures { OnOk result (AreAmong (called_by files.now) self.new.waiting.keys) }
@@ -178,23 +178,23 @@ impl Candidates {
         if files.has(text) || self.waiting.contains(text) || self.absent.contains(text) {
             return Ok(());
         }
-        self.waiting.insert(String::from_str(alloc, text)?)?;
+        self.waiting.insert(String::from_str(files.alloc(), text)?)?;
         Ok(())
     }
 
     // Lets the candidates wait that the file of this number calls.
-    fn add_calls(&mut self, alloc: Global, files: &TakenFiles, number: usize) -> Result<(), Unread>
+    fn add_calls(&mut self, files: &TakenFiles, number: usize) -> Result<(), Unread>
         requires { AreAmong (called_by files.now) self.old.waiting.keys }
         ensures { OnOk result (AreAmong (called_by files.now) self.new.waiting.keys) }
     {
         for call in files.calls(number) {
-            self.add_call(alloc, files, call)?;
+            self.add_call(files, call)?;
         }
         Ok(())
     }
 
     // Adds the candidates of a call.
-    fn add_call(&mut self, alloc: Global, files: &TakenFiles, call: &Target) -> Result<(), Unread>
+    fn add_call(&mut self, files: &TakenFiles, call: &Target) -> Result<(), Unread>
         requires waiting { AreAmong (called_by files.now) self.old.waiting.keys }
         requires called { AllByRecursion (λ path. is_among path (called_by files.now) ≡ true)
             (candidates call.now) }
@@ -202,12 +202,12 @@ impl Candidates {
     {
         match call {
             Target::Only(path) => {
-                self.add(alloc, files, path)?;
+                self.add(files, path)?;
                 Ok(())
             }
             Target::FirstOf(first, second) => {
-                self.add(alloc, files, first)?;
-                self.add(alloc, files, second)?;
+                self.add(files, first)?;
+                self.add(files, second)?;
                 Ok(())
             }
         }
@@ -226,7 +226,6 @@ enum Found {
 // The files that were taken, and what is known of those that they call.
 #[derive(Drop)]
 struct Gathering {
-    alloc: Global,
     files: TakenFiles,
     candidates: Candidates,
     // the paths that lead out of the folder, in printable form
@@ -239,7 +238,6 @@ impl Gathering {
         ensures waiting { result.candidates.waiting.keys ≡ [] }
     {
         Gathering {
-            alloc,
             files: TakenFiles::new(alloc),
             candidates: Candidates::new(alloc),
             outside: Vec::new(alloc),
@@ -254,16 +252,20 @@ impl Gathering {
         ensures waiting { OnOk result
             ((self.new).candidates.waiting.keys ≡ (self.old).candidates.waiting.keys) }
     {
-        let listed = match disk.workflows(self.alloc) {
+        let listed = match disk.workflows(self.files.alloc()) {
             Ok(listed) => listed,
-            Err(error) => return Err(disk_failure(self.alloc, WORKFLOWS, error)),
+            Err(error) => return Err(disk_failure(self.files.alloc(), WORKFLOWS, error)),
         };
         for path in &listed {
             let path = path.as_str();
             match self.take(disk, path)? {
                 Found::File => {}
                 Found::Outside => self.pass_over(path)?,
-                Found::Absent => return Err(disk_failure(self.alloc, path, DiskError::Unreadable)),
+                Found::Absent => return Err(disk_failure(
+                    self.files.alloc(),
+                    path,
+                    DiskError::Unreadable,
+                )),
             }
         }
         Ok(())
@@ -281,7 +283,7 @@ impl Gathering {
             let path = without_dot(file);
             match self.take(disk, path)? {
                 Found::File => {}
-                _ => return Err(disk_failure(self.alloc, path, DiskError::Unreadable)),
+                _ => return Err(disk_failure(self.files.alloc(), path, DiskError::Unreadable)),
             }
         }
         Ok(())
@@ -294,7 +296,7 @@ impl Gathering {
             (self.new).candidates.waiting.keys) }
     {
         for number in 0..self.files.len() {
-            self.candidates.add_calls(self.alloc, &self.files, number)?;
+            self.candidates.add_calls(&self.files, number)?;
         }
         for _ in 0..u64::MAX {
             match self.candidates.waiting.pop_first() {
@@ -318,7 +320,7 @@ impl Gathering {
         let number = self.files.len();
         match self.take(disk, path.as_str())? {
             Found::File => {
-                self.candidates.add_calls(self.alloc, &self.files, number)?;
+                self.candidates.add_calls(&self.files, number)?;
                 Ok(())
             }
             Found::Outside => {
@@ -338,10 +340,10 @@ impl Gathering {
         ensures waiting { (self.new).candidates.waiting.keys
             ≡ (self.old).candidates.waiting.keys }
     {
-        self.outside.push(printable(self.alloc, path)?)?;
+        self.outside.push(printable(self.files.alloc(), path)?)?;
         self.candidates
             .absent
-            .insert(String::from_str(self.alloc, path)?)?;
+            .insert(String::from_str(self.files.alloc(), path)?)?;
         Ok(())
     }
 
@@ -353,22 +355,22 @@ impl Gathering {
             ≡ (self.old).candidates.waiting.keys }
     {
         if path_fault(path).is_some() {
-            return Err(refusal(self.alloc, path, Refused::BadPath));
+            return Err(refusal(self.files.alloc(), path, Refused::BadPath));
         }
         if !self.files.accepts(path) {
-            return Err(refusal(self.alloc, path, Refused::NotAccepted));
+            return Err(refusal(self.files.alloc(), path, Refused::NotAccepted));
         }
         if self.files.has(path) {
             return Ok(Found::File);
         }
-        match disk.read(self.alloc, path) {
-            Ok(Entry::File(bytes)) => match self.files.put(self.alloc, path, bytes) {
+        match disk.read(self.files.alloc(), path) {
+            Ok(Entry::File(bytes)) => match self.files.put(path, bytes) {
                 Ok(()) => Ok(Found::File),
-                Err(reason) => Err(refusal(self.alloc, path, reason)),
+                Err(reason) => Err(refusal(self.files.alloc(), path, reason)),
             },
             Ok(Entry::Absent) => Ok(Found::Absent),
             Ok(Entry::Outside) => Ok(Found::Outside),
-            Err(error) => Err(disk_failure(self.alloc, path, error)),
+            Err(error) => Err(disk_failure(self.files.alloc(), path, error)),
         }
     }
 }

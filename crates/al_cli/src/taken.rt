@@ -45,6 +45,11 @@ impl TakenFiles {
         }
     }
 
+    /// Their allocator.
+    pub(crate) fn alloc(&self) -> Global {
+        *self.order.allocator()
+    }
+
     /// How many files there are.
     pub(crate) fn len(&self) -> usize {
         self.order.len()
@@ -79,12 +84,12 @@ impl TakenFiles {
     /// # Errors
     ///
     /// Those of [`SessionBuilder::put`](al_session::SessionBuilder::put). The files are then unchanged.
-    pub(crate) fn put(&mut self, alloc: Global, path: &str, bytes: Vec<u8>) -> Result<(), Refused>
+    pub(crate) fn put(&mut self, path: &str, bytes: Vec<u8>) -> Result<(), Refused>
         requires { bytes_at (folder_with [] self.old) path.now ≡ None }
         ensures put { OnOk result (self.new ≡ self.old ++ (path.now, bytes.items) ∷ []) }
         ensures as_before { OnErr result (self.new ≡ self.old) }
     {
-        let owned = owned_path(alloc, path)?;
+        let owned = owned_path(self.alloc(), path)?;
         put_after(&mut self.files, &mut self.order, owned, bytes)
     }
 
@@ -102,12 +107,12 @@ impl TakenFiles {
     /// # Errors
     ///
     /// [`AllocError`] if memory runs out.
-    pub(crate) fn into_list(self, alloc: Global) -> Result<Vec<(Path, Vec<u8>)>, AllocError>
+    pub(crate) fn into_list(self) -> Result<Vec<(Path, Vec<u8>)>, AllocError>
         ensures gathered { AreGathered self }
         ensures list { IfOk result (λ files. map owned_entry files.items ≡ self) }
     {
         let TakenFiles { files, order } = self;
-        let list = with_bytes(alloc, &files, order)?;
+        let list = with_bytes(&files, order)?;
         Ok(list)
     }
 }
@@ -149,14 +154,11 @@ fn put_after(
 }
 
 // The files at these paths, with their bytes.
-fn with_bytes(
-    alloc: Global,
-    files: &Loaded,
-    paths: Vec<Path>,
-) -> Result<Vec<(Path, Vec<u8>)>, AllocError>
+fn with_bytes(files: &Loaded, paths: Vec<Path>) -> Result<Vec<(Path, Vec<u8>)>, AllocError>
     ensures { IfOk result
         (λ list. map owned_entry list.items ≡ entries_in files.now.folder paths.items) }
 {
+    let alloc = *paths.allocator();
     let mut list = Vec::with_capacity(alloc, paths.len())?;
     for path in paths {
         let bytes = Vec::from_slice(alloc, files.bytes(path.as_str()).unwrap_or(&[]))?;

@@ -13,17 +13,13 @@ ghost use Rattle.al_expr.specs.Trees.{field_of, rest_of, ty_of};
 use crate::scope::{ContextTypes, Scope};
 use crate::trees::{Field, Ty};
 use al_expr_types::{FieldMap, Scalar, Types};
-use std::alloc::{AllocError, Global};
+use std::alloc::AllocError;
 
 /// Adds the objects of a tree to a table, and returns the type that the tree stands for. Fails with `AllocError` when out of memory, as
 /// everything here does.
 #[tactic(auto, using(al_base::proofs::Growing::growth))]
 #[cycle(adding)]
-fn add<'a>(
-    alloc: Global,
-    types: &mut Types<'a>,
-    ty: &'a Ty,
-) -> Result<al_expr_types::Ty, AllocError>
+fn add<'a>(types: &mut Types<'a>, ty: &'a Ty) -> Result<al_expr_types::Ty, AllocError>
     ensures ty { IfOk result (λ t. type_at types.new t ≡ ty_of ty.now) }
     ensures known { IfOk result (λ t. is_known types.new t ≡ true) }
     ensures kept { BeginsWith (objects_of types.new) (objects_of types.old) }
@@ -35,12 +31,12 @@ fn add<'a>(
         Ty::Bool => Ok(al_expr_types::Ty::scalar(Scalar::Bool)),
         Ty::String => Ok(al_expr_types::Ty::scalar(Scalar::String)),
         Ty::Array(of) => {
-            let element = add(alloc, types, of)?;
+            let element = add(types, of)?;
             element.in_arrays(1)
         }
         Ty::Object { fields, rest } => {
-            let map = add_fields(alloc, types, fields)?;
-            let others = add_rest(alloc, types, rest)?;
+            let map = add_fields(types, fields)?;
+            let others = add_rest(types, rest)?;
             types.fields(map, others)
         }
     }
@@ -49,21 +45,17 @@ fn add<'a>(
 // Adds the objects of fields.
 #[tactic(auto, using(al_base::proofs::Growing::growth))]
 #[cycle(adding)]
-fn add_fields<'a>(
-    alloc: Global,
-    types: &mut Types<'a>,
-    fields: &'a [Field],
-) -> Result<FieldMap<'a>, AllocError>
+fn add_fields<'a>(types: &mut Types<'a>, fields: &'a [Field]) -> Result<FieldMap<'a>, AllocError>
     ensures fields { IfOk result
         (λ m. fields_in (objects_of types.new) m ≡ firsts (map field_of fields.now)) }
     ensures known { IfOk result
         (λ m. is_map_below (length types.new.objects.items) m ≡ true) }
     ensures kept { BeginsWith (objects_of types.new) (objects_of types.old) }
 {
-    let mut map = FieldMap::new(alloc);
+    let mut map = FieldMap::new(types.alloc());
     for field in fields {
-        let ty = add(alloc, types, &field.ty)?;
-        map = map.and(alloc, field.name.as_bytes(), ty)?;
+        let ty = add(types, &field.ty)?;
+        map = map.and(field.name.as_bytes(), ty)?;
     }
     Ok(map)
 }
@@ -72,7 +64,6 @@ fn add_fields<'a>(
 #[tactic(auto, using(al_base::proofs::Growing::growth))]
 #[cycle(adding)]
 fn add_rest<'a>(
-    alloc: Global,
     types: &mut Types<'a>,
     rest: &'a Option<Box<Ty>>,
 ) -> Result<Option<al_expr_types::Ty>, AllocError>
@@ -82,7 +73,7 @@ fn add_rest<'a>(
 {
     match rest {
         Some(ty) => {
-            let other = add(alloc, types, ty)?;
+            let other = add(types, ty)?;
             Ok(Some(other))
         }
         None => Ok(None),
@@ -92,24 +83,23 @@ fn add_rest<'a>(
 /// Adds the types of all contexts.
 #[tactic(auto, using(al_base::proofs::Growing::growth))]
 fn add_contexts<'a>(
-    alloc: Global,
     types: &mut Types<'a>,
     contexts: &'a ContextTypes,
 ) -> Result<al_expr_typing::ContextTypes, AllocError>
     ensures { IfOk result (λ t. StandFor types.new t contexts.now) }
 {
-    let github = add(alloc, types, &contexts.github)?;
-    let env = add(alloc, types, &contexts.env)?;
-    let vars = add(alloc, types, &contexts.vars)?;
-    let secrets = add(alloc, types, &contexts.secrets)?;
-    let runner = add(alloc, types, &contexts.runner)?;
-    let job = add(alloc, types, &contexts.job)?;
-    let strategy = add(alloc, types, &contexts.strategy)?;
-    let needs = add(alloc, types, &contexts.needs)?;
-    let jobs = add(alloc, types, &contexts.jobs)?;
-    let steps = add(alloc, types, &contexts.steps)?;
-    let matrix = add(alloc, types, &contexts.matrix)?;
-    let inputs = add(alloc, types, &contexts.inputs)?;
+    let github = add(types, &contexts.github)?;
+    let env = add(types, &contexts.env)?;
+    let vars = add(types, &contexts.vars)?;
+    let secrets = add(types, &contexts.secrets)?;
+    let runner = add(types, &contexts.runner)?;
+    let job = add(types, &contexts.job)?;
+    let strategy = add(types, &contexts.strategy)?;
+    let needs = add(types, &contexts.needs)?;
+    let jobs = add(types, &contexts.jobs)?;
+    let steps = add(types, &contexts.steps)?;
+    let matrix = add(types, &contexts.matrix)?;
+    let inputs = add(types, &contexts.inputs)?;
     Ok(al_expr_typing::ContextTypes {
         github,
         env,
@@ -128,14 +118,13 @@ fn add_contexts<'a>(
 
 /// Adds the types of a scope.
 pub(crate) fn add_scope<'a>(
-    alloc: Global,
     types: &mut Types<'a>,
     scope: &'a Scope,
 ) -> Result<al_expr_typing::Scope, AllocError>
     ensures same { IfOk result (λ s. scope_view types.new s ≡ scope_of scope.now) }
     ensures shown { IfOk result (λ s. IsShown types.new s) }
 {
-    let contexts = add_contexts(alloc, types, &scope.types)?;
+    let contexts = add_contexts(types, &scope.types)?;
     Ok(al_expr_typing::Scope {
         types: contexts,
         available: scope.available,

@@ -14,11 +14,11 @@ use al_expr_types::{Base, Fields, NameList, Object, Scalar, Types};
 use std::alloc::{AllocError, Global};
 
 /// The tree of a type of a table. Fails with `AllocError` when out of memory, as everything here does.
-pub fn tree_of(alloc: Global, types: &Types<'_>, ty: al_expr_types::Ty) -> Result<Ty, AllocError>
+pub fn tree_of(types: &Types<'_>, ty: al_expr_types::Ty) -> Result<Ty, AllocError>
     requires { is_known types.now ty ≡ true }
     ensures { IfOk result (λ t. ty_of t ≡ type_at types.now ty) }
 {
-    tree_below(alloc, types, ty, types.len())
+    tree_below(types, ty, types.len())
 }
 
 /// The tree of a scalar.
@@ -47,39 +47,34 @@ fn in_arrays(alloc: Global, ty: Ty, arrays: u32) -> Result<Ty, AllocError>
 
 // The tree of a type whose object has a number below `bound`.
 #[cycle(taking)]
-fn tree_below(
-    alloc: Global,
-    types: &Types<'_>,
-    ty: al_expr_types::Ty,
-    below: usize,
-) -> Result<Ty, AllocError>
+fn tree_below(types: &Types<'_>, ty: al_expr_types::Ty, below: usize) -> Result<Ty, AllocError>
     requires below { is_below below ty ≡ true }
     requires inside { below ≤ length types.now.objects.items }
     ensures { IfOk result (λ t. ty_of t ≡ type_at types.now ty) }
 {
     match ty.of {
-        Base::Scalar(scalar) => in_arrays(alloc, scalar_tree(scalar), ty.arrays),
+        Base::Scalar(scalar) => in_arrays(types.alloc(), scalar_tree(scalar), ty.arrays),
         Base::Object(n) => {
-            let listing = object_listing(alloc, types, n)?;
-            in_arrays(alloc, listing.into_type(), ty.arrays)
+            let listing = object_listing(types, n)?;
+            in_arrays(types.alloc(), listing.into_type(), ty.arrays)
         }
     }
 }
 
 // The fields of an object.
 #[cycle(taking)]
-fn object_listing(alloc: Global, types: &Types<'_>, n: u32) -> Result<Listing, AllocError>
+fn object_listing(types: &Types<'_>, n: u32) -> Result<Listing, AllocError>
     requires { n < length types.now.objects.items }
     ensures { IfOk result (λ l. parts_in l ≡ object_in (objects_of types.now) n) }
 {
     match types.object(n) {
-        Object::Fields(fields) => fields_listing(alloc, types, fields, n),
-        Object::Strings(names) => strings_listing(alloc, names),
+        Object::Fields(fields) => fields_listing(types, fields, n),
+        Object::Strings(names) => strings_listing(types.alloc(), names),
         Object::Common(of) => {
-            let mut all = Listing::new(alloc);
+            let mut all = Listing::new(types.alloc());
             for m in of.as_slice() {
-                let one = object_listing(alloc, types, *m)?;
-                all = add_object(alloc, one.fields.as_slice(), &one.rest, all)?;
+                let one = object_listing(types, *m)?;
+                all = add_object(types.alloc(), one.fields.as_slice(), &one.rest, all)?;
             }
             Ok(all)
         }
@@ -90,23 +85,18 @@ fn object_listing(alloc: Global, types: &Types<'_>, n: u32) -> Result<Listing, A
 
 // Fields with types whose objects have numbers below `bound`.
 #[cycle(taking)]
-fn fields_listing(
-    alloc: Global,
-    types: &Types<'_>,
-    fields: &Fields<'_>,
-    below: u32,
-) -> Result<Listing, AllocError>
+fn fields_listing(types: &Types<'_>, fields: &Fields<'_>, below: u32) -> Result<Listing, AllocError>
     requires below { are_fields_below below fields.now ≡ true }
     requires inside { below ≤ length types.now.objects.items }
     ensures { IfOk result (λ l. parts_in l ≡ fields_parts (objects_of types.now) fields.now) }
 {
-    let mut trees = Vec::new(alloc);
+    let mut trees = Vec::new(types.alloc());
     for i in 0..fields.count {
         let (name, ty) = fields.map.at(i);
-        let tree = tree_below(alloc, types, ty, below as usize)?;
-        trees.push(field_with(alloc, name, tree)?)?;
+        let tree = tree_below(types, ty, below as usize)?;
+        trees.push(field_with(types.alloc(), name, tree)?)?;
     }
-    let rest = rest_tree(alloc, types, fields.rest, below)?;
+    let rest = rest_tree(types, fields.rest, below)?;
     Ok(Listing {
         fields: trees,
         rest,
@@ -115,7 +105,6 @@ fn fields_listing(
 
 #[cycle(taking)]
 fn rest_tree(
-    alloc: Global,
     types: &Types<'_>,
     rest: Option<al_expr_types::Ty>,
     below: u32,
@@ -126,8 +115,8 @@ fn rest_tree(
 {
     match rest {
         Some(ty) => {
-            let tree = tree_below(alloc, types, ty, below as usize)?;
-            Ok(Some(Box::new(alloc, tree)?))
+            let tree = tree_below(types, ty, below as usize)?;
+            Ok(Some(Box::new(types.alloc(), tree)?))
         }
         None => Ok(None),
     }

@@ -34,10 +34,10 @@ pub fn type_of(
     ensures begins { BeginsWith out.new.items out.old.items }
 {
     let mut types = Types::new(alloc);
-    let scope = add_scope(alloc, &mut types, env)?;
+    let scope = add_scope(&mut types, env)?;
     let mut faults = FaultSink::new(alloc);
     let ty = al_expr_typing::type_of(&mut types, &scope, expr, &mut faults)?;
-    let tree = tree_of(alloc, &types, ty)?;
+    let tree = tree_of(&types, ty)?;
     faults.append_to(out)?;
     Ok(tree)
 }

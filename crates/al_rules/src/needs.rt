@@ -59,7 +59,7 @@ fn positions_of(
 {
     let mut found = Vec::new(alloc);
     for need in needs {
-        if let Some(job) = positions.get(alloc, need.scalar.text())? {
+        if let Some(job) = positions.get(need.scalar.text())? {
             found.push(job)?;
         }
     }
@@ -106,7 +106,7 @@ fn check_need(graph: JobGraph<'_>, need: Need<'_>, faults: &mut FaultSink) -> Re
         ++ labelled_fault graph.entry.labels.now (need_of need.entry)
         (named_by (name_position graph.entry.positions.now) (need_of need.entry).text)) }
 {
-    let Some(job) = graph.positions.get(faults.alloc(), need.text.text)? else {
+    let Some(job) = graph.positions.get(need.text.text)? else {
         return report(RuleCode::UndefinedJob, need.text, faults);
     };
     if !has_label_of(graph.labels, job, need.job) {

@@ -118,7 +118,7 @@ fn check_excluded(
     let excluded = members(faults.alloc(), item)?;
     for member in &excluded {
         let key = named_key(member.key);
-        let row = rows.get(faults.alloc(), key.text)?;
+        let row = rows.get(key.text)?;
         report_unless(row.is_some(), RuleCode::UnknownMatrixRow, key, faults)?;
     }
     Ok(())

@@ -18,17 +18,17 @@ fn calls_itself() -> &'static [u8] {
     b"on:\n  workflow_call:\njobs:\n  a:\n    uses: ./.github/workflows/r.yml\n"
 }
 
-fn has_required(alloc: Global, inputs: &Parameters) -> Result<bool, AllocError> {
-    match inputs.find(alloc, b"WHO")? {
+fn has_required(inputs: &Parameters) -> Result<bool, AllocError> {
+    match inputs.find(b"WHO")? {
         Some(input) => Ok(input.required && !input.has_default),
         None => Ok(false),
     }
 }
 
-fn shows_required(alloc: Global, iface: &Iface) -> Result<bool, AllocError> {
+fn shows_required(iface: &Iface) -> Result<bool, AllocError> {
     match iface {
         Iface::Readable(shown) => Ok(
-            shown.role == Role::Action && has_required(alloc, &shown.inputs)?,
+            shown.role == Role::Action && has_required(&shown.inputs)?,
         ),
         Iface::Unreadable => Ok(false),
     }
@@ -41,7 +41,7 @@ fn shows(alloc: Global, lint: &mut Actions, path: &str, bytes: &[u8]) -> Result<
     }
     let unit = lint.read(alloc, path, bytes)?;
     let iface = lint.iface(alloc, path, &unit)?;
-    Ok(shows_required(alloc, &iface)? && (lint.reads(), lint.checks()) == (1, 0))
+    Ok(shows_required(&iface)? && (lint.reads(), lint.checks()) == (1, 0))
 }
 
 fn calls_path(calls: &[Target], path: &str) -> bool {

@@ -64,7 +64,7 @@ pub(crate) fn shown(
     requires { is_known types.now ty ≡ true }
 {
     let mut out = String::new(alloc);
-    let tree = tree_of(alloc, types, ty)?;
+    let tree = tree_of(types, ty)?;
     show(&tree, &mut out)?;
     Ok(out)
 }

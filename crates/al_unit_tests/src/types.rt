@@ -220,7 +220,7 @@ fn name_list(alloc: Global, names: &[&[u8]]) -> Result<NameList, AllocError> {
     for name in names {
         kept.push(Name::new(alloc, name)?)?;
     }
-    NameList::new(alloc, kept)
+    NameList::new(kept)
 }
 
 fn has_types_of_steps(alloc: Global, expected: &[Expected]) -> Result<bool, AllocError> {
