@@ -1,12 +1,11 @@
 //! The types of jobs as others see them, each made once per file, and the types of `jobs` and `needs`.
 ghost use Rattle.std.specs.Prelude.{◌≡◌, ◌<◌, [], IfOk, OnOk, List, codes, length, true};
-ghost use Rattle.al_base.specs.Growth.{BeginsWith};
 ghost use Rattle.al_check_contexts.specs.Contexts.{job_field, jobs_type, needs_type};
 ghost use Rattle.al_check_contexts.specs.Lookups.{called_at, shown_at, shown_with};
 ghost use Rattle.al_check_contexts.specs.Made.{KeepsBare, KeepsJobs, KeepsJobsOf, jobs_from, known_from};
 ghost use Rattle.al_check_contexts.specs.Caches.{Keeps};
-ghost use Rattle.al_check_objects.specs.Numbers.{Means};
-ghost use Rattle.al_expr_types.specs.Tables.{is_known, objects_of, type_at};
+ghost use Rattle.al_check_objects.specs.Numbers.{Makes};
+ghost use Rattle.al_expr_types.specs.Tables.{is_known, type_at};
 ghost use Rattle.al_expr_types.specs.declared.types.Types as declared;
 ghost use Rattle.al_check_contexts.specs.declared.known.Outputs as outputs;
 ghost use Rattle.al_tree.specs.Keys.{keys_in};
@@ -40,8 +39,7 @@ pub(crate) struct JobTypes {
 /// The type of a job with these outputs. Fails with `AllocError` when out of memory, as everything here does.
 fn shown_with(types: &mut Types<'_>, outputs: Ty) -> Result<Ty, AllocError>
     requires { is_known types.old outputs ≡ true }
-    ensures ty { IfOk result (λ t. Means types.new t (shown_with (type_at types.old outputs))) }
-    ensures kept { OnOk result (BeginsWith (objects_of types.new) (objects_of types.old)) }
+    ensures { Makes types.old types.new result (shown_with (type_at types.old outputs)) }
 {
     object_of(
         types,
@@ -59,9 +57,8 @@ fn called_type<'a>(
     position: usize,
 ) -> Result<Ty, AllocError>
     requires { Keeps types.old (called_at basis.now.outputs) made.old }
-    ensures ty { IfOk result (λ t. Means types.new t (called_at basis.now.outputs position)) }
+    ensures made { Makes types.old types.new result (called_at basis.now.outputs position) }
     ensures keeps { OnOk result (Keeps types.new (called_at basis.now.outputs) made.new) }
-    ensures kept { OnOk result (BeginsWith (objects_of types.new) (objects_of types.old)) }
 {
     if let Some(ty) = made.get(position) {
         return Ok(ty);
@@ -76,9 +73,8 @@ fn called_type<'a>(
 #[tactic(auto, using(al_base::proofs::Growing::growth))]
 fn bare_type(types: &mut Types<'_>, made: &mut Option<Ty>) -> Result<Ty, AllocError>
     requires { KeepsBare types.old made.old }
-    ensures ty { IfOk result (λ t. Means types.new t (shown_with (named_strings []))) }
+    ensures made { Makes types.old types.new result (shown_with (named_strings [])) }
     ensures keeps { OnOk result (KeepsBare types.new made.new) }
-    ensures kept { OnOk result (BeginsWith (objects_of types.new) (objects_of types.old)) }
 {
     if let Some(ty) = *made {
         return Ok(ty);
@@ -97,11 +93,9 @@ fn own_type<'a>(
     job: Member<'a>,
 ) -> Result<Ty, AllocError>
     requires { KeepsBare types.old made.old }
-    ensures ty { IfOk result (λ t. Means types.new t
-        (shown_with (named_strings
-        (keys_in (entries_at (codes "outputs") (view (job.entry).value.now)))))) }
+    ensures made { Makes types.old types.new result
+        (shown_with (named_strings (keys_in (entries_at (codes "outputs") (view (job.entry).value.now))))) }
     ensures keeps { OnOk result (KeepsBare types.new made.new) }
-    ensures kept { OnOk result (BeginsWith (objects_of types.new) (objects_of types.old)) }
 {
     let entries = members_under(types.alloc(), job.value, "outputs")?;
     if entries.len() == 0 {
@@ -138,14 +132,13 @@ impl JobTypes {
     ) -> Result<Ty, AllocError>
         requires calls { Keeps types.old (called_at basis.now.outputs) (self.old).calls }
         requires bare { KeepsBare types.old (self.old).bare }
-        ensures ty { IfOk result
-            (λ t. Means types.new t (job_field (known_from basis.now) (member_of job.entry)).1) }
+        ensures made { Makes types.old types.new result
+            (job_field (known_from basis.now) (member_of job.entry)).1 }
         ensures keeps { OnOk result
             (Keeps types.new (called_at basis.now.outputs) (self.new).calls) }
         ensures bare { OnOk result (KeepsBare types.new (self.new).bare) }
         ensures shown { (self.new).shown ≡ (self.old).shown }
         ensures all { (self.new).all ≡ (self.old).all }
-        ensures kept { OnOk result (BeginsWith (objects_of types.new) (objects_of types.old)) }
     {
         if has_value(job.value, "uses") {
             let position = basis.outputs.position(Some(key_text(job.key)), None);
@@ -163,10 +156,9 @@ impl JobTypes {
     ) -> Result<Ty, AllocError>
         requires keeps { KeepsJobsOf types.old basis.now self.old }
         requires inside { i < length basis.now.jobs.members.items }
-        ensures ty { IfOk result
-            (λ t. Means types.new t (shown_at basis.now.outputs (jobs_from basis.now) i)) }
+        ensures made { Makes types.old types.new result
+            (shown_at basis.now.outputs (jobs_from basis.now) i) }
         ensures keeps { OnOk result (KeepsJobsOf types.new basis.now self.new) }
-        ensures kept { OnOk result (BeginsWith (objects_of types.new) (objects_of types.old)) }
     {
         if let Some(ty) = self.shown.get(i) {
             return Ok(ty);
@@ -183,10 +175,9 @@ impl JobTypes {
         basis: &Basis<'a>,
     ) -> Result<Ty, AllocError>
         requires { KeepsJobsOf types.old basis.now self.old }
-        ensures ty { IfOk result
-            (λ t. Means types.new t (jobs_type (known_from basis.now) (jobs_from basis.now))) }
+        ensures made { Makes types.old types.new result
+            (jobs_type (known_from basis.now) (jobs_from basis.now)) }
         ensures keeps { OnOk result (KeepsJobsOf types.new basis.now self.new) }
-        ensures kept { OnOk result (BeginsWith (objects_of types.new) (objects_of types.old)) }
     {
         if let Some(ty) = self.all {
             return Ok(ty);
@@ -210,10 +201,9 @@ impl JobTypes {
         job: &'a Node,
     ) -> Result<Ty, AllocError>
         requires { KeepsJobsOf types.old basis.now self.old }
-        ensures ty { IfOk result (λ t. Means types.new t
-            (needs_type (known_from basis.now) (jobs_from basis.now) (view job.entry.now))) }
+        ensures made { Makes types.old types.new result
+            (needs_type (known_from basis.now) (jobs_from basis.now) (view job.entry.now)) }
         ensures keeps { OnOk result (KeepsJobsOf types.new basis.now self.new) }
-        ensures kept { OnOk result (BeginsWith (objects_of types.new) (objects_of types.old)) }
     {
         let mut fields = FieldList::new(types.alloc());
         let names = texts_under(types.alloc(), job, "needs")?;

@@ -5,7 +5,7 @@ ghost use Rattle.al_check_contexts.specs.Contexts.{jobs_in, needs_type, owner_of
 ghost use Rattle.al_check_objects.specs.Fixed.{strategy_type};
 ghost use Rattle.al_check_places.specs.Positions.{section_view};
 ghost use Rattle.al_check_contexts.specs.Made.{KeepsJobsOf, jobs_from, known_from};
-ghost use Rattle.al_check_objects.specs.Numbers.{Means};
+ghost use Rattle.al_check_objects.specs.Numbers.{Makes, Means};
 ghost use Rattle.al_check_contexts.specs.Private.Owners.{owner_view};
 ghost use Rattle.al_check_contexts.specs.Table.{AreOfSection};
 ghost use Rattle.al_expr_types.specs.Tables.{objects_of};
@@ -39,10 +39,9 @@ fn jobs_at<'a>(
     section: Section<'a>,
 ) -> Result<Ty, AllocError>
     requires { KeepsJobsOf types.old basis.now made.old }
-    ensures ty { IfOk result (λ t. Means types.new t
-        (jobs_in (known_from basis.now) (jobs_from basis.now) (section_view section.entry))) }
+    ensures made { Makes types.old types.new result
+        (jobs_in (known_from basis.now) (jobs_from basis.now) (section_view section.entry)) }
     ensures keeps { OnOk result (KeepsJobsOf types.new basis.now made.new) }
-    ensures kept { OnOk result (BeginsWith (objects_of types.new) (objects_of types.old)) }
 {
     match section {
         Section::Apart => Ok(Ty::ANY),

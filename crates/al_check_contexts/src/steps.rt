@@ -7,7 +7,7 @@ ghost use Rattle.al_check_places.specs.declared.positions.Seen.TheVariants.{Befo
 ghost use Rattle.al_check_contexts.specs.Lookups.{step_at};
 ghost use Rattle.al_check_contexts.specs.Made.{known_from};
 ghost use Rattle.al_check_contexts.specs.Caches.{Keeps};
-ghost use Rattle.al_check_objects.specs.Numbers.{Lists, Means};
+ghost use Rattle.al_check_objects.specs.Numbers.{Lists, Makes, Means};
 ghost use Rattle.al_check_contexts.specs.Steps.{ArePrefixes, AreStepsOf};
 ghost use Rattle.al_check_contexts.specs.Private.Owners.{owner_view};
 ghost use Rattle.al_expr_types.specs.Tables.{is_known, objects_of, type_at};
@@ -42,10 +42,8 @@ pub(crate) fn outputs_type<'a>(
     others: Ty,
 ) -> Result<Ty, AllocError>
     requires { is_known types.old others ≡ true }
-    ensures ty { IfOk result (λ t. Means types.new t
-        (option_map_or named_strings (option_map (λ l. l.now) outputs.entry)
-        (object_with [] (Present (type_at types.old others))))) }
-    ensures kept { OnOk result (BeginsWith (objects_of types.new) (objects_of types.old)) }
+    ensures { Makes types.old types.new result
+        (option_map_or named_strings (option_map (λ l. l.now) outputs.entry) (object_with [] (Present (type_at types.old others)))) }
 {
     match outputs {
         None => object_of(types, &[], Some(others)),
@@ -62,9 +60,8 @@ fn step_type<'a>(
     position: usize,
 ) -> Result<Ty, AllocError>
     requires { Keeps types.old (step_at basis.now.outputs) made.old }
-    ensures ty { IfOk result (λ t. Means types.new t (step_at basis.now.outputs position)) }
+    ensures made { Makes types.old types.new result (step_at basis.now.outputs position) }
     ensures keeps { OnOk result (Keeps types.new (step_at basis.now.outputs) made.new) }
-    ensures kept { OnOk result (BeginsWith (objects_of types.new) (objects_of types.old)) }
 {
     if let Some(ty) = made.get(position) {
         return Ok(ty);

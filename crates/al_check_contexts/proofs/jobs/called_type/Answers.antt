@@ -14,4 +14,4 @@ returns c =
     let at = called_at c.args.basis.now.outputs in
     let kept = begins_trans (objects_of entry) (objects_of c.outputs_type.new.types) (objects_of now) c.in_ok-outputs.ensures.kept c.in_ok-ty.ensures.kept in
     let means = rw (c.in_ok-outputs.ensures.ty.is, c.list.ensures) at c.in_ok-ty.ensures.ty in
-    record { ty = means; keeps = c.set.ensures now at (keeps_stays now entry at c.args.made.now kept c.requires) means; kept = kept }
+    record { made = record { ty = means; kept = kept }; keeps = c.set.ensures now at (keeps_stays now entry at c.args.made.now kept c.requires) means }

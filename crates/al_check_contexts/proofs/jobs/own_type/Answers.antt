@@ -1,14 +1,18 @@
 use Rattle.std.proofs.lemmas.Result.{on_ok_weaker}
 use Rattle.al_base.proofs.Growing.{begins_trans}
 use Rattle.al_expr_types.specs.Tables.{objects_of}
+use Rattle.al_expr_types.proofs.Returned.{begins_ok}
 use Rattle.al_check_contexts.proofs.JobLemmas.{keeps_bare_stays}
 use Rattle.al_check_contexts.proofs.jobs.own_type.Goals as goal
 
 pub shown_with-requires : goal.shown_with-requires
 shown_with-requires c = c.in_ok-outputs.ensures.ty.known
 
-pub returns-clause-ty : goal.returns-clause-ty
-returns-clause-ty c = rw (c.in_ok-outputs.ensures.ty.is, c.as_slice.ensures.value, c.in_ok-entries.ensures) at c.shown_with.ensures.ty
+pub returns-clause-made : goal.returns-clause-made
+returns-clause-made c = record {
+  ty = rw (c.in_ok-outputs.ensures.ty.is, c.as_slice.ensures.value, c.in_ok-entries.ensures) at c.shown_with.ensures.ty;
+  kept = begins_ok c.shown_with.result _ _ _ c.in_ok-outputs.ensures.kept c.shown_with.ensures.kept;
+}
 
 pub returns-clause-keeps : goal.returns-clause-keeps
 returns-clause-keeps c =

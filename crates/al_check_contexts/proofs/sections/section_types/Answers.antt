@@ -11,12 +11,12 @@ returns-clause-types c =
     let one = c.jobs_at.new.types in
     let two = c.needs_type.new.types in
     let now = c.matrix_type.new.types in
-    let from_one = begins_trans (objects_of one) (objects_of two) (objects_of now) c.in_ok-needs.ensures.kept c.in_ok-matrix.ensures.kept in
-    let from_entry = begins_trans (objects_of entry) (objects_of one) (objects_of now) c.in_ok-jobs.ensures.kept from_one in
+    let from_one = begins_trans (objects_of one) (objects_of two) (objects_of now) c.in_ok-needs.ensures.made.kept c.in_ok-matrix.ensures.kept in
+    let from_entry = begins_trans (objects_of entry) (objects_of one) (objects_of now) c.in_ok-jobs.ensures.made.kept from_one in
     rw c.in-Some.is (record {
       strategy = means_stays now entry c.args.basis.now.strategy _ from_entry c.requires.strategy;
-      needs = means_stays now two c.in_ok-needs.needs _ c.in_ok-matrix.ensures.kept c.in_ok-needs.ensures.ty;
-      jobs = means_stays now one c.in_ok-jobs.jobs _ from_one c.in_ok-jobs.ensures.ty;
+      needs = means_stays now two c.in_ok-needs.needs _ c.in_ok-matrix.ensures.kept c.in_ok-needs.ensures.made.ty;
+      jobs = means_stays now one c.in_ok-jobs.jobs _ from_one c.in_ok-jobs.ensures.made.ty;
       matrix = c.in_ok-matrix.ensures.ty;
     })
 

@@ -23,18 +23,22 @@ loop-i-preserved c =
     let now = c.get.new.types in
     let sofar = put_all put_new [] (map field (map member_of (take i members))) in
     let there = same_there member_of members js i x c.as_slice-members.ensures c.loop-i-test.true c.index-members-i.is in
-    let means = means_as now c.in_ok-ty.ty _ _ (sym (shown_there c.args.basis.now.outputs js i (member_of x) there)) c.in_ok-ty.ensures.ty in
-    let lists = lists_stay now before c.loop-i.fields sofar c.in_ok-ty.ensures.kept c.loop-i.invariant.fields in
+    let means = means_as now c.in_ok-ty.ty _ _ (sym (shown_there c.args.basis.now.outputs js i (member_of x) there)) c.in_ok-ty.ensures.made.ty in
+    let lists = lists_stay now before c.loop-i.fields sofar c.in_ok-ty.ensures.made.kept c.loop-i.invariant.fields in
     record {
       fields = rw (put_next member_of field [] members i x c.loop-i-test.true c.index-members-i.is)
           (rw c.key_text.ensures at (c.in_ok-fields.ensures now sofar _ lists means));
       keeps = c.in_ok-ty.ensures.keeps;
-      kept = begins_trans (objects_of c.args.types.now) (objects_of before) (objects_of now) c.loop-i.invariant.kept c.in_ok-ty.ensures.kept;
+      kept = begins_trans (objects_of c.args.types.now) (objects_of before) (objects_of now) c.loop-i.invariant.kept c.in_ok-ty.ensures.made.kept;
     }
 
-pub returns-clause-ty : goal.returns-clause-ty
-returns-clause-ty c =
-    rw (take_all c.loop-i.i c.as_slice-members.result.now (omega (arith, c.loop-i-test.false)), c.as_slice-members.ensures) at (c.in_ok-ty-2.ensures.ty _ c.loop-i.invariant.fields)
+pub returns-clause-made : goal.returns-clause-made
+returns-clause-made c = record {
+  ty = rw (take_all c.loop-i.i c.as_slice-members.result.now (omega (arith, c.loop-i-test.false)), c.as_slice-members.ensures)
+      at (c.in_ok-ty-2.ensures.ty _ c.loop-i.invariant.fields);
+  kept = begins_trans (objects_of c.args.types.now) (objects_of c.loop-i.types) (objects_of c.into_type.new.types) c.loop-i.invariant.kept
+      c.in_ok-ty-2.ensures.kept;
+}
 
 pub returns-clause-keeps : goal.returns-clause-keeps
 returns-clause-keeps c =
@@ -49,7 +53,3 @@ returns-clause-keeps c =
       bare = kept.bare;
       all = λ t e. let z : c.in_ok-ty-2.ty ≡ t = cc in subst (λ u. Means now u (jobs_type (known_from c.args.basis.now) js)) z means;
     }
-
-pub returns-clause-kept : goal.returns-clause-kept
-returns-clause-kept c =
-    begins_trans (objects_of c.args.types.now) (objects_of c.loop-i.types) (objects_of c.into_type.new.types) c.loop-i.invariant.kept c.in_ok-ty-2.ensures.kept

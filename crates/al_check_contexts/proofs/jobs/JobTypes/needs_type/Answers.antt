@@ -46,7 +46,7 @@ loop-name-preserved c =
     let now = c.get.new.types in
     let before = c.loop-name.types in
     let was = c.loop-name.invariant in
-    let made = c.in_ok-ty.ensures in
+    let made = c.in_ok-ty.ensures.made in
     let j = member_of c.job_at.result in
     let means = means_as now c.in_ok-ty.ty _ _ (sym (shown_there c.args.basis.now.outputs js c.in-Some.needed j c.job_at.ensures)) made.ty in
     let lists = lists_stay now before c.loop-name.fields _ made.kept was.fields in
@@ -54,24 +54,23 @@ loop-name-preserved c =
     record {
       fields = rw (put_if_next scalar_node_of field [] c.as_slice-name-items.result.now c.loop-name.name-index c.name-item.result c.loop-name-test.true c.name-item.is)
           (rw (← c.text.ensures, found) (rw c.key_text.ensures at (c.in_ok-fields.ensures now _ _ lists means)));
-      keeps = made.keeps;
+      keeps = c.in_ok-ty.ensures.keeps;
       kept = begins_trans (objects_of c.args.types.now) (objects_of before) (objects_of now) was.kept made.kept;
     }
 
-pub returns-clause-ty : goal.returns-clause-ty
-returns-clause-ty c =
+pub returns-clause-made : goal.returns-clause-made
+returns-clause-made c =
     let all = take_all c.loop-name.name-index c.as_slice-name-items.result.now (omega (arith, c.loop-name-test.false)) in
-    IfOk-weaker c.into_type.result _ _
-    (λ ty means. rw (all, c.as_slice-name-items.ensures.value, c.in_ok-names.ensures) at (means _ c.loop-name.invariant.fields)) c.into_type.ensures.ty
+    record {
+      ty = IfOk-weaker c.into_type.result _ _
+          (λ ty means. rw (all, c.as_slice-name-items.ensures.value, c.in_ok-names.ensures) at (means _ c.loop-name.invariant.fields)) c.into_type.ensures.ty;
+      kept = begins_ok c.into_type.result (objects_of c.args.types.now) (objects_of c.loop-name.types) (objects_of c.into_type.new.types)
+          c.loop-name.invariant.kept c.into_type.ensures.kept;
+    }
 
 pub returns-clause-keeps : goal.returns-clause-keeps
 returns-clause-keeps c =
     on_ok_weaker c.into_type.result
     (λ kept. keeps_jobs_stay c.into_type.new.types c.loop-name.types c.args.basis.now.outputs (jobs_from c.args.basis.now) c.loop-name.self kept
     c.loop-name.invariant.keeps)
-    c.into_type.ensures.kept
-
-pub returns-clause-kept : goal.returns-clause-kept
-returns-clause-kept c =
-    begins_ok c.into_type.result (objects_of c.args.types.now) (objects_of c.loop-name.types) (objects_of c.into_type.new.types) c.loop-name.invariant.kept
     c.into_type.ensures.kept
