@@ -222,8 +222,7 @@ fn walk(
             around: left.around,
             ty,
         };
-        let next = step_from(types, here, step, faults)?;
-        ty = next;
+        ty = step_from(types, here, step, faults)?;
     }
     Ok(ty)
 }
@@ -283,8 +282,7 @@ fn index_from(
     ensures shown { IsShown types.new (left.entry).around.scope.now }
     ensures kept { BeginsWith (objects_of types.new) (objects_of types.old) }
 {
-    let literal = literal_text(faults.alloc(), index)?;
-    match literal {
+    match literal_text(faults.alloc(), index)? {
         Some(name) => {
             let asked = PropertyStep {
                 name: name.value.as_str(),
@@ -327,8 +325,7 @@ fn operations(
             at: operand.at,
             ty: other,
         };
-        let more = operation(types, all, typed, faults)?;
-        all = more;
+        all = operation(types, all, typed, faults)?;
     }
     types.type_or_any(all)
 }
@@ -380,8 +377,7 @@ fn check_untrusted(
     let Some(name) = base_name(base) else {
         return Ok(());
     };
-    let chain = untrusted_chain(faults.alloc(), name, steps)?;
-    match chain {
+    match untrusted_chain(faults.alloc(), name, steps)? {
         Some(chain) => {
             let whole = path_extent(base, steps);
             report_text(whole, ExpressionCode::Untrusted, chain.as_str(), faults)

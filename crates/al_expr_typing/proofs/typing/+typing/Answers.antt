@@ -121,15 +121,15 @@ operations-loop-operand-preserved t c =
     let r = rest_item c.args.operands.now c.loop-operand.operand-index x c.loop-operand-test.true c.operand-item.is in
     let i = rw (r, operand_view x) at c.loop-operand.invariant.so_far in
     let e = rw (scope_stays now before c.args.left.around.scope.now c.loop-operand.invariant.kept c.requires.shown) at c.in_ok-other.ensures.ok in
-    let f = rw (so_far_stays mid now c.loop-operand.all c.in_ok-other.ensures.kept c.loop-operand.invariant.below) at c.in_ok-more.ensures.ok in
+    let f = rw (so_far_stays mid now c.loop-operand.all c.in_ok-other.ensures.kept c.loop-operand.invariant.below) at c.in_ok-all.ensures.ok in
     record {
-      kept = begins_trans _ _ _ c.loop-operand.invariant.kept (begins_trans _ _ _ c.in_ok-other.ensures.kept c.in_ok-more.ensures.kept);
-      shown = shown_stays c.operation.new.types mid c.args.left.around.scope.now c.in_ok-other.ensures.shown c.in_ok-more.ensures.kept;
-      below = c.in_ok-more.ensures.below;
-      present = c.in_ok-more.ensures.present;
+      kept = begins_trans _ _ _ c.loop-operand.invariant.kept (begins_trans _ _ _ c.in_ok-other.ensures.kept c.in_ok-all.ensures.kept);
+      shown = shown_stays c.operation.new.types mid c.args.left.around.scope.now c.in_ok-other.ensures.shown c.in_ok-all.ensures.kept;
+      below = c.in_ok-all.ensures.below;
+      present = c.in_ok-all.ensures.present;
       so_far = chained_on (scope_view before c.args.left.around.scope.now) safe (sign x.operator x.at, expr_view x.expr)
           (map operand_of (drop (c.loop-operand.operand-index + 1) c.args.operands.now)) (type_so_far now c.loop-operand.all) u
-          (type_so_far c.operation.new.types c.in_ok-more.more) _ _ _ e f ∙ i;
+          (type_so_far c.operation.new.types c.in_ok-all.all) _ _ _ e f ∙ i;
     }
 
 pub operations-returns-clause-ok : goal.operations-returns-clause-ok
@@ -172,7 +172,7 @@ index_from-returns-in_ok-by-in-None-clause-ok t c =
     let same = ap (λ u. faults_then c.expression.new.faults (index_of c.args.whole u by))
     (type_stays new before c.args.left.ty c.in_ok-by-in-None.ensures.kept c.requires.known) in
     IfOk-weaker c.element.result _ _
-    (λ of ok. indexed_on _ c.args.whole (type_at before c.args.left.ty) by (type_at new of) _ _ _ _ (rw c.in-None.is at c.in_ok-literal.ensures)
+    (λ of ok. indexed_on _ c.args.whole (type_at before c.args.left.ty) by (type_at new of) _ _ _ _ (rw c.in-None.is at c.in_ok-name.ensures)
     c.in_ok-by-in-None.ensures.ok (ok (objects_of new) ∙ same))
     c.element.ensures.ok
 
@@ -216,13 +216,13 @@ walk-loop-step-preserved t c =
     let here = type_at now c.loop-step.ty in
     let r = rest_item c.args.steps.now c.loop-step.step-index x c.loop-step-test.true c.step-item.is in
     let i = rw r at c.loop-step.invariant.so_far in
-    let e = rw (scope_stays now before c.args.left.around.scope.now c.loop-step.invariant.kept c.requires.shown) at c.in_ok-next.ensures.ok in
+    let e = rw (scope_stays now before c.args.left.around.scope.now c.loop-step.invariant.kept c.requires.shown) at c.in_ok-ty.ensures.ok in
     record {
-      kept = begins_trans _ _ _ c.loop-step.invariant.kept c.in_ok-next.ensures.kept;
-      shown = c.in_ok-next.ensures.shown;
-      known = c.in_ok-next.ensures.known;
+      kept = begins_trans _ _ _ c.loop-step.invariant.kept c.in_ok-ty.ensures.kept;
+      shown = c.in_ok-ty.ensures.shown;
+      known = c.in_ok-ty.ensures.known;
       so_far = walked_on (scope_view before c.args.left.around.scope.now) c.args.left.around.safe (step_of x)
-          (map step_of (drop (c.loop-step.step-index + 1) c.args.steps.now)) here (type_at c.step_from.new.types c.in_ok-next.next) _ _ e ∙ i;
+          (map step_of (drop (c.loop-step.step-index + 1) c.args.steps.now)) here (type_at c.step_from.new.types c.in_ok-ty.ty) _ _ e ∙ i;
     }
 
 pub expression-returns-in_err-ty-in-Path-clause-kept : goal.expression-returns-in_err-ty-in-Path-clause-kept
@@ -238,12 +238,12 @@ call-returns-clause-known t c =
 pub operations-returns-in_err-other-clause-kept : goal.operations-returns-in_err-other-clause-kept
 operations-returns-in_err-other-clause-kept t c = begins_trans _ _ _ c.loop-operand.invariant.kept c.expression.ensures.kept
 
-pub operations-returns-in_err-more-clause-kept : goal.operations-returns-in_err-more-clause-kept
-operations-returns-in_err-more-clause-kept t c =
+pub operations-returns-in_err-all-clause-kept : goal.operations-returns-in_err-all-clause-kept
+operations-returns-in_err-all-clause-kept t c =
     begins_trans _ _ _ c.loop-operand.invariant.kept (begins_trans _ _ _ c.in_ok-other.ensures.kept c.operation.ensures.kept)
 
 pub typed_arguments-returns-in_err-ty-clause-kept : goal.typed_arguments-returns-in_err-ty-clause-kept
 typed_arguments-returns-in_err-ty-clause-kept t c = begins_trans _ _ _ c.loop-expr.invariant.kept c.expression.ensures.kept
 
-pub walk-returns-in_err-next-clause-kept : goal.walk-returns-in_err-next-clause-kept
-walk-returns-in_err-next-clause-kept t c = begins_trans _ _ _ c.loop-step.invariant.kept c.step_from.ensures.kept
+pub walk-returns-in_err-ty-clause-kept : goal.walk-returns-in_err-ty-clause-kept
+walk-returns-in_err-ty-clause-kept t c = begins_trans _ _ _ c.loop-step.invariant.kept c.step_from.ensures.kept

@@ -6,10 +6,10 @@ use Rattle.al_expr_grammar.specs.View.{expr_view, step_of}
 use Rattle.al_expr_typing.proofs.Paths.{untrusted_is}
 use Rattle.al_expr_typing.proofs.typing.check_untrusted.Goals as goal
 
-pub returns-in-Some-chain : goal.returns-in-Some-chain
-returns-in-Some-chain c =
+pub returns-in-Some-2 : goal.returns-in-Some-2
+returns-in-Some-2 c =
     let n = rw c.in-Some.is at c.base_name.ensures in
-    let k = rw c.in-Some-chain.is at c.in_ok-chain.ensures in
+    let k = rw c.in-Some-2.is at c.in_ok-chain.ensures in
     let text = c.as_str.result.now in
     let now = c.args.faults.now in
     rw (c.if-not-exposed.false, untrusted_is _ (expr_view c.args.base.now) (map step_of c.args.steps.now) (Some text) n (ap Some c.as_str.ensures.value ∙ k))
