@@ -8,6 +8,6 @@ use Rattle.al_check_interfaces.proofs.lists.Parameters.has.Goals as goal
 pub returns : goal.returns
 returns c =
     let name = c.args.name.now in
-    c.is_some.ensures ∙ ap is_some c.in_ok-position.ensures
+    c.is_some.ensures ∙ ap is_some c.in_ok-get.ensures
     ∙ is_named c.self.inside.parameters.items (name_position c.self.inside.positions) name c.self.invariant.0
     ∙ ap (λ (l : List Parameter). has_parameter l name) c.self.view_is
