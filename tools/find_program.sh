@@ -83,7 +83,7 @@ prebuilt_fits() {
       return 1
     fi
   fi
-  if ! "$top/$prebuilt" --help > /dev/null 2>&1; then
+  if ! (CDPATH='' cd -- "$top" && "./$prebuilt" --help) > /dev/null 2>&1; then
     why="$prebuilt fits these sources, but doesn't run here: it needs Linux on x86-64 with glibc 2.34 or later"
     return 1
   fi
