@@ -52,49 +52,6 @@ impl<'a> FieldJoins<'a> {
         self.names
     }
 
-    /// Joins a type into a slot. If memory runs out, the content of the slot is lost.
-    fn join_into(alloc: Global, slot: &mut Join, ty: Ty) -> Result<(), AllocError>
-        ensures ty { OnOk result
-            ((ms : List Parts)
-            → join_in ms slot.new ≡ fuse_optional (join_in ms slot.old) (Present (type_in ms ty))) }
-        ensures below { OnOk result
-            ((k : ℕ) → is_join_below k slot.old ≡ true → is_below k ty ≡ true
-            → is_join_below k slot.new ≡ true) }
-    {
-        let old = replace(slot, Join::Nothing);
-        let more = old.and(alloc, ty)?;
-        *slot = more;
-        Ok(())
-    }
-
-    /// Joins a type with what is at the position of a name.
-    fn join_at(self, name: &[u8], i: usize, ty: Ty) -> Result<FieldJoins<'a>, AllocError>
-        requires { name_place (names_in self.names) name.now ≡ Some i }
-        ensures found { IfOk result (λ m. (ms : List Parts) → found_in ms m
-            ≡ and_named (found_in ms self.entry) name.now (Present (type_in ms ty))) }
-        ensures below { IfOk result (λ m. (k : ℕ) → are_joins_below k self.entry
-            ≡ true → is_below k ty ≡ true → are_joins_below k m ≡ true) }
-    {
-        let names = self.names;
-        let mut joins = self.joins;
-        FieldJoins::join_into(*joins.allocator(), &mut joins[i], ty)?;
-        Ok(FieldJoins { names, joins })
-    }
-
-    /// Appends a new name, with its type.
-    fn push(self, name: &'a [u8], ty: Ty) -> Result<FieldJoins<'a>, AllocError>
-        requires { name_place (names_in self.names) name.now ≡ None }
-        ensures found { IfOk result (λ m. (ms : List Parts) → found_in ms m
-            ≡ and_named (found_in ms self.entry) name.now (Present (type_in ms ty))) }
-        ensures below { IfOk result (λ m. (k : ℕ) → are_joins_below k self.entry
-            ≡ true → is_below k ty ≡ true → are_joins_below k m ≡ true) }
-    {
-        let mut joins = self.joins;
-        let names = self.names.push(name)?;
-        joins.push(Join::One(ty))?;
-        Ok(FieldJoins { names, joins })
-    }
-
     /// Adds the type of a field: joined with what the fields with its name have in common, if there are any.
     pub fn and(self, name: &'a [u8], ty: Ty) -> Result<FieldJoins<'a>, AllocError>
         ensures found { IfOk result (λ m. (ms : List Parts) → found_in ms m
@@ -102,49 +59,16 @@ impl<'a> FieldJoins<'a> {
         ensures below { IfOk result (λ m. (k : ℕ) → are_joins_below k self.entry
             ≡ true → is_below k ty ≡ true → are_joins_below k m ≡ true) }
     {
-        let position = self.names.position(name)?;
-        match position {
-            Some(i) => self.join_at(name, i, ty),
-            None => self.push(name, ty),
-        }
-    }
-
-    /// Adds the type of a field, if it is the first with its name.
-    fn and_first(self, name: &'a [u8], is_first: bool, ty: Ty) -> Result<FieldJoins<'a>, AllocError>
-        ensures found { IfOk result (λ m. (ms : List Parts)
-            → found_in ms m
-            ≡ (if is_first then and_named (found_in ms self.entry) name.now
-            (Present (type_in ms ty)) else found_in ms self.entry)) }
-        ensures below { IfOk result (λ m. (k : ℕ) → are_joins_below k self.entry
-            ≡ true → is_below k ty ≡ true → are_joins_below k m ≡ true) }
-    {
-        if is_first {
-            return self.and(name, ty);
-        }
-        Ok(self)
-    }
-
-    /// Adds some fields.
-    pub(crate) fn and_fields(
-        self,
-        names: &Names<'a>,
-        types: &[Ty],
-    ) -> Result<FieldJoins<'a>, AllocError>
-        requires { length types.now ≤ length (names_in names.now) }
-        ensures found { IfOk result (λ m. (ms : List Parts) → found_in ms m
-            ≡ λ n. fuse_optional (found_in ms self.entry n)
-            (optional (field_at n (named_types ms (names_in names.now) types.now)))) }
-        ensures below { IfOk result
-            (λ m. (k : ℕ) → list_all (is_below k) types.now ≡ true
-            → are_joins_below k self.entry ≡ true
-            → are_joins_below k m ≡ true) }
-    {
-        let mut all = self;
-        for (i, ty) in types.iter().enumerate() {
-            let more = all.and(names.at(i), *ty)?;
-            all = more;
-        }
-        Ok(all)
+        let FieldJoins { names, mut joins } = self;
+        let Some(i) = names.position(name)? else {
+            joins.push(Join::One(ty))?;
+            let names = names.push(name)?;
+            return Ok(FieldJoins { names, joins });
+        };
+        let alloc = *joins.allocator();
+        let slot = &mut joins[i];
+        *slot = replace(slot, Join::Nothing).and(alloc, ty)?;
+        Ok(FieldJoins { names, joins })
     }
 
     /// Adds string fields with these names.
@@ -157,8 +81,10 @@ impl<'a> FieldJoins<'a> {
     {
         let mut all = self;
         for i in 0..names.len() {
-            let more = all.and_first(names.at(i), names.is_first(i), Ty::STRING)?;
-            all = more;
+            if !names.is_first(i) {
+                continue;
+            }
+            all = all.and(names.at(i), Ty::STRING)?;
         }
         Ok(all)
     }
@@ -173,6 +99,10 @@ impl<'a> FieldJoins<'a> {
             → are_joins_below k m ≡ true) }
     {
         let map = &*fields.map;
-        self.and_fields(&map.names, &map.types.as_slice()[..fields.count])
+        let mut all = self;
+        for (i, ty) in map.types.as_slice()[..fields.count].iter().enumerate() {
+            all = all.and(map.names.at(i), *ty)?;
+        }
+        Ok(all)
     }
 }

@@ -1,4 +1,4 @@
-use Rattle.std.proofs.Common.{◌<◌, ◌∙◌, [], ap, arith, length, map, refl, sym}
+use Rattle.std.proofs.Common.{◌<◌, ◌∙◌, [], ap, arith, false, get_or, length, map, refl, sym, true}
 use Rattle.std.proofs.Math.ListN.{get_or-map}
 use Rattle.std.proofs.lemmas.List.{get_or_default, length-map, take_all}
 use Rattle.std.specs.Prelude.{zip}
@@ -17,12 +17,25 @@ loop-i-preserved c =
     let i = c.loop-i.i in
     let x = c.at.result.now in
     let lt : i < length ns = omega (arith, c.loop-i-test.true, c.len-i-end.ensures) in
-    let first = c.is_first.ensures ∙ ap (λ y. is_placed (name_place ns y) i) (get_or_default ns i [] x lt ∙ sym c.at.ensures) in
+    let first = sym c.if-not-is_first.false ∙ c.is_first.ensures ∙ ap (λ y. is_placed (name_place ns y) i) (get_or_default ns i [] x lt ∙ sym c.at.ensures) in
     record {
-      found = λ ms. merged_next ns (map (λ n. String) ns) i x String String c.is_first.result (found_in ms c.args.self) (found_in ms c.loop-i.all)
-          (found_in ms c.in_ok-more.more) (omega (arith, lt, length-map ns (λ n. String))) c.at.ensures (sym (get_or-map (λ n. String) ns i [])) first
-          (c.loop-i.invariant.found ms) (c.in_ok-more.ensures.found ms);
-      below = λ k g. c.in_ok-more.ensures.below k (c.loop-i.invariant.below k g) refl;
+      found = λ ms. merged_next ns (map (λ n. String) ns) i x String String true (found_in ms c.args.self) (found_in ms c.loop-i.all)
+          (found_in ms c.in_ok-all.all) (omega (arith, lt, length-map ns (λ n. String))) c.at.ensures (sym (get_or-map (λ n. String) ns i [])) first
+          (c.loop-i.invariant.found ms) (c.in_ok-all.ensures.found ms);
+      below = λ k g. c.in_ok-all.ensures.below k (c.loop-i.invariant.below k g) refl;
+    }
+
+pub loop-i-preserved-then-not-is_first : goal.loop-i-preserved-then-not-is_first
+loop-i-preserved-then-not-is_first c =
+    let ns = c.args.names.now in
+    let i = c.loop-i.i in
+    let x = get_or ns i [] in
+    let lt : i < length ns = omega (arith, c.loop-i-test.true, c.len-i-end.ensures) in
+    record {
+      found = λ ms. merged_next ns (map (λ n. String) ns) i x String String false (found_in ms c.args.self) (found_in ms c.loop-i.all)
+          (found_in ms c.loop-i.all) (omega (arith, lt, length-map ns (λ n. String))) (get_or_default ns i [] x lt) (sym (get_or-map (λ n. String) ns i []))
+          (sym c.if-not-is_first.true ∙ c.is_first.ensures) (c.loop-i.invariant.found ms) refl;
+      below = c.loop-i.invariant.below;
     }
 
 pub returns-clause-found : goal.returns-clause-found
