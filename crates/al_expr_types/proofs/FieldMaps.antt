@@ -1,7 +1,7 @@
 -- The fields of a map: appending a field, and their types in a longer table.
-use Rattle.std.proofs.Common.{◌≡◌, ℕ, ◌+◌, List, [], ◌∷◌, ◌++◌, map, length, refl, sym, ap, ◌∙◌, true, Some, None, option_map, arith}
+use Rattle.std.proofs.Common.{◌≡◌, ℕ, ◌+◌, List, [], ◌∷◌, ◌++◌, map, length, refl, sym, ap, ◌∙◌, false, true, Some, option_map, arith}
 use Rattle.std.proofs.lemmas.List.{length-map, map-append}
-use Rattle.std.specs.Prelude.{if◌then◌else◌, is_none, zip}
+use Rattle.std.specs.Prelude.{if◌then◌else◌, is_none, is_some, not, zip}
 use Rattle.al_base.specs.Growth.{BeginsWith}
 use Rattle.al_base.specs.NamePlaces.{name_place}
 use Rattle.al_base.specs.Names.{same_name}
@@ -35,20 +35,20 @@ as_long : (ms : List Parts) (ns : List (List ℕ)) (ts : List Ty) → length ns 
 as_long ms ns ts e = e ∙ sym (length-map ts (type_in ms))
 
 -- a field with a new name is appended
-pub new_field : (ms : List Parts) (ns : List (List ℕ)) (ts : List Ty) (n : List ℕ) (t : Ty) → length ns ≡ length ts → name_place ns n ≡ None →
+pub new_field : (ms : List Parts) (ns : List (List ℕ)) (ts : List Ty) (n : List ℕ) (t : Ty) → length ns ≡ length ts → false ≡ is_some (name_place ns n) →
     named_types ms (ns ++ n ∷ []) (ts ++ t ∷ []) ≡ put_new (named_types ms ns ts) (n, type_in ms t)
 new_field ms ns ts n t e new =
     let us = map (type_in ms) ts in
     let long = as_long ms ns ts e in
     ap (zip (ns ++ n ∷ [])) (map-append (type_in ms) ts (t ∷ [])) ∙ zip_after ns us n (type_in ms t) long
-    ∙ sym (put_new_after (zip ns us) (n, type_in ms t) (ap is_none (place_at ns us n long ∙ new)))
+    ∙ sym (put_new_after (zip ns us) (n, type_in ms t) (ap is_none (place_at ns us n long) ∙ ap not (sym new)))
 
 -- a field whose name is there already changes nothing
-pub old_field : (ms : List Parts) (ns : List (List ℕ)) (ts : List Ty) (n : List ℕ) (t : Ty) (i : ℕ) → length ns ≡ length ts → name_place ns n ≡ Some i →
+pub old_field : (ms : List Parts) (ns : List (List ℕ)) (ts : List Ty) (n : List ℕ) (t : Ty) → length ns ≡ length ts → true ≡ is_some (name_place ns n) →
     named_types ms ns ts ≡ put_new (named_types ms ns ts) (n, type_in ms t)
-old_field ms ns ts n t i e old =
+old_field ms ns ts n t e old =
     let us = map (type_in ms) ts in
-    sym (put_new_old (zip ns us) (n, type_in ms t) (ap is_none (place_at ns us n (as_long ms ns ts e) ∙ old)))
+    sym (put_new_old (zip ns us) (n, type_in ms t) (ap is_none (place_at ns us n (as_long ms ns ts e)) ∙ ap not (sym old)))
 
 -- the fields have the same types in a longer table
 pub fields_stay : (new old : Types) (m : FieldMap) → BeginsWith (objects_of new) (objects_of old) → is_map_below (length old.objects.items) m ≡ true →

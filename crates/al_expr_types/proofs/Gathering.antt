@@ -36,9 +36,9 @@ module _ {X : Type 0} (all : List X → Optional) (one : X → Optional) where
       all (take (i + 1) xs) ≡ fuse_optional (all (take i xs)) (one x)
   taken more xs i x lt e = ap all (take_more xs i x lt ∙ ap (λ y. take i xs ++ y ∷ []) (sym e)) ∙ more (take i xs) x
 
-  pub next : ((xs : List X) (x : X) → all (xs ++ x ∷ []) ≡ fuse_optional (all xs) (one x)) → (xs : List X) (i : ℕ) (x : X) (start sofar new : Optional) → i < length xs →
-      x ≡ get_or xs i x → sofar ≡ fuse_optional start (all (take i xs)) → new ≡ fuse_optional sofar (one x) → new ≡ fuse_optional start (all (take (i + 1) xs))
-  next more xs i x start sofar new lt e old step =
+  pub next : ((xs : List X) (x : X) → all (xs ++ x ∷ []) ≡ fuse_optional (all xs) (one x)) → (xs : List X) (i : ℕ) (x : X) (start so_far new : Optional) → i < length xs →
+      x ≡ get_or xs i x → so_far ≡ fuse_optional start (all (take i xs)) → new ≡ fuse_optional so_far (one x) → new ≡ fuse_optional start (all (take (i + 1) xs))
+  next more xs i x start so_far new lt e old step =
       step ∙ ap (λ o. fuse_optional o (one x)) old ∙ optional_assoc start (all (take i xs)) (one x) ∙ ap (fuse_optional start) (sym (taken more xs i x lt e))
 
   -- fusing with an element of the list again changes nothing

@@ -146,18 +146,18 @@ within : (us : List Type') (n k : ℕ) (d : Type') → k < n → n ≤ length us
 within us n k d lt le = slice_get-get_or (take n us) k d (omega (arith, length-take n us, lt, le)) ∙ ap Some (get_or-take n us k d lt)
 
 -- the type at a position, among the first `i` types and among the first `i + 1`
-at_next : (us : List Type') (o : Option ℕ) (i : ℕ) (t d : Type') (start sofar new : Optional) (b : Bool) → b ≡ is_placed o i → i < length us → t ≡ get_or us i d →
-    sofar ≡ fuse_optional start (optional (option_and_then (λ k. slice_get (take i us) k) o)) → new ≡ (if b then fuse_optional sofar (Present t) else sofar) →
+at_next : (us : List Type') (o : Option ℕ) (i : ℕ) (t d : Type') (start so_far new : Optional) (b : Bool) → b ≡ is_placed o i → i < length us → t ≡ get_or us i d →
+    so_far ≡ fuse_optional start (optional (option_and_then (λ k. slice_get (take i us) k) o)) → new ≡ (if b then fuse_optional so_far (Present t) else so_far) →
     new ≡ fuse_optional start (optional (option_and_then (λ k. slice_get (take (i + 1) us) k) o))
-at_next us None i t d start sofar new true is lt e old step = absurd cc
-at_next us None i t d start sofar new false is lt e old step = step ∙ old
-at_next us (Some k) i t d start sofar new true is lt e old step =
+at_next us None i t d start so_far new true is lt e old step = absurd cc
+at_next us None i t d start so_far new false is lt e old step = step ∙ old
+at_next us (Some k) i t d start so_far new true is lt e old step =
     let same : k ≡ i = grind (arith, nat_tests) in
     let before = slice_get_past (take i us) k (omega (arith, length-take i us, same)) in
     let after = within us (i + 1) k d (omega (arith, same)) (omega (arith, lt)) ∙ ap (λ j. Some (get_or us j d)) same ∙ ap Some (sym e) in
     step ∙ ap (λ o. fuse_optional o (Present t)) (old ∙ ap (λ o. fuse_optional start (optional o)) before ∙ nothing_last start)
     ∙ ap (λ o. fuse_optional start (optional o)) (sym after)
-at_next us (Some k) i t d start sofar new false is lt e old step =
+at_next us (Some k) i t d start so_far new false is lt e old step =
     let apart : (k < i) ⊎ (i < k) = grind (arith, nat_tests) in
     let same : slice_get (take i us) k ≡ slice_get (take (i + 1) us) k =
     ⊎_elim (λ less. within us i k d less (omega (arith, lt)) ∙ sym (within us (i + 1) k d (omega (arith, less)) (omega (arith, lt))))
@@ -178,15 +178,15 @@ merged_none [] n start = sym (nothing_last start)
 merged_none (m ∷ ns) n start = sym (nothing_last start)
 
 -- one more field, which counts if it is the first with its name
-pub merged_next : (ns : List (List ℕ)) (us : List Type') (i : ℕ) (x : List ℕ) (t d : Type') (first : Bool) (start sofar new : List ℕ → Optional) → i < length us →
+pub merged_next : (ns : List (List ℕ)) (us : List Type') (i : ℕ) (x : List ℕ) (t d : Type') (first : Bool) (start so_far new : List ℕ → Optional) → i < length us →
     x ≡ get_or ns i x → t ≡ get_or us i d → first ≡ is_placed (name_place ns x) i →
-    ((n : List ℕ) → sofar n ≡ fuse_optional (start n) (optional (field_at n (zip ns (take i us))))) → new ≡ (if first then and_named sofar x (Present t) else sofar) →
+    ((n : List ℕ) → so_far n ≡ fuse_optional (start n) (optional (field_at n (zip ns (take i us))))) → new ≡ (if first then and_named so_far x (Present t) else so_far) →
     (n : List ℕ) → new n ≡ fuse_optional (start n) (optional (field_at n (zip ns (take (i + 1) us))))
-merged_next ns us i x t d first start sofar new lt name ty is old step n =
+merged_next ns us i x t d first start so_far new lt name ty is old step n =
     let found : (k : ℕ) → optional (field_at n (zip ns (take k us))) ≡ optional (option_and_then (λ j. slice_get (take k us) j) (name_place ns n)) =
     λ k. ap optional (found_by_name ns (take k us) n) in
-    at_next us (name_place ns n) i t d (start n) (sofar n) (new n) (first && same_name x n) (ap (λ b. b && same_name x n) is ∙ sym (placed_both ns x n i name)) lt ty
-    (old n ∙ ap (fuse_optional (start n)) (found i)) (ap (λ f. f n) step ∙ named_if first sofar x n (Present t))
+    at_next us (name_place ns n) i t d (start n) (so_far n) (new n) (first && same_name x n) (ap (λ b. b && same_name x n) is ∙ sym (placed_both ns x n i name)) lt ty
+    (old n ∙ ap (fuse_optional (start n)) (found i)) (ap (λ f. f n) step ∙ named_if first so_far x n (Present t))
     ∙ ap (fuse_optional (start n)) (sym (found (i + 1)))
 
 -- string fields as names with types

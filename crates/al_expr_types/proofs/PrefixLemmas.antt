@@ -8,7 +8,7 @@ use Rattle.al_types.specs.Types.{Type', Absent, Optional, Parts, Present, common
 use Rattle.al_types.proofs.FuseLaws.{nothing_last, optional_assoc}
 use Rattle.al_expr_types.specs.Names.{names_in}
 use Rattle.al_expr_types.specs.Prefixes.{HasPrefix, prefix_parts}
-use Rattle.al_expr_types.specs.Types.{common_of, fields_parts, is_below, named_types, object_in, parts_by, parts_of_all, rest_in, type_in}
+use Rattle.al_expr_types.specs.Types.{common_of, fields_parts, is_below, named_types, object_in, parts_of_all, rest_in, type_in}
 use Rattle.al_expr_types.specs.declared.fields.FieldMap.{FieldMap}
 use Rattle.al_expr_types.specs.declared.objects.Fields.{Fields}
 use Rattle.al_expr_types.specs.declared.objects.Object.{Object}
@@ -52,15 +52,12 @@ prefix_common ms m k =
     let few : length ts ≤ length ns = omega (arith, length-take k m.types.items, m.even) in
     nothing_last (common_in (named_types ms ns ts)) ∙ common_zipped (type_in ms) ns ts few
 
--- fields that are a prefix of a map, without a type of other fields
-pub prefix_is : (ms : List Parts) (f : Fields) (m : FieldMap) (k : ℕ) → f.map.value ≡ m → f.count ≡ k → f.rest ≡ None → fields_parts ms f ≡ prefix_parts ms m k
-prefix_is ms f m k e n r = λ d. parts_with (named_types ms (names_in (e d).names) (take (n d) (e d).types.items)) (rest_in ms (r d))
-
--- an extension of a prefix has the same parts as the longer prefix
-pub same_by : (ms : List Parts) (f : Fields) (b : Prefix) (own : List Ty) (m : FieldMap) (k : ℕ) → f.map.value ≡ m → f.count ≡ k → f.rest ≡ None →
-    IsAfter m.types.items b.count own k → object_in ms b.object ≡ prefix_parts ms m b.count → parts_by ms f b own ≡ prefix_parts ms m k
-same_by ms f b own m k at n r after base =
-    let same = prefix_is ms f m k at n r in
+-- a prefix whose common type is computed from that of a shorter one
+pub same_by : (ms : List Parts) (f : FieldMap) (b : Prefix) (own : List Ty) (m : FieldMap) (k : ℕ) → f ≡ m →
+    IsAfter m.types.items b.count own k → object_in ms b.object ≡ prefix_parts ms m b.count →
+    ((prefix_parts ms f k).0, (prefix_parts ms f k).1, fuse_optional (object_in ms b.object).2 (common_of (map (type_in ms) own))) ≡ prefix_parts ms m k
+same_by ms f b own m k at after base =
+    let same = ap (λ g. prefix_parts ms g k) at in
     let all : fuse_optional (object_in ms b.object).2 (common_of (map (type_in ms) own)) ≡ (prefix_parts ms m k).2 =
     ap (λ o. fuse_optional o (common_of (map (type_in ms) own))) (ap (λ p. p.2) base ∙ prefix_common ms m b.count) ∙ after ms ∙ sym (prefix_common ms m k) in
     λ d. ((same d).0, (same d).1, all d)

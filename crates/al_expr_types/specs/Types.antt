@@ -65,14 +65,11 @@ abbrev pub common_of : List Type' → Optional
 common_of [] = Absent
 common_of (t ∷ ts) = fuse_optional (Present t) (common_of ts)
 
--- fields, given what a prefix of them has in common, and the types after it
-abbrev pub parts_by : List Parts → Fields → Prefix → List Ty → Parts
-parts_by ms f b own =
-    let p = fields_parts ms f in
-    (p.0, p.1, fuse_optional (object_in ms b.object).2 (common_of (map (type_in ms) own)))
-
+-- what all of its fields have in common is that of the prefix and of the types after it
 abbrev pub extension_parts : List Parts → Extension → Parts
-extension_parts ms e = parts_by ms e.fields e.base e.own.items
+extension_parts ms e =
+    let p = fields_parts ms e.fields in
+    (p.0, p.1, fuse_optional (object_in ms e.base.object).2 (common_of (map (type_in ms) e.own.items)))
 
 -- string fields with these names
 abbrev pub strings_parts : List (List ℕ) → Parts

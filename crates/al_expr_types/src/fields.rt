@@ -66,23 +66,11 @@ impl<'a> FieldMap<'a> {
         ensures below { IfOk result (λ f. (k : ℕ) → is_map_below k self.entry ≡ true
             → is_below k ty ≡ true → is_map_below k f ≡ true) }
     {
-        let position = self.names.position(name)?;
-        match position {
-            Some(_) => Ok(self),
-            None => self.push(name, ty),
+        if self.names.position(name)?.is_some() {
+            return Ok(self);
         }
-    }
-
-    /// Appends a field with a new name.
-    fn push(self, name: &'a [u8], ty: Ty) -> Result<FieldMap<'a>, AllocError>
-        requires { name_place (names_in self.names) name.now ≡ None }
-        ensures fields { IfOk result (λ f. (ms : List Parts)
-            → fields_in ms f ≡ put_new (fields_in ms self.entry) (name.now, type_in ms ty)) }
-        ensures below { IfOk result (λ f. (k : ℕ) → is_map_below k self.entry ≡ true
-            → is_below k ty ≡ true → is_map_below k f ≡ true) }
-    {
-        let mut types = self.types;
-        let names = self.names.push(name)?;
+        let FieldMap { names, mut types } = self;
+        let names = names.push(name)?;
         types.push(ty)?;
         Ok(FieldMap { names, types })
     }
@@ -125,8 +113,7 @@ impl<'a> FieldMap<'a> {
         ensures below { IfOk result
             (λ found. (k : ℕ) → is_map_below k self.now ≡ true → is_rest_below k found ≡ true) }
     {
-        let position = self.names.position(name)?;
-        match position {
+        match self.names.position(name)? {
             Some(i) => Ok(self.type_at(i, count)),
             None => Ok(None),
         }

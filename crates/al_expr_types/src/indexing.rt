@@ -22,24 +22,24 @@ use std::alloc::AllocError;
 impl<'a> Types<'a> {
     /// Adds the fields of an object to those merged so far.
     #[cycle(merging)]
-    fn merge(&self, n: u32, sofar: FieldJoins<'a>) -> Result<FieldJoins<'a>, AllocError>
+    fn merge(&self, n: u32, so_far: FieldJoins<'a>) -> Result<FieldJoins<'a>, AllocError>
         requires { n < length self.now.objects.items }
         ensures found { IfOk result (λ m. found_in (objects_of self.now) m
-            ≡ λ name. fuse_optional (found_in (objects_of self.now) sofar.entry name)
+            ≡ λ name. fuse_optional (found_in (objects_of self.now) so_far.entry name)
             ((object_in (objects_of self.now) n).0 name)) }
         ensures below { IfOk result
-            (λ m. are_joins_below (length self.now.objects.items) sofar.entry ≡ true
+            (λ m. are_joins_below (length self.now.objects.items) so_far.entry ≡ true
             → are_joins_below (length self.now.objects.items) m ≡ true) }
     {
         if let Some(index) = self.index_of(n) {
-            return sofar.and_object(index);
+            return so_far.and_object(index);
         }
         match self.object(n) {
-            Object::Fields(fields) => sofar.and_object(fields),
-            Object::Extension(extension) => sofar.and_object(&extension.fields),
-            Object::Strings(names) => sofar.and_strings(names),
+            Object::Fields(fields) => so_far.and_object(fields),
+            Object::Extension(extension) => so_far.and_object(&extension.fields),
+            Object::Strings(names) => so_far.and_strings(names),
             Object::Common(of) => {
-                let mut all = sofar;
+                let mut all = so_far;
                 for m in of.as_slice() {
                     let more = self.merge(*m, all)?;
                     all = more;

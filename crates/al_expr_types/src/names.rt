@@ -63,8 +63,7 @@ fn index_for_more(
     if names.len() < MOST_SCANNED {
         return Ok(None);
     }
-    let made = index_of(alloc, names)?;
-    Ok(Some(made))
+    Ok(Some(index_of(alloc, names)?))
 }
 
 impl<'a> Names<'a> {
@@ -120,21 +119,14 @@ impl<'a> Names<'a> {
         ensures { IfOk result (λ ns. names_in ns ≡ names_in self.entry ++ name.now ∷ []) }
     {
         let mut names = self.names;
-        let found = index_for_more(*names.allocator(), names.as_slice(), self.index)?;
-        match found {
-            Some(sofar) => {
-                let mut index = sofar;
+        let index = match index_for_more(*names.allocator(), names.as_slice(), self.index)? {
+            Some(mut index) => {
                 index.insert(name, names.len())?;
-                names.push(name)?;
-                Ok(Names {
-                    names,
-                    index: Some(index),
-                })
+                Some(index)
             }
-            None => {
-                names.push(name)?;
-                Ok(Names { names, index: None })
-            }
-        }
+            None => None,
+        };
+        names.push(name)?;
+        Ok(Names { names, index })
     }
 }

@@ -48,42 +48,16 @@ fn first_positions(alloc: Global, types: &[Ty]) -> Result<Vec<usize>, AllocError
     Ok(firsts)
 }
 
-/// Whether two types are the same object, nested in as many arrays.
-fn are_one_object(a: Ty, b: Ty) -> bool
-    ensures { IsTrue result → a ≡ b }
-{
-    let Base::Object(m) = a.of else {
-        return false;
-    };
-    let Base::Object(n) = b.of else {
-        return false;
-    };
-    if a.arrays != b.arrays {
-        return false;
-    }
-    m == n
-}
-
-/// Whether this object is at a position.
-fn is_object_at(types: &[Ty], i: usize, ty: Ty) -> bool
-    ensures { IsTrue result → Contains types.now ty }
-{
-    if i >= types.len() {
-        return false;
-    }
-    are_one_object(types[i], ty)
-}
-
 /// Whether an object occurs before a position. If it is missed, it is only taken twice.
 fn is_object_before(types: &[Ty], firsts: &[usize], i: usize, ty: Ty) -> bool
     requires { i ≤ length types.now }
     ensures { IsTrue result → Contains (take i types.now) ty }
 {
-    if i >= firsts.len() {
+    let first = firsts.get(i).copied().unwrap_or(i);
+    if first >= i {
         return false;
     }
-    let before = &types[..i];
-    is_object_at(before, firsts[i], ty)
+    types[first] == ty
 }
 
 /// The types from one position to another, without objects that occur before.
@@ -135,21 +109,6 @@ impl<'a> Prefixes<'a> {
         })
     }
 
-    /// The first `count` fields.
-    fn fields(&self, count: usize) -> Result<Fields<'a>, AllocError>
-        requires { count ≤ length (map_in self.now).types.items }
-        ensures map { IfOk result (λ f. f.map.value ≡ map_in self.now) }
-        ensures count { IfOk result (λ f. f.count ≡ count) }
-        ensures rest { IfOk result (λ f. f.rest ≡ None) }
-    {
-        let map = self.map.clone()?;
-        Ok(Fields {
-            map,
-            count,
-            rest: None,
-        })
-    }
-
     /// The number of a new object with the first `count` fields, based on one with fewer of them if there is one.
     fn object(
         &self,
@@ -166,7 +125,12 @@ impl<'a> Prefixes<'a> {
         ensures there { IfOk result (λ n. n < length types.new.objects.items) }
         ensures kept { BeginsWith (objects_of types.new) (objects_of types.old) }
     {
-        let fields = self.fields(count)?;
+        let map = self.map.clone()?;
+        let fields = Fields {
+            map,
+            count,
+            rest: None,
+        };
         match base {
             Some(base) => {
                 let all = self.map.types.as_slice();

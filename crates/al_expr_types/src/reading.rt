@@ -22,15 +22,15 @@ use crate::types::Types;
 use std::alloc::{AllocError, Global};
 
 /// Joins types with those so far. Fails with `AllocError` when out of memory, as everything here does.
-fn and_all(alloc: Global, types: &[Ty], sofar: Join) -> Result<Join, AllocError>
+fn and_all(alloc: Global, types: &[Ty], so_far: Join) -> Result<Join, AllocError>
     ensures part { IfOk result (λ j. (ms : List Parts)
         → join_in ms j
-        ≡ fuse_optional (join_in ms sofar) (common_of (map (type_in ms) types.now))) }
+        ≡ fuse_optional (join_in ms so_far) (common_of (map (type_in ms) types.now))) }
     ensures below { IfOk result
-        (λ j. (n : ℕ) → list_all (is_below n) types.now ≡ true → is_join_below n sofar ≡ true
+        (λ j. (n : ℕ) → list_all (is_below n) types.now ≡ true → is_join_below n so_far ≡ true
         → is_join_below n j ≡ true) }
 {
-    let mut all = sofar;
+    let mut all = so_far;
     for ty in types {
         all = all.and(alloc, *ty)?;
     }
@@ -38,37 +38,37 @@ fn and_all(alloc: Global, types: &[Ty], sofar: Join) -> Result<Join, AllocError>
 }
 
 /// Joins a type, if there is one, with those so far.
-fn and_one(alloc: Global, ty: Option<Ty>, sofar: Join) -> Result<Join, AllocError>
+fn and_one(alloc: Global, ty: Option<Ty>, so_far: Join) -> Result<Join, AllocError>
     ensures part { IfOk result
-        (λ j. (ms : List Parts) → join_in ms j ≡ fuse_optional (join_in ms sofar) (rest_in ms ty)) }
+        (λ j. (ms : List Parts) → join_in ms j ≡ fuse_optional (join_in ms so_far) (rest_in ms ty)) }
     ensures below { IfOk result
-        (λ j. (n : ℕ) → is_rest_below n ty ≡ true → is_join_below n sofar ≡ true
+        (λ j. (n : ℕ) → is_rest_below n ty ≡ true → is_join_below n so_far ≡ true
         → is_join_below n j ≡ true) }
 {
     match ty {
-        Some(ty) => sofar.and(alloc, ty),
-        None => Ok(sofar),
+        Some(ty) => so_far.and(alloc, ty),
+        None => Ok(so_far),
     }
 }
 
 impl Fields<'_> {
     /// Joins a part of them with the types so far.
-    fn gather(&self, alloc: Global, part: Part<'_>, sofar: Join) -> Result<Join, AllocError>
+    fn gather(&self, alloc: Global, part: Part<'_>, so_far: Join) -> Result<Join, AllocError>
         ensures part { IfOk result (λ j. (ms : List Parts)
             → join_in ms j
-            ≡ fuse_optional (join_in ms sofar) (part_in part.entry (fields_parts ms self.now))) }
+            ≡ fuse_optional (join_in ms so_far) (part_in part.entry (fields_parts ms self.now))) }
         ensures below { IfOk result
-            (λ j. (n : ℕ) → are_fields_below n self.now ≡ true → is_join_below n sofar ≡ true
+            (λ j. (n : ℕ) → are_fields_below n self.now ≡ true → is_join_below n so_far ≡ true
             → is_join_below n j ≡ true) }
     {
         match part {
             Part::Named(name) => {
                 let found = self.map.get(name, self.count)?;
-                and_one(alloc, found, sofar)
+                and_one(alloc, found, so_far)
             }
-            Part::Rest => and_one(alloc, self.rest, sofar),
+            Part::Rest => and_one(alloc, self.rest, so_far),
             Part::All => {
-                let all = and_all(alloc, &self.map.types.as_slice()[..self.count], sofar)?;
+                let all = and_all(alloc, &self.map.types.as_slice()[..self.count], so_far)?;
                 and_one(alloc, self.rest, all)
             }
         }
@@ -95,96 +95,74 @@ fn gather_strings(
     alloc: Global,
     names: &NameList,
     part: Part<'_>,
-    sofar: Join,
+    so_far: Join,
 ) -> Result<Join, AllocError>
     ensures part { IfOk result (λ j. (ms : List Parts)
         → join_in ms j
-        ≡ fuse_optional (join_in ms sofar) (part_in part.entry (strings_parts names.now))) }
+        ≡ fuse_optional (join_in ms so_far) (part_in part.entry (strings_parts names.now))) }
     ensures below { IfOk result
-        (λ j. (n : ℕ) → is_join_below n sofar ≡ true → is_join_below n j ≡ true) }
+        (λ j. (n : ℕ) → is_join_below n so_far ≡ true → is_join_below n j ≡ true) }
 {
     if has_string(names, part)? {
-        return sofar.and(alloc, Ty::STRING);
+        return so_far.and(alloc, Ty::STRING);
     }
-    Ok(sofar)
+    Ok(so_far)
 }
 
 impl<'a> Types<'a> {
-    /// The index of an object, if it was made and has the part.
-    fn index_for(&self, n: u32, part: Part<'_>) -> Option<&Fields<'a>>
-        ensures part { IfSome result
-            (λ f. part_in part.entry (fields_parts (objects_of self.now) f.now)
-            ≡ part_in part.entry (object_in (objects_of self.now) n)) }
-        ensures below { IfSome result
-            (λ f. are_fields_below (length self.now.objects.items) f.now ≡ true) }
-    {
-        match part {
-            Part::Named(_) | Part::Rest => self.index_of(n),
-            Part::All => None,
-        }
-    }
-
-    /// What all fields of an object have in common, if that is the part and is kept.
-    fn common_for(&self, n: u32, part: Part<'_>) -> Option<Option<Ty>>
-        ensures part { IfSome result
-            (λ t. rest_in (objects_of self.now) t
-            ≡ part_in part.entry (object_in (objects_of self.now) n)) }
-        ensures below { IfSome result
-            (λ t. is_rest_below (length self.now.objects.items) t ≡ true) }
-    {
-        match part {
-            Part::Named(_) | Part::Rest => None,
-            Part::All => self.kept_common(n),
-        }
-    }
-
     /// Joins a part of fields that extend those of an object with the types so far.
     #[cycle(gathering)]
     fn gather_extension(
         &self,
         extension: &Extension<'a>,
         part: Part<'_>,
-        sofar: Join,
+        so_far: Join,
     ) -> Result<Join, AllocError>
         requires { is_object_below (length self.now.objects.items) (object.Extension extension.now)
             ≡ true }
         ensures part { IfOk result (λ j. join_in (objects_of self.now) j
-            ≡ fuse_optional (join_in (objects_of self.now) sofar)
+            ≡ fuse_optional (join_in (objects_of self.now) so_far)
             (part_in part.entry (extension_parts (objects_of self.now) extension.now))) }
-        ensures below { IfOk result (λ j. is_join_below (length self.now.objects.items) sofar ≡ true
+        ensures below { IfOk result (λ j. is_join_below (length self.now.objects.items) so_far ≡ true
             → is_join_below (length self.now.objects.items) j ≡ true) }
     {
         match part {
             Part::All => {
-                let of_base = self.gather(extension.base.object, part, sofar)?;
+                let of_base = self.gather(extension.base.object, part, so_far)?;
                 and_all(self.alloc, extension.own.as_slice(), of_base)
             }
-            Part::Named(_) | Part::Rest => extension.fields.gather(self.alloc, part, sofar),
+            Part::Named(_) | Part::Rest => extension.fields.gather(self.alloc, part, so_far),
         }
     }
 
     /// Joins a part of an object with the types so far.
     #[cycle(gathering)]
-    pub(crate) fn gather(&self, n: u32, part: Part<'_>, sofar: Join) -> Result<Join, AllocError>
+    pub(crate) fn gather(&self, n: u32, part: Part<'_>, so_far: Join) -> Result<Join, AllocError>
         requires { n < length self.now.objects.items }
         ensures part { IfOk result (λ j. join_in (objects_of self.now) j
-            ≡ fuse_optional (join_in (objects_of self.now) sofar)
+            ≡ fuse_optional (join_in (objects_of self.now) so_far)
             (part_in part.entry (object_in (objects_of self.now) n))) }
-        ensures below { IfOk result (λ j. is_join_below (length self.now.objects.items) sofar ≡ true
+        ensures below { IfOk result (λ j. is_join_below (length self.now.objects.items) so_far ≡ true
             → is_join_below (length self.now.objects.items) j ≡ true) }
     {
-        if let Some(index) = self.index_for(n, part) {
-            return index.gather(self.alloc, part, sofar);
-        }
-        if let Some(common) = self.common_for(n, part) {
-            return and_one(self.alloc, common, sofar);
+        match part {
+            Part::All => {
+                if let Some(common) = self.kept_common(n) {
+                    return and_one(self.alloc, common, so_far);
+                }
+            }
+            Part::Named(_) | Part::Rest => {
+                if let Some(index) = self.index_of(n) {
+                    return index.gather(self.alloc, part, so_far);
+                }
+            }
         }
         match self.object(n) {
-            Object::Fields(fields) => fields.gather(self.alloc, part, sofar),
-            Object::Extension(extension) => self.gather_extension(extension, part, sofar),
-            Object::Strings(names) => gather_strings(self.alloc, names, part, sofar),
+            Object::Fields(fields) => fields.gather(self.alloc, part, so_far),
+            Object::Extension(extension) => self.gather_extension(extension, part, so_far),
+            Object::Strings(names) => gather_strings(self.alloc, names, part, so_far),
             Object::Common(of) => {
-                let mut all = sofar;
+                let mut all = so_far;
                 for m in of.as_slice() {
                     all = self.gather(*m, part, all)?;
                 }

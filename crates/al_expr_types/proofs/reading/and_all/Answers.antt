@@ -19,7 +19,7 @@ loop-ty-preserved c =
     let is = get_or_default ts i any ty c.loop-ty-test.true in
     record {
       part = λ ms. next (λ us. common_of (map (type_in ms) us)) (λ u. Present (type_in ms u)) (types_more (type_in ms)) ts i ty
-          (join_in ms c.args.sofar) (join_in ms c.loop-ty.all) (join_in ms c.in_ok-all.all) c.loop-ty-test.true is
+          (join_in ms c.args.so_far) (join_in ms c.loop-ty.all) (join_in ms c.in_ok-all.all) c.loop-ty-test.true is
           (c.loop-ty.invariant.part ms) (c.in_ok-all.ensures.ty ms);
       below = λ n h k. c.in_ok-all.ensures.below n (c.loop-ty.invariant.below n h k) (all_at (is_below n) ts i any c.loop-ty-test.true h);
     }

@@ -21,7 +21,7 @@ returns-in_ok-all-in-All-clause-part c =
     let few : length (take f.count ts) ≤ length ns = omega (arith, length-take f.count ts, f.map.value.even) in
     IfOk-weaker c.and_one-in-All.result _ _
     (λ j is ms.
-    let start = join_in ms c.args.sofar in
+    let start = join_in ms c.args.so_far in
     let all = c.in_ok-all-in-All.ensures.part ms ∙ ap (λ xs. fuse_optional start (common_of (map (type_in ms) (take f.count xs)))) taken
     ∙ ap (fuse_optional start) (sym (common_zipped (type_in ms) ns (take f.count ts) few)) in
     fields_then_rest start (join_in ms c.in_ok-all-in-All.all) (join_in ms j) _ (rest_in ms f.rest) all (is ms)

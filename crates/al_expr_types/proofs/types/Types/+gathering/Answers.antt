@@ -13,7 +13,7 @@ use Rattle.al_expr_types.proofs.types.Types.+gathering.Goals as goal
 
 pub gather-loop-m-init : goal.gather-loop-m-init
 gather-loop-m-init t c = record {
-  part = gathered_none c.args.part (join_in (objects_of c.args.self.now) c.args.sofar);
+  part = gathered_none c.args.part (join_in (objects_of c.args.self.now) c.args.so_far);
   below = λ h. h;
 }
 
@@ -32,7 +32,7 @@ gather-loop-m-preserved t c =
     let ms = objects_of c.args.self.now in
     record {
       part = next (λ ks. part_in c.args.part (fuse_all (map (object_in ms) ks))) (λ k. part_in c.args.part (object_in ms k))
-          (parts_more c.args.part (object_in ms)) ns i m (join_in ms c.args.sofar) (join_in ms c.loop-m.all) (join_in ms c.in_ok-all-in-Common.all)
+          (parts_more c.args.part (object_in ms)) ns i m (join_in ms c.args.so_far) (join_in ms c.loop-m.all) (join_in ms c.in_ok-all-in-Common.all)
           c.loop-m-test.true (get_or_default ns i 0 m c.loop-m-test.true) c.loop-m.invariant.part c.in_ok-all-in-Common.ensures.part;
       below = λ h. c.in_ok-all-in-Common.ensures.below (c.loop-m.invariant.below h);
     }
@@ -47,7 +47,7 @@ pub gather-returns-after-loop-m-clause-part : goal.gather-returns-after-loop-m-c
 gather-returns-after-loop-m-clause-part t c =
     let ms = objects_of c.args.self.now in
     let ns = c.as_slice-m-items.result.now in
-    let start = join_in ms c.args.sofar in
+    let start = join_in ms c.args.so_far in
     let all = take_all c.loop-m.m-index ns (omega (arith, c.loop-m-test.false)) in
     of_object ms c.args.part start _ _ c.object.result.now _ c.object.ensures.object c.in-Common.is
     (c.loop-m.invariant.part ∙ ap (λ l. fuse_optional start (part_in c.args.part (fuse_all (map (object_in ms) l)))) (all ∙ c.as_slice-m-items.ensures.value))
@@ -66,7 +66,7 @@ pub gather_extension-returns-in_ok-of_base-in-All-clause-part : goal.gather_exte
 gather_extension-returns-in_ok-of_base-in-All-clause-part t c =
     let e = c.args.extension.now in
     let ms = objects_of c.args.self.now in
-    let start = join_in ms c.args.sofar in
+    let start = join_in ms c.args.so_far in
     let of_base = join_in ms c.in_ok-of_base-in-All.of_base in
     let own = common_of (map (type_in ms) e.own.items) in
     let base = c.in_ok-of_base-in-All.ensures.part ∙ ap (λ p. fuse_optional start (part_in p (object_in ms e.base.object))) c.in-All.is in

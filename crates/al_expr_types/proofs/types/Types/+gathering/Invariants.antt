@@ -15,7 +15,7 @@ decreases-gather_extension l = 2 * l.extension.now.base.object + 1
 
 abbrev pub invariant-gather-loop-m : goal.invariant-gather-loop-m
 invariant-gather-loop-m l = record {
-  part : join_in (objects_of l.self) l.all ≡ fuse_optional (join_in (objects_of l.self) l.fn.sofar)
+  part : join_in (objects_of l.self) l.all ≡ fuse_optional (join_in (objects_of l.self) l.fn.so_far)
       (part_in l.part (fuse_all (map (object_in (objects_of l.self)) (take l.m-index l.m-items))));
-  below : is_join_below (length l.self.objects.items) l.fn.sofar ≡ true → is_join_below (length l.self.objects.items) l.all ≡ true;
+  below : is_join_below (length l.self.objects.items) l.fn.so_far ≡ true → is_join_below (length l.self.objects.items) l.all ≡ true;
 }

@@ -28,7 +28,7 @@ loop-m-preserved t c =
     let ms = objects_of c.args.self.now in
     record {
       found = λ name. next (λ ks. (fuse_all (map (object_in ms) ks)).0 name) (λ k. (object_in ms k).0 name) (λ ks k. ap (λ p. p.0 name) (fused_push (object_in ms) ks k)) ns i m
-          (found_in ms c.args.sofar name) (found_in ms c.loop-m.all name) (found_in ms c.in_ok-more-in-Common.more name) c.loop-m-test.true
+          (found_in ms c.args.so_far name) (found_in ms c.loop-m.all name) (found_in ms c.in_ok-more-in-Common.more name) c.loop-m-test.true
           (get_or_default ns i 0 m c.loop-m-test.true) (c.loop-m.invariant.found name) (ap (λ f. f name) c.in_ok-more-in-Common.ensures.found);
       below = λ h. c.in_ok-more-in-Common.ensures.below (c.loop-m.invariant.below h);
     }
@@ -37,7 +37,7 @@ pub returns-in-Fields-clause-found : goal.returns-in-Fields-clause-found
 returns-in-Fields-clause-found t c =
     let ms = objects_of c.args.self.now in
     IfOk-weaker c.and_object-in-Fields.result _ _
-    (λ m is. of_object ms (found_in ms c.args.sofar) _ _ c.object.result.now _ c.object.ensures.object c.in-Fields.is (is ms)) c.and_object-in-Fields.ensures.found
+    (λ m is. of_object ms (found_in ms c.args.so_far) _ _ c.object.result.now _ c.object.ensures.object c.in-Fields.is (is ms)) c.and_object-in-Fields.ensures.found
 
 pub returns-in-Fields-clause-below : goal.returns-in-Fields-clause-below
 returns-in-Fields-clause-below t c =
@@ -49,7 +49,7 @@ pub returns-in-Strings-clause-found : goal.returns-in-Strings-clause-found
 returns-in-Strings-clause-found t c =
     let ms = objects_of c.args.self.now in
     IfOk-weaker c.and_strings.result _ _
-    (λ m is. of_object ms (found_in ms c.args.sofar) _ _ c.object.result.now _ c.object.ensures.object c.in-Strings.is (is ms)) c.and_strings.ensures.found
+    (λ m is. of_object ms (found_in ms c.args.so_far) _ _ c.object.result.now _ c.object.ensures.object c.in-Strings.is (is ms)) c.and_strings.ensures.found
 
 pub returns-in-Strings-clause-below : goal.returns-in-Strings-clause-below
 returns-in-Strings-clause-below t c =
@@ -59,7 +59,7 @@ pub returns-after-loop-m-clause-found : goal.returns-after-loop-m-clause-found
 returns-after-loop-m-clause-found t c = λ d name.
     let ms = objects_of c.args.self.now in
     let ns = c.as_slice-m-items.result.now in
-    let start : Optional = found_in ms c.args.sofar name in
+    let start : Optional = found_in ms c.args.so_far name in
     let all = take_all c.loop-m.m-index ns (omega (arith, c.loop-m-test.false)) in
     (c.loop-m.invariant.found name
     ∙ ap (λ l. fuse_optional start ((fuse_all (map (object_in ms) l)).0 name)) (all ∙ c.as_slice-m-items.ensures.value)
@@ -69,13 +69,13 @@ pub returns-in-Some-clause-found : goal.returns-in-Some-clause-found
 returns-in-Some-clause-found t c =
     let ms = objects_of c.args.self.now in
     IfOk-weaker c.and_object.result _ _
-    (λ m is. is ms ∙ ap (λ f name. fuse_optional (found_in ms c.args.sofar name) (f name)) c.in-Some.ensures.1.0) c.and_object.ensures.found
+    (λ m is. is ms ∙ ap (λ f name. fuse_optional (found_in ms c.args.so_far name) (f name)) c.in-Some.ensures.1.0) c.and_object.ensures.found
 
 pub returns-in-Extension-clause-found : goal.returns-in-Extension-clause-found
 returns-in-Extension-clause-found t c =
     let ms = objects_of c.args.self.now in
     IfOk-weaker c.and_object-in-Extension.result _ _
-    (λ m is. of_object ms (found_in ms c.args.sofar) _ _ c.object.result.now _ c.object.ensures.object c.in-Extension.is (is ms)) c.and_object-in-Extension.ensures.found
+    (λ m is. of_object ms (found_in ms c.args.so_far) _ _ c.object.result.now _ c.object.ensures.object c.in-Extension.is (is ms)) c.and_object-in-Extension.ensures.found
 
 pub returns-in-Extension-clause-below : goal.returns-in-Extension-clause-below
 returns-in-Extension-clause-below t c =

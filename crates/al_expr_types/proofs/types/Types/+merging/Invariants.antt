@@ -11,7 +11,7 @@ decreases-merge l = l.n
 
 abbrev pub invariant-loop-m : goal.invariant-loop-m
 invariant-loop-m l = record {
-  found : (name : List ℕ) → found_in (objects_of l.self) l.all name ≡ fuse_optional (found_in (objects_of l.self) l.fn.sofar name)
+  found : (name : List ℕ) → found_in (objects_of l.self) l.all name ≡ fuse_optional (found_in (objects_of l.self) l.fn.so_far name)
       ((fuse_all (map (object_in (objects_of l.self)) (take l.m-index l.m-items))).0 name);
-  below : are_joins_below (length l.self.objects.items) l.fn.sofar ≡ true → are_joins_below (length l.self.objects.items) l.all ≡ true;
+  below : are_joins_below (length l.self.objects.items) l.fn.so_far ≡ true → are_joins_below (length l.self.objects.items) l.all ≡ true;
 }
