@@ -1,7 +1,8 @@
 -- Fusing objects one after another, and their fields one after another.
-use Rattle.std.proofs.Common.{◌≡◌, ◌+◌, ◌<◌, ◌≤◌, ℕ, List, [], ◌∷◌, ◌++◌, map, take, length, get_or, zero, suc, false, Option, Some, None, refl, sym, ap, ◌∙◌, arith}
+use Rattle.std.proofs.Common.{◌≡◌, ◌+◌, ◌<◌, ◌≤◌, ℕ, List, [], ◌∷◌, ◌++◌, map, take, length, get_or, zero, suc, Bool, true, false, Option, Some, None, refl, sym, ap, ◌∙◌, arith}
 use Rattle.std.proofs.lemmas.Bool.Decides.{nat_tests}
 use Rattle.std.proofs.lemmas.List.{map-append, take_more}
+use Rattle.std.specs.Bool.{then_some}
 use Rattle.std.specs.Prelude.{Contains, is_some, nat_eq, nat_lt, not, option_map, zip}
 use Rattle.al_base.specs.NamePlaces.{name_place}
 use Rattle.al_types.specs.Strings.{strings}
@@ -12,8 +13,10 @@ use Rattle.al_types.specs.Types.{Type', String, Optional, Absent, Present, Parts
 use Rattle.al_types.specs.Fused.{fuse_parts, fuse_all}
 use Rattle.al_types.proofs.FuseLaws.{fused_both, last_turned, nothing_last, optional_assoc, optional_back, optional_same}
 use Rattle.al_expr_types.specs.Parts.{part_in}
-use Rattle.al_expr_types.specs.Types.{common_of, no_parts, object_parts, rest_in, type_in}
+use Rattle.al_expr_types.specs.Types.{common_of, no_parts, object_parts, rest_in, strings_parts, type_in}
 use Rattle.al_expr_types.specs.declared.objects.Object.{Object}
+use Rattle.al_expr_types.specs.declared.ty.Base.TheVariants as base
+use Rattle.al_expr_types.specs.declared.ty.Scalar.TheVariants as scalar
 use Rattle.al_expr_types.specs.declared.ty.Ty.{Ty}
 use Rattle.al_expr_types.specs.declared.parts.Part.{Part}
 use Rattle.al_expr_types.specs.declared.parts.Part.TheVariants as part
@@ -101,17 +104,27 @@ parts_more p f ns n = ap (part_in p) (fused_push f ns n) ∙ part_fused p (fuse_
 
 -- ---- strings
 
+-- whether a part of string fields with these names is a string
+abbrev pub has_string : List (List ℕ) → Part → Bool
+has_string ns (part.Named n) = is_some (name_place ns n.now)
+has_string ns part.Rest = false
+has_string ns part.All = nat_lt 0 (length ns)
+
 string_of : (o : Option ℕ) → optional (option_map (λ i. String) o) ≡ string_unless (not (is_some o))
 string_of None = refl
 string_of (Some i) = refl
 
-pub named_string : (ns : List (List ℕ)) (n : List ℕ) (o : Option ℕ) → o ≡ name_place ns n → optional (field_at n (strings ns)) ≡ string_unless (not (is_some o))
-named_string ns n o e = ap optional (string_at ns n ∙ ap (option_map (λ i. String)) (sym e)) ∙ string_of o
-
-pub all_strings : (ns : List (List ℕ)) (n : ℕ) → n ≡ length ns → fuse_optional (common_in (strings ns)) Absent ≡ string_unless (not (nat_lt 0 n))
-all_strings ns n e =
+pub part_of_strings : (ns : List (List ℕ)) (p : Part) → part_in p (strings_parts ns) ≡ string_unless (not (has_string ns p))
+part_of_strings ns (part.Named n) = ap optional (string_at ns n.now) ∙ string_of (name_place ns n.now)
+part_of_strings ns part.Rest = refl
+part_of_strings ns part.All =
+    let n = length ns in
     let some : nat_eq n 0 ≡ not (nat_lt 0 n) = grind (arith, nat_tests) in
-    nothing_last (common_in (strings ns)) ∙ common_strings ns ∙ ap string_unless (ap (λ k. nat_eq k 0) (sym e) ∙ some)
+    nothing_last (common_in (strings ns)) ∙ common_strings ns ∙ ap string_unless some
+
+pub one_string : (ms : List Parts) (b : Bool) → rest_in ms (then_some b (record { arrays = 0; of = base.Scalar scalar.String })) ≡ string_unless (not b)
+one_string ms true = refl
+one_string ms false = refl
 
 -- ---- the types of fields, then the type of other fields
 

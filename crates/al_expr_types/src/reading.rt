@@ -75,21 +75,6 @@ impl Fields<'_> {
     }
 }
 
-/// Whether a part of an object with string fields is a string.
-fn has_string(names: &NameList, part: Part<'_>) -> Result<bool, AllocError>
-    ensures { IfOk result
-        (λ b. part_in part.entry (strings_parts names.now) ≡ string_unless (not b)) }
-{
-    match part {
-        Part::Named(name) => {
-            let position = names.position(name)?;
-            Ok(position.is_some())
-        }
-        Part::Rest => Ok(false),
-        Part::All => Ok(names.len() > 0),
-    }
-}
-
 /// Joins a part of an object with string fields with the types so far.
 fn gather_strings(
     alloc: Global,
@@ -103,10 +88,12 @@ fn gather_strings(
     ensures below { IfOk result
         (λ j. (n : ℕ) → is_join_below n so_far ≡ true → is_join_below n j ≡ true) }
 {
-    if has_string(names, part)? {
-        return so_far.and(alloc, Ty::STRING);
-    }
-    Ok(so_far)
+    let has_string = match part {
+        Part::Named(name) => names.position(name)?.is_some(),
+        Part::Rest => false,
+        Part::All => names.len() > 0,
+    };
+    and_one(alloc, has_string.then_some(Ty::STRING), so_far)
 }
 
 impl<'a> Types<'a> {
