@@ -41,8 +41,7 @@ impl<'a> Types<'a> {
             Object::Common(of) => {
                 let mut all = so_far;
                 for m in of.as_slice() {
-                    let more = self.merge(*m, all)?;
-                    all = more;
+                    all = self.merge(*m, all)?;
                 }
                 Ok(all)
             }
@@ -61,8 +60,7 @@ impl<'a> Types<'a> {
         let mut types = Vec::new(self.alloc);
         for join in merging.as_slice() {
             let copy = join.copy(self.alloc)?;
-            let made = self.join_type(copy)?;
-            match made {
+            match self.join_type(copy)? {
                 Some(ty) => types.push(ty)?,
                 // Each name has a type.
                 None => return Err(AllocError),

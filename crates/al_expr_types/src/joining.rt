@@ -84,31 +84,8 @@ fn join_objects(alloc: Global, arrays: u32, m: u32, n: u32) -> Result<Join, Allo
             of: Base::Object(m),
         }));
     }
-    let one = ObjectJoin::new(alloc, arrays);
-    let two = one.push(m)?.push(n)?;
-    Ok(Join::Objects(two))
-}
-
-/// Whether this object is at a position.
-fn is_object_at(objects: &[u32], i: usize, n: u32) -> bool
-    ensures { IsTrue result → Contains objects.now n }
-{
-    if i >= objects.len() {
-        return false;
-    }
-    objects[i] == n
-}
-
-/// Whether this object is among the first ones, which are searched one by one.
-fn is_among_first(objects: &[u32], n: u32) -> bool
-    ensures { IsTrue result → Contains objects.now n }
-{
-    for i in 0..objects.len().min(MOST_SCANNED) {
-        if is_object_at(objects, i, n) {
-            return true;
-        }
-    }
-    false
+    let objects = ObjectJoin::new(alloc, arrays).push(m)?.push(n)?;
+    Ok(Join::Objects(objects))
 }
 
 impl ObjectJoin {
@@ -127,11 +104,12 @@ impl ObjectJoin {
     fn has(&self, n: u32) -> bool
         ensures { IsTrue result → Contains self.now.objects.items n }
     {
-        if is_among_first(self.objects.as_slice(), n) {
+        let objects = self.objects.as_slice();
+        if objects[..objects.len().min(MOST_SCANNED)].contains(&n) {
             return true;
         }
         match self.places.get(&n) {
-            Some(i) => is_object_at(self.objects.as_slice(), *i, n),
+            Some(i) => objects.get(*i) == Some(&n),
             None => false,
         }
     }
@@ -182,10 +160,7 @@ impl ObjectJoin {
         }
         match t.of {
             Base::Scalar(_) => Ok(Join::One(any_in_arrays(self.arrays))),
-            Base::Object(n) => {
-                let more = self.and_object(n)?;
-                Ok(Join::Objects(more))
-            }
+            Base::Object(n) => Ok(Join::Objects(self.and_object(n)?)),
         }
     }
 }

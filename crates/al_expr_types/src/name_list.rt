@@ -108,15 +108,6 @@ fn bytes_of(alloc: Global, names: &[Name]) -> Result<Vec<&[u8]>, AllocError>
     Ok(bytes)
 }
 
-/// The first position of each name. Fails with `AllocError` when out of memory.
-fn positions_of(alloc: Global, names: &[Name]) -> Result<NamePositions, AllocError>
-    ensures position { IfOk result (λ p. name_position p ≡ name_place names.now) }
-    ensures first { IfOk result (λ p. TellsFirsts (name_place names.now) names.now (is_first_name p)) }
-{
-    let bytes = bytes_of(alloc, names)?;
-    NamePositions::of(alloc, bytes.as_slice())
-}
-
 /// Copies of names, each with memory of its own.
 fn copies_of(alloc: Global, names: &[Name]) -> Result<Vec<Name>, AllocError>
     ensures { IfOk result (λ copies. copies.items ≡ names.now) }
@@ -136,7 +127,8 @@ impl NameList {
     pub fn new(names: Vec<Name>) -> Result<NameList, AllocError>
         ensures { IfOk result (λ l. l ≡ names.items) }
     {
-        let positions = positions_of(*names.allocator(), names.as_slice())?;
+        let alloc = *names.allocator();
+        let positions = NamePositions::of(alloc, bytes_of(alloc, names.as_slice())?.as_slice())?;
         Ok(NameList { names, positions })
     }
 
@@ -151,8 +143,7 @@ impl NameList {
     pub fn copy(&self, alloc: Global) -> Result<NameList, AllocError>
         ensures { IfOk result (λ copy. copy ≡ self.now) }
     {
-        let names = copies_of(alloc, self.as_slice())?;
-        NameList::new(names)
+        NameList::new(copies_of(alloc, self.as_slice())?)
     }
 
     /// The name at a position.

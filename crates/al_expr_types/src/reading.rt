@@ -62,10 +62,7 @@ impl Fields<'_> {
             → is_join_below n j ≡ true) }
     {
         match part {
-            Part::Named(name) => {
-                let found = self.map.get(name, self.count)?;
-                and_one(alloc, found, so_far)
-            }
+            Part::Named(name) => and_one(alloc, self.map.get(name, self.count)?, so_far),
             Part::Rest => and_one(alloc, self.rest, so_far),
             Part::All => {
                 let all = and_all(alloc, &self.map.types.as_slice()[..self.count], so_far)?;
@@ -193,10 +190,7 @@ impl<'a> Types<'a> {
         ensures { IfOk result (λ of. IfSome of (λ v. are_below n v.items ≡ true)) }
     {
         match self.object(n) {
-            Object::Common(of) => {
-                let numbers = Vec::from_slice(self.alloc, of.as_slice())?;
-                Ok(Some(numbers))
-            }
+            Object::Common(of) => Ok(Some(Vec::from_slice(self.alloc, of.as_slice())?)),
             _ => Ok(None),
         }
     }

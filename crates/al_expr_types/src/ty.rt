@@ -62,12 +62,6 @@ impl Scalar {
         }
     }
 
-    fn is_any(self) -> bool
-        ensures { result ≡ is_any (base.Scalar self) }
-    {
-        matches!(self, Scalar::Any)
-    }
-
     /// Whether a value of this type can be used where one of the other is expected: any and every type, each with itself, and all but any
     /// as a string.
     fn is_assignable_to(self, to: Scalar) -> bool
@@ -109,15 +103,11 @@ impl Base {
         ensures { (ms : List Parts)
             → result ≡ assignable_type (base_type ms self) (base_type ms to) }
     {
-        match self {
-            Base::Object(_) => match to {
-                Base::Object(_) => true,
-                Base::Scalar(scalar) => scalar.is_any(),
-            },
-            Base::Scalar(from) => match to {
-                Base::Object(_) => from.is_any(),
-                Base::Scalar(to) => from.is_assignable_to(to),
-            },
+        match (self, to) {
+            (Base::Object(_), Base::Object(_)) => true,
+            (Base::Object(_), Base::Scalar(_)) => to.is_any(),
+            (Base::Scalar(_), Base::Object(_)) => self.is_any(),
+            (Base::Scalar(from), Base::Scalar(to)) => from.is_assignable_to(to),
         }
     }
 }

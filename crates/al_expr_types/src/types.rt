@@ -194,11 +194,7 @@ impl<'a> Types<'a> {
         ensures known { IfOk result (λ t. is_known self.new t ≡ true) }
         ensures kept { BeginsWith (objects_of self.new) (objects_of self.old) }
     {
-        let ty = self.join_type(join)?;
-        match ty {
-            Some(ty) => Ok(ty),
-            None => Ok(Ty::ANY),
-        }
+        Ok(self.join_type(join)?.unwrap_or(Ty::ANY))
     }
 
     /// What two types have in common.

@@ -15,8 +15,8 @@ returns-in-Scalar-clause-ty c = λ ms.
     ap Present (c.any_in_arrays-in-Scalar.ensures.ty ms
     ∙ even ms c.args.self.arrays _ c.args.t (base.Scalar c.in-Scalar.field-0) Any c.if-self-t.false c.in-Scalar.is (object_scalar _ c.in-Scalar.field-0))
 
-pub returns-in_ok-more-in-Object-clause-ty : goal.returns-in_ok-more-in-Object-clause-ty
-returns-in_ok-more-in-Object-clause-ty c = λ ms.
-    let e = c.in_ok-more-in-Object.ensures in
+pub returns-in_ok-and_object-in-Object-clause-ty : goal.returns-in_ok-and_object-in-Object-clause-ty
+returns-in_ok-and_object-in-Object-clause-ty c = λ ms.
+    let e = c.in_ok-and_object-in-Object.ensures in
     ap Present ((λ d. arrays_of (e.arrays d) (object_type (e.objects ms d)))
     ∙ even ms c.args.self.arrays _ c.args.t (base.Object c.in-Object.n) _ c.if-self-t.false c.in-Object.is refl)

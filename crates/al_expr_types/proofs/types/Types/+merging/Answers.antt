@@ -28,9 +28,9 @@ loop-m-preserved t c =
     let ms = objects_of c.args.self.now in
     record {
       found = λ name. next (λ ks. (fuse_all (map (object_in ms) ks)).0 name) (λ k. (object_in ms k).0 name) (λ ks k. ap (λ p. p.0 name) (fused_push (object_in ms) ks k)) ns i m
-          (found_in ms c.args.so_far name) (found_in ms c.loop-m.all name) (found_in ms c.in_ok-more-in-Common.more name) c.loop-m-test.true
-          (get_or_default ns i 0 m c.loop-m-test.true) (c.loop-m.invariant.found name) (ap (λ f. f name) c.in_ok-more-in-Common.ensures.found);
-      below = λ h. c.in_ok-more-in-Common.ensures.below (c.loop-m.invariant.below h);
+          (found_in ms c.args.so_far name) (found_in ms c.loop-m.all name) (found_in ms c.in_ok-all-in-Common.all name) c.loop-m-test.true
+          (get_or_default ns i 0 m c.loop-m-test.true) (c.loop-m.invariant.found name) (ap (λ f. f name) c.in_ok-all-in-Common.ensures.found);
+      below = λ h. c.in_ok-all-in-Common.ensures.below (c.loop-m.invariant.below h);
     }
 
 pub returns-in-Fields-clause-found : goal.returns-in-Fields-clause-found
