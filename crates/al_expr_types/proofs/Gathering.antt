@@ -9,7 +9,7 @@ use Rattle.al_types.specs.Strings.{strings}
 use Rattle.al_types.proofs.StringFields.{common_strings, string_at}
 use Rattle.al_types.specs.Presence.{is_present}
 use Rattle.al_types.specs.TypeParts.{string_unless}
-use Rattle.al_types.specs.Types.{Type', String, Optional, Absent, Present, Parts, common_in, field_at, fuse_optional, option_of, optional, or_else}
+use Rattle.al_types.specs.Types.{Type', String, Optional, Absent, Present, Parts, common_in, fuse_optional, option_of, optional, or_else}
 use Rattle.al_types.specs.Fused.{fuse_parts, fuse_all}
 use Rattle.al_types.proofs.FuseLaws.{fused_both, last_turned, nothing_last, optional_assoc, optional_back, optional_same}
 use Rattle.al_expr_types.specs.Parts.{part_in}

@@ -8,9 +8,8 @@ use Rattle.al_types.specs.Types.{Type', Absent, Optional, Parts, Present, common
 use Rattle.al_types.proofs.FuseLaws.{nothing_last, optional_assoc}
 use Rattle.al_expr_types.specs.Names.{names_in}
 use Rattle.al_expr_types.specs.Prefixes.{HasPrefix, prefix_parts}
-use Rattle.al_expr_types.specs.Types.{common_of, fields_parts, is_below, named_types, object_in, parts_of_all, rest_in, type_in}
+use Rattle.al_expr_types.specs.Types.{common_of, is_below, named_types, object_in, parts_of_all, type_in}
 use Rattle.al_expr_types.specs.declared.fields.FieldMap.{FieldMap}
-use Rattle.al_expr_types.specs.declared.objects.Fields.{Fields}
 use Rattle.al_expr_types.specs.declared.objects.Object.{Object}
 use Rattle.al_expr_types.specs.declared.objects.Prefix.{Prefix}
 use Rattle.al_expr_types.specs.declared.ty.Ty.{Ty}

@@ -15,7 +15,6 @@ use Rattle.al_expr_types.specs.declared.ty.Ty.{Ty}
 use Rattle.al_expr_types.specs.declared.objects.Extension.{Extension}
 use Rattle.al_expr_types.specs.declared.objects.Fields.{Fields}
 use Rattle.al_expr_types.specs.declared.objects.Object.{Object}
-use Rattle.al_expr_types.specs.declared.objects.Prefix.{Prefix}
 use Rattle.al_expr_types.specs.declared.objects.Object.TheVariants as object
 
 abbrev pub scalar_type : Scalar → Type'

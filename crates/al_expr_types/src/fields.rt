@@ -99,10 +99,7 @@ impl<'a> FieldMap<'a> {
         if i >= count {
             return None;
         }
-        if i >= self.types.len() {
-            return None;
-        }
-        Some(self.types[i])
+        self.types.get(i).copied()
     }
 
     /// The type of the field with a name, ignoring ASCII case, if it is among the first `count` fields.

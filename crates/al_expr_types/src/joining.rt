@@ -54,18 +54,14 @@ fn join_types(alloc: Global, a: Ty, b: Ty) -> Result<Join, AllocError>
     if a.arrays != b.arrays {
         return Ok(Join::One(any_in_arrays(a.arrays.min(b.arrays))));
     }
-    match a.of {
-        Base::Scalar(x) => match b.of {
-            Base::Scalar(y) => Ok(Join::One(Ty {
-                arrays: a.arrays,
-                of: Base::Scalar(x.fuse(y)),
-            })),
-            Base::Object(_) => Ok(Join::One(any_in_arrays(a.arrays))),
-        },
-        Base::Object(m) => match b.of {
-            Base::Scalar(_) => Ok(Join::One(any_in_arrays(a.arrays))),
-            Base::Object(n) => join_objects(alloc, a.arrays, m, n),
-        },
+    match (a.of, b.of) {
+        (Base::Scalar(x), Base::Scalar(y)) => Ok(Join::One(Ty {
+            arrays: a.arrays,
+            of: Base::Scalar(x.fuse(y)),
+        })),
+        (Base::Object(m), Base::Object(n)) => join_objects(alloc, a.arrays, m, n),
+        (Base::Scalar(_), Base::Object(_)) => Ok(Join::One(any_in_arrays(a.arrays))),
+        (Base::Object(_), Base::Scalar(_)) => Ok(Join::One(any_in_arrays(a.arrays))),
     }
 }
 

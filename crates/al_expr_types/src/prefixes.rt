@@ -34,13 +34,7 @@ fn first_positions(alloc: Global, types: &[Ty]) -> Result<Vec<usize>, AllocError
     let mut places: BTreeMap<u32, usize> = BTreeMap::new(alloc);
     for (i, ty) in types.iter().enumerate() {
         let first = match ty.of {
-            Base::Object(n) => match places.get(&n) {
-                Some(first) => *first,
-                None => {
-                    places.insert(n, i)?;
-                    i
-                }
-            },
+            Base::Object(n) => *places.entry(n)?.or_insert(i),
             Base::Scalar(_) => i,
         };
         firsts.push(first)?;
@@ -177,12 +171,11 @@ impl<'a> Prefixes<'a> {
         }
         let whole = count - count % BLOCK;
         let object = self.object(types, whole, base)?;
-        let new = Prefix {
+        self.base = Some(Prefix {
             object,
             count: whole,
-        };
-        self.base = Some(new);
-        Ok(Some(new))
+        });
+        Ok(self.base)
     }
 
     /// The type of an object with the first `count` fields, and no others.

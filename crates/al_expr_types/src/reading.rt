@@ -235,15 +235,13 @@ impl<'a> Types<'a> {
         ensures known { IfOk result (λ t. is_rest_below (length self.new.objects.items) t ≡ true) }
         ensures kept { BeginsWith (objects_of self.new) (objects_of self.old) }
     {
-        match self.kept_common(n) {
-            Some(common) => Ok(common),
-            None => {
-                self.make_commons(n)?;
-                let all = self.gather(n, Part::All, Join::Nothing)?;
-                let common = self.join_type(all)?;
-                self.keep_common(n, common)?;
-                Ok(common)
-            }
+        if let Some(common) = self.kept_common(n) {
+            return Ok(common);
         }
+        self.make_commons(n)?;
+        let all = self.gather(n, Part::All, Join::Nothing)?;
+        let common = self.join_type(all)?;
+        self.keep_common(n, common)?;
+        Ok(common)
     }
 }

@@ -13,30 +13,32 @@ returns-then-a-b-clause-ty c = λ ms.
     ap Present (uneven ms a.arrays c.min.result (base_type ms a.of) c.args.b c.any_in_arrays.result (λ t. (beside_array ms a.of t).0) c.if-a-b.true c.min.ensures
     (c.any_in_arrays.ensures.ty ms))
 
-pub returns-in-Scalar-of-clause-ty : goal.returns-in-Scalar-of-clause-ty
-returns-in-Scalar-of-clause-ty c = λ ms.
+pub returns-in-Scalar-Scalar-clause-ty : goal.returns-in-Scalar-Scalar-clause-ty
+returns-in-Scalar-Scalar-clause-ty c = λ ms.
     let a = c.args.a in
-    ap Present (even ms a.arrays (base_type ms a.of) c.args.b (base.Scalar c.in-Scalar-of.y) (scalar_type c.fuse.result) c.if-a-b.false c.in-Scalar-of.is
-    (ap (λ x. fuse_type (base_type ms x) (scalar_type c.in-Scalar-of.y)) c.in-Scalar.is ∙ sym c.fuse.ensures))
+    let arm = c.in-Scalar-Scalar in
+    ap Present (even ms a.arrays (base_type ms a.of) c.args.b (base.Scalar arm.y) (scalar_type c.fuse.result) c.if-a-b.false arm.is-1
+    (ap (λ x. fuse_type (base_type ms x) (scalar_type arm.y)) arm.is-0 ∙ sym c.fuse.ensures))
 
-pub returns-in-Object-of-clause-ty : goal.returns-in-Object-of-clause-ty
-returns-in-Object-of-clause-ty c = λ ms.
+pub returns-in-Scalar-Object-clause-ty : goal.returns-in-Scalar-Object-clause-ty
+returns-in-Scalar-Object-clause-ty c = λ ms.
     let a = c.args.a in
-    let b = base.Object c.in-Object-of.field-0 in
-    ap Present (c.any_in_arrays-in-Object-of.ensures.ty ms ∙ even ms a.arrays (base_type ms a.of) c.args.b b Any c.if-a-b.false c.in-Object-of.is
-    (ap (λ x. fuse_type (base_type ms x) (base_type ms b)) c.in-Scalar.is ∙ scalar_object c.in-Scalar.x (object_in ms c.in-Object-of.field-0)))
+    let arm = c.in-Scalar-Object in
+    ap Present (c.any_in_arrays-in-Scalar-Object.ensures.ty ms ∙ even ms a.arrays (base_type ms a.of) c.args.b (base.Object arm.field-0-1) Any c.if-a-b.false arm.is-1
+    (ap (λ x. fuse_type (base_type ms x) (base_type ms (base.Object arm.field-0-1))) arm.is-0 ∙ scalar_object arm.field-0-0 (object_in ms arm.field-0-1)))
 
-pub returns-in-Scalar-of-2-clause-ty : goal.returns-in-Scalar-of-2-clause-ty
-returns-in-Scalar-of-2-clause-ty c = λ ms.
+pub returns-in-Object-Scalar-clause-ty : goal.returns-in-Object-Scalar-clause-ty
+returns-in-Object-Scalar-clause-ty c = λ ms.
     let a = c.args.a in
-    let b = base.Scalar c.in-Scalar-of-2.field-0 in
-    ap Present (c.any_in_arrays-in-Scalar-of-2.ensures.ty ms ∙ even ms a.arrays (base_type ms a.of) c.args.b b Any c.if-a-b.false c.in-Scalar-of-2.is
-    (ap (λ x. fuse_type (base_type ms x) (base_type ms b)) c.in-Object.is ∙ object_scalar (object_in ms c.in-Object.m) c.in-Scalar-of-2.field-0))
+    let arm = c.in-Object-Scalar in
+    ap Present (c.any_in_arrays-in-Object-Scalar.ensures.ty ms ∙ even ms a.arrays (base_type ms a.of) c.args.b (base.Scalar arm.field-0-1) Any c.if-a-b.false arm.is-1
+    (ap (λ x. fuse_type (base_type ms x) (base_type ms (base.Scalar arm.field-0-1))) arm.is-0 ∙ object_scalar (object_in ms arm.field-0-0) arm.field-0-1))
 
-pub returns-in-Object-of-2-clause-ty : goal.returns-in-Object-of-2-clause-ty
-returns-in-Object-of-2-clause-ty c =
+pub returns-in-Object-Object-clause-ty : goal.returns-in-Object-Object-clause-ty
+returns-in-Object-Object-clause-ty c =
     let a = c.args.a in
-    let b = base.Object c.in-Object-of-2.n in
+    let arm = c.in-Object-Object in
+    let b = base.Object arm.n in
     IfOk-weaker c.join_objects.result _ _
-    (λ j is ms. is ms ∙ ap Present (even ms a.arrays (base_type ms a.of) c.args.b b _ c.if-a-b.false c.in-Object-of-2.is (ap (λ x. fuse_type (base_type ms x) (base_type ms b)) c.in-Object.is)))
+    (λ j is ms. is ms ∙ ap Present (even ms a.arrays (base_type ms a.of) c.args.b b _ c.if-a-b.false arm.is-1 (ap (λ x. fuse_type (base_type ms x) (base_type ms b)) arm.is-0)))
     c.join_objects.ensures.ty

@@ -16,14 +16,14 @@ common-gather-requires t c =
     omega (arith, c.requires, le)
 
 pub common-join_type-requires : goal.common-join_type-requires
-common-join_type-requires t c = c.in_ok-all-in-None.ensures.below refl
+common-join_type-requires t c = c.in_ok-all.ensures.below refl
 
 pub common-keep_common-requires : goal.common-keep_common-requires
 common-keep_common-requires t c =
     let middle = c.make_commons.new.self.objects.items in
     let after = c.join_type.new.self.objects.items in
-    let made = c.in_ok-common-in-None in
-    let all = c.in_ok-all-in-None in
+    let made = c.in_ok-common in
+    let all = c.in_ok-all in
     let le = longer middle c.args.self.now.objects.items c.make_commons.ensures in
     let more = longer after middle made.ensures.kept in
     let there : c.args.n < length middle = omega (arith, c.requires, le) in (
@@ -37,14 +37,14 @@ common-returns-in-Some-clause-ty t c =
     let os = c.args.self.now.objects.items in
     kept_answer os c.args.n c.in-Some.common (subst (λ o. IfSome o (IsCommon os c.args.n)) c.in-Some.is c.kept_common.ensures)
 
-pub common-returns-in_ok-keep_common-in-None-clause-ty : goal.common-returns-in_ok-keep_common-in-None-clause-ty
-common-returns-in_ok-keep_common-in-None-clause-ty t c =
+pub common-returns-clause-ty : goal.common-returns-clause-ty
+common-returns-clause-ty t c =
     let before = c.args.self.now.objects.items in
     let middle = c.make_commons.new.self.objects.items in
     let after = c.join_type.new.self.objects.items in
-    let made = c.in_ok-common-in-None in
+    let made = c.in_ok-common in
     ap (λ os. option_map (type_in (parts_of_all os.items)) made.common) c.keep_common.ensures ∙ sym (optional_back (option_map (type_in (parts_of_all after)) made.common))
-    ∙ ap option_of (made.ensures.ty ∙ c.in_ok-all-in-None.ensures.part ∙ ap (λ p. p.2) (same_there middle before c.args.n c.make_commons.ensures c.requires))
+    ∙ ap option_of (made.ensures.ty ∙ c.in_ok-all.ensures.part ∙ ap (λ p. p.2) (same_there middle before c.args.n c.make_commons.ensures c.requires))
 
 pub common-returns-in-Some-clause-known : goal.common-returns-in-Some-clause-known
 common-returns-in-Some-clause-known t c =
