@@ -7,11 +7,10 @@ use Rattle.std.specs.Prelude.{Contains, is_some, nat_eq, nat_lt, not, option_map
 use Rattle.al_base.specs.NamePlaces.{name_place}
 use Rattle.al_types.specs.Strings.{strings}
 use Rattle.al_types.proofs.StringFields.{common_strings, string_at}
-use Rattle.al_types.specs.Presence.{is_present}
 use Rattle.al_types.specs.TypeParts.{string_unless}
-use Rattle.al_types.specs.Types.{Type', String, Optional, Absent, Present, Parts, common_in, fuse_optional, option_of, optional, or_else}
+use Rattle.al_types.specs.Types.{Type', String, Optional, Absent, Present, Parts, common_in, fuse_optional, optional}
 use Rattle.al_types.specs.Fused.{fuse_parts, fuse_all}
-use Rattle.al_types.proofs.FuseLaws.{fused_both, last_turned, nothing_last, optional_assoc, optional_back, optional_same}
+use Rattle.al_types.proofs.FuseLaws.{fused_both, last_turned, nothing_last, optional_assoc, optional_same}
 use Rattle.al_expr_types.specs.Parts.{part_in}
 use Rattle.al_expr_types.specs.Types.{common_of, no_parts, object_parts, rest_in, strings_parts, type_in}
 use Rattle.al_expr_types.specs.declared.objects.Object.{Object}
@@ -27,10 +26,6 @@ use Rattle.al_expr_types.proofs.Fusing.{fused_push}
 pub rest_is : (ms : List Parts) (o : Option Ty) → rest_in ms o ≡ optional (option_map (type_in ms) o)
 rest_is ms None = refl
 rest_is ms (Some t) = refl
-
-pub asked_last : (x : Option Type') (at rest : Optional) → optional x ≡ rest → is_present at ≡ false → x ≡ option_of (or_else at rest)
-asked_last x Absent rest e h = sym (optional_back x) ∙ ap option_of e
-asked_last x (Present t) rest e h = absurd cc
 
 -- ---- fusing the elements of a list one after another
 

@@ -32,7 +32,3 @@ and_named at name more n = if same_name name n then fuse_optional (at n) more el
 abbrev pub is_placed : Option ℕ → ℕ → Bool
 is_placed None i = false
 is_placed (Some k) i = nat_eq k i
-
--- with one more type for the name at a position, if it is the first with its name
-abbrev pub and_placed : (List ℕ → Optional) → List (List ℕ) → ℕ → Optional → List ℕ → Optional
-and_placed at ns i more n = if is_placed (name_place ns n) i then fuse_optional (at n) more else at n

@@ -20,14 +20,11 @@ pub struct FieldJoins<'a> {
 }
 
 impl<'a> FieldJoins<'a> {
-    ghost use Rattle.std.specs.Prelude.{◌≤◌, None, Some, List, IfOk, OnOk, if◌then◌else◌, true, ℕ};
-    ghost use Rattle.std.specs.List.{list_all};
+    ghost use Rattle.std.specs.Prelude.{Some, List, IfOk, true, ℕ};
     ghost use Rattle.al_types.specs.Strings.{strings};
-    ghost use Rattle.al_base.specs.NamePlaces.{name_place};
     ghost use Rattle.al_types.specs.Types.{Absent, Parts, Present, field_at, fuse_optional, optional};
-    ghost use Rattle.al_expr_types.specs.Joining.{is_join_below, join_in};
     ghost use Rattle.al_expr_types.specs.Merging.{and_named, are_joins_below, found_in};
-    ghost use Rattle.al_expr_types.specs.Types.{are_fields_below, fields_parts, is_below, named_types, type_in};
+    ghost use Rattle.al_expr_types.specs.Types.{are_fields_below, fields_parts, is_below, type_in};
 
     /// No names. Doesn't allocate.
     pub fn new(alloc: Global) -> FieldJoins<'a>

@@ -1,8 +1,7 @@
 //! Looking up the type of a property, and of `.*`.
 
-ghost use Rattle.std.specs.Prelude.{◌≡◌, ◌<◌, List, IfOk, IfSome, length, map, not, option_map, true, ℕ};
+ghost use Rattle.std.specs.Prelude.{◌≡◌, ◌<◌, List, IfOk, IfSome, length, map, option_map, true, ℕ};
 ghost use Rattle.al_base.specs.Growth.{BeginsWith};
-ghost use Rattle.al_types.specs.TypeParts.{string_unless};
 ghost use Rattle.al_types.specs.Types.{Parts, fuse_optional, object_type, option_of, property_in};
 ghost use Rattle.al_expr_types.specs.Joining.{is_join_below, join_in};
 ghost use Rattle.al_expr_types.specs.Parts.{part_in};
