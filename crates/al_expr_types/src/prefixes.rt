@@ -135,21 +135,6 @@ impl<'a> Prefixes<'a> {
         }
     }
 
-    /// The last base, unless it has more than `count` fields.
-    fn shorter_base(&self, count: usize) -> Option<Prefix>
-        ensures base { (types : Types) → HasPrefix types (map_in self.now) self.now.base
-            → HasPrefix types (map_in self.now) result }
-        ensures shorter { IsShorter result count }
-    {
-        let Some(base) = self.base else {
-            return None;
-        };
-        if base.count > count {
-            return None;
-        }
-        Some(base)
-    }
-
     /// The base of the first `count` fields: a new one if they are a block or more beyond the last.
     fn base_of(&mut self, types: &mut Types<'a>, count: usize) -> Result<Option<Prefix>, AllocError>
         requires inside { count ≤ length (map_in self.old).types.items }
@@ -161,11 +146,8 @@ impl<'a> Prefixes<'a> {
         ensures base { OnOk result (HasPrefix types.new (map_in self.old) self.new.base) }
         ensures kept { BeginsWith (objects_of types.new) (objects_of types.old) }
     {
-        let base = self.shorter_base(count);
-        let from = match base {
-            Some(base) => base.count,
-            None => 0,
-        };
+        let base = self.base.filter(|base| base.count <= count);
+        let from = base.map_or(0, |base| base.count);
         if count.saturating_sub(from) < BLOCK {
             return Ok(base);
         }

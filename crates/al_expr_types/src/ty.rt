@@ -39,26 +39,12 @@ impl Scalar {
     pub fn fuse(self, other: Scalar) -> Scalar
         ensures { scalar_type result ≡ fuse_type (scalar_type self) (scalar_type other) }
     {
-        match self {
-            Scalar::Any => Scalar::Any,
-            Scalar::Null => match other {
-                Scalar::Null => Scalar::Null,
-                Scalar::Any | Scalar::Number | Scalar::Bool | Scalar::String => Scalar::Any,
-            },
-            Scalar::Number => match other {
-                Scalar::Number => Scalar::Number,
-                Scalar::Bool | Scalar::String => Scalar::String,
-                Scalar::Any | Scalar::Null => Scalar::Any,
-            },
-            Scalar::Bool => match other {
-                Scalar::Bool => Scalar::Bool,
-                Scalar::Number | Scalar::String => Scalar::String,
-                Scalar::Any | Scalar::Null => Scalar::Any,
-            },
-            Scalar::String => match other {
-                Scalar::Number | Scalar::Bool | Scalar::String => Scalar::String,
-                Scalar::Any | Scalar::Null => Scalar::Any,
-            },
+        match (self, other) {
+            (Scalar::Null, Scalar::Null) => Scalar::Null,
+            (Scalar::Any | Scalar::Null, _) | (_, Scalar::Any | Scalar::Null) => Scalar::Any,
+            (Scalar::Number, Scalar::Number) => Scalar::Number,
+            (Scalar::Bool, Scalar::Bool) => Scalar::Bool,
+            _ => Scalar::String,
         }
     }
 
