@@ -1,14 +1,16 @@
 -- The offsets that runs give, and the cells of a text.
 use Rattle.std.proofs.Common.{◌≡◌, ℕ, zero, suc, ◌+◌, ◌-◌, ◌^◌, ◌<◌, ◌≤◌, List, [], ◌∷◌, ◌++◌, length, length-append, get_or, refl, sym, ap, subst}
-use Rattle.std.proofs.Common.{◌∙◌, arith, Bool, true, false, not, cond, map, take, drop, drop-cons, slice_range, slice_index}
-use Rattle.std.proofs.Math.Seq.{take-suc}
+use Rattle.std.proofs.Common.{◌∙◌, arith, leb, leb-true, Bool, true, false, not, cond, map, take, drop, drop-cons, slice_range, slice_index}
 use Rattle.std.proofs.lemmas.Grind.{common_steps}
 use Rattle.std.proofs.lemmas.Bool.{not-false}
-use Rattle.std.proofs.lemmas.List.{take_all}
+use Rattle.std.proofs.lemmas.Bool.Decides.{nat_tests}
+use Rattle.std.proofs.lemmas.List.Elements.{All-cons, All-nil, All-push}
+use Rattle.std.proofs.lemmas.List.Sorted.{IsNonDecreasingBy-push, IsNonDecreasingBy-short}
+use Rattle.std.specs.List.Sorted.{IsPartitionPoint}
 use Rattle.al_base.proofs.Elements.{each_both}
 use Rattle.al_scalar.specs.Line.{Cell}
 use Rattle.al_scalar.specs.LineEnds.{cells_at, cells_between}
-use Rattle.al_scalar.specs.Private.Segments.{first_run, offset_in, offset_after, offset_from, offset_at, cells_from, AreUpTo, AreFrom, IsRising, IsOrdered, GoesOn, AreInRange, run_cells}
+use Rattle.al_scalar.specs.Private.Segments.{first_run, offset_in, offset_after, offset_from, offset_at, cells_from, AreUpTo, IsOrdered, GoesOn, AreInRange, run_cells}
 use Rattle.al_scalar.specs.declared.texts.Segment.{Segment}
 
 pub after-after : (found : ℕ) (s : Segment) (i : ℕ) → s.index ≤ i → offset_after found s i ≡ offset_in s i
@@ -21,49 +23,56 @@ offset_from-more : (found : ℕ) (ss : List Segment) (s : Segment) (i : ℕ) →
 offset_from-more found [] s i = refl
 offset_from-more found (t ∷ ts) s i = offset_from-more (offset_after found t i) ts s i
 
--- If no run begins after index i, the last run gives its offset.
-offset_from-last : (found : ℕ) (s : Segment) (ss : List Segment) (d : Segment) (i : ℕ) → AreUpTo i (s ∷ ss) → offset_from found (s ∷ ss) i ≡ offset_in (get_or (s ∷ ss) (length ss) d) i
-offset_from-last found s [] d i h = after-after found s i h.0
-offset_from-last found s (t ∷ ts) d i h = offset_from-last (offset_after found s i) t ts d i h.1
+-- The run with number n gives the offset at index i, if the runs up to it begin at or before i, and those after it begin after i.
+none-begun : (found i : ℕ) (ss : List Segment) (d : Segment) → ((k : ℕ) → k < length ss → i < (get_or ss k d).index) → offset_from found ss i ≡ found
+none-begun found i [] d h = refl
+none-begun found i (s ∷ ss) d h =
+    ap (λ o. offset_from o ss i) (after-before found s i (h 0 (omega arith))) ∙ none-begun found i ss d (λ k l. h (suc k) (omega (arith, l)))
+
+run-found : (found i n : ℕ) (ss : List Segment) (d : Segment) → n < length ss → ((k : ℕ) → k ≤ n → (get_or ss k d).index ≤ i)
+    → ((k : ℕ) → n < k → k < length ss → i < (get_or ss k d).index) → offset_in (get_or ss n d) i ≡ offset_from found ss i
+run-found found i n [] d l b a = absurd (omega (arith, l))
+run-found found i zero (s ∷ ss) d l b a =
+    sym (none-begun (offset_after found s i) i ss d (λ k h. a (suc k) (omega arith) (omega (arith, h))) ∙ after-after found s i (b 0 (omega arith)))
+run-found found i (suc n) (s ∷ ss) d l b a =
+    run-found (offset_after found s i) i n ss d (omega (arith, l)) (λ k h. b (suc k) (omega (arith, h))) (λ k h m. a (suc k) (omega (arith, h)) (omega (arith, m)))
+
+-- the run that a search of the runs after the first one finds
+module _ (at i n : ℕ) (ss : List Segment) (point : IsPartitionPoint (λ (s : Segment). leb s.index i ≡ true) (λ (s : Segment). leb s.index i ≡ false) ss n) where
+  up-to : (d : Segment) (k : ℕ) → k ≤ n → (get_or (first_run at ∷ ss) k d).index ≤ i
+  up-to d zero h = omega arith
+  up-to d (suc k) h = leb-true _ _ (point.0 k d (omega arith) h)
+
+  after : (d : Segment) (k : ℕ) → n < k → k < suc (length ss) → i < (get_or (first_run at ∷ ss) k d).index
+  after d zero h l = absurd (omega (arith, h))
+  after d (suc k) h l = let no = point.1 k d (omega (arith, h)) (omega (arith, l)) in grind (arith, nat_tests, no)
+
+  pub searched : (view : List Segment) (s : Segment) → first_run at ∷ ss ≡ view → n ≤ length ss → s ≡ get_or view n s
+      → record { up_to : s.index ≤ i; offset : offset_in s i ≡ offset_at view i }
+  searched view s v l e =
+      let is : s ≡ get_or (first_run at ∷ ss) n s = e ∙ ap (λ runs. get_or runs n s) (sym v) in
+      record {
+        up_to = subst (λ (t : Segment). t.index ≤ i) (sym is) (up-to s n (omega arith));
+        offset = ap (λ t. offset_in t i) is ∙ run-found 0 i n (first_run at ∷ ss) s (omega (arith, l)) (up-to s) (after s) ∙ ap (λ runs. offset_at runs i) v;
+      }
 
 -- ---- the order of runs
 
 AreUpTo-up : (n m : ℕ) (ss : List Segment) → AreUpTo n ss → n ≤ m → AreUpTo m ss
-AreUpTo-up n m [] h k = tt
-AreUpTo-up n m (s ∷ ss) h k = (omega (arith, h.0), AreUpTo-up n m ss h.1 k)
+AreUpTo-up n m ss h k = λ i d l. let low = h i d l in omega (arith, low, k)
+
+-- the first run alone
+pub IsOrdered-first : (at n : ℕ) (ss : List Segment) → length ss ≡ 0 → IsOrdered n (first_run at ∷ ss)
+IsOrdered-first at n [] z =
+    (All-cons (λ (t : Segment). t.index ≤ n) (first_run at) [] (omega arith) (All-nil _), IsNonDecreasingBy-short (λ (t : Segment). t.index) (first_run at ∷ []) (omega arith))
+IsOrdered-first at n (s ∷ ss) z = absurd (omega (arith, z))
 
 -- appending a run
 pub IsOrdered-more : (n : ℕ) (ss : List Segment) (s : Segment) → IsOrdered n ss → s.index ≡ n → IsOrdered n (ss ++ s ∷ [])
-IsOrdered-more n ss s h e = (each_both (λ (t : Segment). t.index ≤ n) ss (s ∷ []) h.0 (omega (arith, e), tt), rising ss h.0 h.1)
-  where
-    rising : (ss : List Segment) → AreUpTo n ss → IsRising ss → IsRising (ss ++ s ∷ [])
-    rising [] b r = (tt, tt)
-    rising (t ∷ ts) b r = (each_both (λ (u : Segment). t.index ≤ u.index) ts (s ∷ []) r.0 (omega (arith, b.0, e), tt), rising ts b.1 r.1)
-
-last-of : (n : ℕ) (d s : Segment) (ss : List Segment) → AreUpTo n (s ∷ ss) → (get_or (s ∷ ss) (length ss) d).index ≤ n
-last-of n d s [] h = h.0
-last-of n d s (t ∷ ts) h = last-of n d t ts h.1
-
-last-is : (d s : Segment) (ss : List Segment) → get_or (s ∷ ss) (length (s ∷ ss) - 1) d ≡ get_or (s ∷ ss) (length ss) d
-last-is d s ss = let e : suc (length ss) - 1 ≡ length ss = omega arith in ap (λ k. get_or (s ∷ ss) k d) e
-
--- The last run begins at or before index n.
-pub last-up-to : (d : Segment) (n : ℕ) (ss : List Segment) → AreUpTo n ss → (length ss ≡ 0 → ⊥) → (get_or ss (length ss - 1) d).index ≤ n
-last-up-to d n [] h z = absurd (z refl)
-last-up-to d n (s ∷ ss) h z = subst (λ t. t.index ≤ n) (sym (last-is d s ss)) (last-of n d s ss h)
-
--- ---- the first run and the last one
-
-first-offset : (at i : ℕ) → offset_after 0 (first_run at) i ≡ offset_in (first_run at) i
-first-offset at i = after-after 0 (first_run at) i (omega arith)
-
-only-offset : (at i : ℕ) (ss : List Segment) → length ss ≡ 0 → offset_in (first_run at) i ≡ offset_at (first_run at ∷ ss) i
-only-offset at i [] z = sym (first-offset at i)
-only-offset at i (s ∷ ss) z = absurd (omega (arith, z))
-
-pub last-offset : (d : Segment) (at i : ℕ) (ss : List Segment) → AreUpTo i (first_run at ∷ ss) → (length ss ≡ 0 → ⊥) → offset_in (get_or ss (length ss - 1) d) i ≡ offset_at (first_run at ∷ ss) i
-last-offset d at i [] h z = absurd (z refl)
-last-offset d at i (s ∷ ss) h z = ap (λ t. offset_in t i) (last-is d s ss) ∙ sym (offset_from-last (offset_after 0 (first_run at) i) s ss d i h.1)
+IsOrdered-more n ss s h e = (
+  All-push (λ (t : Segment). t.index ≤ n) ss s h.0 (omega (arith, e)),
+  IsNonDecreasingBy-push (λ (t : Segment). t.index) ss s h.1 (λ d z. let low = h.0 (length ss - 1) d (omega (arith, z)) in omega (arith, e, low)),
+)
 
 -- ---- whether an offset continues the last run
 
@@ -72,14 +81,19 @@ moving last n at k b m o e =
     let sum : last.offset + ((n + k) - last.index) ≡ at + k = omega (arith, b, o, e) in
     ap (λ x. cond x (last.offset + ((n + k) - last.index)) last.offset) (not-false last.moves m) ∙ sum
 
-pub goes-on : (last : Segment) (n at : ℕ) (ss : List Segment) → ((i : ℕ) → AreUpTo i ss → offset_in last i ≡ offset_at ss i)
-    → AreUpTo n ss → last.index ≤ n → not last.moves ≡ false → last.offset ≤ at
-    → at - last.offset ≡ n - last.index → GoesOn ss n at true
-goes-on last n at ss f h b m o e = λ k. sym (f (n + k) (AreUpTo-up n (n + k) ss h (omega arith))) ∙ moving last n at k b m o e
+pub goes-on : (last : Segment) (n at m : ℕ) (ss : List Segment) → AreUpTo n ss → length ss ≡ suc m → last ≡ get_or ss m last
+    → not last.moves ≡ false → last.offset ≤ at → at - last.offset ≡ n - last.index → GoesOn ss n at true
+goes-on last n at m ss h l e v o f = λ k.
+    let up : AreUpTo (n + k) ss = AreUpTo-up n (n + k) ss h (omega arith) in
+    let low : last.index ≤ n = subst (λ (s : Segment). s.index ≤ n) (sym e) (h m last (omega (arith, l))) in
+    sym (ap (λ s. offset_in s (n + k)) e
+    ∙ run-found 0 (n + k) m ss last (omega (arith, l)) (λ j b. up j last (omega (arith, l, b))) (λ j b d. absurd (omega (arith, l, b, d))))
+    ∙ moving last n at k low v o f
 
 -- before the first byte, with the first run alone
 pub first-goes-on : (ss : List Segment) (at : ℕ) → length ss ≡ 0 → GoesOn (first_run at ∷ ss) 0 at true
-first-goes-on ss at z = λ k. let sum : at + ((0 + k) - 0) ≡ at + k = omega arith in sym (only-offset at (0 + k) ss z) ∙ sum
+first-goes-on [] at z = λ k. let sum : at + ((0 + k) - 0) ≡ at + k = omega arith in after-after 0 (first_run at) (0 + k) (omega arith) ∙ sum
+first-goes-on (s ∷ ss) at z = absurd (omega (arith, z))
 
 -- a run that begins with the next byte
 pub next-run : (ss new : List Segment) (n at : ℕ) (moves : Bool) → new ≡ ss ++ record { index = n; offset = at; moves = moves } ∷ [] → GoesOn new n at moves
@@ -160,42 +174,3 @@ module _ (old : List Cell) (bs ds new : List ℕ) (ss ss' : List Segment) (n at 
   pushed-kept p q b =
       let long : n ≤ length new = omega (arith, e, ap length f, length-append bs ds) in
       ((AreUpTo-up n (length new) ss' b.0 long, b.1), subst AreInRange (sym pushed-text) (each_both (λ (c : Cell). c.1 < 2 ^ 32) old (run_cells at moves 0 ds) (subst AreInRange g p) q))
-
--- ---- binary search for the last run
-
-none-above : (found n i k : ℕ) (ss : List Segment) → AreFrom k ss → i < k → offset_from found (take n ss) i ≡ found
-none-above found zero i k ss h l = refl
-none-above found (suc n) i k [] h l = refl
-none-above found (suc n) i k (s ∷ ss) h l =
-    let before : i < s.index = omega (arith, h.0, l) in
-    ap (λ o. offset_from o (take n ss) i) (after-before found s i before) ∙ none-above found n i k ss h.1 l
-
--- Runs from one that begins after index i on don't change its offset.
-cut-from : (found n m i : ℕ) (d : Segment) (ss : List Segment) → IsRising ss → i < (get_or ss m d).index → m ≤ n → m < length ss → offset_from found (take n ss) i ≡ offset_from found (take m ss) i
-cut-from found n m i d [] r h o l = absurd (omega (arith, l))
-cut-from found zero zero i d (s ∷ ss) r h o l = refl
-cut-from found zero (suc m) i d (s ∷ ss) r h o l = absurd (omega (arith, o))
-cut-from found (suc n) zero i d (s ∷ ss) r h o l =
-    ap (λ x. offset_from x (take n ss) i) (after-before found s i h) ∙ none-above found n i s.index ss r.0 h
-cut-from found (suc n) (suc m) i d (s ∷ ss) r h o l = cut-from (offset_after found s i) n m i d ss r.1 h (omega (arith, o)) (omega (arith, l))
-
-pub search-below : (found : ℕ) (d : Segment) (ss : List Segment) (high middle i : ℕ) → IsRising ss → i < (get_or ss middle d).index
-    → middle < high → high ≤ length ss → offset_from found ss i ≡ offset_from found (take high ss) i
-    → offset_from found ss i ≡ offset_from found (take middle ss) i
-search-below found d ss high middle i r h o l e = e ∙ cut-from found high middle i d ss r h (omega (arith, o)) (omega (arith, o, l))
-
-pub search-all : (found : ℕ) (ss : List Segment) (i count : ℕ) → count ≡ length ss → offset_from found ss i ≡ offset_from found (take count ss) i
-search-all found ss i count e = ap (λ xs. offset_from found xs i) (sym (take_all count ss (omega (arith, e))))
-
-pub search-none : (found : ℕ) (ss : List Segment) (i low : ℕ) → low ≡ 0 → offset_from found ss i ≡ offset_from found (take low ss) i → found ≡ offset_from found ss i
-search-none found ss i low z e = sym (e ∙ ap (λ n. offset_from found (take n ss) i) z)
-
-pub search-found : (found : ℕ) (d : Segment) (ss : List Segment) (i low : ℕ) → (low ≡ 0 → ⊥) → low ≤ length ss
-    → (get_or ss (low - 1) d).index ≤ i → offset_from found ss i ≡ offset_from found (take low ss) i
-    → offset_in (get_or ss (low - 1) d) i ≡ offset_from found ss i
-search-found found d ss i low z l h e =
-    let s = get_or ss (low - 1) d in
-    let last : low ≡ suc (low - 1) = omega (arith, z) in
-    let inside : low - 1 < length ss = omega (arith, z, l) in
-    sym (e ∙ ap (λ n. offset_from found (take n ss) i) last ∙ ap (λ xs. offset_from found xs i) (take-suc ss (low - 1) d inside)
-    ∙ offset_from-more found (take (low - 1) ss) s i ∙ after-after (offset_from found (take (low - 1) ss) i) s i h)

@@ -1,6 +1,6 @@
 //! Decoded texts, each byte with the file offset it came from.
 
-ghost use Rattle.std.specs.Prelude.{◌≡◌, ℕ, ◌+◌, ◌<◌, ◌≤◌, ◌^◌, List, [], ◌∷◌, ◌++◌, length, map, true, IsTrue, IfOk, OnErr};
+ghost use Rattle.std.specs.Prelude.{◌≡◌, ℕ, ◌+◌, ◌<◌, ◌≤◌, ◌^◌, List, [], ◌∷◌, ◌++◌, length, map, slice_index_or, true, IsTrue, IfOk};
 ghost use Rattle.al_scalar.specs.Line.{Cell};
 ghost use Rattle.al_scalar.specs.LineEnds.{cells_between};
 ghost use Rattle.al_scalar.specs.Scalar.{offset_or};
@@ -65,17 +65,15 @@ impl Model for Runs {
 }
 
 impl Runs {
-    /// The last run.
-    fn last(&self) -> Segment
-        ensures up_to { (n : ℕ) → AreUpTo n self.now → result.index ≤ n }
-        ensures offset { (i : ℕ) → AreUpTo i self.now
-            → offset_in result i ≡ offset_at self.now i }
+    /// The run with a number: 0 for the first one.
+    fn run(&self, number: usize) -> Segment
+        requires { number < length self.now }
+        ensures { result ≡ slice_index_or self.now number result }
     {
-        let count = self.rest.len();
-        if count == 0 {
+        if number == 0 {
             return Segment::first(self.first);
         }
-        self.rest[count - 1]
+        self.rest[number - 1]
     }
 
     /// Whether an offset continues those of the last run, which extends to an index.
@@ -83,7 +81,7 @@ impl Runs {
         requires { AreUpTo index self.now }
         ensures { IsTrue result → GoesOn self.now index at true }
     {
-        let last = self.last();
+        let last = self.run(self.rest.len());
         if !last.moves {
             return false;
         }
@@ -108,20 +106,11 @@ impl Runs {
         if moves && self.goes_on(index, at) {
             return Ok(());
         }
-        self.push(Segment {
+        self.rest.push(Segment {
             index,
             offset: at,
             moves,
         })?;
-        Ok(())
-    }
-
-    /// Adds a run.
-    fn push(&mut self, run: Segment) -> Result<(), AllocError>
-        ensures added { IfOk result (λ _. self.new ≡ self.old ++ run ∷ []) }
-        ensures stays { OnErr result (self.new ≡ self.old) }
-    {
-        self.rest.push(run)?;
         Ok(())
     }
 
@@ -131,22 +120,7 @@ impl Runs {
         ensures up_to { result.index ≤ i }
         ensures offset { offset_in result i ≡ offset_at self.now i }
     {
-        let first = Segment::first(self.first);
-        let rest = self.rest.as_slice();
-        let mut low = 0;
-        let mut high = rest.len();
-        'halves: while low < high {
-            let middle = low + (high - low) / 2;
-            if rest[middle].index <= i {
-                low = middle + 1;
-            } else {
-                high = middle;
-            }
-        }
-        if low == 0 {
-            return first;
-        }
-        rest[low - 1]
+        self.run(self.rest.partition_point(|run| run.index <= i))
     }
 }
 

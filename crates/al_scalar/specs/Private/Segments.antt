@@ -1,6 +1,7 @@
 -- Decoded bytes with their offsets, from the runs that a text keeps.
 use Rattle.std.specs.Prelude.{◌≡◌, ℕ, suc, ◌^◌, ◌+◌, ◌-◌, ◌<◌, ◌≤◌, List, [], ◌∷◌, nat_le, Bool, true, if◌then◌else◌}
-use Rattle.std.specs.List.{AllByRecursion}
+use Rattle.std.specs.List.{All, AllByRecursion}
+use Rattle.std.specs.List.Sorted.{IsNonDecreasingBy}
 use Rattle.al_scalar.specs.Line.{Cell}
 use Rattle.al_scalar.specs.declared.texts.Segment.{Segment}
 
@@ -29,16 +30,11 @@ cells_from i (b ∷ bs) ss = (b, offset_at ss i) ∷ cells_from (suc i) bs ss
 
 -- each run begins at index n or before it
 abbrev pub AreUpTo : ℕ → List Segment → Type 0
-AreUpTo n = AllByRecursion (λ (s : Segment). s.index ≤ n)
-
--- each run begins at index n or after it
-abbrev pub AreFrom : ℕ → List Segment → Type 0
-AreFrom n = AllByRecursion (λ (s : Segment). n ≤ s.index)
+AreUpTo n = All (λ (s : Segment). s.index ≤ n)
 
 -- the runs are in ascending order of their indices
 abbrev pub IsRising : List Segment → Type 0
-IsRising [] = Unit {0}
-IsRising (s ∷ ss) = AreFrom s.index ss × IsRising ss
+IsRising = IsNonDecreasingBy (λ s. s.index)
 
 -- the runs of a text of n bytes
 abbrev pub IsOrdered : ℕ → List Segment → Type 0
