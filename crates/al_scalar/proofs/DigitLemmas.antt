@@ -1,6 +1,9 @@
 -- Hexadecimal digits in terms of offsets.
 use Rattle.std.proofs.Common.{◌≡◌, ℕ, suc, ◌+◌, ◌-◌, ◌*◌, ◌^◌, ◌<◌, ◌≤◌, lit<, List, [], ◌∷◌, ◌++◌, length, take, slice_index, refl, sym, ap, ◌∙◌, arith, append_assoc, Option, Some, None}
 use Rattle.std.proofs.Math.Nat.{pow-le-pow_right}
+use Rattle.std.proofs.lemmas.Bool.Decides.{nat_tests}
+use Rattle.std.specs.Char.{digit_value}
+use Rattle.std.specs.Prelude.{SomeIff}
 use Rattle.std.proofs.Math.Seq.{take-append-add}
 use Rattle.al_scalar.specs.Private.QuotedRead.{Between, hex_value}
 use Rattle.al_scalar.specs.Line.{Cell}
@@ -26,6 +29,10 @@ hex_value-append v w (c ∷ cs) ys e = more (hex_digit c.0) refl (λ u. hex_valu
     more : (o : Option ℕ) → hex_digit c.0 ≡ o → ((u : ℕ) → hex_value u cs ≡ Some w → hex_value u (cs ++ ys) ≡ hex_value w ys) → hex_value v (c ∷ (cs ++ ys)) ≡ hex_value w ys
     more None f below = let no : hex_value v (c ∷ cs) ≡ None = hex_value-wrong v c cs f in cc
     more (Some d) f below = hex_value-step v d c (cs ++ ys) f ∙ below (16 * v + d) (sym (hex_value-step v d c cs f) ∙ e)
+
+pub to_hex_digit : (b : ℕ) (r : Option ℕ) → SomeIff r (digit_value b < 16) (digit_value b) → hex_digit b ≡ r
+to_hex_digit b None h = grind (arith, nat_tests, h)
+to_hex_digit b (Some d) h = grind (arith, nat_tests, h.0, h.1)
 
 -- ---- bounds of the value
 

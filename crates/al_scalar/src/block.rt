@@ -1,6 +1,6 @@
 //! Literal and folded block scalars (YAML 1.2.2, 8.1).
 
-ghost use Rattle.std.specs.Prelude.{◌≡◌, ◌+◌, ◌<◌, ◌≤◌, ◌^◌, ◌++◌, ◌∷◌, [], ◌||◌, true, cond, Some, None, length, IfOk};
+ghost use Rattle.std.specs.Prelude.{◌≡◌, ◌+◌, ◌<◌, ◌≤◌, ◌^◌, ◌++◌, ◌∷◌, [], ◌||◌, true, Some, None, length, IfOk};
 ghost use Rattle.al_scalar.specs.Block.{block_scalar, found_indent, content_indent, row_of};
 ghost use Rattle.al_scalar.specs.Block.{own_break, final_breaks, joint, text_after, rows_end};
 ghost use Rattle.al_scalar.specs.Private.BlockRead.{RowStarts, ReadsRows, last_row, row_like, RowTo};
@@ -8,7 +8,7 @@ ghost use Rattle.al_scalar.specs.Private.BlockRead.{AddsRow, EndsRow, last_line}
 ghost use Rattle.al_scalar.specs.Places.{lines_at, text_at};
 ghost use Rattle.al_scalar.specs.LineEnds.{cells_between, IsLineEnd, BlankTo};
 ghost use Rattle.al_scalar.specs.Private.Reads.{Gives, StaysWithin};
-ghost use Rattle.al_scalar.specs.Taken.{feeds, folded_break};
+ghost use Rattle.al_scalar.specs.Taken.{feeds};
 
 use crate::faults::FaultAt;
 use crate::header::{Chomping, header_fault, indicators};
@@ -70,13 +70,11 @@ fn indented_row(bytes: &[u8], at: usize, indent: usize, blank: Option<usize>) ->
             is_blank: blank.is_some(),
         });
     }
-    match blank {
-        Some(end) => Some(RowStart {
-            from: end,
-            is_blank: true,
-        }),
-        None => None,
-    }
+    let end = blank?;
+    Some(RowStart {
+        from: end,
+        is_blank: true,
+    })
 }
 
 /// Where the row of the line at an offset begins; `None` if the line ends the scalar. `found` says whether the line
@@ -86,22 +84,12 @@ fn row_start(bytes: &[u8], at: usize, indent: Option<usize>, found: bool) -> Opt
     ensures { RowStarts bytes.now at indent found result }
 {
     let blank = blank_line_end(bytes, at);
-    match blank {
-        Some(end) => {
-            if let Some(most) = indent {
-                if found {
-                    return indented_row(bytes, at, most, blank);
-                }
-            }
-            Some(RowStart {
-                from: end,
-                is_blank: true,
-            })
-        }
-        None => match indent {
-            Some(most) => indented_row(bytes, at, most, blank),
-            None => None,
-        },
+    match indent {
+        Some(indent) if found || blank.is_none() => indented_row(bytes, at, indent, blank),
+        _ => Some(RowStart {
+            from: blank?,
+            is_blank: true,
+        }),
     }
 }
 
@@ -112,17 +100,14 @@ fn find_indent(bytes: &[u8], at: usize, within: usize) -> Option<usize>
 {
     let mut i = at;
     'blank_lines: loop {
-        let end = match blank_line_end(bytes, i) {
-            Some(end) => end,
+        match blank_line_end(bytes, i) {
             None => {
                 let found = indent(bytes, i);
                 return if within <= found { Some(found) } else { None };
             }
-        };
-        if end == bytes.len() {
-            return None;
+            Some(end) if end == bytes.len() => return None,
+            Some(end) => i = after_break(bytes, end),
         }
-        i = after_break(bytes, end);
     }
 }
 
@@ -167,22 +152,6 @@ fn chomp(
     }
 }
 
-/// Adds a break and the breaks of the empty lines after it, kept or folded.
-fn push_break(text: &mut Text, keeps: bool, at: u32, empties: &[u32]) -> Result<(), AllocError>
-    ensures { IfOk result
-        (λ _. text.new
-        ≡ text.old ++ cond keeps (feeds (at ∷ empties.now)) (folded_break at empties.now)) }
-{
-    if keeps {
-        text.push(b'\n', at as usize)?;
-        return push_feeds(text, empties);
-    }
-    if empties.is_empty() {
-        return text.push(b' ', at as usize);
-    }
-    push_feeds(text, empties)
-}
-
 /// Adds the text for the breaks between the last line with text and the next one; `spaced` says whether the next line
 /// begins with a blank.
 fn push_joint(
@@ -197,8 +166,12 @@ fn push_joint(
         ≡ text.old ++ joint literal (last_row last) empties.now (row_like spaced [])) }
 {
     match last {
-        Some(l) => push_break(text, literal || l.spaced || spaced, l.at, empties),
-        None => push_feeds(text, empties),
+        Some(l) if literal || l.spaced || spaced => {
+            text.push(b'\n', l.at as usize)?;
+            push_feeds(text, empties)
+        }
+        Some(l) if empties.is_empty() => text.push(b' ', l.at as usize),
+        _ => push_feeds(text, empties),
     }
 }
 
@@ -292,15 +265,12 @@ fn read_rows(
     let mut i = at;
     let mut found = style.explicit;
     'rows: loop {
-        let row = match row_start(bytes, i, style.indent, found) {
-            Some(row) => row,
-            None => {
-                chomp(text, style.chomping, state.last, &state.empties)?;
-                return Ok(RowsRead {
-                    end: state.end,
-                    next: i,
-                });
-            }
+        let Some(row) = row_start(bytes, i, style.indent, found) else {
+            chomp(text, style.chomping, state.last, &state.empties)?;
+            return Ok(RowsRead {
+                end: state.end,
+                next: i,
+            });
         };
         let stop = line_end(bytes, row.from);
         if stop == bytes.len() {

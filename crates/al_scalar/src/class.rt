@@ -2,12 +2,11 @@
 
 ghost use Rattle.std.specs.Prelude.{◌≡◌, IsTrue};
 ghost use Rattle.std.specs.Char.{is_ascii_digit};
-ghost use Rattle.al_scalar.specs.Class.{nulls, booleans, is_integer, is_float, is_decimal, is_fraction, is_pure_fraction};
+ghost use Rattle.al_scalar.specs.Class.{is_integer, is_float, is_decimal, is_fraction, is_pure_fraction};
 ghost use Rattle.al_scalar.specs.Class.{is_exponent, after_digits, is_prefixed, without_sign, are_digits, is_digit_in};
 ghost use Rattle.al_scalar.specs.Class.{class_of};
 ghost use Rattle.al_scalar.specs.Private.Values.{begins_value};
 ghost use Rattle.al_base.specs.FirstBytes.{first_is};
-ghost use Rattle.al_base.specs.Names.{among};
 
 use crate::styles::Class;
 use al_base::is_among;
@@ -23,20 +22,6 @@ const INFINITIES: [&str; 3] = [".inf", ".Inf", ".INF"];
 
 /// The texts of "not a number".
 const NOT_NUMBERS: [&str; 3] = [".nan", ".NaN", ".NAN"];
-
-/// Whether a text is null.
-fn is_null(text: &[u8]) -> bool
-    ensures { result ≡ among nulls text.now }
-{
-    is_among(text, &NULLS)
-}
-
-/// Whether a text is true or false.
-fn is_boolean(text: &[u8]) -> bool
-    ensures { result ≡ among booleans text.now }
-{
-    is_among(text, &BOOLEANS)
-}
 
 /// The base of a number's digits.
 #[derive(Clone, Copy)]
@@ -190,9 +175,9 @@ pub fn class_of(text: &[u8]) -> Class
 {
     if begins_string(text) {
         Class::Str
-    } else if is_null(text) {
+    } else if is_among(text, &NULLS) {
         Class::Null
-    } else if is_boolean(text) {
+    } else if is_among(text, &BOOLEANS) {
         Class::Bool
     } else if is_integer(text) {
         Class::Int

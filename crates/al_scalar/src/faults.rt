@@ -2,9 +2,8 @@
 
 ghost use Rattle.std.specs.Prelude.{◌≡◌, ◌+◌, ◌<◌, ◌≤◌, ◌^◌, drop, length};
 ghost use Rattle.al_scalar.specs.Characters.{character_at, character_length};
-ghost use Rattle.al_base.specs.Positions.{begins_char};
 
-use al_base::{Span, YamlCode};
+use al_base::{Span, YamlCode, is_char_start};
 use thiserror::Error;
 
 /// A YAML fault of a file, with the span of the character where it is, which is empty at the end of the file.
@@ -52,11 +51,4 @@ fn character_end(bytes: &[u8], at: usize) -> usize
         end += 1;
     }
     end
-}
-
-/// Whether a byte begins a character in UTF-8.
-fn is_char_start(byte: u8) -> bool
-    ensures { result ≡ begins_char byte }
-{
-    byte < 0x80 || byte >= 0xc0
 }

@@ -1,9 +1,7 @@
 //! The header of a block scalar: indentation and chomping indicators (YAML 1.2.2, 8.1.1).
 
-ghost use Rattle.std.specs.Prelude.{◌≡◌, ◌≤◌, IfSome, None, Some, length};
-ghost use Rattle.al_scalar.specs.Block.{header, is_digit as block_digit};
-ghost use Rattle.al_scalar.specs.Block.{chomping_of as chomping_by};
-ghost use Rattle.al_base.specs.Ascii.{is_sign as block_sign};
+ghost use Rattle.std.specs.Prelude.{◌≤◌, IfSome, None, Some, length};
+ghost use Rattle.al_scalar.specs.Block.{header};
 ghost use Rattle.al_scalar.specs.Private.BlockRead.{Indicates, EndsHeader};
 ghost use Rattle.al_scalar.specs.Places.{text_at};
 
@@ -44,37 +42,20 @@ pub fn header_fault(bytes: &[u8], at: usize) -> Option<usize>
     None
 }
 
-fn is_digit(byte: u8) -> bool
-    ensures { result ≡ block_digit byte }
-{
-    b'1' <= byte && byte <= b'9'
-}
-
-fn is_sign(byte: u8) -> bool
-    ensures { result ≡ block_sign byte }
-{
-    byte == b'+' || byte == b'-'
-}
-
-fn chomping_of(byte: u8) -> Chomping
-    ensures { result ≡ chomping_by byte }
-{
-    if byte == b'+' {
-        Chomping::Keep
-    } else {
-        Chomping::Strip
-    }
-}
-
 /// The header after its digit.
 fn after_digit(bytes: &[u8], at: usize, digit: u8) -> Header
     requires { at ≤ length bytes.now }
     ensures { Indicates bytes.now at (header (Some digit) None at (text_at bytes.now at)) result }
 {
     match first_byte(bytes, at) {
-        Some(byte) if is_sign(byte) => Header {
+        Some(b'+') => Header {
             digit: Some(digit),
-            chomping: chomping_of(byte),
+            chomping: Chomping::Keep,
+            end: at + 1,
+        },
+        Some(b'-') => Header {
+            digit: Some(digit),
+            chomping: Chomping::Strip,
             end: at + 1,
         },
         _ => Header {
@@ -91,8 +72,8 @@ fn after_sign(bytes: &[u8], at: usize, chomping: Chomping) -> Header
     ensures { Indicates bytes.now at (header None (Some chomping) at (text_at bytes.now at)) result }
 {
     match first_byte(bytes, at) {
-        Some(byte) if is_digit(byte) => Header {
-            digit: Some(byte - b'0'),
+        Some(digit @ b'1'..=b'9') => Header {
+            digit: Some(digit - b'0'),
             chomping,
             end: at + 1,
         },
@@ -110,8 +91,9 @@ pub fn indicators(bytes: &[u8], at: usize) -> Header
     ensures { Indicates bytes.now at (header None None at (text_at bytes.now at)) result }
 {
     match first_byte(bytes, at) {
-        Some(byte) if is_digit(byte) => after_digit(bytes, at + 1, byte - b'0'),
-        Some(byte) if is_sign(byte) => after_sign(bytes, at + 1, chomping_of(byte)),
+        Some(digit @ b'1'..=b'9') => after_digit(bytes, at + 1, digit - b'0'),
+        Some(b'+') => after_sign(bytes, at + 1, Chomping::Keep),
+        Some(b'-') => after_sign(bytes, at + 1, Chomping::Strip),
         _ => Header {
             digit: None,
             chomping: Chomping::Clip,

@@ -44,14 +44,6 @@ fn ends_key(bytes: &[u8], at: usize, context: PlainContext) -> bool
     is_blank_or_end(bytes, at) || is_flow(context) && is_flow_indicator(bytes[at])
 }
 
-/// Whether a colon at an offset separates a key from its value.
-fn is_value_colon(bytes: &[u8], at: usize, context: PlainContext) -> bool
-    requires { at ≤ length bytes.now }
-    ensures { result ≡ plain.is_value_colon (context_of context) (text_at bytes.now at) }
-{
-    begins(bytes, at, b':') && ends_key(bytes, at + 1, context)
-}
-
 /// Whether a plain scalar ends before an offset.
 fn ends_plain(bytes: &[u8], at: usize, context: PlainContext, after_blank: bool) -> bool
     requires { at ≤ length bytes.now }
@@ -159,7 +151,10 @@ fn makes_key(bytes: &[u8], at: usize, context: PlainContext) -> bool
         (not (plain.is_flow (context_of context))
         && plain.is_value_colon (context_of context) (text_at bytes.now at)) }
 {
-    !is_flow(context) && is_value_colon(bytes, at, context)
+    if is_flow(context) {
+        return false;
+    }
+    begins(bytes, at, b':') && ends_key(bytes, at + 1, context)
 }
 
 /// Reads a plain scalar, starting at its first character.

@@ -1,9 +1,9 @@
 //! Quoted scalars and their escapes (YAML 1.2.2, 5.7, 7.3.1 and 7.3.2).
 
-ghost use Rattle.std.specs.Prelude.{◌≡◌, ◌==◌, ◌+◌, ◌<◌, ◌≤◌, ◌^◌, ◌++◌, suc, length, IfOk, IfSome, slice_index, IsTrue, ◌↔◌, Some, None};
+ghost use Rattle.std.specs.Prelude.{◌≡◌, ◌==◌, ◌+◌, ◌<◌, ◌≤◌, ◌^◌, suc, length, IfOk, IfSome, slice_index, IsTrue, ◌↔◌, Some, None};
 ghost use Rattle.al_scalar.specs.Places.{lines_at};
 ghost use Rattle.al_scalar.specs.LineEnds.{cells_between};
-ghost use Rattle.al_scalar.specs.Quoted.{character_cells, escape_table, digits_table, hex_digit};
+ghost use Rattle.al_scalar.specs.Quoted.{escape_table, digits_table};
 ghost use Rattle.std.specs.Map.{lookup};
 ghost use Rattle.al_scalar.specs.Private.Reads.{Gives, StaysWithin};
 ghost use Rattle.al_scalar.specs.Private.QuotedRead.{IsMarkByte, ReadsOn, EndsRun, GivesMark, GivesDigits, quoted_in};
@@ -120,19 +120,6 @@ fn digit_count(letter: u8) -> Option<usize>
     }
 }
 
-/// The value of a hexadecimal digit.
-fn digit_value(byte: u8) -> Option<u32>
-    ensures value { result ≡ hex_digit byte }
-    ensures small { IfSome result (λ digit. digit < 16) }
-{
-    match byte {
-        b'0'..=b'9' => Some(u32::from(byte - b'0')),
-        b'A'..=b'F' => Some(u32::from(byte - b'A') + 10),
-        b'a'..=b'f' => Some(u32::from(byte - b'a') + 10),
-        _ => None,
-    }
-}
-
 /// The hexadecimal digits of an escape.
 enum Digits {
     /// All of them, and their value.
@@ -155,7 +142,7 @@ fn read_digits(bytes: &[u8], from: usize, count: usize) -> Digits
         if is_line_end(bytes, i) {
             return Digits::Short(i);
         }
-        match digit_value(bytes[i]) {
+        match (bytes[i] as char).to_digit(16) {
             Some(digit) => value = 16 * value + digit,
             None => return Digits::Wrong,
         }
@@ -247,15 +234,6 @@ fn mark_at(bytes: &[u8], at: usize, quotes: Quotes) -> Mark
     }
 }
 
-/// Adds an escaped character with the offset at which its escape begins.
-fn push_character(text: &mut Text, character: char, at: usize) -> Result<(), AllocError>
-    requires { at < 2 ^ 32 }
-    ensures { IfOk result (λ _. text.new ≡ text.old ++ character_cells at character) }
-{
-    let mut buffer = [0; 4];
-    text.push_escape(character.encode_utf8(&mut buffer).as_bytes(), at)
-}
-
 /// Reads a quoted scalar, starting at its opening quote (YAML 1.2.2, 7.3.1 and 7.3.2).
 ///
 /// The fault is `UnclosedQuote` at the opening quote if the file ends before the closing one, even within an escape,
@@ -287,7 +265,8 @@ pub fn read_quoted(
                 }));
             }
             Mark::Character { character, next } => {
-                push_character(&mut text, character, run.next)?;
+                let mut buffer = [0; 4];
+                text.push_escape(character.encode_utf8(&mut buffer).as_bytes(), run.next)?;
                 next
             }
             Mark::Break { end, escaped } => fold_break(&mut text, bytes, end, escaped)?,

@@ -21,8 +21,8 @@ returns-else-within-found c =
     indent_from-no c.args.within (text_at bytes i) c.indent-found.result (sym c.indent-found.ensures.is) c.if-within-found.false
     ∙ sym (c.blank_lines.invariant.found ∙ found-solid c.args.within (lines_at bytes i) (lines_at-some bytes i) blank)
 
-pub returns-then-end-bytes : goal.returns-then-end-bytes
-returns-then-end-bytes c =
+pub returns-in-Some : goal.returns-in-Some
+returns-in-Some c =
     let bytes = c.args.bytes.now in
     let i = c.blank_lines.i in
     let end = c.in-Some.end in

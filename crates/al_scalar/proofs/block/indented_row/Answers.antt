@@ -17,14 +17,14 @@ returns-then-from-at c =
       on_line = record { from = found.from; inside = found.inside; same = indented-same bytes at from c.args.indent found.from found.inside found.spaces found.lines };
     }
 
-pub returns-in-Some : goal.returns-in-Some
-returns-in-Some c =
+pub returns : goal.returns
+returns c =
     let bytes = c.args.bytes.now in
     let found = c.spaces_end-from.ensures in
     let at = c.args.at in
     let from = c.spaces_end-from.result in
-    let end = c.in-Some.end in
-    let blank : BlankTo bytes at (Some end) = subst (λ b. BlankTo bytes at b) c.in-Some.is c.requires.blank in
+    let end = c.in_ok-end.end in
+    let blank : BlankTo bytes at (Some end) = subst (λ b. BlankTo bytes at b) c.in_ok-end.was c.requires.blank in
     record {
       row = row-blank c.args.indent (first_text (lines_at bytes at))
           (indented-no bytes at from c.args.indent found.from found.inside found.spaces found.lines found.most c.if-from-at.false
@@ -34,11 +34,13 @@ returns-in-Some c =
       on_line = blank.2;
     }
 
-pub returns-in-None : goal.returns-in-None
-returns-in-None c =
+pub returns-in_err-end : goal.returns-in_err-end
+returns-in_err-end c =
     let bytes = c.args.bytes.now in
     let found = c.spaces_end-from.ensures in
     let at = c.args.at in
     let from = c.spaces_end-from.result in
-    let blank : BlankTo bytes at None = subst (λ b. BlankTo bytes at b) c.in-None.is c.requires.blank in
-    row-none c.args.indent (first_text (lines_at bytes at)) (indented-no bytes at from c.args.indent found.from found.inside found.spaces found.lines found.most c.if-from-at.false found.stops) blank
+    let blank : BlankTo bytes at None = subst (λ b. BlankTo bytes at b) c.in_err-end.was c.requires.blank in
+    let none = c.from_residual.ensures in
+    let short = indented-no bytes at from c.args.indent found.from found.inside found.spaces found.lines found.most c.if-from-at.false found.stops in
+    rw none (row-none c.args.indent (first_text (lines_at bytes at)) short blank)
