@@ -2,10 +2,9 @@
 
 ghost use Rattle.al_scalar.specs.ReadScalar.{read_of};
 ghost use Rattle.al_yaml.specs.Private.BlockFrames as frames;
-ghost use Rattle.al_yaml.specs.Private.BlockFrames.{Enters, FindsBlock, IsEntered, IsFoundFrom, IsFoundPart, IsNextAt, IsNodeAt};
+ghost use Rattle.al_yaml.specs.Private.BlockFrames.{Enters, FindsBlock, IsEntered, IsFoundFrom, IsNextAt, IsNodeAt};
 ghost use Rattle.al_yaml.specs.Private.BlockFrames.{IsNextInside, IsOpenAt, IsReadBefore, IsRestAt, IsResumed, ResumesBlock};
-ghost use Rattle.al_yaml.specs.Private.BlockFrames.{block_open_of, block_rest, block_waiting_of, closed_sequence};
-ghost use Rattle.al_yaml_parts.specs.Answers.{mark_of, noting};
+ghost use Rattle.al_yaml.specs.Private.BlockFrames.{block_open_of, block_rest, block_waiting_of};
 ghost use Rattle.al_yaml_parts.specs.BlockReads.{next_found, slot_of};
 ghost use Rattle.al_yaml_tree.specs.Blocks as block;
 ghost use Rattle.al_yaml_parts.specs.Files.{left_at, size};
@@ -32,7 +31,6 @@ use al_yaml_parts::part::{Part, mapping_part, sequence_part};
 use al_yaml_parts::scalars::empty_part;
 use al_yaml_parts::slots::{Cursor, Slot, Spot, is_deeper, spot_after};
 use al_yaml_tree::{Entry, Node, entry_of, scalar_node};
-use std::alloc::AllocError;
 
 /// The part of an open block collection read so far: for a sequence, the items before a dash, and whether it is the
 /// value of a mapping entry; for a mapping, the entries before a key, and the key.
@@ -122,30 +120,27 @@ fn find_below(
         (state_of state.old) result (state_of state.new) }
     ensures within { IfOk result (λ task. IsFoundFrom file.now.bytes.now at task) }
 {
-    let slot = from.slot;
-    let anchor = from.anchor;
     let found = next_content(file.bytes, at)?;
-    let Next::Line { indent, at: first } = found else {
-        let empty = empty_part(file, state, slot.empty, at)?;
-        let part = complete(file, state, anchor, empty)?;
-        return Ok(BlockTask::Found(PartBefore { part, next: found }));
-    };
-    if !is_deeper(file.bytes, slot, indent, first) {
-        let empty = empty_part(file, state, slot.empty, at)?;
-        let part = complete(file, state, anchor, empty)?;
-        return Ok(BlockTask::Found(PartBefore { part, next: found }));
+    match found {
+        Next::Line { indent, at: first } if is_deeper(file.bytes, from.slot, indent, first) => {
+            Ok(BlockTask::Node(NodePlace {
+                slot: Slot {
+                    spot: Spot::OwnLine,
+                    ..from.slot
+                },
+                start: Cursor {
+                    at: first,
+                    column: indent,
+                },
+                anchor: from.anchor,
+            }))
+        }
+        _ => {
+            let empty = empty_part(file, state, from.slot.empty, at)?;
+            let part = complete(file, state, from.anchor, empty)?;
+            Ok(BlockTask::Found(PartBefore { part, next: found }))
+        }
     }
-    Ok(BlockTask::Node(NodePlace {
-        slot: Slot {
-            spot: Spot::OwnLine,
-            ..slot
-        },
-        start: Cursor {
-            at: first,
-            column: indent,
-        },
-        anchor,
-    }))
 }
 
 /// Continues the innermost collection at a dash or a key: gives the waiting collection, and the node it waits for.
@@ -228,30 +223,6 @@ fn entry_on(bytes: &[u8], column: usize, next: Next) -> Result<Option<usize>, Fa
     })
 }
 
-/// Closes a sequence with its last item.
-fn close_sequence(
-    file: &File,
-    state: &mut State,
-    begun: BlockStart,
-    items: Vec<Node>,
-    read: PartBefore,
-) -> Result<PartBefore, AllocError>
-    requires start { begun.start.at ≤ size file.now }
-    requires read { IsReadBefore file.now.bytes.now read }
-    ensures is { IfOk result (λ closed. noting (mark_of file.now.bytes.now begun.anchor)
-        (closed_sequence begun.start.at (nodes_of (map view items.items))
-        (part_of file.now.bytes.now read.part) (state_of state.old))
-        ≡ Ok (part_of file.now.bytes.now closed.part, state_of state.new)) }
-    ensures within { IfOk result (λ closed. IsFoundPart file.now.bytes.now read.part.next closed) }
-{
-    let PartBefore { part, next } = read;
-    let mut items = items;
-    items.push(part.node)?;
-    let part = sequence_part(items, begun.start.at, part.end, part.next);
-    let part = complete(file, state, begun.anchor, part)?;
-    Ok(PartBefore { part, next })
-}
-
 /// Continues after an item of a sequence.
 fn put_block_item(
     file: &File,
@@ -275,24 +246,22 @@ fn put_block_item(
     ensures within { IfOk result (λ task. IsResumed file.now.bytes.now read.part.next task) }
     ensures same { IfOk result (λ _. progress.new.stack ≡ progress.old.stack) }
 {
-    let Some(at) = entry_on(file.bytes, begun.start.column, read.next)? else {
-        let closed = close_sequence(file, &mut progress.state, begun, items, read)?;
-        return Ok(BlockTask::Found(closed));
-    };
-    if is_dash(file.bytes, at) {
-        let mut items = items;
-        items.push(read.part.node)?;
-        return Ok(BlockTask::Inside(OpenBlock {
+    let PartBefore { part, next } = read;
+    let mut items = items;
+    items.push(part.node)?;
+    match entry_on(file.bytes, begun.start.column, next)? {
+        Some(at) if is_dash(file.bytes, at) => Ok(BlockTask::Inside(OpenBlock {
             begun,
             has: BlockOpen::Items(in_mapping, items),
             at,
-        }));
+        })),
+        Some(at) if !in_mapping => Err(no_entry(file, progress, at)),
+        _ => {
+            let part = sequence_part(items, begun.start.at, part.end, part.next);
+            let part = complete(file, &mut progress.state, begun.anchor, part)?;
+            Ok(BlockTask::Found(PartBefore { part, next }))
+        }
     }
-    if in_mapping {
-        let closed = close_sequence(file, &mut progress.state, begun, items, read)?;
-        return Ok(BlockTask::Found(closed));
-    }
-    Err(no_entry(file, progress, at))
 }
 
 /// Continues after a value of a mapping.

@@ -3,7 +3,6 @@ use Rattle.std.specs.Prelude.{◌≡◌, ℕ, suc, ◌+◌, ◌<◌, ◌≤◌, 
 use Rattle.al_scalar.specs.Line.{Line}
 use Rattle.al_scalar.specs.Places.{first_text, lines_at, text_at}
 use Rattle.al_scalar.specs.Scalar.{ScalarRead}
-use Rattle.al_base.specs.Spans.{span}
 use Rattle.al_scalar.specs.ReadScalar.{read_of}
 use Rattle.al_yaml_tree.specs.Node.{Node, Nodes, Entries, sequence, mapping, with_item, with_entry, scalar_node}
 use Rattle.al_yaml_tree.specs.Reading.{Reading, gives, Part, part, with_span, ◌>>=◌}
@@ -12,7 +11,7 @@ use Rattle.al_yaml_tree.specs.Flow.{CollectionReader, flow_collection}
 use Rattle.al_yaml_tree.specs.Keys.{Key, no_entry, entry_key}
 use Rattle.al_yaml_tree.specs.Blocks.{BlockReader, rest_below, sequence_entries, mapping_entries, block_node, bare_node}
 use Rattle.al_yaml_parts.specs.BlockReads.{IsKeyAfter, IsTabInside, key_seen, slot_of}
-use Rattle.al_yaml_parts.specs.Answers.{Answer, then_read, noting}
+use Rattle.al_yaml_parts.specs.Answers.{then_read, noting}
 use Rattle.al_yaml_parts.specs.Answers.{mark_of}
 use Rattle.al_yaml_parts.specs.Places.{next_of, IsLineFrom}
 use Rattle.al_yaml_parts.specs.Reads.{State, run, FailsWith, IsPartAfter, part_of}
@@ -48,10 +47,6 @@ block_rest turns bound depth start column (items in_mapping done) ls =
     with_span sequence start (sequence_entries (block_node bound) (flow_collection (suc bound)) turns in_mapping column depth done ls)
 block_rest turns bound depth start column (entries done key) ls =
     with_span mapping start (mapping_entries (block_node bound) (flow_collection (suc bound)) turns column depth done key)
-
--- a sequence that ends after its last item
-abbrev pub closed_sequence : ℕ → Nodes → Part Node → State → Answer (Part Node)
-closed_sequence start done x s = Ok (part (sequence (with_item done x.value) (span start x.end)) x.end x.left, s)
 
 -- what is on the next line of a sequence, and of a mapping, in its column
 
