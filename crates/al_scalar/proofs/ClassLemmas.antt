@@ -8,11 +8,16 @@ use Rattle.al_base.specs.FirstBytes.{begins_with, first_is}
 use Rattle.al_base.specs.Names.{among}
 use Rattle.al_scalar.specs.Class.{nulls, booleans, infinities, not_numbers, is_digit_in, are_digits, after_digits, without_sign}
 use Rattle.al_scalar.specs.Class.{is_prefixed, is_integer, is_exponent, is_fraction, is_pure_fraction, is_decimal, is_float, class_of}
-use Rattle.al_scalar.specs.Private.Values.{begins_value}
+use Rattle.al_base.specs.Ascii.{ascii}
 use Rattle.al_scalar.proofs.LineCells.{never}
 use Rattle.al_scalar.specs.declared.class.Base.{Base}
 use Rattle.al_scalar.specs.declared.class.Base.TheVariants as base
 use Rattle.al_scalar.specs.declared.styles.Class.TheVariants as class
+
+-- a digit, a sign, a point, a tilde, or the first letter of null, true or false in either case
+abbrev begins_value : ℕ → Bool
+begins_value b = is_ascii_digit b || (b == ascii "+") || (b == ascii "-") || (b == ascii ".") || (b == 126) || (b == 110)
+    || (b == 78) || (b == 116) || (b == 84) || (b == 102) || (b == 70)
 
 string-by : (p q r s : Bool) → p ≡ false → q ≡ false → r ≡ false → s ≡ false
     → cond p class.Null (cond q class.Bool (cond r class.Int (cond s class.Float class.Str))) ≡ class.Str

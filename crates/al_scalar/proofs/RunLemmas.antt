@@ -1,8 +1,7 @@
 -- The offsets that runs give, and the cells of a text.
 use Rattle.std.proofs.Common.{◌≡◌, ℕ, zero, suc, ◌+◌, ◌-◌, ◌^◌, ◌<◌, ◌≤◌, List, [], ◌∷◌, ◌++◌, length, length-append, get_or, refl, sym, ap, subst}
-use Rattle.std.proofs.Common.{◌∙◌, arith, leb, leb-true, Bool, true, false, not, cond, map, take, drop, drop-cons, slice_range, slice_index}
+use Rattle.std.proofs.Common.{◌∙◌, arith, leb, leb-true, Bool, true, false, cond, map, take, drop, drop-cons, slice_range, slice_index}
 use Rattle.std.proofs.lemmas.Grind.{common_steps}
-use Rattle.std.proofs.lemmas.Bool.{not-false}
 use Rattle.std.proofs.lemmas.Bool.Decides.{nat_tests}
 use Rattle.std.proofs.lemmas.List.Elements.{All-cons, All-nil, All-push}
 use Rattle.std.proofs.lemmas.List.Sorted.{IsNonDecreasingBy-push, IsNonDecreasingBy-short}
@@ -76,13 +75,13 @@ IsOrdered-more n ss s h e = (
 
 -- ---- whether an offset continues the last run
 
-moving : (last : Segment) (n at k : ℕ) → last.index ≤ n → not last.moves ≡ false → last.offset ≤ at → at - last.offset ≡ n - last.index → offset_in last (n + k) ≡ at + k
+moving : (last : Segment) (n at k : ℕ) → last.index ≤ n → last.moves ≡ true → last.offset ≤ at → at - last.offset ≡ n - last.index → offset_in last (n + k) ≡ at + k
 moving last n at k b m o e =
     let sum : last.offset + ((n + k) - last.index) ≡ at + k = omega (arith, b, o, e) in
-    ap (λ x. cond x (last.offset + ((n + k) - last.index)) last.offset) (not-false last.moves m) ∙ sum
+    ap (λ x. cond x (last.offset + ((n + k) - last.index)) last.offset) m ∙ sum
 
 pub goes-on : (last : Segment) (n at m : ℕ) (ss : List Segment) → AreUpTo n ss → length ss ≡ suc m → last ≡ get_or ss m last
-    → not last.moves ≡ false → last.offset ≤ at → at - last.offset ≡ n - last.index → GoesOn ss n at true
+    → last.moves ≡ true → last.offset ≤ at → at - last.offset ≡ n - last.index → GoesOn ss n at true
 goes-on last n at m ss h l e v o f = λ k.
     let up : AreUpTo (n + k) ss = AreUpTo-up n (n + k) ss h (omega arith) in
     let low : last.index ≤ n = subst (λ (s : Segment). s.index ≤ n) (sym e) (h m last (omega (arith, l))) in

@@ -7,4 +7,3 @@ pub mod PlainLines
 pub mod QuotedRead
 pub mod Reads
 pub mod Segments
-pub mod Values

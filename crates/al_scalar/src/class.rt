@@ -5,7 +5,6 @@ ghost use Rattle.std.specs.Char.{is_ascii_digit};
 ghost use Rattle.al_scalar.specs.Class.{is_integer, is_float, is_decimal, is_fraction, is_pure_fraction};
 ghost use Rattle.al_scalar.specs.Class.{is_exponent, after_digits, is_prefixed, without_sign, are_digits, is_digit_in};
 ghost use Rattle.al_scalar.specs.Class.{class_of};
-ghost use Rattle.al_scalar.specs.Private.Values.{begins_value};
 ghost use Rattle.al_base.specs.FirstBytes.{first_is};
 
 use crate::styles::Class;
@@ -63,10 +62,7 @@ fn without_sign(text: &[u8]) -> &[u8]
 fn is_prefixed(letter: u8, base: Base, text: &[u8]) -> bool
     ensures { result ≡ is_prefixed letter base text.now }
 {
-    match text {
-        [b'0', second, digits @ ..] => *second == letter && are_digits(base, digits),
-        _ => false,
-    }
+    matches!(text, [b'0', second, digits @ ..] if *second == letter && are_digits(base, digits))
 }
 
 /// Whether a text is an integer.
@@ -83,10 +79,7 @@ fn after_digits(text: &[u8]) -> &[u8]
     ensures { result.now ≡ after_digits text.now }
 {
     let mut rest = text;
-    'digits: while let [first, more @ ..] = rest {
-        if !is_digit(Base::Decimal, *first) {
-            return rest;
-        }
+    'digits: while let [b'0'..=b'9', more @ ..] = rest {
         rest = more;
     }
     rest
@@ -96,10 +89,7 @@ fn after_digits(text: &[u8]) -> &[u8]
 fn begins_digit(text: &[u8]) -> bool
     ensures { result ≡ first_is is_ascii_digit text.now }
 {
-    match text {
-        [first, ..] => is_digit(Base::Decimal, *first),
-        [] => false,
-    }
+    matches!(text, [b'0'..=b'9', ..])
 }
 
 /// Whether a text is empty or an exponent.
@@ -127,10 +117,7 @@ fn is_fraction(text: &[u8]) -> bool
 fn is_pure_fraction(text: &[u8]) -> bool
     ensures { result ≡ is_pure_fraction text.now }
 {
-    match text {
-        [b'.', digits @ ..] => begins_digit(digits) && is_exponent(after_digits(digits)),
-        _ => false,
-    }
+    matches!(text, [b'.', rest @ ..] if begins_digit(rest) && is_exponent(after_digits(rest)))
 }
 
 /// Whether a text is a float in decimal digits, without a sign.
@@ -148,25 +135,18 @@ fn is_float(text: &[u8]) -> bool
     is_decimal(number) || is_among(number, &INFINITIES) || is_among(text, &NOT_NUMBERS)
 }
 
-/// Whether a word or a number may begin with a byte.
-fn may_begin_value(byte: u8) -> bool
-    ensures { result ≡ begins_value byte }
-{
-    matches!(
-        byte,
-        b'0'..=b'9' | b'+' | b'-' | b'.' | b'~' | b'n' | b'N' | b't' | b'T' | b'f' | b'F'
-    )
-}
-
 /// Whether the first byte of a text shows that it is a string, as is the case for most texts.
 #[tactic(auto, using(crate::proofs::ClassLemmas::is_string))]
 fn begins_string(text: &[u8]) -> bool
     ensures { IsTrue result → class_of text.now ≡ Class.Str }
 {
-    match text {
-        [first, ..] => !may_begin_value(*first),
-        [] => false,
-    }
+    !matches!(
+        text,
+        [] | [
+            b'0'..=b'9' | b'+' | b'-' | b'.' | b'~' | b'n' | b'N' | b't' | b'T' | b'f' | b'F',
+            ..
+        ]
+    )
 }
 
 /// The class of a plain scalar with this text, by the core schema (YAML 1.2.2, 10.3.2).

@@ -30,10 +30,7 @@ pub enum PlainContext {
 pub fn is_flow(context: PlainContext) -> bool
     ensures { result ≡ plain.is_flow (context_of context) }
 {
-    match context {
-        PlainContext::Flow => true,
-        PlainContext::Block(_) => false,
-    }
+    matches!(context, PlainContext::Flow)
 }
 
 /// Whether a colon before an offset separates a key from its value.

@@ -82,13 +82,7 @@ impl Runs {
         ensures { IsTrue result → GoesOn self.now index at true }
     {
         let last = self.run(self.rest.len());
-        if !last.moves {
-            return false;
-        }
-        if at < last.offset {
-            return false;
-        }
-        (at - last.offset) as usize == index - last.index
+        last.moves && last.offset <= at && (at - last.offset) as usize == index - last.index
     }
 
     /// Sets the offset of the next byte, at an index; those of the bytes after it increase from there or are the same.
