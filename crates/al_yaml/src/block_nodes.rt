@@ -154,12 +154,8 @@ fn read_property(
         (λ task. IsBegun file.now.bytes.now node.start.at (depth_in progress.old.stack) task) }
     ensures same { IfOk result (λ _. progress.new.stack ≡ progress.old.stack) }
 {
-    let unexpected = ReadError::at(YamlCode::UnexpectedCharacter, node.start.at);
-    if node.anchor.is_some() {
-        return Err(unexpected);
-    }
-    if has_no_name(file.bytes, node.start.at) {
-        return Err(unexpected);
+    if node.anchor.is_some() || has_no_name(file.bytes, node.start.at) {
+        return Err(ReadError::at(YamlCode::UnexpectedCharacter, node.start.at));
     }
     let on_key = is_on_block_key(file, node.slot.spot, node.start.at)?;
     if on_key {

@@ -12,23 +12,24 @@ use Rattle.al_yaml_parts.proofs.RunLemmas.{run-fails, run-gives, run-refused, ru
 use Rattle.al_yaml.proofs.BlockNodeLemmas.{alias-through, no-anchor, second-stops}
 use Rattle.al_yaml.proofs.BlockStepLemmas.{property-begins}
 use Rattle.al_yaml.proofs.block_nodes.read_property.Goals as goal
+use Rattle.al_yaml.proofs.block_nodes.read_property.Goals.{then-is_some-via-then-is_some, then-is_some-via-else-is_some+then-has_no_name}
 
 pub returns-then-is_some-clause-is : goal.returns-then-is_some-clause-is
-returns-then-is_some-clause-is c = λ bound. rw c.at-unexpected.ensures.is (second-stops bound c.args.node.anchor (slot_of c.args.node.slot) (depth_in c.args.progress.now.stack)
-    c.args.node.start.column (state_of c.args.progress.now.state) c.args.file.now.bytes.now c.args.node.start.at c.requires.node.inside
-    c.requires.property c.if-is_some.ensures)
-
-pub returns-then-has_no_name-clause-is : goal.returns-then-has_no_name-clause-is
 unfolding block_node block_property
-returns-then-has_no_name-clause-is c = λ bound. rw c.at-unexpected.ensures.is (no-anchor bound c.args.node.anchor _ _ _ _ _ _ c.if-is_some.ensures
-    ∙ rw (c.requires.property, ← c.if-has_no_name.ensures, start-at c.args.file.now.bytes.now c.args.node.start.at c.requires.node.inside) (run-fails _ _ _))
+returns-then-is_some-clause-is c = λ bound. rw c.at.ensures.is (elim c.then-is_some.branch [
+  | then-is_some-via-then-is_some w ↦ second-stops bound c.args.node.anchor (slot_of c.args.node.slot) (depth_in c.args.progress.now.stack)
+      c.args.node.start.column (state_of c.args.progress.now.state) c.args.file.now.bytes.now c.args.node.start.at c.requires.node.inside
+      c.requires.property w.if-is_some.ensures
+  | then-is_some-via-else-is_some+then-has_no_name w ↦ no-anchor bound c.args.node.anchor _ _ _ _ _ _ w.if-is_some.ensures
+      ∙ rw (c.requires.property, ← w.if-has_no_name.ensures, start-at c.args.file.now.bytes.now c.args.node.start.at c.requires.node.inside) (run-fails _ _ _)
+])
 
 pub returns-then-on_key-clause-is : goal.returns-then-on_key-clause-is
 unfolding block_node block_property
 returns-then-on_key-clause-is c = λ bound.
     let here = start-at c.args.file.now.bytes.now c.args.node.start.at c.requires.node.inside in
     let on_key = sym c.in_ok-on_key.ensures ∙ c.if-on_key.true in
-    rw c.at.ensures.is (no-anchor bound c.args.node.anchor _ _ _ _ _ _ c.if-is_some.ensures
+    rw c.at-then-on_key.ensures.is (no-anchor bound c.args.node.anchor _ _ _ _ _ _ c.if-is_some.ensures
     ∙ rw (c.requires.property, ← c.if-has_no_name.ensures, on_key, here) (run-fails _ _ _))
 
 pub returns-in_err-part-clause-is : goal.returns-in_err-part-clause-is
