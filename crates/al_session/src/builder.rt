@@ -141,8 +141,8 @@ fn load_file<L: Lint>(
     ensures checks { L.checks_of lint.new ≡ L.checks_of lint.old }
     ensures reads { L.reads_of lint.new ≡ count_after (L.reads_of lint.old) 1 }
 {
-    let unit = lint.read(kept.alloc, path, &bytes)?;
-    let file = file_of(lint, kept.alloc, path, bytes, unit)?;
+    let unit = lint.read(kept.alloc(), path, &bytes)?;
+    let file = file_of(lint, path, bytes, unit)?;
     keep_file::<L>(kept, path, file)?;
     Ok(())
 }
@@ -159,12 +159,12 @@ fn check_all<L: Lint>(
         (L.checks_of lint.new ≡ count_after (L.checks_of lint.old) (length (folder_in kept.old))) }
     ensures reads { L.reads_of lint.new ≡ L.reads_of lint.old }
 {
-    let mut paths = Vec::new(kept.alloc);
+    let mut paths = Vec::new(kept.alloc());
     for index in 0..kept.files.len() {
         let (name, _) = file_number(&kept.files, index);
-        paths.push(owned_path(kept.alloc, name.as_str())?)?;
+        paths.push(owned_path(kept.alloc(), name.as_str())?)?;
     }
-    let lists = FolderView::of(&kept.files).check_paths(lint, kept.alloc, &paths)?;
+    let lists = FolderView::of(&kept.files).check_paths(lint, &paths)?;
     set_faults(&mut kept.files, &paths, lists);
     Ok(())
 }

@@ -8,11 +8,10 @@ ghost use Rattle.al_session.specs.Private.Graphs.{IsGraphIf};
 use al_session_folder::{
     CallGraph, Files, KeptFile, LinkedFiles, Lint, call_graph, has_same_calls,
 };
-use std::alloc::{AllocError, Global};
+use std::alloc::AllocError;
 
 /// Computes the graph of calls of these files, if it isn't known. On failure nothing changes.
 pub(crate) fn find_graph<L: Lint>(
-    alloc: Global,
     files: &Files<L::Unit, L::Iface>,
     calls: &mut Option<CallGraph>,
 ) -> Result<(), AllocError>
@@ -25,7 +24,7 @@ pub(crate) fn find_graph<L: Lint>(
     if calls.is_some() {
         return Ok(());
     }
-    *calls = Some(call_graph::<L>(alloc, files)?);
+    *calls = Some(call_graph::<L>(files)?);
     Ok(())
 }
 

@@ -9,10 +9,9 @@ use al_session_folder::{Callers, Files};
 use indexmap::IndexMap;
 use std::alloc::Global;
 
-/// The files by path, the index of their callers, and the allocator for more of them.
+/// The files by path, and the index of their callers.
 #[derive(Drop)]
 pub struct IndexedFiles<U, I> {
-    pub alloc: Global,
     pub files: Files<U, I>,
     pub callers: Callers,
 }
@@ -24,10 +23,14 @@ impl<U, I> IndexedFiles<U, I> {
         ensures callers { result.callers.entries ≡ [] }
     {
         IndexedFiles {
-            alloc,
             files: IndexMap::new(alloc),
             callers: IndexMap::new(alloc),
         }
+    }
+
+    /// The allocator of the files.
+    pub(crate) fn alloc(&self) -> Global {
+        *self.files.allocator()
     }
 
     /// The bytes of a file; `None` if no file has this path. Doesn't allocate.

@@ -169,7 +169,7 @@ impl<L: Lint> Session<L> {
         }
         if self.has_bytes(path, bytes) {
             return Ok(Edit {
-                rechecked: Paths::new(Vec::new(self.kept.alloc)),
+                rechecked: Paths::new(Vec::new(self.kept.alloc())),
             });
         }
         match put_file(&mut self.lint, &mut self.kept, &mut self.calls, path, bytes) {
@@ -226,7 +226,7 @@ impl<L: Lint> Session<L> {
         if has_faults(&self.kept.files) {
             return Ok(1);
         }
-        find_graph::<L>(self.kept.alloc, &self.kept.files, &mut self.calls)?;
+        find_graph::<L>(&self.kept.files, &mut self.calls)?;
         let linked = linked_files::<L>(&self.kept.files, &self.calls);
         if has_call_cycles::<L>(&linked) {
             return Ok(1);
@@ -260,10 +260,10 @@ impl<L: Lint> Session<L> {
         ensures no_read { (result ≢ Err Stop.ReadFault) × (result ≢ Err Stop.TooManyTurns) }
         ensures unchanged { self.new ≡ self.old }
     {
-        find_graph::<L>(self.kept.alloc, &self.kept.files, &mut self.calls)?;
+        find_graph::<L>(&self.kept.files, &mut self.calls)?;
         let linked = linked_files::<L>(&self.kept.files, &self.calls);
-        let call_cycle_faults = find_call_cycle_faults(&self.lint, self.kept.alloc, &linked)?;
-        let joined = join_files::<L>(self.kept.alloc, &self.kept.files, &call_cycle_faults)?;
+        let call_cycle_faults = find_call_cycle_faults(&self.lint, &linked)?;
+        let joined = join_files::<L>(&self.kept.files, &call_cycle_faults)?;
         write_files::<L, W>(writer, &self.kept.files, &joined, oneline)
     }
 
@@ -280,7 +280,7 @@ impl<L: Lint> Session<L> {
         ensures members { IfOk result (λ paths. (p : List ℕ)
             → is_among p paths.items ≡ is_missing L.meaning self.now.folder p) }
     {
-        missing_paths::<L>(self.kept.alloc, &self.kept.files)
+        missing_paths::<L>(&self.kept.files)
     }
 
     /// A law: the files of the folder, and so the lines of a report, are in order of path, each path once. Does nothing

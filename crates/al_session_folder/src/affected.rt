@@ -112,12 +112,7 @@ impl<'a, L: Lint> PlannedChange<'a, L> {
     }
 
     // Appends the path of a caller if the change affects it.
-    fn add_if_affected(
-        &self,
-        alloc: Global,
-        name: &str,
-        paths: &mut Vec<Path>,
-    ) -> Result<(), AllocError>
+    fn add_if_affected(&self, name: &str, paths: &mut Vec<Path>) -> Result<(), AllocError>
         ensures { OnOk result (paths.new.items ≡ cond (not (bytes_eq name.now self.now.path)
             && is_affected L.Iface.eq L.meaning self.now.before (changed_by self.now) name.now)
             (paths.old.items ++ name.now ∷ []) paths.old.items) }
@@ -130,7 +125,7 @@ impl<'a, L: Lint> PlannedChange<'a, L> {
                 if self.has_same_answers(&file.calls.targets) {
                     return Ok(());
                 }
-                paths.push(owned_path(alloc, name)?)?;
+                paths.push(owned_path(*paths.allocator(), name)?)?;
                 Ok(())
             }
             None => Ok(()),
@@ -138,19 +133,14 @@ impl<'a, L: Lint> PlannedChange<'a, L> {
     }
 
     // Appends the paths of those callers that the change affects, in no particular order.
-    fn add_affected(
-        &self,
-        alloc: Global,
-        names: &[String],
-        mut paths: Vec<Path>,
-    ) -> Result<Vec<Path>, AllocError>
+    fn add_affected(&self, names: &[String], mut paths: Vec<Path>) -> Result<Vec<Path>, AllocError>
         ensures { IfOk result
             (λ r. (q : List ℕ) → is_among q r.items ≡ (((not (bytes_eq q self.now.path)
             && is_affected L.Iface.eq L.meaning self.now.before (changed_by self.now) q)
             && list_any (λ k. bytes_eq q (string_bytes k)) names.now) || is_among q paths.items)) }
     {
         for name in names {
-            self.add_if_affected(alloc, name.as_str(), &mut paths)?;
+            self.add_if_affected(name.as_str(), &mut paths)?;
         }
         Ok(paths)
     }
@@ -161,18 +151,18 @@ impl<'a, L: Lint> PlannedChange<'a, L> {
     /// # Errors
     ///
     /// [`AllocError`] if memory runs out.
-    pub fn affected_paths(&self, alloc: Global, callers: &Callers) -> Result<Vec<Path>, AllocError>
+    pub fn affected_paths(&self, callers: &Callers) -> Result<Vec<Path>, AllocError>
         requires index { IsCallerIndex L.meaning self.now.before callers.now }
         requires other { self.now.bytes ≢ bytes_at self.now.before self.now.path }
         ensures { IfOk result (λ paths. paths.items ≡ affected_by L.Iface.eq L.meaning self.now) }
     {
-        let paths = first_path(alloc, self.path, self.next.is_some())?;
+        let paths = first_path(*callers.allocator(), self.path, self.next.is_some())?;
         if self.has_same_interface() {
             return Ok(paths);
         }
         match callers.get(self.path) {
             Some(known) => {
-                let mut affected = self.add_affected(alloc, known.as_slice(), paths)?;
+                let mut affected = self.add_affected(known.as_slice(), paths)?;
                 put_paths_in_order(&mut affected);
                 Ok(affected)
             }

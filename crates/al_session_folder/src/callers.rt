@@ -21,46 +21,41 @@ pub(crate) fn candidates_of(
 {
     let mut names = IndexSet::new(alloc);
     for target in targets {
-        add_names_of(alloc, &mut names, target)?;
+        add_names_of(&mut names, target)?;
     }
     Ok(names)
 }
 
 // Adds the candidates of one call.
-fn add_names_of(
-    alloc: Global,
-    names: &mut IndexSet<String>,
-    target: &Target,
-) -> Result<(), AllocError>
+fn add_names_of(names: &mut IndexSet<String>, target: &Target) -> Result<(), AllocError>
     ensures { OnOk result ((c : List ℕ)
         → contains_text names.new c
         ≡ (is_candidate (target.now ∷ []) c || contains_text names.old c)) }
 {
     match target {
-        Target::Only(path) => add_name(alloc, names, path.as_str()),
+        Target::Only(path) => add_name(names, path.as_str()),
         Target::FirstOf(first, second) => {
-            add_name(alloc, names, first.as_str())?;
-            add_name(alloc, names, second.as_str())
+            add_name(names, first.as_str())?;
+            add_name(names, second.as_str())
         }
     }
 }
 
 // Inserts a text unless it is there already. On failure the texts are unchanged.
-fn add_name(alloc: Global, names: &mut IndexSet<String>, name: &str) -> Result<(), AllocError>
+fn add_name(names: &mut IndexSet<String>, name: &str) -> Result<(), AllocError>
     ensures added { OnOk result ((c : List ℕ)
         → contains_text names.new c ≡ (bytes_eq c name.now || contains_text names.old c)) }
     ensures as_before { OnErr result
         ((c : List ℕ) → contains_text names.new c ≡ contains_text names.old c) }
 {
     if !names.contains(name) {
-        names.insert(String::from_str(alloc, name)?)?;
+        names.insert(String::from_str(*names.allocator(), name)?)?;
     }
     Ok(())
 }
 
 /// Makes a file a caller of a candidate. On failure the callers are unchanged.
 pub(crate) fn add_caller(
-    alloc: Global,
     callers: &mut Callers,
     candidate: &str,
     path: &str,
@@ -71,26 +66,22 @@ pub(crate) fn add_caller(
         ((c q : List ℕ) → is_caller callers.new c q ≡ is_caller callers.old c q) }
 {
     match callers.get_mut(candidate) {
-        Some(known) => add_name(alloc, known, path),
-        None => add_first_caller(alloc, callers, candidate, path),
+        Some(known) => add_name(known, path),
+        None => add_first_caller(callers, candidate, path),
     }
 }
 
 // Makes a file the caller of a candidate without callers.
-fn add_first_caller(
-    alloc: Global,
-    callers: &mut Callers,
-    candidate: &str,
-    path: &str,
-) -> Result<(), AllocError>
+fn add_first_caller(callers: &mut Callers, candidate: &str, path: &str) -> Result<(), AllocError>
     requires { get_by_text callers.old candidate.now ≡ None }
     ensures added { OnOk result ((c q : List ℕ) → is_caller callers.new c q
         ≡ ((bytes_eq c candidate.now && bytes_eq q path.now) || is_caller callers.old c q)) }
     ensures as_before { OnErr result
         ((c q : List ℕ) → is_caller callers.new c q ≡ is_caller callers.old c q) }
 {
+    let alloc = *callers.allocator();
     let mut known = IndexSet::new(alloc);
-    add_name(alloc, &mut known, path)?;
+    add_name(&mut known, path)?;
     callers.insert(String::from_str(alloc, candidate)?, known)?;
     Ok(())
 }
@@ -122,7 +113,6 @@ fn drop_name(names: &mut IndexSet<String>, name: &str) -> bool
 
 /// Makes a file a caller of all these candidates. On failure it may have become a caller of some of them.
 fn add_callers(
-    alloc: Global,
     callers: &mut Callers,
     names: &IndexSet<String>,
     path: &str,
@@ -136,7 +126,7 @@ fn add_callers(
         ≡ ((bytes_eq q path.now && added c) || is_caller callers.old c q))) }
 {
     for name in names.as_slice() {
-        add_caller(alloc, callers, name.as_str(), path)?;
+        add_caller(callers, name.as_str(), path)?;
     }
     Ok(())
 }
@@ -173,11 +163,7 @@ pub struct CandidateChange<'a> {
 /// # Errors
 ///
 /// [`AllocError`] if memory runs out. The callers are then unchanged.
-pub fn reindex(
-    alloc: Global,
-    callers: &mut Callers,
-    file: &CandidateChange<'_>,
-) -> Result<(), AllocError>
+pub fn reindex(callers: &mut Callers, file: &CandidateChange<'_>) -> Result<(), AllocError>
     requires { (c : List ℕ)
         → is_caller callers.old c file.now.path.now ≡ contains_text file.now.before.now c }
     ensures moved { OnOk result ((c q : List ℕ) → is_caller callers.new c q
@@ -186,7 +172,7 @@ pub fn reindex(
     ensures as_before { OnErr result
         ((c q : List ℕ) → is_caller callers.new c q ≡ is_caller callers.old c q) }
 {
-    if let Err(error) = add_callers(alloc, callers, file.after, file.path) {
+    if let Err(error) = add_callers(callers, file.after, file.path) {
         drop_callers(callers, file.after, file.before, file.path);
         return Err(error);
     }

@@ -6,18 +6,18 @@ ghost use Rattle.al_session_folder.specs.Kept.{AreCalls};
 use crate::callers::candidates_of;
 use crate::kept::Calls;
 use crate::lint::Target;
-use std::alloc::{AllocError, Global};
+use std::alloc::AllocError;
 
 /// The calls of a file with these targets, in order.
 ///
 /// # Errors
 ///
 /// [`AllocError`] if memory runs out.
-pub fn calls_of(alloc: Global, targets: Vec<Target>) -> Result<Calls, AllocError>
+pub fn calls_of(targets: Vec<Target>) -> Result<Calls, AllocError>
     ensures { IfOk result (AreCalls targets.items) }
 {
     Ok(Calls {
-        candidates: candidates_of(alloc, &targets)?,
+        candidates: candidates_of(*targets.allocator(), &targets)?,
         targets,
     })
 }

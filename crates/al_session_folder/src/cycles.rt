@@ -53,11 +53,7 @@ fn callee<U, I>(files: &Files<U, I>, target: &Target) -> Option<usize>
 }
 
 /// The numbers of the files that calls lead to, in order.
-fn callees<U, I>(
-    alloc: Global,
-    files: &Files<U, I>,
-    targets: &[Target],
-) -> Result<Vec<usize>, AllocError>
+fn callees<U, I>(files: &Files<U, I>, targets: &[Target]) -> Result<Vec<usize>, AllocError>
     ensures { IfOk result
         (λ numbers. numbers.items
         ≡ filter_map (cycles.callee (folder_of files.now.entries)) targets.now) }
@@ -65,23 +61,20 @@ fn callees<U, I>(
     targets
         .iter()
         .filter_map(|target| callee(files, target))
-        .collect(alloc)
+        .collect(*files.allocator())
 }
 
 /// For each file the numbers of the files that its calls lead to.
-fn calls_graph<L: Lint>(
-    alloc: Global,
-    files: &Files<L::Unit, L::Iface>,
-) -> Result<Vec<Vec<usize>>, AllocError>
+fn calls_graph<L: Lint>(files: &Files<L::Unit, L::Iface>) -> Result<Vec<Vec<usize>>, AllocError>
     requires { AreKept L.meaning L.is_unit files.now.entries }
     ensures { IfOk result
         (λ graph. edges_of graph.items
         ≡ cycles.calls_graph L.meaning (folder_of files.now.entries)) }
 {
-    let mut graph = Vec::with_capacity(alloc, files.len())?;
+    let mut graph = Vec::with_capacity(*files.allocator(), files.len())?;
     for index in 0..files.len() {
         let (_, file) = file_number(files, index);
-        graph.push(callees(alloc, files, &file.calls.targets)?)?;
+        graph.push(callees(files, &file.calls.targets)?)?;
     }
     Ok(graph)
 }
@@ -93,17 +86,14 @@ fn calls_graph<L: Lint>(
 /// # Errors
 ///
 /// [`AllocError`] if memory runs out.
-pub fn call_graph<L: Lint>(
-    alloc: Global,
-    files: &Files<L::Unit, L::Iface>,
-) -> Result<CallGraph, AllocError>
+pub fn call_graph<L: Lint>(files: &Files<L::Unit, L::Iface>) -> Result<CallGraph, AllocError>
     requires { AreKept L.meaning L.is_unit files.now.entries }
     ensures { IfOk result
         (λ calls. IsCallGraph L.meaning
         (folder_of files.now.entries) calls.graph.items calls.labels.items) }
 {
-    let graph = calls_graph::<L>(alloc, files)?;
-    let labels = strongly_connected_components(alloc, graph.as_slice())?;
+    let graph = calls_graph::<L>(files)?;
+    let labels = strongly_connected_components(*graph.allocator(), graph.as_slice())?;
     Ok(CallGraph { graph, labels })
 }
 
@@ -188,6 +178,11 @@ impl<'a, L: Lint> LinkedFiles<'a, L> {
         LinkedFiles { files, calls }
     }
 
+    /// The allocator of the files.
+    pub(crate) fn alloc(&self) -> Global {
+        *self.files.allocator()
+    }
+
     /// How many files there are.
     pub(crate) fn count(&self) -> usize
         ensures { result ≡ length self.now }
@@ -233,21 +228,16 @@ impl<'a, L: Lint> LinkedFiles<'a, L> {
     /// # Errors
     ///
     /// [`AllocError`] if memory runs out.
-    pub fn call_cycle_faults(
-        &self,
-        lint: &L,
-        alloc: Global,
-        index: usize,
-    ) -> Result<Vec<Fault>, AllocError>
+    pub fn call_cycle_faults(&self, lint: &L, index: usize) -> Result<Vec<Fault>, AllocError>
         requires { index < length self.now }
         ensures { (p b : List ℕ) → slice_get self.now index ≡ Some (p, b)
             → IfOk result (λ faults. faults.items
             ≡ cycles.call_cycle_faults L.meaning self.now index p b) }
     {
         if !self.has_call_on_cycle(index) {
-            return Ok(Vec::new(alloc));
+            return Ok(Vec::new(self.alloc()));
         }
-        let mut faults = FaultSink::new(alloc);
+        let mut faults = FaultSink::new(self.alloc());
         self.add_faults_of_calls(lint, index, &mut faults)?;
         Ok(faults.into_faults())
     }

@@ -48,14 +48,13 @@ fn join_faults<'a>(
 /// [`AllocError`] if memory runs out.
 pub fn find_call_cycle_faults<L: Lint>(
     lint: &L,
-    alloc: Global,
     linked: &LinkedFiles<'_, L>,
 ) -> Result<Vec<Vec<Fault>>, AllocError>
     ensures { IfOk result (λ all. AreCycleFaults L.meaning linked.now all.items) }
 {
-    let mut all = Vec::with_capacity(alloc, linked.count())?;
+    let mut all = Vec::with_capacity(linked.alloc(), linked.count())?;
     for index in 0..linked.count() {
-        all.push(linked.call_cycle_faults(lint, alloc, index)?)?;
+        all.push(linked.call_cycle_faults(lint, index)?)?;
     }
     Ok(all)
 }
@@ -67,7 +66,6 @@ pub fn find_call_cycle_faults<L: Lint>(
 ///
 /// [`AllocError`] if memory runs out.
 pub fn join_files<'a, L: Lint>(
-    alloc: Global,
     files: &'a Files<L::Unit, L::Iface>,
     call_cycle_faults: &'a [Vec<Fault>],
 ) -> Result<Vec<Vec<&'a Fault>>, AllocError>
@@ -75,6 +73,7 @@ pub fn join_files<'a, L: Lint>(
     requires call_cycle_faults { AreCycleFaults L.meaning (folder_of files.now.entries) call_cycle_faults.now }
     ensures { IfOk result (λ joined. AreListed L.meaning files.now.entries joined.items) }
 {
+    let alloc = *files.allocator();
     let mut joined = Vec::with_capacity(alloc, files.len())?;
     for index in 0..files.len() {
         let (_, file) = file_number(files, index);

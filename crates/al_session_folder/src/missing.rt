@@ -15,17 +15,14 @@ use crate::lint::{Lint, Target};
 use crate::paths::owned_path;
 use crate::place::file_number;
 use al_base::Path;
-use std::alloc::{AllocError, Global};
+use std::alloc::AllocError;
 
 /// The candidates of the files' calls that aren't in the folder, in order of path, each once.
 ///
 /// # Errors
 ///
 /// [`AllocError`] if memory runs out.
-pub fn missing_paths<L: Lint>(
-    alloc: Global,
-    files: &Files<L::Unit, L::Iface>,
-) -> Result<Vec<Path>, AllocError>
+pub fn missing_paths<L: Lint>(files: &Files<L::Unit, L::Iface>) -> Result<Vec<Path>, AllocError>
     requires { AreKept L.meaning L.is_unit files.now.entries }
     ensures paths { IfOk result
         (λ paths. paths.items ≡ missing_in L.meaning (folder_of files.now.entries)) }
@@ -33,6 +30,7 @@ pub fn missing_paths<L: Lint>(
     ensures members { IfOk result (λ paths. (p : List ℕ)
         → is_among p paths.items ≡ is_missing L.meaning (folder_of files.now.entries) p) }
 {
+    let alloc = *files.allocator();
     let mut missing = Vec::new(alloc);
     for index in 0..files.len() {
         let (_, file) = file_number(files, index);

@@ -11,7 +11,7 @@ ghost use Rattle.al_session_folder.specs.Kept.{next_folder, faults_of, folder_of
 use crate::kept::{Files, KeptFile};
 use crate::lint::{Lint, Target};
 use al_base::{Fault, Path};
-use std::alloc::{AllocError, Global};
+use std::alloc::AllocError;
 use std::marker::Model;
 
 /// The files of a folder, either as they are or with another file, or none, at one path. Contracts see the folder.
@@ -100,15 +100,11 @@ impl<'a, L: Lint> FolderView<'a, L> {
     }
 
     // The answers of calls, in order.
-    fn answers(
-        &self,
-        alloc: Global,
-        targets: &[Target],
-    ) -> Result<Vec<Option<&'a L::Iface>>, AllocError>
+    fn answers(&self, targets: &[Target]) -> Result<Vec<Option<&'a L::Iface>>, AllocError>
         ensures { IfOk result (λ found. map (λ a. option_copied a) found.items
             ≡ map (answer L.meaning self.now) targets.now) }
     {
-        let mut found = Vec::new(alloc);
+        let mut found = Vec::new(*self.files.allocator());
         for target in targets {
             found.push(self.answer(target))?;
         }
@@ -120,12 +116,7 @@ impl<'a, L: Lint> FolderView<'a, L> {
     /// # Errors
     ///
     /// [`AllocError`] if memory runs out.
-    pub fn check_path(
-        &self,
-        lint: &mut L,
-        alloc: Global,
-        at: &str,
-    ) -> Result<Vec<Fault>, AllocError>
+    pub fn check_path(&self, lint: &mut L, at: &str) -> Result<Vec<Fault>, AllocError>
         requires { IsSome (bytes_at self.now at.now) }
         ensures faults { IfOk result (λ fs. fs.items ≡ faults_of L.meaning self.now at.now) }
         ensures checks { OnOk result (L.checks_of lint.new ≡ count_after (L.checks_of lint.old) 1) }
@@ -135,7 +126,8 @@ impl<'a, L: Lint> FolderView<'a, L> {
         let Some(file) = self.file(at) else {
             unreachable!();
         };
-        let found = self.answers(alloc, &file.calls.targets)?;
+        let found = self.answers(&file.calls.targets)?;
+        let alloc = *self.files.allocator();
         Ok(lint.check(alloc, at, &file.bytes, &file.unit, &found)?)
     }
 
@@ -144,12 +136,7 @@ impl<'a, L: Lint> FolderView<'a, L> {
     /// # Errors
     ///
     /// [`AllocError`] if memory runs out. At most as many checks as there are paths have then been counted.
-    pub fn check_paths(
-        &self,
-        lint: &mut L,
-        alloc: Global,
-        paths: &[Path],
-    ) -> Result<Vec<Vec<Fault>>, AllocError>
+    pub fn check_paths(&self, lint: &mut L, paths: &[Path]) -> Result<Vec<Vec<Fault>>, AllocError>
         requires { AllByRecursion (λ q. IsSome (bytes_at self.now q)) paths.now }
         ensures faults { IfOk result (λ lists. map (λ faults. faults.items) lists.items
             ≡ map (faults_of L.meaning self.now) paths.now) }
@@ -159,9 +146,9 @@ impl<'a, L: Lint> FolderView<'a, L> {
             (IsUpTo (L.checks_of lint.old) (L.checks_of lint.new) (length paths.now)) }
         ensures reads { L.reads_of lint.new ≡ L.reads_of lint.old }
     {
-        let mut lists = Vec::new(alloc);
+        let mut lists = Vec::new(*self.files.allocator());
         for at in paths {
-            let faults = self.check_path(lint, alloc, at.as_str())?;
+            let faults = self.check_path(lint, at.as_str())?;
             lists.push(faults)?;
         }
         Ok(lists)
