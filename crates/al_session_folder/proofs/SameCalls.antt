@@ -1,55 +1,23 @@
 -- Folders whose files have the same paths and the same calls have the same graph of calls.
-use Rattle.std.proofs.lemmas.Bool.{and_parts}
-use Rattle.std.proofs.Common.{◌≡◌, ℕ, zero, suc, ◌+◌, ◌<◌, true, false, List, [], ◌∷◌, length, map, get_or, set, slice_get, take, Option, Some, None}
-use Rattle.std.proofs.Common.{Vec, refl, sym, ◌∙◌, ap, subst, ◌&&◌, true≢false}
+use Rattle.std.proofs.Common.{◌≡◌, ℕ, zero, suc, List, [], ◌∷◌, map, set, slice_get, Option, Some, None}
+use Rattle.std.proofs.Common.{Vec, refl, sym, ◌∙◌, ap, subst}
 use Rattle.std.specs.Prelude.{bytes_eq}
-use Rattle.std.specs.Bool.{Decides}
 use Rattle.std.specs.Global.{Global}
 use Rattle.std.specs.List.{filter_map, position}
 use Rattle.std.specs.List.Sorted.{IsStrictlySortedBy}
 use Rattle.std.specs.Option.{option_map, unwrap_or}
 use Rattle.std.specs.Ordering.{nat_cmp}
 use Rattle.std.specs.Cmp.Lexicographic.{slice_cmp}
-use Rattle.std.proofs.lemmas.List.{get_or_read, take_more_same}
 use Rattle.std.proofs.lemmas.Option.{none-some, same_Some}
 use Rattle.std.proofs.lemmas.Simd.{map-map}
 use Rattle.al_session_folder.specs.Meaning.{Meaning, candidates}
 use Rattle.al_session_folder.specs.Folder.{Folder, bytes_at, find_map, paths_of, with_file}
 use Rattle.al_session_folder.specs.Kept.{AreKept, Files, IsKept, file_at, folder_of}
 use Rattle.al_session_folder.specs.Cycles.{callee, calls_graph}
-use Rattle.al_session_folder.specs.CallGraphs.{HasSameCalls, IsCallGraph, TellCycles, is_same_target}
+use Rattle.al_session_folder.specs.CallGraphs.{HasSameCalls, IsCallGraph, TellCycles}
 use Rattle.al_session_folder.specs.declared.kept.KeptFile.{KeptFile}
 use Rattle.al_session_folder.specs.declared.lint.Target.{Target}
-use Rattle.al_session_folder.specs.declared.lint.Target.TheVariants.{FirstOf, Only}
-use Rattle.al_session_folder.proofs.Views.{bytes_kept, bytes_same, bytes_self, kept_at, place_of}
-
--- ---- comparing calls
-
-pub differ : {P : Type 0} → (P → ⊥) → Decides false P
-differ apart = (λ h. absurd (true≢false (sym h)), λ p. absurd (apart p))
-
-pub same_target : (t u : Target) → is_same_target t u ≡ true → t ≡ u
-same_target (Only p) (Only q) h = ap Only (bytes_same p q h)
-same_target (FirstOf p q) (FirstOf r s) h =
-    let parts = and_parts (bytes_eq p r) (bytes_eq q s) h in
-    ap (λ x. FirstOf x q) (bytes_same p r parts.0) ∙ ap (FirstOf r) (bytes_same q s parts.1)
-same_target _ _ h = cc
-
-same_itself : (t : Target) → is_same_target t t ≡ true
-same_itself (Only p) = bytes_self p
-same_itself (FirstOf p q) = ap (λ b. b && bytes_eq q q) (bytes_self p) ∙ bytes_self q
-
--- equal prefixes, extended by equal elements
-pub take_same : {X : Type 0} (xs ys : List X) (i : ℕ) (x y : X) → i < length xs → i < length ys → x ≡ get_or xs i x → y ≡ get_or ys i y → x ≡ y →
-    take i xs ≡ take i ys → take (i + 1) xs ≡ take (i + 1) ys
-take_same {X} xs ys i x y lt below is at same before =
-    take_more_same xs ys i x lt below before (sym is ∙ subst (λ (z : X). z ≡ get_or ys i z) (sym same) at)
-
--- lists that differ at an index aren't equal
-pub apart : (xs ys : List Target) (i : ℕ) (x y : Target) → i < length xs → x ≡ get_or xs i x → y ≡ get_or ys i y → is_same_target x y ≡ false → xs ≡ ys → ⊥
-apart xs ys i x y lt is at other e =
-    let same : x ≡ y = get_or_read xs i x lt is y ∙ sym (at ∙ ap (λ l. get_or l i y) (sym e)) in
-    true≢false (sym (same_itself y) ∙ ap (λ t. is_same_target t y) (sym same) ∙ other)
+use Rattle.al_session_folder.proofs.Views.{bytes_kept, kept_at, place_of}
 
 -- ---- the graph of such a folder
 

@@ -1,6 +1,6 @@
 //! The index of callers: which files call a path, whether or not the path has a file.
 
-ghost use Rattle.std.specs.Prelude.{◌≡◌, ℕ, List, [], ◌∷◌, Bool, true, false, not, ◌&&◌, ◌||◌, None, bytes_eq, cond, IfOk, OnOk, OnErr};
+ghost use Rattle.std.specs.Prelude.{◌≡◌, ℕ, List, [], ◌∷◌, Bool, true, not, ◌&&◌, ◌||◌, None, bytes_eq, cond, IfOk, OnOk, OnErr};
 ghost use Rattle.indexmap.specs.IndexMap.{get_by_text};
 ghost use Rattle.indexmap.specs.IndexSet.{contains_text};
 ghost use Rattle.al_session_folder.specs.Meaning.{is_candidate};
@@ -93,22 +93,13 @@ pub(crate) fn drop_caller(callers: &mut Callers, candidate: &str, path: &str)
 {
     match callers.get_mut(candidate) {
         Some(known) => {
-            if drop_name(known, path) {
+            known.swap_remove(path);
+            if known.is_empty() {
                 callers.swap_remove(candidate);
             }
         }
         None => {}
     }
-}
-
-// Removes a text, and returns whether none is left.
-fn drop_name(names: &mut IndexSet<String>, name: &str) -> bool
-    ensures names { (c : List ℕ)
-        → contains_text names.new c ≡ (not (bytes_eq c name.now) && contains_text names.old c) }
-    ensures empty { result ≡ true → (c : List ℕ) → contains_text names.new c ≡ false }
-{
-    names.swap_remove(name);
-    names.is_empty()
 }
 
 /// Makes a file a caller of all these candidates. On failure it may have become a caller of some of them.

@@ -127,25 +127,14 @@ fn is_on_cycle(labels: &[Option<usize>], index: usize, to: Option<usize>) -> boo
     }
 }
 
-/// The fault of a call on a call cycle.
-fn fault_of(alloc: Global, site: Site<'_>) -> Result<Fault, AllocError>
-    ensures { IfOk result (λ fault. fault ≡ site_fault site.entry) }
-{
-    Ok(Fault {
-        span: site.span,
-        code: site.code,
-        args: Args::one(String::from_str(alloc, site.text)?),
-    })
-}
-
 /// Adds the fault of a call, if it is on a cycle.
 fn add_fault_if(is_on_cycle: bool, site: Site<'_>, faults: &mut FaultSink) -> Result<(), AllocError>
     ensures { OnOk result
         (faults.new ≡ faults.old ++ cond is_on_cycle (site_fault site.entry ∷ []) []) }
 {
     if is_on_cycle {
-        let fault = fault_of(faults.alloc(), site)?;
-        faults.push(fault)?;
+        let args = Args::one(String::from_str(faults.alloc(), site.text)?);
+        faults.report(site.span, site.code, args)?;
     }
     Ok(())
 }
@@ -201,27 +190,6 @@ impl<'a, L: Lint> LinkedFiles<'a, L> {
         has_label_of(row, &self.calls.labels, index)
     }
 
-    // Adds the faults of the calls of the file with this number that are on a call cycle, in the order of the calls.
-    fn add_faults_of_calls(
-        &self,
-        lint: &L,
-        index: usize,
-        faults: &mut FaultSink,
-    ) -> Result<(), AllocError>
-        requires { index < length self.now }
-        ensures { (p b : List ℕ) → slice_get self.now index ≡ Some (p, b) → OnOk result (faults.new
-            ≡ faults.old ++ cycles.call_cycle_faults L.meaning self.now index p b) }
-    {
-        let (_, file) = file_number(self.files, index);
-        let targets = file.calls.targets.as_slice();
-        for call in 0..targets.len() {
-            let to = callee(self.files, &targets[call]);
-            let is_on_cycle = is_on_cycle(&self.calls.labels, index, to);
-            add_fault_if(is_on_cycle, lint.site(&file.unit, call), faults)?;
-        }
-        Ok(())
-    }
-
     /// The faults of the calls of the file with this number that are on a call cycle, in the order of the calls. If none is, no candidate
     /// is looked up.
     ///
@@ -234,11 +202,17 @@ impl<'a, L: Lint> LinkedFiles<'a, L> {
             → IfOk result (λ faults. faults.items
             ≡ cycles.call_cycle_faults L.meaning self.now index p b) }
     {
-        if !self.has_call_on_cycle(index) {
-            return Ok(Vec::new(self.alloc()));
-        }
         let mut faults = FaultSink::new(self.alloc());
-        self.add_faults_of_calls(lint, index, &mut faults)?;
+        if !self.has_call_on_cycle(index) {
+            return Ok(faults.into_faults());
+        }
+        let (_, file) = file_number(self.files, index);
+        let targets = file.calls.targets.as_slice();
+        for call in 0..targets.len() {
+            let to = callee(self.files, &targets[call]);
+            let is_on_cycle = is_on_cycle(&self.calls.labels, index, to);
+            add_fault_if(is_on_cycle, lint.site(&file.unit, call), &mut faults)?;
+        }
         Ok(faults.into_faults())
     }
 }

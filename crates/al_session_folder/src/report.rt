@@ -15,13 +15,7 @@ use std::io::Write;
 pub fn has_faults<U, I>(files: &Files<U, I>) -> bool
     ensures { result ≡ list_any (λ e. not (length e.1.faults.items == 0)) files.now.entries }
 {
-    for index in 0..files.len() {
-        let (_, file) = file_number(files, index);
-        if !file.faults.is_empty() {
-            return true;
-        }
-    }
-    false
+    files.iter().any(|(_, file)| !file.faults.is_empty())
 }
 
 /// Writes the faults that a report lists, file by file in order of path: each as its line, followed by its snippet unless `oneline` is

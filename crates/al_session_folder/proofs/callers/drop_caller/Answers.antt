@@ -1,31 +1,33 @@
-use Rattle.std.proofs.Common.{sym, ap, ◌∙◌, Some, None, is_some}
+use Rattle.std.proofs.Common.{rules, ◌≡◌, sym, ap, ◌∙◌, Some, None, false, is_some, List, ℕ}
 use Rattle.std.specs.Prelude.{bytes_eq}
 use Rattle.indexmap.specs.IndexSet.{contains_text}
 use Rattle.al_session_folder.specs.Kept.{is_caller}
-use Rattle.al_session_folder.proofs.Indexing.{callers_set, dropped_from, gone_twice, known_at, none_at, not_there}
+use Rattle.al_session_folder.proofs.Indexing.{callers_set, dropped_from, gone_twice, known_at, name_dropped, none_at, not_there}
 use Rattle.al_session_folder.proofs.callers.drop_caller.Goals as goal
 
-pub returns-else-drop_name : goal.returns-else-drop_name
-returns-else-drop_name c =
-    let w = c.drop_name.new.names in
+pub returns-else-is_empty : goal.returns-else-is_empty
+returns-else-is_empty c =
+    let w = c.swap_remove.new.self in
     let p = c.args.candidate.now in
     let old = c.args.callers.now in
     let here = sym c.in-Some.ensures.value in
     let set = callers_set old (c.get_mut.follows.lender w) p (Some w) ((c.get_mut.follows.holds w).3 (ap is_some here)) in
-    dropped_from (is_caller old) _ p (contains_text w) (contains_text c.in-Some.known.now) set (known_at old p c.in-Some.known.now here) c.args.path.now c.drop_name.ensures.names
+    dropped_from (is_caller old) _ p (contains_text w) (contains_text c.in-Some.known.now) set (known_at old p c.in-Some.known.now here) c.args.path.now
+    (name_dropped c.in-Some.known.now w c.args.path.now c.swap_remove.ensures.updates)
 
-pub returns-then-drop_name : goal.returns-then-drop_name
-returns-then-drop_name c =
-    let w = c.drop_name.new.names in
+pub returns-then-is_empty : goal.returns-then-is_empty
+returns-then-is_empty c =
+    let w = c.swap_remove.new.self in
     let p = c.args.candidate.now in
     let old = c.args.callers.now in
     let here = sym c.in-Some.ensures.value in
     let mid = c.get_mut.follows.lender w in
     let set = callers_set old mid p (Some w) ((c.get_mut.follows.holds w).3 (ap is_some here)) in
-    let gone = callers_set mid c.swap_remove.new.self p None c.swap_remove.ensures.updates in
+    let gone = callers_set mid c.swap_remove-then-is_empty.new.self p None c.swap_remove-then-is_empty.ensures.updates in
+    let empty : (q : List ℕ) → contains_text w q ≡ false = λ q. search rules in
     dropped_from (is_caller old) _ p (contains_text w) (contains_text c.in-Some.known.now)
-    (λ c' q. gone_twice (bytes_eq c' p) _ (is_caller mid c' q) (contains_text w q) (is_caller old c' q) (gone c' q) (set c' q) (c.drop_name.ensures.empty c.if-drop_name.true q))
-    (known_at old p c.in-Some.known.now here) c.args.path.now c.drop_name.ensures.names
+    (λ c' q. gone_twice (bytes_eq c' p) _ (is_caller mid c' q) (contains_text w q) (is_caller old c' q) (gone c' q) (set c' q) (empty q))
+    (known_at old p c.in-Some.known.now here) c.args.path.now (name_dropped c.in-Some.known.now w c.args.path.now c.swap_remove.ensures.updates)
 
 pub returns-in-None : goal.returns-in-None
 returns-in-None c = λ c' q. ap (λ m. is_caller m c' q) c.get_mut.follows.holds-at-none
