@@ -45,13 +45,7 @@ impl<'a, L: Lint> Model for PlannedChange<'a, L> {
 fn is_same<I: Eq>(one: Option<&I>, other: Option<&I>) -> bool
     ensures { result ≡ option_eq I.eq (option_copied one.entry) (option_copied other.entry) }
 {
-    match one {
-        None => other.is_none(),
-        Some(x) => match other {
-            None => false,
-            Some(y) => x == y,
-        },
-    }
+    one == other
 }
 
 impl<'a, L: Lint> PlannedChange<'a, L> {
