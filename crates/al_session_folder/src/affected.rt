@@ -70,6 +70,7 @@ impl<'a, L: Lint> PlannedChange<'a, L> {
     }
 
     /// The folder after the change.
+    #[tactic(auto, using(crate::proofs::Affecting::changed_sorted))]
     pub fn after(&self) -> FolderView<'a, L>
         ensures folder { result ≡ changed_by self.now }
         ensures ordered { IsStrictlySortedBy (slice_cmp nat_cmp) (paths_of result) }

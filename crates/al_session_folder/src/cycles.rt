@@ -45,10 +45,9 @@ fn callee<U, I>(files: &Files<U, I>, target: &Target) -> Option<usize>
 {
     match target {
         Target::Only(path) => number_of(files, path),
-        Target::FirstOf(first, second) => match number_of(files, first) {
-            Some(number) => Some(number),
-            None => number_of(files, second),
-        },
+        Target::FirstOf(first, second) => {
+            number_of(files, first).or_else(|| number_of(files, second))
+        }
     }
 }
 

@@ -28,8 +28,5 @@ pub fn file_number<U, I>(files: &Files<U, I>, index: usize) -> (&String, &KeptFi
     requires { index < length files.now.entries }
     ensures { slice_get files.now.entries index ≡ Some (result.0.now, result.1.now) }
 {
-    match files.get_index(index) {
-        Some(found) => found,
-        None => unreachable!(),
-    }
+    files.get_index(index).unwrap()
 }

@@ -15,17 +15,12 @@ impl PartialEq for Target {
     ghost laws = { target_laws };
 
     fn eq(&self, other: &Target) -> bool {
-        match self {
-            Target::Only(path) => match other {
-                Target::Only(again) => path.as_str() == again.as_str(),
-                Target::FirstOf(_, _) => false,
-            },
-            Target::FirstOf(first, second) => match other {
-                Target::Only(_) => false,
-                Target::FirstOf(again, second_again) => {
-                    first.as_str() == again.as_str() && second.as_str() == second_again.as_str()
-                }
-            },
+        match (self, other) {
+            (Target::Only(path), Target::Only(again)) => path.as_str() == again.as_str(),
+            (Target::FirstOf(first, second), Target::FirstOf(again, second_again)) => {
+                first.as_str() == again.as_str() && second.as_str() == second_again.as_str()
+            }
+            _ => false,
         }
     }
 }

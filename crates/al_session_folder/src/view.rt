@@ -80,22 +80,19 @@ impl<'a, L: Lint> FolderView<'a, L> {
     pub(crate) fn interface(&self, at: &str) -> Option<&'a L::Iface>
         ensures { option_copied result ≡ interface_in L.meaning self.now at.now }
     {
-        match self.file(at) {
-            Some(file) => Some(&file.iface),
-            None => None,
-        }
+        self.file(at).map(|file| &file.iface)
     }
 
     /// The answer of a call: the interface of its first candidate that is in the folder.
+    #[tactic(auto, using(crate::proofs::Answering::or_none), unfolding(crate::specs::Folder::answer))]
     pub(crate) fn answer(&self, target: &Target) -> Option<&'a L::Iface>
         ensures { option_copied result ≡ answer L.meaning self.now target.now }
     {
         match target {
             Target::Only(only) => self.interface(only.as_str()),
-            Target::FirstOf(first, second) => match self.interface(first.as_str()) {
-                Some(found) => Some(found),
-                None => self.interface(second.as_str()),
-            },
+            Target::FirstOf(first, second) => self
+                .interface(first.as_str())
+                .or_else(|| self.interface(second.as_str())),
         }
     }
 
