@@ -73,10 +73,8 @@ impl<L: Lint> SessionBuilder<L> {
         ensures { option_copied result
             ≡ option_map (L.meaning.calls path.now) (bytes_at self.now.folder path.now) }
     {
-        match self.kept.files.get(path) {
-            Some(file) => Some(file.calls.targets.as_slice()),
-            None => None,
-        }
+        let file = self.kept.files.get(path);
+        file.map(|file| file.calls.targets.as_slice())
     }
 
     /// Sets the bytes of a file, which is new or replaces the one with its path, and reads it. Checks no file.
@@ -102,10 +100,7 @@ impl<L: Lint> SessionBuilder<L> {
         if let Some(refused) = put_refused(&self.lint, &self.kept.files, path, &bytes) {
             return Err(refused);
         }
-        match load_file(&mut self.lint, &mut self.kept, path, bytes) {
-            Ok(()) => Ok(()),
-            Err(_) => Err(Refused::Memory),
-        }
+        load_file(&mut self.lint, &mut self.kept, path, bytes).map_err(|_| Refused::Memory)
     }
 
     /// The session of these files. Checks each file once and reads none.

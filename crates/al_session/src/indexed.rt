@@ -34,12 +34,10 @@ impl<U, I> IndexedFiles<U, I> {
     }
 
     /// The bytes of a file; `None` if no file has this path. Doesn't allocate.
+    #[tactic(auto, using(al_session_folder::proofs::Views::bytes_kept))]
     pub(crate) fn bytes(&self, path: &str) -> Option<&[u8]>
         ensures { option_copied result ≡ bytes_at (folder_of self.now.files.entries) path.now }
     {
-        match self.files.get(path) {
-            Some(file) => Some(file.bytes.as_slice()),
-            None => None,
-        }
+        self.files.get(path).map(|file| file.bytes.as_slice())
     }
 }

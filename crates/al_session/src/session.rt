@@ -128,10 +128,7 @@ impl<L: Lint> Session<L> {
     fn has_bytes(&self, path: &str, bytes: &[u8]) -> bool
         ensures { Decides result (bytes_at self.now.folder path.now ≡ Some bytes.now) }
     {
-        match self.bytes(path) {
-            Some(old) => old == bytes,
-            None => false,
-        }
+        self.bytes(path) == Some(bytes)
     }
 
     /// Sets the bytes of a file, which is new or replaces the one with its path, and checks the files that this
