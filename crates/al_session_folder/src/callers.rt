@@ -1,7 +1,6 @@
 //! The index of callers: which files call a path, whether or not the path has a file.
 
-ghost use Rattle.std.specs.Prelude.{◌≡◌, ℕ, List, [], ◌∷◌, Bool, true, not, ◌&&◌, ◌||◌, None, bytes_eq, cond, IfOk, OnOk, OnErr};
-ghost use Rattle.indexmap.specs.IndexMap.{get_by_text};
+ghost use Rattle.std.specs.Prelude.{◌≡◌, ℕ, List, [], ◌∷◌, Bool, true, not, ◌&&◌, ◌||◌, bytes_eq, cond, IfOk, OnOk, OnErr};
 ghost use Rattle.indexmap.specs.IndexSet.{contains_text};
 ghost use Rattle.al_session_folder.specs.Meaning.{is_candidate};
 ghost use Rattle.al_session_folder.specs.Kept.{is_caller};
@@ -67,23 +66,14 @@ pub(crate) fn add_caller(
 {
     match callers.get_mut(candidate) {
         Some(known) => add_name(known, path),
-        None => add_first_caller(callers, candidate, path),
+        None => {
+            let alloc = *callers.allocator();
+            let mut known = IndexSet::new(alloc);
+            add_name(&mut known, path)?;
+            callers.insert(String::from_str(alloc, candidate)?, known)?;
+            Ok(())
+        }
     }
-}
-
-// Makes a file the caller of a candidate without callers.
-fn add_first_caller(callers: &mut Callers, candidate: &str, path: &str) -> Result<(), AllocError>
-    requires { get_by_text callers.old candidate.now ≡ None }
-    ensures added { OnOk result ((c q : List ℕ) → is_caller callers.new c q
-        ≡ ((bytes_eq c candidate.now && bytes_eq q path.now) || is_caller callers.old c q)) }
-    ensures as_before { OnErr result
-        ((c q : List ℕ) → is_caller callers.new c q ≡ is_caller callers.old c q) }
-{
-    let alloc = *callers.allocator();
-    let mut known = IndexSet::new(alloc);
-    add_name(&mut known, path)?;
-    callers.insert(String::from_str(alloc, candidate)?, known)?;
-    Ok(())
 }
 
 /// Removes a file from the callers of a candidate.
