@@ -16,7 +16,7 @@ ghost use Rattle.al_expr_grammar.specs.View.{expr_view};
 ghost use Rattle.std.specs.Fmt.{decimal};
 ghost use Rattle.al_base.specs.declared.codes.ExpressionCode.TheVariants as code;
 
-use crate::literals::{Literal, literal_text};
+use crate::literals::literal_text;
 use crate::placeholders::used_arguments;
 use crate::reports::report_text;
 use crate::scope::Scope;
@@ -46,10 +46,10 @@ pub(crate) struct CallExpr<'a, 'e> {
 pub(crate) fn is_test(function: Option<Function>) -> bool
     ensures { result ≡ is_test function }
 {
-    match function {
-        Some(Function::Contains | Function::StartsWith | Function::EndsWith) => true,
-        _ => false,
-    }
+    matches!(
+        function,
+        Some(Function::Contains | Function::StartsWith | Function::EndsWith)
+    )
 }
 
 /// The type of a call whose arguments have these types.
@@ -70,12 +70,8 @@ pub(crate) fn call_from(
 {
     let name = call.name;
     let Some(function) = call.function else {
-        report_text(
-            name.span,
-            ExpressionCode::UndefinedFunction,
-            name.text,
-            faults,
-        )?;
+        let code = ExpressionCode::UndefinedFunction;
+        report_text(name.span, code, name.text, faults)?;
         return Ok(Ty::ANY);
     };
     check_available(scope, name, function, faults)?;
@@ -97,12 +93,8 @@ fn check_available(
         (expression_fault code.UnavailableFunction (name.entry).span ((name.entry).text.now ∷ []))) }
 {
     if !scope.available.allows(function) {
-        report_text(
-            name.span,
-            ExpressionCode::UnavailableFunction,
-            name.text,
-            faults,
-        )?;
+        let code = ExpressionCode::UnavailableFunction;
+        report_text(name.span, code, name.text, faults)?;
     }
     Ok(())
 }
@@ -117,45 +109,14 @@ fn check_arguments(
         argument_faults (name.entry).text.now (name.entry).span parameters
         (map (argument_in ms) arguments.now)) }
 {
-    if parameters.takes(arguments.len()) {
-        check_types(name, parameters, arguments, faults)
-    } else {
-        report_text(name.span, ExpressionCode::ArgumentCount, name.text, faults)
+    if !parameters.takes(arguments.len()) {
+        return report_text(name.span, ExpressionCode::ArgumentCount, name.text, faults);
     }
-}
-
-fn check_types(
-    name: Word<'_>,
-    parameters: Parameters,
-    arguments: &[Argument],
-    faults: &mut FaultSink,
-) -> Result<(), AllocError>
-    ensures { OnOk result ((ms : List Parts) → faults.new ≡ faults.old ++
-        wrong_arguments (name.entry).text.now parameters 0
-        (map (argument_in ms) arguments.now)) }
-{
     for (index, argument) in arguments.iter().enumerate() {
-        let wanted = parameters.parameter_at(index);
-        check_type(name, index + 1, wanted, argument, faults)?;
-    }
-    Ok(())
-}
-
-/// Adds the fault of an argument, by its number from 1, that doesn't have the type that the function requires.
-fn check_type(
-    name: Word<'_>,
-    number: usize,
-    wanted: Wanted,
-    argument: &Argument,
-    faults: &mut FaultSink,
-) -> Result<(), AllocError>
-    ensures { OnOk result ((ms : List Parts) → faults.new ≡ faults.old ++
-        give (not (accepts wanted (type_in ms argument.now.ty)))
-        (expression_fault code.ArgumentType argument.now.span
-        (decimal number ∷ (name.entry).text.now ∷ []))) }
-{
-    if !accepts(wanted, argument.ty) {
-        let number = number.to_string(faults.alloc())?;
+        if accepts(parameters.parameter_at(index), argument.ty) {
+            continue;
+        }
+        let number = (index + 1).to_string(faults.alloc())?;
         let args = Args::two(faults.alloc(), number.as_str(), name.text)?;
         let code = Code::Expression(ExpressionCode::ArgumentType);
         faults.report(argument.span, code, args)?;
@@ -173,15 +134,19 @@ fn check_format(
         format_faults function (arguments_of (map expr_view exprs.now))
         (map (argument_in ms) arguments.now)) }
 {
-    if function != Function::Format {
-        return Ok(());
-    }
-    let [first, ..] = exprs else {
+    let (Function::Format, [first, ..]) = (function, exprs) else {
         return Ok(());
     };
-    match literal_text(faults.alloc(), first)? {
-        Some(literal) => check_placeholders(&literal, after_first(arguments), faults),
-        None => Ok(()),
+    let Some(literal) = literal_text(faults.alloc(), first)? else {
+        return Ok(());
+    };
+    let rest = after_first(arguments);
+    match used_arguments(faults.alloc(), literal.value.as_str(), rest.len())? {
+        Some(used) => check_used(&used, rest, faults),
+        None => faults.report_plain(
+            literal.span,
+            Code::Expression(ExpressionCode::WrongPlaceholder),
+        ),
     }
 }
 
@@ -189,28 +154,7 @@ fn after_first(arguments: &[Argument]) -> &[Argument]
     ensures { (ms : List Parts) → map (argument_in ms) result.now
         ≡ drop 1 (map (argument_in ms) arguments.now) }
 {
-    match arguments {
-        [] => &[],
-        [_, rest @ ..] => rest,
-    }
-}
-
-fn check_placeholders(
-    literal: &Literal,
-    arguments: &[Argument],
-    faults: &mut FaultSink,
-) -> Result<(), AllocError>
-    ensures { OnOk result ((ms : List Parts) → faults.new ≡ faults.old ++
-        placeholder_faults (string_bytes literal.now.value, literal.now.span)
-        (map (argument_in ms) arguments.now)) }
-{
-    match used_arguments(faults.alloc(), literal.value.as_str(), arguments.len())? {
-        Some(used) => check_used(&used, arguments, faults),
-        None => faults.report_plain(
-            literal.span,
-            Code::Expression(ExpressionCode::WrongPlaceholder),
-        ),
-    }
+    arguments.get(1..).unwrap_or(&[])
 }
 
 fn check_used(
@@ -222,31 +166,15 @@ fn check_used(
         ++ unused_arguments 0 used.now (map (argument_in ms) arguments.now)) }
 {
     for (index, argument) in arguments.iter().enumerate() {
-        if index < used.len() {
-            check_argument(used[index], index, argument.span, faults)?;
+        if index >= used.len() {
+            return Ok(());
         }
-    }
-    Ok(())
-}
-
-fn check_argument(
-    used: bool,
-    index: usize,
-    span: Span,
-    faults: &mut FaultSink,
-) -> Result<(), AllocError>
-    requires { index + 2 < 2 ^ 64 }
-    ensures { OnOk result (faults.new ≡ faults.old ++
-        give (not used) (expression_fault code.UnusedArgument span (decimal (index + 2) ∷ []))) }
-{
-    if !used {
+        if used[index] {
+            continue;
+        }
         let number = (index + 2).to_string(faults.alloc())?;
-        report_text(
-            span,
-            ExpressionCode::UnusedArgument,
-            number.as_str(),
-            faults,
-        )?;
+        let code = ExpressionCode::UnusedArgument;
+        report_text(argument.span, code, number.as_str(), faults)?;
     }
     Ok(())
 }

@@ -32,24 +32,24 @@ pub(crate) struct TypedOperand {
 #[tactic(auto, using(al_base::proofs::Growing::growth))]
 pub(crate) fn operation(
     types: &mut Types<'_>,
-    sofar: Join,
+    so_far: Join,
     operand: TypedOperand,
     faults: &mut FaultSink,
 ) -> Result<Join, AllocError>
-    requires below { is_join_known types.old sofar ≡ true }
-    requires present { has_operand types.old sofar ≡ true }
+    requires below { is_join_known types.old so_far ≡ true }
+    requires present { has_operand types.old so_far ≡ true }
     requires other { is_known types.old operand.ty ≡ true }
     ensures ok { IfOk result (λ j. typed (type_so_far types.new j) faults.new ≡ faults_then faults.old
-        (operation operand.operator operand.at (type_so_far types.old sofar)
+        (operation operand.operator operand.at (type_so_far types.old so_far)
         (type_at types.old operand.ty))) }
     ensures below { IfOk result (λ j. is_join_known types.new j ≡ true) }
     ensures present { IfOk result (λ j. has_operand types.new j ≡ true) }
     ensures kept { BeginsWith (objects_of types.new) (objects_of types.old) }
 {
     if is_logic(operand.operator) {
-        return sofar.and(faults.alloc(), operand.ty);
+        return so_far.and(faults.alloc(), operand.ty);
     }
-    let first = types.type_or_any(sofar)?;
+    let first = types.type_or_any(so_far)?;
     check_comparison(first, operand, faults)?;
     Ok(Join::One(Ty::scalar(Scalar::Bool)))
 }
@@ -73,15 +73,7 @@ fn check_comparison(
 fn is_logic(operator: Operator) -> bool
     ensures { result ≡ is_logic operator }
 {
-    match operator {
-        Operator::Or | Operator::And => true,
-        Operator::Equal
-        | Operator::NotEqual
-        | Operator::Less
-        | Operator::LessEqual
-        | Operator::Greater
-        | Operator::GreaterEqual => false,
-    }
+    matches!(operator, Operator::Or | Operator::And)
 }
 
 /// Whether operators choose between their operands, so that these are branches. All operators of a level are of one kind, so the first

@@ -19,11 +19,6 @@ pub fn comparable(operator: Operator, a: Ty, b: Ty) -> bool
         Operator::Equal | Operator::NotEqual => {
             !(a_collection && b_plain) && !(b_collection && a_plain)
         }
-        Operator::Or
-        | Operator::And
-        | Operator::Less
-        | Operator::LessEqual
-        | Operator::Greater
-        | Operator::GreaterEqual => !a_collection && !b_collection,
+        _ => !a_collection && !b_collection,
     }
 }

@@ -44,9 +44,7 @@ pub(crate) fn used_arguments(
     }
     match state {
         PlaceholderState::Outside => Ok(Some(used)),
-        PlaceholderState::AfterOpening
-        | PlaceholderState::InIndex(_)
-        | PlaceholderState::AfterClosing => Ok(None),
+        _ => Ok(None),
     }
 }
 
@@ -92,11 +90,6 @@ fn read_byte(state: PlaceholderState, byte: u8) -> Turn
         }
         (PlaceholderState::InIndex(index), b'}') => Turn::Names(index),
         (PlaceholderState::AfterClosing, b'}') => Turn::To(PlaceholderState::Outside),
-        (
-            PlaceholderState::AfterOpening
-            | PlaceholderState::InIndex(_)
-            | PlaceholderState::AfterClosing,
-            _,
-        ) => Turn::Wrong,
+        _ => Turn::Wrong,
     }
 }

@@ -41,8 +41,7 @@ pub(crate) fn property(
     ensures known { IfOk result (λ t. is_known types.new t ≡ true) }
     ensures kept { BeginsWith (objects_of types.new) (objects_of types.old) }
 {
-    let of = base_property(types, ty.of, step, faults)?;
-    of.in_arrays(ty.arrays)
+    base_property(types, ty.of, step, faults)?.in_arrays(ty.arrays)
 }
 
 // The same for a type that isn't an array. A property that an object doesn't have is any, with a fault.
@@ -65,8 +64,12 @@ fn base_property(
         Base::Object(n) => match types.property(n, step.name.as_bytes())? {
             Some(of) => Ok(of),
             None => {
-                let code = ExpressionCode::UndefinedProperty;
-                report_text(step.at, code, step.name, faults)?;
+                report_text(
+                    step.at,
+                    ExpressionCode::UndefinedProperty,
+                    step.name,
+                    faults,
+                )?;
                 Ok(Ty::ANY)
             }
         },
@@ -83,9 +86,7 @@ fn scalar_step(scalar: Scalar, whole: Span, faults: &mut FaultSink) -> Result<Ty
 {
     match scalar {
         Scalar::Any => Ok(Ty::ANY),
-        Scalar::Null | Scalar::Number | Scalar::Bool | Scalar::String => {
-            not_indexable(whole, faults)
-        }
+        _ => not_indexable(whole, faults),
     }
 }
 
@@ -109,10 +110,8 @@ pub(crate) fn element(ty: Ty, by: Ty, whole: Span, faults: &mut FaultSink) -> Re
         if !is_index(by) {
             return not_indexable(whole, faults);
         }
-        return Ok(Ty {
-            arrays: ty.arrays - 1,
-            of: ty.of,
-        });
+        let arrays = ty.arrays - 1;
+        return Ok(Ty { arrays, ..ty });
     }
     match ty.of {
         Base::Object(_) => Ok(Ty::ANY),
@@ -124,10 +123,7 @@ pub(crate) fn element(ty: Ty, by: Ty, whole: Span, faults: &mut FaultSink) -> Re
 fn is_index(by: Ty) -> bool
     ensures { (ms : List Parts) → result ≡ is_index (type_in ms by) }
 {
-    match by.form() {
-        Form::Any | Form::Number => true,
-        Form::Null | Form::Bool | Form::String | Form::Array | Form::Object => false,
-    }
+    matches!(by.form(), Form::Any | Form::Number)
 }
 
 /// The type of `.*` of a value of this type: an array of what its elements, or its fields, have in common.
@@ -148,10 +144,7 @@ pub(crate) fn all(
         return Ok(ty);
     }
     match ty.of {
-        Base::Object(n) => {
-            let common = types.common(n)?;
-            common.unwrap_or(Ty::ANY).in_arrays(1)
-        }
+        Base::Object(n) => types.common(n)?.unwrap_or(Ty::ANY).in_arrays(1),
         Base::Scalar(scalar) => scalar_step(scalar, whole, faults),
     }
 }

@@ -60,6 +60,19 @@ struct Surroundings<'s> {
     safe: bool,
 }
 
+impl Surroundings<'_> {
+    // The same, but untrusted text is harmless there if `safe`.
+    fn safe_if(self, safe: bool) -> Self
+        ensures scope { result.scope ≡ (self.entry).scope }
+        ensures safe { result.safe ≡ ((self.entry).safe || safe) }
+    {
+        Surroundings {
+            safe: self.safe || safe,
+            ..self
+        }
+    }
+}
+
 // The left side of a step or an operator: its type, and what surrounds the whole.
 #[derive(Clone, Copy)]
 struct Left<'s> {
@@ -90,32 +103,20 @@ fn expression(
         Expr::Name(word) => name_type(around.scope, *word, faults),
         Expr::Group(inner, _, _) => expression(types, around, inner, faults),
         Expr::Not(_, operand) => {
-            let tested = Surroundings {
-                safe: true,
-                ..around
-            };
-            let _ty = expression(types, tested, operand, faults)?;
+            let _ty = expression(types, around.safe_if(true), operand, faults)?;
             Ok(Ty::scalar(Scalar::Bool))
         }
         Expr::Call(name, arguments, _) => call(types, around, *name, arguments, faults),
         Expr::Path(base, steps) => {
             let start = expression(types, around, base, faults)?;
-            let left = Left { around, ty: start };
-            let ty = walk(types, left, steps, faults)?;
-            check_untrusted(is_exposed(around), base, steps, faults)?;
+            let ty = walk(types, Left { around, ty: start }, steps, faults)?;
+            check_untrusted(around, base, steps, faults)?;
             Ok(ty)
         }
         Expr::Chain(first, operands) => {
-            let compared = Surroundings {
-                safe: is_compared(around.safe, operands),
-                ..around
-            };
-            let start = expression(types, compared, first, faults)?;
-            let left = Left {
-                around: compared,
-                ty: start,
-            };
-            operations(types, left, operands, faults)
+            let around = around.safe_if(!begins_logic(operands));
+            let ty = expression(types, around, first, faults)?;
+            operations(types, Left { around, ty }, operands, faults)
         }
     }
 }
@@ -143,10 +144,7 @@ fn call<'a, 'e>(
     ensures kept { BeginsWith (objects_of types.new) (objects_of types.old) }
 {
     let function = Function::from_name(name.text);
-    let tested = Surroundings {
-        safe: is_tested(around.safe, function),
-        ..around
-    };
+    let tested = around.safe_if(is_test(function));
     let given = typed_arguments(types, tested, arguments, faults)?;
     let written = CallExpr {
         name,
@@ -154,24 +152,6 @@ fn call<'a, 'e>(
         arguments,
     };
     call_from(around.scope, written, &given, faults)
-}
-
-fn is_tested(safe: bool, function: Option<Function>) -> bool
-    ensures { result ≡ (safe || meaning.is_test function) }
-{
-    safe || is_test(function)
-}
-
-fn is_compared(safe: bool, operands: &[Operand<'_>]) -> bool
-    ensures { result ≡ (safe || not (begins_logic (operands_of (map operand_of operands.now)))) }
-{
-    safe || !begins_logic(operands)
-}
-
-fn is_exposed(around: Surroundings<'_>) -> bool
-    ensures { result ≡ ((around.entry).scope.now.in_run && not (around.entry).safe) }
-{
-    around.scope.in_run && !around.safe
 }
 
 #[tactic(auto, using(crate::proofs::TypedSteps::typing))]
@@ -216,13 +196,9 @@ fn walk(
     ensures shown { IsShown types.new (left.entry).around.scope.now }
     ensures kept { BeginsWith (objects_of types.new) (objects_of types.old) }
 {
-    let mut ty = left.ty;
+    let Left { around, mut ty } = left;
     for step in steps {
-        let here = Left {
-            around: left.around,
-            ty,
-        };
-        ty = step_from(types, here, step, faults)?;
+        ty = step_from(types, Left { around, ty }, step, faults)?;
     }
     Ok(ty)
 }
@@ -256,8 +232,7 @@ fn step_from(
         }
         PathStep::All(first, last) => all(types, left.ty, across(*first, *last), faults),
         PathStep::Index(open, index, close) => {
-            let whole = across(*open, *close);
-            index_from(types, left, index, whole, faults)
+            index_from(types, left, index, across(*open, *close), faults)
         }
     }
 }
@@ -362,16 +337,18 @@ fn typed_arguments(
 // Adds the fault of a path that is an untrusted chain, where its text could get into a script.
 #[tactic(auto, using(crate::proofs::Paths::parts))]
 fn check_untrusted(
-    exposed: bool,
+    around: Surroundings<'_>,
     base: &Expr<'_>,
     steps: &[PathStep<'_>],
     faults: &mut FaultSink,
 ) -> Result<(), AllocError>
     ensures { OnOk result
         (faults.new
-        ≡ faults.old ++ untrusted_faults exposed (expr_view base.now) (steps_of (map step_of steps.now))) }
+        ≡ faults.old ++ untrusted_faults
+        ((around.entry).scope.now.in_run && not (around.entry).safe)
+        (expr_view base.now) (steps_of (map step_of steps.now))) }
 {
-    if !exposed {
+    if around.safe || !around.scope.in_run {
         return Ok(());
     }
     let Some(name) = base_name(base) else {

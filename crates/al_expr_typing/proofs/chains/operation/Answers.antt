@@ -16,7 +16,7 @@ pub returns-then-is_logic-clause-ok : goal.returns-then-is_logic-clause-ok
 returns-then-is_logic-clause-ok c =
     let types = c.args.types.now in
     let ms = objects_of types in
-    let all = c.args.sofar in
+    let all = c.args.so_far in
     let u = type_at types c.args.operand.ty in
     IfOk-weaker c.and.result _ _
     (λ j is. chosen c.args.operand.operator c.args.operand.at (type_so_far types all) u _ c.args.faults.now (sym c.is_logic.ensures ∙ c.if-is_logic.true)
@@ -27,7 +27,7 @@ pub returns-then-is_logic-clause-present : goal.returns-then-is_logic-clause-pre
 returns-then-is_logic-clause-present c =
     let ms = objects_of c.args.types.now in
     IfOk-weaker c.and.result _ _
-    (λ j is. (more_fused (join_in ms c.args.sofar) (join_in ms j) (type_at c.args.types.now c.args.operand.ty) c.requires.present (is ms)).1) c.and.ensures.ty
+    (λ j is. (more_fused (join_in ms c.args.so_far) (join_in ms j) (type_at c.args.types.now c.args.operand.ty) c.requires.present (is ms)).1) c.and.ensures.ty
 
 pub returns-clause-ok : goal.returns-clause-ok
 returns-clause-ok c =
@@ -40,4 +40,4 @@ returns-clause-ok c =
     let faults = c.in_ok-check_comparison.ensures (objects_of new)
     ∙ (λ d. out ++ give (not (comparable_types c.args.operand.operator (first d) (other d))) (expression_fault code.NotComparable c.args.operand.at [])) in
     ap (λ t. typed t after) (c.scalar.ensures.ty (objects_of new))
-    ∙ compared c.args.operand.operator c.args.operand.at (type_so_far old c.args.sofar) (type_at old c.args.operand.ty) out after (sym c.is_logic.ensures ∙ c.if-is_logic.false) faults
+    ∙ compared c.args.operand.operator c.args.operand.at (type_so_far old c.args.so_far) (type_at old c.args.operand.ty) out after (sym c.is_logic.ensures ∙ c.if-is_logic.false) faults

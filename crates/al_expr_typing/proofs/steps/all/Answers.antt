@@ -12,7 +12,6 @@ pub returns-in_ok-common-in-Object-clause-ok : goal.returns-in_ok-common-in-Obje
 returns-in_ok-common-in-Object-clause-ok c =
     let ms = objects_of c.common.new.self in
     let old = c.args.faults.now in
-    let common = c.in_ok-common-in-Object in
-    let elements = ap (type_in ms) c.unwrap_or.ensures ∙ or_else_any ms common.common ∙ ap or_any common.ensures.ty in
+    let elements = ap (type_in ms) c.unwrap_or.ensures ∙ or_else_any ms c.in_ok-common-in-Object.field-0 ∙ ap or_any c.in_ok-common-in-Object.ensures.ty in
     let plain : c.args.ty.arrays ≡ 0 = omega (arith, c.if-ty-gt0.false) in
     rw (plain, c.in-Object.is) (IfOk-weaker c.in_arrays.result _ _ (λ t is. ap (λ u. typed u old) (is ms ∙ ap ArrayOf elements) ∙ unchanged _ old) c.in_arrays.ensures.ty)

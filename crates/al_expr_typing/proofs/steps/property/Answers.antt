@@ -14,6 +14,6 @@ returns-clause-ok c =
     let of = property_of c.args.step.name.now c.args.step.at c.args.step.whole base in
     IfOk-weaker c.in_arrays.result _ _
     (λ all is. ap (λ t. typed t c.base_property.new.faults) (is (objects_of c.base_property.new.types))
-    ∙ ap (in_arrays k) c.in_ok-of.ensures.ok ∙ after_arrays k old of
+    ∙ ap (in_arrays k) c.in_ok-base_property.ensures.ok ∙ after_arrays k old of
     ∙ ap (faults_then old) (sym (property_arrays k c.args.step.name.now c.args.step.at c.args.step.whole base)))
     c.in_arrays.ensures.ty

@@ -1,5 +1,6 @@
 use Rattle.std.proofs.Common.{◌≡◌, ◌+◌, ◌∷◌, ◌++◌, [], map, drop, sym, ap, ◌∙◌, arith, length}
 use Rattle.std.specs.Prelude.{not, ◌||◌}
+use Rattle.std.proofs.Math.Bool.{or-true}
 use Rattle.std.proofs.lemmas.List.{map-append, at_drop_all}
 use Rattle.std.proofs.lemmas.Result.{IfOk-weaker}
 use Rattle.al_types.specs.Names.{function_of}
@@ -54,7 +55,7 @@ expression-returns-in-Group-clause-ok t c =
 
 pub expression-returns-in_ok-_ty-in-Not-clause-ok : goal.expression-returns-in_ok-_ty-in-Not-clause-ok
 expression-returns-in_ok-_ty-in-Not-clause-ok t c =
-    let f = rw c.deref-in-Not.ensures at c.in_ok-_ty-in-Not.ensures.ok in
+    let f = rw (c.safe_if.ensures.scope, c.safe_if.ensures.safe, or-true, c.deref-in-Not.ensures) at c.in_ok-_ty-in-Not.ensures.ok in
     let new = c.expression-in-Not.new.faults in
     rw (c.in-Not.is, tree_of-Not) (ap (λ u. typed u new) (c.scalar-in-Not.ensures.ty (objects_of c.expression-in-Not.new.types)) ∙ unchanged Bool' new
     ∙ follows _ _ _ _ (λ u. typed Bool' []) f)
@@ -72,27 +73,27 @@ expression-returns-in_ok-check_untrusted-in-Path-clause-ok t c =
     let f = rw c.deref-in-Path.ensures at c.in_ok-start-in-Path.ensures.ok in
     let same = scope_stays mid before c.args.around.scope.now c.in_ok-start-in-Path.ensures.kept c.requires.shown in
     let g = rw (c.deref-in-Path-2.ensures.value, same) at c.in_ok-ty-in-Path.ensures.ok in
-    let h = rw (c.is_exposed.ensures, c.deref-in-Path-3.ensures, c.deref-in-Path-4.ensures.value) at c.in_ok-check_untrusted-in-Path.ensures in
+    let h = rw (c.deref-in-Path-3.ensures, c.deref-in-Path-4.ensures.value) at c.in_ok-check_untrusted-in-Path.ensures in
     rw (c.in-Path.is, tree_of-Path) (path_on _ _ _ _ _ _ _ _ (λ u. walk (scope_view before c.args.around.scope.now) c.args.around.safe ss u) f g h)
 
-pub expression-returns-in_ok-start-in-Chain-clause-ok : goal.expression-returns-in_ok-start-in-Chain-clause-ok
-expression-returns-in_ok-start-in-Chain-clause-ok t c =
+pub expression-returns-in_ok-ty-in-Chain-clause-ok : goal.expression-returns-in_ok-ty-in-Chain-clause-ok
+expression-returns-in_ok-ty-in-Chain-clause-ok t c =
     let before = c.args.types.now in
     let mid = c.expression-in-Chain.new.types in
     let os = operands_of (map operand_of c.in-Chain.operands.items) in
     let safe = c.args.around.safe || not (begins_logic os) in
-    let f = rw (c.is_compared.ensures, c.deref-in-Chain.ensures.value, c.deref-in-Chain-2.ensures) at c.in_ok-start-in-Chain.ensures.ok in
-    let same = scope_stays mid before c.args.around.scope.now c.in_ok-start-in-Chain.ensures.kept c.requires.shown in
+    let f = rw (c.safe_if-around.ensures.scope, c.safe_if-around.ensures.safe, c.begins_logic.ensures, c.deref-in-Chain.ensures.value, c.deref-in-Chain-2.ensures) at c.in_ok-ty-in-Chain.ensures.ok in
+    let same = scope_stays mid before c.args.around.scope.now c.in_ok-ty-in-Chain.ensures.kept c.requires.shown in
     rw (c.in-Chain.is, tree_of-Chain)
     (IfOk-weaker c.operations.result _ _ (λ ty g. g ∙ follows _ _ _ _ (λ u. operations (scope_view before c.args.around.scope.now) safe os u) f)
-    (rw (c.is_compared.ensures, c.deref-in-Chain.ensures.value, c.deref-in-Chain-3.ensures.value, same) at c.operations.ensures.ok))
+    (rw (c.safe_if-around.ensures.scope, c.safe_if-around.ensures.safe, c.begins_logic.ensures, c.deref-in-Chain.ensures.value, c.deref-in-Chain-3.ensures.value, same) at c.operations.ensures.ok))
 
 pub call-returns-clause-ok : goal.call-returns-clause-ok
 call-returns-clause-ok t c =
     let before = c.args.types.now in
     let mid = c.typed_arguments.new.types in
     let f : c.from_name-function.result ≡ function_of c.args.name.text.now = c.from_name-function.ensures in
-    let g = rw (c.is_tested.ensures, f) at c.in_ok-given.ensures.ok in
+    let g = rw (c.safe_if-tested.ensures.scope, c.safe_if-tested.ensures.safe, c.is_test.ensures, f) at c.in_ok-given.ensures.ok in
     let name = c.args.name.text.now in
     let ts = arguments_of (map expr_view c.args.arguments.now) in
     let s = ap (λ sc. faults_then c.typed_arguments.new.faults (call_from sc name c.args.name.span (function_of name) ts (map (argument_at mid) c.in_ok-given.given.items)))
@@ -161,7 +162,7 @@ step_from-returns-in-All-clause-ok t c =
 
 pub step_from-returns-in-Index-clause-ok : goal.step_from-returns-in-Index-clause-ok
 step_from-returns-in-Index-clause-ok t c =
-    let f = rw c.across-whole.ensures at c.index_from.ensures.ok in
+    let f = rw c.across-in-Index.ensures at c.index_from.ensures.ok in
     rw (c.in-Index.is, step_of-Index) f
 
 pub index_from-returns-in_ok-by-in-None-clause-ok : goal.index_from-returns-in_ok-by-in-None-clause-ok
@@ -228,8 +229,8 @@ walk-loop-step-preserved t c =
 pub expression-returns-in_err-ty-in-Path-clause-kept : goal.expression-returns-in_err-ty-in-Path-clause-kept
 expression-returns-in_err-ty-in-Path-clause-kept t c = begins_trans _ _ _ c.in_ok-start-in-Path.ensures.kept c.walk.ensures.kept
 
-pub expression-returns-in_ok-start-in-Chain-clause-kept : goal.expression-returns-in_ok-start-in-Chain-clause-kept
-expression-returns-in_ok-start-in-Chain-clause-kept t c = begins_trans _ _ _ c.in_ok-start-in-Chain.ensures.kept c.operations.ensures.kept
+pub expression-returns-in_ok-ty-in-Chain-clause-kept : goal.expression-returns-in_ok-ty-in-Chain-clause-kept
+expression-returns-in_ok-ty-in-Chain-clause-kept t c = begins_trans _ _ _ c.in_ok-ty-in-Chain.ensures.kept c.operations.ensures.kept
 
 pub call-returns-clause-known : goal.call-returns-clause-known
 call-returns-clause-known t c =

@@ -12,11 +12,11 @@ returns-in-Some-2 c =
     let k = rw c.in-Some-2.is at c.in_ok-chain.ensures in
     let text = c.as_str.result.now in
     let now = c.args.faults.now in
-    rw (c.if-not-exposed.false, untrusted_is _ (expr_view c.args.base.now) (map step_of c.args.steps.now) (Some text) n (ap Some c.as_str.ensures.value ∙ k))
+    rw (c.if-not-around.false, c.if-around.false, untrusted_is _ (expr_view c.args.base.now) (map step_of c.args.steps.now) (Some text) n (ap Some c.as_str.ensures.value ∙ k))
     (on_ok_weaker c.report_text.result (λ e. e ∙ ap (λ s. now ++ expression_fault code.Untrusted s (text ∷ []) ∷ []) c.path_extent-whole.ensures) c.report_text.ensures)
 
 pub returns-in-None : goal.returns-in-None
 returns-in-None c =
     let n = rw c.in-Some.is at c.base_name.ensures in
     let k = rw c.in-None.is at c.in_ok-chain.ensures in
-    rw (c.if-not-exposed.false, untrusted_is _ (expr_view c.args.base.now) (map step_of c.args.steps.now) None n k) (sym (append-nil c.args.faults.now))
+    rw (c.if-not-around.false, c.if-around.false, untrusted_is _ (expr_view c.args.base.now) (map step_of c.args.steps.now) None n k) (sym (append-nil c.args.faults.now))

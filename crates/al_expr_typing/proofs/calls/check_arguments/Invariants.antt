@@ -2,7 +2,7 @@ use Rattle.std.proofs.Common.{◌≡◌, ◌++◌, List, map, drop}
 use Rattle.al_expr_typing.specs.Arguments.{argument_in}
 use Rattle.al_types.specs.Types.{Parts}
 use Rattle.al_expr_typing.specs.Meaning.{wrong_arguments}
-use Rattle.al_expr_typing.proofs.calls.check_types.Given as goal
+use Rattle.al_expr_typing.proofs.calls.check_arguments.Given as goal
 
 abbrev pub invariant-loop-index : goal.invariant-loop-index
 invariant-loop-index l = (ms : List Parts) → l.faults
