@@ -30,10 +30,7 @@ fn add<'a>(types: &mut Types<'a>, ty: &'a Ty) -> Result<al_expr_types::Ty, Alloc
         Ty::Number => Ok(al_expr_types::Ty::scalar(Scalar::Number)),
         Ty::Bool => Ok(al_expr_types::Ty::scalar(Scalar::Bool)),
         Ty::String => Ok(al_expr_types::Ty::scalar(Scalar::String)),
-        Ty::Array(of) => {
-            let element = add(types, of)?;
-            element.in_arrays(1)
-        }
+        Ty::Array(of) => add(types, of)?.in_arrays(1),
         Ty::Object { fields, rest } => {
             let map = add_fields(types, fields)?;
             let others = add_rest(types, rest)?;
@@ -72,10 +69,7 @@ fn add_rest<'a>(
     ensures kept { BeginsWith (objects_of types.new) (objects_of types.old) }
 {
     match rest {
-        Some(ty) => {
-            let other = add(types, ty)?;
-            Ok(Some(other))
-        }
+        Some(ty) => Ok(Some(add(types, ty)?)),
         None => Ok(None),
     }
 }
@@ -88,31 +82,19 @@ fn add_contexts<'a>(
 ) -> Result<al_expr_typing::ContextTypes, AllocError>
     ensures { IfOk result (λ t. StandFor types.new t contexts.now) }
 {
-    let github = add(types, &contexts.github)?;
-    let env = add(types, &contexts.env)?;
-    let vars = add(types, &contexts.vars)?;
-    let secrets = add(types, &contexts.secrets)?;
-    let runner = add(types, &contexts.runner)?;
-    let job = add(types, &contexts.job)?;
-    let strategy = add(types, &contexts.strategy)?;
-    let needs = add(types, &contexts.needs)?;
-    let jobs = add(types, &contexts.jobs)?;
-    let steps = add(types, &contexts.steps)?;
-    let matrix = add(types, &contexts.matrix)?;
-    let inputs = add(types, &contexts.inputs)?;
     Ok(al_expr_typing::ContextTypes {
-        github,
-        env,
-        vars,
-        secrets,
-        runner,
-        job,
-        strategy,
-        needs,
-        jobs,
-        steps,
-        matrix,
-        inputs,
+        github: add(types, &contexts.github)?,
+        env: add(types, &contexts.env)?,
+        vars: add(types, &contexts.vars)?,
+        secrets: add(types, &contexts.secrets)?,
+        runner: add(types, &contexts.runner)?,
+        job: add(types, &contexts.job)?,
+        strategy: add(types, &contexts.strategy)?,
+        needs: add(types, &contexts.needs)?,
+        jobs: add(types, &contexts.jobs)?,
+        steps: add(types, &contexts.steps)?,
+        matrix: add(types, &contexts.matrix)?,
+        inputs: add(types, &contexts.inputs)?,
     })
 }
 
@@ -124,9 +106,8 @@ pub(crate) fn add_scope<'a>(
     ensures same { IfOk result (λ s. scope_view types.new s ≡ scope_of scope.now) }
     ensures shown { IfOk result (λ s. IsShown types.new s) }
 {
-    let contexts = add_contexts(types, &scope.types)?;
     Ok(al_expr_typing::Scope {
-        types: contexts,
+        types: add_contexts(types, &scope.types)?,
         available: scope.available,
         in_run: scope.in_run,
     })

@@ -17,10 +17,7 @@ pub(crate) fn copy(alloc: Global, ty: &Ty) -> Result<Ty, AllocError>
         Ty::Number => Ok(Ty::Number),
         Ty::Bool => Ok(Ty::Bool),
         Ty::String => Ok(Ty::String),
-        Ty::Array(of) => {
-            let of = copy(alloc, of)?;
-            Ok(Ty::Array(Box::new(alloc, of)?))
-        }
+        Ty::Array(of) => Ok(Ty::Array(Box::new(alloc, copy(alloc, of)?)?)),
         Ty::Object { fields, rest } => {
             let fields = copy_fields(alloc, fields)?;
             let rest = copy_rest(alloc, rest)?;
@@ -59,10 +56,7 @@ pub(crate) fn copy_rest(
     ensures { IfOk result (λ r. rest_of r ≡ rest_of rest.now) }
 {
     match rest {
-        Some(ty) => {
-            let ty = copy(alloc, ty)?;
-            Ok(Some(Box::new(alloc, ty)?))
-        }
+        Some(ty) => Ok(Some(Box::new(alloc, copy(alloc, ty)?)?)),
         None => Ok(None),
     }
 }

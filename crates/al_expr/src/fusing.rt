@@ -8,7 +8,7 @@ ghost use Rattle.al_expr_types.specs.Types.{scalar_type};
 ghost use Rattle.al_expr.specs.Listings.{parts_in};
 ghost use Rattle.al_expr.specs.Trees.{field_of, field_parts, listed_parts, rest_of, ty_of};
 
-use crate::copying::{copy, copy_field, copy_rest};
+use crate::copying::{copy_field, copy_rest};
 use crate::listings::{Listing, position};
 use crate::taking::scalar_tree;
 use crate::trees::{Field, Ty};
@@ -29,33 +29,27 @@ pub fn fuse(alloc: Global, a: Ty, b: Ty) -> Result<Ty, AllocError>
 fn fuse_more(alloc: Global, more: &Ty, ty: &Ty) -> Result<Ty, AllocError>
     ensures { IfOk result (λ t. ty_of t ≡ fuse_type (ty_of ty.now) (ty_of more.now)) }
 {
-    match ty {
-        Ty::Any => Ok(Ty::Any),
-        Ty::Null => Ok(fuse_scalar(Scalar::Null, more)),
-        Ty::Number => Ok(fuse_scalar(Scalar::Number, more)),
-        Ty::Bool => Ok(fuse_scalar(Scalar::Bool, more)),
-        Ty::String => Ok(fuse_scalar(Scalar::String, more)),
-        Ty::Array(of) => match more {
-            Ty::Array(other) => {
-                let both = fuse_more(alloc, other, of)?;
-                Ok(Ty::Array(Box::new(alloc, both)?))
-            }
-            Ty::Any | Ty::Null | Ty::Number | Ty::Bool | Ty::String => Ok(Ty::Any),
-            Ty::Object { .. } => Ok(Ty::Any),
-        },
-        Ty::Object { fields, rest } => match more {
+    match (ty, more) {
+        (Ty::Null, _) => Ok(fuse_scalar(Scalar::Null, more)),
+        (Ty::Number, _) => Ok(fuse_scalar(Scalar::Number, more)),
+        (Ty::Bool, _) => Ok(fuse_scalar(Scalar::Bool, more)),
+        (Ty::String, _) => Ok(fuse_scalar(Scalar::String, more)),
+        (Ty::Array(of), Ty::Array(other)) => {
+            let both = fuse_more(alloc, other, of)?;
+            Ok(Ty::Array(Box::new(alloc, both)?))
+        }
+        (
+            Ty::Object { fields, rest },
             Ty::Object {
                 fields: others,
                 rest: other,
-            } => {
-                let first = Listing::of(alloc, fields, rest)?;
-                let both = add_fields(alloc, others, first)?;
-                let whole = add_rest(alloc, other, both)?;
-                Ok(whole.into_type())
-            }
-            Ty::Any | Ty::Null | Ty::Number | Ty::Bool | Ty::String => Ok(Ty::Any),
-            Ty::Array(_) => Ok(Ty::Any),
-        },
+            },
+        ) => {
+            let first = Listing::of(alloc, fields, rest)?;
+            let both = add_fields(alloc, others, first)?;
+            Ok(add_rest(alloc, other, both)?.into_type())
+        }
+        (Ty::Any | Ty::Array(_) | Ty::Object { .. }, _) => Ok(Ty::Any),
     }
 }
 
@@ -80,24 +74,24 @@ pub(crate) fn add_object(
     alloc: Global,
     fields: &[Field],
     rest: &Option<Box<Ty>>,
-    sofar: Listing,
+    so_far: Listing,
 ) -> Result<Listing, AllocError>
     ensures { IfOk result
         (λ l. parts_in l
-        ≡ fuse_parts (parts_in sofar) (listed_parts (map field_of fields.now) (rest_of rest.now))) }
+        ≡ fuse_parts (parts_in so_far) (listed_parts (map field_of fields.now) (rest_of rest.now))) }
 {
-    let both = add_fields(alloc, fields, sofar)?;
+    let both = add_fields(alloc, fields, so_far)?;
     add_rest(alloc, rest, both)
 }
 
 // The same for an object with these fields and no others.
 #[cycle(fusing)]
-fn add_fields(alloc: Global, fields: &[Field], sofar: Listing) -> Result<Listing, AllocError>
+fn add_fields(alloc: Global, fields: &[Field], so_far: Listing) -> Result<Listing, AllocError>
     ensures { IfOk result
         (λ l. parts_in l
-        ≡ fuse_parts (parts_in sofar) (listed_parts (map field_of fields.now) Absent)) }
+        ≡ fuse_parts (parts_in so_far) (listed_parts (map field_of fields.now) Absent)) }
 {
-    let mut all = sofar;
+    let mut all = so_far;
     for (i, field) in fields.iter().enumerate() {
         if position(&fields[..i], field).is_none() {
             all = add_field(alloc, field, all)?;
@@ -108,14 +102,14 @@ fn add_fields(alloc: Global, fields: &[Field], sofar: Listing) -> Result<Listing
 
 // The same for an object with one field.
 #[cycle(fusing)]
-fn add_field(alloc: Global, field: &Field, sofar: Listing) -> Result<Listing, AllocError>
+fn add_field(alloc: Global, field: &Field, so_far: Listing) -> Result<Listing, AllocError>
     ensures { IfOk result
-        (λ l. parts_in l ≡ fuse_parts (parts_in sofar) (field_parts (field_of field.now))) }
+        (λ l. parts_in l ≡ fuse_parts (parts_in so_far) (field_parts (field_of field.now))) }
 {
-    let fields = put_or_fuse(alloc, field, sofar.fields)?;
+    let fields = put_or_fuse(alloc, field, so_far.fields)?;
     Ok(Listing {
         fields,
-        rest: sofar.rest,
+        rest: so_far.rest,
     })
 }
 
@@ -141,13 +135,13 @@ fn put_or_fuse(alloc: Global, field: &Field, fields: Vec<Field>) -> Result<Vec<F
 
 // The same for an object without fields of its own, with others of the type `rest`, if given.
 #[cycle(fusing)]
-fn add_rest(alloc: Global, rest: &Option<Box<Ty>>, sofar: Listing) -> Result<Listing, AllocError>
+fn add_rest(alloc: Global, rest: &Option<Box<Ty>>, so_far: Listing) -> Result<Listing, AllocError>
     ensures { IfOk result
-        (λ l. parts_in l ≡ fuse_parts (parts_in sofar) (parts_with [] (rest_of rest.now))) }
+        (λ l. parts_in l ≡ fuse_parts (parts_in so_far) (parts_with [] (rest_of rest.now))) }
 {
-    let rest = fuse_rest(alloc, rest, &sofar.rest)?;
+    let rest = fuse_rest(alloc, rest, &so_far.rest)?;
     Ok(Listing {
-        fields: sofar.fields,
+        fields: so_far.fields,
         rest,
     })
 }
@@ -161,17 +155,12 @@ fn fuse_rest(
 ) -> Result<Option<Box<Ty>>, AllocError>
     ensures { IfOk result (λ r. rest_of r ≡ fuse_optional (rest_of rest.now) (rest_of more.now)) }
 {
-    let Some(other) = more else {
-        return copy_rest(alloc, rest);
-    };
-    match rest {
-        Some(ty) => {
+    match (rest, more) {
+        (Some(ty), Some(other)) => {
             let both = fuse_more(alloc, other, ty)?;
             Ok(Some(Box::new(alloc, both)?))
         }
-        None => {
-            let copy = copy(alloc, other)?;
-            Ok(Some(Box::new(alloc, copy)?))
-        }
+        (None, _) => copy_rest(alloc, more),
+        (_, None) => copy_rest(alloc, rest),
     }
 }

@@ -55,8 +55,8 @@ fn tree_below(types: &Types<'_>, ty: al_expr_types::Ty, below: usize) -> Result<
     match ty.of {
         Base::Scalar(scalar) => in_arrays(types.alloc(), scalar_tree(scalar), ty.arrays),
         Base::Object(n) => {
-            let listing = object_listing(types, n)?;
-            in_arrays(types.alloc(), listing.into_type(), ty.arrays)
+            let tree = object_listing(types, n)?.into_type();
+            in_arrays(types.alloc(), tree, ty.arrays)
         }
     }
 }
@@ -126,13 +126,9 @@ fn rest_tree(
 fn field_with(alloc: Global, name: &[u8], ty: Ty) -> Result<Field, AllocError>
     ensures { IfOk result (λ f. field_of f ≡ (name.now, ty_of ty)) }
 {
-    match std::str::from_utf8(name) {
-        Ok(text) => {
-            let name = String::from_str(alloc, text)?;
-            Ok(Field { name, ty })
-        }
-        Err(_) => Err(AllocError),
-    }
+    let text = std::str::from_utf8(name).map_err(|_| AllocError)?;
+    let name = String::from_str(alloc, text)?;
+    Ok(Field { name, ty })
 }
 
 // String fields with these names, and no others.

@@ -19,13 +19,13 @@ use Rattle.al_expr.proofs.fusing.+fusing.Goals.{add_fields-then-is_none+in_ok-al
 use Rattle.al_expr.proofs.fusing.+fusing.Goals as goal
 
 pub add_fields-loop-i-init : goal.add_fields-loop-i-init
-add_fields-loop-i-init t c = added_none (parts_in c.args.sofar)
+add_fields-loop-i-init t c = added_none (parts_in c.args.so_far)
 
 pub add_fields-loop-i-preserved : goal.add_fields-loop-i-preserved
 add_fields-loop-i-preserved t c =
     let x = c.index-fields-i.result in
     let p = field_of x in
-    let start : Parts = parts_in c.args.sofar in
+    let start : Parts = parts_in c.args.so_far in
     let old : Parts = parts_in c.loop-i.all in
     let ts : List TypedName = map field_of (take c.loop-i.i c.args.fields.now) in
     let more = ap (λ us. fuse_parts start (listed_parts us Absent)) (sym (mapped_more field_of c.args.fields.now c.loop-i.i x c.loop-i-test.true c.index-fields-i.is)) in
@@ -39,19 +39,19 @@ add_fields-loop-i-preserved t c =
 
 pub add_rest-returns : goal.add_rest-returns
 add_rest-returns t c =
-    let ts : List TypedName = map field_of c.args.sofar.fields.items in
+    let ts : List TypedName = map field_of c.args.so_far.fields.items in
     ap (parts_with ts) c.in_ok-rest.ensures
-    ∙ with_rest (parts_in c.args.sofar) ts (rest_of c.args.sofar.rest) (rest_of c.args.rest.now) refl
+    ∙ with_rest (parts_in c.args.so_far) ts (rest_of c.args.so_far.rest) (rest_of c.args.rest.now) refl
 
 pub add_field-invariant_of-result : goal.add_field-invariant_of-result
 add_field-invariant_of-result t c = record {
-  distinct = ap are_distinct c.in_ok-fields.ensures ∙ put_distinct (map field_of c.args.sofar.fields.items) (field_of c.args.field.now) c.args.sofar.distinct;
+  distinct = ap are_distinct c.in_ok-fields.ensures ∙ put_distinct (map field_of c.args.so_far.fields.items) (field_of c.args.field.now) c.args.so_far.distinct;
 }
 
 pub add_field-returns : goal.add_field-returns
 add_field-returns t c =
-    let rest = rest_of c.args.sofar.rest in
-    ap (λ us. parts_with us rest) c.in_ok-fields.ensures ∙ parts_put (map field_of c.args.sofar.fields.items) (field_of c.args.field.now) rest
+    let rest = rest_of c.args.so_far.rest in
+    ap (λ us. parts_with us rest) c.in_ok-fields.ensures ∙ parts_put (map field_of c.args.so_far.fields.items) (field_of c.args.field.now) rest
 
 pub put_or_fuse-returns-in_ok-ty-in-Some : goal.put_or_fuse-returns-in_ok-ty-in-Some
 put_or_fuse-returns-in_ok-ty-in-Some t c =
@@ -78,16 +78,15 @@ put_or_fuse-returns-in_ok-push-in-None t c =
     ap (map field_of) c.in_ok-push-in-None.ensures.items ∙ map-append field_of items (c.in_ok-copy_field-in-None.field-0 ∷ [])
     ∙ ap (λ q. ts ++ q ∷ []) c.in_ok-copy_field-in-None.ensures ∙ sym (put_after ts p new ∙ put_new_after ts p (ap is_none new))
 
-pub fuse_more-returns-in_ok-whole-in-Object-more-2 : goal.fuse_more-returns-in_ok-whole-in-Object-more-2
-fuse_more-returns-in_ok-whole-in-Object-more-2 t c =
-    let rest = rest_of c.in-Object.rest in
-    let other = rest_of c.in-Object-more-2.other in
-    let p : Parts = listed_parts (map field_of c.in-Object.fields.items) rest in
-    let us : List TypedName = map field_of c.in-Object-more-2.others.items in
-    let first = c.in_ok-first-in-Object-more-2.ensures ∙ ap (λ xs. listed_parts (map field_of xs) rest) c.deref-in-Object-more-2.ensures.value in
-    let both = c.in_ok-both-in-Object-more-2.ensures
-    ∙ (λ d. fuse_parts (first d) (listed_parts (map field_of (c.deref-in-Object-more-2-2.ensures.value d)) Absent)) in
-    let all = whole p (parts_in c.in_ok-both-in-Object-more-2.both) (parts_in c.in_ok-whole-in-Object-more-2.whole) us other both c.in_ok-whole-in-Object-more-2.ensures in
-    let here = ap ty_of c.in-Object.is ∙ object_view c.in-Object.fields c.in-Object.rest in
-    let there = ap ty_of c.in-Object-more-2.is ∙ object_view c.in-Object-more-2.others c.in-Object-more-2.other in
+pub fuse_more-returns-in_ok-add_rest-in-Object-Object : goal.fuse_more-returns-in_ok-add_rest-in-Object-Object
+fuse_more-returns-in_ok-add_rest-in-Object-Object t c =
+    let rest = rest_of c.in-Object-Object.rest in
+    let p : Parts = listed_parts (map field_of c.in-Object-Object.fields.items) rest in
+    let us : List TypedName = map field_of c.in-Object-Object.others.items in
+    let first = c.in_ok-first-in-Object-Object.ensures ∙ ap (λ xs. listed_parts (map field_of xs) rest) c.deref-in-Object-Object.ensures.value in
+    let more = c.in_ok-both-in-Object-Object.ensures
+    ∙ (λ d. fuse_parts (first d) (listed_parts (map field_of (c.deref-in-Object-Object-2.ensures.value d)) Absent)) in
+    let all = whole p (parts_in c.in_ok-both-in-Object-Object.both) (parts_in c.in_ok-add_rest-in-Object-Object.field-0) us (rest_of c.in-Object-Object.other) more c.in_ok-add_rest-in-Object-Object.ensures in
+    let here = ap ty_of c.in-Object-Object.is-0 ∙ object_view c.in-Object-Object.fields c.in-Object-Object.rest in
+    let there = ap ty_of c.in-Object-Object.is-1 ∙ object_view c.in-Object-Object.others c.in-Object-Object.other in
     c.into_type.ensures ∙ ap object_type all ∙ sym (λ d. fuse_type (here d) (there d))

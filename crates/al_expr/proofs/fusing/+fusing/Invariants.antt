@@ -6,4 +6,4 @@ use Rattle.al_expr.specs.Trees.{field_of, listed_parts}
 use Rattle.al_expr.proofs.fusing.+fusing.Given as goal
 
 abbrev pub invariant-add_fields-loop-i : goal.invariant-add_fields-loop-i
-invariant-add_fields-loop-i l = parts_in l.all ≡ fuse_parts (parts_in l.fn.sofar) (listed_parts (map field_of (take l.i l.fields)) Absent)
+invariant-add_fields-loop-i l = parts_in l.all ≡ fuse_parts (parts_in l.fn.so_far) (listed_parts (map field_of (take l.i l.fields)) Absent)
