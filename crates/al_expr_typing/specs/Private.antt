@@ -2,4 +2,3 @@
 pub mod LiteralViews
 pub mod PlaceholderStates
 pub mod PlaceholderViews
-pub mod QuotingStates

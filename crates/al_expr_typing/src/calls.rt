@@ -1,9 +1,9 @@
 //! Calls of functions: whether the function is defined and available, and the faults of the arguments.
 
-ghost use Rattle.std.specs.Prelude.{◌≡◌, ◌++◌, ◌+◌, ◌^◌, ◌<◌, IfOk, OnOk, List, not, map, string_bytes, drop, true, ◌∷◌, [], ℕ};
+ghost use Rattle.std.specs.Prelude.{◌≡◌, ◌++◌, IfOk, OnOk, List, not, map, drop, true, ◌∷◌, [], ℕ};
 ghost use Rattle.al_expr_typing.specs.Meaning.{typed, faults_then, give, is_test, call_from};
-ghost use Rattle.al_expr_typing.specs.Meaning.{argument_faults, wrong_arguments, format_faults};
-ghost use Rattle.al_expr_typing.specs.Meaning.{placeholder_faults, unused_arguments};
+ghost use Rattle.al_expr_typing.specs.Meaning.{argument_faults, format_faults};
+ghost use Rattle.al_expr_typing.specs.Meaning.{unused_arguments};
 ghost use Rattle.al_expr_grammar.specs.Refusal.{expression_fault};
 ghost use Rattle.al_expr_typing.specs.Arguments.{argument_in};
 ghost use Rattle.al_types.specs.Scopes.{can_call};
@@ -13,7 +13,6 @@ ghost use Rattle.al_expr_grammar.specs.Tree.{arguments_of};
 ghost use Rattle.al_types.specs.Types.{Parts};
 ghost use Rattle.al_expr_types.specs.Types.{is_below, type_in};
 ghost use Rattle.al_expr_grammar.specs.View.{expr_view};
-ghost use Rattle.std.specs.Fmt.{decimal};
 ghost use Rattle.al_base.specs.declared.codes.ExpressionCode.TheVariants as code;
 
 use crate::literals::literal_text;

@@ -1,10 +1,7 @@
 //! The value of a string literal.
 
-ghost use Rattle.std.specs.Prelude.{◌≡◌, ◌++◌, IfOk, OnOk, option_map, string_bytes};
-ghost use Rattle.std.specs.List.{flat_map};
-ghost use Rattle.std.specs.Char.{encode_utf8};
+ghost use Rattle.std.specs.Prelude.{◌≡◌, IfOk, option_map, string_bytes};
 ghost use Rattle.al_expr_typing.specs.Literals.{literal_text, text_value, type_of_keyword};
-ghost use Rattle.al_expr_typing.specs.Private.QuotingStates.{adds, moves};
 ghost use Rattle.al_expr_typing.specs.Private.LiteralViews.{literal_of};
 ghost use Rattle.al_expr_types.specs.Types.{scalar_type};
 ghost use Rattle.al_expr_grammar.specs.View.{expr_view};
@@ -19,14 +16,6 @@ use std::alloc::{AllocError, Global};
 pub struct Literal {
     pub value: String,
     pub span: Span,
-}
-
-/// The state of reading a string literal.
-#[derive(Clone, Copy)]
-pub(crate) enum Quoting {
-    Opening,
-    Inside,
-    AfterQuote,
 }
 
 /// The value of a string literal, in brackets or not; `None` if the expression isn't one.
@@ -58,33 +47,15 @@ fn text_value(alloc: Global, literal: &str) -> Result<String, AllocError>
     ensures { IfOk result (λ s. string_bytes s ≡ text_value literal.now) }
 {
     let mut value = String::new(alloc);
-    let mut quoting = Quoting::Opening;
-    for ch in literal.chars() {
-        add(quoting, ch, &mut value)?;
-        quoting = moves(quoting, ch);
+    let mut after_quote = false;
+    for ch in literal.chars().skip(1) {
+        after_quote = !after_quote && ch == '\'';
+        if after_quote {
+            continue;
+        }
+        value.push(ch)?;
     }
     Ok(value)
-}
-
-fn add(quoting: Quoting, ch: char, value: &mut String) -> Result<(), AllocError>
-    ensures { OnOk result
-        (string_bytes value.new
-        ≡ string_bytes value.old ++ flat_map encode_utf8 (adds quoting ch)) }
-{
-    match quoting {
-        Quoting::Opening => Ok(()),
-        Quoting::Inside if ch == '\'' => Ok(()),
-        Quoting::Inside | Quoting::AfterQuote => value.push(ch),
-    }
-}
-
-fn moves(quoting: Quoting, ch: char) -> Quoting
-    ensures { result ≡ moves quoting ch }
-{
-    match quoting {
-        Quoting::Inside if ch == '\'' => Quoting::AfterQuote,
-        Quoting::Opening | Quoting::Inside | Quoting::AfterQuote => Quoting::Inside,
-    }
 }
 
 /// The type of `null`, `true` or `false`.

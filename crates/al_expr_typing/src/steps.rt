@@ -2,7 +2,6 @@
 
 ghost use Rattle.std.specs.Prelude.{◌≡◌, ◌<◌, IfOk, List, None, length, true, ℕ};
 ghost use Rattle.al_base.specs.Growth.{BeginsWith};
-ghost use Rattle.al_base.specs.declared.codes.ExpressionCode.TheVariants as code;
 ghost use Rattle.al_expr_typing.specs.Meaning.{typed, faults_then, property_of, all_of, index_of, not_indexable};
 ghost use Rattle.al_types.specs.Types.{Parts};
 ghost use Rattle.al_expr_typing.specs.Steps.{is_index};

@@ -86,7 +86,8 @@ fuse_more-returns-in_ok-add_rest-in-Object-Object t c =
     let first = c.in_ok-first-in-Object-Object.ensures ∙ ap (λ xs. listed_parts (map field_of xs) rest) c.deref-in-Object-Object.ensures.value in
     let more = c.in_ok-both-in-Object-Object.ensures
     ∙ (λ d. fuse_parts (first d) (listed_parts (map field_of (c.deref-in-Object-Object-2.ensures.value d)) Absent)) in
-    let all = whole p (parts_in c.in_ok-both-in-Object-Object.both) (parts_in c.in_ok-add_rest-in-Object-Object.field-0) us (rest_of c.in-Object-Object.other) more c.in_ok-add_rest-in-Object-Object.ensures in
+    let all = whole p (parts_in c.in_ok-both-in-Object-Object.both) (parts_in c.in_ok-add_rest-in-Object-Object.field-0) us (rest_of c.in-Object-Object.other)
+    more c.in_ok-add_rest-in-Object-Object.ensures in
     let here = ap ty_of c.in-Object-Object.is-0 ∙ object_view c.in-Object-Object.fields c.in-Object-Object.rest in
     let there = ap ty_of c.in-Object-Object.is-1 ∙ object_view c.in-Object-Object.others c.in-Object-Object.other in
     c.into_type.ensures ∙ ap object_type all ∙ sym (λ d. fuse_type (here d) (there d))
