@@ -39,21 +39,14 @@ pub fn has_value(node: &Node, key: &str) -> bool
 pub fn is_composite(root: &Node) -> bool
     ensures { result ≡ declarations.is_composite (view root.now) }
 {
-    let Some(using) = value_below_two(root, "runs", "using") else {
-        return false;
-    };
-    match using.scalar() {
-        Some(scalar) => scalar.text() == b"composite".as_slice(),
-        None => false,
-    }
+    value_below_two(root, "runs", "using")
+        .and_then(|using| using.scalar())
+        .is_some_and(|scalar| scalar.text() == b"composite".as_slice())
 }
 
 /// The steps of an action, in order; none where it runs none.
 pub fn action_steps(root: &Node) -> &[Node]
     ensures { map view result.now ≡ declarations.action_steps (view root.now) }
 {
-    match value(root, "runs") {
-        Some(runs) => items_under(runs, "steps"),
-        None => &[],
-    }
+    value(root, "runs").map_or(&[], |runs| items_under(runs, "steps"))
 }

@@ -18,9 +18,8 @@ use crate::keys::{KeyIndex, KeySet, key_of, key_text};
 use crate::scalars::{is_null_scalar, scalar_fault};
 use crate::standings::{Standing, is_needed, refine, standing_of, takes_null};
 use crate::table::{Keys, Row, Shape, rule_of};
-use crate::values::ScalarNode;
 use al_base::{Code, Fault, FaultSink, KeyCode, Span};
-use al_scalar::Style;
+use al_scalar::{Scalar, Style};
 use al_yaml_tree::{Entry, Kind, Node};
 use std::alloc::{AllocError, Global};
 
@@ -78,22 +77,20 @@ fn check_beside(
 /// Adds the fault of a scalar at a place.
 fn check_scalar(
     demand: Demand<'_>,
-    scalar: ScalarNode<'_>,
+    scalar: &Scalar,
+    at: Span,
     faults: &mut FaultSink,
 ) -> Result<(), AllocError>
     ensures { OnOk result (faults.new ≡ faults.old
         ++ demanded_faults demand.entry
-        (scalar_node (scalar.entry).scalar.now (scalar.entry).span)) }
+        (scalar_node scalar.now at)) }
 {
-    if demand.takes_null && is_null_scalar(scalar.scalar) {
+    if demand.takes_null && is_null_scalar(scalar) {
         return Ok(());
     }
-    let Some(rule) = rule_of(demand.shape) else {
-        return Ok(());
-    };
-    match scalar_fault(rule.scalars, scalar.scalar) {
+    match rule_of(demand.shape).and_then(|rule| scalar_fault(rule.scalars, scalar)) {
         None => Ok(()),
-        Some(key) => faults.report_text(scalar.span, Code::Key(key), demand.above),
+        Some(key) => faults.report_text(at, Code::Key(key), demand.above),
     }
 }
 
@@ -123,21 +120,15 @@ fn check(demand: Demand<'_>, node: &Node, faults: &mut FaultSink) -> Result<(), 
         ≡ faults.old ++ demanded_faults demand.entry (view node.now)) }
 {
     match &node.kind {
-        Kind::Scalar(scalar) => {
-            let scalar = ScalarNode {
-                scalar,
-                span: node.span,
-            };
-            check_scalar(demand, scalar, faults)
-        }
-        Kind::Sequence(nodes) => match rule_of(demand.shape) {
+        Kind::Scalar(scalar) => check_scalar(demand, scalar, node.span, faults),
+        Kind::Sequence(nodes) => match rule_of(demand.shape).map(|rule| rule.items) {
             None => Ok(()),
-            Some(rule) => match rule.items {
-                None => {
-                    faults.report_text(node.span, Code::Key(KeyCode::WrongKind), demand.above)
-                }
-                Some(inner) => check_items(inner, demand.above, nodes.as_slice(), faults),
-            },
+            Some(None) => faults.report_text(
+                node.span,
+                Code::Key(KeyCode::WrongKind),
+                demand.above,
+            ),
+            Some(Some(inner)) => check_items(inner, demand.above, nodes.as_slice(), faults),
         },
         Kind::Mapping(entries) => check_mapping(demand, entries.as_slice(), node.span, faults),
         Kind::Shared(inner) => check(demand, inner, faults),
@@ -156,21 +147,17 @@ fn check_mapping(
     ensures { OnOk result (faults.new
         ≡ faults.old ++ mapping_faults demand.entry at (map entry_view entries.now)) }
 {
-    match rule_of(refine(demand.shape, entries)) {
-        None => Ok(()),
-        Some(rule) => match rule.keys {
-            Keys::No => faults.report_text(at, Code::Key(KeyCode::WrongKind), demand.above),
-            Keys::Free(_) => {
-                let index = KeyIndex::of(faults.alloc(), entries)?;
-                check_entries(rule.keys, entries, &index, faults)
-            }
-            Keys::These(rows, _) => {
-                let index = KeyIndex::of(faults.alloc(), entries)?;
-                check_missing(rows, index.first(entries.len()), at, faults)?;
-                check_entries(rule.keys, entries, &index, faults)
-            }
-        },
+    let Some(rule) = rule_of(refine(demand.shape, entries)) else {
+        return Ok(());
+    };
+    if let Keys::No = rule.keys {
+        return faults.report_text(at, Code::Key(KeyCode::WrongKind), demand.above);
     }
+    let index = KeyIndex::of(faults.alloc(), entries)?;
+    if let Keys::These(rows, _) = rule.keys {
+        check_missing(rows, index.first(entries.len()), at, faults)?;
+    }
+    check_entries(rule.keys, entries, &index, faults)
 }
 
 /// Adds the faults of the items of a sequence below a key.
@@ -226,27 +213,22 @@ fn check_entry(standing: Standing, entry: &Entry, faults: &mut FaultSink) -> Res
         (entry_view entry.now).1)) }
 {
     check_key(standing, &entry.key, faults)?;
-    match standing {
-        Standing::Expected(shape, _) => {
-            let demand = Demand {
-                shape,
-                takes_null: takes_null(shape),
-                above: key_of(entry),
-            };
-            check(demand, &entry.value, faults)
-        }
-        Standing::Repeated | Standing::Unexpected(_) | Standing::Ignored => Ok(()),
-    }
+    let Standing::Expected(shape, _) = standing else {
+        return Ok(());
+    };
+    let demand = Demand {
+        shape,
+        takes_null: takes_null(shape),
+        above: key_of(entry),
+    };
+    check(demand, &entry.value, faults)
 }
 
 /// Whether a root is empty, as that of a file without a node.
 fn is_empty(node: &Node) -> bool
     ensures { result ≡ empty (view node.now) }
 {
-    match node.scalar() {
-        Some(scalar) => matches!(scalar.style(), Style::Plain) && scalar.text().is_empty(),
-        None => false,
-    }
+    node.scalar().is_some_and(|scalar| scalar.style() == Style::Plain && scalar.text().is_empty())
 }
 
 /// The faults of the root of a file against the shape it should have, in the order of the file's entries.

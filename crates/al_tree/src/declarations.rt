@@ -45,10 +45,5 @@ pub fn declared_at(alloc: Global, node: Option<&Node>) -> Result<Vec<Member<'_>>
 pub fn is_named_among(texts: &[&[u8]], name: &[u8]) -> bool
     ensures { result ≡ named_among (map (λ t. t.now) texts.now) name.now }
 {
-    for text in texts {
-        if is_same_name(text, name) {
-            return true;
-        }
-    }
-    false
+    texts.iter().any(|text| is_same_name(text, name))
 }

@@ -18,16 +18,10 @@ pub enum InputType {
 pub fn input_of(node: &Node) -> InputType
     ensures { result ≡ inputs.input_of (view node.now) }
 {
-    let Some(name) = text_under(node, "type") else {
-        return InputType::String;
-    };
-    // Any other text is a string's, as `choice` and `environment` are.
-    let name = name.scalar.text();
-    if name == b"boolean".as_slice() {
-        InputType::Boolean
-    } else if name == b"number".as_slice() {
-        InputType::Number
-    } else {
-        InputType::String
+    match text_under(node, "type").map(|name| name.scalar.text()) {
+        Some(name) if name == b"boolean".as_slice() => InputType::Boolean,
+        Some(name) if name == b"number".as_slice() => InputType::Number,
+        // Any other text is a string's, as `choice` and `environment` are.
+        _ => InputType::String,
     }
 }

@@ -1,9 +1,9 @@
 //! The text of a key, and the keys of a mapping.
 
 ghost use Rattle.al_tree.specs.Keys.{IsIndexOf, has_first, holds, key_of as key_in, key_text as text_in, keys_in, repeats};
-ghost use Rattle.al_base.specs.Names.{among};
+ghost use Rattle.al_tree.specs.Faults.{is_key};
 ghost use Rattle.al_yaml_tree.specs.View.{entry_view, view};
-ghost use Rattle.std.specs.Prelude.{◌≡◌, ◌<◌, length, map, slice_index_or, take, IfOk, []};
+ghost use Rattle.std.specs.Prelude.{◌≡◌, ◌<◌, find, length, map, option_map, slice_index_or, take, IfOk, []};
 
 use al_base::TextPositions;
 use al_yaml_tree::{Entry, Node};
@@ -13,10 +13,7 @@ use std::alloc::{AllocError, Global};
 pub fn key_text(key: &Node) -> &[u8]
     ensures { result.now ≡ text_in (view key.now) }
 {
-    match key.scalar() {
-        Some(scalar) => scalar.text(),
-        None => &[],
-    }
+    key.scalar().map_or(&[], |scalar| scalar.text())
 }
 
 /// The text of an entry's key.
@@ -30,16 +27,12 @@ pub fn key_of(entry: &Entry) -> &[u8]
 /// Up to this many keys of a mapping are compared one by one; most mappings have no more.
 const FEW: usize = 8;
 
-/// Whether an entry has a key.
-fn is_key_among(key: &[u8], entries: &[Entry]) -> bool
-    ensures { result ≡ among (keys_in (map entry_view entries.now)) key.now }
+/// The first entry with a key.
+pub(crate) fn entry_among<'a>(entries: &'a [Entry], key: &str) -> Option<&'a Entry>
+    ensures { option_map (λ e. entry_view e.now) result
+        ≡ find (is_key key.now) (map entry_view entries.now) }
 {
-    for entry in entries {
-        if key == key_of(entry) {
-            return true;
-        }
-    }
-    false
+    entries.iter().find(|entry| key_of(entry) == key.as_bytes())
 }
 
 /// The keys of a mapping, prepared for lookups.
@@ -115,26 +108,18 @@ pub struct KeySet<'a> {
 }
 
 impl<'a> KeySet<'a> {
-    /// The entries with these keys.
-    #[tactic(auto, using(std::proofs::lemmas::List::take_min))]
-    fn entries(self) -> &'a [Entry]
-        ensures { result.now ≡ take self.entry.count self.entry.index.now.entries.now }
-    {
-        let entries = self.index.entries;
-        &entries[..self.count.min(entries.len())]
-    }
-
     /// Whether a key is among them. With many keys it takes time logarithmic in their number.
-    #[tactic(auto, using(crate::proofs::KeyLemmas::few_hold))]
     pub fn contains(self, key: &[u8]) -> bool
         ensures { result ≡ holds self.entry key.now }
     {
         match &self.index.positions {
-            None => is_key_among(key, self.entries()),
-            Some(positions) => match positions.get(key) {
-                Some(position) => position < self.count,
-                None => false,
-            },
+            None => {
+                let mut first = self.index.entries.iter().take(self.count);
+                first.any(|entry| key == key_of(entry))
+            }
+            Some(positions) => positions
+                .get(key)
+                .is_some_and(|position| position < self.count),
         }
     }
 }

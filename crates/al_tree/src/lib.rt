@@ -8,7 +8,6 @@
 mod below;
 mod check;
 mod declarations;
-mod entries;
 mod examples;
 mod files;
 mod inputs;

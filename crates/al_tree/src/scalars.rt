@@ -1,9 +1,8 @@
 //! Which scalars are accepted where one is expected.
 
-ghost use Rattle.al_tree.specs.Faults.{has_chunk, has_class as class_is, is_null};
+ghost use Rattle.al_tree.specs.Faults.{has_chunk, is_null};
 ghost use Rattle.al_tree.specs.Faults as faults;
-ghost use Rattle.std.specs.Bool.{then_some};
-ghost use Rattle.std.specs.Prelude.{◌≡◌, not};
+ghost use Rattle.std.specs.Prelude.{◌≡◌};
 
 use crate::table::ScalarSet;
 use al_base::KeyCode;
@@ -25,25 +24,11 @@ pub fn contains_chunk(text: &[u8]) -> bool
     false
 }
 
-/// Whether a scalar has a class.
-fn has_class(class: Class, scalar: &Scalar) -> bool
-    ensures { result ≡ class_is class scalar.now }
-{
-    scalar.class() == class
-}
-
 /// Whether a scalar is null.
 pub fn is_null_scalar(scalar: &Scalar) -> bool
     ensures { result ≡ is_null scalar.now }
 {
-    has_class(Class::Null, scalar)
-}
-
-/// A fault, if a scalar isn't accepted.
-fn fault_unless(taken: bool, key: KeyCode) -> Option<KeyCode>
-    ensures { result ≡ then_some (not taken) key }
-{
-    (!taken).then_some(key)
+    scalar.class() == Class::Null
 }
 
 /// The fault of a scalar where only the scalars of a set are accepted.
@@ -54,16 +39,15 @@ pub fn scalar_fault(scalars: ScalarSet, scalar: &Scalar) -> Option<KeyCode>
         ScalarSet::AnyScalar => None,
         ScalarSet::NoScalar => Some(KeyCode::WrongKind),
         ScalarSet::NotNull => is_null_scalar(scalar).then_some(KeyCode::WrongType),
-        ScalarSet::Bools => fault_unless(
-            has_class(Class::Bool, scalar) || contains_chunk(scalar.text()),
-            KeyCode::WrongType,
-        ),
-        ScalarSet::Numbers => fault_unless(
-            has_class(Class::Int, scalar)
-                || has_class(Class::Float, scalar)
-                || contains_chunk(scalar.text()),
-            KeyCode::WrongType,
-        ),
-        ScalarSet::Chunks => fault_unless(contains_chunk(scalar.text()), KeyCode::WrongKind),
+        ScalarSet::Bools => {
+            let is_bool = scalar.class() == Class::Bool || contains_chunk(scalar.text());
+            (!is_bool).then_some(KeyCode::WrongType)
+        }
+        ScalarSet::Numbers => {
+            let is_number = matches!(scalar.class(), Class::Int | Class::Float)
+                || contains_chunk(scalar.text());
+            (!is_number).then_some(KeyCode::WrongType)
+        }
+        ScalarSet::Chunks => (!contains_chunk(scalar.text())).then_some(KeyCode::WrongKind),
     }
 }

@@ -1,17 +1,16 @@
 //! The standing of a key in its mapping: known, unknown, repeated, or beside a key that excludes it.
 
 ghost use Rattle.al_tree.specs.Faults.{clash_with};
-ghost use Rattle.al_tree.specs.Faults.{is_needed as needed, other_standing, mapping_shape};
+ghost use Rattle.al_tree.specs.Faults.{is_needed as needed, mapping_shape};
 ghost use Rattle.al_tree.specs.Faults.{runs_of as runs, standing as stands, standing_view, takes_null as null_taken};
 ghost use Rattle.al_tree.specs.Keys.{holds};
-ghost use Rattle.al_tree.specs.Table.{clash_of, field_view, keys_view, need_of, others_of};
+ghost use Rattle.al_tree.specs.Table.{clash_of, field_view, keys_view, need_of};
 ghost use Rattle.al_yaml_tree.specs.View.{entry_view};
 ghost use Rattle.std.specs.Bool.{then_some};
 ghost use Rattle.std.specs.Prelude.{◌≡◌, find, map, option_map};
 ghost use Rattle.std.specs.Str.{bytes_eq};
 
-use crate::entries::scalar_among;
-use crate::keys::{EntryKey, KeySet};
+use crate::keys::{EntryKey, KeySet, entry_among};
 use crate::names::is_event;
 use crate::table::{Clash, Keys, Need, Others, Row, Shape, Trigger};
 use al_base::is_among;
@@ -37,7 +36,7 @@ pub fn refine(shape: Shape, entries: &[Entry]) -> Shape
     ensures { result ≡ mapping_shape shape (map entry_view entries.now) }
 {
     match shape {
-        Shape::Runs => match scalar_among(entries, "using") {
+        Shape::Runs => match entry_among(entries, "using").and_then(|entry| entry.value.scalar()) {
             Some(scalar) => runs_of(scalar.text()),
             None => Shape::Runs,
         },
@@ -57,12 +56,7 @@ fn row_at<'a>(rows: &'a [Row], key: &[u8]) -> Option<&'a Row>
     ensures { option_map (λ r. field_view r.now) result
         ≡ find (λ f. bytes_eq f.key key.now) (map field_view rows.now) }
 {
-    for row in rows {
-        if row.key.as_bytes() == key {
-            return Some(row);
-        }
-    }
-    None
+    rows.iter().find(|row| row.key.as_bytes() == key)
 }
 
 /// Whether a key is required in a mapping with these keys.
@@ -108,21 +102,6 @@ fn clash(clash: Clash, seen: KeySet<'_>, all: KeySet<'_>) -> Option<&'static str
     }
 }
 
-/// The standing of an entry without a row.
-fn standing_without_row(others: Others, key: EntryKey<'_>, all: KeySet<'_>) -> Standing
-    ensures { standing_view result
-        ≡ other_standing (others_of others) (holds (key.entry).seen) (holds all.entry) (key.entry).key.now }
-{
-    match others {
-        Others::Unchecked => Standing::Ignored,
-        _ if key.is_repeated => Standing::Repeated,
-        Others::Wrong => Standing::Unexpected(None),
-        Others::WrongBeside(other) => Standing::Unexpected(if_in(all, other)),
-        Others::Events if is_event(key.key) => Standing::Expected(Shape::On(Trigger::Event), None),
-        Others::Events => Standing::Expected(Shape::Any, None),
-    }
-}
-
 /// The standing of an entry with a key, after the keys seen so far, in a mapping with all these keys.
 pub fn standing_of(keys: Keys, key: EntryKey<'_>, all: KeySet<'_>) -> Standing
     ensures { standing_view result
@@ -130,22 +109,18 @@ pub fn standing_of(keys: Keys, key: EntryKey<'_>, all: KeySet<'_>) -> Standing
 {
     match keys {
         Keys::No => Standing::Ignored,
-        Keys::Free(shape) => {
-            if key.is_repeated {
-                Standing::Repeated
-            } else {
-                Standing::Expected(shape, None)
+        Keys::Free(_) if key.is_repeated => Standing::Repeated,
+        Keys::Free(shape) => Standing::Expected(shape, None),
+        Keys::These(rows, others) => match (row_at(rows, key.key), others) {
+            (None, Others::Unchecked) => Standing::Ignored,
+            _ if key.is_repeated => Standing::Repeated,
+            (Some(row), _) => Standing::Expected(row.shape, clash(row.clash, key.seen, all)),
+            (None, Others::Wrong) => Standing::Unexpected(None),
+            (None, Others::WrongBeside(other)) => Standing::Unexpected(if_in(all, other)),
+            (None, Others::Events) if is_event(key.key) => {
+                Standing::Expected(Shape::On(Trigger::Event), None)
             }
-        }
-        Keys::These(rows, others) => match row_at(rows, key.key) {
-            None => standing_without_row(others, key, all),
-            Some(row) => {
-                if key.is_repeated {
-                    Standing::Repeated
-                } else {
-                    Standing::Expected(row.shape, clash(row.clash, key.seen, all))
-                }
-            }
+            (None, Others::Events) => Standing::Expected(Shape::Any, None),
         },
     }
 }

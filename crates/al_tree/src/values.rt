@@ -7,8 +7,7 @@ ghost use Rattle.al_tree.specs.Values.{texts_at, texts_in, value_at, scalar_node
 ghost use Rattle.al_yaml_tree.specs.View.{view};
 ghost use Rattle.std.specs.Prelude.{◌≡◌, map, option_map, IfOk};
 
-use crate::entries::{key_among, value_among};
-use crate::keys::{KeyIndex, key_text};
+use crate::keys::{KeyIndex, entry_among, key_text};
 use crate::scalars::is_null_scalar;
 use al_base::{NamePositions, Span};
 use al_scalar::Scalar;
@@ -20,24 +19,23 @@ use std::slice;
 pub fn items(node: &Node) -> &[Node]
     ensures { map view result.now ≡ items_in (view node.now) }
 {
-    match node.sequence() {
-        Some(items) => items,
-        None => &[],
-    }
+    node.sequence().unwrap_or(&[])
 }
 
 /// The value of the first entry with a key, compared exactly; `None` if there is none or the node isn't a mapping.
+#[tactic(auto, using(al_yaml_tree::proofs::ViewLemmas::entry_parts))]
 pub fn value<'a>(node: &'a Node, key: &str) -> Option<&'a Node>
     ensures { option_map (λ n. view n.now) result ≡ value_at key.now (view node.now) }
 {
-    value_among(node.mapping()?, key)
+    Some(&entry_among(node.mapping()?, key)?.value)
 }
 
 /// The node of the first occurrence of a key; `None` if there is none or the node isn't a mapping.
+#[tactic(auto, using(al_yaml_tree::proofs::ViewLemmas::entry_parts))]
 pub fn key<'a>(node: &'a Node, key: &str) -> Option<&'a Node>
     ensures { option_map (λ n. view n.now) result ≡ key_at key.now (view node.now) }
 {
-    key_among(node.mapping()?, key)
+    Some(&entry_among(node.mapping()?, key)?.key)
 }
 
 /// A scalar, and the span of its written form in bytes of the file.
@@ -51,14 +49,9 @@ pub struct ScalarNode<'a> {
 pub fn text(node: &Node) -> Option<ScalarNode<'_>>
     ensures { option_map scalar_node_of result ≡ text_in (view node.now) }
 {
-    let scalar = node.scalar()?;
-    if is_null_scalar(scalar) {
-        return None;
-    }
-    Some(ScalarNode {
-        scalar,
-        span: node.span(),
-    })
+    let scalar = node.scalar().filter(|scalar| !is_null_scalar(scalar))?;
+    let span = node.span();
+    Some(ScalarNode { scalar, span })
 }
 
 /// The scalar under a key; `None` if it is null, if there is no such key, or if the value isn't a scalar.
@@ -105,10 +98,7 @@ pub fn texts_under<'a>(
 pub fn items_under<'a>(node: &'a Node, key: &str) -> &'a [Node]
     ensures { map view result.now ≡ items_at key.now (view node.now) }
 {
-    match value(node, key) {
-        Some(sequence) => items(sequence),
-        None => &[],
-    }
+    value(node, key).map_or(&[], items)
 }
 
 /// A key of a mapping and its value.
@@ -132,8 +122,7 @@ pub fn members(alloc: Global, node: &Node) -> Result<Vec<Member<'_>>, AllocError
     let index = KeyIndex::of(alloc, entries)?;
     let mut firsts = Vec::with_capacity(alloc, entries.len())?;
     for (i, entry) in entries.iter().enumerate() {
-        let is_new = !index.key_at(i).is_repeated;
-        if is_new {
+        if !index.key_at(i).is_repeated {
             firsts.push(Member {
                 key: &entry.key,
                 value: &entry.value,
