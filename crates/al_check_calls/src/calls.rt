@@ -18,10 +18,10 @@ use std::alloc::AllocError;
 fn is_callable(caller: Caller, role: Role) -> bool
     ensures { result ≡ meant.is_callable caller role }
 {
-    match caller {
-        Caller::Step => matches!(role, Role::Composite | Role::Action),
-        Caller::Job => matches!(role, Role::Callable),
-    }
+    matches!(
+        (caller, role),
+        (Caller::Step, Role::Composite | Role::Action) | (Caller::Job, Role::Callable)
+    )
 }
 
 /// The signature that a call is compared with, if it can call the file that answers it.
@@ -33,13 +33,12 @@ pub(crate) fn called_signature<'a>(
         ≡ meant.callable_signature (site_caller (call_of call.entry).site)
         (option_copied answer.entry) }
 {
-    let Some(Interface::Readable(signature)) = answer else {
-        return None;
-    };
-    if !is_callable(caller_of(call.site), signature.role) {
-        return None;
+    match answer {
+        Some(Interface::Readable(called)) if is_callable(caller_of(call.site), called.role) => {
+            Some(called)
+        }
+        _ => None,
     }
-    Some(signature)
 }
 
 /// C1 and C8.
@@ -51,19 +50,13 @@ fn check_uses(
     ensures { OnOk result (faults.new ≡ faults.old
         ++ meant.uses_faults (call_of call.entry) (option_copied answer.entry)) }
 {
+    let caller = caller_of(call.site);
     match answer {
-        None => match caller_of(call.site) {
-            Caller::Step => Ok(()),
-            Caller::Job => report_uses(call, CallCode::NoWorkflow, faults),
-        },
-        Some(Interface::Unreadable) => Ok(()),
-        Some(Interface::Readable(signature)) => {
-            if is_callable(caller_of(call.site), signature.role) {
-                Ok(())
-            } else {
-                report_uses(call, CallCode::NotCallable, faults)
-            }
+        None if caller == Caller::Job => report_uses(call, CallCode::NoWorkflow, faults),
+        Some(Interface::Readable(called)) if !is_callable(caller, called.role) => {
+            report_uses(call, CallCode::NotCallable, faults)
         }
+        _ => Ok(()),
     }
 }
 

@@ -44,10 +44,7 @@ pub(crate) fn given_by<'a>(
 fn is_inherit(job: &Node) -> bool
     ensures { result ≡ faults.is_inherit (view job.now) }
 {
-    match text_under(job, "secrets") {
-        Some(text) => text.scalar.text() == b"inherit".as_slice(),
-        None => false,
-    }
+    text_under(job, "secrets").is_some_and(|text| text.scalar.text() == b"inherit".as_slice())
 }
 
 /// Whether names of a kind are compared: not the secrets of a step, nor those that a job passes on.
@@ -56,12 +53,10 @@ fn is_compared(kind: ParameterKind, call: Call<'_>) -> bool
         ≡ faults.is_compared kind (site_caller (call_of call.entry).site)
         (call_of call.entry).site.node }
 {
-    match kind {
-        ParameterKind::Input => true,
-        ParameterKind::Secret => match caller_of(call.site) {
-            Caller::Step => false,
-            Caller::Job => !is_inherit(call.site.node),
-        },
+    match (kind, caller_of(call.site)) {
+        (ParameterKind::Input, _) => true,
+        (ParameterKind::Secret, Caller::Step) => false,
+        (ParameterKind::Secret, Caller::Job) => !is_inherit(call.site.node),
     }
 }
 

@@ -2,23 +2,11 @@
 ghost use Rattle.std.specs.Prelude.{◌≡◌};
 ghost use Rattle.std.specs.Option.{option_copied};
 ghost use Rattle.al_check_calls.specs.Private.AnswerViews.{answered_of};
-ghost use Rattle.al_check_calls.specs.Outputs.{called_outputs, shows_outputs};
+ghost use Rattle.al_check_calls.specs.Outputs.{called_outputs};
 
 use crate::answers::Answered;
 use crate::calls::called_signature;
 use al_check_interfaces::{NameList, Role};
-
-/// Whether all outputs of a file are declared: the code of an action that isn't composite can set others.
-fn has_outputs(role: Role) -> bool
-    ensures { result ≡ shows_outputs role }
-{
-    match role {
-        Role::Action => false,
-        Role::Workflow => true,
-        Role::Callable => true,
-        Role::Composite => true,
-    }
-}
 
 /// The names of the outputs of the step or job that calls, by its answer: those of a composite action for a step, those of a callable
 /// workflow for a job. `None` if nothing is known of them.
@@ -26,9 +14,6 @@ pub(crate) fn outputs_of<'a>(answered: Answered<'a>) -> Option<&'a NameList>
     ensures { option_copied result ≡ called_outputs (answered_of answered.entry) }
 {
     let signature = called_signature(answered.call, answered.answer)?;
-    if has_outputs(signature.role) {
-        Some(&signature.outputs)
-    } else {
-        None
-    }
+    // The code of an action that isn't composite can set outputs that aren't declared.
+    (!matches!(signature.role, Role::Action)).then_some(&signature.outputs)
 }

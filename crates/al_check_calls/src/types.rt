@@ -85,9 +85,6 @@ pub(crate) fn scalar_type(
     let (found, _) = chunks(types.alloc(), scalar.as_str())?;
     match content_of(scalar, found.as_slice()) {
         None => Ok(text_type(scalar)),
-        Some(content) => {
-            let ty = content_type(types, scope, content)?;
-            Ok(ty)
-        }
+        Some(content) => content_type(types, scope, content),
     }
 }

@@ -26,12 +26,11 @@ struct GivenName<'a> {
 fn is_free_for(kind: ParameterKind, caller: Caller, name: &[u8]) -> bool
     ensures { result ≡ meant.is_free_for kind caller name.now }
 {
-    match kind {
-        ParameterKind::Secret => false,
-        ParameterKind::Input => match caller {
-            Caller::Step => is_named_among(&[b"args".as_slice(), b"entrypoint".as_slice()], name),
-            Caller::Job => false,
-        },
+    match (kind, caller) {
+        (ParameterKind::Input, Caller::Step) => {
+            is_named_among(&[b"args".as_slice(), b"entrypoint".as_slice()], name)
+        }
+        _ => false,
     }
 }
 
@@ -40,10 +39,8 @@ fn is_taken(by: Comparison<'_>, name: &[u8]) -> Result<bool, AllocError>
     ensures { let q = compared_of by.entry in IfOk result (λ b. b
         ≡ meant.is_taken q.kind q.call q.signature name.now) }
 {
-    if by.signature.parameters(by.kind).has(name)? {
-        return Ok(true);
-    }
-    Ok(is_free_for(by.kind, caller_of(by.call.site), name))
+    let is_declared = by.signature.parameters(by.kind).has(name)?;
+    Ok(is_declared || is_free_for(by.kind, caller_of(by.call.site), name))
 }
 
 fn undefined_code(kind: ParameterKind) -> CallCode

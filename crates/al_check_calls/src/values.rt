@@ -24,14 +24,6 @@ use al_tree::{Member, key_text, members_under};
 use al_yaml_tree::Node;
 use std::alloc::AllocError;
 
-/// A value under `with` of a job, with its key.
-#[derive(Clone, Copy)]
-struct JobInput<'a> {
-    /// The text of the job's key.
-    job: &'a [u8],
-    member: Member<'a>,
-}
-
 /// The place of the value of a key under `with` of a job.
 fn place_of_value<'a>(job: &'a [u8], key: &'a Node, scalar: &'a Scalar) -> Place<'a>
     ensures { place_of result ≡ file_calls.place_of_value job.now (view key.now) scalar.now }
@@ -50,22 +42,22 @@ fn place_of_value<'a>(job: &'a [u8], key: &'a Node, scalar: &'a Scalar) -> Place
     }
 }
 
-/// The type of a value under a key: any type if it isn't a scalar.
+/// The type of a value under `with` of a job, whose key has this text: any type if it isn't a scalar.
 #[tactic(auto, using(al_base::proofs::Growing::growth))]
-fn value_type<'a>(env: &mut Env<'a>, given: JobInput<'a>) -> Result<Ty, AllocError>
+fn value_type<'a>(env: &mut Env<'a>, job: &'a [u8], member: Member<'a>) -> Result<Ty, AllocError>
     requires at { IsAtPosition env.old }
-    requires short { AreShort (member_of given.member).1 }
+    requires short { AreShort (member_of member).1 }
     ensures moved { OnOk result (HasMoved env.new env.old) }
-    ensures ty { let f = file_of env.old in let g = given.entry in IfOk result
+    ensures ty { let f = file_of env.old in IfOk result
         (λ t. type_at (env.new).types t
-        ≡ given_type (value_type_in_job f.kind (known_of f.known) (view f.root.now) g.job.now)
-        (member_of g.member)) }
+        ≡ given_type (value_type_in_job f.kind (known_of f.known) (view f.root.now) job.now)
+        (member_of member.entry)) }
     ensures known { IfOk result (λ t. is_known (env.new).types t ≡ true) }
 {
-    match given.member.value.scalar() {
+    match member.value.scalar() {
         None => Ok(Ty::ANY),
         Some(scalar) => {
-            let place = place_of_value(given.job, given.member.key, scalar);
+            let place = place_of_value(job, member.key, scalar);
             env.go_to(place)?;
             let ty = scalar_type(&mut env.types, &env.scope, scalar)?;
             Ok(ty)
@@ -90,7 +82,7 @@ pub(crate) fn job_values<'a>(
     let mut values = Vec::new(alloc);
     for member in &given {
         let member = *member;
-        let ty = value_type(env, JobInput { job, member })?;
+        let ty = value_type(env, job, member)?;
         values.push(Value { member, ty })?;
     }
     Ok(values)

@@ -4,4 +4,4 @@ pub returns-in-None-clause-ty : goal.returns-in-None-clause-ty
 returns-in-None-clause-ty c = rw (← c.content_of.ensures, c.in-None.is) (c.text_type.ensures.ty _)
 
 pub returns-clause-ty : goal.returns-clause-ty
-returns-clause-ty c = rw (← c.content_of.ensures, c.in-Some.is) c.in_ok-ty-in-Some.ensures.ty
+returns-clause-ty c = rw (← c.content_of.ensures, c.in-Some.is) c.content_type.ensures.ty

@@ -12,7 +12,7 @@ use Rattle.al_check_calls.proofs.values.value_type.Goals as goal
 
 pub scalar_type-requires-clause-utf8 : goal.scalar_type-requires-clause-utf8
 scalar_type-requires-clause-utf8 c =
-    (scalar_short (member_of c.args.given.member).1 c.in-Some.scalar.now (sym c.scalar.ensures ∙ ap option_copied c.in-Some.is) c.requires.short).0
+    (scalar_short (member_of c.args.member).1 c.in-Some.scalar.now (sym c.scalar.ensures ∙ ap option_copied c.in-Some.is) c.requires.short).0
 
 pub returns-in_ok-ty-in-Some-clause-moved : goal.returns-in_ok-ty-in-Some-clause-moved
 returns-in_ok-ty-in-Some-clause-moved c =
