@@ -24,9 +24,8 @@ impl<'a> FieldList<'a> {
     pub fn new(alloc: Global) -> FieldList<'a>
         ensures { (types : declared.Types) → Lists types result [] }
     {
-        FieldList {
-            map: FieldMap::new(alloc),
-        }
+        let map = FieldMap::new(alloc);
+        FieldList { map }
     }
 
     /// Appends a field, unless there is one with its name.

@@ -32,11 +32,8 @@ fn scalar_type(alloc: Global, scalar: &Scalar) -> Result<Ty, AllocError>
     if !contains_chunk(scalar.text()) {
         return Ok(Ty::scalar(class_type_of(scalar.class())));
     }
-    if is_lone_chunk(alloc, Around::Nothing, scalar.text())? {
-        Ok(Ty::ANY)
-    } else {
-        Ok(Ty::STRING)
-    }
+    let is_lone = is_lone_chunk(alloc, Around::Nothing, scalar.text())?;
+    Ok(if is_lone { Ty::ANY } else { Ty::STRING })
 }
 
 /// The type of a value.
@@ -124,15 +121,7 @@ fn is_scalar(node: &Node) -> bool
 fn is_open_include(combinations: &Node) -> bool
     ensures { result ≡ matrix.is_open_include (view combinations.now) }
 {
-    if is_scalar(combinations) {
-        return true;
-    }
-    for item in items(combinations) {
-        if is_scalar(item) {
-            return true;
-        }
-    }
-    false
+    is_scalar(combinations) || items(combinations).iter().any(is_scalar)
 }
 
 /// The type of `matrix` in a job; without a matrix an object without fields.

@@ -30,7 +30,7 @@ pub fn object_of<'a>(
         (object_with (map (λ f. (f.0.now, type_at types.old f.1)) fields.now) (rest_in (objects_of types.old) rest)) }
 {
     let map = FieldMap::of(types.alloc(), fields)?;
-    FieldList { map }.into_type(types, rest)
+    types.fields(map, rest)
 }
 
 /// The object with a string field for the key of each entry, and no other fields.

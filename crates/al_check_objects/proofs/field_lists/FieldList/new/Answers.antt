@@ -7,6 +7,6 @@ use Rattle.al_check_objects.proofs.field_lists.FieldList.new.Goals as goal
 
 pub returns : goal.returns
 returns c = λ types. record {
-  known = λ d. list_all (is_below (length types.objects.items)) (c.new.ensures.types d);
-  are = λ d. zip (c.new.ensures.names d) (map (type_in (objects_of types)) (c.new.ensures.types d));
+  known = λ d. list_all (is_below (length types.objects.items)) (c.new-map.ensures.types d);
+  are = λ d. zip (c.new-map.ensures.names d) (map (type_in (objects_of types)) (c.new-map.ensures.types d));
 }
