@@ -5,6 +5,7 @@ ghost use Rattle.al_check_places.specs.Positions.{position_view, section_view};
 ghost use Rattle.al_check_places.specs.Ways.{way_step_view};
 
 use crate::ways::WayStep;
+use crate::ways::WayStep::{Nth, Under};
 use al_tree::FileKind;
 
 /// Below `on`, in a job with a key, or anywhere else.
@@ -33,15 +34,8 @@ fn section_at<'a>(way: &[WayStep<'a>]) -> Section<'a>
     ensures { section_view result ≡ positions.section_of (map way_step_view way.now) }
 {
     match way {
-        [WayStep::Under(first), WayStep::Under(second), ..] => {
-            if *first == b"on".as_slice() {
-                Section::On
-            } else if *first == b"jobs".as_slice() {
-                Section::Job(second)
-            } else {
-                Section::Apart
-            }
-        }
+        [Under(key), Under(_), ..] if *key == b"on".as_slice() => Section::On,
+        [Under(key), Under(job), ..] if *key == b"jobs".as_slice() => Section::Job(job),
         _ => Section::Apart,
     }
 }
@@ -76,18 +70,13 @@ fn seen_at(kind: FileKind, way: &[WayStep<'_>]) -> Seen
 {
     match kind {
         FileKind::Workflow => match way {
-            [_, _, WayStep::Under(first), WayStep::Nth(i), ..] => seen_in_item(first, *i),
-            [_, _, WayStep::Under(first), WayStep::Under(second), ..] => seen_below(first, second),
+            [_, _, Under(first), Nth(i), ..] => seen_in_item(first, *i),
+            [_, _, Under(first), Under(second), ..] => seen_below(first, second),
             _ => Seen::Nothing,
         },
         FileKind::Action => match way {
-            [
-                WayStep::Under(_),
-                WayStep::Under(first),
-                WayStep::Nth(i),
-                ..
-            ] => { seen_in_item(first, *i) }
-            [WayStep::Under(first), WayStep::Under(second), ..] => seen_below(first, second),
+            [Under(_), Under(first), Nth(i), ..] => seen_in_item(first, *i),
+            [Under(first), Under(second), ..] => seen_below(first, second),
             _ => Seen::Nothing,
         },
     }

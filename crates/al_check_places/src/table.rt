@@ -283,11 +283,8 @@ fn better(best: Option<&'static Row>, row: &'static Row) -> Option<&'static Row>
         ≡ longer (option_map (λ r. row_view r.now) best.entry) (row_view row.now) }
 {
     match best {
-        Some(old) => if old.path.len() < row.path.len() {
-            Some(row)
-        } else {
-            Some(old)
-        },
+        Some(old) if old.path.len() < row.path.len() => Some(row),
+        Some(old) => Some(old),
         None => Some(row),
     }
 }

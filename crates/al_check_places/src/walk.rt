@@ -1,5 +1,4 @@
 //! The walk that finds the scalars with expressions.
-ghost use Rattle.std.specs.List.{list_any};
 ghost use Rattle.std.specs.Prelude.{◌≡◌, ◌++◌, ◌∷◌, [], false, map, option_map, IfOk, OnOk};
 ghost use Rattle.al_tree.specs.Faults.{standing_view};
 ghost use Rattle.al_tree.specs.Keys.{key_of as key_in, keys_in};
@@ -61,24 +60,17 @@ struct Demand {
 fn rule_at(shape: Shape) -> Rule
     ensures { rule_view result ≡ rule_or_any (table_rule shape) }
 {
-    match rule_of(shape) {
-        Some(rule) => rule,
-        None => Rule {
-            scalars: ScalarSet::AnyScalar,
-            items: Some(Shape::Any),
-            keys: Keys::Free(Shape::Any),
-        },
-    }
+    rule_of(shape).unwrap_or(Rule {
+        scalars: ScalarSet::AnyScalar,
+        items: Some(Shape::Any),
+        keys: Keys::Free(Shape::Any),
+    })
 }
 
 fn takes_scalars_only(rule: Rule) -> bool
     ensures { result ≡ places.takes_scalars_only (rule_view rule) }
 {
-    match rule.keys {
-        Keys::No => rule.items.is_none(),
-        Keys::Free(_) => false,
-        Keys::These(_, _) => false,
-    }
+    matches!(rule.keys, Keys::No) && rule.items.is_none()
 }
 
 /// What is available at the end of a way.
@@ -108,21 +100,6 @@ fn place_at<'a>(walk: &Walk<'a>, is_scalar_only: bool, scalar: ScalarNode<'a>) -
     }
 }
 
-/// Whether a scalar is accepted and isn't null.
-fn fits(rule: Rule, scalar: &Scalar) -> bool
-    ensures { result ≡ places.fits (rule_view rule) scalar.now }
-{
-    !is_null_scalar(scalar) && scalar_fault(rule.scalars, scalar).is_none()
-}
-
-/// Whether a scalar at the end of a way has an expression. Most don't, and need no further tests.
-fn has_expression(way: &Way<'_>, scalar: &Scalar) -> bool
-    ensures { result
-        ≡ places.has_expression (map way_step_view way.now.steps.items) scalar.now }
-{
-    is_condition(way) || contains_chunk(scalar.text())
-}
-
 /// Adds the place of a scalar, if it is checked and has an expression.
 fn find_scalar<'a>(
     demand: Demand,
@@ -135,11 +112,15 @@ fn find_scalar<'a>(
     ensures way { OnOk result (walk.new.way.steps.items ≡ walk.old.way.steps.items) }
     ensures kind { OnOk result (walk.new.kind ≡ walk.old.kind) }
 {
-    if !has_expression(&walk.way, scalar.scalar) {
+    // Most scalars have none, and need no further tests.
+    if !is_condition(&walk.way) && !contains_chunk(scalar.scalar.text()) {
         return Ok(());
     }
     let rule = rule_at(demand.shape);
-    if !fits(rule, scalar.scalar) || !is_checked(walk.kind, &walk.way) {
+    if is_null_scalar(scalar.scalar) || scalar_fault(rule.scalars, scalar.scalar).is_some() {
+        return Ok(());
+    }
+    if !is_checked(walk.kind, &walk.way) {
         return Ok(());
     }
     let is_scalar_only = takes_scalars_only(rule) && !demand.is_item;
@@ -210,13 +191,6 @@ fn may_have_expression(entry: &Entry) -> bool
     }
 }
 
-/// Whether one of some entries may have an expression. Most mappings need no further tests.
-fn may_have_expressions(entries: &[Entry]) -> bool
-    ensures { result ≡ list_any (λ e. walks.may_have_expression (entry_view e)) entries.now }
-{
-    entries.iter().any(may_have_expression)
-}
-
 /// Adds the places of the entries of a mapping that accepts these keys.
 #[cycle(finds)]
 fn find_entries<'a>(
@@ -231,7 +205,8 @@ fn find_entries<'a>(
     ensures way { OnOk result (walk.new.way.steps.items ≡ walk.old.way.steps.items) }
     ensures kind { OnOk result (walk.new.kind ≡ walk.old.kind) }
 {
-    if !may_have_expressions(entries) {
+    // Most mappings need no further tests.
+    if !entries.iter().any(may_have_expression) {
         return Ok(());
     }
     let index = KeyIndex::of(walk.alloc, entries)?;
@@ -261,21 +236,17 @@ fn find_entry<'a>(
     ensures way { OnOk result (walk.new.way.steps.items ≡ walk.old.way.steps.items) }
     ensures kind { OnOk result (walk.new.kind ≡ walk.old.kind) }
 {
-    match standing {
-        Standing::Repeated => Ok(()),
-        Standing::Unexpected(_) => Ok(()),
-        Standing::Ignored => Ok(()),
-        Standing::Expected(shape, _) => {
-            let demand = Demand {
-                shape,
-                is_item: false,
-            };
-            walk.way.enter_value(key_of(entry))?;
-            find(demand, &entry.value, walk)?;
-            walk.way.leave();
-            Ok(())
-        }
-    }
+    let Standing::Expected(shape, _) = standing else {
+        return Ok(());
+    };
+    let demand = Demand {
+        shape,
+        is_item: false,
+    };
+    walk.way.enter_value(key_of(entry))?;
+    find(demand, &entry.value, walk)?;
+    walk.way.leave();
+    Ok(())
 }
 
 /// The scalars of a file that have expressions, in the order of the file: conditions, and texts with `${{`. Other texts have no fault.

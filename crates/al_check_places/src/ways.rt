@@ -152,35 +152,16 @@ fn is_any(paths: &[&[Key]], keys: &[&[u8]]) -> bool
     false
 }
 
-/// Whether a place of a workflow is checked, by the keys on the way to it.
-fn is_checked_in_workflow(keys: &[&[u8]]) -> bool
-    ensures { result ≡ ways.is_checked_in_workflow (map (λ k. k.now) keys.now) }
-{
-    if begins_keys(&[Named("on")], keys) {
-        begins_any(OF_CALL, keys)
-    } else {
-        !begins_any(NOT_IN_WORKFLOW, keys)
-    }
-}
-
-/// Whether a place of an action is checked, by the length of the way to it and the keys on it.
-fn is_checked_in_action(steps: usize, keys: &[&[u8]]) -> bool
-    ensures { result ≡ ways.is_checked_in_action steps (map (λ k. k.now) keys.now) }
-{
-    if begins_keys(&[Named("runs")], keys) {
-        !begins_any(NOT_IN_RUNS, keys)
-    } else {
-        begins_any(OF_INTERFACE, keys) && steps == 3
-    }
-}
-
 /// Whether the node at the end of a way is checked.
 pub(crate) fn is_checked(kind: FileKind, way: &Way<'_>) -> bool
     ensures { result ≡ ways.is_checked kind (map way_step_view way.now.steps.items) }
 {
+    let keys = way.keys();
     match kind {
-        FileKind::Workflow => is_checked_in_workflow(way.keys()),
-        FileKind::Action => is_checked_in_action(way.steps.len(), way.keys()),
+        FileKind::Workflow if begins_keys(&[Named("on")], keys) => begins_any(OF_CALL, keys),
+        FileKind::Workflow => !begins_any(NOT_IN_WORKFLOW, keys),
+        FileKind::Action if begins_keys(&[Named("runs")], keys) => !begins_any(NOT_IN_RUNS, keys),
+        FileKind::Action => begins_any(OF_INTERFACE, keys) && way.steps.len() == 3,
     }
 }
 

@@ -1,4 +1,6 @@
-use Rattle.std.proofs.Common.{◌≡◌, ◌+◌, [], ◌∷◌, ◌++◌, arith, false, ap, append-nil, append_assoc, refl, drop, map, sym, take, ◌∙◌}
+use Rattle.std.proofs.Common.{◌≡◌, ◌+◌, [], ◌∷◌, ◌++◌, arith, false, ap, append-nil, append_assoc, refl, drop, map, rules, sym, take, tests, ◌∙◌}
+use Rattle.std.proofs.lemmas.Iterator.{YieldsList-from_slice}
+use Rattle.std.proofs.lemmas.Iterator.Search.{any_from_yields_List}
 use Rattle.al_yaml_tree.specs.View.{entries_of, entry_view}
 use Rattle.al_tree.proofs.KeyLemmas.{all_keys}
 use Rattle.al_tree.proofs.Lists.{left_next, text_there, texts_next}
@@ -8,6 +10,7 @@ use Rattle.al_base.specs.Names.{among}
 use Rattle.al_tree.specs.Table.{keys_view, rule, rule_view}
 use Rattle.al_check_places.specs.Places.{entry_places, place_of, places_of_node, places_of_entries, rule_or_any}
 use Rattle.al_check_places.specs.Ways.{under, way_step_view}
+use Rattle.al_check_places.specs.Private.Walks.{may_have_expression}
 use Rattle.al_check_places.proofs.Nodes.{places_of_mapping}
 use Rattle.al_check_places.proofs.Passed.{no_place, no_places}
 use Rattle.al_check_places.proofs.walk.+finds.Goals as goal
@@ -25,12 +28,14 @@ find-returns-in-Mapping-clause-found t c =
     let here = rw c.as_slice-in-Mapping-2.ensures.value at c.find_entries.ensures.found in
     rw same here
 
-pub find_entries-returns-then-not-may_have_expressions-clause-found : goal.find_entries-returns-then-not-may_have_expressions-clause-found
-find_entries-returns-then-not-may_have_expressions-clause-found t c =
+pub find_entries-returns-then-not-any-clause-found : goal.find_entries-returns-then-not-any-clause-found
+find_entries-returns-then-not-any-clause-found t c =
     let kind = c.args.walk.now.kind in
     let es = c.args.entries.now in
+    let any = any_from_yields_List (λ e. may_have_expression (entry_view e)) _ _ c.any.result c.any.ensures.ran (YieldsList-from_slice es c.iter.ensures.rest)
+    (λ x b q k. search (rules, tests)) in
     let none = no_places kind (keys_view c.args.takes) [] (among (keys_in (map entry_view es))) (map way_step_view c.args.walk.now.way.steps.items) es
-    (sym c.may_have_expressions.ensures ∙ c.if-not-may_have_expressions.true) in
+    (sym any ∙ c.if-not-any.true) in
     rw (none, append-nil (map place_of c.args.walk.now.found.items)) refl
 
 pub find_entries-loop-i-preserved : goal.find_entries-loop-i-preserved
