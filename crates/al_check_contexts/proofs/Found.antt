@@ -9,9 +9,9 @@ use Rattle.std.proofs.lemmas.Option.{slice_get-map, slice_get_past, slice_get_re
 use Rattle.std.specs.BTreeMap.{BTreeMap, Updates, get, get_by, is_at as is_at_key}
 use Rattle.std.specs.Cmp.Lexicographic.{slice_cmp}
 use Rattle.std.specs.Map.{lookup}
-use Rattle.std.specs.Option.{option_cmp, option_copied, option_eq}
+use Rattle.std.specs.Option.{option_cmp, option_copied, option_eq, option_flatten}
 use Rattle.std.specs.Ordering.{is_eq, nat_cmp, ordering_then}
-use Rattle.std.specs.Prelude.{◌==◌, find, if◌then◌else◌, option_and_then, slice_get}
+use Rattle.std.specs.Prelude.{◌==◌, find, if◌then◌else◌, option_and_then, slice_get, unwrap_or}
 use Rattle.std.specs.Slice.{IsItemAt}
 use Rattle.std.specs.Str.{bytes_eq}
 use Rattle.std.specs.declared.cmp.Ordering.{Ordering}
@@ -100,8 +100,15 @@ list_found lists i (Some x) item =
     ∙ ap (option_map (λ l. l.now)) (slice_get_read lists (length lists) i x.now refl item.3.0 item.1))
 
 -- past the lists there is none
-pub none_after : (lists : List (List (List ℕ))) (i : ℕ) → i ≡ length lists → slice_get lists i ≡ None
+none_after : (lists : List (List (List ℕ))) (i : ℕ) → i ≡ length lists → slice_get lists i ≡ None
 none_after lists i e = slice_get_past lists i (omega (arith, e))
+
+-- the list at a position, if both are known
+pub or_none : (lists : List (List (List ℕ))) (i : ℕ) (r : Option (Option ℕ)) → i ≡ length lists →
+    slice_get lists (unwrap_or (option_flatten r) i) ≡ option_and_then (λ names. names) (option_map (option_and_then (slice_get lists)) r)
+or_none lists i (Some (Some k)) e = refl
+or_none lists i (Some None) e = none_after lists i e
+or_none lists i None e = none_after lists i e
 
 -- ---- a prepended answer
 

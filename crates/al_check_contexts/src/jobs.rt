@@ -1,5 +1,5 @@
 //! The types of jobs as others see them, each made once per file, and the types of `jobs` and `needs`.
-ghost use Rattle.std.specs.Prelude.{◌≡◌, ◌<◌, [], IfOk, OnOk, List, codes, length, true};
+ghost use Rattle.std.specs.Prelude.{◌≡◌, ◌<◌, [], IfOk, OnOk, List, length, true};
 ghost use Rattle.al_check_contexts.specs.Contexts.{job_field, jobs_type, needs_type};
 ghost use Rattle.al_check_contexts.specs.Lookups.{called_at, shown_at, shown_with};
 ghost use Rattle.al_check_contexts.specs.Made.{KeepsBare, KeepsJobs, KeepsJobsOf, jobs_from, known_from};
@@ -8,8 +8,7 @@ ghost use Rattle.al_check_objects.specs.Numbers.{Makes};
 ghost use Rattle.al_expr_types.specs.Tables.{is_known, type_at};
 ghost use Rattle.al_expr_types.specs.declared.types.Types as declared;
 ghost use Rattle.al_check_contexts.specs.declared.known.Outputs as outputs;
-ghost use Rattle.al_tree.specs.Keys.{keys_in};
-ghost use Rattle.al_tree.specs.Values.{entries_at, member_of};
+ghost use Rattle.al_tree.specs.Values.{member_of};
 ghost use Rattle.al_types.specs.Strings.{named_strings};
 ghost use Rattle.al_yaml_tree.specs.Node as tree;
 ghost use Rattle.al_yaml_tree.specs.View.{view};
@@ -85,26 +84,6 @@ fn bare_type(types: &mut Types<'_>, made: &mut Option<Ty>) -> Result<Ty, AllocEr
     Ok(ty)
 }
 
-/// The type of a job that doesn't call a workflow.
-#[tactic(auto, using(al_base::proofs::Growing::growth, al_expr_types::proofs::Returned::begins_ok))]
-fn own_type<'a>(
-    types: &mut Types<'a>,
-    made: &mut Option<Ty>,
-    job: Member<'a>,
-) -> Result<Ty, AllocError>
-    requires { KeepsBare types.old made.old }
-    ensures made { Makes types.old types.new result
-        (shown_with (named_strings (keys_in (entries_at (codes "outputs") (view (job.entry).value.now))))) }
-    ensures keeps { OnOk result (KeepsBare types.new made.new) }
-{
-    let entries = members_under(types.alloc(), job.value, "outputs")?;
-    if entries.len() == 0 {
-        return bare_type(types, made);
-    }
-    let outputs = declared_strings(types, entries.as_slice())?;
-    shown_with(types, outputs)
-}
-
 impl JobTypes {
     /// No types yet, for this many lists of outputs and jobs.
     pub(crate) fn new(alloc: Global, calls: usize, jobs: usize) -> Result<JobTypes, AllocError>
@@ -124,6 +103,7 @@ impl JobTypes {
     }
 
     /// The type of a job.
+    #[tactic(auto, using(al_base::proofs::Growing::growth, al_expr_types::proofs::Returned::begins_ok))]
     fn type_of<'a>(
         &mut self,
         types: &mut Types<'a>,
@@ -144,7 +124,12 @@ impl JobTypes {
             let position = basis.outputs.position(Some(key_text(job.key)), None);
             return called_type(types, basis, &mut self.calls, position);
         }
-        own_type(types, &mut self.bare, job)
+        let entries = members_under(types.alloc(), job.value, "outputs")?;
+        if entries.len() == 0 {
+            return bare_type(types, &mut self.bare);
+        }
+        let outputs = declared_strings(types, entries.as_slice())?;
+        shown_with(types, outputs)
     }
 
     /// The type of the job at a position, which is made once.

@@ -1,5 +1,5 @@
 //! What is known of the outputs of calls.
-ghost use Rattle.std.specs.Prelude.{◌≡◌, IfOk, length, option_and_then, option_map};
+ghost use Rattle.std.specs.Prelude.{◌≡◌, IfOk, length, option_map};
 ghost use Rattle.std.specs.Option.{option_copied};
 ghost use Rattle.al_check_contexts.specs.Answered.{known_of};
 ghost use Rattle.al_check_contexts.specs.Lookups.{known_by, list_at, lists_of};
@@ -64,24 +64,12 @@ impl<'a> Outputs<'a> {
         self.lists.len()
     }
 
-    /// This position, or `unknown`.
-    fn or_unknown(&self, position: Option<usize>) -> usize
-        ensures { list_at self.now result ≡ option_and_then (list_at self.now) position }
-    {
-        match position {
-            Some(i) => i,
-            None => self.unknown_position(),
-        }
-    }
-
     /// The position of the list of the outputs of a call, or `unknown`. Calls with the same position have the same outputs.
     pub(crate) fn position(&self, job: Option<&'a [u8]>, step: Option<usize>) -> usize
         ensures { list_at self.now result ≡ known_by self.now (option_copied job.entry) step }
     {
-        match self.positions.get(&(job, step)) {
-            Some(position) => self.or_unknown(*position),
-            None => self.unknown_position(),
-        }
+        let found = self.positions.get(&(job, step)).copied();
+        found.flatten().unwrap_or(self.unknown_position())
     }
 
     /// The list of names at a position.

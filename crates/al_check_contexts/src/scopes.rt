@@ -23,18 +23,8 @@ const OF_ACTION: &[Context] = &[
     Context::Inputs,
 ];
 
-/// The special functions of an action: those that tell the status of the job so far are available only in conditions.
-fn special_in_action(is_condition: bool) -> &'static [Function]
-    ensures { result.now ≡ scopes.special_in_action is_condition }
-{
-    if is_condition {
-        &SPECIAL_FUNCTIONS
-    } else {
-        &[Function::HashFiles]
-    }
-}
-
-/// What a place with a row of the table makes available.
+/// What a place with a row of the table makes available. In an action the functions that tell the status of the job so far are available
+/// only in conditions.
 pub(crate) fn available_at(
     kind: FileKind,
     row: Option<&'static Row>,
@@ -43,20 +33,22 @@ pub(crate) fn available_at(
     ensures { available_of result
         ≡ scopes.available_at kind (option_map (λ r. row_view r.now) row.entry) is_condition }
 {
-    match kind {
-        FileKind::Workflow => match row {
-            Some(row) => Available {
-                contexts: row.contexts,
-                special: row.special,
-            },
-            None => Available {
-                contexts: &CONTEXTS,
-                special: &[],
-            },
+    match (kind, row) {
+        (FileKind::Workflow, Some(row)) => Available {
+            contexts: row.contexts,
+            special: row.special,
         },
-        FileKind::Action => Available {
+        (FileKind::Workflow, None) => Available {
+            contexts: &CONTEXTS,
+            special: &[],
+        },
+        (FileKind::Action, _) if is_condition => Available {
             contexts: OF_ACTION,
-            special: special_in_action(is_condition),
+            special: &SPECIAL_FUNCTIONS,
+        },
+        (FileKind::Action, _) => Available {
+            contexts: OF_ACTION,
+            special: &[Function::HashFiles],
         },
     }
 }

@@ -94,23 +94,15 @@ pub(crate) fn owner_at<'a>(
     ensures { option_map owner_view result
         ≡ owner_of kind (view root.entry.now) (option_map member_of job.entry) }
 {
-    match kind {
-        FileKind::Workflow => match job {
-            Some(job) => Some(Owner {
-                job: Some(key_text(job.key)),
-                steps: items_under(job.value, "steps"),
-            }),
-            None => None,
-        },
-        FileKind::Action => {
-            if is_composite(root) {
-                Some(Owner {
-                    job: None,
-                    steps: action_steps(root),
-                })
-            } else {
-                None
-            }
-        }
+    match (kind, job) {
+        (FileKind::Workflow, Some(job)) => Some(Owner {
+            job: Some(key_text(job.key)),
+            steps: items_under(job.value, "steps"),
+        }),
+        (FileKind::Action, _) if is_composite(root) => Some(Owner {
+            job: None,
+            steps: action_steps(root),
+        }),
+        _ => None,
     }
 }

@@ -155,7 +155,7 @@ impl<'a> StepFields<'a> {
         let all = self.counts.len().saturating_sub(1);
         match seen {
             Seen::Nothing => 0,
-            Seen::Before(n) => if n < all { n } else { all },
+            Seen::Before(n) => n.min(all),
             Seen::Everything => all,
         }
     }

@@ -1,15 +1,14 @@
-use Rattle.std.proofs.Common.{ap, sym, ◌∙◌, Some, None}
-use Rattle.std.specs.Option.{option_copied}
-use Rattle.al_check_contexts.specs.Lookups.{lists_of}
-use Rattle.al_check_contexts.proofs.Found.{names_found, none_after}
+use Rattle.std.proofs.Common.{ap, sym, ◌∙◌}
+use Rattle.std.specs.Option.{option_copied, option_flatten}
+use Rattle.std.specs.Prelude.{unwrap_or}
+use Rattle.al_check_contexts.specs.Lookups.{list_at, lists_of}
+use Rattle.al_check_contexts.proofs.Found.{names_found, or_none}
 use Rattle.al_check_contexts.proofs.known.Outputs.position.Goals as goal
 
-pub returns-in-Some : goal.returns-in-Some
-returns-in-Some c =
-    c.or_unknown.ensures
-    ∙ sym (names_found c.args.self.now c.args.job c.args.step (Some c.in-Some.position.now) (sym (ap option_copied c.in-Some.is) ∙ c.get.ensures.value))
-
-pub returns-in-None : goal.returns-in-None
-returns-in-None c =
-    none_after (lists_of c.args.self.now) c.unknown_position.result c.unknown_position.ensures
-    ∙ sym (names_found c.args.self.now c.args.job c.args.step None (sym (ap option_copied c.in-None.is) ∙ c.get.ensures.value))
+pub returns : goal.returns
+returns c =
+    let outputs = c.args.self.now in
+    let found = option_copied c.get.result in
+    ap (list_at outputs) (c.unwrap_or.ensures ∙ ap (λ o. unwrap_or o c.unknown_position.result) (c.flatten.ensures ∙ ap option_flatten c.copied-found.ensures))
+    ∙ or_none (lists_of outputs) c.unknown_position.result found c.unknown_position.ensures
+    ∙ sym (names_found outputs c.args.job c.args.step found c.get.ensures.value)
