@@ -48,14 +48,6 @@ struct Walk<'a> {
     found: Vec<Place<'a>>,
 }
 
-/// What the place of a node requires.
-#[derive(Clone, Copy)]
-struct Demand {
-    shape: Shape,
-    /// Whether the node is an item of a sequence.
-    is_item: bool,
-}
-
 /// The rule of a shape; one that isn't checked accepts anything.
 fn rule_at(shape: Shape) -> Rule
     ensures { rule_view result ≡ rule_or_any (table_rule shape) }
@@ -102,12 +94,13 @@ fn place_at<'a>(walk: &Walk<'a>, is_scalar_only: bool, scalar: ScalarNode<'a>) -
 
 /// Adds the place of a scalar, if it is checked and has an expression.
 fn find_scalar<'a>(
-    demand: Demand,
+    shape: Shape,
+    is_item: bool,
     scalar: ScalarNode<'a>,
     walk: &mut Walk<'a>,
 ) -> Result<(), AllocError>
     ensures found { OnOk result (places_in walk.new ≡ places_in walk.old
-        ++ scalar_places walk.old.kind (rule_or_any (table_rule demand.shape)) demand.is_item
+        ++ scalar_places walk.old.kind (rule_or_any (table_rule shape)) is_item
         (way_in walk.old) (scalar.entry).scalar.now (scalar.entry).span) }
     ensures way { OnOk result (walk.new.way.steps.items ≡ walk.old.way.steps.items) }
     ensures kind { OnOk result (walk.new.kind ≡ walk.old.kind) }
@@ -116,25 +109,30 @@ fn find_scalar<'a>(
     if !is_condition(&walk.way) && !contains_chunk(scalar.scalar.text()) {
         return Ok(());
     }
-    let rule = rule_at(demand.shape);
+    let rule = rule_at(shape);
     if is_null_scalar(scalar.scalar) || scalar_fault(rule.scalars, scalar.scalar).is_some() {
         return Ok(());
     }
     if !is_checked(walk.kind, &walk.way) {
         return Ok(());
     }
-    let is_scalar_only = takes_scalars_only(rule) && !demand.is_item;
+    let is_scalar_only = takes_scalars_only(rule) && !is_item;
     let place = place_at(walk, is_scalar_only, scalar);
     walk.found.push(place)?;
     Ok(())
 }
 
-/// Adds the places of a node, given what its place requires.
+/// Adds the places of a node that should have a shape, and that may be an item of a sequence.
 #[tactic(auto, using(crate::proofs::Nodes::places_of_sequence, crate::proofs::Nodes::places_of_mapping))]
 #[cycle(finds)]
-fn find<'a>(demand: Demand, node: &'a Node, walk: &mut Walk<'a>) -> Result<(), AllocError>
+fn find<'a>(
+    shape: Shape,
+    is_item: bool,
+    node: &'a Node,
+    walk: &mut Walk<'a>,
+) -> Result<(), AllocError>
     ensures found { OnOk result (places_in walk.new ≡ places_in walk.old
-        ++ places_of_node walk.old.kind demand.shape demand.is_item (way_in walk.old) (view node.now)) }
+        ++ places_of_node walk.old.kind shape is_item (way_in walk.old) (view node.now)) }
     ensures way { OnOk result (walk.new.way.steps.items ≡ walk.old.way.steps.items) }
     ensures kind { OnOk result (walk.new.kind ≡ walk.old.kind) }
 {
@@ -144,18 +142,18 @@ fn find<'a>(demand: Demand, node: &'a Node, walk: &mut Walk<'a>) -> Result<(), A
                 scalar,
                 span: node.span,
             };
-            find_scalar(demand, scalar, walk)
+            find_scalar(shape, is_item, scalar, walk)
         }
-        Kind::Sequence(nodes) => match rule_at(demand.shape).items {
+        Kind::Sequence(nodes) => match rule_at(shape).items {
             None => Ok(()),
             Some(inner) => find_items(inner, nodes.as_slice(), walk),
         },
         Kind::Mapping(entries) => find_entries(
-            rule_at(refine(demand.shape, entries.as_slice())).keys,
+            rule_at(refine(shape, entries.as_slice())).keys,
             entries.as_slice(),
             walk,
         ),
-        Kind::Shared(inner) => find(demand, inner, walk),
+        Kind::Shared(inner) => find(shape, is_item, inner, walk),
     }
 }
 
@@ -169,12 +167,8 @@ fn find_items<'a>(shape: Shape, nodes: &'a [Node], walk: &mut Walk<'a>) -> Resul
 {
     let mut i = 0;
     for node in nodes {
-        let demand = Demand {
-            shape,
-            is_item: true,
-        };
         walk.way.enter_item(i)?;
-        find(demand, node, walk)?;
+        find(shape, true, node, walk)?;
         walk.way.leave();
         i += 1;
     }
@@ -239,12 +233,8 @@ fn find_entry<'a>(
     let Standing::Expected(shape, _) = standing else {
         return Ok(());
     };
-    let demand = Demand {
-        shape,
-        is_item: false,
-    };
     walk.way.enter_value(key_of(entry))?;
-    find(demand, &entry.value, walk)?;
+    find(shape, false, &entry.value, walk)?;
     walk.way.leave();
     Ok(())
 }
@@ -255,16 +245,12 @@ fn find_entry<'a>(
 pub fn places(alloc: Global, kind: FileKind, root: &Node) -> Result<Vec<Place<'_>>, AllocError>
     ensures { IfOk result (λ v. map place_of v.items ≡ places_of kind (view root.now)) }
 {
-    let demand = Demand {
-        shape: root_shape(kind),
-        is_item: false,
-    };
     let mut walk = Walk {
         alloc,
         kind,
         way: Way::new(alloc),
         found: Vec::new(alloc),
     };
-    find(demand, root, &mut walk)?;
+    find(root_shape(kind), false, root, &mut walk)?;
     Ok(walk.found)
 }
