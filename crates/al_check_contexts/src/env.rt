@@ -57,8 +57,7 @@ fn is_same_section(a: Section<'_>, b: Section<'_>) -> bool
     ensures { IsTrue result → section_view a.entry ≡ section_view b.entry }
 {
     match (a, b) {
-        (Section::Apart, Section::Apart) => true,
-        (Section::On, Section::On) => true,
+        (Section::Apart, Section::Apart) | (Section::On, Section::On) => true,
         (Section::Job(x), Section::Job(y)) => x == y,
         _ => false,
     }

@@ -97,14 +97,12 @@ fn and_step<'a>(
     ensures keeps { OnOk result (Keeps types.new (step_at basis.now.outputs) made.new) }
     ensures kept { OnOk result (BeginsWith (objects_of types.new) (objects_of types.old)) }
 {
-    match text_under(step.node, "id") {
-        None => Ok(fields),
-        Some(id) => {
-            let position = basis.outputs.position(step.job, Some(step.index));
-            let ty = step_type(types, basis, made, position)?;
-            fields.and(id.scalar.text(), ty)
-        }
-    }
+    let Some(id) = text_under(step.node, "id") else {
+        return Ok(fields);
+    };
+    let position = basis.outputs.position(step.job, Some(step.index));
+    let ty = step_type(types, basis, made, position)?;
+    fields.and(id.scalar.text(), ty)
 }
 
 impl<'a> StepFields<'a> {
