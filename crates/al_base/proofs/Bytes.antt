@@ -1,14 +1,12 @@
 -- Lemmas about what a sequence of writes appends.
-use Rattle.std.proofs.lemmas.List.{take_more, take-append-drop, take_rest}
+use Rattle.std.proofs.lemmas.List.{take_more, take-append-drop, take_rest, take-append-le}
 use Rattle.std.proofs.lemmas.Grind.{flat_map-append}
 use Rattle.std.proofs.lemmas.List.Concat.{flat_map_single}
 use Rattle.std.specs.List.{flat_map}
 use Rattle.std.proofs.Common.{◌<◌, [], ◌∷◌, get_or, map, ◌≡◌, ℕ, ◌+◌, ◌-◌, ◌≤◌, List, ◌++◌, length, take, drop, sym, subst, ap, ◌∙◌, arith, Option, None, Some, length-append, append-nil}
 use Rattle.std.proofs.Math.Seq.{take-add, take-length, take-append-add}
-use Rattle.std.proofs.lemmas.List.{take-append-le}
-use Rattle.std.specs.Io.KnownBytes.{Appends}
+use Rattle.std.specs.Io.KnownBytes.{Appends, Keeps}
 use Rattle.std.proofs.KnownBytes.{Appends-trans}
-use Rattle.std.specs.Io.KnownBytes.{Keeps}
 use Rattle.al_base.specs.Counted.{AppendsPrefix}
 
 -- a prefix of length k, and then n bytes of the rest

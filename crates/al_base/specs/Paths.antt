@@ -1,6 +1,5 @@
 -- What the path of a file in a folder is: parts with single slashes between them, none of them `.` or `..`.
-use Rattle.std.specs.Prelude.{ℕ, Bool, codes, ◌||◌, ◌==◌, nat_lt, List, [], ◌∷◌, length, slice_index, Option, None, Some}
-use Rattle.std.specs.Prelude.{if◌then◌else◌}
+use Rattle.std.specs.Prelude.{ℕ, Bool, codes, ◌||◌, ◌==◌, nat_lt, List, [], ◌∷◌, length, slice_index, Option, None, Some, if◌then◌else◌}
 use Rattle.std.specs.Char.{is_ascii_control}
 use Rattle.std.specs.List.{list_any, slice_split}
 use Rattle.std.specs.Str.{bytes_eq}

@@ -1,8 +1,7 @@
 //! Lines and columns, counted from the file's start.
 ghost use Rattle.std.specs.Prelude.{◌≡◌, ◌≤◌, length, ◌<◌};
 ghost use Rattle.al_base.specs.Limits.{largest_file};
-ghost use Rattle.al_base.specs.Positions.{line_at, column_at, ends_break, begins_char};
-ghost use Rattle.al_base.specs.Positions.{BeginsLine};
+ghost use Rattle.al_base.specs.Positions.{line_at, column_at, ends_break, begins_char, BeginsLine};
 
 /// The location of an offset: its line and column, both from 1, and the offset at which that line begins.
 #[derive(Clone, Copy)]

@@ -21,6 +21,15 @@ pub struct FaultAt {
     pub at: usize,
 }
 
+impl FaultAt {
+    /// A fault at an offset.
+    pub fn new(code: YamlCode, at: usize) -> FaultAt
+        ensures { result ≡ record { code = code; at = at } }
+    {
+        FaultAt { code, at }
+    }
+}
+
 /// A fault at the character that begins at an offset, or at the end of the file.
 pub fn fault_at(bytes: &[u8], at: usize, code: YamlCode) -> YamlFault
     requires inside { at ≤ length bytes.now }

@@ -9,11 +9,10 @@ use Rattle.al_scalar.specs.Line.{start}
 use Rattle.al_scalar.specs.Places.{lines_at}
 use Rattle.al_scalar.proofs.RestLemmas.{start-at}
 use Rattle.al_yaml_tree.specs.Content.{anchor_name, after_name}
-use Rattle.al_yaml_parts.specs.Reads.{alias_part}
+use Rattle.al_yaml_parts.specs.Reads.{alias_part, State, run, run_outcome, start_with, FailsWith}
 use Rattle.al_yaml_parts.specs.declared.faults.ReadError.{ReadError}
 use Rattle.al_yaml_parts.proofs.ReadLemmas.{bind-ok, stops-bind, stops-from}
 use Rattle.al_yaml_tree.specs.Reading.{Reading, Part, part, gives, ◌>>=◌, Anchor, alias, alias_of, alias_start, deepest}
-use Rattle.al_yaml_parts.specs.Reads.{State, run, run_outcome, start_with, FailsWith}
 use Rattle.al_yaml_parts.proofs.RunLemmas.{run-fails, run-gives, run-any_start, run-broken_start}
 
 pub run-alias : (s : State) (name : List ℕ) (at depth : ℕ) (o : Option Anchor) → s.known name ≡ o → run s (alias name at depth) ≡ run s (alias_of o at depth)

@@ -1,4 +1,5 @@
 -- Keys against offsets: their lines, their characters, and the colons after them.
+use Rattle.std.specs.Bool.{then_some}
 use Rattle.std.proofs.Common.{◌≡◌, ◌≢◌, ℕ, suc, ◌+◌, ◌-◌, ◌<◌, ◌≤◌, List, [], ◌∷◌, drop, length, slice_index, refl, sym, ap, subst, ◌∙◌, arith, Bool, true, false, ◌&&◌, ◌||◌, ◌==◌, cond, Some, None}
 use Rattle.std.specs.Prelude.{nat_le, nat_lt}
 use Rattle.std.proofs.lemmas.Grind.{common_steps}
@@ -191,6 +192,10 @@ no_blank : (t : List Cell) → begins 58 t ≡ true → begins_blank t ≡ false
 no_blank [] h = refl
 no_blank (c ∷ cs) h = let e : c.0 ≡ 58 = eqb-true c.0 58 h in rw e refl
 
+pub no-value : (p : Context) (t : List Cell) → false ≡ begins 58 t → false ≡ is_value_colon p t
+no-value p [] h = refl
+no-value p (c ∷ cs) h = ap (λ b. b && ends_key p cs) h
+
 begins-value : (p : Context) (t : List Cell) → true ≡ is_value_colon p t → begins 58 t ≡ true
 begins-value p [] h = absurd (never (sym h))
 begins-value p (c ∷ cs) h = (and_parts (c.0 == 58) (ends_key p cs) (sym h)).0
@@ -211,11 +216,9 @@ module _ (bytes : List ℕ) (at solid : ℕ) (from : at ≤ solid) (inside : sol
       let value : (b || is_value_colon p (after_blanks (text_at bytes at))) ≡ true = or_right b _ (ap (is_value_colon p) text_solid ∙ sym h) in
       (ap (λ x. cond x (Some (past 1 (blanks_dropped (lines_at bytes at)))) None) value ∙ ap (λ ls. Some (past 1 ls)) e ∙ ap Some both.0, omega arith, omega arith)
 
-  pub block_found : true ≡ is_value_colon (block 0) (text_at bytes solid) → IsColon (block_reads.after_colon_in_block (lines_at bytes at)) bytes at (Some (solid + 1))
-  block_found h = found_by (block 0) false h
-
-  pub block_missed : false ≡ is_value_colon (block 0) (text_at bytes solid) → block_reads.after_colon_in_block (lines_at bytes at) ≡ None
-  block_missed h = ap (λ b. cond b (Some (past 1 (blanks_dropped (lines_at bytes at)))) None) (ap (is_value_colon (block 0)) text_solid ∙ sym h)
+  pub block-by : (b : Bool) → b ≡ is_value_colon (block 0) (text_at bytes solid) → IsColon (block_reads.after_colon_in_block (lines_at bytes at)) bytes at (then_some b (solid + 1))
+  block-by true h = found_by (block 0) false h
+  block-by false h = ap (λ b. cond b (Some (past 1 (blanks_dropped (lines_at bytes at)))) None) (ap (is_value_colon (block 0)) text_solid ∙ sym h)
 
   pub flow_found : (q : Bool) → true ≡ is_value_colon flow (text_at bytes solid) → IsColon (items.after_colon_in_flow q (lines_at bytes at)) bytes at (Some (solid + 1))
   flow_found q h = found_by flow (q && begins 58 (text_at bytes at)) h

@@ -3,8 +3,7 @@ use Rattle.std.proofs.Common.{◌≡◌, ℕ, List, refl, sym, ap, ◌∙◌, Op
 use Rattle.al_yaml_tree.specs.Node as tree
 use Rattle.al_yaml_tree.specs.Node.{Node}
 use Rattle.al_yaml_tree.specs.Reading.{Reading, Part, part, gives_with_anchor, gives, fails, with_span, ◌>>=◌}
-use Rattle.al_yaml_parts.specs.Answers.{Answer, Mark, then_read, noting}
-use Rattle.al_yaml_parts.specs.Answers.{completing, mark_of}
+use Rattle.al_yaml_parts.specs.Answers.{Answer, Mark, then_read, noting, completing, mark_of}
 use Rattle.al_scalar.specs.declared.faults.FaultAt.{FaultAt}
 use Rattle.al_yaml_parts.specs.Reads.{State, run, FailsWith, anchor_at, state_with_anchor_at, part_of}
 use Rattle.al_yaml_tree.specs.View.{view}

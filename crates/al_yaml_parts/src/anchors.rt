@@ -6,8 +6,7 @@ ghost use Rattle.al_yaml_tree.specs.Content as content;
 ghost use Rattle.al_yaml_parts.specs.Files.{left_at, size};
 ghost use Rattle.al_yaml_tree.specs.Reading as reading;
 ghost use Rattle.al_yaml_tree.specs.Reading.{with_anchor, no_anchors};
-ghost use Rattle.al_yaml_parts.specs.Reads.{IsRead, IsStopInside, anchor_at, anchors_view, is_later};
-ghost use Rattle.al_yaml_parts.specs.Reads.{state_of};
+ghost use Rattle.al_yaml_parts.specs.Reads.{IsRead, IsStopInside, anchor_at, anchors_view, is_later, state_of};
 ghost use Rattle.al_yaml_tree.specs.View.{view};
 ghost use Rattle.std.specs.Prelude.{IfErr, IfOk, length, true, ◌+◌, ◌<◌, ◌≡◌, ◌≤◌};
 

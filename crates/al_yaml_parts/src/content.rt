@@ -62,10 +62,7 @@ pub fn next_content(bytes: &[u8], at: usize) -> Result<Next, FaultAt>
     let indent = indent(bytes, line);
     let solid = line + indent;
     if begins(bytes, solid, b'\t') {
-        return Err(FaultAt {
-            code: YamlCode::TabInIndentation,
-            at: solid,
-        });
+        return Err(FaultAt::new(YamlCode::TabInIndentation, solid));
     }
     Ok(Next::Line { indent, at: solid })
 }
@@ -82,10 +79,7 @@ pub fn line_after(bytes: &[u8], at: usize) -> Result<usize, FaultAt>
     if is_text_end(bytes, solid) || is_blank_or_end(bytes, at) && begins(bytes, solid, b'#') {
         return Ok(next_line(bytes, at));
     }
-    Err(FaultAt {
-        code: YamlCode::UnexpectedCharacter,
-        at: solid,
-    })
+    Err(FaultAt::new(YamlCode::UnexpectedCharacter, solid))
 }
 
 /// Whether the dash of a block sequence's entry is at an offset.
@@ -104,10 +98,7 @@ pub fn first_tab(bytes: &[u8], at: usize) -> Option<usize>
     ensures inside { IfSome result (λ tab. tab ≤ length bytes.now) }
 {
     let solid = at + indent(bytes, at);
-    if begins(bytes, solid, b'\t') {
-        return Some(solid);
-    }
-    None
+    begins(bytes, solid, b'\t').then_some(solid)
 }
 
 /// Whether a gap continues on the next line.

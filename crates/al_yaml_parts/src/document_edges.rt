@@ -23,10 +23,7 @@ pub fn document_start(bytes: &[u8], at: usize) -> Result<usize, FaultAt>
 {
     let line = next_text_line(bytes, at);
     if begins(bytes, line, b'%') {
-        return Err(FaultAt {
-            code: YamlCode::Directive,
-            at: line,
-        });
+        return Err(FaultAt::new(YamlCode::Directive, line));
     }
     if is_marker(bytes, line, b'-') {
         return line_after(bytes, line + 3);
@@ -46,25 +43,16 @@ pub fn document_end(bytes: &[u8], at: usize) -> Result<(), FaultAt>
         return Ok(());
     }
     if is_marker(bytes, line, b'-') {
-        return Err(FaultAt {
-            code: YamlCode::SecondDocument,
-            at: line,
-        });
+        return Err(FaultAt::new(YamlCode::SecondDocument, line));
     }
     if is_marker(bytes, line, b'.') {
         return check_nothing_after(bytes, line + 3);
     }
     let solid = line + indent(bytes, line);
     if begins(bytes, solid, b'\t') {
-        return Err(FaultAt {
-            code: YamlCode::TabInIndentation,
-            at: solid,
-        });
+        return Err(FaultAt::new(YamlCode::TabInIndentation, solid));
     }
-    Err(FaultAt {
-        code: YamlCode::WrongIndentation,
-        at: solid,
-    })
+    Err(FaultAt::new(YamlCode::WrongIndentation, solid))
 }
 
 /// Checks that no content follows `...`, neither on its line nor on a later one.
@@ -77,8 +65,5 @@ fn check_nothing_after(bytes: &[u8], at: usize) -> Result<(), FaultAt>
     if line == bytes.len() {
         return Ok(());
     }
-    Err(FaultAt {
-        code: YamlCode::SecondDocument,
-        at: blanks_end(bytes, line),
-    })
+    Err(FaultAt::new(YamlCode::SecondDocument, blanks_end(bytes, line)))
 }

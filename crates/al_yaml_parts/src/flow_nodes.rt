@@ -6,12 +6,9 @@ ghost use Rattle.al_scalar.specs.Places.{lines_at, text_at};
 ghost use Rattle.al_yaml_parts.specs.Files.{left_at, size};
 ghost use Rattle.al_yaml_tree.specs.Flow as flow;
 ghost use Rattle.al_yaml_tree.specs.Content as content;
-ghost use Rattle.al_yaml_parts.specs.FlowReads.{Finds, FindsKey, IsBare, IsFound, IsFoundKey, flow_slot};
-ghost use Rattle.al_yaml_parts.specs.Reads.{alias_part};
+ghost use Rattle.al_yaml_parts.specs.FlowReads.{Finds, FindsKey, IsBare, IsFound, IsFoundKey, flow_slot, IsColonInside, IsKeyInside};
+ghost use Rattle.al_yaml_parts.specs.Reads.{alias_part, IsPartAfter, IsRead, IsStopInside, state_with_anchor_at, part_of, state_of};
 ghost use Rattle.al_yaml_parts.specs.Places.{IsReadInside, Shows, option_lines};
-ghost use Rattle.al_yaml_parts.specs.Reads.{IsPartAfter, IsRead, IsStopInside};
-ghost use Rattle.al_yaml_parts.specs.FlowReads.{IsColonInside, IsKeyInside};
-ghost use Rattle.al_yaml_parts.specs.Reads.{state_with_anchor_at, part_of, state_of};
 ghost use Rattle.al_yaml_parts.specs.FlowReads.{flow_key_of};
 ghost use Rattle.al_yaml_tree.specs.View.{view};
 ghost use Rattle.std.specs.Prelude.{IfErr, IfOk, IfSome, false, length, true, ℕ, ◌<◌, ◌||◌, ◌≡◌, ◌≤◌};
@@ -198,13 +195,8 @@ fn read_flow_property(
     if begins(file.bytes, at, b'*') {
         return Ok(FoundNode::Node(read_alias(file, state, at, depth)?));
     }
-    let found = read_after_anchor(
-        file,
-        state,
-        slot,
-        gap_end(file.bytes, property_end(file.bytes, at)),
-    )?;
-    match found {
+    let start = gap_end(file.bytes, property_end(file.bytes, at));
+    match read_after_anchor(file, state, slot, start)? {
         FoundNode::Node(part) => Ok(FoundNode::Node(complete(file, state, Some(at), part)?)),
         FoundNode::Opens(bracket) => Ok(FoundNode::Opens(Bracket {
             at: bracket.at,
@@ -264,8 +256,7 @@ fn read_after_anchor(
         let Some(empty) = slot.empty else {
             return Err(ReadError::at(YamlCode::UnexpectedCharacter, at));
         };
-        let part = empty_part(file, state, empty, at)?;
-        return Ok(FoundNode::Node(part));
+        return Ok(FoundNode::Node(empty_part(file, state, empty, at)?));
     }
     if let Some(code) = flow_fault(file.bytes, at) {
         return Err(ReadError::at(code, at));
@@ -327,8 +318,7 @@ pub fn read_flow_value(
         return Err(ReadError::at(YamlCode::UnclosedFlow, opening));
     }
     if ends_value(file.bytes, at) {
-        let part = empty_part(file, state, colon, at)?;
-        return Ok(FoundNode::Node(part));
+        return Ok(FoundNode::Node(empty_part(file, state, colon, at)?));
     }
     let slot = FlowSlot {
         opening,

@@ -45,10 +45,7 @@ pub fn is_short_key(bytes: &[u8], at: usize, read: &ScalarRead) -> bool
 {
     let end = read.span.end as usize;
     // no more characters than bytes
-    if end - at <= LONGEST_KEY {
-        return true;
-    }
-    characters(bytes, at, end) <= LONGEST_KEY
+    end - at <= LONGEST_KEY || characters(bytes, at, end) <= LONGEST_KEY
 }
 
 /// The offset after the colon that separates a block mapping's key from its value, if one follows.
@@ -57,13 +54,7 @@ pub fn after_colon(bytes: &[u8], at: usize) -> Option<usize>
     ensures { IsColon (block_reads.after_colon_in_block (lines_at bytes.now at)) bytes.now at result }
 {
     let solid = blanks_end(bytes, at);
-    if !begins(bytes, solid, b':') {
-        return None;
-    }
-    if !is_blank_or_end(bytes, solid + 1) {
-        return None;
-    }
-    Some(solid + 1)
+    (begins(bytes, solid, b':') && is_blank_or_end(bytes, solid + 1)).then_some(solid + 1)
 }
 
 /// Whether a colon follows that separates a block mapping's key from its value.
@@ -182,10 +173,7 @@ pub fn property_fault(file: &File, at: usize) -> Result<YamlCode, AllocError>
     requires property { content.is_property (text_at file.now.bytes.now at) ≡ true }
     ensures { IfOk result (λ code. code ≡ keys.property_fault (left_at file.now at)) }
 {
-    if has_no_name(file.bytes, at) {
-        return Ok(YamlCode::UnexpectedCharacter);
-    }
-    if is_on_key(file, at)? {
+    if !has_no_name(file.bytes, at) && is_on_key(file, at)? {
         return Ok(YamlCode::AnchorOrAlias);
     }
     Ok(YamlCode::UnexpectedCharacter)

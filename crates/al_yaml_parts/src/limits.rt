@@ -51,16 +51,10 @@ impl State {
         let nodes = self.nodes.saturating_add(more);
         let text = self.text.saturating_add(text);
         if nodes > MOST_NODES || text > MOST_ALIAS_TEXT {
-            return Err(FaultAt {
-                code: YamlCode::TooManyNodes,
-                at,
-            });
+            return Err(FaultAt::new(YamlCode::TooManyNodes, at));
         }
         if depth > DEEPEST_COLLECTION {
-            return Err(FaultAt {
-                code: YamlCode::NestingTooDeep,
-                at,
-            });
+            return Err(FaultAt::new(YamlCode::NestingTooDeep, at));
         }
         self.nodes = nodes;
         self.text = text;

@@ -86,12 +86,8 @@ pub fn read_line_scalar(
     ensures within { IfOk result (λ part. IsPartAfter file.now.bytes.now at part) }
 {
     state.start(at, 1, 0)?;
-    let read = scalar_at(
-        file.alloc,
-        file.bytes,
-        at,
-        ScalarContext::BlockFromIndent(within as u32),
-    )?;
+    let place = ScalarContext::BlockFromIndent(within as u32);
+    let read = scalar_at(file.alloc, file.bytes, at, place)?;
     // a block scalar ends with its last line
     if is_block_start(file.bytes, at) {
         let next = read.next;

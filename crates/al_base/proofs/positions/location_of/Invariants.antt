@@ -1,6 +1,5 @@
 use Rattle.std.proofs.Common.{◌≡◌, ◌≤◌, ◌+◌}
-use Rattle.al_base.specs.Positions.{line_at, column_at}
-use Rattle.al_base.specs.Positions.{BeginsLine}
+use Rattle.al_base.specs.Positions.{line_at, column_at, BeginsLine}
 use Rattle.al_base.proofs.positions.location_of.Given as goal
 
 abbrev pub invariant-loop-at : goal.invariant-loop-at

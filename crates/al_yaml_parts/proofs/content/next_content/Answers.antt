@@ -22,6 +22,7 @@ returns-then-begins-clause-is c =
     let text = line.ensures.text (omega (arith, line.ensures.inside, c.if-line-bytes.false)) in
     let here = start-at c.args.bytes.now (line.result + c.indent-indent.result) c.indent-indent.ensures.inside in
     rw (
+      c.new.ensures,
       line.ensures.lines,
       ← skipped-solid (text_at c.args.bytes.now line.result) text,
       ← c.if-is_document_marker.ensures,

@@ -14,4 +14,4 @@ returns-clause-is c =
     let text = c.next_text_line-line.ensures.text (omega (arith, c.next_text_line-line.ensures.inside, c.if-line-bytes.false)) in
     let solid = skipped-solid (text_at c.args.bytes.now c.next_text_line-line.result) text in
     let here = start-at c.args.bytes.now c.blanks_end.result c.blanks_end.ensures.inside in
-    rw (c.next_text_line-line.ensures.lines, ← solid, c.blanks_end.ensures.dropped, here) refl
+    rw (c.new.ensures, c.next_text_line-line.ensures.lines, ← solid, c.blanks_end.ensures.dropped, here) refl

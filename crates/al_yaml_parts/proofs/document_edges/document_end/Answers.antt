@@ -14,7 +14,7 @@ pub returns-then-is_marker-clause-is : goal.returns-then-is_marker-clause-is
 returns-then-is_marker-clause-is c =
     let line = c.next_text_line-line in
     let text = line.ensures.text (omega (arith, line.ensures.inside, c.if-line-bytes.false)) in
-    rw (line.ensures.lines, ← skipped-solid (text_at c.args.bytes.now line.result) text, ← c.if-is_marker.ensures, start-at c.args.bytes.now line.result line.ensures.inside) refl
+    rw (c.new.ensures, line.ensures.lines, ← skipped-solid (text_at c.args.bytes.now line.result) text, ← c.if-is_marker.ensures, start-at c.args.bytes.now line.result line.ensures.inside) refl
 
 pub check_nothing_after-requires : goal.check_nothing_after-requires
 check_nothing_after-requires c =
@@ -39,6 +39,7 @@ returns-then-begins-clause-is c =
     let text = line.ensures.text (omega (arith, line.ensures.inside, c.if-line-bytes.false)) in
     let here = start-at c.args.bytes.now (line.result + c.indent.result) c.indent.ensures.inside in
     rw (
+      c.new-then-begins.ensures,
       line.ensures.lines,
       ← skipped-solid (text_at c.args.bytes.now line.result) text,
       ← c.if-is_marker.ensures,
@@ -54,6 +55,7 @@ returns-clause-is c =
     let text = line.ensures.text (omega (arith, line.ensures.inside, c.if-line-bytes.false)) in
     let here = start-at c.args.bytes.now (line.result + c.indent.result) c.indent.ensures.inside in
     rw (
+      c.new-2.ensures,
       line.ensures.lines,
       ← skipped-solid (text_at c.args.bytes.now line.result) text,
       ← c.if-is_marker.ensures,

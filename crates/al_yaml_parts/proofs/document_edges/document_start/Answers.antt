@@ -6,7 +6,7 @@ use Rattle.al_yaml_parts.proofs.document_edges.document_start.Goals as goal
 pub returns-then-begins-clause-is : goal.returns-then-begins-clause-is
 returns-then-begins-clause-is c =
     let line = c.next_text_line-line in
-    rw (line.ensures.lines, ← c.if-begins.ensures.value, start-at c.args.bytes.now line.result line.ensures.inside) refl
+    rw (c.new.ensures, line.ensures.lines, ← c.if-begins.ensures.value, start-at c.args.bytes.now line.result line.ensures.inside) refl
 
 pub line_after-requires : goal.line_after-requires
 line_after-requires c =

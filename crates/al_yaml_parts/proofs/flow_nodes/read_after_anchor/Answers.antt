@@ -14,22 +14,22 @@ returns-in_default-clause-is c = λ depth col.
     rw (c.at-in_default.ensures.is, ← c.if-is_text_end.ensures.text, ← c.if-ends_value.ensures, c.in_default.is, start-at c.args.file.now.bytes.now c.args.at c.requires.inside)
     (run-fails _ _ _)
 
-pub returns-in_err-part-clause-is : goal.returns-in_err-part-clause-is
-returns-in_err-part-clause-is c = λ depth.
+pub returns-in_err-empty_part-clause-is : goal.returns-in_err-empty_part-clause-is
+returns-in_err-empty_part-clause-is c = λ depth.
     let p = err_from_is_err_and c.from_residual.result c.from_residual.ensures.1 in
-    rw (p.1, p.2) (λ col. rw (← c.if-is_text_end.ensures.text, ← c.if-ends_value.ensures, c.in-Some.is) c.in_err-part.ensures.is)
+    rw (p.1, p.2) (λ col. rw (← c.if-is_text_end.ensures.text, ← c.if-ends_value.ensures, c.in-Some.is) c.in_err-empty_part.ensures.is)
 
 pub returns-then-ends_value-clause-is : goal.returns-then-ends_value-clause-is
 returns-then-ends_value-clause-is c = λ depth col.
-    rw (← c.if-is_text_end.ensures.text, ← c.if-ends_value.ensures, c.in-Some.is) c.in_ok-part.ensures.is
+    rw (← c.if-is_text_end.ensures.text, ← c.if-ends_value.ensures, c.in-Some.is) c.in_ok-empty_part.ensures.is
 
 pub returns-then-ends_value-clause-within : goal.returns-then-ends_value-clause-within
 returns-then-ends_value-clause-within c =
     let e = rw c.in-Some.is at c.requires.empty in
     record {
-      from = omega (arith, c.in_ok-part.ensures.next);
-      inside = omega (arith, c.in_ok-part.ensures.next, c.requires.inside);
-      end = omega (arith, c.in_ok-part.ensures.end, e, c.requires.inside);
+      from = omega (arith, c.in_ok-empty_part.ensures.next);
+      inside = omega (arith, c.in_ok-empty_part.ensures.next, c.requires.inside);
+      end = omega (arith, c.in_ok-empty_part.ensures.end, e, c.requires.inside);
     }
 
 pub returns-in-Some-flow_fault-clause-is : goal.returns-in-Some-flow_fault-clause-is

@@ -1,15 +1,14 @@
-use Rattle.std.proofs.Common.{false, true}
-use Rattle.al_yaml_parts.proofs.KeyLemmas.{block-ends, block_found, block_missed}
+use Rattle.std.proofs.Common.{◌∙◌}
+use Rattle.al_scalar.specs.Places.{text_at}
+use Rattle.al_scalar.specs.Plain.{block}
+use Rattle.al_yaml_parts.proofs.KeyLemmas.{block-by, block-ends, no-value}
+use Rattle.al_yaml_parts.proofs.keys.after_colon.Goals.{then-begins, else-begins}
 use Rattle.al_yaml_parts.proofs.keys.after_colon.Goals as goal
-
-pub returns-then-not-is_blank_or_end : goal.returns-then-not-is_blank_or_end
-returns-then-not-is_blank_or_end c =
-    let solid = c.blanks_end-solid in
-    block_missed c.args.bytes.now c.args.at solid.result solid.ensures.from solid.ensures.inside solid.ensures.dropped
-    (block-ends c.args.bytes.now solid.result solid.ensures.inside c.if-not-begins.ensures.value false c.if-not-is_blank_or_end.ensures)
 
 pub returns : goal.returns
 returns c =
     let solid = c.blanks_end-solid in
-    block_found c.args.bytes.now c.args.at solid.result solid.ensures.from solid.ensures.inside solid.ensures.dropped
-    (block-ends c.args.bytes.now solid.result solid.ensures.inside c.if-not-begins.ensures.value true c.if-not-is_blank_or_end.ensures)
+    rw c.then_some.ensures (block-by c.args.bytes.now c.args.at solid.result solid.ensures.from solid.ensures.inside solid.ensures.dropped c.if-begins.then_some (elim c.if-begins.branch [
+      | then-begins w ↦ rw w.then_some-is (block-ends c.args.bytes.now solid.result solid.ensures.inside w.if-begins.ensures.value w.is_blank_or_end.result w.is_blank_or_end.ensures)
+      | else-begins w ↦ rw w.then_some-is (w.if-begins.false ∙ no-value (block 0) (text_at c.args.bytes.now solid.result) w.if-begins.ensures.value)
+    ]))

@@ -1,4 +1,5 @@
 use Rattle.std.proofs.Common.{arith}
+use Rattle.std.proofs.lemmas.Grind.{common_steps}
 use Rattle.al_yaml_parts.proofs.KeyLemmas.{same_line-before, short-few}
 use Rattle.al_yaml_parts.proofs.keys.is_short_key.Goals as goal
 
@@ -8,5 +9,6 @@ characters-requires-clause-line c =
 
 pub returns-then-end-at-le-LONGEST_KEY : goal.returns-then-end-at-le-LONGEST_KEY
 returns-then-end-at-le-LONGEST_KEY c =
-    short-few c.args.bytes.now c.args.at c.args.read.now.span.end c.requires.inside.from
-    (omega (arith, c.requires.inside.end, c.requires.inside.inside)) (omega arith)
+    let few = short-few c.args.bytes.now c.args.at c.args.read.now.span.end c.requires.inside.from
+    (omega (arith, c.requires.inside.end, c.requires.inside.inside)) (omega arith) in
+    grind (arith, common_steps, few, c.if-end-at-le-LONGEST_KEY.true)

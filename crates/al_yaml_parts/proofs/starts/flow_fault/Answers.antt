@@ -27,20 +27,19 @@ module _ (bytes : List ℕ) (at : ℕ) (inside : at ≤ length bytes) (some : fa
       → cond m (Some yaml.UnexpectedCharacter) None ≡ flow_fault (text_at bytes at)
   by_misplaced m h k = ap (or_misplaced None) k ∙ ap (λ o. or_misplaced o (is_flow_misplaced (slice_index bytes at) alone closed)) h ∙ sym flow_fault-at
 
-pub returns-in-Some : goal.returns-in-Some
-returns-in-Some c =
-    found c.args.bytes.now c.args.at c.requires c.if-is_text_end.ensures.text c.is_blank_or_end-alone.result
-    c.begins_flow_indicator-closed.result c.is_blank_or_end-alone.ensures c.begins_flow_indicator-closed.ensures
-    c.in-Some.code c.in-Some.ensures
-
-pub returns-then-is_flow_misplaced : goal.returns-then-is_flow_misplaced
-returns-then-is_flow_misplaced c =
+pub returns-in-None : goal.returns-in-None
+returns-in-None c =
     by_misplaced c.args.bytes.now c.args.at c.requires c.if-is_text_end.ensures.text c.is_blank_or_end-alone.result
     c.begins_flow_indicator-closed.result c.is_blank_or_end-alone.ensures c.begins_flow_indicator-closed.ensures
-    true c.in_default.ensures c.if-is_flow_misplaced.ensures
+    true c.in-None.ensures c.if-is_flow_misplaced.ensures
 
-pub returns : goal.returns
-returns c =
-    by_misplaced c.args.bytes.now c.args.at c.requires c.if-is_text_end.ensures.text c.is_blank_or_end-alone.result
+pub returns-in_default : goal.returns-in_default
+returns-in_default c =
+    c.in-None.is ∙ by_misplaced c.args.bytes.now c.args.at c.requires c.if-is_text_end.ensures.text c.is_blank_or_end-alone.result
     c.begins_flow_indicator-closed.result c.is_blank_or_end-alone.ensures c.begins_flow_indicator-closed.ensures
-    false c.in_default.ensures c.if-is_flow_misplaced.ensures
+    false c.in-None.ensures c.if-is_flow_misplaced.ensures
+
+pub returns-in_default-2 : goal.returns-in_default-2
+returns-in_default-2 c =
+    c.start_fault.ensures ∙ sym c.in_default.ensures ∙ found c.args.bytes.now c.args.at c.requires c.if-is_text_end.ensures.text c.is_blank_or_end-alone.result
+    c.begins_flow_indicator-closed.result c.is_blank_or_end-alone.ensures c.begins_flow_indicator-closed.ensures _ c.in_default.ensures
