@@ -12,11 +12,13 @@ returns-then-are_plain-clause-characters c = plain-utf8 c.args.bytes.now (c.are_
 
 pub returns-in_ok-unprintable_at-in-Ok-clause-is : goal.returns-in_ok-unprintable_at-in-Ok-clause-is
 returns-in_ok-unprintable_at-in-Ok-clause-is c =
-    unprintable-fault c.args.bytes.now c.in_ok-unprintable_at-in-Ok.field-0 c.fault_at.result c.in-Ok.ensures.cases.1 (sym c.in_ok-unprintable_at-in-Ok.ensures.value) c.fault_at.ensures.code c.fault_at.ensures.span
+    unprintable-fault c.args.bytes.now c.in_ok-unprintable_at-in-Ok.field-0 c.fault_at.result c.in-Ok.ensures.cases.1
+    (sym c.in_ok-unprintable_at-in-Ok.ensures.value) c.fault_at.ensures.code c.fault_at.ensures.span
 
 pub returns-in_ok-unprintable_at-in-Ok-clause-inside : goal.returns-in_ok-unprintable_at-in-Ok-clause-inside
 returns-in_ok-unprintable_at-in-Ok-clause-inside c =
-    subst (LiesIn (length c.args.bytes.now)) (sym c.fault_at.ensures.span) (character-inside c.args.bytes.now c.in_ok-unprintable_at-in-Ok.field-0 (omega (arith, c.in_ok-unprintable_at-in-Ok.ensures.inside)))
+    subst (LiesIn (length c.args.bytes.now)) (sym c.fault_at.ensures.span)
+    (character-inside c.args.bytes.now c.in_ok-unprintable_at-in-Ok.field-0 (omega (arith, c.in_ok-unprintable_at-in-Ok.ensures.inside)))
 
 pub returns-in_err-unprintable_at-in-Ok-clause-is : goal.returns-in_err-unprintable_at-in-Ok-clause-is
 returns-in_err-unprintable_at-in-Ok-clause-is c = rw c.from_residual.ensures (printable c.args.bytes.now c.in-Ok.ensures.cases.1 (sym c.in_err-unprintable_at-in-Ok.ensures.value))
