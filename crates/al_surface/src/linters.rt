@@ -27,9 +27,7 @@ fn has_required(inputs: &Parameters) -> Result<bool, AllocError> {
 
 fn shows_required(iface: &Iface) -> Result<bool, AllocError> {
     match iface {
-        Iface::Readable(shown) => Ok(
-            shown.role == Role::Action && has_required(&shown.inputs)?,
-        ),
+        Iface::Readable(shown) => Ok(shown.role == Role::Action && has_required(&shown.inputs)?),
         Iface::Unreadable => Ok(false),
     }
 }
