@@ -1,7 +1,7 @@
 -- A property of all elements of a list, or of an option's value, is preserved by maps, filters and searches.
 use Rattle.std.specs.Prelude.{Bool, true, false, List, [], ◌∷◌, ◌++◌, map, Option, Some, None, IfSome, find, option_and_then, option_map}
-use Rattle.std.proofs.Common.{cond}
-use Rattle.std.specs.List.{AllByRecursion, cons_option, filter_map, flat_map}
+use Rattle.std.proofs.Common.{◌≡◌, ◌||◌, ap, cond, refl}
+use Rattle.std.specs.List.{AllByRecursion, cons_option, filter_map, flat_map, list_any}
 use Rattle.std.specs.Option.{option_map_or, option_to_list}
 
 pub each_both : {X : Type 0} (P : X → Type 0) (xs ys : List X) → AllByRecursion P xs → AllByRecursion P ys → AllByRecursion P (xs ++ ys)
@@ -51,3 +51,7 @@ map_some P Q f h (Some x) p = h x p
 pub to_list : {X : Type 0} (P : X → Type 0) (o : Option X) → IfSome o P → AllByRecursion P (option_to_list o)
 to_list P None p = tt
 to_list P (Some x) p = (p, tt)
+
+pub any_mapped : {X Y : Type 0} (f : X → Y) (test : Y → Bool) (xs : List X) → list_any (λ x. test (f x)) xs ≡ list_any test (map f xs)
+any_mapped f test [] = refl
+any_mapped f test (x ∷ xs) = ap (λ b. test (f x) || b) (any_mapped f test xs)

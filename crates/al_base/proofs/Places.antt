@@ -29,6 +29,10 @@ with_one : {X P : Type 0} (xs : List X) (i : ℕ) → i < length xs → (X → P
 with_one [] i l f = absurd (omega (arith, l))
 with_one (x ∷ xs) i l f = f x
 
+-- the test of `is_own` at a valid index
+pub own_within : (places : List ℕ) (i place : ℕ) → i < length places → place ≡ get_or places i place → nat_eq place i ≡ is_own places i
+own_within places i place l at = rw (lt-ltb i (length places) l) (ap (λ n. nat_eq n i) (at ∙ get_or_default places i place 0 l))
+
 module _ {T : Type 0} (bytes : T → List ℕ) where
   pub same_place : (es : List (Entry T)) (a b : Entry T) → is_eq (key_cmp (entry_key bytes a) (entry_key bytes b)) ≡ true → place_of bytes es b ≡ place_of bytes es a
   same_place es a b e = ap (position_among bytes es) (sym (same_text (entry_key bytes a) (entry_key bytes b) e))

@@ -8,7 +8,7 @@ use Rattle.std.proofs.lemmas.List.Elements.{All-head, All-tail}
 use Rattle.std.proofs.lemmas.Str.{encode_ascii, encodes-chars}
 use Rattle.std.specs.Char.{is_ascii_control}
 use Rattle.std.specs.List.{All, AllByRecursion}
-use Rattle.std.specs.Prelude.{IsUtf8, chars, nat_lt}
+use Rattle.std.specs.Prelude.{IsUtf8, MatchOption, None, Option, Some, chars, is_none, nat_lt}
 use Rattle.al_base.specs.Printable.{printable, printable_byte}
 use Rattle.al_base.proofs.Elements.{each_either}
 
@@ -22,6 +22,10 @@ printable_plain (x ∷ xs) p =
     let first : is_ascii_control x ≡ false = All-head IsPlain x xs p in
     let rest : printable xs ≡ xs = printable_plain xs (All-tail IsPlain x xs p) in
     rw (first, rest) refl
+
+pub printable_unchanged : (text : List ℕ) (control : Option ℕ) (At : ℕ → Type 0) → MatchOption control (All IsPlain text) At → is_none control ≡ true → printable text ≡ text
+printable_unchanged text None At plain none = printable_plain text plain
+printable_unchanged text (Some at) At found none = absurd cc
 
 -- ---- by characters
 

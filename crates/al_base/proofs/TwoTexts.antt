@@ -1,11 +1,11 @@
 -- Two texts kept in one string, and the order of lists of at most two texts.
-use Rattle.std.proofs.Common.{◌≡◌, ◌≢◌, ◌∙◌, ℕ, List, [], ◌∷◌, ◌++◌, length, map, take, drop, ap, refl, sym, Ordering, Less, Equal, Greater}
-use Rattle.std.proofs.Common.{IsCharBoundary, IsUtf8, Option, None, nat_cmp, slice_get, take_at, drop_at}
+use Rattle.std.proofs.Common.{◌≡◌, ◌∙◌, ℕ, List, [], ◌∷◌, ◌++◌, length, map, take, drop, ap, refl, sym, Ordering, Less, Equal, Greater}
+use Rattle.std.proofs.Common.{Bor, IsCharBoundary, IsUtf8, Option, None, Some, nat_cmp, slice_get, take_at, drop_at}
 use Rattle.std.proofs.lemmas.List.{drop-map, take-map}
 use Rattle.std.proofs.lemmas.Str.{IsCharBoundary-at_seam}
 use Rattle.std.specs.Cmp.Lexicographic.{slice_cmp}
-use Rattle.std.specs.Option.{option_cmp}
-use Rattle.std.specs.Ordering.{ordering_then}
+use Rattle.std.specs.Option.{option_cmp, option_copied}
+use Rattle.std.specs.Ordering.{MatchOrdering, ordering_then}
 use Rattle.al_base.specs.Orders.{args_cmp}
 use Rattle.al_base.specs.Printable.{printable, printable_byte}
 
@@ -26,7 +26,7 @@ parts_printable at text plain =
 
 -- ---- lists of at most two texts compare by the first and then by the second
 
-abbrev compare : Option (List ℕ) → Option (List ℕ) → Ordering
+abbrev pub compare : Option (List ℕ) → Option (List ℕ) → Ordering
 compare a b = option_cmp (slice_cmp nat_cmp) a b
 
 then_equal : (r : Ordering) → r ≡ ordering_then r Equal
@@ -34,10 +34,18 @@ then_equal Less = refl
 then_equal Equal = refl
 then_equal Greater = refl
 
-pub then_unequal : (r o : Ordering) → (r ≢ Equal) → ordering_then r o ≡ r
-then_unequal Less o other = refl
-then_unequal Equal o other = absurd (other refl)
-then_unequal Greater o other = refl
+pub copied_cmp : (a b : Option (Bor (List ℕ))) → option_cmp (λ x y. slice_cmp nat_cmp x.now y.now) a b ≡ compare (option_copied a) (option_copied b)
+copied_cmp None None = refl
+copied_cmp None (Some y) = refl
+copied_cmp (Some x) None = refl
+copied_cmp (Some x) (Some y) = refl
+
+-- an order, or another one if it is equal
+pub then_by : (first result second : Ordering) (Called : Type 0) → MatchOrdering first (result ≡ Less) Called (result ≡ Greater) → (Called → result ≡ second)
+    → result ≡ ordering_then first second
+then_by Less result second Called h by = h
+then_by Equal result second Called h by = by h
+then_by Greater result second Called h by = h
 
 -- lists of at most one text
 one_cmp : (a b : List (List ℕ)) → slice_get a 1 ≡ None → slice_get b 1 ≡ None → compare (slice_get a 0) (slice_get b 0) ≡ args_cmp a b

@@ -1,9 +1,9 @@
 //! The texts that a fault's message names.
 ghost use Rattle.std.specs.Prelude.{◌≡◌, [], ◌∷◌, None, map, slice_get, string_bytes, IfOk, IsTrue};
-ghost use Rattle.std.specs.Cmp.Lexicographic.{slice_cmp};
-ghost use Rattle.std.specs.Option.{option_cmp, option_copied};
-ghost use Rattle.std.specs.Ordering.{nat_cmp};
+ghost use Rattle.std.specs.Option.{option_copied};
+ghost use Rattle.std.specs.Cmp.Rules.{comparing};
 ghost use Rattle.std.specs.Str.Lossy.{utf8_lossy};
+ghost use Rattle.std.proofs.Common.{rules};
 ghost use Rattle.al_base.specs.Printable.{printable};
 
 use crate::controls::{first_control, printable};
@@ -55,11 +55,7 @@ impl Args {
         }
     }
 
-    /// Copies of two texts, in the order in which the message names them.
-    ///
-    /// # Errors
-    ///
-    /// [`AllocError`] if memory runs out.
+    /// Copies of two texts, in the order in which the message names them. Fails with `AllocError` when out of memory.
     pub fn two(alloc: Global, first: &str, second: &str) -> Result<Args, AllocError>
         ensures { IfOk result (λ args. args ≡ first.now ∷ second.now ∷ []) }
     {
@@ -71,32 +67,25 @@ impl Args {
         })
     }
 
-    /// A copy of one text. Bytes of it that aren't UTF-8 become U+FFFD.
-    ///
-    /// # Errors
-    ///
-    /// [`AllocError`] if memory runs out.
+    /// A copy of one text. Bytes of it that aren't UTF-8 become U+FFFD. Fails with `AllocError` when out of memory.
     pub fn one_lossy(alloc: Global, text: &[u8]) -> Result<Args, AllocError>
         ensures { IfOk result (λ args. args ≡ utf8_lossy text.now ∷ []) }
     {
         Ok(Args::one(String::from_utf8_lossy(alloc, text)?))
     }
 
-    /// Copies of two texts, in the order in which the message names them. Bytes of them that aren't UTF-8 become U+FFFD.
-    ///
-    /// # Errors
-    ///
-    /// [`AllocError`] if memory runs out.
+    /// Like [`Args::two`], but bytes of the texts that aren't UTF-8 become U+FFFD.
     pub fn two_lossy(alloc: Global, first: &[u8], second: &[u8]) -> Result<Args, AllocError>
         ensures { IfOk result (λ args. args ≡ utf8_lossy first.now ∷ utf8_lossy second.now ∷ []) }
     {
-        let Ok(first_text) = str::from_utf8(first) else {
-            return two_replaced(alloc, first, second);
-        };
-        let Ok(second_text) = str::from_utf8(second) else {
-            return two_replaced(alloc, first, second);
-        };
-        Args::two(alloc, first_text, second_text)
+        match (str::from_utf8(first), str::from_utf8(second)) {
+            (Ok(first), Ok(second)) => Args::two(alloc, first, second),
+            _ => {
+                let first = String::from_utf8_lossy(alloc, first)?;
+                let second = String::from_utf8_lossy(alloc, second)?;
+                Args::two(alloc, first.as_str(), second.as_str())
+            }
+        }
     }
 
     /// The first text, if there is one. Doesn't allocate.
@@ -116,45 +105,35 @@ impl Args {
         ensures { option_copied result ≡ slice_get self.now 1 }
     {
         match &self.texts {
-            Texts::None => None,
-            Texts::One(_) => None,
+            Texts::None | Texts::One(_) => None,
             Texts::Two(text, at) => Some(text.as_str().split_at(*at).1),
         }
     }
 
-    /// A copy, with memory of its own.
-    ///
-    /// # Errors
-    ///
-    /// [`AllocError`] if memory runs out.
+    /// A copy, with memory of its own. Fails with `AllocError` when out of memory.
     pub fn copy(&self, alloc: Global) -> Result<Args, AllocError>
         ensures { IfOk result (λ args. args ≡ self.now) }
     {
-        match &self.texts {
-            Texts::None => Ok(Args::none()),
-            Texts::One(text) => Ok(Args::one(String::from_str(alloc, text.as_str())?)),
-            Texts::Two(text, at) => Ok(Args {
-                texts: Texts::Two(String::from_str(alloc, text.as_str())?, *at),
-            }),
-        }
+        let texts = match &self.texts {
+            Texts::None => Texts::None,
+            Texts::One(text) => Texts::One(String::from_str(alloc, text.as_str())?),
+            Texts::Two(text, at) => Texts::Two(String::from_str(alloc, text.as_str())?, *at),
+        };
+        Ok(Args { texts })
     }
 
     /// `true` only if each text is printed unchanged; `false` promises nothing. Doesn't allocate.
+    #[tactic(auto, using(crate::proofs::PrintableTexts::printable_unchanged, crate::proofs::TwoTexts::parts_printable))]
     pub fn is_plain(&self) -> bool
         ensures { IsTrue result → map printable self.now ≡ self.now }
     {
         match &self.texts {
             Texts::None => true,
-            Texts::One(text) => is_plain(text.as_str()),
-            Texts::Two(text, _) => is_plain(text.as_str()),
+            Texts::One(text) | Texts::Two(text, _) => first_control(text.as_bytes()).is_none(),
         }
     }
 
-    /// The texts as they are printed, with a `?` for each control byte.
-    ///
-    /// # Errors
-    ///
-    /// [`AllocError`] if memory runs out.
+    /// The texts as they are printed, with a `?` for each control byte. Fails with `AllocError` when out of memory.
     pub fn printable(&self, alloc: Global) -> Result<Args, AllocError>
         ensures { IfOk result (λ args. args ≡ map printable self.now) }
     {
@@ -171,43 +150,7 @@ impl Args {
     }
 }
 
-// Copies of two texts in which bytes that aren't UTF-8 are replaced.
-fn two_replaced(alloc: Global, first: &[u8], second: &[u8]) -> Result<Args, AllocError>
-    ensures { IfOk result (λ args. args ≡ utf8_lossy first.now ∷ utf8_lossy second.now ∷ []) }
-{
-    let first = String::from_utf8_lossy(alloc, first)?;
-    let second = String::from_utf8_lossy(alloc, second)?;
-    Args::two(alloc, first.as_str(), second.as_str())
-}
-
-// `true` only if a text is printed unchanged; `false` promises nothing.
-#[tactic(auto, using(crate::proofs::PrintableTexts::printable_plain))]
-fn is_plain(text: &str) -> bool
-    ensures { IsTrue result → printable text.now ≡ text.now }
-{
-    first_control(text.as_bytes()).is_none()
-}
-
-// The order of two texts; a missing one comes first.
-fn compare_texts(one: Option<&str>, other: Option<&str>) -> Ordering
-    ensures { result ≡ option_cmp (slice_cmp nat_cmp) (option_copied one.entry)
-        (option_copied other.entry) }
-{
-    match one {
-        None => match other {
-            None => Ordering::Equal,
-            Some(_) => Ordering::Less,
-        },
-        Some(one) => match other {
-            None => Ordering::Greater,
-            Some(other) => one.cmp(other),
-        },
-    }
-}
-
 impl PartialEq for Args {
-    ghost use Rattle.std.proofs.Common.{rules};
-    ghost use Rattle.std.specs.Cmp.Rules.{comparing};
     ghost use Rattle.al_base.specs.Orders.{args_eq};
 
     ghost eq = { args_eq };
@@ -220,15 +163,10 @@ impl PartialEq for Args {
 }
 
 impl Eq for Args {
-    ghost use Rattle.std.proofs.Common.{rules};
-    ghost use Rattle.std.specs.Cmp.Rules.{comparing};
-
     ghost laws = { Prim.search (comparing, rules) };
 }
 
 impl PartialOrd for Args {
-    ghost use Rattle.std.proofs.Common.{rules};
-    ghost use Rattle.std.specs.Cmp.Rules.{comparing};
     ghost use Rattle.std.specs.Cmp.{partial_order_from_own_ties};
     ghost use Rattle.al_base.specs.Orders.{args_partial_cmp};
 
@@ -242,8 +180,6 @@ impl PartialOrd for Args {
 }
 
 impl Ord for Args {
-    ghost use Rattle.std.proofs.Common.{rules};
-    ghost use Rattle.std.specs.Cmp.Rules.{comparing};
     ghost use Rattle.al_base.specs.Orders.{args_cmp};
     ghost use Rattle.al_base.specs.Proofs.Orders.{args_total};
 
@@ -256,9 +192,8 @@ impl Ord for Args {
     ghost matches_eq = { Prim.search (comparing, rules) };
 
     fn cmp(&self, other: &Args) -> Ordering {
-        match compare_texts(self.first(), other.first()) {
-            Ordering::Equal => compare_texts(self.second(), other.second()),
-            unequal => unequal,
-        }
+        self.first()
+            .cmp(&other.first())
+            .then_with(|| self.second().cmp(&other.second()))
     }
 }

@@ -1,7 +1,7 @@
 //! Texts as they are printed, with a `?` for each control byte of ASCII.
 ghost use Rattle.std.specs.Prelude.{◌≡◌, ◌<◌, All, IfOk, MatchOption, false, length, slice_index, string_bytes, take, true};
 ghost use Rattle.std.specs.Char.{is_ascii_control};
-ghost use Rattle.al_base.specs.Printable.{printable, printable_byte};
+ghost use Rattle.al_base.specs.Printable.{printable};
 
 use std::alloc::{AllocError, Global};
 
@@ -18,15 +18,7 @@ pub fn first_control(text: &[u8]) -> Option<usize>
 pub fn printable(alloc: Global, text: &str) -> Result<String, AllocError>
     ensures { IfOk result (λ it. string_bytes it ≡ printable text.now) }
 {
-    text.chars().map(printable_character).collect(alloc)
-}
-
-fn printable_character(character: char) -> char
-    ensures { result ≡ printable_byte character }
-{
-    if character.is_ascii_control() {
-        '?'
-    } else {
-        character
-    }
+    text.chars()
+        .map(|c| if c.is_ascii_control() { '?' } else { c })
+        .collect(alloc)
 }

@@ -17,6 +17,7 @@ mod args;
 mod codes;
 mod controls;
 mod copies;
+mod examples;
 mod faults;
 pub mod limits;
 mod lines;
@@ -29,9 +30,6 @@ mod sink;
 mod sorted_texts;
 mod stops;
 mod streams;
-
-// Worked rows:
-mod examples;
 
 pub use args::Args;
 pub use codes::{CallCode, Caller, Code, ExpressionCode, KeyCode, RuleCode, YamlCode};

@@ -27,11 +27,7 @@ impl Model for Lines {
 }
 
 impl Lines {
-    /// The table of a file's bytes, of which there are at most 1,048,576.
-    ///
-    /// # Errors
-    ///
-    /// [`AllocError`] if memory runs out.
+    /// The table of a file's bytes, of which there are at most 1,048,576. Fails with `AllocError` when out of memory.
     pub fn of(alloc: Global, bytes: &[u8]) -> Result<Lines, AllocError>
         requires { length bytes.now ≤ largest_file }
         ensures { IfOk result (λ lines. lines ≡ line_starts bytes.now) }

@@ -5,16 +5,13 @@ ghost use Rattle.al_base.specs.FaultLaws.{OrderTells, ListIsSorted, ListHasEachO
 
 use super::faults::Fault;
 
-/// A file's list of faults: these faults in the order of reports, each once, in whatever order they were found.
-///
-/// Doesn't allocate: the result reuses the memory of the given list.
-pub fn fault_list(faults: Vec<Fault>) -> Vec<Fault>
+/// A file's list of faults: these faults in the order of reports, each once, in whatever order they were found. Doesn't allocate.
+pub fn fault_list(mut faults: Vec<Fault>) -> Vec<Fault>
     ensures { result.items ≡ fault_list faults.items }
 {
-    let mut list = faults;
-    list.sort_unstable();
-    list.dedup();
-    list
+    faults.sort_unstable();
+    faults.dedup();
+    faults
 }
 
 /// The laws of lists of faults. Does nothing at run time.

@@ -3,7 +3,7 @@ ghost use Rattle.std.specs.Prelude.{◌≡◌, IfOk};
 ghost use Rattle.al_base.specs.Names.{lower_case};
 ghost use Rattle.al_base.specs.SortedTexts.{AreSorted};
 
-use super::sorted_texts::{Entry, is_own, places_by, position_by, sort_entries};
+use super::sorted_texts::{Entry, places_by, position_by, sort_entries};
 use std::alloc::{AllocError, Global};
 
 /// A name in lower case: the same for names that differ only in ASCII case. Fails with `AllocError` when out of memory.
@@ -37,19 +37,16 @@ impl<'a> TextPositions<'a> {
         for (i, text) in texts.iter().enumerate() {
             entries.push(Entry::new(*text, i))?;
         }
-        let sorted = sort_entries(entries)?;
-        let places = places_by(alloc, sorted.as_slice())?;
-        Ok(TextPositions {
-            entries: sorted,
-            places,
-        })
+        let entries = sort_entries(entries)?;
+        let places = places_by(alloc, entries.as_slice())?;
+        Ok(TextPositions { entries, places })
     }
 
     /// Whether no earlier position has the text at a position.
     pub fn is_first(&self, i: usize) -> bool
         ensures { result ≡ is_first_text self.now i }
     {
-        is_own(self.places.as_slice(), i)
+        i < self.places.len() && self.places[i] == i
     }
 
     /// Where a text first occurs.
@@ -85,19 +82,16 @@ impl NamePositions {
         for (i, name) in names.iter().enumerate() {
             entries.push(Entry::new(in_lower_case(alloc, name)?, i))?;
         }
-        let sorted = sort_entries(entries)?;
-        let places = places_by(alloc, sorted.as_slice())?;
-        Ok(NamePositions {
-            entries: sorted,
-            places,
-        })
+        let entries = sort_entries(entries)?;
+        let places = places_by(alloc, entries.as_slice())?;
+        Ok(NamePositions { entries, places })
     }
 
     /// Whether no earlier position has the name at a position.
     pub fn is_first(&self, i: usize) -> bool
         ensures { result ≡ is_first_name self.now i }
     {
-        is_own(self.places.as_slice(), i)
+        i < self.places.len() && self.places[i] == i
     }
 
     /// Where a name first occurs. Fails with `AllocError` when out of memory.

@@ -7,12 +7,7 @@ ghost use Rattle.al_base.specs.Names.{among, same_name};
 pub fn is_among(text: &[u8], others: &[&str]) -> bool
     ensures { result ≡ among (map (λ t. t.now) others.now) text.now }
 {
-    for other in others {
-        if text == other.as_bytes() {
-            return true;
-        }
-    }
-    false
+    others.iter().any(|other| text == other.as_bytes())
 }
 
 /// Whether two names or texts are equal, ignoring ASCII case. Most equal names are written alike, which takes less time to find.
@@ -26,9 +21,8 @@ pub fn is_same_name(a: &[u8], b: &[u8]) -> bool
 fn end_alike(a: &[u8], b: &[u8]) -> bool
     ensures { IsTrue (same_name a.now b.now) → IsTrue result }
 {
-    let length = a.len();
-    if length != b.len() {
-        return false;
+    match (a, b) {
+        ([.., last_a], [.., last_b]) => a.len() == b.len() && last_a.eq_ignore_ascii_case(last_b),
+        _ => a.len() == b.len(),
     }
-    length == 0 || a[length - 1].eq_ignore_ascii_case(&b[length - 1])
 }

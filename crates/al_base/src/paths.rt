@@ -5,12 +5,12 @@ ghost use Rattle.al_base.specs.Paths.{path_fault_of, bad_part, is_bad_byte, part
 ghost use Rattle.al_base.specs.declared.paths.PathFault.TheVariants as fault;
 
 use super::limits::LONGEST_PATH;
+use super::names::is_among;
 use std::alloc::{AllocError, Global};
 use std::marker::Model;
 use thiserror::Error;
 
-/// Why a text isn't the path of a file in a folder (P1 to P5, in the order in which they are checked), or that memory
-/// ran out.
+/// Why a text isn't the path of a file in a folder (P1 to P5, in the order in which they are checked), or that memory ran out.
 #[derive(Clone, Copy, PartialEq, Eq, Debug, Error)]
 pub enum PathFault {
     /// P1: the text is empty.
@@ -58,12 +58,8 @@ impl Model for Path {
 }
 
 impl Path {
-    /// The path with this text.
-    ///
-    /// # Errors
-    ///
-    /// The reason that [`path_fault`] gives if the text isn't a path; [`PathFault::Memory`] if it is one, but memory
-    /// runs out.
+    /// The path with this text. Fails with the reason that [`path_fault`] gives if the text isn't a path, and with `PathFault::Memory` if
+    /// it is one, but memory runs out.
     pub fn new(alloc: Global, text: &str) -> Result<Path, PathFault>
         ensures path { IfOk result (λ path. path ≡ text.now) }
         ensures accepted { OnOk result (path_fault_of text.now ≡ None) }
@@ -71,10 +67,9 @@ impl Path {
     {
         match path_fault(text) {
             Some(fault) => Err(fault),
-            None => {
-                let text = String::from_str(alloc, text)?;
-                Ok(Path { text })
-            }
+            None => Ok(Path {
+                text: String::from_str(alloc, text)?,
+            }),
         }
     }
 
@@ -87,44 +82,29 @@ impl Path {
     }
 }
 
-/// The first reason, P1 to P5, why a text isn't the path of a file in a folder; `None` if it is one. Doesn't
-/// allocate.
+/// The first reason, P1 to P5, why a text isn't the path of a file in a folder; `None` if it is one. Doesn't allocate.
 pub fn path_fault(path: &str) -> Option<PathFault>
     ensures { result ≡ path_fault_of path.now }
 {
-    let bytes = path.as_bytes();
-    if bytes.is_empty() {
-        return Some(PathFault::Empty);
+    match path.as_bytes() {
+        [] => Some(PathFault::Empty),
+        [b'/', ..] => Some(PathFault::Absolute),
+        bytes if has_bad_part(bytes) => Some(PathFault::BadPart),
+        bytes if has_bad_byte(bytes) => Some(PathFault::BadByte),
+        bytes if bytes.len() > LONGEST_PATH => Some(PathFault::TooLong),
+        _ => None,
     }
-    if bytes[0] == b'/' {
-        return Some(PathFault::Absolute);
-    }
-    if has_bad_part(bytes) {
-        return Some(PathFault::BadPart);
-    }
-    if has_bad_byte(bytes) {
-        return Some(PathFault::BadByte);
-    }
-    if bytes.len() > LONGEST_PATH {
-        return Some(PathFault::TooLong);
-    }
-    None
 }
 
 fn has_bad_part(path: &[u8]) -> bool
     ensures { result ≡ list_any bad_part (parts path.now) }
 {
-    path.split(|b| *b == b'/').any(|part| is_bad_part(part))
+    path.split(|b| *b == b'/')
+        .any(|part| is_among(part, &["", ".", ".."]))
 }
 
 fn has_bad_byte(path: &[u8]) -> bool
     ensures { result ≡ list_any is_bad_byte path.now }
 {
     path.iter().any(|b| b.is_ascii_control() || *b == b'\\')
-}
-
-fn is_bad_part(part: &[u8]) -> bool
-    ensures { result ≡ bad_part part.now }
-{
-    matches!(part, [] | [b'.'] | [b'.', b'.'])
 }

@@ -25,9 +25,7 @@ pub fn position(bytes: &[u8], offset: u32) -> (u32, u32)
     (location.line, location.column)
 }
 
-/// The location of a byte offset.
-///
-/// Doesn't allocate. The offset is at most the number of bytes.
+/// The location of a byte offset, which is at most the number of bytes. Doesn't allocate.
 pub fn location_of(bytes: &[u8], offset: u32) -> Location
     requires within { offset ≤ length bytes.now }
     requires small { length bytes.now ≤ largest_file }

@@ -101,10 +101,9 @@ impl FaultSink {
     }
 
     /// Appends the faults to a list. Fails with `AllocError` when out of memory; the list is then unchanged.
-    pub fn append_to(self, out: &mut Vec<Fault>) -> Result<(), AllocError>
+    pub fn append_to(mut self, out: &mut Vec<Fault>) -> Result<(), AllocError>
         ensures { out.new.items ≡ (if is_ok result then out.old.items ++ self else out.old.items) }
     {
-        let mut faults = self.faults;
-        out.append(&mut faults)
+        out.append(&mut self.faults)
     }
 }

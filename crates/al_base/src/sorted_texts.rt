@@ -1,7 +1,7 @@
 //! Sorted texts, each with its position in the original list.
 
 ghost use Rattle.std.specs.Prelude.{◌≡◌, ◌+◌, ◌<◌, ℕ, IfOk, IsPermutation, Some, length, slice_index_or};
-ghost use Rattle.al_base.specs.SortedTexts.{AreNumbered, AreSorted, StandIn, TellPlaces, entry_key, is_own, key_cmp};
+ghost use Rattle.al_base.specs.SortedTexts.{AreNumbered, AreSorted, StandIn, TellPlaces, entry_key, key_cmp};
 ghost use Rattle.al_base.specs.SortedTexts.{place_of, position_among, sort_key, tail_number};
 
 use std::alloc::{AllocError, Global};
@@ -12,11 +12,9 @@ use std::convert::AsSlice;
 pub fn last_bytes(text: &[u8]) -> u64
     ensures { result ≡ tail_number text.now }
 {
-    let mut number: u64 = 0;
-    for byte in text {
-        number = number.wrapping_mul(256).wrapping_add(u64::from(*byte));
-    }
-    number
+    text.iter().fold(0, |number: u64, byte| {
+        number.wrapping_mul(256).wrapping_add(u64::from(*byte))
+    })
 }
 
 /// A text and its position, after the text's last bytes as a number.
@@ -33,9 +31,8 @@ impl<T: AsSlice<u8> + Drop> Entry<T> {
         ensures key { entry_key T.items result ≡ sort_key (T.items text) }
         ensures position { result.position ≡ position }
     {
-        let number = last_bytes(text.as_slice());
         Entry {
-            number,
+            number: last_bytes(text.as_slice()),
             text,
             position,
         }
@@ -45,25 +42,23 @@ impl<T: AsSlice<u8> + Drop> Entry<T> {
     fn compare(&self, number: u64, text: &[u8]) -> Ordering
         ensures { result ≡ key_cmp (entry_key T.items self.now) (number, text.now) }
     {
-        match self.number.cmp(&number) {
-            Ordering::Equal => self.text.as_slice().cmp(text),
-            unequal => unequal,
-        }
+        self.number
+            .cmp(&number)
+            .then_with(|| self.text.as_slice().cmp(text))
     }
 }
 
 /// The entries in order. Those of equal texts stay in the order that they had. Fails with `AllocError` when out of memory.
 pub(crate) fn sort_entries<T: AsSlice<u8> + Drop>(
-    entries: Vec<Entry<T>>,
+    mut entries: Vec<Entry<T>>,
 ) -> Result<Vec<Entry<T>>, AllocError>
     ensures order { IfOk result (λ es. AreSorted T.items es.items) }
     ensures positions { IfOk result
         (λ es. position_among T.items es.items ≡ position_among T.items entries.items) }
     ensures entries { IfOk result (λ es. IsPermutation entries.items es.items) }
 {
-    let mut sorted = entries;
-    sorted.sort_by(|a, b| a.compare(b.number, b.text.as_slice()))?;
-    Ok(sorted)
+    entries.sort_by(|a, b| a.compare(b.number, b.text.as_slice()))?;
+    Ok(entries)
 }
 
 /// The first position of a text, by sorted entries.
@@ -73,12 +68,8 @@ pub(crate) fn position_by<T: AsSlice<u8> + Drop>(entries: &[Entry<T>], text: &[u
 {
     let number = last_bytes(text);
     let i = entries.partition_point(|entry| entry.compare(number, text).is_lt());
-    if i >= entries.len() {
-        return None;
-    }
-    let entry = &entries[i];
-    if entry.compare(number, text).is_eq() {
-        return Some(entry.position);
+    if i < entries.len() && entries[i].compare(number, text).is_eq() {
+        return Some(entries[i].position);
     }
     None
 }
@@ -93,11 +84,8 @@ fn place_after<T: AsSlice<u8> + Drop>(entries: &[Entry<T>], i: usize, before: us
     ensures { (e : Entry T) → place_of T.items entries.now (slice_index_or entries.now i e) ≡ Some result }
 {
     let entry = &entries[i];
-    if i == 0 {
-        return entry.position;
-    }
-    let earlier = &entries[i - 1];
-    if earlier.compare(entry.number, entry.text.as_slice()).is_eq() {
+    let text = entry.text.as_slice();
+    if i > 0 && entries[i - 1].compare(entry.number, text).is_eq() {
         return before;
     }
     entry.position
@@ -119,11 +107,4 @@ pub(crate) fn places_by<T: AsSlice<u8> + Drop>(
         places[entries[i].position] = place;
     }
     Ok(places)
-}
-
-/// Whether a list of first positions has a position at that position itself.
-pub(crate) fn is_own(places: &[usize], i: usize) -> bool
-    ensures { result ≡ is_own places.now i }
-{
-    i < places.len() && places[i] == i
 }

@@ -9,8 +9,7 @@ ghost use Rattle.al_base.specs.Streams.{write_failures};
 use super::stops::Stop;
 use std::io::{Read, Write};
 
-/// A reader that counts its reads and those that failed, and remembers the length of the largest buffer. Both counts
-/// saturate.
+/// A reader that counts its reads and those that failed, and remembers the length of the largest buffer. Both counts saturate.
 #[derive(Drop)]
 pub struct Input<R> {
     inner: R,
@@ -19,8 +18,7 @@ pub struct Input<R> {
     largest_ask: usize,
 }
 
-/// A writer that counts the writes that failed: those that returned an error, and those that took none of some bytes.
-/// The count saturates.
+/// A writer that counts, saturating, the writes that failed: those that returned an error, and those that took none of some bytes.
 #[derive(Drop)]
 pub struct Output<W> {
     inner: W,
@@ -64,11 +62,8 @@ impl<R: Read> Input<R> {
         self.largest_ask
     }
 
-    /// Makes one read, and returns how many bytes it gave: 0 at the end, or if the buffer is empty.
-    ///
-    /// # Errors
-    ///
-    /// [`Stop::ReadFault`] if the inner read returns an error, interruption by a signal included.
+    /// Makes one read, and returns how many bytes it gave: 0 at the end, or if the buffer is empty. Fails with `Stop::ReadFault` if the
+    /// inner read returns an error, interruption by a signal included.
     pub fn read(&mut self, buf: &mut [u8]) -> Result<usize, Stop>
         ensures bound { ReadsAtMost result buf.new }
         ensures bytes { ReadConsumes (bytes_left R.remaining self.old)
@@ -81,13 +76,11 @@ impl<R: Read> Input<R> {
     {
         self.turns = self.turns.saturating_add(1);
         self.largest_ask = self.largest_ask.max(buf.len());
-        match self.inner.read(buf) {
-            Ok(n) => Ok(n),
-            Err(_) => {
-                self.failures = self.failures.saturating_add(1);
-                Err(Stop::ReadFault)
-            }
-        }
+        let Ok(count) = self.inner.read(buf) else {
+            self.failures = self.failures.saturating_add(1);
+            return Err(Stop::ReadFault);
+        };
+        Ok(count)
     }
 }
 
@@ -107,11 +100,7 @@ impl<W: Write> Output<W> {
         self.failures
     }
 
-    /// Writes all of the bytes.
-    ///
-    /// # Errors
-    ///
-    /// [`Stop::WriteFault`] if a write failed; a prefix of the bytes has then been written.
+    /// Writes all of the bytes. Fails with `Stop::WriteFault` if a write failed; a prefix of the bytes has then been written.
     pub fn write_all(&mut self, bytes: &[u8]) -> Result<(), Stop>
         ensures { WritesOrFails W.contents self.old self.new result bytes.now }
     {
@@ -143,11 +132,7 @@ impl<W: Write> Output<W> {
         }
     }
 
-    /// Flushes the inner writer.
-    ///
-    /// # Errors
-    ///
-    /// [`Stop::WriteFault`] if that failed, which counts as a failed write.
+    /// Flushes the inner writer. Fails with `Stop::WriteFault` if that failed, which counts as a failed write.
     pub fn flush(&mut self) -> Result<(), Stop>
         ensures bytes { Keeps (bytes_written W.contents self.old)
             (bytes_written W.contents self.new) }
@@ -156,12 +141,10 @@ impl<W: Write> Output<W> {
             (HasRisen (write_failures self.old) (write_failures self.new)) }
         ensures err { IsOkUnless result Stop.WriteFault }
     {
-        match self.inner.flush() {
-            Ok(()) => Ok(()),
-            Err(_) => {
-                self.failures = self.failures.saturating_add(1);
-                Err(Stop::WriteFault)
-            }
+        if self.inner.flush().is_err() {
+            self.failures = self.failures.saturating_add(1);
+            return Err(Stop::WriteFault);
         }
+        Ok(())
     }
 }

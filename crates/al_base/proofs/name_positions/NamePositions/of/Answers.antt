@@ -23,7 +23,7 @@ places_by-requires-clause-texts c =
     let ts = map (λ n. lower_case n.now) c.args.names.now in
     let many : length c.loop-i.entries.items ≡ length ts = omega (arith, c.loop-i.invariant.many, c.loop-i-test.false, c.loop-i.auto.i-end, length-map c.args.names.now (λ n. lower_case n.now)) in
     subst (StandIn (λ n. n.items)) (sym c.as_slice.ensures.value)
-    (stand (λ n. n.items) ts c.loop-i.entries.items c.in_ok-sorted.sorted.items many c.loop-i.invariant.turn c.in_ok-sorted.ensures.entries)
+    (stand (λ n. n.items) ts c.loop-i.entries.items c.in_ok-entries-2.entries.items many c.loop-i.invariant.turn c.in_ok-entries-2.ensures.entries)
 
 pub returns-clause-position : goal.returns-clause-position
 unfolding name_position
@@ -31,7 +31,7 @@ returns-clause-position c =
     let all : take c.loop-i.i c.args.names.now ≡ c.args.names.now =
     take_all c.loop-i.i c.args.names.now (omega (arith, c.loop-i-test.false)) in
     λ d name.
-    (ap (λ f. f (lower_case name)) c.in_ok-sorted.ensures.positions ∙ ap (λ f. f (lower_case name)) c.loop-i.invariant.position
+    (ap (λ f. f (lower_case name)) c.in_ok-entries-2.ensures.positions ∙ ap (λ f. f (lower_case name)) c.loop-i.invariant.position
     ∙ ap (λ ns. text_place (map (λ n. lower_case n.now) ns) (lower_case name)) all ∙ names_by_text (λ n. n.now) c.args.names.now name) d
 
 pub returns-clause-first : goal.returns-clause-first
@@ -41,7 +41,7 @@ returns-clause-first c =
     let many : length c.loop-i.entries.items ≡ length ts =
     omega (arith, c.loop-i.invariant.many, c.loop-i-test.false, c.loop-i.auto.i-end, length-map c.args.names.now (λ n. lower_case n.now)) in
     first_names (λ n. n.now) c.args.names.now _
-    (firsts (λ n. n.items) ts c.loop-i.entries.items c.in_ok-sorted.sorted.items many c.loop-i.invariant.turn c.in_ok-sorted.ensures.entries c.in_ok-places.places.items
+    (firsts (λ n. n.items) ts c.loop-i.entries.items c.in_ok-entries-2.entries.items many c.loop-i.invariant.turn c.in_ok-entries-2.ensures.entries c.in_ok-places.places.items
     (subst (λ es. TellPlaces (λ n. n.items) es c.in_ok-places.places.items) c.as_slice.ensures.value c.in_ok-places.ensures) (text_place ts)
-    (c.in_ok-sorted.ensures.positions ∙ c.loop-i.invariant.position
+    (c.in_ok-entries-2.ensures.positions ∙ c.loop-i.invariant.position
     ∙ ap (λ xs. text_place (map (λ n. lower_case n.now) xs)) (take_all c.loop-i.i c.args.names.now (omega (arith, c.loop-i-test.false)))))

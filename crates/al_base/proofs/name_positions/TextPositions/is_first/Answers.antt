@@ -1,8 +1,12 @@
-use Rattle.std.proofs.Common.{ap, ◌∙◌}
+use Rattle.std.proofs.Common.{rules, tests}
 use Rattle.al_base.specs.NamePlaces.{is_first_text}
-use Rattle.al_base.specs.SortedTexts.{is_own}
+use Rattle.al_base.proofs.Places.{own_within}
 use Rattle.al_base.proofs.name_positions.TextPositions.is_first.Goals as goal
 
-pub returns : goal.returns
+pub returns-then-i-len : goal.returns-then-i-len
 unfolding is_first_text
-returns c = c.is_own.ensures ∙ ap (λ ps. is_own ps c.args.i) c.as_slice.ensures.value
+returns-then-i-len c = own_within c.args.self.now.places.items c.args.i _ (search rules) c.index.ensures
+
+pub returns-else-i-len : goal.returns-else-i-len
+unfolding is_first_text
+returns-else-i-len c = search (rules, tests)
