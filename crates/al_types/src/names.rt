@@ -1,7 +1,6 @@
 //! The names of contexts and functions, which are case-insensitive.
 
-ghost use Rattle.std.specs.Prelude.{◌≡◌, find};
-ghost use Rattle.al_base.specs.Names.{same_name};
+ghost use Rattle.std.specs.Prelude.{◌≡◌};
 ghost use Rattle.al_types.specs.Names.{context_name, function_name};
 ghost use Rattle.al_types.specs.Names as names;
 
@@ -97,7 +96,11 @@ impl Context {
     pub fn from_name(name: &str) -> Option<Context>
         ensures { result ≡ names.context_of name.now }
     {
-        context_among(&CONTEXTS, name)
+        let name = name.as_bytes();
+        CONTEXTS
+            .iter()
+            .copied()
+            .find(|context| is_same_name(context.name().as_bytes(), name))
     }
 }
 
@@ -126,28 +129,10 @@ impl Function {
     pub fn from_name(name: &str) -> Option<Function>
         ensures { result ≡ names.function_of name.now }
     {
-        function_among(&FUNCTIONS, name)
+        let name = name.as_bytes();
+        FUNCTIONS
+            .iter()
+            .copied()
+            .find(|function| is_same_name(function.name().as_bytes(), name))
     }
-}
-
-fn context_among(contexts: &[Context], name: &str) -> Option<Context>
-    ensures { result ≡ find (λ c. same_name (context_name c) name.now) contexts.now }
-{
-    for context in contexts {
-        if is_same_name(context.name().as_bytes(), name.as_bytes()) {
-            return Some(*context);
-        }
-    }
-    None
-}
-
-fn function_among(functions: &[Function], name: &str) -> Option<Function>
-    ensures { result ≡ find (λ f. same_name (function_name f) name.now) functions.now }
-{
-    for function in functions {
-        if is_same_name(function.name().as_bytes(), name.as_bytes()) {
-            return Some(*function);
-        }
-    }
-    None
 }

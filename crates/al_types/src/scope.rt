@@ -1,7 +1,6 @@
 //! Which contexts and functions are available at a place.
 
 ghost use Rattle.std.specs.Prelude.{◌≡◌};
-ghost use Rattle.al_types.specs.Scopes as scopes;
 ghost use Rattle.al_types.specs.Scopes.{can_call};
 
 use crate::names::{Context, Function};
@@ -23,18 +22,11 @@ pub struct Available {
     pub special: &'static [Function],
 }
 
-/// Whether a function is available only at some places.
-fn is_special(function: Function) -> bool
-    ensures { result ≡ scopes.is_special function }
-{
-    SPECIAL_FUNCTIONS.contains(&function)
-}
-
 impl Available {
     /// Whether a function can be called: one that isn't special can be called everywhere.
     pub fn allows(&self, function: Function) -> bool
         ensures { result ≡ can_call self.now.special.now function }
     {
-        !is_special(function) || self.special.contains(&function)
+        !SPECIAL_FUNCTIONS.contains(&function) || self.special.contains(&function)
     }
 }

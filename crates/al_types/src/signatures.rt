@@ -51,10 +51,7 @@ pub struct Signature {
 pub fn signature_of(name: &str) -> Option<Signature>
     ensures { result ≡ option_map signature (function_of name.now) }
 {
-    match Function::from_name(name) {
-        Some(function) => Some(function.signature()),
-        None => None,
-    }
+    Function::from_name(name).map(|function| function.signature())
 }
 
 impl Function {
@@ -62,34 +59,26 @@ impl Function {
     pub fn signature(self) -> Signature
         ensures { result ≡ signature self }
     {
+        use Parameters::{One, OneOrMore, OneOrTwo, Two, Zero};
         let (parameters, returned) = match self {
             Function::Contains => (
-                Parameters::Two(Wanted::NotObject, Wanted::NotCollection),
+                Two(Wanted::NotObject, Wanted::NotCollection),
                 Returned::Bool,
             ),
-            Function::StartsWith | Function::EndsWith => {
-                (
-                    Parameters::Two(Wanted::String, Wanted::String),
-                    Returned::Bool,
-                )
-            }
-            Function::Format => (
-                Parameters::OneOrMore(Wanted::String, Wanted::Any),
-                Returned::String,
-            ),
+            Function::StartsWith => (Two(Wanted::String, Wanted::String), Returned::Bool),
+            Function::EndsWith => (Two(Wanted::String, Wanted::String), Returned::Bool),
+            Function::Format => (OneOrMore(Wanted::String, Wanted::Any), Returned::String),
             Function::Join => (
-                Parameters::OneOrTwo(Wanted::ArrayOrString, Wanted::String),
+                OneOrTwo(Wanted::ArrayOrString, Wanted::String),
                 Returned::String,
             ),
-            Function::ToJson => (Parameters::One(Wanted::Any), Returned::String),
-            Function::FromJson => (Parameters::One(Wanted::String), Returned::Any),
-            Function::HashFiles => (
-                Parameters::OneOrMore(Wanted::String, Wanted::String),
-                Returned::String,
-            ),
-            Function::Success | Function::Always | Function::Cancelled | Function::Failure => {
-                (Parameters::Zero, Returned::Bool)
-            }
+            Function::ToJson => (One(Wanted::Any), Returned::String),
+            Function::FromJson => (One(Wanted::String), Returned::Any),
+            Function::HashFiles => (OneOrMore(Wanted::String, Wanted::String), Returned::String),
+            Function::Success => (Zero, Returned::Bool),
+            Function::Always => (Zero, Returned::Bool),
+            Function::Cancelled => (Zero, Returned::Bool),
+            Function::Failure => (Zero, Returned::Bool),
         };
         Signature {
             parameters,
