@@ -40,8 +40,7 @@ impl Node {
     {
         match &self.unshared().kind {
             Kind::Scalar(scalar) => Some(scalar),
-            Kind::Sequence(_) | Kind::Mapping(_) => None,
-            Kind::Shared(_) => unreachable!(),
+            _ => None,
         }
     }
 
@@ -50,10 +49,7 @@ impl Node {
         requires { HasTexts (view self.now) }
         ensures { option_map (λ t. t.now) result ≡ option_map text_of (scalar_in (view self.now)) }
     {
-        match self.scalar() {
-            Some(scalar) => Some(scalar.as_str()),
-            None => None,
-        }
+        self.scalar().map(|scalar| scalar.as_str())
     }
 
     /// The items of the sequence, if the node is one.
@@ -63,8 +59,7 @@ impl Node {
     {
         match &self.unshared().kind {
             Kind::Sequence(items) => Some(items.as_slice()),
-            Kind::Scalar(_) | Kind::Mapping(_) => None,
-            Kind::Shared(_) => unreachable!(),
+            _ => None,
         }
     }
 
@@ -75,8 +70,7 @@ impl Node {
     {
         match &self.unshared().kind {
             Kind::Mapping(entries) => Some(entries.as_slice()),
-            Kind::Scalar(_) | Kind::Sequence(_) => None,
-            Kind::Shared(_) => unreachable!(),
+            _ => None,
         }
     }
 }

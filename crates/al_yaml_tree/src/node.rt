@@ -46,40 +46,33 @@ pub struct Doc {
 pub fn scalar_node(scalar: Scalar, span: Span) -> Node
     ensures { view result ≡ tree.scalar scalar span }
 {
-    Node {
-        kind: Kind::Scalar(scalar),
-        span,
-    }
+    let kind = Kind::Scalar(scalar);
+    Node { kind, span }
 }
 
 /// A sequence node with these items.
 pub fn sequence_node(items: Vec<Node>, span: Span) -> Node
     ensures { view result ≡ tree.sequence (nodes_of (map view items.items)) span }
 {
-    Node {
-        kind: Kind::Sequence(items),
-        span,
-    }
+    let kind = Kind::Sequence(items);
+    Node { kind, span }
 }
 
 /// A mapping node with these entries.
 pub fn mapping_node(entries: Vec<Entry>, span: Span) -> Node
     ensures { view result ≡ tree.mapping (entries_of (map entry_view entries.items)) span }
 {
-    Node {
-        kind: Kind::Mapping(entries),
-        span,
-    }
+    let kind = Kind::Mapping(entries);
+    Node { kind, span }
 }
 
 /// One more owner of a shared node. Fails with `AllocError` if it has too many.
 pub fn shared_node(node: &Rc<Node>) -> Result<Node, AllocError>
     ensures { IfOk result (λ n. view n ≡ view node.now.value) }
 {
-    Ok(Node {
-        span: node.span,
-        kind: Kind::Shared(node.clone()?),
-    })
+    let kind = Kind::Shared(node.clone()?);
+    let span = node.span;
+    Ok(Node { kind, span })
 }
 
 /// A node made sharable. Fails with `AllocError` when out of memory.

@@ -18,10 +18,6 @@ fault_in (Err f) = Some f
 abbrev pub refusal : List ℕ → Option FaultAt
 refusal bs = fault_in (tree_of bs)
 
--- a line feed
-abbrev pub feed : List ℕ
-feed = 10 ∷ []
-
 abbrev pub item_classes : Nodes → List Class
 item_classes no_nodes = []
 item_classes (item (scalar s at) ns) = s.class ∷ item_classes ns
