@@ -1,8 +1,8 @@
 //! Worked lists of faults, computed by the definitions.
 ghost use Rattle.std.specs.Prelude.{◌≡◌, [], ◌∷◌, codes};
 ghost use Rattle.al_base.specs.FaultLists.{fault_list};
-ghost use Rattle.al_base.specs.Rows.Words.{at};
-ghost use Rattle.al_base.specs.declared.codes.Code.TheVariants as code;
+ghost use Rattle.al_base.specs.Rows.Words.{AreListed, IsBefore, at, key_at};
+ghost use Rattle.al_base.specs.declared.codes.Code.TheVariants.{Call, Expression, Key, Rule, Yaml};
 ghost use Rattle.al_base.specs.declared.codes.YamlCode.TheVariants.{UnclosedQuote, WrongKey};
 ghost use Rattle.al_base.specs.declared.codes.KeyCode.TheVariants.{Unexpected, Missing, Repeated};
 ghost use Rattle.al_base.specs.declared.codes.RuleCode.TheVariants.{MissingOutputValue, UnknownEvent};
@@ -13,30 +13,25 @@ ghost use Rattle.al_base.specs.declared.codes.ExpressionCode.TheVariants.{BadCha
 /// The lists of some small sets of faults, as the definitions give them. Does nothing at run time.
 pub fn rows()
     // one of three is given twice
-    ensures repeated { fault_list (at 9 12 (code.Key Repeated) (codes "on" ∷ []) ∷ at 0 3 (code.Key Unexpected) (codes "oh" ∷ [])
-        ∷ at 9 12 (code.Key Repeated) (codes "on" ∷ []) ∷ [])
-        ≡ at 0 3 (code.Key Unexpected) (codes "oh" ∷ []) ∷ at 9 12 (code.Key Repeated) (codes "on" ∷ []) ∷ [] }
+    ensures repeated { let on = at 9 12 (Key Repeated) (codes "on" ∷ []) in
+        let oh = at 0 3 (Key Unexpected) (codes "oh" ∷ []) in
+        fault_list (on ∷ oh ∷ on ∷ []) ≡ oh ∷ on ∷ [] }
     // the start before the end
-    ensures starts { fault_list (at 5 6 (code.Key Unexpected) [] ∷ at 4 9 (code.Key Unexpected) [] ∷ at 4 8 (code.Key Unexpected) [] ∷ [])
-        ≡ at 4 8 (code.Key Unexpected) [] ∷ at 4 9 (code.Key Unexpected) [] ∷ at 5 6 (code.Key Unexpected) [] ∷ [] }
+    ensures starts { fault_list (key_at 5 6 ∷ key_at 4 9 ∷ key_at 4 8 ∷ [])
+        ≡ key_at 4 8 ∷ key_at 4 9 ∷ key_at 5 6 ∷ [] }
     // by code: kind by kind, and in a kind by number
-    ensures kinds { fault_list (at 0 1 (code.Expression BadCharacter) [] ∷ at 0 1 (code.Rule UnknownEvent) []
-        ∷ at 0 1 (code.Key Unexpected) [] ∷ at 0 1 (code.Yaml WrongKey) [] ∷ [])
-        ≡ at 0 1 (code.Yaml WrongKey) [] ∷ at 0 1 (code.Key Unexpected) [] ∷ at 0 1 (code.Rule UnknownEvent) []
-        ∷ at 0 1 (code.Expression BadCharacter) [] ∷ [] }
-    ensures codes_of_yaml { fault_list (at 0 1 (code.Yaml WrongKey) [] ∷ at 0 1 (code.Yaml UnclosedQuote) [] ∷ [])
-        ≡ at 0 1 (code.Yaml UnclosedQuote) [] ∷ at 0 1 (code.Yaml WrongKey) [] ∷ [] }
-    ensures codes_of_rules { fault_list (at 0 1 (code.Rule MissingOutputValue) [] ∷ at 0 1 (code.Rule UnknownEvent) [] ∷ [])
-        ≡ at 0 1 (code.Rule UnknownEvent) [] ∷ at 0 1 (code.Rule MissingOutputValue) [] ∷ [] }
-    ensures codes_of_expressions { fault_list (at 0 1 (code.Expression UnclosedChunk) [] ∷ at 0 1 (code.Expression BadCharacter) [] ∷ [])
-        ≡ at 0 1 (code.Expression BadCharacter) [] ∷ at 0 1 (code.Expression UnclosedChunk) [] ∷ [] }
-    ensures calls_last { fault_list (at 0 1 (code.Call UndefinedInput Job) [] ∷ at 0 1 (code.Expression UnclosedChunk) [] ∷ [])
-        ≡ at 0 1 (code.Expression UnclosedChunk) [] ∷ at 0 1 (code.Call UndefinedInput Job) [] ∷ [] }
-    ensures codes_of_calls { fault_list (at 0 1 (code.Call NotCallable Job) [] ∷ at 0 1 (code.Call UndefinedInput Step) []
-        ∷ at 0 1 (code.Call UndefinedInput Job) [] ∷ [])
-        ≡ at 0 1 (code.Call UndefinedInput Job) [] ∷ at 0 1 (code.Call UndefinedInput Step) []
-        ∷ at 0 1 (code.Call NotCallable Job) [] ∷ [] }
+    ensures kinds { AreListed
+        (Expression BadCharacter ∷ Rule UnknownEvent ∷ Key Unexpected ∷ Yaml WrongKey ∷ [])
+        (Yaml WrongKey ∷ Key Unexpected ∷ Rule UnknownEvent ∷ Expression BadCharacter ∷ []) }
+    ensures codes_of_yaml { IsBefore (Yaml UnclosedQuote) (Yaml WrongKey) }
+    ensures codes_of_rules { IsBefore (Rule UnknownEvent) (Rule MissingOutputValue) }
+    ensures codes_of_expressions { IsBefore (Expression BadCharacter) (Expression UnclosedChunk) }
+    ensures calls_last { IsBefore (Expression UnclosedChunk) (Call UndefinedInput Job) }
+    ensures codes_of_calls { AreListed
+        (Call NotCallable Job ∷ Call UndefinedInput Step ∷ Call UndefinedInput Job ∷ [])
+        (Call UndefinedInput Job ∷ Call UndefinedInput Step ∷ Call NotCallable Job ∷ []) }
     // the same code at the same place: by the arguments
-    ensures arguments { fault_list (at 0 0 (code.Key Missing) (codes "on" ∷ []) ∷ at 0 0 (code.Key Missing) (codes "jobs" ∷ []) ∷ [])
-        ≡ at 0 0 (code.Key Missing) (codes "jobs" ∷ []) ∷ at 0 0 (code.Key Missing) (codes "on" ∷ []) ∷ [] }
+    ensures arguments { let on = at 0 0 (Key Missing) (codes "on" ∷ []) in
+        let jobs = at 0 0 (Key Missing) (codes "jobs" ∷ []) in
+        fault_list (on ∷ jobs ∷ []) ≡ jobs ∷ on ∷ [] }
 {}
