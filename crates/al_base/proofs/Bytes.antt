@@ -1,9 +1,8 @@
 -- Lemmas about what a sequence of writes appends.
 use Rattle.std.proofs.lemmas.List.{take_more, take-append-drop, take_rest, take-append-le}
 use Rattle.std.proofs.lemmas.Grind.{flat_map-append}
-use Rattle.std.proofs.lemmas.List.Concat.{flat_map_single}
 use Rattle.std.specs.List.{flat_map}
-use Rattle.std.proofs.Common.{◌<◌, [], ◌∷◌, get_or, map, ◌≡◌, ℕ, ◌+◌, ◌-◌, ◌≤◌, List, ◌++◌, length, take, drop, sym, subst, ap, ◌∙◌, arith, Option, None, Some, length-append, append-nil}
+use Rattle.std.proofs.Common.{◌<◌, [], ◌∷◌, get_or, ◌≡◌, ℕ, ◌+◌, ◌-◌, ◌≤◌, List, ◌++◌, length, take, drop, sym, subst, ap, ◌∙◌, arith, Option, None, Some, length-append, append-nil}
 use Rattle.std.proofs.Math.Seq.{take-add, take-length, take-append-add}
 use Rattle.std.specs.Io.KnownBytes.{Appends, Keeps}
 use Rattle.std.proofs.KnownBytes.{Appends-trans}
@@ -48,12 +47,6 @@ AppendsPrefix-part {X} f parts i d a b c h p w =
     (flat_map-append f (take i parts) (x ∷ []) ∙ ap (λ l. flat_map f (take i parts) ++ l) (append-nil (f x))) in
     subst (AppendsPrefix a c) (sym split) (AppendsPrefix-wider a c (flat_map f (take i parts) ++ f x) _ (AppendsPrefix-after a b c (flat_map f (take i parts)) (f x) p w))
 
--- the same where each part is a single byte
-pub AppendsPrefix-item : {X : Type 0} (f : X → ℕ) (xs : List X) (i : ℕ) (d : X) (a b c : Option (List ℕ)) → i < length xs
-    → Appends a b (map f (take i xs)) → AppendsPrefix b c (f (get_or xs i d) ∷ []) → AppendsPrefix a c (map f xs)
-AppendsPrefix-item f xs i d a b c h p w =
-    subst (AppendsPrefix a c) (flat_map_single f xs) (AppendsPrefix-part (λ y. f y ∷ []) xs i d a b c h (subst (Appends a b) (sym (flat_map_single f (take i xs))) p) w)
-
 -- What a loop has appended that writes one part for each element; x is the next element.
 module _ {X : Type 0} (f : X → List ℕ) (parts : List X) (i : ℕ) (x : X) (within : i < length parts) (read : x ≡ get_or parts i x)
     (a b c : Option (List ℕ)) (so_far : Appends a b (flat_map f (take i parts))) where
@@ -64,7 +57,3 @@ module _ {X : Type 0} (f : X → List ℕ) (parts : List X) (i : ℕ) (x : X) (w
       ap (flat_map f) (take_more parts i x within ∙ ap (λ y. take i parts ++ y ∷ []) (sym read)) ∙ flat_map-append f (take i parts) (x ∷ [])
       ∙ ap (λ l. flat_map f (take i parts) ++ l) (append-nil (f x)) in
       subst (Appends a c) (sym whole) (Appends-trans a b c (flat_map f (take i parts)) (f x) so_far more)
-
-  -- A prefix of the next part gives a prefix of all parts.
-  pub AppendsPrefix-next : AppendsPrefix b c (f x) → AppendsPrefix a c (flat_map f parts)
-  AppendsPrefix-next front = AppendsPrefix-part f parts i x a b c within so_far (subst (λ (y : X). AppendsPrefix b c (f y)) read front)

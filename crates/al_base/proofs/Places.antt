@@ -1,13 +1,14 @@
 -- The position at which each text of a list first occurs, from its sorted entries.
 use Rattle.std.proofs.Common.{◌≡◌, ◌<◌, ℕ, ◌+◌, ◌-◌, Bool, true, false, ◌&&◌, List, [], ◌∷◌, ◌++◌, length, map, get_or, zero, suc, refl, sym, ap, subst, ◌∙◌, Option, Some}
-use Rattle.std.proofs.Common.{arith, ⊎_elim}
+use Rattle.std.proofs.Common.{arith, inl, inr, slice_set, ⊎_elim}
 use Rattle.std.specs.Prelude.{IsPermutation, nat_eq, nat_lt, slice_index}
 use Rattle.std.specs.Cmp.{tied_then}
 use Rattle.std.specs.Cmp.Lexicographic.{bytes_decides, slice_cmp}
 use Rattle.std.specs.Option.{option_eq}
 use Rattle.std.specs.Ordering.{is_eq, nat_cmp}
-use Rattle.std.proofs.lemmas.Bool.{and_parts, cases_lt, lt-ltb}
-use Rattle.std.proofs.lemmas.List.{get_or-append_right, get_or_append_left, get_or-map, get_or_default, length-append, length-map}
+use Rattle.std.proofs.lemmas.Bool.{and_parts, cases_eq, cases_lt, lt-ltb}
+use Rattle.std.proofs.lemmas.Grind.{get_or-set_at}
+use Rattle.std.proofs.lemmas.List.{get_or-append_right, get_or-set_other, get_or_append_left, get_or-map, get_or_default, length-append, length-map}
 use Rattle.std.proofs.lemmas.List.Elements.{All-contains, Contains-get_or}
 use Rattle.std.proofs.lemmas.List.Sorted.{All-permutation, Contains-permutation, length_permutation}
 use Rattle.std.proofs.lemmas.Map.Text.{is_eq-slice_cmp}
@@ -50,6 +51,28 @@ module _ {T : Type 0} (bytes : T → List ℕ) where
   new_place es sorted numbers i x l is others =
       let number : entry_key bytes x ≡ sort_key (bytes x.text) = subst (λ (y : Entry T). entry_key bytes y ≡ sort_key (bytes y.text)) (sym is) (numbers i x l) in
       position_first bytes es (bytes x.text) x.number (ap (λ (k : Key). k.0) number) sorted i x l is refl others
+
+  -- One more place is written: that of entry i, at its position.
+  pub placed_next : (ts : List (List ℕ)) (es : List (Entry T)) (places : List ℕ) (i : ℕ) (x : Entry T) (place : ℕ) → AreOf bytes ts es → length ts ≡ length es
+      → length places ≡ length es → i < length es → x ≡ get_or es i x → place_of bytes es x ≡ Some place
+      → ((k : ℕ) (e : Entry T) → k < i → place_of bytes es (get_or es k e) ≡ Some (slice_index places (get_or es k e).position))
+      → (k : ℕ) (e : Entry T) → k < i + 1 → place_of bytes es (get_or es k e) ≡ Some (slice_index (slice_set places x.position place) (get_or es k e).position)
+  placed_next ts es places i x place of many room l is placed before k e m =
+      let y : Entry T = get_or es k e in
+      let own = subst (λ (z : Entry T). entry_key bytes z ≡ sort_key (get_or ts z.position [])) (sym is) (of i x l).1 in
+      elim (cases_eq y.position x.position) [
+        | inl same ↦
+            let texts : bytes y.text ≡ bytes x.text =
+            ap (λ (k : Key). k.1) (of k e (omega (arith, m, l))).1 ∙ ap (λ n. get_or ts n []) same ∙ sym (ap (λ (k : Key). k.1) own) in
+            let inside = (of k e (omega (arith, m, l))).0 in
+            ap (position_among bytes es) texts ∙ placed
+            ∙ ap Some (sym (get_or-set_at places x.position y.position place 0 same (omega (arith, inside, same, many, room))))
+        | inr other ↦
+            let earlier : k < i = ⊎_elim (λ h. h)
+            (λ h. absurd (other (let z : k ≡ i = omega (arith, h, m) in
+            ap (λ (v : Entry T). v.position) (ap (λ j. get_or es j e) z ∙ get_or_default es i e x l ∙ sym is)))) (cases_lt k i) in
+            before k e earlier ∙ ap Some (sym (get_or-set_other places x.position y.position place 0 other))
+      ]
 
   -- ---- the entries before they are sorted
 

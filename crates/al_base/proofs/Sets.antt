@@ -48,9 +48,6 @@ mix as' bs cs ds x h =
 pub set_mixed : {X : Type 0} (as' bs cs ds : List X) → SameSet ((as' ++ bs) ++ (cs ++ ds)) ((as' ++ cs) ++ (bs ++ ds))
 set_mixed as' bs cs ds x = (mix as' bs cs ds x, mix as' cs bs ds x)
 
-swap : {X : Type 0} (xs ys : List X) (x : X) → Contains (xs ++ ys) x → Contains (ys ++ xs) x
-swap xs ys x h = ⊎_elim (λ a. Contains-append_right ys xs x a) (λ b. Contains-append_left ys xs x b) (Contains-append_cases xs ys x h)
-
 -- Appending elements that are already there adds nothing.
 pub set_there : {X : Type 0} (xs zs : List X) → ((x : X) → Contains zs x → Contains xs x) → SameSet xs (xs ++ zs)
 set_there xs zs there x = (λ h. Contains-append_left xs zs x h, λ h. ⊎_elim (λ a. a) (λ b. there x b) (Contains-append_cases xs zs x h))

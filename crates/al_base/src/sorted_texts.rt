@@ -1,8 +1,8 @@
 //! Sorted texts, each with its position in the original list.
 
-ghost use Rattle.std.specs.Prelude.{◌≡◌, ◌+◌, ◌<◌, ℕ, IfOk, IsPermutation, Some, length, slice_index_or};
-ghost use Rattle.al_base.specs.SortedTexts.{AreNumbered, AreSorted, StandIn, TellPlaces, entry_key, key_cmp};
-ghost use Rattle.al_base.specs.SortedTexts.{place_of, position_among, sort_key, tail_number};
+ghost use Rattle.std.specs.Prelude.{◌≡◌, IfOk, IsPermutation};
+ghost use Rattle.al_base.specs.SortedTexts.{AreSorted, StandIn, TellPlaces, entry_key, key_cmp};
+ghost use Rattle.al_base.specs.SortedTexts.{position_among, sort_key, tail_number};
 
 use std::alloc::{AllocError, Global};
 use std::cmp::Ordering;
@@ -74,23 +74,6 @@ pub(crate) fn position_by<T: AsSlice<u8> + Drop>(entries: &[Entry<T>], text: &[u
     None
 }
 
-/// The first position of an entry's text, by sorted entries and the first position of the text before it.
-fn place_after<T: AsSlice<u8> + Drop>(entries: &[Entry<T>], i: usize, before: usize) -> usize
-    requires order { AreSorted T.items entries.now }
-    requires numbers { AreNumbered T.items entries.now }
-    requires within { i < length entries.now }
-    requires before { (k : ℕ) (e : Entry T) → k + 1 ≡ i
-        → place_of T.items entries.now (slice_index_or entries.now k e) ≡ Some before }
-    ensures { (e : Entry T) → place_of T.items entries.now (slice_index_or entries.now i e) ≡ Some result }
-{
-    let entry = &entries[i];
-    let text = entry.text.as_slice();
-    if i > 0 && entries[i - 1].compare(entry.number, text).is_eq() {
-        return before;
-    }
-    entry.position
-}
-
 /// The first position of the text at each position, by sorted entries. Fails with `AllocError` when out of memory.
 pub(crate) fn places_by<T: AsSlice<u8> + Drop>(
     alloc: Global,
@@ -103,8 +86,12 @@ pub(crate) fn places_by<T: AsSlice<u8> + Drop>(
     let mut places = vec![in alloc; 0; entries.len()]?;
     let mut place = 0;
     for i in 0..entries.len() {
-        place = place_after(entries, i, place);
-        places[entries[i].position] = place;
+        let entry = &entries[i];
+        let text = entry.text.as_slice();
+        if i == 0 || !entries[i - 1].compare(entry.number, text).is_eq() {
+            place = entry.position;
+        }
+        places[entry.position] = place;
     }
     Ok(places)
 }

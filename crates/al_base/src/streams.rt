@@ -1,9 +1,9 @@
 //! Readers and writers that count what they did and what failed.
-ghost use Rattle.std.specs.Prelude.{◌≡◌, ◌+◌, ◌<◌, ◌≤◌, length, max, take, IfOk, OnOk, OnErr, IsOkUnless};
+ghost use Rattle.std.specs.Prelude.{◌≡◌, length, max, OnOk, OnErr, IsOkUnless};
 ghost use Rattle.std.specs.Io.{ReadsAtMost};
 ghost use Rattle.std.specs.Io.KnownBytes.{Keeps, ReadConsumes};
 ghost use Rattle.al_base.specs.Counted.{count_after, HasRisen};
-ghost use Rattle.al_base.specs.Streams.{Writes, WritesOrFails, bytes_left, bytes_written, largest_ask, read_failures, turns_of};
+ghost use Rattle.al_base.specs.Streams.{WritesOrFails, bytes_left, bytes_written, largest_ask, read_failures, turns_of};
 ghost use Rattle.al_base.specs.Streams.{write_failures};
 
 use super::stops::Stop;
@@ -106,30 +106,15 @@ impl<W: Write> Output<W> {
     {
         let mut done = 0;
         while done < bytes.len() {
-            done += self.write_some(&bytes[done..])?;
-        }
-        Ok(())
-    }
-
-    // One write, which takes at least one byte or fails.
-    fn write_some(&mut self, bytes: &[u8]) -> Result<usize, Stop>
-        requires { 0 < length bytes.now }
-        ensures bound { IfOk result (λ n. (0 < n) × (n ≤ length bytes.now)) }
-        ensures all { IfOk result (λ n. Writes W.contents self.old self.new (take n bytes.now)) }
-        ensures kept { OnErr result
-            (Keeps (bytes_written W.contents self.old) (bytes_written W.contents self.new)) }
-        ensures failures { OnOk result (write_failures self.new ≡ write_failures self.old) }
-        ensures failed { OnErr result
-            (HasRisen (write_failures self.old) (write_failures self.new)) }
-        ensures err { IsOkUnless result Stop.WriteFault }
-    {
-        match self.inner.write(bytes) {
-            Ok(n) if n > 0 => Ok(n),
-            _ => {
-                self.failures = self.failures.saturating_add(1);
-                Err(Stop::WriteFault)
+            match self.inner.write(&bytes[done..]) {
+                Ok(count) if count > 0 => done += count,
+                _ => {
+                    self.failures = self.failures.saturating_add(1);
+                    return Err(Stop::WriteFault);
+                }
             }
         }
+        Ok(())
     }
 
     /// Flushes the inner writer. Fails with `Stop::WriteFault` if that failed, which counts as a failed write.

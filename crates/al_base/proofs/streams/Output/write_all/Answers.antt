@@ -7,6 +7,6 @@ pub loop-done-preserved : goal.loop-done-preserved
 loop-done-preserved g c =
     record {
       within = search (rules, common_steps);
-      appended = Appends-more _ _ _ c.args.bytes.now c.loop-done.done c.in_ok-done.field-0 c.loop-done.invariant.appended c.in_ok-done.ensures.all;
+      appended = Appends-more _ _ _ c.args.bytes.now c.loop-done.done c.in-Ok.count c.loop-done.invariant.appended c.in-Ok.ensures.bytes;
       unfailed = search (rules, common_steps);
     }
