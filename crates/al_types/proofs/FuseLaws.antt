@@ -79,11 +79,6 @@ common_optional None b = refl
 common_optional (Some t) None = refl
 common_optional (Some t) (Some u) = refl
 
--- the same for the options in the code
-pub common_more : (t o u : Option Type') (b : Optional) → t ≡ common_type o u → u ≡ option_of b → optional t ≡ fuse_optional (optional o) b
-common_more t o u b e is =
-    ap optional e ∙ common_optional o u ∙ ap (λ x. fuse_optional (optional o) (optional x)) is ∙ ap (fuse_optional (optional o)) (option_back b)
-
 -- ---- objects
 
 -- An object without fields is neutral.

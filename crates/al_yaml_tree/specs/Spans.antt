@@ -51,12 +51,6 @@ EntriesInside size = EachEntry (λ s at. LiesIn size at) (LiesAround size)
 abbrev pub AreFrom : ℕ → Node → Type 0
 AreFrom size = Each (λ s at. IsFrom size s) (λ at inner. inner)
 
-abbrev pub ItemsFrom : ℕ → Nodes → Type 0
-ItemsFrom size = EachItem (λ s at. IsFrom size s) (λ at inner. inner)
-
-abbrev pub EntriesFrom : ℕ → Entries → Type 0
-EntriesFrom size = EachEntry (λ s at. IsFrom size s) (λ at inner. inner)
-
 -- The same without an order, as an alias refers to a node elsewhere in the file: each span of a node lies in the first size bytes of a
 -- file of so many, and each scalar's text relates to its span as above.
 abbrev pub IsLaidIn : ℕ → ℕ → Node → Type 0
