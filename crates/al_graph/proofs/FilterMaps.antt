@@ -1,7 +1,7 @@
 -- The elements of a `filter_map`.
 use Rattle.std.proofs.Common.{◌≡◌, ℕ, zero, suc, ◌<◌, List, [], ◌∷◌, length, get_or, Option, Some, None, sym, ◌∙◌, ap, subst, refl, arith, ⊎_elim}
 use Rattle.std.specs.Prelude.{Contains}
-use Rattle.std.specs.List.{AllByRecursion, cons_option, filter_map}
+use Rattle.std.specs.List.{cons_option, filter_map}
 use Rattle.std.proofs.lemmas.List.Elements.{Contains-append_right, Contains-append_cases}
 use Rattle.al_graph.proofs.Lists.{none_in, one_is}
 
@@ -25,8 +25,3 @@ module _ {X : Type 0} (h : X → Option ℕ) where
   pub all_in_filter_map : (P : ℕ → Type 0) → ((x : X) (k : ℕ) → h x ≡ Some k → P k) → (xs : List X) (k : ℕ) → Contains (filter_map h xs) k → P k
   all_in_filter_map P f [] k c = absurd (none_in k c)
   all_in_filter_map P f (x ∷ xs) k c = took P (h x) k (filter_map h xs) (f x) (all_in_filter_map P f xs k) c
-
-  -- A property of each number that an element maps to.
-  pub each_in_filter_map : (P : ℕ → Type 0) (xs : List X) → AllByRecursion (λ x. (k : ℕ) → h x ≡ Some k → P k) xs → (k : ℕ) → Contains (filter_map h xs) k → P k
-  each_in_filter_map P [] all k c = absurd (none_in k c)
-  each_in_filter_map P (x ∷ xs) all k c = took P (h x) k (filter_map h xs) all.0 (each_in_filter_map P xs all.1 k) c

@@ -1,9 +1,9 @@
 -- The steps of labelling, and why equal labels mean one strongly connected component in the end.
-use Rattle.std.proofs.Common.{◌≡◌, ℕ, ◌+◌, ◌<◌, ◌≤◌, List, [], ◌∷◌, ◌++◌, length, get_or, set, take, refl, sym, subst}
+use Rattle.std.proofs.Common.{◌≡◌, ℕ, ◌+◌, ◌<◌, ◌≤◌, List, [], ◌∷◌, ◌++◌, length, get_or, replicate, set, take, refl, sym, subst}
 use Rattle.std.proofs.Common.{ap, ◌∙◌, arith, ⊎_elim, inl, inr, length-append, Option, Some, None, true, false, is_none, is_some}
 use Rattle.std.specs.Prelude.{Contains, ◌↔◌}
 use Rattle.std.specs.Option.{unwrap_or}
-use Rattle.std.proofs.lemmas.List.{length-set, get_or_default, get_or-set_other, get_or-set_same, take_more, get_or_past}
+use Rattle.std.proofs.lemmas.List.{length-replicate, length-set, get_or-replicate, get_or_default, get_or-set_other, get_or-set_same, take_more, get_or_past}
 use Rattle.std.proofs.lemmas.List.Elements.{Contains-append_left, Contains-append_right, Contains-append_cases}
 use Rattle.std.proofs.lemmas.List.Sums.{sum_by-set}
 use Rattle.std.proofs.lemmas.Bool.{cases_eq, cases_lt}
@@ -223,6 +223,30 @@ pub no_waiting : (graph : List (List ℕ)) (order : List ℕ) (labels : List (Op
     IsLabelling graph order labels at waiting → IsLabelling graph order labels at []
 no_waiting graph order labels at [] e s = s
 no_waiting graph order labels at (x ∷ xs) e s = absurd (omega (arith, e))
+
+no_label : (n k l : ℕ) → label_at (replicate n None) k ≡ Some l → ⊥
+no_label n k l e =
+    let labels : List (Option ℕ) = replicate n None in
+    let size : length labels ≡ n = length-replicate n None in
+    not_both l (label_at labels k)
+    (⊎_elim (λ h. get_or-replicate n k None None h) (λ past. get_or_past labels k None (omega (arith, size, past))) (cases_lt k n)) e
+
+-- before any node is labelled
+pub labelling_none : (graph : List (List ℕ)) (order : List ℕ) (labels : List (Option ℕ)) (n at : ℕ) → labels ≡ replicate n None → length graph ≡ n → at ≡ length order →
+    IsLabelling graph order labels at []
+labelling_none graph order labels n at none size end =
+    let No : Type 0 = (k l : ℕ) → label_at labels k ≡ Some l → ⊥ in
+    let no : No = rw none (no_label n) in
+    record {
+      size = ap length none ∙ length-replicate n None ∙ sym size;
+      low = λ k l s. absurd (no k l s);
+      high = λ k l s. absurd (no k l s);
+      done = λ i from to. absurd (omega (arith, from, to, end));
+      closed = λ j k l edge s. absurd (no j l s);
+      opened = λ k c. absurd (none_in k c);
+      reached = λ k l s. absurd (no k l s);
+      leads = λ k l s. absurd (no k l s);
+    }
 
 -- The source of an edge is a node of the graph.
 pub from_inside : (graph : List (List ℕ)) (j k : ℕ) → Edge graph j k → j < length graph

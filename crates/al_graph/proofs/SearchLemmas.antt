@@ -230,22 +230,22 @@ cost_enter graph seen frames w next rest lt fresh =
 -- ---- the steps, given the values that the code computes
 
 -- The next node is in the graph, and has a mark.
-pub step_inside : (graph : List (List ℕ)) (seen : List Bool) (frames : List (ℕ × List ℕ)) (order : List ℕ) (w next bound : ℕ) (nodes rest : List ℕ) →
-    nodes ≡ next ∷ rest → length graph ≡ bound → ((j k : ℕ) → Edge graph j k → k < bound) → IsSearch graph seen (frames ++ (w, nodes) ∷ []) order →
+pub step_inside : (graph : List (List ℕ)) (seen : List Bool) (frames : List (ℕ × List ℕ)) (order : List ℕ) (w next bound : ℕ) (rest : List ℕ) →
+    length graph ≡ bound → ((j k : ℕ) → Edge graph j k → k < bound) → IsSearch graph seen (frames ++ (w, next ∷ rest) ∷ []) order →
     (next < length graph) × (next < length seen)
-step_inside graph seen frames order w next bound nodes rest is size edges_in s =
-    let below : next < bound = edges_in w next (edge_next graph seen frames order rest w next (rw is at s)) in
+step_inside graph seen frames order w next bound rest size edges_in s =
+    let below : next < bound = edges_in w next (edge_next graph seen frames order rest w next s) in
     let marks : length seen ≡ length graph = s.begun.size in
     (omega (arith, below, size), omega (arith, below, size, marks))
 
-pub step_enter : (graph : List (List ℕ)) (seen now : List Bool) (frames mid after : List (ℕ × List ℕ)) (order : List ℕ) (w next : ℕ) (nodes rest : List ℕ) →
-    nodes ≡ next ∷ rest → mid ≡ frames ++ (w, rest) ∷ [] → next < length graph → get_or seen next false ≡ false → now ≡ set seen next true →
-    after ≡ mid ++ (next, get_or graph next []) ∷ [] → IsSearch graph seen (frames ++ (w, nodes) ∷ []) order →
-    IsSearch graph now after order × (cost graph now after < cost graph seen (frames ++ (w, nodes) ∷ [])) × ((k : ℕ) → Marked seen k → Marked now k)
-step_enter graph seen now frames mid after order w next nodes rest is m lt fresh n a s =
+pub step_enter : (graph : List (List ℕ)) (seen now : List Bool) (frames mid after : List (ℕ × List ℕ)) (order : List ℕ) (w next : ℕ) (rest : List ℕ) →
+    mid ≡ frames ++ (w, rest) ∷ [] → next < length graph → get_or seen next false ≡ false → now ≡ set seen next true →
+    after ≡ mid ++ (next, get_or graph next []) ∷ [] → IsSearch graph seen (frames ++ (w, next ∷ rest) ∷ []) order →
+    IsSearch graph now after order × (cost graph now after < cost graph seen (frames ++ (w, next ∷ rest) ∷ [])) × ((k : ℕ) → Marked seen k → Marked now k)
+step_enter graph seen now frames mid after order w next rest m lt fresh n a s =
     let inside : next < length seen = (let size = s.begun.size in omega (arith, size, lt)) in (
-      rw (n, a, m) (search_go_in graph seen frames order rest w next lt fresh (rw is at s)),
-      rw (n, a, m, is) (cost_enter graph seen frames w next rest inside fresh),
+      rw (n, a, m) (search_go_in graph seen frames order rest w next lt fresh s),
+      rw (n, a, m) (cost_enter graph seen frames w next rest inside fresh),
       rw n (λ k h. still_seen graph seen next k inside h),
     )
 

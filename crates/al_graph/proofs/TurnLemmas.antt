@@ -1,8 +1,8 @@
 -- Adding edges one after another, and transposing a graph.
-use Rattle.std.proofs.Common.{◌≡◌, ℕ, ◌+◌, ◌<◌, ◌≤◌, List, [], ◌∷◌, ◌++◌, Vec, get_or, length, refl, subst, sym, ap, ◌∙◌, arith, set, take, replicate, ◌⊎◌, ⊎_elim, inl, inr}
+use Rattle.std.proofs.Common.{◌≡◌, ℕ, ◌+◌, ◌<◌, List, [], ◌∷◌, ◌++◌, Vec, get_or, length, refl, subst, sym, ap, ◌∙◌, arith, set, take, ◌⊎◌, ⊎_elim, inl, inr}
 use Rattle.std.specs.declared.alloc.Global.{Global}
 use Rattle.std.specs.Prelude.{Contains}
-use Rattle.std.proofs.lemmas.List.{get_or-set_other, get_or-replicate, get_or_past, length-map, length-replicate, map-set, take_more}
+use Rattle.std.proofs.lemmas.List.{get_or-set_other, get_or_past, length-map, map-set, take_more}
 use Rattle.std.proofs.lemmas.List.Elements.{Contains-append_left, Contains-append_right, Contains-append_cases}
 use Rattle.std.proofs.lemmas.Grind.{get_or-set_at}
 use Rattle.std.proofs.lemmas.Bool.{cases_eq, cases_lt}
@@ -10,9 +10,6 @@ use Rattle.al_graph.specs.Graphs.{Edge, IsTranspose, Walk, edges_of, here, onwar
 use Rattle.al_graph.proofs.Lists.{is_one, none_in, one_is}
 use Rattle.al_graph.proofs.Edges.{edges_at}
 use Rattle.al_graph.proofs.Orders.{both_walks}
-
-abbrev no_edges : List ℕ
-no_edges = []
 
 abbrev In : ℕ → List ℕ → Type 0
 In k ns = Contains ns k
@@ -64,11 +61,6 @@ edges_next nodes i to a b c lt one two =
 pub record TurnedTo (i : ℕ) (graph other : List (List ℕ)) : Type 0 where
   pub all : (j k : ℕ) → j < i → Edge graph j k → Edge other k j
   pub only : (j k : ℕ) → Edge other k j → (j < i) × Edge graph j k
-
-none_at : (n k : ℕ) → get_or (replicate n no_edges) k [] ≡ []
-none_at n k =
-    let len : length (replicate n no_edges) ≡ n = length-replicate n no_edges in
-    ⊎_elim (λ h. get_or-replicate n k no_edges [] h) (λ h. let past : length (replicate n no_edges) ≤ k = omega (arith, len, h) in get_or_past (replicate n no_edges) k [] past) (cases_lt k n)
 
 pub turned_next : (graph a b : List (List ℕ)) (i : ℕ) (nodes : List ℕ) → nodes ≡ get_or graph i [] → TurnedTo i graph a → AddsEdges nodes i a b → TurnedTo (i + 1) graph b
 turned_next graph a b i nodes is t m = record {

@@ -28,45 +28,8 @@ fn enter<'a>(
         ≡ frames_of frames.old.items ++ (node, slice_index_or (edges_of graph.now) node []) ∷ []) }
 {
     seen[node] = true;
-    frames.push(Frame {
-        node,
-        rest: graph[node].as_slice(),
-    })?;
-    Ok(())
-}
-
-/// Visits the next successor of the innermost node, or finishes that node if there is none.
-fn advance<'a>(
-    graph: &'a [Vec<usize>],
-    frame: Frame<'a>,
-    seen: &mut Vec<bool>,
-    frames: &mut Vec<Frame<'a>>,
-    order: &mut Vec<usize>,
-) -> Result<(), AllocError>
-    requires edges_in { (j k : ℕ) → Edge (edges_of graph.now) j k → k < length graph.now }
-    requires search { IsSearch (edges_of graph.now) seen.old.items
-        (frames_of frames.old.items ++ frame_of frame ∷ []) order.old.items }
-    ensures search { OnOk result
-        (IsSearch (edges_of graph.now) seen.new.items
-        (frames_of frames.new.items) order.new.items) }
-    ensures kept { OnOk result ((k : ℕ) → Marked seen.old.items k → Marked seen.new.items k) }
-    ensures smaller { OnOk result
-        (cost (edges_of graph.now) seen.new.items (frames_of frames.new.items)
-        < cost (edges_of graph.now) seen.old.items
-        (frames_of frames.old.items ++ frame_of frame.entry ∷ [])) }
-{
-    let [next, rest @ ..] = frame.rest else {
-        order.push(frame.node)?;
-        return Ok(());
-    };
-    frames.push(Frame {
-        node: frame.node,
-        rest,
-    })?;
-    if seen[*next] {
-        return Ok(());
-    }
-    enter(graph, *next, seen, frames)?;
+    let rest = graph[node].as_slice();
+    frames.push(Frame { node, rest })?;
     Ok(())
 }
 
@@ -93,7 +56,16 @@ fn finish_from<'a>(
     }
     enter(graph, from, seen, frames)?;
     while let Some(frame) = frames.pop() {
-        advance(graph, frame, seen, frames, order)?;
+        let [next, rest @ ..] = frame.rest else {
+            order.push(frame.node)?;
+            continue;
+        };
+        let node = frame.node;
+        frames.push(Frame { node, rest })?;
+        if seen[*next] {
+            continue;
+        }
+        enter(graph, *next, seen, frames)?;
     }
     Ok(())
 }

@@ -62,26 +62,6 @@ fn label_from(
     Ok(())
 }
 
-/// Labels each node of the order, from the last one on.
-fn label_all(
-    alloc: Global,
-    graph: &[Vec<usize>],
-    order: &[usize],
-) -> Result<Vec<Option<usize>>, AllocError>
-    requires edges_in { (j k : ℕ) → Edge (edges_of graph.now) j k → k < length graph.now }
-    requires order { IsBackward (edges_of graph.now) order.now }
-    ensures { IfOk result (λ labels. IsLabelling (edges_of graph.now) order.now labels.items 0 []) }
-{
-    let mut labels = vec![in alloc; None; graph.len()]?;
-    let mut waiting = Vec::new(alloc);
-    let mut left = order.len();
-    while left > 0 {
-        left -= 1;
-        label_from(graph, order, left, &mut labels, &mut waiting)?;
-    }
-    Ok(labels)
-}
-
 /// A label for each node of a graph, the same for two nodes if and only if they are in one strongly connected component. No label is
 /// `None`.
 ///
@@ -98,6 +78,10 @@ pub fn strongly_connected_components(
 {
     let back = transpose(alloc, graph)?;
     let order = finish_order(alloc, back.as_slice())?;
-    let labels = label_all(alloc, graph, order.as_slice())?;
+    let mut labels = vec![in alloc; None; graph.len()]?;
+    let mut waiting = Vec::new(alloc);
+    for at in (0..order.len()).rev() {
+        label_from(graph, order.as_slice(), at, &mut labels, &mut waiting)?;
+    }
     Ok(labels)
 }

@@ -1,7 +1,7 @@
 //! The transpose of a graph.
 
 ghost use Rattle.al_graph.specs.Graphs.{Edge, IsTranspose, edges_of};
-ghost use Rattle.std.specs.Prelude.{◌≡◌, ℕ, ◌<◌, [], length, vec_len, replicate, IfOk};
+ghost use Rattle.std.specs.Prelude.{◌≡◌, ℕ, ◌<◌, length, vec_len, IfOk};
 
 use std::alloc::{AllocError, Global};
 
@@ -19,17 +19,6 @@ fn edge_counts(alloc: Global, graph: &[Vec<usize>]) -> Result<Vec<usize>, AllocE
     Ok(counts)
 }
 
-/// A graph without edges, with room for this many from each node.
-fn without_edges(alloc: Global, counts: &[usize]) -> Result<Vec<Vec<usize>>, AllocError>
-    ensures { IfOk result (λ v. edges_of v.items ≡ replicate (length counts.now) []) }
-{
-    let mut graph = Vec::with_capacity(alloc, counts.len())?;
-    for count in counts {
-        graph.push(Vec::with_capacity(alloc, *count)?)?;
-    }
-    Ok(graph)
-}
-
 /// The transpose of a graph: the same nodes, with each edge reversed.
 ///
 /// Takes time linear in nodes and edges. Fails with `AllocError` when out of memory.
@@ -39,7 +28,10 @@ pub fn transpose(alloc: Global, graph: &[Vec<usize>]) -> Result<Vec<Vec<usize>>,
     ensures transpose { IfOk result (λ v. IsTranspose (edges_of graph.now) (edges_of v.items)) }
 {
     let counts = edge_counts(alloc, graph)?;
-    let mut transpose = without_edges(alloc, counts.as_slice())?;
+    let mut transpose = Vec::with_capacity(alloc, graph.len())?;
+    for count in &counts {
+        transpose.push(Vec::with_capacity(alloc, *count)?)?;
+    }
     for (node, nodes) in graph.iter().enumerate() {
         for to in nodes {
             transpose[*to].push(node)?;

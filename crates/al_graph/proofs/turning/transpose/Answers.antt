@@ -18,11 +18,11 @@ loop-to-preserved c =
     let below = edge_inside c.args.graph.now c.requires c.loop-node.node c.loop-to.to-index c.index-graph-node.result nodes
     c.loop-node-test.true c.index-graph-node.is c.deref-to-items.ensures.value c.loop-to-test.true in
     let here : to < length c.loop-to.transpose.items = omega (arith, below, c.loop-to.invariant.len, c.loop-to.transpose.ok) in
-    let items : c.push.new.self.items ≡ c.index_mut.result.now.items ++ c.loop-node.node ∷ [] = search rules in
+    let items : c.push-in-loop-to.new.self.items ≡ c.index_mut.result.now.items ++ c.loop-node.node ∷ [] = search rules in
     record {
       len = c.loop-to.invariant.len;
       edges = edges_next nodes c.loop-to.to-index c.loop-node.node _ _ _ c.loop-to-test.true c.loop-to.invariant.edges
-          (edge_pushed c.loop-to.transpose.items to c.loop-node.node c.index_mut.result.now c.push.new.self here c.index_mut.ensures.value items);
+          (edge_pushed c.loop-to.transpose.items to c.loop-node.node c.index_mut.result.now c.push-in-loop-to.new.self here c.index_mut.ensures.value items);
     }
 
 pub loop-node-preserved : goal.loop-node-preserved
