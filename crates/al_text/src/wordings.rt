@@ -1,5 +1,5 @@
 //! The table of fault codes: what a report prints for each.
-ghost use Rattle.std.specs.Prelude.{◌≡◌, [], codes};
+ghost use Rattle.std.specs.Prelude.{◌≡◌, codes};
 ghost use Rattle.al_base.specs.Codes.{code_row, call_kind};
 ghost use Rattle.al_base.specs.declared.codes.Code.TheVariants as code;
 ghost use Rattle.al_text.specs.Private.Wordings.{IsRowOf};
@@ -13,6 +13,24 @@ pub(crate) struct CodeRow {
     pub(crate) head: &'static str,
     pub(crate) middle: &'static str,
     pub(crate) tail: &'static str,
+}
+
+// A row with these words; a message without arguments has only the first.
+macro_rules! row {
+    ($kind:expr, $head:expr) => {
+        row!($kind, $head, "", "")
+    };
+    ($kind:expr, $head:expr, $middle:expr) => {
+        row!($kind, $head, $middle, "")
+    };
+    ($kind:expr, $head:expr, $middle:expr, $tail:expr) => {
+        CodeRow {
+            kind: $kind,
+            head: $head,
+            middle: $middle,
+            tail: $tail,
+        }
+    };
 }
 
 /// The kind that a report prints in brackets after the message of a fault. Doesn't allocate.
@@ -39,24 +57,24 @@ fn yaml_row(fault: YamlCode) -> CodeRow
 {
     let kind = "syntax-check";
     match fault {
-        YamlCode::NotUtf8 => plain(kind, "file is not UTF-8"),
-        YamlCode::ControlCharacter => plain(kind, "control character"),
-        YamlCode::TabInIndentation => plain(kind, "tab in indentation"),
-        YamlCode::WrongIndentation => plain(kind, "wrong indentation"),
-        YamlCode::UnclosedQuote => plain(kind, "quoted text is not closed"),
-        YamlCode::UnclosedFlow => plain(kind, "flow collection is not closed"),
-        YamlCode::AnchorOrAlias => plain(kind, "anchors and aliases are not supported"),
-        YamlCode::Tag => plain(kind, "tags are not supported"),
-        YamlCode::ExplicitKey => plain(kind, "explicit keys are not supported"),
-        YamlCode::Directive => plain(kind, "directives are not supported"),
-        YamlCode::SecondDocument => plain(kind, "second document"),
-        YamlCode::WrongEscape => plain(kind, "wrong escape"),
-        YamlCode::UnexpectedCharacter => plain(kind, "unexpected character"),
-        YamlCode::NestingTooDeep => plain(kind, "nesting is too deep"),
-        YamlCode::TooManyNodes => plain(kind, "too many nodes"),
-        YamlCode::WrongBlockHeader => plain(kind, "wrong block scalar header"),
-        YamlCode::WrongKey => plain(kind, "key is not a scalar on one line"),
-        YamlCode::UnknownAlias => plain(kind, "unknown alias"),
+        YamlCode::NotUtf8 => row!(kind, "file is not UTF-8"),
+        YamlCode::ControlCharacter => row!(kind, "control character"),
+        YamlCode::TabInIndentation => row!(kind, "tab in indentation"),
+        YamlCode::WrongIndentation => row!(kind, "wrong indentation"),
+        YamlCode::UnclosedQuote => row!(kind, "quoted text is not closed"),
+        YamlCode::UnclosedFlow => row!(kind, "flow collection is not closed"),
+        YamlCode::AnchorOrAlias => row!(kind, "anchors and aliases are not supported"),
+        YamlCode::Tag => row!(kind, "tags are not supported"),
+        YamlCode::ExplicitKey => row!(kind, "explicit keys are not supported"),
+        YamlCode::Directive => row!(kind, "directives are not supported"),
+        YamlCode::SecondDocument => row!(kind, "second document"),
+        YamlCode::WrongEscape => row!(kind, "wrong escape"),
+        YamlCode::UnexpectedCharacter => row!(kind, "unexpected character"),
+        YamlCode::NestingTooDeep => row!(kind, "nesting is too deep"),
+        YamlCode::TooManyNodes => row!(kind, "too many nodes"),
+        YamlCode::WrongBlockHeader => row!(kind, "wrong block scalar header"),
+        YamlCode::WrongKey => row!(kind, "key is not a scalar on one line"),
+        YamlCode::UnknownAlias => row!(kind, "unknown alias"),
     }
 }
 
@@ -65,13 +83,13 @@ fn key_row(fault: KeyCode) -> CodeRow
 {
     let kind = "syntax-check";
     match fault {
-        KeyCode::Unexpected => row(kind, "unexpected key \"", "\"", ""),
-        KeyCode::Missing => row(kind, "key \"", "\" is missing", ""),
-        KeyCode::Repeated => row(kind, "key \"", "\" is repeated", ""),
-        KeyCode::WrongKind => row(kind, "wrong kind of value for \"", "\"", ""),
-        KeyCode::WrongType => row(kind, "wrong type of value for \"", "\"", ""),
-        KeyCode::NotBeside => row(kind, "\"", "\" cannot stand beside \"", "\""),
-        KeyCode::EmptyFile => plain(kind, "file is empty"),
+        KeyCode::Unexpected => row!(kind, "unexpected key \"", "\""),
+        KeyCode::Missing => row!(kind, "key \"", "\" is missing"),
+        KeyCode::Repeated => row!(kind, "key \"", "\" is repeated"),
+        KeyCode::WrongKind => row!(kind, "wrong kind of value for \"", "\""),
+        KeyCode::WrongType => row!(kind, "wrong type of value for \"", "\""),
+        KeyCode::NotBeside => row!(kind, "\"", "\" cannot stand beside \"", "\""),
+        KeyCode::EmptyFile => row!(kind, "file is empty"),
     }
 }
 
@@ -79,43 +97,36 @@ fn rule_row(fault: RuleCode) -> CodeRow
     ensures { IsRowOf (code.Rule fault) result }
 {
     match fault {
-        RuleCode::UnknownEvent => row("events", "unknown event \"", "\"", ""),
-        RuleCode::UnknownActivity => row("events", "unknown activity type \"", "\"", ""),
-        RuleCode::WrongPattern => row("glob", "wrong filter pattern \"", "\"", ""),
-        RuleCode::WrongSchedule => row("events", "wrong schedule \"", "\"", ""),
-        RuleCode::ScheduleTooOften => row(
+        RuleCode::UnknownEvent => row!("events", "unknown event \"", "\""),
+        RuleCode::UnknownActivity => row!("events", "unknown activity type \"", "\""),
+        RuleCode::WrongPattern => row!("glob", "wrong filter pattern \"", "\""),
+        RuleCode::WrongSchedule => row!("events", "wrong schedule \"", "\""),
+        RuleCode::ScheduleTooOften => row!(
             "events",
             "schedule \"",
-            "\" runs more often than every 5 minutes",
-            "",
+            "\" runs more often than every 5 minutes"
         ),
-        RuleCode::WrongId => row("id", "wrong id \"", "\"", ""),
-        RuleCode::RepeatedId => row("id", "id \"", "\" is repeated", ""),
-        RuleCode::UndefinedJob => row("job-needs", "job \"", "\" is not defined", ""),
-        RuleCode::NeedsCycle => row("job-needs", "\"", "\" needs \"", "\" in a cycle"),
-        RuleCode::WrongMatrix => row("matrix", "wrong shape of matrix \"", "\"", ""),
-        RuleCode::UnknownMatrixRow => row("matrix", "\"", "\" is not a matrix row", ""),
-        RuleCode::UnknownShell => row("shell-name", "unknown shell \"", "\"", ""),
-        RuleCode::UnknownPermission => row("permissions", "unknown permission \"", "\"", ""),
-        RuleCode::WrongPermission => row("permissions", "wrong permission value \"", "\"", ""),
-        RuleCode::WrongVariable => row(
-            "env-var",
-            "wrong name \"",
-            "\" of environment variable",
-            "",
-        ),
-        RuleCode::PasswordNotExpression => plain("credentials", "password must be one expression"),
-        RuleCode::DeprecatedCommand => row(
+        RuleCode::WrongId => row!("id", "wrong id \"", "\""),
+        RuleCode::RepeatedId => row!("id", "id \"", "\" is repeated"),
+        RuleCode::UndefinedJob => row!("job-needs", "job \"", "\" is not defined"),
+        RuleCode::NeedsCycle => row!("job-needs", "\"", "\" needs \"", "\" in a cycle"),
+        RuleCode::WrongMatrix => row!("matrix", "wrong shape of matrix \"", "\""),
+        RuleCode::UnknownMatrixRow => row!("matrix", "\"", "\" is not a matrix row"),
+        RuleCode::UnknownShell => row!("shell-name", "unknown shell \"", "\""),
+        RuleCode::UnknownPermission => row!("permissions", "unknown permission \"", "\""),
+        RuleCode::WrongPermission => row!("permissions", "wrong permission value \"", "\""),
+        RuleCode::WrongVariable => row!("env-var", "wrong name \"", "\" of environment variable"),
+        RuleCode::PasswordNotExpression => row!("credentials", "password must be one expression"),
+        RuleCode::DeprecatedCommand => row!(
             "deprecated-commands",
             "command \"",
-            "\" is deprecated",
-            "",
+            "\" is deprecated"
         ),
-        RuleCode::AlwaysTrue => plain("if-cond", "condition is always true"),
-        RuleCode::UnknownInputType => row("events", "unknown input type \"", "\"", ""),
-        RuleCode::UnknownUsing => row("action", "unknown using \"", "\"", ""),
-        RuleCode::MissingShell => plain("action", "shell is required here"),
-        RuleCode::MissingOutputValue => row("action", "output \"", "\" needs a value", ""),
+        RuleCode::AlwaysTrue => row!("if-cond", "condition is always true"),
+        RuleCode::UnknownInputType => row!("events", "unknown input type \"", "\""),
+        RuleCode::UnknownUsing => row!("action", "unknown using \"", "\""),
+        RuleCode::MissingShell => row!("action", "shell is required here"),
+        RuleCode::MissingOutputValue => row!("action", "output \"", "\" needs a value"),
     }
 }
 
@@ -124,36 +135,30 @@ fn expression_row(fault: ExpressionCode) -> CodeRow
 {
     let kind = "expression";
     match fault {
-        ExpressionCode::BadCharacter => plain(kind, "bad character in expression"),
-        ExpressionCode::UnclosedText => plain(kind, "text in expression is not closed"),
-        ExpressionCode::UnexpectedToken => row(kind, "unexpected token \"", "\"", ""),
-        ExpressionCode::EndsEarly => plain(kind, "expression ends too early"),
-        ExpressionCode::TooLong => plain(kind, "expression is too long"),
-        ExpressionCode::TooDeep => plain(kind, "expression is too deep"),
-        ExpressionCode::UndefinedContext => row(kind, "context \"", "\" is not defined", ""),
-        ExpressionCode::UnavailableContext => row(
-            kind,
-            "context \"",
-            "\" is not available here",
-            "",
-        ),
-        ExpressionCode::UndefinedFunction => row(kind, "function \"", "\" is not defined", ""),
-        ExpressionCode::UnavailableFunction => row(
+        ExpressionCode::BadCharacter => row!(kind, "bad character in expression"),
+        ExpressionCode::UnclosedText => row!(kind, "text in expression is not closed"),
+        ExpressionCode::UnexpectedToken => row!(kind, "unexpected token \"", "\""),
+        ExpressionCode::EndsEarly => row!(kind, "expression ends too early"),
+        ExpressionCode::TooLong => row!(kind, "expression is too long"),
+        ExpressionCode::TooDeep => row!(kind, "expression is too deep"),
+        ExpressionCode::UndefinedContext => row!(kind, "context \"", "\" is not defined"),
+        ExpressionCode::UnavailableContext => row!(kind, "context \"", "\" is not available here"),
+        ExpressionCode::UndefinedFunction => row!(kind, "function \"", "\" is not defined"),
+        ExpressionCode::UnavailableFunction => row!(
             kind,
             "function \"",
-            "\" is not available here",
-            "",
+            "\" is not available here"
         ),
-        ExpressionCode::ArgumentCount => row(kind, "wrong number of arguments for \"", "\"", ""),
-        ExpressionCode::ArgumentType => row(kind, "wrong type of argument ", " of \"", "\""),
-        ExpressionCode::UndefinedProperty => row(kind, "property \"", "\" is not defined", ""),
-        ExpressionCode::NotIndexable => plain(kind, "value cannot be indexed"),
-        ExpressionCode::NotComparable => plain(kind, "values cannot be compared"),
-        ExpressionCode::WrongPlaceholder => plain(kind, "wrong placeholder in format"),
-        ExpressionCode::UnusedArgument => row(kind, "argument ", " of format is not used", ""),
-        ExpressionCode::NotText => plain(kind, "object or array in a text"),
-        ExpressionCode::Untrusted => row(kind, "\"", "\" is untrusted, pass it by env", ""),
-        ExpressionCode::UnclosedChunk => plain(kind, "braces of expression are not closed"),
+        ExpressionCode::ArgumentCount => row!(kind, "wrong number of arguments for \"", "\""),
+        ExpressionCode::ArgumentType => row!(kind, "wrong type of argument ", " of \"", "\""),
+        ExpressionCode::UndefinedProperty => row!(kind, "property \"", "\" is not defined"),
+        ExpressionCode::NotIndexable => row!(kind, "value cannot be indexed"),
+        ExpressionCode::NotComparable => row!(kind, "values cannot be compared"),
+        ExpressionCode::WrongPlaceholder => row!(kind, "wrong placeholder in format"),
+        ExpressionCode::UnusedArgument => row!(kind, "argument ", " of format is not used"),
+        ExpressionCode::NotText => row!(kind, "object or array in a text"),
+        ExpressionCode::Untrusted => row!(kind, "\"", "\" is untrusted, pass it by env"),
+        ExpressionCode::UnclosedChunk => row!(kind, "braces of expression are not closed"),
     }
 }
 
@@ -162,15 +167,15 @@ fn call_row(fault: CallCode, caller: Caller) -> CodeRow
 {
     let kind = kind_of_call(caller);
     match fault {
-        CallCode::NoWorkflow => row(kind, "workflow \"", "\" is not in the folder", ""),
-        CallCode::UndefinedInput => row(kind, "input \"", "\" is not defined in \"", "\""),
-        CallCode::MissingInput => row(kind, "required input \"", "\" of \"", "\" is missing"),
-        CallCode::WrongInput => row(kind, "input \"", "\" must be ", ""),
-        CallCode::UndefinedSecret => row(kind, "secret \"", "\" is not defined in \"", "\""),
-        CallCode::MissingSecret => row(kind, "required secret \"", "\" of \"", "\" is missing"),
-        CallCode::WrongUses => row(kind, "\"", "\" is not a valid uses", ""),
-        CallCode::NotCallable => row(kind, "\"", "\" cannot be called here", ""),
-        CallCode::CallCycle => row(kind, "call of \"", "\" leads back to this file", ""),
+        CallCode::NoWorkflow => row!(kind, "workflow \"", "\" is not in the folder"),
+        CallCode::UndefinedInput => row!(kind, "input \"", "\" is not defined in \"", "\""),
+        CallCode::MissingInput => row!(kind, "required input \"", "\" of \"", "\" is missing"),
+        CallCode::WrongInput => row!(kind, "input \"", "\" must be "),
+        CallCode::UndefinedSecret => row!(kind, "secret \"", "\" is not defined in \"", "\""),
+        CallCode::MissingSecret => row!(kind, "required secret \"", "\" of \"", "\" is missing"),
+        CallCode::WrongUses => row!(kind, "\"", "\" is not a valid uses"),
+        CallCode::NotCallable => row!(kind, "\"", "\" cannot be called here"),
+        CallCode::CallCycle => row!(kind, "call of \"", "\" leads back to this file"),
     }
 }
 
@@ -181,28 +186,4 @@ fn kind_of_call(caller: Caller) -> &'static str
         Caller::Job => "workflow-call",
         Caller::Step => "action",
     }
-}
-
-fn row(kind: &'static str, head: &'static str, middle: &'static str, tail: &'static str) -> CodeRow
-    ensures kind { result.kind.now ≡ kind.now }
-    ensures head { result.head.now ≡ head.now }
-    ensures middle { result.middle.now ≡ middle.now }
-    ensures tail { result.tail.now ≡ tail.now }
-{
-    CodeRow {
-        kind,
-        head,
-        middle,
-        tail,
-    }
-}
-
-// The row of a message without arguments.
-fn plain(kind: &'static str, words: &'static str) -> CodeRow
-    ensures kind { result.kind.now ≡ kind.now }
-    ensures head { result.head.now ≡ words.now }
-    ensures middle { result.middle.now ≡ [] }
-    ensures tail { result.tail.now ≡ [] }
-{
-    row(kind, words, "", "")
 }

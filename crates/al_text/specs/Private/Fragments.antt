@@ -2,15 +2,13 @@
 use Rattle.std.specs.Prelude.{ℕ, List, ◌++◌, map, codes}
 use Rattle.std.specs.List.{flat_map}
 use Rattle.al_base.specs.Printable.{printable}
-use Rattle.al_text.specs.Snippets.{spaces_for}
 use Rattle.al_text.specs.Private.Marks.{chars_of, mark_byte}
 use Rattle.al_text.specs.declared.printing.Fragment.{Fragment}
-use Rattle.al_text.specs.declared.printing.Fragment.TheVariants.{Raw, Shown, Spaces, Marks}
+use Rattle.al_text.specs.declared.printing.Fragment.TheVariants.{Raw, Shown, Marks}
 
 abbrev pub fragment_bytes : Fragment → List ℕ
 fragment_bytes (Raw bytes) = bytes.now
 fragment_bytes (Shown text) = printable text.now
-fragment_bytes (Spaces digits) = spaces_for digits.now
 fragment_bytes (Marks mark bytes) = map (mark_byte mark) (chars_of bytes.now)
 
 abbrev pub bytes_of_fragments : List Fragment → List ℕ
