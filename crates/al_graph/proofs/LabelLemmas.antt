@@ -4,7 +4,7 @@ use Rattle.std.proofs.Common.{ap, ◌∙◌, arith, ⊎_elim, inl, inr, length-a
 use Rattle.std.specs.Prelude.{Contains, ◌↔◌}
 use Rattle.std.specs.Option.{unwrap_or}
 use Rattle.std.proofs.lemmas.List.{length-replicate, length-set, get_or-replicate, get_or_default, get_or-set_other, get_or-set_same, take_more, get_or_past}
-use Rattle.std.proofs.lemmas.List.Elements.{Contains-append_left, Contains-append_right, Contains-append_cases}
+use Rattle.std.proofs.lemmas.List.Elements.{Contains-append_left, Contains-append_right, Contains-append_cases, Contains-get_or}
 use Rattle.std.proofs.lemmas.List.Sums.{sum_by-set}
 use Rattle.std.proofs.lemmas.Bool.{cases_eq, cases_lt}
 use Rattle.al_graph.specs.Graphs.{Edge, IsTranspose, StronglyConnected, Walk, here, onward}
@@ -282,9 +282,17 @@ skipped graph order labels at None e n s = absurd (let wrong : false ≡ true = 
 skipped graph order labels at (Some l) e n s = labelling_skip graph order labels at l e s
 
 -- A waiting node is a node of the graph.
-pub node_inside : (graph : List (List ℕ)) (order : List ℕ) (labels : List (Option ℕ)) (at : ℕ) (all rest : List ℕ) (node : ℕ) → all ≡ rest ++ node ∷ [] →
-    IsLabelling graph order labels at all → node < length graph
-node_inside graph order labels at all rest node e s =
+pub node_inside : (graph : List (List ℕ)) (order : List ℕ) (labels : List (Option ℕ)) (at size : ℕ) (all rest : List ℕ) (node : ℕ) → length graph ≡ size →
+    all ≡ rest ++ node ∷ [] → IsLabelling graph order labels at all → node < size
+node_inside graph order labels at size all rest node nodes e s =
     let was : label_at labels node ≡ Some at = s.opened node (subst (λ (ns : List ℕ). Contains ns node) (sym e) (Contains-append_right rest (node ∷ []) node (is_one node))) in
+    let each = s.size in
+    ⊎_elim (λ h. omega (arith, h, each, nodes)) (λ past. absurd (not_both at (label_at labels node) (get_or_past labels node None past) was)) (cases_lt node (length labels))
+
+-- A node of the order can have a label.
+pub ordered_inside : (graph : List (List ℕ)) (order : List ℕ) (labels : List (Option ℕ)) (at to : ℕ) → at < length order → IsBackward graph order →
+    IsLabelling graph order labels to [] → node_at order at < length labels
+ordered_inside graph order labels at to h b s =
+    let below = b.inside (node_at order at) (Contains-get_or order at 0 h) in
     let size = s.size in
-    ⊎_elim (λ h. omega (arith, h, size)) (λ past. absurd (not_both at (label_at labels node) (get_or_past labels node None past) was)) (cases_lt node (length labels))
+    omega (arith, below, size)

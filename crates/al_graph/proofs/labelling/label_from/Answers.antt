@@ -1,30 +1,25 @@
-use Rattle.std.proofs.Common.{rules, ap, ◌+◌, length-append, take, ◌≡◌, ◌∙◌, ◌<◌, [], None, is_some, true, get_or, length, arith, refl, sym}
+use Rattle.std.proofs.Common.{rules, ap, ◌+◌, length-append, take, ◌≡◌, ◌∙◌, [], None, is_some, true, get_or, length, arith, refl, sym}
 use Rattle.std.proofs.lemmas.List.{get_or_read, length-map, nil_from_length, take_all}
-use Rattle.std.proofs.lemmas.List.Elements.{Contains-get_or}
 use Rattle.al_graph.specs.Graphs.{edges_of}
 use Rattle.al_graph.proofs.Edges.{edge_inside, edges_at}
-use Rattle.al_graph.proofs.LabelLemmas.{labelling_next, labels_next, labelling_start, no_waiting, skipped, node_inside}
+use Rattle.al_graph.proofs.LabelLemmas.{labelling_next, labels_next, labelling_start, no_waiting, skipped, node_inside, ordered_inside}
 use Rattle.al_graph.proofs.labelling.label_from.Goals as goal
 
 pub index-requires : goal.index-requires
 index-requires c =
-    let below = c.requires.order.inside (get_or c.args.order.now c.args.at 0) (Contains-get_or c.args.order.now c.args.at 0 c.requires.at_in) in
-    let size = c.requires.labels.size in
-    omega (arith, below, size)
+    let below = ordered_inside (edges_of c.args.graph.now) c.args.order.now c.args.labels.now.items c.args.at _ c.requires.at_in c.requires.order c.requires.labels in
+    omega (arith, below)
 
 pub returns-then-is_some-clause-labels : goal.returns-then-is_some-clause-labels
 returns-then-is_some-clause-labels c =
-    let below = c.requires.order.inside (get_or c.args.order.now c.args.at 0) (Contains-get_or c.args.order.now c.args.at 0 c.requires.at_in) in
-    let size = c.requires.labels.size in
+    let below = ordered_inside (edges_of c.args.graph.now) c.args.order.now c.args.labels.now.items c.args.at _ c.requires.at_in c.requires.order c.requires.labels in
     let some : is_some c.index.result.now ≡ true = search rules in
     skipped (edges_of c.args.graph.now) c.args.order.now c.args.labels.now.items c.args.at c.index.result.now
-    (sym (get_or_read c.args.labels.now.items (get_or c.args.order.now c.args.at 0) c.index.result.now (omega (arith, below, size)) c.index.ensures None)) some c.requires.labels
+    (sym (get_or_read c.args.labels.now.items (get_or c.args.order.now c.args.at 0) c.index.result.now below c.index.ensures None)) some c.requires.labels
 
 pub label_node-requires : goal.label_node-requires
 label_node-requires c =
-    let below = c.requires.order.inside (get_or c.args.order.now c.args.at 0) (Contains-get_or c.args.order.now c.args.at 0 c.requires.at_in) in
-    let size = c.requires.labels.size in
-    omega (arith, below, size)
+    ordered_inside (edges_of c.args.graph.now) c.args.order.now c.args.labels.now.items c.args.at _ c.requires.at_in c.requires.order c.requires.labels
 
 pub loop-node-init : goal.loop-node-init
 loop-node-init c =
@@ -34,23 +29,17 @@ loop-node-init c =
 
 pub bounds-graph-node : goal.bounds-graph-node
 bounds-graph-node c =
-    let inside = node_inside (edges_of c.args.graph.now) c.args.order.now c.loop-node.labels.items c.args.at c.loop-node.waiting.items _ c.in-Some.node c.in-Some.ensures.items c.loop-node.invariant in
-    let nodes : length (edges_of c.args.graph.now) ≡ length c.args.graph.now = length-map c.args.graph.now _ in
-    let below : c.in-Some.node < length c.args.graph.now = omega (arith, inside, nodes) in
-    below
+    node_inside (edges_of c.args.graph.now) c.args.order.now c.loop-node.labels.items c.args.at _ _ _ _ (length-map c.args.graph.now _) c.in-Some.ensures.items c.loop-node.invariant
 
 pub offset_bounds-graph-node : goal.offset_bounds-graph-node
 offset_bounds-graph-node c =
-    let inside = node_inside (edges_of c.args.graph.now) c.args.order.now c.loop-node.labels.items c.args.at c.loop-node.waiting.items _ c.in-Some.node c.in-Some.ensures.items c.loop-node.invariant in
-    let nodes : length (edges_of c.args.graph.now) ≡ length c.args.graph.now = length-map c.args.graph.now _ in
-    let below : c.in-Some.node < length c.args.graph.now = omega (arith, inside, nodes) in
+    let below = node_inside (edges_of c.args.graph.now) c.args.order.now c.loop-node.labels.items c.args.at _ _ _ _ (length-map c.args.graph.now _) c.in-Some.ensures.items c.loop-node.invariant in
     search rules
 
 pub label_node-requires-in-loop-next : goal.label_node-requires-in-loop-next
 label_node-requires-in-loop-next c =
-    let inside = node_inside (edges_of c.args.graph.now) c.args.order.now c.loop-node.labels.items c.args.at c.loop-node.waiting.items _ c.in-Some.node c.in-Some.ensures.items c.loop-node.invariant in
     let nodes : length (edges_of c.args.graph.now) ≡ length c.args.graph.now = length-map c.args.graph.now _ in
-    let below : c.in-Some.node < length c.args.graph.now = omega (arith, inside, nodes) in
+    let below = node_inside (edges_of c.args.graph.now) c.args.order.now c.loop-node.labels.items c.args.at _ _ _ _ nodes c.in-Some.ensures.items c.loop-node.invariant in
     let next = edge_inside c.args.graph.now c.requires.edges_in c.in-Some.node c.loop-next.next-index c.index-graph-node.result c.as_slice-next-items.result.now
     below c.index-graph-node.is c.as_slice-next-items.ensures.value c.loop-next-test.true in
     omega (arith, next, nodes, c.loop-node.invariant.size, c.loop-next.invariant.size)
@@ -61,9 +50,8 @@ loop-next-preserved c =
 
 pub loop-node-preserved : goal.loop-node-preserved
 loop-node-preserved c =
-    let inside = node_inside (edges_of c.args.graph.now) c.args.order.now c.loop-node.labels.items c.args.at c.loop-node.waiting.items _ c.in-Some.node c.in-Some.ensures.items c.loop-node.invariant in
     let nodes : length (edges_of c.args.graph.now) ≡ length c.args.graph.now = length-map c.args.graph.now _ in
-    let below : c.in-Some.node < length c.args.graph.now = omega (arith, inside, nodes) in
+    let below = node_inside (edges_of c.args.graph.now) c.args.order.now c.loop-node.labels.items c.args.at _ _ _ _ nodes c.in-Some.ensures.items c.loop-node.invariant in
     let same : c.as_slice-next-items.result.now ≡ get_or (edges_of c.args.graph.now) c.in-Some.node [] = c.as_slice-next-items.ensures.value
     ∙ sym (edges_at c.args.graph.now c.in-Some.node c.index-graph-node.result below c.index-graph-node.is) in
     let all : take c.loop-next.next-index c.as_slice-next-items.result.now ≡ get_or (edges_of c.args.graph.now) c.in-Some.node [] =
