@@ -21,10 +21,9 @@ pub(crate) fn find_graph<L: Lint>(
     ensures found { OnOk result (IsSome calls.new) }
     ensures as_before { OnErr result (calls.new ≡ calls.old) }
 {
-    if calls.is_some() {
-        return Ok(());
+    if calls.is_none() {
+        *calls = Some(call_graph::<L>(files)?);
     }
-    *calls = Some(call_graph::<L>(files)?);
     Ok(())
 }
 

@@ -81,14 +81,12 @@ pub(crate) fn drop_caller(callers: &mut Callers, candidate: &str, path: &str)
     ensures { (c q : List ℕ) → is_caller callers.new c q
         ≡ (not (bytes_eq c candidate.now && bytes_eq q path.now) && is_caller callers.old c q) }
 {
-    match callers.get_mut(candidate) {
-        Some(known) => {
-            known.swap_remove(path);
-            if known.is_empty() {
-                callers.swap_remove(candidate);
-            }
-        }
-        None => {}
+    let Some(known) = callers.get_mut(candidate) else {
+        return;
+    };
+    known.swap_remove(path);
+    if known.is_empty() {
+        callers.swap_remove(candidate);
     }
 }
 
@@ -131,32 +129,27 @@ pub fn drop_callers(
     }
 }
 
-/// The candidates of the calls of the file at a path, before and after a change.
-#[derive(Clone, Copy)]
-pub struct CandidateChange<'a> {
-    pub path: &'a str,
-    pub before: &'a IndexSet<String>,
-    pub after: &'a IndexSet<String>,
-}
-
-/// Makes a file, so far a caller of the candidates before the change, a caller of exactly those after it.
+/// Makes a file, so far a caller of the candidates `before`, a caller of exactly those in `after`.
 ///
 /// # Errors
 ///
 /// [`AllocError`] if memory runs out. The callers are then unchanged.
-pub fn reindex(callers: &mut Callers, file: &CandidateChange<'_>) -> Result<(), AllocError>
-    requires { (c : List ℕ)
-        → is_caller callers.old c file.now.path.now ≡ contains_text file.now.before.now c }
+pub fn reindex(
+    callers: &mut Callers,
+    path: &str,
+    before: &IndexSet<String>,
+    after: &IndexSet<String>,
+) -> Result<(), AllocError>
+    requires { (c : List ℕ) → is_caller callers.old c path.now ≡ contains_text before.now c }
     ensures moved { OnOk result ((c q : List ℕ) → is_caller callers.new c q
-        ≡ cond (bytes_eq q file.now.path.now) (contains_text file.now.after.now c)
-        (is_caller callers.old c q)) }
+        ≡ cond (bytes_eq q path.now) (contains_text after.now c) (is_caller callers.old c q)) }
     ensures as_before { OnErr result
         ((c q : List ℕ) → is_caller callers.new c q ≡ is_caller callers.old c q) }
 {
-    if let Err(error) = add_callers(callers, file.after, file.path) {
-        drop_callers(callers, file.after, file.before, file.path);
+    if let Err(error) = add_callers(callers, after, path) {
+        drop_callers(callers, after, before, path);
         return Err(error);
     }
-    drop_callers(callers, file.before, file.after, file.path);
+    drop_callers(callers, before, after, path);
     Ok(())
 }

@@ -11,16 +11,6 @@ use crate::{Files, LinkedFiles, Lint, file_number};
 use al_base::Fault;
 use std::alloc::{AllocError, Global};
 
-// Adds references to faults.
-fn add_references<'a>(faults: &'a [Fault], out: &mut Vec<&'a Fault>) -> Result<(), AllocError>
-    ensures { OnOk result (referents out.new.items ≡ referents out.old.items ++ faults.now) }
-{
-    for fault in faults {
-        out.push(fault)?;
-    }
-    Ok(())
-}
-
 // A file's own faults and those of its calls on a call cycle, in the order of reports, each once. Empty if no call is on a cycle.
 fn join_faults<'a>(
     alloc: Global,
@@ -29,13 +19,11 @@ fn join_faults<'a>(
 ) -> Result<Vec<&'a Fault>, AllocError>
     ensures { IfOk result (λ joined. referents joined.items ≡ joined_faults own.now call_cycle_faults.now) }
 {
-    let mut joined = Vec::new(alloc);
     if call_cycle_faults.is_empty() {
-        return Ok(joined);
+        return Ok(Vec::new(alloc));
     }
     // The file's own faults are sorted, and few come after its first call, so appending the others makes sorting fast.
-    add_references(own, &mut joined)?;
-    add_references(call_cycle_faults, &mut joined)?;
+    let mut joined: Vec<&Fault> = own.iter().chain(call_cycle_faults).collect(alloc)?;
     joined.sort_unstable();
     joined.dedup();
     Ok(joined)

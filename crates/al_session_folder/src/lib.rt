@@ -17,7 +17,7 @@ mod same_calls;
 mod view;
 
 pub use affected::PlannedChange;
-pub use callers::{CandidateChange, drop_callers, reindex};
+pub use callers::{drop_callers, reindex};
 pub use calls::calls_of;
 pub use cycles::{CallGraph, LinkedFiles, call_graph};
 pub use joining::{find_call_cycle_faults, has_call_cycles, join_files};

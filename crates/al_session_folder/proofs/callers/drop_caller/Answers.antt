@@ -29,7 +29,7 @@ returns-then-is_empty c =
     (λ c' q. gone_twice (bytes_eq c' p) _ (is_caller mid c' q) (contains_text w q) (is_caller old c' q) (gone c' q) (set c' q) (empty q))
     (known_at old p c.in-Some.known.now here) c.args.path.now (name_dropped c.in-Some.known.now w c.args.path.now c.swap_remove.ensures.updates)
 
-pub returns-in-None : goal.returns-in-None
-returns-in-None c = λ c' q. ap (λ m. is_caller m c' q) c.get_mut.follows.holds-at-none
+pub returns-in_default : goal.returns-in_default
+returns-in_default c = λ c' q. ap (λ m. is_caller m c' q) c.get_mut.follows.holds-at-none
     ∙ not_there c' c.args.candidate.now q c.args.path.now (is_caller c.args.callers.now c' q)
-    (none_at c.args.callers.now c.args.candidate.now (sym c.in-None.ensures.value) c' q)
+    (none_at c.args.callers.now c.args.candidate.now (sym c.in_default.ensures.value) c' q)

@@ -9,5 +9,5 @@ use Rattle.al_session_folder.proofs.callers.reindex.Goals as goal
 pub returns-in-Err-clause-as_before : goal.returns-in-Err-clause-as_before
 returns-in-Err-clause-as_before c =
     let some = c.in-Err.ensures.some in
-    λ c' q. undone (bytes_eq q c.args.file.now.path.now) (contains_text c.args.file.now.after.now c') (contains_text c.args.file.now.before.now c') (some.0 c') (is_caller c.args.callers.now c' q) _ _
-    (λ h. ap (is_caller c.args.callers.now c') (bytes_same q c.args.file.now.path.now h) ∙ c.requires c') (some.1 c') (some.2 c' q) (c.drop_callers.ensures c' q)
+    λ c' q. undone (bytes_eq q c.args.path.now) (contains_text c.args.after.now c') (contains_text c.args.before.now c') (some.0 c') (is_caller c.args.callers.now c' q) _ _
+    (λ h. ap (is_caller c.args.callers.now c') (bytes_same q c.args.path.now h) ∙ c.requires c') (some.1 c') (some.2 c' q) (c.drop_callers.ensures c' q)
