@@ -1,6 +1,6 @@
 //! What all other crates build on. Six jobs, each with its modules:
 //!
-//! - faults, in `codes`, `args`, `faults`, `sink`, `lists` and `copies`: a span, a code and the texts of a message; where they go as they
+//! - faults, in `codes`, `args`, `faults`, `sink` and `lists`: a span, a code and the texts of a message; where they go as they
 //!   are found; their order, and a file's list of them
 //! - names in which case does not count, in `names`, and the first positions of texts and names in a list, in `name_positions` and
 //!   `sorted_texts`
@@ -16,7 +16,6 @@
 mod args;
 mod codes;
 mod controls;
-mod copies;
 mod examples;
 mod faults;
 pub mod limits;
@@ -34,11 +33,10 @@ mod streams;
 pub use args::Args;
 pub use codes::{CallCode, Caller, Code, ExpressionCode, KeyCode, RuleCode, YamlCode};
 pub use controls::{first_control, printable};
-pub use copies::add_copies;
 pub use examples::rows;
 pub use faults::{Fault, Span};
 pub use lines::Lines;
-pub use lists::{fault_list, fault_lists};
+pub use lists::{add_copies, fault_list, fault_lists};
 pub use name_positions::{NamePositions, TextPositions, in_lower_case};
 pub use names::{is_among, is_same_name};
 pub use paths::{Path, PathFault, path_fault};

@@ -1,8 +1,6 @@
 //! The limits of the product: each number once, with what it counts.
 ghost use Rattle.std.specs.Prelude.{◌≡◌};
-ghost use Rattle.al_base.specs.Limits.{largest_file, most_files, longest_path, most_nodes, most_alias_text, deepest_collection};
-ghost use Rattle.al_base.specs.Limits.{longest_key, longest_text, longest_expression, deepest_expression, longest_line};
-ghost use Rattle.al_base.specs.Limits.{most_reads, largest_read};
+ghost use Rattle.al_base.specs.Limits as limits;
 
 /// The most bytes of a file.
 pub const LARGEST_FILE: usize = 1_048_576;
@@ -45,17 +43,17 @@ pub const LARGEST_READ: usize = 65_536;
 
 /// The limits equal those of the definitions. Does nothing at run time.
 pub fn match_definitions()
-    ensures file { LARGEST_FILE ≡ largest_file }
-    ensures files { MOST_FILES ≡ most_files }
-    ensures path { LONGEST_PATH ≡ longest_path }
-    ensures nodes { MOST_NODES ≡ most_nodes }
-    ensures alias_text { MOST_ALIAS_TEXT ≡ most_alias_text }
-    ensures collection { DEEPEST_COLLECTION ≡ deepest_collection }
-    ensures key { LONGEST_KEY ≡ longest_key }
-    ensures text { LONGEST_TEXT ≡ longest_text }
-    ensures expression { LONGEST_EXPRESSION ≡ longest_expression }
-    ensures nesting { DEEPEST_EXPRESSION ≡ deepest_expression }
-    ensures line { LONGEST_LINE ≡ longest_line }
-    ensures reads { MOST_READS ≡ most_reads }
-    ensures read { LARGEST_READ ≡ largest_read }
+    ensures file { LARGEST_FILE ≡ limits.largest_file }
+    ensures files { MOST_FILES ≡ limits.most_files }
+    ensures path { LONGEST_PATH ≡ limits.longest_path }
+    ensures nodes { MOST_NODES ≡ limits.most_nodes }
+    ensures alias_text { MOST_ALIAS_TEXT ≡ limits.most_alias_text }
+    ensures collection { DEEPEST_COLLECTION ≡ limits.deepest_collection }
+    ensures key { LONGEST_KEY ≡ limits.longest_key }
+    ensures text { LONGEST_TEXT ≡ limits.longest_text }
+    ensures expression { LONGEST_EXPRESSION ≡ limits.longest_expression }
+    ensures nesting { DEEPEST_EXPRESSION ≡ limits.deepest_expression }
+    ensures line { LONGEST_LINE ≡ limits.longest_line }
+    ensures reads { MOST_READS ≡ limits.most_reads }
+    ensures read { LARGEST_READ ≡ limits.largest_read }
 {}

@@ -12,7 +12,8 @@ use std::marker::Model;
 
 /// A table of the byte offsets at which a file's lines begin, so that a position needs no walk from the file's start.
 ///
-/// It belongs to the bytes that it was made from. Contracts see the list of offsets, in their order.
+/// It belongs to the bytes that it was made from: its methods take just these, and offsets of at most their number. Contracts see the list
+/// of offsets, in their order.
 #[derive(Drop)]
 pub struct Lines {
     starts: Vec<u32>,
@@ -43,9 +44,7 @@ impl Lines {
         Ok(Lines { starts })
     }
 
-    /// The line and the column of a byte offset, both from 1, as [`position`](crate::position) counts them.
-    ///
-    /// Doesn't allocate. The table must have been made from `bytes`, and the offset is at most their number.
+    /// The line and the column of a byte offset, both from 1, as [`position`](crate::position) counts them. Doesn't allocate.
     pub fn position(&self, bytes: &[u8], offset: u32) -> (u32, u32)
         requires made { self.now ≡ line_starts bytes.now }
         requires within { offset ≤ length bytes.now }
@@ -57,9 +56,7 @@ impl Lines {
         (location.line, location.column)
     }
 
-    /// The location of a byte offset.
-    ///
-    /// Doesn't allocate. The table must have been made from `bytes`, and the offset is at most their number.
+    /// The location of a byte offset. Doesn't allocate.
     pub fn location(&self, bytes: &[u8], offset: u32) -> Location
         requires made { self.now ≡ line_starts bytes.now }
         requires within { offset ≤ length bytes.now }
@@ -79,9 +76,7 @@ impl Lines {
     }
 
     /// The location of a byte offset. If the offset `from`, whose location is `known`, is at or before it on the same line, the column is
-    /// counted on from there.
-    ///
-    /// Doesn't allocate. The table must have been made from `bytes`, and both offsets are at most their number.
+    /// counted on from there. Doesn't allocate.
     pub fn location_after(&self, bytes: &[u8], from: u32, known: Location, offset: u32) -> Location
         requires made { self.now ≡ line_starts bytes.now }
         requires within { offset ≤ length bytes.now }

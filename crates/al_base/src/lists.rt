@@ -1,9 +1,11 @@
-//! A file's faults as a report lists them, and the laws of such lists.
-ghost use Rattle.std.specs.Prelude.{◌≡◌};
+//! A file's faults as a report lists them, the laws of such lists, and copies of faults.
+ghost use Rattle.std.specs.Prelude.{◌≡◌, ◌++◌, OnOk};
 ghost use Rattle.al_base.specs.FaultLists.{fault_list};
 ghost use Rattle.al_base.specs.FaultLaws.{OrderTells, ListIsSorted, ListHasEachOnce, ListKeepsFaults, OneListForSameFaults};
+ghost use Rattle.al_base.specs.Growth.{BeginsWith};
 
 use super::faults::Fault;
+use std::alloc::{AllocError, Global};
 
 /// A file's list of faults: these faults in the order of reports, each once, in whatever order they were found. Doesn't allocate.
 pub fn fault_list(mut faults: Vec<Fault>) -> Vec<Fault>
@@ -25,3 +27,15 @@ pub fn fault_lists()
     ensures members { ListKeepsFaults }
     ensures one { OneListForSameFaults }
 {}
+
+/// Appends copies of faults. Fails with `AllocError` when out of memory; the list then still begins with what it held.
+pub fn add_copies(alloc: Global, faults: &[Fault], out: &mut Vec<Fault>) -> Result<(), AllocError>
+    ensures all { OnOk result (out.new.items ≡ out.old.items ++ faults.now) }
+    ensures begins { BeginsWith out.new.items out.old.items }
+{
+    for fault in faults {
+        let args = fault.args.copy(alloc)?;
+        out.push(Fault { args, ..*fault })?;
+    }
+    Ok(())
+}

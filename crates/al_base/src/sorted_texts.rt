@@ -1,8 +1,7 @@
 //! Sorted texts, each with its position in the original list.
 
 ghost use Rattle.std.specs.Prelude.{◌≡◌, IfOk, IsPermutation};
-ghost use Rattle.al_base.specs.SortedTexts.{AreSorted, StandIn, TellPlaces, entry_key, key_cmp};
-ghost use Rattle.al_base.specs.SortedTexts.{position_among, sort_key, tail_number};
+ghost use Rattle.al_base.specs.SortedTexts.{AreSorted, StandIn, TellPlaces, entry_key, key_cmp, position_among, sort_key, tail_number};
 
 use std::alloc::{AllocError, Global};
 use std::cmp::Ordering;

@@ -2,15 +2,13 @@
 #![tactic(auto)]
 
 mod access;
+mod laws;
 mod node;
-mod spans;
-mod texts;
 mod worked;
 
+pub use laws::{tree_spans, tree_texts};
 pub use node::{
     Doc, Entry, Kind, Node, entry_of, mapping_node, scalar_node, sequence_node, sharable,
     shared_node,
 };
-pub use spans::tree_spans;
-pub use texts::tree_texts;
 pub use worked::rows;

@@ -1,8 +1,9 @@
-//! A law of the definitions: where the nodes of a tree and the first fault of a file lie.
+//! Laws of the definitions: where the nodes of a tree and the first fault of a file lie, and that the texts of a tree are UTF-8.
 
 ghost use Rattle.al_yaml_tree.specs.Document.{HasNoAlias, tree_of};
 ghost use Rattle.al_yaml_tree.specs.Spans.{AreFrom, IsInside, IsLaid, IsPlacedIn};
 ghost use Rattle.al_yaml_tree.specs.Laws.{IsTreeLaid};
+ghost use Rattle.al_yaml_tree.specs.Texts.{HasTexts};
 ghost use Rattle.std.specs.Prelude.{◌≤◌, IfOk, List, length, ℕ};
 ghost use Rattle.al_base.specs.Limits.{largest_file};
 
@@ -19,4 +20,10 @@ pub fn tree_spans()
         → IfOk (tree_of bytes) (IsPlacedIn (length bytes) 0 (length bytes)) }
     ensures within { (bytes : List ℕ) → length bytes ≤ largest_file → HasNoAlias bytes
         → IfOk (tree_of bytes) (IsPlacedIn largest_file 0 (length bytes)) }
+{}
+
+/// A law of the definitions: for any bytes of a file, the text of each scalar of its tree, keys included, is UTF-8.
+/// Does nothing at run time.
+pub fn tree_texts()
+    ensures { (bytes : List ℕ) → IfOk (tree_of bytes) HasTexts }
 {}

@@ -1,5 +1,5 @@
 use Rattle.al_yaml_tree.proofs.LaidRoot.{tree-laid_in, tree-inside, tree-from, tree-laid, tree-nested, tree-within}
-use Rattle.al_yaml_tree.proofs.spans.tree_spans.Goals as goal
+use Rattle.al_yaml_tree.proofs.laws.tree_spans.Goals as goal
 
 pub returns : goal.returns
 returns c = record {
