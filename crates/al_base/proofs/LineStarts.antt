@@ -2,17 +2,19 @@
 use Rattle.std.proofs.Common.{◌≡◌, ℕ, zero, suc, ◌+◌, ◌-◌, ◌≤◌, ◌<◌, Bool, true, false, List, [], ◌∷◌, ◌++◌, length, get_or, refl, sym, ap}
 use Rattle.std.proofs.Common.{subst, ◌∙◌, arith, add-one, add-zero, length-append, append-nil, inl, inr}
 use Rattle.std.proofs.Math.Nat.{eq-or-lt_of_le}
-use Rattle.std.proofs.Common.{append_assoc, if◌then◌else◌}
+use Rattle.std.proofs.Common.{append_assoc, cond, drop, if◌then◌else◌, take}
 use Rattle.std.specs.List.{flat_map}
 use Rattle.std.specs.List.Sorted.{IsNonDecreasingBy}
 use Rattle.std.proofs.lemmas.Bool.{cases_Bool}
 use Rattle.std.proofs.lemmas.Bool.Decides.{nat_tests}
-use Rattle.std.proofs.lemmas.List.{get_or_append_left, get_or_at, get_or_default}
+use Rattle.std.specs.List.{filter}
+use Rattle.std.proofs.lemmas.List.{get_or-drop, get_or_append_left, get_or_at, get_or_default, length-drop}
+use Rattle.std.proofs.lemmas.List.Filters.{length-filter_more}
 use Rattle.std.proofs.lemmas.List.Sorted.{IsNonDecreasingBy-push, IsNonDecreasingBy-short}
 use Rattle.memchr.specs.Find.{is_byte2, places, places_from}
-use Rattle.al_base.specs.Positions.{ends_break, line_at, column_at}
+use Rattle.al_base.specs.Positions.{begins_char, ends_break, line_at, column_at}
 use Rattle.al_base.specs.LineStarts.{starts_to, line_starts}
-use Rattle.al_base.proofs.Counting.{line_at-break, line_at-later, line_at-small, column_at-break}
+use Rattle.al_base.proofs.Counting.{line_at-break, line_at-later, line_at-same, line_at-small, column_at-break, column_at-more}
 
 -- `line_at` is monotone.
 pub line_at-le : (bytes : List ℕ) (j k : ℕ) → j ≤ k → line_at bytes j ≤ line_at bytes k
@@ -29,6 +31,29 @@ no_break_between bytes s k o a b same =
           absurd (omega (arith, h, low, high, same))
       | inr e ↦ e
     ]
+
+both_more : (a b c l m x y : ℕ) → a ≡ b + x → b ≡ c + l → m ≡ l + y → y ≡ x → a ≡ c + m
+both_more a b c l m x y more before taken read = omega (arith, more, before, taken, read)
+
+-- the column after n more bytes of a line
+column_at-run : (bytes : List ℕ) (s n : ℕ) → s + n ≤ length bytes → line_at bytes s ≡ line_at bytes (s + n)
+    → column_at bytes (s + n) ≡ column_at bytes s + length (filter begins_char (take n (drop s bytes)))
+column_at-run bytes s zero room same = rw (add-zero s) (sym (add-zero (column_at bytes s)))
+column_at-run bytes s (suc n) room same =
+    let next : s + suc n ≡ s + n + 1 = omega arith in
+    let e : ends_break bytes (s + n) ≡ false = no_break_between bytes s (s + n) (s + suc n) (omega arith) (omega arith) same in
+    let before = column_at-run bytes s n (omega (arith, room)) (same ∙ ap (line_at bytes) next ∙ line_at-same bytes (s + n) e) in
+    let more = ap (column_at bytes) next ∙ column_at-more bytes (s + n) e in
+    let z : n + 1 ≡ suc n = omega arith in
+    let taken = ap (λ m. length (filter begins_char (take m (drop s bytes)))) (sym z)
+    ∙ length-filter_more begins_char (drop s bytes) n 0 (omega (arith, room, length-drop s bytes)) in
+    both_more _ _ _ _ _ _ _ more before taken (ap (λ b. cond b 1 0) (ap begins_char (get_or-drop s bytes n 0)))
+
+pub column_at-between : (bytes : List ℕ) (s o : ℕ) → s ≤ o → o ≤ length bytes → line_at bytes s ≡ line_at bytes o
+    → column_at bytes o ≡ column_at bytes s + length (filter begins_char (take (o - s) (drop s bytes)))
+column_at-between bytes s o order room same =
+    let whole : s + (o - s) ≡ o = omega (arith, order) in
+    sym (ap (column_at bytes) whole) ∙ column_at-run bytes s (o - s) (omega (arith, order, room)) (same ∙ ap (line_at bytes) (sym whole))
 
 -- s is the offset at which line i + 1 begins
 pub record IsStart (bytes : List ℕ) (i s : ℕ) : Type 0 where

@@ -119,11 +119,6 @@ fn column_from(bytes: &[u8], from: u32, known: u32, offset: u32) -> u32
     requires line { line_at bytes.now from ≡ line_at bytes.now offset }
     ensures { result ≡ column_at bytes.now offset }
 {
-    let mut column = known;
-    for at in from as usize..offset as usize {
-        if is_char_start(bytes[at]) {
-            column += 1;
-        }
-    }
-    column
+    let bytes = &bytes[from as usize..offset as usize];
+    known + bytes.iter().filter(|byte| is_char_start(**byte)).count() as u32
 }
