@@ -2,14 +2,11 @@
 
 ghost use Rattle.std.specs.Prelude.{◌≡◌, ℕ, List, Some};
 ghost use Rattle.al_types.specs.FusedFields.{ObjectsFuse};
-ghost use Rattle.al_types.specs.Types.{Fields, Optional, Present, Type', fuse_optional, fuse_type};
-ghost use Rattle.al_types.specs.Types.{object_with, parts_with, property_in};
+ghost use Rattle.al_types.specs.Types.{Fields, Optional, Present, Type', fuse_optional, fuse_type, object_with, parts_with, property_in};
 
-/// How two objects are fused, field by field.
-///
-/// The definitions see an object as a map from names to types, with what all its fields have in common. Two objects are fused name by
-/// name, and the law says that this gives the object with the fields of both, provided that neither has a name twice. Does nothing at run
-/// time.
+/// How two objects are fused. The definitions see an object as a map from names to types, with what all its fields have in common, and
+/// fuse two objects name by name. The law says that this gives the object with the fields of both, provided that neither has a name twice.
+/// Does nothing at run time.
 pub fn objects_fuse()
     ensures { ObjectsFuse }
 {}

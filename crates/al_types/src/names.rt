@@ -1,7 +1,6 @@
 //! The names of contexts and functions, which are case-insensitive.
 
 ghost use Rattle.std.specs.Prelude.{◌≡◌};
-ghost use Rattle.al_types.specs.Names.{context_name, function_name};
 ghost use Rattle.al_types.specs.Names as names;
 
 use al_base::is_same_name;
@@ -74,7 +73,7 @@ const FUNCTIONS: [Function; 12] = [
 impl Context {
     /// The context's name as GitHub writes it.
     pub fn name(self) -> &'static str
-        ensures { result.now ≡ context_name self }
+        ensures { result.now ≡ names.context_name self }
     {
         match self {
             Context::Github => "github",
@@ -107,7 +106,7 @@ impl Context {
 impl Function {
     /// The function's name as GitHub writes it.
     pub fn name(self) -> &'static str
-        ensures { result.now ≡ function_name self }
+        ensures { result.now ≡ names.function_name self }
     {
         match self {
             Function::Contains => "contains",
