@@ -21,7 +21,8 @@ pub places_by-requires-clause-texts : goal.places_by-requires-clause-texts
 places_by-requires-clause-texts c =
     let ts = map (λ t. t.now) c.args.texts.now in
     let many : length c.loop-i.entries.items ≡ length ts = omega (arith, c.loop-i.invariant.many, c.loop-i-test.false, c.loop-i.auto.i-end, length-map c.args.texts.now (λ t. t.now)) in
-    subst (StandIn (λ t. t.now)) (sym c.as_slice.ensures.value) (stand (λ t. t.now) ts c.loop-i.entries.items c.in_ok-entries-2.entries.items many c.loop-i.invariant.turn c.in_ok-entries-2.ensures.entries)
+    subst (StandIn (λ t. t.now)) (sym c.as_slice.ensures.value)
+    (stand (λ t. t.now) ts c.loop-i.entries.items c.in_ok-entries-2.entries.items many c.loop-i.invariant.turn c.in_ok-entries-2.ensures.entries)
 
 pub returns-clause-position : goal.returns-clause-position
 unfolding text_position
