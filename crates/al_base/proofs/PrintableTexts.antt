@@ -1,14 +1,14 @@
 -- A text without control bytes is printed as it is; printing by characters and by bytes gives the same.
-use Rattle.std.proofs.Common.{◌≡◌, ◌∙◌, inl, inr, ℕ, ◌<◌, ◌≤◌, Bool, true, false, cond, List, [], ◌∷◌, map, refl, sym, ap, arith}
+use Rattle.std.proofs.Common.{◌≡◌, ◌∙◌, inl, inr, ℕ, ◌<◌, ◌≤◌, Bool, true, false, cond, List, [], ◌∷◌, map, refl, subst, sym, ap, arith}
 use Rattle.std.proofs.Math.Utf8.{encode, encodes}
 use Rattle.std.proofs.lemmas.Bool.{cases_lt}
 use Rattle.std.proofs.lemmas.Bool.Decides.{nat_tests}
-use Rattle.std.proofs.lemmas.List.{map-append}
+use Rattle.std.proofs.lemmas.List.{get_or-map, length-map, map-append}
 use Rattle.std.proofs.lemmas.List.Elements.{All-head, All-tail}
 use Rattle.std.proofs.lemmas.Str.{encode_ascii, encodes-chars}
 use Rattle.std.specs.Char.{is_ascii_control}
 use Rattle.std.specs.List.{All, AllByRecursion}
-use Rattle.std.specs.Prelude.{IsUtf8, MatchOption, None, Option, Some, chars, is_none, nat_lt}
+use Rattle.std.specs.Prelude.{IsCharBoundary, IsUtf8, MatchOption, None, Option, Some, chars, is_none, length, nat_lt, slice_index}
 use Rattle.al_base.specs.Printable.{printable, printable_byte}
 use Rattle.al_base.proofs.Elements.{each_either}
 
@@ -26,6 +26,21 @@ printable_plain (x ∷ xs) p =
 pub printable_unchanged : (text : List ℕ) (control : Option ℕ) (At : ℕ → Type 0) → MatchOption control (All IsPlain text) At → is_none control ≡ true → printable text ≡ text
 printable_unchanged text None At plain none = printable_plain text plain
 printable_unchanged text (Some at) At found none = absurd cc
+
+-- A character's start in a text is one in the text as it is printed.
+same_start : (control : Bool) (b : ℕ) → (128 ≤ b → 192 ≤ b) → 128 ≤ cond control 63 b → 192 ≤ cond control 63 b
+same_start true b start high = absurd (omega (arith, high))
+same_start false b start high = start high
+
+pub printable_boundary : (text : List ℕ) (at : ℕ) → IsCharBoundary text at → IsCharBoundary (printable text) at
+printable_boundary text at boundary = (
+  omega (arith, boundary.0, length-map text printable_byte),
+  λ l high.
+      let within : at < length text = omega (arith, l, length-map text printable_byte) in
+      let read = get_or-map printable_byte text at 0 0 within in
+      let b : ℕ = slice_index text at in
+      subst (λ n. 192 ≤ n) (sym read) (same_start (is_ascii_control b) b (boundary.1 within) (subst (λ n. 128 ≤ n) read high)),
+)
 
 -- ---- by characters
 

@@ -1,5 +1,5 @@
 -- Two texts kept in one string, and the order of lists of at most two texts.
-use Rattle.std.proofs.Common.{◌≡◌, ◌∙◌, ℕ, List, [], ◌∷◌, ◌++◌, length, map, take, drop, ap, refl, sym, Ordering, Less, Equal, Greater}
+use Rattle.std.proofs.Common.{◌≡◌, ◌∙◌, ℕ, List, [], ◌∷◌, ◌++◌, length, map, take, drop, ap, refl, Ordering, Less, Equal, Greater}
 use Rattle.std.proofs.Common.{Bor, IsCharBoundary, IsUtf8, Option, None, Some, nat_cmp, slice_get, take_at, drop_at}
 use Rattle.std.proofs.lemmas.List.{drop-map, take-map}
 use Rattle.std.proofs.lemmas.Str.{IsCharBoundary-at_seam}
@@ -19,10 +19,12 @@ pub parts_of : (text first second : List ℕ) → text ≡ first ++ second
 parts_of text first second is =
     rw (ap (take (length first)) is ∙ take_at first second (length first) refl, ap (drop (length first)) is ∙ drop_at first second (length first) refl) refl
 
--- The parts of a text that is printed as it is are printed as they are, too.
+-- The parts of a text as they are printed are those of the text as it is printed.
+pub parts_printed : (at : ℕ) (text : List ℕ) → map printable (take at text ∷ drop at text ∷ []) ≡ take at (printable text) ∷ drop at (printable text) ∷ []
+parts_printed at text = rw (take-map printable_byte at text, drop-map printable_byte at text) refl
+
 pub parts_printable : (at : ℕ) (text : List ℕ) → printable text ≡ text → map printable (take at text ∷ drop at text ∷ []) ≡ take at text ∷ drop at text ∷ []
-parts_printable at text plain =
-    rw (sym (take-map printable_byte at text) ∙ ap (take at) plain, sym (drop-map printable_byte at text) ∙ ap (drop at) plain) refl
+parts_printable at text plain = parts_printed at text ∙ ap (λ t. take at t ∷ drop at t ∷ []) plain
 
 -- ---- lists of at most two texts compare by the first and then by the second
 

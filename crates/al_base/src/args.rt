@@ -134,19 +134,16 @@ impl Args {
     }
 
     /// The texts as they are printed, with a `?` for each control byte. Fails with `AllocError` when out of memory.
+    #[tactic(auto, using(crate::proofs::PrintableTexts::printable_boundary, crate::proofs::TwoTexts::parts_printed))]
     pub fn printable(&self, alloc: Global) -> Result<Args, AllocError>
         ensures { IfOk result (λ args. args ≡ map printable self.now) }
     {
-        match &self.texts {
-            Texts::None => Ok(Args::none()),
-            Texts::One(text) => Ok(Args::one(printable(alloc, text.as_str())?)),
-            Texts::Two(text, at) => {
-                let (first, second) = text.as_str().split_at(*at);
-                let first = printable(alloc, first)?;
-                let second = printable(alloc, second)?;
-                Args::two(alloc, first.as_str(), second.as_str())
-            }
-        }
+        let texts = match &self.texts {
+            Texts::None => Texts::None,
+            Texts::One(text) => Texts::One(printable(alloc, text.as_str())?),
+            Texts::Two(text, at) => Texts::Two(printable(alloc, text.as_str())?, *at),
+        };
+        Ok(Args { texts })
     }
 }
 
