@@ -25,16 +25,11 @@ use al_tree::contains_chunk;
 use std::alloc::AllocError;
 
 /// The offset in the file of an index of a scalar's text; at the text's end, the end of the scalar.
-#[tactic(auto, using(crate::proofs::EndLemmas::same_end))]
+#[tactic(auto, using(crate::proofs::EndLemmas::offset_by_end))]
 fn offset(scalar: &Scalar, i: usize) -> u32
     ensures { result ≡ offset_of scalar.now i }
 {
-    let len = scalar.text().len();
-    if i < len {
-        scalar.locate(i)
-    } else {
-        scalar.locate(len)
-    }
+    scalar.locate(i.min(scalar.text().len()))
 }
 
 /// The span in the file of the bytes of a scalar's text between two indexes.
@@ -46,10 +41,8 @@ fn span_in_file(scalar: &Scalar, i: usize, j: usize) -> Span
     if i == j {
         return Span { start, end: start };
     }
-    Span {
-        start,
-        end: offset(scalar, j.saturating_sub(1)) + 1,
-    }
+    let end = offset(scalar, j.saturating_sub(1)) + 1;
+    Span { start, end }
 }
 
 /// A scalar, and what the check of an expression in it depends on.
@@ -109,15 +102,9 @@ fn move_fault(scalar: &Scalar, by: usize, fault: Fault) -> Fault
     requires fits { by < 2 ^ 32 }
     ensures { result ≡ fault_in_file scalar.now by fault }
 {
-    Fault {
-        span: span_in_file(
-            scalar,
-            by + fault.span.start as usize,
-            by + fault.span.end as usize,
-        ),
-        code: fault.code,
-        args: fault.args,
-    }
+    let start = by + fault.span.start as usize;
+    let span = span_in_file(scalar, start, by + fault.span.end as usize);
+    Fault { span, ..fault }
 }
 
 /// Adds the faults of an expression that begins at an index of a text, with their spans in the file.
@@ -149,33 +136,7 @@ fn check_expression(
 pub fn is_one_expression(len: usize, chunks: &[Chunk<'_>]) -> bool
     ensures { result ≡ is_whole_span len (map span_of_chunk chunks.now) }
 {
-    match chunks {
-        [chunk] => chunk.span.start == 3 && chunk.span.end as usize + 2 == len,
-        _ => false,
-    }
-}
-
-/// Adds the faults of the chunks of a text.
-fn check_each(
-    types: &mut Types<'_>,
-    text: &Text<'_>,
-    chunks: &[Chunk<'_>],
-    faults: &mut FaultSink,
-) -> Result<(), AllocError>
-    requires shown { IsShown types.old text.now.scope.now }
-    requires room { HasRoom text.now.scalar.now }
-    requires cut { All (IsCutFrom (text_of text.now.scalar.now)) chunks.now }
-    requires alone { text.now.is_alone ≡ is_one_chunk (text_of text.now.scalar.now) }
-    ensures ok { OnOk result
-        (faults.new ≡ faults.old ++ flat_map (chunk_faults (scope_view types.old text.now.scope.now)
-        text.now.is_scalar_only text.now.scalar.now) (map span_of_chunk chunks.now)) }
-    ensures kept { BeginsWith (objects_of types.new) (objects_of types.old) }
-{
-    for chunk in chunks {
-        let start = chunk.span.start as usize;
-        check_expression(types, text, chunk.content, start, faults)?;
-    }
-    Ok(())
+    matches!(chunks, [chunk] if chunk.span.start == 3 && chunk.span.end as usize + 2 == len)
 }
 
 /// Adds the faults of the chunks of the text at a place.
@@ -193,15 +154,18 @@ fn check_chunks(
     ensures kept { BeginsWith (objects_of types.new) (objects_of types.old) }
 {
     let content = place.scalar.as_str();
-    let (found, open) = chunks(faults.alloc(), content)?;
+    let (found, unclosed) = chunks(faults.alloc(), content)?;
     let text = Text {
         scope,
         scalar: place.scalar,
         is_alone: is_one_expression(content.len(), found.as_slice()),
         is_scalar_only: place.is_scalar_only,
     };
-    check_each(types, &text, found.as_slice(), faults)?;
-    match open {
+    for chunk in &found {
+        let start = chunk.span.start as usize;
+        check_expression(types, &text, chunk.content, start, faults)?;
+    }
+    match unclosed {
         Some(fault) => faults.push(move_fault(place.scalar, 0, fault)),
         None => Ok(()),
     }

@@ -13,25 +13,8 @@ ghost use Rattle.al_yaml_tree.specs.View.{view};
 use crate::contents::check_place;
 use al_base::FaultSink;
 use al_check_contexts::Env;
-use al_check_places::{Place, places};
+use al_check_places::places;
 use std::alloc::AllocError;
-
-/// Moves the environment to a place, and adds the faults of the expressions there.
-fn check_at<'a>(
-    env: &mut Env<'a>,
-    place: Place<'a>,
-    faults: &mut FaultSink,
-) -> Result<(), AllocError>
-    requires at { IsAtPosition env.old }
-    requires readable { IsReadable (place_of place) }
-    ensures moved { OnOk result (HasMoved env.new env.old) }
-    ensures faults { let f = file_of env.old in OnOk result (faults.new ≡ faults.old
-        ++ expression_faults_at f.kind (known_of f.known) (view f.root.now) (place_of place.entry)) }
-{
-    env.go_to(place)?;
-    check_place(&mut env.types, &env.scope, &place, faults)?;
-    Ok(())
-}
 
 /// Adds the faults of all expressions of the environment's file, X1 to X20, with spans in the file, given what is known of the outputs
 /// of its calls. Moves the environment to the last place with an expression.
@@ -49,7 +32,8 @@ pub fn expression_faults(env: &mut Env<'_>, faults: &mut FaultSink) -> Result<()
     let file = env.file();
     let found = places(env.alloc(), file.kind, file.root)?;
     for place in &found {
-        check_at(env, *place, faults)?;
+        env.go_to(*place)?;
+        check_place(&mut env.types, &env.scope, place, faults)?;
     }
     Ok(())
 }
