@@ -1,25 +1,32 @@
 -- A token is within the bytes, and its last byte is ASCII, so it ends at a character boundary.
 use Rattle.std.proofs.Common.{◌≡◌, ◌<◌, ◌≤◌, ◌+◌, ◌-◌, ℕ, zero, suc, List, [], ◌∷◌, length, length-drop, add-zero, inl, inr, ◌⊎◌, drop}
-use Rattle.std.proofs.Common.{refl, subst, arith, Bool, true, false, cond, nat_eq, max, Option, Some, None}
+use Rattle.std.proofs.Common.{refl, subst, arith, Bool, true, false, cond, nat_eq, nat_lt, max, Option, Some, None}
 use Rattle.std.proofs.lemmas.Bool.{and_parts, cond_both, eqb-true}
 use Rattle.std.proofs.lemmas.Bool.Decides.{nat_tests}
 use Rattle.std.proofs.lemmas.List.{get_or-drop}
 use Rattle.std.proofs.lemmas.List.Sums.{prefix_len_passes, prefix_len-le-length}
 use Rattle.std.specs.Prelude.{codes, slice_index}
 use Rattle.std.specs.Char.{is_ascii_digit, is_ascii_hexdigit}
-use Rattle.std.specs.List.{prefix_len, starts_with}
+use Rattle.std.specs.List.{list_all, prefix_len, starts_with}
 use Rattle.al_base.specs.FirstBytes.{begins_with, first_is}
 use Rattle.al_expr_grammar.specs.Tokens.{begins_name, goes_on_name, with_digits, hex_len, fraction_len}
 use Rattle.al_base.specs.Ascii.{is_sign}
 use Rattle.al_expr_grammar.specs.Tokens.{exponent_len, decimal_tail, decimal_len, unsigned_len, number_len, add_to, text_tail}
 use Rattle.al_expr_grammar.proofs.TextTails.{after_byte, tail_from, tail_is}
-use Rattle.al_expr_grammar.specs.Private.TokenStates.{Fits}
+use Rattle.al_expr_grammar.specs.declared.lexer.Read.{Read}
+use Rattle.al_expr_grammar.specs.declared.lexer.Read.TheVariants.{Blank, Token}
 use Rattle.al_expr_grammar.specs.Tokens.{text_read, number_read, name_read}
+
+-- A token is at least one byte long and within the bytes. Its last byte is ASCII, so it ends at a character boundary; so does a blank.
+abbrev pub Fits : List ℕ → Read → Type 0
+Fits bs Blank = slice_index bs 0 < 128
+Fits bs (Token k n) = (0 < n) × (n ≤ length bs) × (slice_index bs (n - 1) < 128)
+Fits bs _ = Unit {0}
 
 -- The first n bytes are within the bytes, and the last one of them is ASCII, if n isn't 0.
 pub record EndsRule (bs : List ℕ) (n : ℕ) : Type 0 where
-  within : n ≤ length bs
-  last : 0 < n → slice_index bs (n - 1) < 128
+  pub within : n ≤ length bs
+  pub last : 0 < n → slice_index bs (n - 1) < 128
 
 nothing : (bs : List ℕ) → EndsRule bs 0
 nothing bs = record { within = omega arith; last = λ h. absurd (omega arith) }
@@ -72,11 +79,16 @@ begun : (c : ℕ) (bs : List ℕ) → begins_with c bs ≡ true → 1 ≤ length
 begun c [] h = absurd cc
 begun c (b ∷ bs) h = omega arith
 
--- A text that the bytes begin with is no longer than them.
-pub text_within : (text bs : List ℕ) → starts_with nat_eq bs text ≡ true → length text ≤ length bs
-text_within [] bs h = omega arith
-text_within (c ∷ text) [] h = absurd cc
-text_within (c ∷ text) (b ∷ bs) h = let i = text_within text bs (and_parts (nat_eq c b) _ h).1 in omega (arith, i)
+-- a text of ASCII bytes that the bytes begin with
+pub text_ends : (text bs : List ℕ) → starts_with nat_eq bs text ≡ true → list_all (λ b. nat_lt b 128) text ≡ true → EndsRule bs (length text)
+text_ends [] bs h a = nothing bs
+text_ends (c ∷ text) [] h a = absurd cc
+text_ends (c ∷ text) (b ∷ bs) h a =
+    let h' = and_parts (nat_eq c b) _ h in
+    let a' = and_parts (nat_lt c 128) _ a in
+    let low : b < 128 = grind (arith, nat_tests, h'.0, a'.0) in
+    let long : 1 + length text ≡ suc (length text) = omega arith in
+    subst (EndsRule (b ∷ bs)) long (further (b ∷ bs) 1 (length text) (record { within = omega arith; last = λ h. low }) (text_ends text bs h'.1 a'.1))
 
 fraction_ends : (bs : List ℕ) → EndsRule bs (fraction_len bs)
 fraction_ends bs = cond_both _ _ _ (EndsRule bs) (λ h. with_ends bs 1 _ (begun _ bs h) (run_ends is_ascii_digit (drop 1 bs) digit_ascii)) (λ h. nothing bs)
@@ -90,7 +102,7 @@ exponent_ends : (bs : List ℕ) → EndsRule bs (exponent_len bs)
 exponent_ends bs = cond_both _ _ _ (EndsRule bs) (λ h. signed_ends bs (first_is is_sign (drop 1 bs)) refl (one_byte _ bs h)) (λ h. nothing bs)
 
 hex_ends : (bs : List ℕ) → EndsRule bs (hex_len bs)
-hex_ends bs = cond_both _ _ _ (EndsRule bs) (λ h. with_ends bs 2 _ (text_within (codes "0x") bs h) (run_ends is_ascii_hexdigit (drop 2 bs) hex_ascii)) (λ h. nothing bs)
+hex_ends bs = cond_both _ _ _ (EndsRule bs) (λ h. with_ends bs 2 _ (text_ends (codes "0x") bs h refl).within (run_ends is_ascii_hexdigit (drop 2 bs) hex_ascii)) (λ h. nothing bs)
 
 tail_ends : (bs : List ℕ) → EndsRule bs (decimal_tail bs)
 tail_ends bs = further bs (fraction_len bs) _ (fraction_ends bs) (exponent_ends (drop (fraction_len bs) bs))

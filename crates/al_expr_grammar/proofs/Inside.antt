@@ -31,7 +31,8 @@ use Rattle.al_expr_grammar.specs.Tree as tree
 use Rattle.al_expr_grammar.specs.Tree.{Sign, sign, Tree, Constant, Named, Call, Group, Negated, Path, Chain, PathSteps, NoStep, PropertyThen}
 use Rattle.al_expr_grammar.specs.Tree.{AllThen, IndexThen, StepTree, Operands, NoOperand, OperandThen, Arguments, NoArgument, ArgumentThen}
 use Rattle.al_expr_grammar.specs.Tree.{steps_of, operands_of, arguments_of}
-use Rattle.al_expr_grammar.proofs.Reading.{Short, read_short}
+use Rattle.al_expr_grammar.proofs.Fitting.{Fits}
+use Rattle.al_expr_grammar.proofs.Reading.{read_fits}
 
 -- ---- where a tree begins
 
@@ -87,21 +88,21 @@ module _ (size : ℕ) where
   then_lies k b s (Bad t) i l = l
   then_lies k b s Unclosed i l = tt
 
-  first_lies : (n : ℕ) (r : Read) (at b : ℕ) (bs : List ℕ) → at + length (b ∷ bs) ≤ size → Short (b ∷ bs) r →
+  first_lies : (n : ℕ) (r : Read) (at b : ℕ) (bs : List ℕ) → at + length (b ∷ bs) ≤ size → Fits (b ∷ bs) r →
       ((from : ℕ) (rest : List ℕ) → from + length rest ≤ size → LexedLies from (tokens_within n from rest)) → LexedLies at (with_first (tokens_within n) r at (b ∷ bs))
-  first_lies n Blank at b bs room short ih = weaker_lexed at (at + 1) (tokens_within n (at + 1) bs) (omega arith) (ih (at + 1) bs (omega (arith, room)))
-  first_lies n BadCharacter at b bs room short ih =
+  first_lies n Blank at b bs room fits ih = weaker_lexed at (at + 1) (tokens_within n (at + 1) bs) (omega arith) (ih (at + 1) bs (omega (arith, room)))
+  first_lies n BadCharacter at b bs room fits ih =
       let within = prefix_len-le-length (is_in_range 128 191) bs in
       record { ordered = omega arith; inside = omega (arith, within, room) }
-  first_lies n OpenText at b bs room short ih = tt
-  first_lies n (Token k m) at b bs room short ih =
-      let rest = ih (at + m) (drop m (b ∷ bs)) (omega (arith, room, short.1, length-drop m (b ∷ bs))) in
-      then_lies k _ (span at (at + m)) _ (record { ordered = omega arith; inside = omega (arith, room, short.1) }) (weaker_lexed at (at + m) _ (omega arith) rest)
+  first_lies n OpenText at b bs room fits ih = tt
+  first_lies n (Token k m) at b bs room fits ih =
+      let rest = ih (at + m) (drop m (b ∷ bs)) (omega (arith, room, fits.1, length-drop m (b ∷ bs))) in
+      then_lies k _ (span at (at + m)) _ (record { ordered = omega arith; inside = omega (arith, room, fits.1) }) (weaker_lexed at (at + m) _ (omega arith) rest)
 
   lexed_lies : (n at : ℕ) (bs : List ℕ) → at + length bs ≤ size → LexedLies at (tokens_within n at bs)
   lexed_lies zero at bs room = tt
   lexed_lies (suc n) at [] room = tt
-  lexed_lies (suc n) at (b ∷ bs) room = first_lies n (read (b ∷ bs)) at b bs room (read_short b bs) (lexed_lies n)
+  lexed_lies (suc n) at (b ∷ bs) room = first_lies n (read (b ∷ bs)) at b bs room (read_fits (b ∷ bs)) (lexed_lies n)
 
   -- ---- trees are within their content, and no part of a tree is before its start
 

@@ -1,28 +1,25 @@
--- The last quote of a prefix, after one more byte.
-use Rattle.std.proofs.Common.{◌≡◌, ◌<◌, ℕ, suc, ◌+◌, List, [], ◌∷◌, ◌++◌, length, take, get_or, refl, sym, ap, ◌∙◌, arith, Bool, true, false, cond, Option, Some, None}
-use Rattle.std.proofs.lemmas.List.{take_more, length-take-le}
-use Rattle.std.specs.Prelude.{option_map}
-use Rattle.std.specs.Option.{option_or}
+-- The last quote, by what a search from the end finds.
+use Rattle.std.proofs.Common.{◌≡◌, ◌≢◌, ◌<◌, ℕ, zero, suc, ◌+◌, List, [], ◌∷◌, length, drop, refl, sym, add-one, arith, Option, Some, None}
+use Rattle.std.proofs.lemmas.Bool.Decides.{nat_tests}
+use Rattle.std.proofs.lemmas.List.Elements.{All-head, All-tail}
+use Rattle.std.specs.Prelude.{All, MatchOption, slice_index, false}
 use Rattle.al_expr_grammar.specs.Tokens.{is_quote, last_quote}
 
-there : (here : Bool) (n : ℕ) (o p : Option ℕ) → option_or (option_map suc (cond here (Some n) o)) p ≡ cond here (Some (suc n)) (option_or (option_map suc o) p)
-there true n o p = refl
-there false n o p = refl
+abbrev Other : ℕ → Type 0
+Other b = b ≢ 39
 
-pub last_next : (front : List ℕ) (b : ℕ) → last_quote (front ++ b ∷ []) ≡ cond (is_quote b) (Some (length front)) (last_quote front)
-last_next [] b = refl
-last_next (c ∷ front) b =
-    ap (λ o. option_or (option_map suc o) (cond (is_quote c) (Some 0) None)) (last_next front b)
-    ∙ there (is_quote b) (length front) (last_quote front) (cond (is_quote c) (Some 0) None)
+no_quote : (bs : List ℕ) → All Other bs → last_quote bs ≡ None
+no_quote [] h = refl
+no_quote (b ∷ bs) h =
+    let here : b ≢ 39 = All-head Other b bs h in
+    let other : is_quote b ≡ false = grind (arith, nat_tests, here) in
+    rw (no_quote bs (All-tail Other b bs h), other) refl
 
-further : (bs : List ℕ) (i : ℕ) → i < length bs → last_quote (take (i + 1) bs) ≡ cond (is_quote (get_or bs i 0)) (Some i) (last_quote (take i bs))
-further bs i h =
-    let long : length (take i bs) ≡ i = length-take-le i bs (omega (arith, h)) in
-    ap last_quote (take_more bs i 0 h) ∙ last_next (take i bs) (get_or bs i 0)
-    ∙ ap (λ n. cond (is_quote (get_or bs i 0)) (Some n) (last_quote (take i bs))) long
+quote_at : (bs : List ℕ) (i : ℕ) → i < length bs → slice_index bs i ≡ 39 → All Other (drop (suc i) bs) → last_quote bs ≡ Some i
+quote_at [] i h e a = absurd (omega (arith, h))
+quote_at (b ∷ bs) zero h e a = rw (no_quote bs a, e) refl
+quote_at (b ∷ bs) (suc i) h e a = rw (quote_at bs i (omega (arith, h)) e a) refl
 
-pub at_quote : (bs : List ℕ) (i : ℕ) → i < length bs → is_quote (get_or bs i 0) ≡ true → Some i ≡ last_quote (take (i + 1) bs)
-at_quote bs i h q = sym (further bs i h ∙ ap (λ t. cond t (Some i) (last_quote (take i bs))) q)
-
-pub at_other : (bs : List ℕ) (i : ℕ) → i < length bs → is_quote (get_or bs i 0) ≡ false → last_quote (take i bs) ≡ last_quote (take (i + 1) bs)
-at_other bs i h q = sym (further bs i h ∙ ap (λ t. cond t (Some i) (last_quote (take i bs))) q)
+pub last_is : (bs : List ℕ) (o : Option ℕ) → MatchOption o (All Other bs) (λ i. (i < length bs) × (slice_index bs i ≡ 39) × All Other (drop (i + 1) bs)) → o ≡ last_quote bs
+last_is bs None h = sym (no_quote bs h)
+last_is bs (Some i) h = let rest = rw add-one at h.2 in sym (quote_at bs i h.0 h.1 rest)

@@ -1,12 +1,14 @@
 -- A fault that the table finds is at one of the tokens.
-use Rattle.std.proofs.Common.{◌≡◌, ◌<◌, ◌≤◌, ℕ, zero, suc, List, [], ◌∷◌, length, drop, arith, Bool, true, false, subst, ◌∙◌, Some}
+use Rattle.std.proofs.Common.{◌≡◌, ◌<◌, ◌≤◌, ℕ, zero, suc, List, [], ◌∷◌, length, drop, refl, arith, Bool, true, false, subst, ◌∙◌, Some}
 use Rattle.std.proofs.lemmas.List.{length-map}
-use Rattle.std.specs.Prelude.{map, slice_get}
+use Rattle.std.specs.Prelude.{map, slice_index_or}
+use Rattle.al_expr_grammar.specs.declared.parser.ParseError.TheVariants as error
+use Rattle.al_expr_grammar.specs.Parsed.{IsVerdict}
 use Rattle.al_base.specs.declared.faults.Span.{Span}
 use Rattle.al_base.specs.declared.faults.Fault.{Fault}
 use Rattle.al_expr_grammar.specs.declared.token.TokenKind.{TokenKind}
 use Rattle.al_expr_grammar.specs.declared.token.Token.{Token}
-use Rattle.al_expr_grammar.specs.Lexeme.{Lexeme, lexeme, kind_of, kinds, lexeme_text, lexeme_span, seen}
+use Rattle.al_expr_grammar.specs.Lexeme.{kind_of, kinds, seen}
 use Rattle.al_expr_grammar.specs.Refusal.{fault_at}
 use Rattle.al_expr_grammar.specs.Table.{Verdict, Unexpected, TooDeep, Mode, E, O, N, Frame, Transition, Stuck, Go, Deeper, step, onward, finish, scan, verdict_of}
 
@@ -44,8 +46,18 @@ verdict_lies ts v e =
     let same : length (kinds (map seen ts)) ≡ length ts = length-map (map seen ts) kind_of ∙ length-map ts seen in
     subst (λ n. LiesIn n v) same (subst (LiesIn (length (kinds (map seen ts)))) e (lies_in (kinds (map seen ts)) E 0 []))
 
+-- the parser's fault is at one of the tokens, or at their end
+pub unexpected_within : (ts : List Token) (left : ℕ) → IsVerdict (error.Unexpected left) (verdict_of (kinds (map seen ts))) → left ≤ length ts
+unexpected_within ts zero v = omega arith
+unexpected_within ts (suc n) v = (verdict_lies ts (Unexpected (suc n)) v).1
+
+pub is_unexpected : (v : Verdict) (left : ℕ) → 0 < left → IsVerdict (error.Unexpected left) v → v ≡ Unexpected left
+is_unexpected v zero some h = absurd (omega arith)
+is_unexpected v (suc n) some h = h
+
 -- The fault at the token with index i.
-pub fault_at_token : (make : Span → List ℕ → Fault) (ts : List Lexeme) (i : ℕ) (t : Lexeme) → slice_get ts i ≡ Some t → fault_at make (drop i ts) ≡ Some (make (lexeme_span t) (lexeme_text t))
-fault_at_token make [] i t e = absurd cc
-fault_at_token make (lexeme k b s ∷ ts) zero (lexeme j c u) e = cc
-fault_at_token make (u ∷ ts) (suc i) t e = fault_at_token make ts i t e
+pub fault_at_token : (make : Span → List ℕ → Fault) (ts : List Token) (i : ℕ) (t : Token) → i < length ts
+    → fault_at make (drop i (map seen ts)) ≡ Some (make (slice_index_or ts i t).span (slice_index_or ts i t).text.now)
+fault_at_token make [] i t h = absurd (omega (arith, h))
+fault_at_token make (u ∷ ts) zero t h = refl
+fault_at_token make (u ∷ ts) (suc i) t h = fault_at_token make ts i t (omega (arith, h))

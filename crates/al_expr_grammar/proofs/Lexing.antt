@@ -7,9 +7,13 @@ use Rattle.std.proofs.lemmas.Str.{IsCharBoundary-after_ascii}
 use Rattle.al_expr_grammar.specs.declared.token.TokenKind.{TokenKind}
 use Rattle.al_expr_grammar.specs.declared.lexer.Read.TheVariants.{Blank, Token, BadCharacter, OpenText}
 use Rattle.al_expr_grammar.specs.Lexeme.{Lexeme, lexeme}
-use Rattle.al_expr_grammar.specs.Private.TokenStates.{after}
 use Rattle.al_expr_grammar.specs.Tokens.{Lexed, AllRead, Bad, Unclosed, character_span, read, then_token, tokens_of, tokens_within, with_first}
 use Rattle.al_base.specs.Spans.{span}
+
+-- prepends the tokens that were read
+abbrev pub after : List Lexeme → Lexed → Lexed
+after front (AllRead ts) = AllRead (front ++ ts)
+after front other = other
 
 -- the tokens `front` of the content were read, and the bytes from offset `at` remain
 pub record AreRead (content : List ℕ) (front : List Lexeme) (at : ℕ) (bs : List ℕ) : Type 0 where

@@ -1,5 +1,5 @@
 -- A content without a fault spells exactly one tree, which is the tree of the content.
-use Rattle.std.proofs.Common.{◌≡◌, ◌<◌, ◌≤◌, ℕ, List, [], ◌∷◌, length, refl, sym, ap, ◌∙◌, subst, arith, Option, Some, None, Bool, true, false, cond, nat_lt, drop, ◌-◌}
+use Rattle.std.proofs.Common.{◌≡◌, ◌<◌, ◌≤◌, ℕ, zero, suc, List, [], ◌∷◌, length, refl, sym, ap, ◌∙◌, subst, arith, Option, Some, None, Bool, true, false, cond, nat_lt, drop, ◌-◌}
 use Rattle.std.proofs.lemmas.List.{length-drop}
 use Rattle.al_base.specs.declared.faults.Fault.{Fault}
 use Rattle.al_base.specs.declared.faults.Span.{Span}
@@ -30,8 +30,8 @@ over (lexeme k b s ∷ ts) h e = absurd cc
 some_tree : (ts : List Lexeme) → verdict_of (kinds ts) ≡ Fine → Outcome (Binary 3) 50 ts → (t : Tree) × IsTreeOf t ts
 some_tree ts e (read t rest p) = (t, subst (λ r. Derives (Binary 3) ts t r) (over rest p.stops (sym (p.goes 0 [] refl refl) ∙ e)) p.derives)
 some_tree ts e (refused error.Memory i r) = absurd i
-some_tree ts e (refused error.Early i r) = let a = r 0 [] refl refl in absurd cc
-some_tree ts e (refused (error.Unexpected n) i r) = let a = r 0 [] refl refl in absurd cc
+some_tree ts e (refused (error.Unexpected zero) i r) = let a = r 0 [] refl refl in absurd cc
+some_tree ts e (refused (error.Unexpected (suc n)) i r) = let a = r 0 [] refl refl in absurd cc
 some_tree ts e (refused (error.TooDeep n) i r) = let a = r 0 [] refl refl in absurd cc
 
 pub found : (ts : List Lexeme) → verdict_of (kinds ts) ≡ Fine → (t : Tree) × IsTreeOf t ts

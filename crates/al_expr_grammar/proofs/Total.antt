@@ -75,7 +75,7 @@ call n room b c s u [] inner h = called n room b c s u [] inner h tt (inner room
 call n room b c s u (lexeme k d e ∷ ts) inner h = called n room b c s u (lexeme k d e ∷ ts) inner h tt (inner room (lexeme k d e ∷ ts) h)
 
 abbrev pub primary : (n room : ℕ) (ts : List Lexeme) → Inner n → length ts ≤ n → NoBang (kinds ts) → Outcome Primary room ts
-primary n room [] inner h x = refused error.Early tt (λ k st a f. refl)
+primary n room [] inner h x = refused (error.Unexpected 0) tt (λ k st a f. refl)
 primary n room (lexeme (Keyword w) b s ∷ ts) inner h x = read _ ts (constant_read room w b s ts)
 primary n room (lexeme Number b s ∷ ts) inner h x = read _ ts (number_read room b s ts)
 primary n room (lexeme Text b s ∷ ts) inner h x = read _ ts (text_read room b s ts)
@@ -89,13 +89,13 @@ primary n room (lexeme Bang b s ∷ ts) inner h x = absurd x
 primary n room (lexeme k b s ∷ ts) inner h x = refused (error.Unexpected (suc (length ts))) tt (λ j st a f. unexpected ts)
 
 abbrev pub step : (n room : ℕ) (ts : List Lexeme) → Inner n → length ts ≤ n → GoesOn (kinds ts) → StepOutcome room ts
-step n room (lexeme Dot c d ∷ []) inner h g = step_refused error.Early tt (dot_stray room c d [] tt)
+step n room (lexeme Dot c d ∷ []) inner h g = step_refused (error.Unexpected 0) tt (dot_stray room c d [] tt)
 step n room (lexeme Dot c d ∷ lexeme Name b s ∷ ts) inner h g = step_read _ ts (property_read room b c s d ts)
 step n room (lexeme Dot c d ∷ lexeme (Keyword w) b s ∷ ts) inner h g = step_read _ ts (keyword_read room w b c s d ts)
 step n room (lexeme Dot c d ∷ lexeme Star b s ∷ ts) inner h g = step_read _ ts (all_read room b c s d ts)
 step n room (lexeme Dot c d ∷ lexeme k b s ∷ ts) inner h g = step_refused (error_at (lexeme k b s ∷ ts)) tt (dot_stray room c d (lexeme k b s ∷ ts) tt)
 step n zero (lexeme OpenIndex c d ∷ ts) inner h g = step_refused (error.TooDeep (suc (length ts))) tt (index_deep c d ts)
-step n (suc room) (lexeme OpenIndex c d ∷ lexeme Star b s ∷ []) inner h g = step_refused error.Early tt (star_stray (suc room) room b c s d [] (omega arith) (λ r e. cc))
+step n (suc room) (lexeme OpenIndex c d ∷ lexeme Star b s ∷ []) inner h g = step_refused (error.Unexpected 0) tt (star_stray (suc room) room b c s d [] (omega arith) (λ r e. cc))
 step n (suc room) (lexeme OpenIndex c d ∷ lexeme Star b s ∷ lexeme CloseIndex a e ∷ ts) inner h g = step_read _ ts (each_read (suc room) room a b c s d e ts (omega arith))
 step n (suc room) (lexeme OpenIndex c d ∷ lexeme Star b s ∷ lexeme k a e ∷ ts) inner h g = step_refused (error_at (lexeme k a e ∷ ts)) tt
     (star_stray (suc room) room b c s d (lexeme k a e ∷ ts) (omega arith) (λ r f. cc))

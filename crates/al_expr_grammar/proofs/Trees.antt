@@ -71,9 +71,17 @@ pub operand_of-made : (o : layer.Operand-F Expr PathStep Operand) → operand_of
 unfolding operand_of expr_view
 operand_of-made o = fold-roll-Operand Tree StepTree (Sign × Tree) expr_layer step_layer operand_layer o
 
+pub path_of-none : (t : Tree) (ss : List StepTree) → length ss ≡ 0 → path_of t ss ≡ t
+path_of-none t [] h = refl
+path_of-none t (s ∷ ss) h = absurd (omega (arith, h))
+
 pub path_of-some : (t : Tree) (ss : List StepTree) → 0 < length ss → path_of t ss ≡ Path t (steps_of ss)
 path_of-some t [] h = absurd (omega (arith, h))
 path_of-some t (s ∷ ss) h = refl
+
+pub chain_of-none : (t : Tree) (os : List (Sign × Tree)) → length os ≡ 0 → chain_of t os ≡ t
+chain_of-none t [] h = refl
+chain_of-none t (o ∷ os) h = absurd (omega (arith, h))
 
 pub chain_of-some : (t : Tree) (os : List (Sign × Tree)) → 0 < length os → chain_of t os ≡ Chain t (operands_of os)
 chain_of-some t [] h = absurd (omega (arith, h))

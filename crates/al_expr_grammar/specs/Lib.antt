@@ -11,5 +11,4 @@ pub mod Law
 pub mod View
 pub mod Inside
 pub mod Parsed
-pub mod Private
 pub mod Rows

@@ -1,5 +1,5 @@
 -- The result of each function of the parser.
-use Rattle.std.specs.Prelude.{◌≡◌, ◌≢◌, ℕ, ◌+◌, ◌<◌, ◌≤◌, List, [], ◌∷◌, length, map, Result, MatchResult}
+use Rattle.std.specs.Prelude.{◌≡◌, ◌≢◌, ℕ, zero, suc, ◌+◌, ◌<◌, ◌≤◌, List, ◌∷◌, length, map, Result, MatchResult}
 use Rattle.std.specs.Borrow.{Bor}
 use Rattle.al_expr_grammar.specs.declared.ast.Expr.{Expr}
 use Rattle.al_expr_grammar.specs.declared.ast.PathStep.{PathStep}
@@ -50,8 +50,8 @@ pub record Parsed (p : Nonterminal) (room : ℕ) (ts : List Lexeme) (t : Tree) (
 -- Unless memory ran out, the verdict of the table is this fault.
 abbrev pub IsVerdict : ParseError → Verdict → Type 0
 IsVerdict error.Memory v = Unit {0}
-IsVerdict error.Early v = v ≡ Early
-IsVerdict (error.Unexpected left) v = v ≡ Unexpected left
+IsVerdict (error.Unexpected zero) v = v ≡ Early
+IsVerdict (error.Unexpected (suc left)) v = v ≡ Unexpected (suc left)
 IsVerdict (error.TooDeep left) v = v ≡ TooDeep left
 
 -- Where an operand is expected, the verdict is this fault.
@@ -107,8 +107,7 @@ ParsesStep room ts result =
 
 -- the fault if the first token isn't allowed here
 abbrev pub error_at : List Lexeme → ParseError
-error_at [] = error.Early
-error_at (t ∷ ts) = error.Unexpected (length (t ∷ ts))
+error_at ts = error.Unexpected (length ts)
 
 -- No comma comes first.
 abbrev pub NoComma : List TokenKind → Type 0

@@ -88,10 +88,7 @@ fn open_fault(start: usize, content: &[u8]) -> Option<Fault>
         };
         return Some(plain_fault(ExpressionCode::UnclosedChunk, opening));
     }
-    match last_quote(content) {
-        Some(quote) => Some(unclosed_text(start + quote)),
-        None => None,
-    }
+    last_quote(content).map(|quote| unclosed_text(start + quote))
 }
 
 /// The closed chunks of a text, in order, and the fault at its end, if there is one. Spans are byte offsets in the
@@ -120,10 +117,8 @@ pub fn chunks(alloc: Global, text: &str) -> Result<(Vec<Chunk>, Option<Fault>), 
             start: start as u32,
             end: end as u32,
         };
-        found.push(Chunk {
-            content: &text[start..end],
-            span,
-        })?;
+        let content = &text[start..end];
+        found.push(Chunk { content, span })?;
         at = end + 2;
     }
     Ok((found, None))

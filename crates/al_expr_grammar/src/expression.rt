@@ -9,22 +9,13 @@ ghost use Rattle.al_expr_grammar.specs.View.{expr_view};
 ghost use Rattle.al_expr_grammar.specs.declared.parser.ParseError.TheVariants.{Memory};
 
 use crate::ast::Expr;
-use crate::faults::{named_fault, plain_fault};
+use crate::faults::plain_fault;
 use crate::lexer::lex;
 use crate::parser::{ParseError, parse};
 use crate::token::Token;
 use al_base::limits::LONGEST_EXPRESSION;
-use al_base::{ExpressionCode, Fault, Span};
+use al_base::{Args, Code, ExpressionCode, Fault, Span};
 use std::alloc::{AllocError, Global};
-
-/// The token at which this many are left, itself included.
-fn token_at<'a>(tokens: &[Token<'a>], left: usize) -> Token<'a>
-    requires some { 0 < left }
-    requires within { left ≤ length tokens.now }
-    ensures { slice_get (map seen tokens.now) (length tokens.now - left) ≡ Some (seen result) }
-{
-    tokens[tokens.len() - left]
-}
 
 /// The fault that the parser found in the tokens of a content with this many bytes.
 fn parse_fault(
@@ -40,7 +31,7 @@ fn parse_fault(
 {
     match error {
         ParseError::Memory => Err(AllocError),
-        ParseError::Early => Ok(plain_fault(
+        ParseError::Unexpected(0) => Ok(plain_fault(
             ExpressionCode::EndsEarly,
             Span {
                 start: length,
@@ -48,16 +39,15 @@ fn parse_fault(
             },
         )),
         ParseError::Unexpected(left) => {
-            let token = token_at(tokens, left);
-            named_fault(
-                alloc,
-                ExpressionCode::UnexpectedToken,
-                token.span,
-                token.text,
-            )
+            let token = tokens[tokens.len() - left];
+            Ok(Fault {
+                span: token.span,
+                code: Code::Expression(ExpressionCode::UnexpectedToken),
+                args: Args::one(String::from_str(alloc, token.text)?),
+            })
         }
         ParseError::TooDeep(left) => {
-            let token = token_at(tokens, left);
+            let token = tokens[tokens.len() - left];
             Ok(plain_fault(ExpressionCode::TooDeep, token.span))
         }
     }

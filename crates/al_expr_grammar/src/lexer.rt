@@ -1,6 +1,6 @@
 //! The tokens of a content, or the character at which they end early.
 
-ghost use Rattle.std.specs.Prelude.{map, IfOk, IfSome, MatchOption, MatchResult, ◌≡◌, ◌≤◌, ◌<◌, ◌^◌, Some, [], ◌∷◌, length};
+ghost use Rattle.std.specs.Prelude.{map, IfOk, IfSome, All, MatchOption, MatchResult, drop, slice_index, ◌+◌, ◌≡◌, ◌≢◌, ◌≤◌, ◌<◌, ◌^◌, Some, [], ◌∷◌, length};
 ghost use Rattle.std.specs.Int.{is_in_range};
 ghost use Rattle.std.specs.List.{prefix_len};
 ghost use Rattle.al_expr_grammar.specs.Lexeme.{seen};
@@ -8,7 +8,6 @@ ghost use Rattle.al_base.specs.Ascii.{is_sign};
 ghost use Rattle.al_base.specs.Limits.{longest_text};
 ghost use Rattle.al_expr_grammar.specs.Tokens.{begins_name, goes_on_name, is_blank_byte, mark};
 ghost use Rattle.al_expr_grammar.specs.Tokens.{word_kind, text_tail, read, tokens_of, AllRead, last_quote};
-ghost use Rattle.al_expr_grammar.specs.Private.TokenStates.{unread, Fits};
 ghost use Rattle.al_expr_grammar.specs.Refusal.{fault_of_lexed};
 
 use crate::faults::{plain_fault, unclosed_text};
@@ -30,31 +29,17 @@ enum Read {
     OpenText,
 }
 
-/// Why not all tokens of a content were read.
-#[derive(Clone, Copy)]
-enum LexError {
-    /// A character that begins no token.
-    BadCharacter(Span),
-    OpenText,
-}
-
 /// Whether a byte separates tokens: a blank or a part of a break.
 fn is_blank(b: u8) -> bool
     ensures { result ≡ is_blank_byte b }
 {
-    b == b' ' || b == b'\t' || b == b'\n' || b == b'\r'
+    matches!(b, b' ' | b'\t' | b'\n' | b'\r')
 }
 
 fn is_sign(b: u8) -> bool
     ensures { result ≡ is_sign b }
 {
     b == b'+' || b == b'-'
-}
-
-fn begins_name(b: u8) -> bool
-    ensures { result ≡ begins_name b }
-{
-    b.is_ascii_alphabetic() || b == b'_'
 }
 
 /// The length of the name at the start.
@@ -64,7 +49,7 @@ fn name_len(bytes: &[u8]) -> usize
 {
     bytes
         .iter()
-        .take_while(|b| begins_name(**b) || b.is_ascii_digit() || **b == b'-')
+        .take_while(|b| matches!(**b, b'a'..=b'z' | b'A'..=b'Z' | b'0'..=b'9' | b'_' | b'-'))
         .count()
 }
 
@@ -83,14 +68,11 @@ fn inside_len(bytes: &[u8]) -> usize
 fn name_kind(name: &[u8]) -> TokenKind
     ensures { result ≡ word_kind name.now }
 {
-    if name == "null".as_bytes() {
-        TokenKind::Keyword(Keyword::Null)
-    } else if name == "true".as_bytes() {
-        TokenKind::Keyword(Keyword::True)
-    } else if name == "false".as_bytes() {
-        TokenKind::Keyword(Keyword::False)
-    } else {
-        TokenKind::Name
+    match name {
+        b"null" => TokenKind::Keyword(Keyword::Null),
+        b"true" => TokenKind::Keyword(Keyword::True),
+        b"false" => TokenKind::Keyword(Keyword::False),
+        _ => TokenKind::Name,
     }
 }
 
@@ -113,8 +95,7 @@ fn text_len(bytes: &[u8]) -> Option<usize>
 
 /// The mark at the start; the longer one, if there are two.
 fn mark_at(bytes: &[u8]) -> Read
-    ensures value { result ≡ mark bytes.now }
-    ensures fits { Fits bytes.now result }
+    ensures { result ≡ mark bytes.now }
 {
     match bytes {
         [b'(', ..] => Read::Token(TokenKind::Open, 1),
@@ -137,35 +118,24 @@ fn mark_at(bytes: &[u8]) -> Read
     }
 }
 
-/// The first byte, and the rest.
-fn split(bytes: &[u8]) -> Option<(u8, &[u8])>
-    ensures { MatchOption result (bytes.now ≡ []) (λ x. bytes.now ≡ x.0 ∷ x.1.now) }
-{
-    match bytes {
-        [] => None,
-        [first, rest @ ..] => Some((*first, rest)),
-    }
-}
-
 /// What the bytes begin with.
 fn read_at(bytes: &[u8]) -> Read
-    ensures value { result ≡ read bytes.now }
-    ensures fits { Fits bytes.now result }
+    ensures { result ≡ read bytes.now }
 {
-    let Some((first, rest)) = split(bytes) else {
+    let [first, rest @ ..] = bytes else {
         return Read::BadCharacter;
     };
-    if is_blank(first) {
+    if is_blank(*first) {
         Read::Blank
-    } else if begins_name(first) {
+    } else if first.is_ascii_alphabetic() || *first == b'_' {
         let len = name_len(bytes);
         Read::Token(name_kind(&bytes[..len]), len)
-    } else if first == b'\'' {
+    } else if *first == b'\'' {
         match text_len(rest) {
             Some(len) => Read::Token(TokenKind::Text, 1 + len),
             None => Read::OpenText,
         }
-    } else if first.is_ascii_digit() || is_sign(first) {
+    } else if first.is_ascii_digit() || is_sign(*first) {
         match number_len(bytes) {
             0 => Read::BadCharacter,
             len => Read::Token(TokenKind::Number, len),
@@ -175,13 +145,25 @@ fn read_at(bytes: &[u8]) -> Read
     }
 }
 
-/// The tokens of a content, or why not all are read.
-#[tactic(auto, using(crate::proofs::Lexing::past_blank))]
-fn tokens(alloc: Global, content: &str) -> Result<Result<Vec<Token>, LexError>, AllocError>
-    requires { length content.now < 2 ^ 32 }
+/// The offset of the last quote.
+pub fn last_quote(bytes: &[u8]) -> Option<usize>
+    ensures { MatchOption result (All (λ b. b ≢ 39) bytes.now)
+        (λ i. (i < length bytes.now) × (slice_index bytes.now i ≡ 39)
+        × All (λ b. b ≢ 39) (drop (i + 1) bytes.now)) }
+{
+    bytes.iter().rposition(|b| *b == b'\'')
+}
+
+/// The tokens of a content, in order, with their texts and spans in it.
+///
+/// The fault is X1 at the first character that begins no token, or X2 at the content's last quote if a string is
+/// never closed. Fails with `AllocError` when out of memory.
+#[tactic(auto, using(crate::proofs::Lexing::past_blank, crate::proofs::Reading::token_fits))]
+pub fn lex(alloc: Global, content: &str) -> Result<Result<Vec<Token>, Fault>, AllocError>
+    requires { length content.now ≤ longest_text }
     ensures { IfOk result
         (λ r. MatchResult r (λ v. tokens_of content.now ≡ AllRead (map seen v.items))
-        (λ e. tokens_of content.now ≡ unread e)) }
+        (λ f. fault_of_lexed content.now (tokens_of content.now) ≡ Some f)) }
 {
     let mut tokens = Vec::new(alloc);
     let mut start = 0;
@@ -193,64 +175,25 @@ fn tokens(alloc: Global, content: &str) -> Result<Result<Vec<Token>, LexError>, 
                 rest = &rest[1..];
             }
             Read::Token(kind, len) => {
-                let end = start + len;
+                let end = start + len as u32;
                 let (text, after) = rest.split_at(len);
-                let span = Span {
-                    start: start as u32,
-                    end: end as u32,
-                };
+                let span = Span { start, end };
                 tokens.push(Token { kind, text, span })?;
                 start = end;
                 rest = after;
             }
             Read::BadCharacter => {
-                let end = start + 1 + inside_len(&rest.as_bytes()[1..]);
-                return Ok(Err(LexError::BadCharacter(Span {
-                    start: start as u32,
-                    end: end as u32,
-                })));
+                let end = start + 1 + inside_len(&rest.as_bytes()[1..]) as u32;
+                let span = Span { start, end };
+                return Ok(Err(plain_fault(ExpressionCode::BadCharacter, span)));
             }
-            Read::OpenText => return Ok(Err(LexError::OpenText)),
+            Read::OpenText => {
+                let Some(quote) = last_quote(content.as_bytes()) else {
+                    unreachable!()
+                };
+                return Ok(Err(unclosed_text(quote)));
+            }
         }
     }
     Ok(Ok(tokens))
-}
-
-/// The offset of the last quote.
-pub fn last_quote(bytes: &[u8]) -> Option<usize>
-    ensures value { result ≡ last_quote bytes.now }
-    ensures within { IfSome result (λ n. n < length bytes.now) }
-{
-    let mut last = None;
-    for (i, b) in bytes.iter().enumerate() {
-        if *b == b'\'' {
-            last = Some(i);
-        }
-    }
-    last
-}
-
-/// The tokens of a content, in order, with their texts and spans in it.
-///
-/// The fault is X1 at the first character that begins no token, or X2 at the content's last quote if a string is
-/// never closed. Fails with `AllocError` when out of memory.
-pub fn lex(alloc: Global, content: &str) -> Result<Result<Vec<Token>, Fault>, AllocError>
-    requires { length content.now ≤ longest_text }
-    ensures { IfOk result
-        (λ r. MatchResult r (λ v. tokens_of content.now ≡ AllRead (map seen v.items))
-        (λ f. fault_of_lexed content.now (tokens_of content.now) ≡ Some f)) }
-{
-    match tokens(alloc, content)? {
-        Ok(read) => Ok(Ok(read)),
-        Err(LexError::BadCharacter(span)) => Ok(Err(plain_fault(
-            ExpressionCode::BadCharacter,
-            span,
-        ))),
-        Err(LexError::OpenText) => {
-            let Some(quote) = last_quote(content.as_bytes()) else {
-                unreachable!()
-            };
-            Ok(Err(unclosed_text(quote)))
-        }
-    }
 }

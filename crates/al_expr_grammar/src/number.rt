@@ -47,10 +47,8 @@ fn exponent_len(bytes: &[u8]) -> usize
     ensures within { result ≤ length bytes.now }
 {
     match bytes {
-        [b'e' | b'E', rest @ ..] => match rest {
-            [b'+' | b'-', rest @ ..] => with_digits(2, digits_len(rest)),
-            _ => with_digits(1, digits_len(rest)),
-        },
+        [b'e' | b'E', b'+' | b'-', rest @ ..] => with_digits(2, digits_len(rest)),
+        [b'e' | b'E', rest @ ..] => with_digits(1, digits_len(rest)),
         _ => 0,
     }
 }

@@ -18,11 +18,10 @@ use crate::token::{Operator, Token, TokenKind};
 use al_base::limits::DEEPEST_EXPRESSION;
 use std::alloc::{AllocError, AllocFailed, Global};
 
-/// Why tokens were not parsed, with how many are left at the fault, the faulty one included.
+/// Why tokens were not parsed, with how many are left at the fault, the faulty one included: 0 if they end too early.
 #[derive(Clone, Copy, Debug)]
 pub enum ParseError {
     Memory,
-    Early,
     Unexpected(usize),
     TooDeep(usize),
 }
@@ -42,6 +41,9 @@ impl<T: Drop> From<AllocFailed<T>> for ParseError {
         ParseError::Memory
     }
 }
+
+/// What the first tokens spell, and the tokens after them.
+type Parse<'t, 'a, T = Expr<'a>> = Result<(T, &'t [Token<'a>]), ParseError>;
 
 /// The level of `||`.
 const LOOSEST: u8 = 3;
@@ -92,51 +94,13 @@ fn add<T: Drop>(list: &mut Vec<T>, item: T) -> Result<(), AllocError>
     Ok(())
 }
 
-/// The path with a base and steps, or the base itself if there are no steps.
-fn with_steps<'a>(
-    alloc: Global,
-    base: Expr<'a>,
-    steps: Vec<PathStep<'a>>,
-) -> Result<Expr<'a>, AllocError>
-    ensures { IfOk result (λ e. expr_view e ≡ path_of (expr_view base.entry) (map step_of (steps.entry).items)) }
-{
-    if steps.len() == 0 {
-        return Ok(base);
-    }
-    Ok(Expr::Path(Box::new(alloc, base)?, steps))
-}
-
-/// The chain of a first operand and further ones, or the operand itself if there are no others.
-fn with_operands<'a>(
-    alloc: Global,
-    first: Expr<'a>,
-    more: Vec<Operand<'a>>,
-) -> Result<Expr<'a>, AllocError>
-    ensures { IfOk result (λ e. expr_view e ≡ chain_of (expr_view first.entry) (map operand_of (more.entry).items)) }
-{
-    if more.len() == 0 {
-        return Ok(first);
-    }
-    Ok(Expr::Chain(Box::new(alloc, first)?, more))
-}
-
 /// The first token, which must be of this kind, and the rest.
-fn expect<'t, 'a>(
-    tokens: &'t [Token<'a>],
-    kind: TokenKind,
-) -> Result<(Token<'a>, &'t [Token<'a>]), ParseError>
+fn expect<'t, 'a>(tokens: &'t [Token<'a>], kind: TokenKind) -> Parse<'t, 'a, Token<'a>>
     ensures { MatchResult result
         (λ x. (map seen tokens.now ≡ seen x.0 ∷ map seen x.1.now) × (kind_of (seen x.0) ≡ kind))
         (λ e. IsStray (map seen tokens.now) kind e) }
 {
-    let Some((first, rest)) = split(tokens) else {
-        return Err(ParseError::Early);
-    };
-    if first.kind == kind {
-        Ok((first, rest))
-    } else {
-        Err(ParseError::Unexpected(tokens.len()))
-    }
+    accept(tokens, kind).ok_or(ParseError::Unexpected(tokens.len()))
 }
 
 /// An operator of this level at the start, and the tokens after it.
@@ -148,15 +112,9 @@ fn operator<'t, 'a>(
         (λ x. (map seen tokens.now ≡ seen x.1 ∷ map seen x.2.now)
         × (kind_of (seen x.1) ≡ Infix x.0) × (level_of x.0 ≡ level)) }
 {
-    let Some((first, rest)) = split(tokens) else {
-        return None;
-    };
+    let (first, rest) = split(tokens)?;
     match first.kind {
-        TokenKind::Infix(operator) => if level_of(operator) == level {
-            Some((operator, first, rest))
-        } else {
-            None
-        },
+        TokenKind::Infix(operator) if level_of(operator) == level => Some((operator, first, rest)),
         _ => None,
     }
 }
@@ -167,11 +125,9 @@ fn accept<'t, 'a>(tokens: &'t [Token<'a>], kind: TokenKind) -> Option<(Token<'a>
         ((rest : List TokenKind) → kinds (map seen tokens.now) ≢ kind ∷ rest)
         (λ x. (map seen tokens.now ≡ seen x.0 ∷ map seen x.1.now) × (kind_of (seen x.0) ≡ kind)) }
 {
-    let (first, rest) = split(tokens)?;
-    if first.kind == kind {
-        Some((first, rest))
-    } else {
-        None
+    match split(tokens) {
+        Some((first, rest)) if first.kind == kind => Some((first, rest)),
+        _ => None,
     }
 }
 
@@ -180,23 +136,16 @@ fn deeper(room: u32, left: usize) -> Result<u32, ParseError>
     ensures { MatchResult result (λ inner. inner + 1 ≡ room)
         (λ e. (room ≡ 0) × (e ≡ TooDeep left)) }
 {
-    if room == 0 {
-        return Err(ParseError::TooDeep(left));
-    }
-    Ok(room - 1)
+    room.checked_sub(1).ok_or(ParseError::TooDeep(left))
 }
 
 /// The property that a dot leads to.
-fn property<'t, 'a>(
-    dot: Token,
-    tokens: &'t [Token<'a>],
-    room: u32,
-) -> Result<(PathStep<'a>, &'t [Token<'a>]), ParseError>
+fn property<'t, 'a>(dot: Token, tokens: &'t [Token<'a>], room: u32) -> Parse<'t, 'a, PathStep<'a>>
     requires { kind_of (seen dot) ≡ Dot }
     ensures { ParsesStep room (seen dot.entry ∷ map seen tokens.now) result }
 {
     let Some((first, rest)) = split(tokens) else {
-        return Err(ParseError::Early);
+        return Err(ParseError::Unexpected(0));
     };
     match first.kind {
         TokenKind::Name | TokenKind::Keyword(_) => {
@@ -209,16 +158,12 @@ fn property<'t, 'a>(
 
 /// A literal, a name, a call or an expression in brackets, at the start.
 #[cycle(parser)]
-fn primary<'t, 'a>(
-    alloc: Global,
-    tokens: &'t [Token<'a>],
-    room: u32,
-) -> Result<(Expr<'a>, &'t [Token<'a>]), ParseError>
+fn primary<'t, 'a>(alloc: Global, tokens: &'t [Token<'a>], room: u32) -> Parse<'t, 'a>
     requires { NoBang (kinds (map seen tokens.now)) }
     ensures { Parses Primary room (map seen tokens.now) result }
 {
     let Some((first, rest)) = split(tokens) else {
-        return Err(ParseError::Early);
+        return Err(ParseError::Unexpected(0));
     };
     match first.kind {
         TokenKind::Keyword(keyword) => Ok((Expr::Keyword(keyword, first.span), rest)),
@@ -235,12 +180,7 @@ fn primary<'t, 'a>(
 
 /// An expression in brackets, after the opening one.
 #[cycle(parser)]
-fn group<'t, 'a>(
-    alloc: Global,
-    bracket: Token,
-    tokens: &'t [Token<'a>],
-    room: u32,
-) -> Result<(Expr<'a>, &'t [Token<'a>]), ParseError>
+fn group<'t, 'a>(alloc: Global, bracket: Token, tokens: &'t [Token<'a>], room: u32) -> Parse<'t, 'a>
     requires { kind_of (seen bracket) ≡ Open }
     ensures { Parses Primary room (seen bracket.entry ∷ map seen tokens.now) result }
 {
@@ -261,7 +201,7 @@ fn call<'t, 'a>(
     bracket: Token,
     tokens: &'t [Token<'a>],
     room: u32,
-) -> Result<(Expr<'a>, &'t [Token<'a>]), ParseError>
+) -> Parse<'t, 'a>
     requires name { kind_of (seen name) ≡ Name }
     requires bracket { kind_of (seen bracket) ≡ Open }
     ensures { Parses Primary room
@@ -283,7 +223,7 @@ fn arguments<'t, 'a>(
     alloc: Global,
     tokens: &'t [Token<'a>],
     room: u32,
-) -> Result<(Vec<Expr<'a>>, &'t [Token<'a>]), ParseError>
+) -> Parse<'t, 'a, Vec<Expr<'a>>>
     requires { NoClose (kinds (map seen tokens.now)) }
     ensures { MatchResult result
         (λ x. ArgumentsRead room (map seen tokens.now) (map expr_view x.0.items) (map seen x.1.now))
@@ -302,11 +242,7 @@ fn arguments<'t, 'a>(
 
 /// An operand with the steps after it.
 #[cycle(parser)]
-fn postfix<'t, 'a>(
-    alloc: Global,
-    tokens: &'t [Token<'a>],
-    room: u32,
-) -> Result<(Expr<'a>, &'t [Token<'a>]), ParseError>
+fn postfix<'t, 'a>(alloc: Global, tokens: &'t [Token<'a>], room: u32) -> Parse<'t, 'a>
     requires { NoBang (kinds (map seen tokens.now)) }
     ensures { Parses Postfix room (map seen tokens.now) result }
 {
@@ -316,7 +252,10 @@ fn postfix<'t, 'a>(
         add(&mut steps, taken)?;
         left = rest;
     }
-    Ok((with_steps(alloc, base, steps)?, left))
+    if steps.len() == 0 {
+        return Ok((base, left));
+    }
+    Ok((Expr::Path(Box::new(alloc, base)?, steps), left))
 }
 
 /// A step at the start; `None` if the path doesn't continue.
@@ -347,7 +286,7 @@ fn index<'t, 'a>(
     bracket: Token,
     tokens: &'t [Token<'a>],
     room: u32,
-) -> Result<(PathStep<'a>, &'t [Token<'a>]), ParseError>
+) -> Parse<'t, 'a, PathStep<'a>>
     requires { kind_of (seen bracket) ≡ OpenIndex }
     ensures { ParsesStep room (seen bracket.entry ∷ map seen tokens.now) result }
 {
@@ -363,11 +302,7 @@ fn index<'t, 'a>(
 
 /// An operand of the tightest operators: a path, possibly negated.
 #[cycle(parser)]
-fn unary<'t, 'a>(
-    alloc: Global,
-    tokens: &'t [Token<'a>],
-    room: u32,
-) -> Result<(Expr<'a>, &'t [Token<'a>]), ParseError>
+fn unary<'t, 'a>(alloc: Global, tokens: &'t [Token<'a>], room: u32) -> Parse<'t, 'a>
     ensures { Parses Unary room (map seen tokens.now) result }
 {
     let Some((bang, inner)) = accept(tokens, TokenKind::Bang) else {
@@ -380,12 +315,7 @@ fn unary<'t, 'a>(
 
 /// Operands, separated by operators of one level.
 #[cycle(parser)]
-fn binary<'t, 'a>(
-    alloc: Global,
-    level: u8,
-    tokens: &'t [Token<'a>],
-    room: u32,
-) -> Result<(Expr<'a>, &'t [Token<'a>]), ParseError>
+fn binary<'t, 'a>(alloc: Global, level: u8, tokens: &'t [Token<'a>], room: u32) -> Parse<'t, 'a>
     ensures { Parses (Binary level) room (map seen tokens.now) result }
 {
     let (first, mut left) = operand(alloc, level, tokens, room)?;
@@ -400,17 +330,15 @@ fn binary<'t, 'a>(
         add(&mut more, next)?;
         left = rest;
     }
-    Ok((with_operands(alloc, first, more)?, left))
+    if more.len() == 0 {
+        return Ok((first, left));
+    }
+    Ok((Expr::Chain(Box::new(alloc, first)?, more), left))
 }
 
 /// An operand of a level.
 #[cycle(parser)]
-fn operand<'t, 'a>(
-    alloc: Global,
-    level: u8,
-    tokens: &'t [Token<'a>],
-    room: u32,
-) -> Result<(Expr<'a>, &'t [Token<'a>]), ParseError>
+fn operand<'t, 'a>(alloc: Global, level: u8, tokens: &'t [Token<'a>], room: u32) -> Parse<'t, 'a>
     ensures { Parses (below level) room (map seen tokens.now) result }
 {
     if level == 0 {
@@ -428,9 +356,8 @@ pub fn parse<'a>(alloc: Global, tokens: &[Token<'a>]) -> Result<Expr<'a>, ParseE
         (λ e. IsVerdict e (verdict_of (kinds (map seen tokens.now)))) }
 {
     let (expr, rest) = binary(alloc, LOOSEST, tokens, DEEPEST_EXPRESSION)?;
-    if rest.is_empty() {
-        Ok(expr)
-    } else {
-        Err(ParseError::Unexpected(rest.len()))
+    match rest.len() {
+        0 => Ok(expr),
+        left => Err(ParseError::Unexpected(left)),
     }
 }

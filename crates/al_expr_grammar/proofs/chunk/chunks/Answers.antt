@@ -19,13 +19,13 @@ returns-in_default-closing_position c =
     let all = cut_off c.args.text.now _ c.text.at c.text.invariant.so_far c.in-Some.before c.text.invariant.few before none in
     record { spans = all.0; contents = c.text.invariant.contents; fault = fault ∙ all.1 }
 
-pub range-requires-clause-start_boundary : goal.range-requires-clause-start_boundary
-range-requires-clause-start_boundary c =
+pub range-content-requires-clause-start_boundary : goal.range-content-requires-clause-start_boundary
+range-content-requires-clause-start_boundary c =
     let before = rw (c.as_bytes-bytes.ensures.value, take_rest) at c.in-Some.ensures.value in
     λ some. opening_ends c.args.text.now c.text.at c.in-Some.before c.utf8.text (sym before)
 
-pub range-requires-clause-end_boundary : goal.range-requires-clause-end_boundary
-range-requires-clause-end_boundary c =
+pub range-content-requires-clause-end_boundary : goal.range-content-requires-clause-end_boundary
+range-content-requires-clause-end_boundary c =
     let len = rw (c.as_bytes-bytes.ensures.value, take_rest) at c.in-Some-closing_position.ensures.value in
     closing_begins c.args.text.now (c.text.at + c.in-Some.before + 3) c.in-Some-closing_position.len (sym len)
 
@@ -37,7 +37,7 @@ text-preserved c =
     record {
       within = search rules;
       few = rw (c.in_ok-push.ensures.items, map-append, length-append) (omega (arith, c.text.invariant.few));
-      contents = rw c.in_ok-push.ensures.items (All-append cut c.text.found.items _ c.text.invariant.contents (All-cons cut _ [] c.range.ensures.value (All-nil cut)));
+      contents = rw c.in_ok-push.ensures.items (All-append cut c.text.found.items _ c.text.invariant.contents (All-cons cut _ [] c.range-content.ensures.value (All-nil cut)));
       so_far = rw (c.in_ok-push.ensures.items, map-append)
           (one_more c.args.text.now _ c.text.at c.text.invariant.so_far c.in-Some.before c.text.invariant.few before c.in-Some-closing_position.len len);
     }

@@ -1,7 +1,9 @@
-use Rattle.std.proofs.Common.{map, refl}
-use Rattle.std.proofs.lemmas.List.{map-append}
+use Rattle.std.proofs.Common.{◌≡◌, ◌<◌, length, map, refl, arith}
+use Rattle.std.proofs.lemmas.List.{length-map, map-append}
 use Rattle.al_expr_grammar.specs.Lexeme.{seen}
-use Rattle.al_expr_grammar.proofs.Trees.{tree_of-Keyword, tree_of-Number, tree_of-Text, tree_of-Name, tree_of-Call, tree_of-Group, tree_of-Not, step_of-All, step_of-Index, operand_of-made}
+use Rattle.al_expr_grammar.proofs.Trees.{tree_of-Keyword, tree_of-Number, tree_of-Text, tree_of-Name, tree_of-Call, tree_of-Group, tree_of-Not, tree_of-Path}
+use Rattle.al_expr_grammar.proofs.Trees.{tree_of-Chain, step_of-All, step_of-Index, operand_of-made, path_of-none, path_of-some, chain_of-none, chain_of-some}
+use Rattle.al_expr_grammar.specs.View.{step_of, operand_of}
 use Rattle.al_expr_grammar.proofs.Rules.{constant_read, number_read, text_read, name_read, group_read, group_refused, call_empty_read, each_read, index_read, index_refused}
 use Rattle.al_expr_grammar.proofs.Chains.{not_read, positive_read, steps_read, path_begins, path_goes_on, chain_begins, chain_goes_on, operands_read, either_way, refusal}
 use Rattle.al_expr_grammar.proofs.Chains.{not_refused, path_refused, first_refused, later_refused}
@@ -120,10 +122,19 @@ postfix-walk-preserved t c =
     let b = path_goes_on _ _ _ _ _ _ c.walk.invariant.so_far s in
     record { same = c.walk.invariant.same; so_far = rw (a, map-append) b }
 
+pub postfix-returns-then-len-eq0 : goal.postfix-returns-then-len-eq0
+postfix-returns-then-len-eq0 t c =
+    let e = rw c.in_default.is at c.in_ok-taken.ensures in
+    let none : length (map step_of c.walk.steps.items) ≡ 0 = rw length-map (omega (arith, c.walk.steps.ok.0, c.len.ensures, c.if-len-eq0.true)) in
+    let r = steps_read _ _ _ _ _ _ c.in_ok-base.ensures c.walk.invariant.so_far e in
+    rw c.walk.invariant.same (rw (path_of-none _ _ none) at r)
+
 pub postfix-returns : goal.postfix-returns
 postfix-returns t c =
     let e = rw c.in_default.is at c.in_ok-taken.ensures in
-    rw (c.in_ok-with_steps.ensures, c.walk.invariant.same) (steps_read _ _ _ _ _ _ c.in_ok-base.ensures c.walk.invariant.so_far e)
+    let some : 0 < length (map step_of c.walk.steps.items) = rw length-map (omega (arith, c.walk.steps.ok.0, c.len.ensures, c.if-len-eq0.false)) in
+    let r = steps_read _ _ _ _ _ _ c.in_ok-base.ensures c.walk.invariant.so_far e in
+    rw (tree_of-Path, c.in_ok-new.ensures.ok, c.walk.invariant.same) (rw (path_of-some _ _ some) at r)
 
 pub step-returns-in_default : goal.step-returns-in_default
 step-returns-in_default t c = rw c.in_default.ensures tt
@@ -210,6 +221,14 @@ binary-chain-preserved t c =
     let b = chain_goes_on _ _ _ _ _ _ _ _ _ _ h g.2 c.in_ok-expr.ensures in
     record { same = c.chain.invariant.same; so_far = rw (a, map-append, operand_of-made) b; stops = c.in_ok-expr.ensures.stops }
 
+pub binary-returns-then-len-eq0 : goal.binary-returns-then-len-eq0
+binary-returns-then-len-eq0 t c =
+    let none : length (map operand_of c.chain.more.items) ≡ 0 = rw length-map (omega (arith, c.chain.more.ok.0, c.len.ensures, c.if-len-eq0.true)) in
+    let r = operands_read _ _ _ _ _ _ _ c.in_ok-first.ensures c.chain.invariant.so_far c.chain.invariant.stops c.in_default.ensures in
+    rw c.chain.invariant.same (rw (chain_of-none _ _ none) at r)
+
 pub binary-returns : goal.binary-returns
 binary-returns t c =
-    rw (c.in_ok-with_operands.ensures, c.chain.invariant.same) (operands_read _ _ _ _ _ _ _ c.in_ok-first.ensures c.chain.invariant.so_far c.chain.invariant.stops c.in_default.ensures)
+    let some : 0 < length (map operand_of c.chain.more.items) = rw length-map (omega (arith, c.chain.more.ok.0, c.len.ensures, c.if-len-eq0.false)) in
+    let r = operands_read _ _ _ _ _ _ _ c.in_ok-first.ensures c.chain.invariant.so_far c.chain.invariant.stops c.in_default.ensures in
+    rw (tree_of-Chain, c.in_ok-new.ensures.ok, c.chain.invariant.same) (rw (chain_of-some _ _ some) at r)

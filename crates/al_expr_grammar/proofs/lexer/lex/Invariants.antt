@@ -2,7 +2,7 @@ use Rattle.std.proofs.Common.{◌≡◌, ◌+◌, length, map}
 use Rattle.std.specs.Str.{IsUtf8}
 use Rattle.al_expr_grammar.specs.Lexeme.{seen}
 use Rattle.al_expr_grammar.proofs.Lexing.{AreRead}
-use Rattle.al_expr_grammar.proofs.lexer.tokens.Given as goal
+use Rattle.al_expr_grammar.proofs.lexer.lex.Given as goal
 
 abbrev pub invariant-tokens : goal.invariant-tokens
 invariant-tokens l = record {

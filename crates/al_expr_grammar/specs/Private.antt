@@ -1,2 +1,0 @@
--- Terms that only contracts of private functions need. No definition of what the product means uses them.
-pub mod TokenStates
