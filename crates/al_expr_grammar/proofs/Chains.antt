@@ -1,5 +1,5 @@
 -- Negations, paths and chains of operators: the grammar's rules agree with the table.
-use Rattle.std.proofs.Common.{◌≡◌, ℕ, zero, suc, ◌+◌, List, [], ◌∷◌, ◌++◌, length, refl, sym, ap, ◌∙◌, arith, subst, Result, Ok, Err}
+use Rattle.std.proofs.Common.{◌≡◌, ℕ, zero, suc, ◌+◌, List, [], ◌∷◌, ◌++◌, refl, sym, ◌∙◌, arith, subst, Result, Ok, Err}
 use Rattle.std.proofs.lemmas.Result.{err_from_is_err_and}
 use Rattle.std.specs.Prelude.{MatchResult}
 use Rattle.std.specs.Result.{IsErrAnd}
@@ -8,14 +8,13 @@ use Rattle.al_base.specs.declared.faults.Span.{Span}
 use Rattle.al_expr_grammar.specs.declared.token.TokenKind.{TokenKind}
 use Rattle.al_expr_grammar.specs.declared.token.TokenKind.TheVariants.{Bang, Infix}
 use Rattle.al_expr_grammar.specs.declared.parser.ParseError.{ParseError}
-use Rattle.al_expr_grammar.specs.declared.parser.ParseError.TheVariants as error
 use Rattle.al_expr_grammar.specs.Lexeme.{Lexeme, lexeme, kinds}
 use Rattle.al_expr_grammar.specs.Tree.{Sign, sign, Tree, Negated, Path, Chain, StepTree, steps_of, operands_of, path_of, chain_of}
 use Rattle.al_expr_grammar.specs.Grammar.{Binary, Unary, Postfix, Primary, level_of, below, single, chain, positive, negated, bare, path}
 use Rattle.al_expr_grammar.specs.Grammar.{Operators, no_more, one_more, Walks, arrived, to_property, to_keyword, to_all, to_each, to_index}
-use Rattle.al_expr_grammar.specs.Table.{Verdict, TooDeep, E, O, Frame, outside, scan}
+use Rattle.al_expr_grammar.specs.Table.{Verdict, E, O, Frame, outside, scan}
 use Rattle.al_expr_grammar.specs.Parsed.{StartsAt, IsVerdict, EndsPath, EndsLevel, EndsRule, Parsed, Refused, PartOfChain, PartOfPath, StepRead, StepRefused, NoOperator}
-use Rattle.al_expr_grammar.proofs.Rules.{not_deeper, too_deep, likewise, settled, same_length}
+use Rattle.al_expr_grammar.proofs.Rules.{not_deeper, likewise, settled}
 
 -- a negation
 pub not_read : (room inner : ℕ) (b : List ℕ) (s : Span) (ts rest : List Lexeme) (t : Tree) → inner + 1 ≡ room → Parsed Unary inner ts t rest
@@ -29,9 +28,6 @@ not_read room inner b s ts rest t e p = record {
 
 pub not_refused : (room inner : ℕ) (b : List ℕ) (s : Span) (ts : List Lexeme) (e : ParseError) → inner + 1 ≡ room → Refused Unary inner ts e → Refused Unary room (lexeme Bang b s ∷ ts) e
 not_refused room inner b s ts e one r = λ k st a h. likewise e _ _ (not_deeper (k + outside st) _ _ (omega arith)) (r (suc k) st tt (omega arith))
-
-pub not_deep : (b : List ℕ) (s : Span) (ts : List Lexeme) → Refused Unary 0 (lexeme Bang b s ∷ ts) (error.TooDeep (suc (length ts)))
-not_deep b s ts = λ k st a h. too_deep (k + outside st) _ _ (omega arith) ∙ ap (λ n. TooDeep (suc n)) (same_length ts)
 
 -- An operand without a negation is also a `Unary`.
 pub positive_read : (room : ℕ) (ts rest : List Lexeme) (t : Tree) → Parsed Postfix room ts t rest → Parsed Unary room ts t rest

@@ -5,8 +5,9 @@ use Rattle.std.proofs.lemmas.Bool.{and_parts}
 use Rattle.std.proofs.lemmas.Bool.Decides.{nat_tests}
 use Rattle.std.proofs.lemmas.List.{at_drop_more, get_or-drop, take_more}
 use Rattle.std.proofs.lemmas.Str.{IsCharBoundary-after_ascii, IsCharBoundary-before_ascii}
-use Rattle.std.specs.List.{range_with_len}
-use Rattle.std.specs.Prelude.{find, option_map}
+use Rattle.std.proofs.lemmas.List.Sums.{sum_by-cons}
+use Rattle.std.specs.List.{count_by, range_with_len}
+use Rattle.std.specs.Prelude.{◌%◌, ◌==◌, find, option_map}
 use Rattle.std.specs.Str.{IsUtf8, IsCharBoundary}
 use Rattle.al_base.specs.declared.faults.Fault.{Fault}
 use Rattle.al_base.specs.declared.faults.Span.{Span}
@@ -82,6 +83,15 @@ quotes_more (c ∷ front) b = turned (is_quote c) (is_quote b) (is_outside_quote
 pub quotes_next : (bs : List ℕ) (i : ℕ) → i < length bs
     → is_outside_quotes (take (i + 1) bs) ≡ cond (is_quote (get_or bs i 0)) (not (is_outside_quotes (take i bs))) (is_outside_quotes (take i bs))
 quotes_next bs i h = ap is_outside_quotes (take_more bs i 0 h) ∙ quotes_more (take i bs) (get_or bs i 0)
+
+parity : (q t : Bool) (n : ℕ) → t ≡ (n % 2 == 0) → cond q (not t) t ≡ ((cond q 1 0 + n) % 2 == 0)
+parity true t n e = grind (arith, nat_tests)
+parity false t n e = grind (arith, nat_tests)
+
+pub even_quotes : (bs : List ℕ) → is_outside_quotes bs ≡ (count_by is_quote bs % 2 == 0)
+even_quotes [] = refl
+even_quotes (b ∷ bs) =
+    rw (sum_by-cons (λ x. cond (is_quote x) 1 0) b bs) (parity (is_quote b) (is_outside_quotes bs) (count_by is_quote bs) (even_quotes bs))
 
 found_at : (p : ℕ → Bool) (xs : List ℕ) (x n : ℕ) (t : Bool) → p x ≡ t → cond t (Some x) (find p xs) ≡ Some n → (find p xs ≡ Some n → p n ≡ true) → p n ≡ true
 found_at p xs x n true h e f = let z : x ≡ n = cc in subst (λ m. p m ≡ true) z h

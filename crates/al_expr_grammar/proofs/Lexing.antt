@@ -21,18 +21,10 @@ pub record AreRead (content : List ℕ) (front : List Lexeme) (at : ℕ) (bs : L
   pub enough : length bs ≤ fuel
   pub so_far : tokens_of content ≡ after front (tokens_within fuel at bs)
 
-after_none : (r : Lexed) → r ≡ after [] r
-after_none (AllRead ts) = refl
-after_none (Bad n) = refl
-after_none Unclosed = refl
-
 after_one : (front : List Lexeme) (t : Lexeme) (r : Lexed) → after front (then_token t r) ≡ after (front ++ t ∷ []) r
 after_one front t (AllRead ts) = ap AllRead (sym (append_assoc front (t ∷ []) ts))
 after_one front t (Bad n) = refl
 after_one front t Unclosed = refl
-
-pub none_read : (content : List ℕ) → AreRead content [] 0 content
-none_read content = record { fuel = length content; enough = omega arith; so_far = after_none (tokens_of content) }
 
 nothing_left : (n at : ℕ) → tokens_within n at [] ≡ AllRead []
 nothing_left zero at = refl

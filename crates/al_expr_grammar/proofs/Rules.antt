@@ -6,7 +6,6 @@ use Rattle.al_expr_grammar.specs.declared.token.Operator.TheVariants as op
 use Rattle.al_expr_grammar.specs.declared.token.TokenKind.{TokenKind}
 use Rattle.al_expr_grammar.specs.declared.token.TokenKind.TheVariants.{Name, Keyword, Number, Text, Open, Close, OpenIndex, CloseIndex, Dot, Comma, Star, Infix}
 use Rattle.al_expr_grammar.specs.declared.parser.ParseError.{ParseError}
-use Rattle.al_expr_grammar.specs.declared.parser.ParseError.TheVariants as error
 use Rattle.al_expr_grammar.specs.Lexeme.{Lexeme, lexeme, kind_of, kinds}
 use Rattle.al_expr_grammar.specs.Tree as tree
 use Rattle.al_expr_grammar.specs.Tree.{Tree, Named, Property, All, arguments_of}
@@ -29,9 +28,6 @@ deeper n left v = cond (nat_lt n 50) v (TooDeep left)
 
 pub not_deeper : (n left : ℕ) (v : Verdict) → n < 50 → deeper n left v ≡ v
 not_deeper n left v h = grind (arith, nat_tests)
-
-pub too_deep : (n left : ℕ) (v : Verdict) → n ≡ 50 → deeper n left v ≡ TooDeep left
-too_deep n left v h = grind (arith, nat_tests)
 
 pub same_length : (ts : List Lexeme) → length (kinds ts) ≡ length ts
 same_length ts = length-map ts kind_of
@@ -142,16 +138,6 @@ module _ (room inner : ℕ) (b : List ℕ) (s : Span) (ts : List Lexeme) (one : 
       → StepRefused room (lexeme OpenIndex b s ∷ ts) (error_at mid)
   index_stray mid t n p never = λ k st h. likewise (error_at mid) _ _ (to_inside k st n h ∙ p.goes 0 (Index k ∷ st) refl (omega arith)) (stray (Index k) st mid p.stops never)
 
--- brackets nested too deeply
-pub group_deep : (b : List ℕ) (s : Span) (ts : List Lexeme) → Refused Primary 0 (lexeme Open b s ∷ ts) (error.TooDeep (suc (length ts)))
-group_deep b s ts = λ k st a h. too_deep (k + outside st) _ _ (omega arith) ∙ ap (λ n. TooDeep (suc n)) (same_length ts)
-
-pub index_deep : (b : List ℕ) (s : Span) (ts : List Lexeme) → StepRefused 0 (lexeme OpenIndex b s ∷ ts) (error.TooDeep (suc (length ts)))
-index_deep b s ts = λ k st h. too_deep (k + outside st) _ _ (omega arith) ∙ ap (λ n. TooDeep (suc n)) (same_length ts)
-
-pub call_deep : (b c : List ℕ) (s u : Span) (ts : List Lexeme) → Refused Primary 0 (lexeme Name b s ∷ lexeme Open c u ∷ ts) (error.TooDeep (suc (length ts)))
-call_deep b c s u ts = λ k st a h. too_deep (k + outside st) _ _ (omega arith) ∙ ap (λ n. TooDeep (suc n)) (same_length ts)
-
 -- calls
 pub lists_append : (ts mid rest : List Lexeme) (more : List Tree) (t : Tree) → Lists ts more mid → Lists mid (t ∷ []) rest → Lists ts (more ++ t ∷ []) rest
 lists_append ts mid rest more t listed one = one
@@ -219,20 +205,6 @@ all_read room b c s d rest = record { derives = λ ss after w. to_all w; goes = 
 pub each_read : (room inner : ℕ) (a b c : List ℕ) (s d e : Span) (rest : List Lexeme) → inner + 1 ≡ room
     → StepRead room (lexeme OpenIndex c d ∷ lexeme Star b s ∷ lexeme CloseIndex a e ∷ rest) (All d e) rest
 each_read room inner a b c s d e rest one = record { derives = λ ss after w. to_each w; goes = λ k st h. not_deeper (k + outside st) _ _ (omega arith); shorter = omega arith }
-
--- after a dot comes neither a name, a keyword nor a star
-abbrev pub NoProperty : List TokenKind → Type 0
-NoProperty (Name ∷ ts) = ⊥
-NoProperty (Keyword w ∷ ts) = ⊥
-NoProperty (Star ∷ ts) = ⊥
-NoProperty _ = Unit {0}
-
-pub dot_stray : (room : ℕ) (c : List ℕ) (d : Span) (us : List Lexeme) → NoProperty (kinds us) → StepRefused room (lexeme Dot c d ∷ us) (error_at us)
-dot_stray room c d [] n = λ k st h. refl
-dot_stray room c d (lexeme Name b s ∷ us) n = absurd n
-dot_stray room c d (lexeme (Keyword w) b s ∷ us) n = absurd n
-dot_stray room c d (lexeme Star b s ∷ us) n = absurd n
-dot_stray room c d (lexeme t b s ∷ us) n = λ k st h. unexpected us
 
 after_star : (k : ℕ) (st : List Frame) (us : List Lexeme) → Lacks CloseIndex (kinds us) → IsVerdict (error_at us) (scan S 0 (Index k ∷ st) (kinds us))
 after_star k st [] n = refl

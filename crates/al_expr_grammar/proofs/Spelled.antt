@@ -1,5 +1,5 @@
 -- A content without a fault spells exactly one tree, which is the tree of the content.
-use Rattle.std.proofs.Common.{◌≡◌, ◌<◌, ◌≤◌, ℕ, zero, suc, List, [], ◌∷◌, length, refl, sym, ap, ◌∙◌, subst, arith, Option, Some, None, Bool, true, false, cond, nat_lt, drop, ◌-◌}
+use Rattle.std.proofs.Common.{◌≡◌, ◌<◌, ◌≤◌, ℕ, List, [], ◌∷◌, length, refl, sym, ap, ◌∙◌, subst, arith, Option, Some, None, Bool, true, false, cond, nat_lt, drop, ◌-◌}
 use Rattle.std.proofs.lemmas.List.{length-drop}
 use Rattle.al_base.specs.declared.faults.Fault.{Fault}
 use Rattle.al_base.specs.declared.faults.Span.{Span}
@@ -7,35 +7,18 @@ use Rattle.al_expr_grammar.specs.Lexeme.{Lexeme, lexeme, kinds}
 use Rattle.al_expr_grammar.specs.Tokens.{Lexed, AllRead, Bad, Unclosed, last_quote, tokens_of}
 use Rattle.al_expr_grammar.specs.Tree.{Tree}
 use Rattle.al_expr_grammar.specs.Building.{tree_of_content, tree_of_tokens}
-use Rattle.al_expr_grammar.specs.Grammar.{Derives, Binary, IsTreeOf}
-use Rattle.al_expr_grammar.specs.Parsed.{EndsLevel}
+use Rattle.al_expr_grammar.specs.Grammar.{IsTreeOf}
 use Rattle.al_expr_grammar.specs.Refusal.{Spells, fault_at, fault_of_content, fault_of_tokens, fault_of_verdict, open_text}
-use Rattle.al_expr_grammar.specs.Table.{Verdict, Fine, Early, Unexpected, TooDeep, E, O, scan, verdict_of}
-use Rattle.al_expr_grammar.specs.declared.token.TokenKind.TheVariants.{Dot, OpenIndex, Infix}
-use Rattle.al_expr_grammar.specs.declared.parser.ParseError.TheVariants as error
+use Rattle.al_expr_grammar.specs.Table.{Verdict, Fine, Early, Unexpected, TooDeep, E, verdict_of}
 use Rattle.al_expr_grammar.proofs.Built.{builds_tree}
 use Rattle.al_expr_grammar.proofs.Left.{LiesIn, lies_in}
 use Rattle.al_expr_grammar.proofs.Quotes.{quote_found}
-use Rattle.al_expr_grammar.proofs.Rules.{at_most_three, same_length}
-use Rattle.al_expr_grammar.proofs.Total.{Outcome, outcome_of, read, refused}
-
--- If an operand was read and the table finds no fault in the rest, the rest is empty.
-over : (rest : List Lexeme) → EndsLevel 3 (kinds rest) → scan O 0 [] (kinds rest) ≡ Fine → rest ≡ []
-over [] h e = refl
-over (lexeme Dot b s ∷ ts) h e = absurd h
-over (lexeme OpenIndex b s ∷ ts) h e = absurd h
-over (lexeme (Infix o) b s ∷ ts) h e = absurd (omega (arith, h, at_most_three o))
-over (lexeme k b s ∷ ts) h e = absurd cc
-
-some_tree : (ts : List Lexeme) → verdict_of (kinds ts) ≡ Fine → Outcome (Binary 3) 50 ts → (t : Tree) × IsTreeOf t ts
-some_tree ts e (read t rest p) = (t, subst (λ r. Derives (Binary 3) ts t r) (over rest p.stops (sym (p.goes 0 [] refl refl) ∙ e)) p.derives)
-some_tree ts e (refused error.Memory i r) = absurd i
-some_tree ts e (refused (error.Unexpected zero) i r) = let a = r 0 [] refl refl in absurd cc
-some_tree ts e (refused (error.Unexpected (suc n)) i r) = let a = r 0 [] refl refl in absurd cc
-some_tree ts e (refused (error.TooDeep n) i r) = let a = r 0 [] refl refl in absurd cc
+use Rattle.al_expr_grammar.proofs.Rules.{same_length}
+use Rattle.al_expr_grammar.proofs.Shape.{Agrees, scan_shape, shape}
+use Rattle.al_expr_grammar.proofs.Total.{some_tree}
 
 pub found : (ts : List Lexeme) → verdict_of (kinds ts) ≡ Fine → (t : Tree) × IsTreeOf t ts
-found ts e = some_tree ts e (outcome_of ts)
+found ts e = some_tree ts (sym (subst (λ v. Agrees v (shape E [] (kinds ts))) e (scan_shape E 0 [] (kinds ts))))
 
 none_at : (make : Span → List ℕ → Fault) (ts : List Lexeme) → fault_at make ts ≡ None → length ts ≡ 0
 none_at make [] e = refl

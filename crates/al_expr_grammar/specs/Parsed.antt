@@ -84,12 +84,6 @@ pub record PartOfCall (room : ℕ) (ts : List Lexeme) (more : List Tree) (rest :
   pub stops : EndsLevel 3 (kinds rest)
   pub shorter : length rest ≤ length ts
 
--- The path continues.
-abbrev pub GoesOn : List TokenKind → Type 0
-GoesOn (Dot ∷ ts) = Unit {0}
-GoesOn (OpenIndex ∷ ts) = Unit {0}
-GoesOn _ = ⊥
-
 -- one step of a path
 pub record StepRead (room : ℕ) (ts : List Lexeme) (s : StepTree) (rest : List Lexeme) : Type 0 where
   pub derives : (ss : List StepTree) (after : List Lexeme) → Walks rest ss after → Walks ts (s ∷ ss) after

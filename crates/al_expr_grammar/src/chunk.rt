@@ -61,27 +61,14 @@ fn closing_position(bytes: &[u8]) -> Option<usize>
     None
 }
 
-/// Whether no quote is open after these bytes of a content.
-#[tactic(auto, using(crate::proofs::Chunking::quotes_next))]
-fn is_outside_quotes(bytes: &[u8]) -> bool
-    ensures { result ≡ is_outside_quotes bytes.now }
-{
-    let mut outside = true;
-    for b in bytes {
-        if *b == b'\'' {
-            outside = !outside;
-        }
-    }
-    outside
-}
-
 /// The fault of a content that starts here and isn't closed before the text ends, if it has one.
 fn open_fault(start: usize, content: &[u8]) -> Option<Fault>
     requires opening { 3 ≤ start }
     requires room { start + length content.now < 2 ^ 32 }
     ensures { result ≡ open_fault start content.now }
 {
-    if is_outside_quotes(content) {
+    let quotes = content.iter().filter(|b| **b == b'\'').count();
+    if quotes % 2 == 0 {
         let opening = Span {
             start: start as u32 - 3,
             end: start as u32,

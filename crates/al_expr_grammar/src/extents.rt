@@ -18,22 +18,25 @@ pub fn extent(expr: &Expr<'_>) -> Span
 {
     match expr {
         Expr::Keyword(_, span) => *span,
-        Expr::Number(word) => word.span,
-        Expr::Text(word) => word.span,
-        Expr::Name(word) => word.span,
+        Expr::Number(word) | Expr::Text(word) | Expr::Name(word) => word.span,
         Expr::Call(name, _, close) => across(name.span, *close),
         Expr::Group(_, open, close) => across(*open, *close),
         Expr::Not(at, operand) => across(*at, extent(operand)),
-        Expr::Path(base, steps) => with_steps(extent(base), steps),
+        Expr::Path(base, steps) => path_extent(base, steps),
         Expr::Chain(first, operands) => with_operands(extent(first), operands),
     }
 }
 
 /// The span of a path.
+#[cycle(extents)]
 pub fn path_extent(base: &Expr<'_>, steps: &[PathStep<'_>]) -> Span
     ensures { result ≡ extent (Path (expr_view base.now) (steps_of (map step_of steps.now))) }
 {
-    with_steps(extent(base), steps)
+    let mut whole = extent(base);
+    for step in steps {
+        whole = across(whole, step_end(step));
+    }
+    whole
 }
 
 /// The span from the start of one to the end of another.
@@ -44,16 +47,6 @@ pub fn across(first: Span, last: Span) -> Span
         start: first.start,
         end: last.end,
     }
-}
-
-fn with_steps(base: Span, steps: &[PathStep<'_>]) -> Span
-    ensures { result ≡ with_steps base (steps_of (map step_of steps.now)) }
-{
-    let mut whole = base;
-    for step in steps {
-        whole = across(whole, step_end(step));
-    }
-    whole
 }
 
 /// The last token of a step.
