@@ -1,7 +1,10 @@
 -- Negations, paths and chains of operators: the grammar's rules agree with the table.
 use Rattle.std.proofs.Common.{◌≡◌, ℕ, zero, suc, ◌+◌, List, [], ◌∷◌, ◌++◌, refl, sym, ◌∙◌, arith, subst, Result, Ok, Err}
 use Rattle.std.proofs.lemmas.Result.{err_from_is_err_and}
-use Rattle.std.specs.Prelude.{MatchResult}
+use Rattle.std.specs.Prelude.{◌<◌, length, map, MatchResult}
+use Rattle.al_expr_grammar.specs.declared.ast.Operand.{Operand}
+use Rattle.al_expr_grammar.specs.declared.ast.PathStep.{PathStep}
+use Rattle.al_expr_grammar.specs.View.{operand_of, step_of}
 use Rattle.std.specs.Result.{IsErrAnd}
 use Rattle.al_expr_grammar.specs.declared.token.Operator.{Operator}
 use Rattle.al_base.specs.declared.faults.Span.{Span}
@@ -9,7 +12,7 @@ use Rattle.al_expr_grammar.specs.declared.token.TokenKind.{TokenKind}
 use Rattle.al_expr_grammar.specs.declared.token.TokenKind.TheVariants.{Bang, Infix}
 use Rattle.al_expr_grammar.specs.declared.parser.ParseError.{ParseError}
 use Rattle.al_expr_grammar.specs.Lexeme.{Lexeme, lexeme, kinds}
-use Rattle.al_expr_grammar.specs.Tree.{Sign, sign, Tree, Negated, Path, Chain, StepTree, steps_of, operands_of, path_of, chain_of}
+use Rattle.al_expr_grammar.specs.Tree.{Sign, sign, Tree, Negated, Path, Chain, StepTree, steps_of, operands_of}
 use Rattle.al_expr_grammar.specs.Grammar.{Binary, Unary, Postfix, Primary, level_of, below, single, chain, positive, negated, bare, path}
 use Rattle.al_expr_grammar.specs.Grammar.{Operators, no_more, one_more, Walks, arrived, to_property, to_keyword, to_all, to_each, to_index}
 use Rattle.al_expr_grammar.specs.Table.{Verdict, E, O, Frame, outside, scan}
@@ -69,10 +72,16 @@ walks_none : {ts rest : List Lexeme} {ss : List StepTree} → Walks ts ss rest �
 walks_none arrived e = refl
 walks_none _ e = cc
 
-pub steps_read : (room : ℕ) (ts mid rest : List Lexeme) (t : Tree) (ss : List StepTree) → Parsed Primary room ts t mid
-    → PartOfPath room mid ss rest → EndsPath (kinds rest) → Parsed Postfix room ts (path_of t ss) rest
-steps_read room ts mid rest t [] p w ends = bare_read room ts rest t (subst (λ m. Parsed Primary room ts t m) (walks_none w.derives refl) p) ends
-steps_read room ts mid rest t (s ∷ ss) p w ends = path_read room ts mid rest t s ss p w ends
+-- the path if no step was read, and if some were
+pub without_steps : (room : ℕ) (ts mid rest : List Lexeme) (t : Tree) (xs : List PathStep) → length xs ≡ 0 → Parsed Primary room ts t mid
+    → PartOfPath room mid (map step_of xs) rest → EndsPath (kinds rest) → Parsed Postfix room ts t rest
+without_steps room ts mid rest t [] none p w ends = bare_read room ts rest t (subst (λ m. Parsed Primary room ts t m) (walks_none w.derives refl) p) ends
+without_steps room ts mid rest t (x ∷ xs) none p w ends = absurd (omega (arith, none))
+
+pub with_steps : (room : ℕ) (ts mid rest : List Lexeme) (t : Tree) (xs : List PathStep) → 0 < length xs → Parsed Primary room ts t mid
+    → PartOfPath room mid (map step_of xs) rest → EndsPath (kinds rest) → Parsed Postfix room ts (Path t (steps_of (map step_of xs))) rest
+with_steps room ts mid rest t [] some p w ends = absurd (omega (arith, some))
+with_steps room ts mid rest t (x ∷ xs) some p w ends = path_read room ts mid rest t (step_of x) (map step_of xs) p w ends
 
 -- A step of the path is refused.
 pub path_refused : (room : ℕ) (ts mid left : List Lexeme) (t : Tree) (ss : List StepTree) (e : ParseError) → Parsed Primary room ts t mid
@@ -142,11 +151,17 @@ operators_none : {l : ℕ} {ts rest : List Lexeme} {os : List (Sign × Tree)} �
 operators_none no_more e = refl
 operators_none (one_more a d w) e = cc
 
-pub operands_read : (l room : ℕ) (ts mid rest : List Lexeme) (t : Tree) (os : List (Sign × Tree)) → Parsed (below l) room ts t mid
-    → PartOfChain l room mid os rest → EndsRule (below l) (kinds rest) → NoOperator l (kinds rest)
-    → Parsed (Binary l) room ts (chain_of t os) rest
-operands_read l room ts mid rest t [] p c s never = single_read l room ts rest t (subst (λ m. Parsed (below l) room ts t m) (operators_none c.derives refl) p) never
-operands_read l room ts mid rest t (o ∷ os) p c s never = chain_read l room ts mid rest t o os p c s never
+-- the chain if no further operand was read, and if some were
+pub without_operands : (l room : ℕ) (ts mid rest : List Lexeme) (t : Tree) (xs : List Operand) → length xs ≡ 0 → Parsed (below l) room ts t mid
+    → PartOfChain l room mid (map operand_of xs) rest → NoOperator l (kinds rest) → Parsed (Binary l) room ts t rest
+without_operands l room ts mid rest t [] none p c never = single_read l room ts rest t (subst (λ m. Parsed (below l) room ts t m) (operators_none c.derives refl) p) never
+without_operands l room ts mid rest t (x ∷ xs) none p c never = absurd (omega (arith, none))
+
+pub with_operands : (l room : ℕ) (ts mid rest : List Lexeme) (t : Tree) (xs : List Operand) → 0 < length xs → Parsed (below l) room ts t mid
+    → PartOfChain l room mid (map operand_of xs) rest → EndsRule (below l) (kinds rest) → NoOperator l (kinds rest)
+    → Parsed (Binary l) room ts (Chain t (operands_of (map operand_of xs))) rest
+with_operands l room ts mid rest t [] some p c s never = absurd (omega (arith, some))
+with_operands l room ts mid rest t (x ∷ xs) some p c s never = chain_read l room ts mid rest t (operand_of x) (map operand_of xs) p c s never
 
 -- The first operand of a chain, or a later one, is refused.
 pub first_refused : (l room : ℕ) (ts : List Lexeme) (e : ParseError) → Refused (below l) room ts e → Refused (Binary l) room ts e

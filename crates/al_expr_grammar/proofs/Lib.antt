@@ -7,7 +7,6 @@ pub mod Spelled
 pub mod Trees
 pub mod RestItems
 pub mod TreeViews
-pub mod Front
 pub mod Fitting
 pub mod Lexing
 pub mod TextTails

@@ -1,5 +1,5 @@
 -- Each rule of the grammar, and each fault of the parser, agrees with the table.
-use Rattle.std.proofs.Common.{◌≡◌, ◌≢◌, ℕ, suc, ◌+◌, ◌<◌, ◌≤◌, List, [], ◌∷◌, ◌++◌, length, refl, sym, ap, ◌∙◌, arith, nat_lt, cond, subst}
+use Rattle.std.proofs.Common.{◌≡◌, ℕ, suc, ◌+◌, ◌<◌, ◌≤◌, List, [], ◌∷◌, ◌++◌, length, refl, sym, ap, ◌∙◌, arith, nat_lt, cond, subst}
 use Rattle.al_base.specs.declared.faults.Span.{Span}
 use Rattle.al_expr_grammar.specs.declared.token.Operator.{Operator}
 use Rattle.al_expr_grammar.specs.declared.token.Operator.TheVariants as op
@@ -13,8 +13,7 @@ use Rattle.al_expr_grammar.specs.Grammar.{Binary, Primary, level_of}
 use Rattle.al_expr_grammar.specs.Grammar.{name, call_empty, call, group}
 use Rattle.al_expr_grammar.specs.Grammar.{to_property, to_keyword, to_all, to_each, to_index, Lists, listed, and_next}
 use Rattle.al_expr_grammar.specs.Table.{Verdict, Unexpected, TooDeep, E, A, I, S, O, N, Frame, Group, Call, Index, outside, scan}
-use Rattle.al_expr_grammar.specs.Parsed.{EndsPath, EndsLevel, IsVerdict, Parsed, Refused, PartOfCall, StepRead, StepRefused, error_at, NoClose, NoComma}
-use Rattle.al_expr_grammar.proofs.Shape.{NoCall}
+use Rattle.al_expr_grammar.specs.Parsed.{EndsPath, EndsLevel, IsVerdict, Parsed, Refused, StepRead, StepRefused, ArgumentsPart, ArgumentsRead, ArgumentsRefused, IsStray, Lacks, error_at}
 use Rattle.std.proofs.lemmas.Bool.Decides.{nat_tests}
 use Rattle.std.proofs.lemmas.List.{length-map}
 
@@ -42,18 +41,14 @@ settled k j (Group i ∷ st) (t ∷ ts) h = refl
 settled k j (Call i ∷ st) (t ∷ ts) h = refl
 settled k j (Index i ∷ st) (t ∷ ts) h = refl
 
-pub uncalled : (k : ℕ) (st : List Frame) (ts : List TokenKind) → NoCall ts → scan N k st ts ≡ scan O k st ts
+pub uncalled : (k : ℕ) (st : List Frame) (ts : List TokenKind) → Lacks Open ts → scan N k st ts ≡ scan O k st ts
 uncalled k [] [] h = refl
 uncalled k (f ∷ st) [] h = refl
-uncalled k st (Open ∷ ts) h = absurd h
+uncalled k st (Open ∷ ts) h = absurd (h ts refl)
 uncalled k st (t ∷ ts) h = refl
 
--- no token of this kind comes first
-abbrev pub Lacks : TokenKind → List TokenKind → Type 0
-Lacks k ts = (rest : List TokenKind) → ts ≢ k ∷ rest
-
-pub in_call : (k : ℕ) (st : List Frame) (ts : List TokenKind) → NoClose ts → scan A k st ts ≡ scan E k st ts
-in_call k st (Close ∷ ts) h = absurd h
+pub in_call : (k : ℕ) (st : List Frame) (ts : List TokenKind) → Lacks Close ts → scan A k st ts ≡ scan E k st ts
+in_call k st (Close ∷ ts) h = absurd (h ts refl)
 in_call k st ts h = refl
 
 pub in_index : (k : ℕ) (st : List Frame) (ts : List TokenKind) → Lacks Star ts → scan I k st ts ≡ scan E k st ts
@@ -69,8 +64,8 @@ unexpected ts = ap (λ n. Unexpected (suc n)) (same_length ts)
 
 -- the first token neither closes these brackets nor continues in them
 abbrev pub EndsInside : Frame → List TokenKind → Type 0
-EndsInside (Group k) ts = NoClose ts
-EndsInside (Call k) ts = NoComma ts × NoClose ts
+EndsInside (Group k) ts = Lacks Close ts
+EndsInside (Call k) ts = Lacks Comma ts × Lacks Close ts
 EndsInside (Index k) ts = Lacks CloseIndex ts
 
 -- the first token can't follow an expression inside these brackets
@@ -79,9 +74,9 @@ stray f st [] h c = refl
 stray f st (lexeme Dot b s ∷ us) h c = absurd h
 stray f st (lexeme OpenIndex b s ∷ us) h c = absurd h
 stray f st (lexeme (Infix o) b s ∷ us) h c = absurd (omega (arith, h, at_most_three o))
-stray (Group k) st (lexeme Close b s ∷ us) h c = absurd c
-stray (Call k) st (lexeme Close b s ∷ us) h c = absurd c.1
-stray (Call k) st (lexeme Comma b s ∷ us) h c = absurd c.0
+stray (Group k) st (lexeme Close b s ∷ us) h c = absurd (c (kinds us) refl)
+stray (Call k) st (lexeme Close b s ∷ us) h c = absurd (c.1 (kinds us) refl)
+stray (Call k) st (lexeme Comma b s ∷ us) h c = absurd (c.0 (kinds us) refl)
 stray (Index k) st (lexeme CloseIndex b s ∷ us) h c = absurd (c (kinds us) refl)
 stray (Group k) st (lexeme t b s ∷ us) h c = unexpected us
 stray (Call k) st (lexeme t b s ∷ us) h c = unexpected us
@@ -97,7 +92,7 @@ number_read room b s rest = record { derives = Rattle.al_expr_grammar.specs.Gram
 pub text_read : (room : ℕ) (b : List ℕ) (s : Span) (rest : List Lexeme) → Parsed Primary room (lexeme Text b s ∷ rest) (tree.Text b s) rest
 text_read room b s rest = record { derives = Rattle.al_expr_grammar.specs.Grammar.text; goes = λ k st a h. refl; stops = tt; shorter = omega arith }
 
-pub name_read : (room : ℕ) (b : List ℕ) (s : Span) (rest : List Lexeme) → NoCall (kinds rest) → Parsed Primary room (lexeme Name b s ∷ rest) (Named b s) rest
+pub name_read : (room : ℕ) (b : List ℕ) (s : Span) (rest : List Lexeme) → Lacks Open (kinds rest) → Parsed Primary room (lexeme Name b s ∷ rest) (Named b s) rest
 name_read room b s rest never = record { derives = name; goes = λ k st a h. uncalled k st (kinds rest) never; stops = tt; shorter = omega arith }
 
 -- brackets
@@ -116,8 +111,9 @@ module _ (room inner : ℕ) (b : List ℕ) (s : Span) (ts : List Lexeme) (one : 
   pub group_refused : (e : ParseError) → Refused (Binary 3) inner ts e → Refused Primary room (lexeme Open b s ∷ ts) e
   group_refused e r = λ k st a h. likewise e _ _ (in_group k st h) (r 0 (Group k ∷ st) refl (omega arith))
 
-  pub group_stray : (mid : List Lexeme) (t : Tree) → Parsed (Binary 3) inner ts t mid → NoClose (kinds mid) → Refused Primary room (lexeme Open b s ∷ ts) (error_at mid)
-  group_stray mid t p never = λ k st a h. likewise (error_at mid) _ _ (in_group k st h ∙ p.goes 0 (Group k ∷ st) refl (omega arith)) (stray (Group k) st mid p.stops never)
+  pub group_not_closed : (mid : List Lexeme) (t : Tree) (e : ParseError) → Parsed (Binary 3) inner ts t mid → IsStray mid Close e → Refused Primary room (lexeme Open b s ∷ ts) e
+  group_not_closed mid t e p i =
+      rw i.fault (λ k st a h. likewise (error_at mid) _ _ (in_group k st h ∙ p.goes 0 (Group k ∷ st) refl (omega arith)) (stray (Group k) st mid p.stops i.other))
 
   -- an index
   to_inside : (k : ℕ) (st : List Frame) → Lacks Star (kinds ts) → k + outside st + room ≡ 50 → scan O k st (OpenIndex ∷ kinds ts) ≡ scan E 0 (Index k ∷ st) (kinds ts)
@@ -134,42 +130,72 @@ module _ (room inner : ℕ) (b : List ℕ) (s : Span) (ts : List Lexeme) (one : 
   pub index_refused : (e : ParseError) → Lacks Star (kinds ts) → Refused (Binary 3) inner ts e → StepRefused room (lexeme OpenIndex b s ∷ ts) e
   index_refused e n r = λ k st h. likewise e _ _ (to_inside k st n h) (r 0 (Index k ∷ st) refl (omega arith))
 
-  pub index_stray : (mid : List Lexeme) (t : Tree) → Lacks Star (kinds ts) → Parsed (Binary 3) inner ts t mid → Lacks CloseIndex (kinds mid)
-      → StepRefused room (lexeme OpenIndex b s ∷ ts) (error_at mid)
-  index_stray mid t n p never = λ k st h. likewise (error_at mid) _ _ (to_inside k st n h ∙ p.goes 0 (Index k ∷ st) refl (omega arith)) (stray (Index k) st mid p.stops never)
+  pub index_not_closed : (mid : List Lexeme) (t : Tree) (e : ParseError) → Parsed (Binary 3) inner ts t mid → Lacks Star (kinds ts) → IsStray mid CloseIndex e
+      → StepRefused room (lexeme OpenIndex b s ∷ ts) e
+  index_not_closed mid t e p n i =
+      rw i.fault (λ k st h. likewise (error_at mid) _ _ (to_inside k st n h ∙ p.goes 0 (Index k ∷ st) refl (omega arith)) (stray (Index k) st mid p.stops i.other))
 
 -- calls
 pub lists_append : (ts mid rest : List Lexeme) (more : List Tree) (t : Tree) → Lists ts more mid → Lists mid (t ∷ []) rest → Lists ts (more ++ t ∷ []) rest
 lists_append ts mid rest more t listed one = one
 lists_append ts mid rest more t (and_next d w) one = and_next d (lists_append _ mid rest _ t w one)
 
-module _ (room inner : ℕ) (b c : List ℕ) (s u : Span) (ts : List Lexeme) (one : inner + 1 ≡ room) where
-  into_call : (k : ℕ) (st : List Frame) → k + outside st + room ≡ 50 → scan E k st (Name ∷ Open ∷ kinds ts) ≡ scan A 0 (Call k ∷ st) (kinds ts)
-  into_call k st h = not_deeper (k + outside st) _ _ (omega arith)
+pub first_argument_read : (room : ℕ) (ts rest : List Lexeme) (t : Tree) → Parsed (Binary 3) room ts t rest → ArgumentsPart room ts (t ∷ []) rest
+first_argument_read room ts rest t p = record {
+  first = t;
+  more = [];
+  mid = rest;
+  is = refl;
+  begins = p.derives;
+  lists = listed;
+  goes = λ k st h. p.goes 0 (Call k ∷ st) refl (omega arith);
+  stops = p.stops;
+  shorter = p.shorter;
+}
 
-  pub call_refused : (e : ParseError) → NoClose (kinds ts) → Refused (Binary 3) inner ts e → Refused Primary room (lexeme Name b s ∷ lexeme Open c u ∷ ts) e
-  call_refused e n r = λ k st a h. likewise e _ _ (into_call k st h ∙ in_call 0 (Call k ∷ st) (kinds ts) n) (r 0 (Call k ∷ st) refl (omega arith))
+pub later_argument_read : (room : ℕ) (ts us rest : List Lexeme) (all : List Tree) (b : List ℕ) (s : Span) (t : Tree) →
+    ArgumentsPart room ts all (lexeme Comma b s ∷ us) → Parsed (Binary 3) room us t rest → ArgumentsPart room ts (all ++ t ∷ []) rest
+later_argument_read room ts us rest all b s t a p = record {
+  first = a.first;
+  more = a.more ++ t ∷ [];
+  mid = a.mid;
+  is = ap (λ l. l ++ t ∷ []) a.is;
+  begins = a.begins;
+  lists = lists_append a.mid _ rest a.more t a.lists (and_next p.derives listed);
+  goes = λ k st h. a.goes k st h ∙ p.goes 0 (Call k ∷ st) refl (omega arith);
+  stops = p.stops;
+  shorter = let x = a.shorter in let y = p.shorter in omega arith;
+}
 
-  module _ (mid : List Lexeme) (t : Tree) (n : NoClose (kinds ts)) (p : Parsed (Binary 3) inner ts t mid) where
-    first_argument : (k : ℕ) (st : List Frame) → k + outside st + room ≡ 50 → scan E k st (Name ∷ Open ∷ kinds ts) ≡ scan O 0 (Call k ∷ st) (kinds mid)
-    first_argument k st h = into_call k st h ∙ in_call 0 (Call k ∷ st) (kinds ts) n ∙ p.goes 0 (Call k ∷ st) refl (omega arith)
+module _ (inner : ℕ) (ts : List Lexeme) (n : Lacks Close (kinds ts)) where
+  into_call : (room k : ℕ) (st : List Frame) → inner + 1 ≡ room → k + outside st + room ≡ 50 → scan E k st (Name ∷ Open ∷ kinds ts) ≡ scan E 0 (Call k ∷ st) (kinds ts)
+  into_call room k st one h = not_deeper (k + outside st) _ _ (omega arith) ∙ in_call 0 (Call k ∷ st) (kinds ts) n
 
-    pub call_read : (d : List ℕ) (e : Span) (rest : List Lexeme) (more : List Tree) → PartOfCall inner mid more (lexeme Close d e ∷ rest) →
-        Parsed Primary room (lexeme Name b s ∷ lexeme Open c u ∷ ts) (tree.Call b s (arguments_of (t ∷ more)) e) rest
-    call_read d e rest more w = record {
-      derives = call p.derives w.derives;
-      goes = λ k st a h. first_argument k st h ∙ w.goes k st (omega arith);
+  past_arguments : (left : List Lexeme) (all : List Tree) → ArgumentsPart inner ts all left → (room k : ℕ) (st : List Frame) → inner + 1 ≡ room → k + outside st + room ≡ 50
+      → scan E k st (Name ∷ Open ∷ kinds ts) ≡ scan O 0 (Call k ∷ st) (kinds left)
+  past_arguments left all a room k st one h = into_call room k st one h ∙ a.goes k st (omega arith)
+
+  pub first_argument_refused : (e : ParseError) → Refused (Binary 3) inner ts e → ArgumentsRefused inner ts e
+  first_argument_refused e r = λ room b c s u one k st a h. likewise e _ _ (into_call room k st one h) (r 0 (Call k ∷ st) refl (omega arith))
+
+  pub later_argument_refused : (us : List Lexeme) (all : List Tree) (b : List ℕ) (s : Span) (e : ParseError) → ArgumentsPart inner ts all (lexeme Comma b s ∷ us)
+      → Refused (Binary 3) inner us e → ArgumentsRefused inner ts e
+  later_argument_refused us all b s e a r = λ room c d u v one k st x h. likewise e _ _ (past_arguments _ all a room k st one h) (r 0 (Call k ∷ st) refl (omega arith))
+
+  module _ (room : ℕ) (b c : List ℕ) (s u : Span) (one : inner + 1 ≡ room) where
+    pub call_closed : (d : List ℕ) (e : Span) (rest : List Lexeme) (all : List Tree) → ArgumentsRead inner ts all (lexeme Close d e ∷ rest) →
+        Parsed Primary room (lexeme Name b s ∷ lexeme Open c u ∷ ts) (tree.Call b s (arguments_of all) e) rest
+    call_closed d e rest all a = rw a.part.is (record {
+      derives = call a.part.begins a.part.lists;
+      goes = λ k st x h. past_arguments _ all a.part room k st one h;
       stops = tt;
-      shorter = let x = p.shorter in let y = w.shorter in omega arith;
-    }
+      shorter = let x = a.part.shorter in omega arith;
+    })
 
-    pub call_stray : (left : List Lexeme) (more : List Tree) → PartOfCall inner mid more left → NoComma (kinds left) × NoClose (kinds left) →
-        Refused Primary room (lexeme Name b s ∷ lexeme Open c u ∷ ts) (error_at left)
-    call_stray left more w never = λ k st a h. likewise (error_at left) _ _ (first_argument k st h ∙ w.goes k st (omega arith)) (stray (Call k) st left w.stops never)
-
-    pub argument_refused : (d : List ℕ) (x : Span) (us : List Lexeme) (more : List Tree) (e : ParseError) → PartOfCall inner mid more (lexeme Comma d x ∷ us) →
-        Refused (Binary 3) inner us e → Refused Primary room (lexeme Name b s ∷ lexeme Open c u ∷ ts) e
-    argument_refused d x us more e w r = λ k st a h. likewise e _ _ (first_argument k st h ∙ w.goes k st (omega arith)) (r 0 (Call k ∷ st) refl (omega arith))
+    pub call_not_closed : (left : List Lexeme) (all : List Tree) (e : ParseError) → ArgumentsRead inner ts all left → IsStray left Close e →
+        Refused Primary room (lexeme Name b s ∷ lexeme Open c u ∷ ts) e
+    call_not_closed left all e a i =
+        rw i.fault (λ k st x h. likewise (error_at left) _ _ (past_arguments left all a.part room k st one h) (stray (Call k) st left a.part.stops (a.ends, i.other)))
 
 pub call_empty_read : (room inner : ℕ) (b c d : List ℕ) (s u e : Span) (rest : List Lexeme) → inner + 1 ≡ room →
     Parsed Primary room (lexeme Name b s ∷ lexeme Open c u ∷ lexeme Close d e ∷ rest) (tree.Call b s (arguments_of []) e) rest
@@ -178,18 +204,6 @@ call_empty_read room inner b c d s u e rest one = record {
   goes = λ k st a h. not_deeper (k + outside st) _ _ (omega arith);
   stops = tt;
   shorter = omega arith;
-}
-
-pub arguments_begin : (room : ℕ) (ts : List Lexeme) → EndsLevel 3 (kinds ts) → PartOfCall room ts [] ts
-arguments_begin room ts h = record { derives = listed; goes = λ k st g. refl; stops = h; shorter = omega arith }
-
-pub arguments_go_on : (room : ℕ) (ts us rest : List Lexeme) (b : List ℕ) (s : Span) (more : List Tree) (t : Tree) →
-    PartOfCall room ts more (lexeme Comma b s ∷ us) → Parsed (Binary 3) room us t rest → PartOfCall room ts (more ++ t ∷ []) rest
-arguments_go_on room ts us rest b s more t w p = record {
-  derives = lists_append ts (lexeme Comma b s ∷ us) rest more t w.derives (and_next p.derives listed);
-  goes = λ k st h. w.goes k st h ∙ p.goes 0 (Call k ∷ st) refl (omega arith);
-  stops = p.stops;
-  shorter = let x = w.shorter in let y = p.shorter in omega arith;
 }
 
 -- steps of a path
@@ -211,6 +225,7 @@ after_star k st [] n = refl
 after_star k st (lexeme CloseIndex b s ∷ us) n = absurd (n (kinds us) refl)
 after_star k st (lexeme t b s ∷ us) n = unexpected us
 
-pub star_stray : (room inner : ℕ) (b c : List ℕ) (s d : Span) (us : List Lexeme) → inner + 1 ≡ room → Lacks CloseIndex (kinds us)
-    → StepRefused room (lexeme OpenIndex c d ∷ lexeme Star b s ∷ us) (error_at us)
-star_stray room inner b c s d us one n = λ k st h. likewise (error_at us) _ _ (not_deeper (k + outside st) _ _ (omega arith)) (after_star k st us n)
+pub star_not_closed : (room inner : ℕ) (b c : List ℕ) (s d : Span) (us : List Lexeme) (e : ParseError) → inner + 1 ≡ room → IsStray us CloseIndex e
+    → StepRefused room (lexeme OpenIndex c d ∷ lexeme Star b s ∷ us) e
+star_not_closed room inner b c s d us e one i =
+    rw i.fault (λ k st h. likewise (error_at us) _ _ (not_deeper (k + outside st) _ _ (omega arith)) (after_star k st us i.other))

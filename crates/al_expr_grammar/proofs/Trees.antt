@@ -1,5 +1,5 @@
 -- The view of each form of an expression.
-use Rattle.std.proofs.Common.{◌≡◌, ◌<◌, length, arith, List, [], ◌∷◌, map, refl, sym, ap, ◌∙◌}
+use Rattle.std.proofs.Common.{◌≡◌, map, sym, ap, ◌∙◌}
 use Rattle.std.specs.Global.{Global}
 use Rattle.std.specs.Prelude.{Box, Vec}
 use Rattle.al_base.specs.declared.faults.Span.{Span}
@@ -16,7 +16,7 @@ use Rattle.al_expr_grammar.specs.declared.ast.Expr.TheVariants.{rolls-Keyword, r
 use Rattle.al_expr_grammar.specs.declared.ast.PathStep.TheVariants.{rolls-Property, rolls-All, rolls-Index}
 use Rattle.al_expr_grammar.specs.declared.ast.Expr.TheFolds.{fold-roll-Expr, fold-roll-PathStep, fold-roll-Operand}
 use Rattle.al_expr_grammar.specs.Tree.{Sign, sign, Tree, Constant, Number, Text, Named, Call, Group, Negated, Path, Chain, StepTree, Property}
-use Rattle.al_expr_grammar.specs.Tree.{All, Index, steps_of, operands_of, arguments_of, path_of, chain_of}
+use Rattle.al_expr_grammar.specs.Tree.{All, Index, steps_of, operands_of, arguments_of}
 use Rattle.al_expr_grammar.specs.View.{expr_layer, step_layer, operand_layer, expr_view, step_of, operand_of}
 
 pub tree_of-Keyword : (w : Keyword) (s : Span) → expr_view (code.Keyword w s) ≡ Constant w s
@@ -70,19 +70,3 @@ step_of-Index a e b = ap step_of (sym (rolls-Index a e b)) ∙ fold-roll-PathSte
 pub operand_of-made : (o : layer.Operand-F Expr PathStep Operand) → operand_of (roll-Operand o) ≡ (sign o.operator o.at, expr_view o.expr)
 unfolding operand_of expr_view
 operand_of-made o = fold-roll-Operand Tree StepTree (Sign × Tree) expr_layer step_layer operand_layer o
-
-pub path_of-none : (t : Tree) (ss : List StepTree) → length ss ≡ 0 → path_of t ss ≡ t
-path_of-none t [] h = refl
-path_of-none t (s ∷ ss) h = absurd (omega (arith, h))
-
-pub path_of-some : (t : Tree) (ss : List StepTree) → 0 < length ss → path_of t ss ≡ Path t (steps_of ss)
-path_of-some t [] h = absurd (omega (arith, h))
-path_of-some t (s ∷ ss) h = refl
-
-pub chain_of-none : (t : Tree) (os : List (Sign × Tree)) → length os ≡ 0 → chain_of t os ≡ t
-chain_of-none t [] h = refl
-chain_of-none t (o ∷ os) h = absurd (omega (arith, h))
-
-pub chain_of-some : (t : Tree) (os : List (Sign × Tree)) → 0 < length os → chain_of t os ≡ Chain t (operands_of os)
-chain_of-some t [] h = absurd (omega (arith, h))
-chain_of-some t (o ∷ os) h = refl

@@ -5,7 +5,7 @@ use Rattle.al_expr_grammar.specs.declared.ast.Expr.{Expr}
 use Rattle.al_expr_grammar.specs.declared.ast.PathStep.{PathStep}
 use Rattle.al_expr_grammar.specs.declared.token.Token.{Token}
 use Rattle.al_expr_grammar.specs.declared.token.TokenKind.{TokenKind}
-use Rattle.al_expr_grammar.specs.declared.token.TokenKind.TheVariants.{Name, Open, Close, OpenIndex, Comma, Bang, Dot, Infix}
+use Rattle.al_expr_grammar.specs.declared.token.TokenKind.TheVariants.{Name, Open, OpenIndex, Comma, Bang, Dot, Infix}
 use Rattle.al_expr_grammar.specs.declared.parser.ParseError.{ParseError}
 use Rattle.al_expr_grammar.specs.declared.parser.ParseError.TheVariants as error
 use Rattle.al_base.specs.declared.faults.Span.{Span}
@@ -76,14 +76,6 @@ pub record PartOfPath (room : ℕ) (ts : List Lexeme) (ss : List StepTree) (rest
   pub goes : (k : ℕ) (st : List Frame) → k + outside st + room ≡ deepest_expression → scan O k st (kinds ts) ≡ scan O k st (kinds rest)
   pub shorter : length rest ≤ length ts
 
--- Further arguments read so far, inside a call after this many negations.
-pub record PartOfCall (room : ℕ) (ts : List Lexeme) (more : List Tree) (rest : List Lexeme) : Type 0 where
-  pub derives : Lists ts more rest
-  pub goes : (k : ℕ) (st : List Frame) → 1 + k + outside st + room ≡ deepest_expression
-      → scan O 0 (Call k ∷ st) (kinds ts) ≡ scan O 0 (Call k ∷ st) (kinds rest)
-  pub stops : EndsLevel 3 (kinds rest)
-  pub shorter : length rest ≤ length ts
-
 -- one step of a path
 pub record StepRead (room : ℕ) (ts : List Lexeme) (s : StepTree) (rest : List Lexeme) : Type 0 where
   pub derives : (ss : List StepTree) (after : List Lexeme) → Walks rest ss after → Walks ts (s ∷ ss) after
@@ -99,28 +91,31 @@ abbrev pub ParsesStep : ℕ → List Lexeme → Result (PathStep × Bor (List To
 ParsesStep room ts result =
     MatchResult result (λ x. StepRead room ts (step_of x.0) (map seen x.1.now)) (λ e. StepRefused room ts e)
 
+-- No token of this kind comes first.
+abbrev pub Lacks : TokenKind → List TokenKind → Type 0
+Lacks k ts = (rest : List TokenKind) → ts ≢ k ∷ rest
+
 -- the fault if the first token isn't allowed here
 abbrev pub error_at : List Lexeme → ParseError
 error_at ts = error.Unexpected (length ts)
 
--- No comma comes first.
-abbrev pub NoComma : List TokenKind → Type 0
-NoComma (Comma ∷ ts) = ⊥
-NoComma _ = Unit {0}
-
--- the arguments of a call read so far, at least one
+-- the arguments of a call read so far, at least one, inside a call after some negations
 pub record ArgumentsPart (room : ℕ) (ts : List Lexeme) (all : List Tree) (rest : List Lexeme) : Type 0 where
   pub first : Tree
   pub more : List Tree
   pub mid : List Lexeme
   pub is : all ≡ first ∷ more
-  pub begins : Parsed (Binary 3) room ts first mid
-  pub goes_on : PartOfCall room mid more rest
+  pub begins : Derives (Binary 3) ts first mid
+  pub lists : Lists mid more rest
+  pub goes : (k : ℕ) (st : List Frame) → 1 + k + outside st + room ≡ deepest_expression
+      → scan E 0 (Call k ∷ st) (kinds ts) ≡ scan O 0 (Call k ∷ st) (kinds rest)
+  pub stops : EndsLevel 3 (kinds rest)
+  pub shorter : length rest < length ts
 
 -- all arguments of a call
 pub record ArgumentsRead (room : ℕ) (ts : List Lexeme) (all : List Tree) (rest : List Lexeme) : Type 0 where
   pub part : ArgumentsPart room ts all rest
-  pub ends : NoComma (kinds rest)
+  pub ends : Lacks Comma (kinds rest)
 
 -- A call with these tokens after its opening bracket is refused.
 abbrev pub ArgumentsRefused : ℕ → List Lexeme → ParseError → Type 0
@@ -137,12 +132,7 @@ abbrev pub NoBang : List TokenKind → Type 0
 NoBang (Bang ∷ ts) = ⊥
 NoBang _ = Unit {0}
 
--- No closing bracket comes first.
-abbrev pub NoClose : List TokenKind → Type 0
-NoClose (Close ∷ ts) = ⊥
-NoClose _ = Unit {0}
-
 -- The first token isn't of the kind that is required here.
 pub record IsStray (ts : List Lexeme) (k : TokenKind) (e : ParseError) : Type 0 where
   pub fault : e ≡ error_at ts
-  pub other : (rest : List TokenKind) → kinds ts ≢ k ∷ rest
+  pub other : Lacks k (kinds ts)

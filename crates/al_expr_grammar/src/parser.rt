@@ -4,7 +4,7 @@ ghost use Rattle.std.specs.Prelude.{map, IfOk, ◌≡◌, ◌≢◌, ◌+◌, �
 ghost use Rattle.al_expr_grammar.specs.Lexeme.{seen, kinds, kind_of, lexeme_text, lexeme_span};
 ghost use Rattle.al_expr_grammar.specs.Parsed.{EndsPath, IsStray, NoOperator, Parses};
 ghost use Rattle.al_expr_grammar.specs.Parsed.{ParsesStep, StepRead, StepRefused, ArgumentsRead};
-ghost use Rattle.al_expr_grammar.specs.Parsed.{ArgumentsRefused, NoClose, NoBang, IsVerdict};
+ghost use Rattle.al_expr_grammar.specs.Parsed.{ArgumentsRefused, Lacks, NoBang, IsVerdict};
 ghost use Rattle.al_expr_grammar.specs.View.{expr_view, step_of, operand_of};
 ghost use Rattle.al_expr_grammar.specs.Tree.{path_of, chain_of};
 ghost use Rattle.al_expr_grammar.specs.Grammar.{Binary, Unary, Postfix, Primary, level_of, below, IsTreeOf};
@@ -121,8 +121,7 @@ fn operator<'t, 'a>(
 
 /// The first token, if it is of this kind, and the rest.
 fn accept<'t, 'a>(tokens: &'t [Token<'a>], kind: TokenKind) -> Option<(Token<'a>, &'t [Token<'a>])>
-    ensures { MatchOption result
-        ((rest : List TokenKind) → kinds (map seen tokens.now) ≢ kind ∷ rest)
+    ensures { MatchOption result (Lacks kind (kinds (map seen tokens.now)))
         (λ x. (map seen tokens.now ≡ seen x.0 ∷ map seen x.1.now) × (kind_of (seen x.0) ≡ kind)) }
 {
     match split(tokens) {
@@ -224,7 +223,7 @@ fn arguments<'t, 'a>(
     tokens: &'t [Token<'a>],
     room: u32,
 ) -> Parse<'t, 'a, Vec<Expr<'a>>>
-    requires { NoClose (kinds (map seen tokens.now)) }
+    requires { Lacks Close (kinds (map seen tokens.now)) }
     ensures { MatchResult result
         (λ x. ArgumentsRead room (map seen tokens.now) (map expr_view x.0.items) (map seen x.1.now))
         (λ e. ArgumentsRefused room (map seen tokens.now) e) }

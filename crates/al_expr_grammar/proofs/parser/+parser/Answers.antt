@@ -1,14 +1,13 @@
-use Rattle.std.proofs.Common.{◌≡◌, ◌<◌, length, map, refl, arith}
-use Rattle.std.proofs.lemmas.List.{length-map, map-append}
+use Rattle.std.proofs.Common.{map, refl, arith}
+use Rattle.std.proofs.lemmas.List.{map-append}
 use Rattle.al_expr_grammar.specs.Lexeme.{seen}
 use Rattle.al_expr_grammar.proofs.Trees.{tree_of-Keyword, tree_of-Number, tree_of-Text, tree_of-Name, tree_of-Call, tree_of-Group, tree_of-Not, tree_of-Path}
-use Rattle.al_expr_grammar.proofs.Trees.{tree_of-Chain, step_of-All, step_of-Index, operand_of-made, path_of-none, path_of-some, chain_of-none, chain_of-some}
-use Rattle.al_expr_grammar.specs.View.{step_of, operand_of}
-use Rattle.al_expr_grammar.proofs.Rules.{constant_read, number_read, text_read, name_read, group_read, group_refused, call_empty_read, each_read, index_read, index_refused}
-use Rattle.al_expr_grammar.proofs.Chains.{not_read, positive_read, steps_read, path_begins, path_goes_on, chain_begins, chain_goes_on, operands_read, either_way, refusal}
-use Rattle.al_expr_grammar.proofs.Chains.{not_refused, path_refused, first_refused, later_refused}
-use Rattle.al_expr_grammar.proofs.Front.{no_call, no_close, no_comma, group_not_closed, star_not_closed, first_argument_refused, first_argument_read, later_argument_refused}
-use Rattle.al_expr_grammar.proofs.Front.{later_argument_read, call_closed, call_not_closed, index_not_closed}
+use Rattle.al_expr_grammar.proofs.Trees.{tree_of-Chain, step_of-All, step_of-Index, operand_of-made}
+use Rattle.al_expr_grammar.proofs.Rules.{constant_read, number_read, text_read, name_read, group_read, group_refused, group_not_closed, call_empty_read}
+use Rattle.al_expr_grammar.proofs.Rules.{first_argument_read, first_argument_refused, later_argument_read, later_argument_refused, call_closed, call_not_closed}
+use Rattle.al_expr_grammar.proofs.Rules.{each_read, star_not_closed, index_read, index_refused, index_not_closed}
+use Rattle.al_expr_grammar.proofs.Chains.{not_read, not_refused, positive_read, path_begins, path_goes_on, path_refused, with_steps, without_steps}
+use Rattle.al_expr_grammar.proofs.Chains.{chain_begins, chain_goes_on, first_refused, later_refused, with_operands, without_operands, either_way, refusal}
 use Rattle.al_expr_grammar.proofs.parser.+parser.Goals as goal
 
 pub primary-returns-in_default : goal.primary-returns-in_default
@@ -36,7 +35,7 @@ primary-returns-in-Text t c =
 pub primary-returns-in-None : goal.primary-returns-in-None
 primary-returns-in-None t c =
     let w = c.word-in-None.ensures in
-    rw (c.in-Some.ensures, c.in-Name.is, tree_of-Name, w.text, w.span) (name_read _ _ _ _ (no_call _ c.in-None.ensures))
+    rw (c.in-Some.ensures, c.in-Name.is, tree_of-Name, w.text, w.span) (name_read _ _ _ _ c.in-None.ensures)
 
 pub group-returns-in_err-expr : goal.group-returns-in_err-expr
 group-returns-in_err-expr t c =
@@ -69,9 +68,8 @@ call-returns-in_err-given t c =
 pub call-returns-in_err-close : goal.call-returns-in_err-close
 call-returns-in_err-close t c =
     rw (c.requires.name, c.requires.bracket) (refusal _ _ c.from_residual-in_err-close.result _ c.from_residual-in_err-close.ensures.1
-    (call_not_closed c.args.room c.in_ok-inner.inner c.args.name.text.now c.args.bracket.text.now c.args.name.span c.args.bracket.span
-    (map seen c.args.tokens.now) c.in_ok-inner.ensures (no_close _ c.in_default.ensures) _ _ _ c.in_ok-given.ensures
-    c.in_err-close.ensures))
+    (call_not_closed c.in_ok-inner.inner (map seen c.args.tokens.now) c.in_default.ensures c.args.room c.args.name.text.now c.args.bracket.text.now
+    c.args.name.span c.args.bracket.span c.in_ok-inner.ensures _ _ _ c.in_ok-given.ensures c.in_err-close.ensures))
 
 pub call-returns : goal.call-returns
 call-returns t c =
@@ -79,14 +77,11 @@ call-returns t c =
     let g = c.in_ok-close.ensures in
     let h = rw (g.0, g.1) at c.in_ok-given.ensures in
     rw (c.requires.name, c.requires.bracket, tree_of-Call, w.text, w.span)
-    (call_closed _ _ _ _ _ _ _ c.in_ok-inner.ensures (no_close _ c.in_default.ensures) _ _ _ _ h)
-
-pub arguments-returns : goal.arguments-returns
-arguments-returns t c = record { part = c.list.invariant; ends = no_comma _ c.in_default.ensures }
+    (call_closed _ _ c.in_default.ensures _ _ _ _ _ c.in_ok-inner.ensures _ _ _ _ h)
 
 pub arguments-returns-in_err-first : goal.arguments-returns-in_err-first
 arguments-returns-in_err-first t c =
-    refusal _ _ c.from_residual.result _ c.from_residual.ensures.1 (first_argument_refused _ _ _ c.requires c.in_err-first.ensures)
+    refusal _ _ c.from_residual.result _ c.from_residual.ensures.1 (first_argument_refused _ _ c.requires _ c.in_err-first.ensures)
 
 pub arguments-list-init : goal.arguments-list-init
 arguments-list-init t c = rw (c.in_ok-push.ensures.items, c.new-given.ensures.items) (first_argument_read _ _ _ _ c.in_ok-first.ensures)
@@ -95,7 +90,7 @@ pub arguments-returns-in_err-argument : goal.arguments-returns-in_err-argument
 arguments-returns-in_err-argument t c =
     let g = c.in-Some.ensures in
     let h = rw (g.0, g.1) at c.list.invariant in
-    refusal _ _ c.from_residual-in_err-argument.result _ c.from_residual-in_err-argument.ensures.1 (later_argument_refused _ _ _ _ _ _ _ c.requires h c.in_err-argument.ensures)
+    refusal _ _ c.from_residual-in_err-argument.result _ c.from_residual-in_err-argument.ensures.1 (later_argument_refused _ _ c.requires _ _ _ _ _ h c.in_err-argument.ensures)
 
 pub arguments-list-preserved : goal.arguments-list-preserved
 arguments-list-preserved t c =
@@ -125,16 +120,14 @@ postfix-walk-preserved t c =
 pub postfix-returns-then-len-eq0 : goal.postfix-returns-then-len-eq0
 postfix-returns-then-len-eq0 t c =
     let e = rw c.in_default.is at c.in_ok-taken.ensures in
-    let none : length (map step_of c.walk.steps.items) ≡ 0 = rw length-map (omega (arith, c.walk.steps.ok.0, c.len.ensures, c.if-len-eq0.true)) in
-    let r = steps_read _ _ _ _ _ _ c.in_ok-base.ensures c.walk.invariant.so_far e in
-    rw c.walk.invariant.same (rw (path_of-none _ _ none) at r)
+    rw c.walk.invariant.same
+    (without_steps _ _ _ _ _ _ (omega (arith, c.walk.steps.ok.0, c.len.ensures, c.if-len-eq0.true)) c.in_ok-base.ensures c.walk.invariant.so_far e)
 
 pub postfix-returns : goal.postfix-returns
 postfix-returns t c =
     let e = rw c.in_default.is at c.in_ok-taken.ensures in
-    let some : 0 < length (map step_of c.walk.steps.items) = rw length-map (omega (arith, c.walk.steps.ok.0, c.len.ensures, c.if-len-eq0.false)) in
-    let r = steps_read _ _ _ _ _ _ c.in_ok-base.ensures c.walk.invariant.so_far e in
-    rw (tree_of-Path, c.in_ok-new.ensures.ok, c.walk.invariant.same) (rw (path_of-some _ _ some) at r)
+    rw (tree_of-Path, c.in_ok-new.ensures.ok, c.walk.invariant.same)
+    (with_steps _ _ _ _ _ _ (omega (arith, c.walk.steps.ok.0, c.len.ensures, c.if-len-eq0.false)) c.in_ok-base.ensures c.walk.invariant.so_far e)
 
 pub step-returns-in_default : goal.step-returns-in_default
 step-returns-in_default t c = rw c.in_default.ensures tt
@@ -223,12 +216,11 @@ binary-chain-preserved t c =
 
 pub binary-returns-then-len-eq0 : goal.binary-returns-then-len-eq0
 binary-returns-then-len-eq0 t c =
-    let none : length (map operand_of c.chain.more.items) ≡ 0 = rw length-map (omega (arith, c.chain.more.ok.0, c.len.ensures, c.if-len-eq0.true)) in
-    let r = operands_read _ _ _ _ _ _ _ c.in_ok-first.ensures c.chain.invariant.so_far c.chain.invariant.stops c.in_default.ensures in
-    rw c.chain.invariant.same (rw (chain_of-none _ _ none) at r)
+    rw c.chain.invariant.same
+    (without_operands _ _ _ _ _ _ _ (omega (arith, c.chain.more.ok.0, c.len.ensures, c.if-len-eq0.true)) c.in_ok-first.ensures c.chain.invariant.so_far c.in_default.ensures)
 
 pub binary-returns : goal.binary-returns
 binary-returns t c =
-    let some : 0 < length (map operand_of c.chain.more.items) = rw length-map (omega (arith, c.chain.more.ok.0, c.len.ensures, c.if-len-eq0.false)) in
-    let r = operands_read _ _ _ _ _ _ _ c.in_ok-first.ensures c.chain.invariant.so_far c.chain.invariant.stops c.in_default.ensures in
-    rw (tree_of-Chain, c.in_ok-new.ensures.ok, c.chain.invariant.same) (rw (chain_of-some _ _ some) at r)
+    rw (tree_of-Chain, c.in_ok-new.ensures.ok, c.chain.invariant.same)
+    (with_operands _ _ _ _ _ _ _ (omega (arith, c.chain.more.ok.0, c.len.ensures, c.if-len-eq0.false)) c.in_ok-first.ensures c.chain.invariant.so_far
+    c.chain.invariant.stops c.in_default.ensures)
