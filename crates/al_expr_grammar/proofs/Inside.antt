@@ -14,6 +14,7 @@ use Rattle.al_base.specs.declared.faults.Span.{Span}
 use Rattle.al_expr_grammar.specs.declared.lexer.Read.{Read}
 use Rattle.al_expr_grammar.specs.declared.lexer.Read.TheVariants.{Blank, Token, BadCharacter, OpenText}
 use Rattle.al_expr_grammar.specs.declared.token.TokenKind.{TokenKind}
+use Rattle.al_expr_grammar.specs.declared.token.TokenKind.TheVariants.{Close, CloseIndex}
 use Rattle.al_expr_grammar.specs.Chunks.{Chunked, before_opening, chunks_of, chunks_within, closing_position, is_outside_quotes, with_content, with_opening}
 use Rattle.al_expr_grammar.proofs.Chunking.{closing_fits, opening_fits}
 use Rattle.al_expr_grammar.specs.Extents.{across, extent, with_operands, with_steps}
@@ -143,6 +144,9 @@ module _ (size : ℕ) where
   up_to : (low : ℕ) (s e : Span) → low ≤ s.start → s.start ≤ e.start → LiesIn size e → Extends low s.start e.end
   up_to low s e from between l = let o : e.start ≤ e.end = l.ordered in record { from = from; ordered = omega (arith, between, o); inside = l.inside }
 
+  extended : {low start end : ℕ} → low ≤ start → (start ≤ end) × (end ≤ size) → Extends low start end
+  extended from ends = record { from = from; ordered = ends.0; inside = ends.1 }
+
   mutual
     pub tree_extent : (t : Tree) (low : ℕ) → TreeLies low t → Extends low (start_of t) (extent t).end
     tree_extent (Constant w s) low l = at_span low s l
@@ -152,14 +156,8 @@ module _ (size : ℕ) where
     tree_extent (Call b s as' e) low l = up_to low s e l.0 l.3 l.4
     tree_extent (Group t s e) low l = up_to low s e l.0 l.3 l.4
     tree_extent (Negated s t) low l = let x = tree_extent t s.start l.2 in let a = x.from in let b = x.ordered in record { from = l.0; ordered = omega (arith, a, b); inside = x.inside }
-    tree_extent (Path t ss) low l =
-        let x = tree_extent t low l.0 in
-        let y = steps_extent ss (start_of t) (extent t) x.ordered x.inside l.1 in
-        record { from = x.from; ordered = y.0; inside = y.1 }
-    tree_extent (Chain t os) low l =
-        let x = tree_extent t low l.0 in
-        let y = operands_extent os (start_of t) (extent t) x.ordered x.inside l.1 in
-        record { from = x.from; ordered = y.0; inside = y.1 }
+    tree_extent (Path t ss) low l = let x = tree_extent t low l.0 in extended x.from (steps_extent ss (start_of t) (extent t) x.ordered x.inside l.1)
+    tree_extent (Chain t os) low l = let x = tree_extent t low l.0 in extended x.from (operands_extent os (start_of t) (extent t) x.ordered x.inside l.1)
 
     steps_extent : (ss : PathSteps) (low : ℕ) (x : Span) → low ≤ x.end → x.end ≤ size → StepsLie low ss → (low ≤ (with_steps x ss).end) × ((with_steps x ss).end ≤ size)
     steps_extent NoStep low x h i l = (h, i)
@@ -176,16 +174,17 @@ module _ (size : ℕ) where
     operands_extent (OperandThen (sign o s) t os) low x h i l =
         let y = tree_extent t low l.1 in let a = y.from in let b = y.ordered in operands_extent os low (across x (extent t)) (omega (arith, a, b)) y.inside l.2
 
+  -- the tokens that remain aren't before a tree, so not before what it is in
+  from_low : (low : ℕ) (t : Tree) (rest : List Lexeme) → TreeLies low t × TokensLie (start_of t) rest → TreeLies low t × TokensLie low rest
+  from_low low t rest x = let there = tree_extent t low x.0 in (x.0, weaker low (start_of t) rest there.from x.1)
+
   -- A tree of tokens is within the content, and the tokens that remain aren't before its start.
   mutual
     pub derives_lie : {p : Nonterminal} {ts rest : List Lexeme} {t : Tree} → Derives p ts t rest → (low : ℕ) → TokensLie low ts → TreeLies low t × TokensLie (start_of t) rest
     derives_lie (single d) low l = derives_lie d low l
     derives_lie (chain d w) low l = let x = derives_lie d low l in let y = operators_lie w _ x.1 in ((x.0, y.0), y.1)
     derives_lie (positive d) low l = derives_lie d low l
-    derives_lie (negated {s = s} {rest = rest} {t = t} d) low l =
-        let x = derives_lie d s.start l.2 in
-        let there = tree_extent t s.start x.0 in
-        ((l.0, l.1, x.0), weaker s.start (start_of t) rest there.from x.1)
+    derives_lie (negated {s = s} {rest = rest} {t = t} d) low l = let x = from_low s.start t rest (derives_lie d s.start l.2) in ((l.0, l.1, x.0), x.1)
     derives_lie (bare d) low l = derives_lie d low l
     derives_lie (path d w) low l = let x = derives_lie d low l in let y = walks_lie w _ x.1 in ((x.0, y.0), y.1)
     derives_lie (call_empty {s = s} {u = u} {e = e} {rest = rest}) low l =
@@ -195,25 +194,21 @@ module _ (size : ℕ) where
         ((l.0, l.1, tt, before, c.1), weaker s.start e.start rest before c.2)
     derives_lie (call {s = s} {u = u} {e = e} {ts = ts} {mid = mid} {rest = rest} {t = t} d w) low l =
         let o = l.2 in
-        let x = derives_lie d s.start (weaker s.start u.start ts o.0 o.2) in
-        let there = tree_extent t s.start x.0 in
-        let y = lists_lie w s.start (weaker s.start (start_of t) mid there.from x.1) in
+        let x = from_low s.start t mid (derives_lie d s.start (weaker s.start u.start ts o.0 o.2)) in
+        let y = lists_lie w s.start x.1 in
         let c = y.1 in
         ((l.0, l.1, (x.0, y.0), c.0, c.1), weaker s.start e.start rest c.0 c.2)
-    derives_lie (group {s = s} {e = e} {rest = rest} {t = t} d) low l =
-        let x = derives_lie d s.start l.2 in
-        let there = tree_extent t s.start x.0 in
+    derives_lie (group {c = b} {s = s} {e = e} {rest = rest} {t = t} d) low l =
+        let x = from_low s.start t (lexeme Close b e ∷ rest) (derives_lie d s.start l.2) in
         let c = x.1 in
-        let before : s.start ≤ e.start = let a = there.from in let b = c.0 in omega (arith, a, b) in
-        ((l.0, l.1, x.0, before, c.1), weaker s.start e.start rest before c.2)
+        ((l.0, l.1, x.0, c.0, c.1), weaker s.start e.start rest c.0 c.2)
     derives_lie _ low l = ((l.0, l.1), l.2)
 
     operators_lie : {n : ℕ} {ts rest : List Lexeme} {os : List (Sign × Tree)} → Operators n ts os rest → (low : ℕ) → TokensLie low ts → OperandsLie low (operands_of os) × TokensLie low rest
     operators_lie no_more low l = (tt, l)
     operators_lie (one_more {s = s} {ts = ts} {mid = mid} {t = t} e d w) low l =
-        let x = derives_lie d low (weaker low s.start ts l.0 l.2) in
-        let there = tree_extent t low x.0 in
-        let y = operators_lie w low (weaker low (start_of t) mid there.from x.1) in
+        let x = from_low low t mid (derives_lie d low (weaker low s.start ts l.0 l.2)) in
+        let y = operators_lie w low x.1 in
         ((l.1, x.0, y.0), y.1)
 
     walks_lie : {ts rest : List Lexeme} {ss : List StepTree} → Walks ts ss rest → (low : ℕ) → TokensLie low ts → StepsLie low (steps_of ss) × TokensLie low rest
@@ -229,20 +224,17 @@ module _ (size : ℕ) where
         let m = n.2 in
         let y = walks_lie w low (weaker low e.start ts (omega (arith, l.0, n.0, m.0)) m.2) in
         ((l.0, l.1, omega (arith, n.0, m.0), m.1, y.0), y.1)
-    walks_lie (to_index {s = s} {e = e} {ts = ts} {mid = mid} {t = t} d w) low l =
-        let x = derives_lie d s.start l.2 in
-        let there = tree_extent t s.start x.0 in
+    walks_lie (to_index {c = b} {s = s} {e = e} {ts = ts} {mid = mid} {t = t} d w) low l =
+        let x = from_low s.start t (lexeme CloseIndex b e ∷ mid) (derives_lie d s.start l.2) in
         let c = x.1 in
-        let before : s.start ≤ e.start = let a = there.from in let b = c.0 in omega (arith, a, b) in
-        let y = walks_lie w low (weaker low e.start mid (omega (arith, l.0, before)) c.2) in
-        ((l.0, l.1, (derives_lie d low (weaker low s.start ts l.0 l.2)).0, before, c.1, y.0), y.1)
+        let y = walks_lie w low (weaker low e.start mid (omega (arith, l.0, c.0)) c.2) in
+        ((l.0, l.1, (derives_lie d low (weaker low s.start ts l.0 l.2)).0, c.0, c.1, y.0), y.1)
 
     lists_lie : {ts rest : List Lexeme} {more : List Tree} → Lists ts more rest → (low : ℕ) → TokensLie low ts → ArgumentsLie low (arguments_of more) × TokensLie low rest
     lists_lie listed low l = (tt, l)
     lists_lie (and_next {s = s} {ts = ts} {mid = mid} {t = t} d w) low l =
-        let x = derives_lie d low (weaker low s.start ts l.0 l.2) in
-        let there = tree_extent t low x.0 in
-        let y = lists_lie w low (weaker low (start_of t) mid there.from x.1) in
+        let x = from_low low t mid (derives_lie d low (weaker low s.start ts l.0 l.2)) in
+        let y = lists_lie w low x.1 in
         ((x.0, y.0), y.1)
 
   -- ---- the fault of a content
