@@ -2,7 +2,7 @@
 
 ghost use Rattle.std.specs.Prelude.{◌≡◌, ◌≤◌, ◌<◌, ◌+◌, ◌^◌, ◌&&◌, IfOk, IfSome, All, map, length};
 ghost use Rattle.al_base.specs.Limits.{longest_text};
-ghost use Rattle.al_expr_grammar.specs.Chunks.{before_opening, chunks_of, closes, closing_position, is_outside_quotes};
+ghost use Rattle.al_expr_grammar.specs.Chunks.{before_opening, chunks_of, closes, closing_position};
 ghost use Rattle.al_expr_grammar.specs.Chunks.{open_fault, opens, span_of_chunk, IsCutFrom};
 
 use crate::faults::{plain_fault, unclosed_text};

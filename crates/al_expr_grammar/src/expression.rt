@@ -1,12 +1,11 @@
 //! Parsing a content as one expression: its tree, or its first fault.
 
-ghost use Rattle.std.specs.Prelude.{◌≡◌, ◌<◌, ◌≤◌, ◌-◌, slice_get, IfOk, IfErr, Some, None, map, length};
+ghost use Rattle.std.specs.Prelude.{◌≡◌, IfOk, IfErr, Some, None, map};
 ghost use Rattle.al_expr_grammar.specs.Lexeme.{seen, kinds};
 ghost use Rattle.al_expr_grammar.specs.Parsed.{IsVerdict};
 ghost use Rattle.al_expr_grammar.specs.Refusal.{fault_of_content, fault_of_verdict, Spells};
 ghost use Rattle.al_expr_grammar.specs.Table.{verdict_of};
 ghost use Rattle.al_expr_grammar.specs.View.{expr_view};
-ghost use Rattle.al_expr_grammar.specs.declared.parser.ParseError.TheVariants.{Memory};
 
 use crate::ast::Expr;
 use crate::faults::plain_fault;

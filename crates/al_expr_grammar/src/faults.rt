@@ -1,6 +1,6 @@
 //! Faults of expressions.
 
-ghost use Rattle.std.specs.Prelude.{◌≡◌, ◌<◌, ◌-◌, ◌^◌, IfOk, Some, [], ◌∷◌};
+ghost use Rattle.std.specs.Prelude.{◌≡◌, ◌<◌, ◌-◌, ◌^◌, Some, []};
 ghost use Rattle.al_expr_grammar.specs.Refusal.{expression_fault, open_text};
 
 use al_base::{Args, Code, ExpressionCode, Fault, Span};

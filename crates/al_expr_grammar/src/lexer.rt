@@ -1,13 +1,11 @@
 //! The tokens of a content, or the character at which they end early.
 
-ghost use Rattle.std.specs.Prelude.{map, IfOk, IfSome, All, MatchOption, MatchResult, drop, slice_index, ◌+◌, ◌≡◌, ◌≢◌, ◌≤◌, ◌<◌, ◌^◌, Some, [], ◌∷◌, length};
+ghost use Rattle.std.specs.Prelude.{map, IfOk, IfSome, All, MatchOption, MatchResult, drop, slice_index, ◌+◌, ◌≡◌, ◌≢◌, ◌≤◌, ◌<◌, Some, length};
 ghost use Rattle.std.specs.Int.{is_in_range};
 ghost use Rattle.std.specs.List.{prefix_len};
 ghost use Rattle.al_expr_grammar.specs.Lexeme.{seen};
-ghost use Rattle.al_base.specs.Ascii.{is_sign};
 ghost use Rattle.al_base.specs.Limits.{longest_text};
-ghost use Rattle.al_expr_grammar.specs.Tokens.{begins_name, goes_on_name, is_blank_byte, mark};
-ghost use Rattle.al_expr_grammar.specs.Tokens.{word_kind, text_tail, read, tokens_of, AllRead, last_quote};
+ghost use Rattle.al_expr_grammar.specs.Tokens.{goes_on_name, is_blank_byte, mark, word_kind, text_tail, read, tokens_of, AllRead};
 ghost use Rattle.al_expr_grammar.specs.Refusal.{fault_of_lexed};
 
 use crate::faults::{plain_fault, unclosed_text};
@@ -34,12 +32,6 @@ fn is_blank(b: u8) -> bool
     ensures { result ≡ is_blank_byte b }
 {
     matches!(b, b' ' | b'\t' | b'\n' | b'\r')
-}
-
-fn is_sign(b: u8) -> bool
-    ensures { result ≡ is_sign b }
-{
-    b == b'+' || b == b'-'
 }
 
 /// The length of the name at the start.
@@ -135,7 +127,7 @@ fn read_at(bytes: &[u8]) -> Read
             Some(len) => Read::Token(TokenKind::Text, 1 + len),
             None => Read::OpenText,
         }
-    } else if first.is_ascii_digit() || is_sign(*first) {
+    } else if first.is_ascii_digit() || *first == b'+' || *first == b'-' {
         match number_len(bytes) {
             0 => Read::BadCharacter,
             len => Read::Token(TokenKind::Number, len),

@@ -1,16 +1,13 @@
 //! A recursive descent parser: a function for each level of the operators.
 
-ghost use Rattle.std.specs.Prelude.{map, IfOk, ◌≡◌, ◌≢◌, ◌+◌, ◌++◌, MatchOption, MatchResult, List, [], ◌∷◌};
+ghost use Rattle.std.specs.Prelude.{map, IfOk, ◌≡◌, ◌+◌, ◌++◌, MatchOption, MatchResult, [], ◌∷◌};
 ghost use Rattle.al_expr_grammar.specs.Lexeme.{seen, kinds, kind_of, lexeme_text, lexeme_span};
-ghost use Rattle.al_expr_grammar.specs.Parsed.{EndsPath, IsStray, NoOperator, Parses};
-ghost use Rattle.al_expr_grammar.specs.Parsed.{ParsesStep, StepRead, StepRefused, ArgumentsRead};
-ghost use Rattle.al_expr_grammar.specs.Parsed.{ArgumentsRefused, Lacks, NoBang, IsVerdict};
-ghost use Rattle.al_expr_grammar.specs.View.{expr_view, step_of, operand_of};
-ghost use Rattle.al_expr_grammar.specs.Tree.{path_of, chain_of};
+ghost use Rattle.al_expr_grammar.specs.Parsed.{EndsPath, IsStray, IsVerdict, Lacks, NoBang, NoOperator};
+ghost use Rattle.al_expr_grammar.specs.Parsed.{Parses, ParsesStep, StepRead, StepRefused, ArgumentsRead, ArgumentsRefused};
+ghost use Rattle.al_expr_grammar.specs.View.{expr_view, step_of};
 ghost use Rattle.al_expr_grammar.specs.Grammar.{Binary, Unary, Postfix, Primary, level_of, below, IsTreeOf};
 ghost use Rattle.al_expr_grammar.specs.Table.{Fine, verdict_of};
 ghost use Rattle.al_expr_grammar.specs.declared.parser.ParseError.TheVariants.{Memory, TooDeep};
-ghost use Rattle.al_expr_grammar.specs.declared.token.TokenKind.{TokenKind};
 ghost use Rattle.al_expr_grammar.specs.declared.token.TokenKind.TheVariants.{Infix, Name, Open, OpenIndex, Close, Dot};
 
 use crate::ast::{Expr, Operand, PathStep, Word};
@@ -186,10 +183,8 @@ fn group<'t, 'a>(alloc: Global, bracket: Token, tokens: &'t [Token<'a>], room: u
     let inner = deeper(room, tokens.len() + 1)?;
     let (expr, left) = binary(alloc, LOOSEST, tokens, inner)?;
     let (close, rest) = expect(left, TokenKind::Close)?;
-    Ok((
-        Expr::Group(Box::new(alloc, expr)?, bracket.span, close.span),
-        rest,
-    ))
+    let boxed = Box::new(alloc, expr)?;
+    Ok((Expr::Group(boxed, bracket.span, close.span), rest))
 }
 
 /// A call, after its name and opening bracket.

@@ -52,7 +52,7 @@ pub group-returns : goal.group-returns
 group-returns t c =
     let g = c.in_ok-close.ensures in
     let h = rw (g.0, g.1) at c.in_ok-expr.ensures in
-    rw (c.requires, tree_of-Group, c.in_ok-new.ensures.ok) (group_read _ c.in_ok-inner.inner _ _ _ c.in_ok-inner.ensures _ _ _ _ h)
+    rw (c.requires, tree_of-Group, c.in_ok-boxed.ensures.ok) (group_read _ c.in_ok-inner.inner _ _ _ c.in_ok-inner.ensures _ _ _ _ h)
 
 pub call-returns-in-Some : goal.call-returns-in-Some
 call-returns-in-Some t c =
