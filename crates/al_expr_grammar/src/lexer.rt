@@ -150,7 +150,7 @@ pub fn last_quote(bytes: &[u8]) -> Option<usize>
 ///
 /// The fault is X1 at the first character that begins no token, or X2 at the content's last quote if a string is
 /// never closed. Fails with `AllocError` when out of memory.
-#[tactic(auto, using(crate::proofs::Lexing::past_blank, crate::proofs::Reading::token_fits))]
+#[tactic(auto, using(crate::proofs::Lexing::past_blank))]
 pub fn lex(alloc: Global, content: &str) -> Result<Result<Vec<Token>, Fault>, AllocError>
     requires { length content.now ≤ longest_text }
     ensures { IfOk result
