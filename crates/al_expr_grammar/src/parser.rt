@@ -175,6 +175,7 @@ fn primary<'t, 'a>(alloc: Global, tokens: &'t [Token<'a>], room: u32) -> Parse<'
 }
 
 /// An expression in brackets, after the opening one.
+#[tactic(auto, using(crate::proofs::Rules::group_refused, crate::proofs::Rules::group_not_closed))]
 #[cycle(parser)]
 fn group<'t, 'a>(alloc: Global, bracket: Token, tokens: &'t [Token<'a>], room: u32) -> Parse<'t, 'a>
     requires { kind_of (seen bracket) ≡ Open }
@@ -212,6 +213,7 @@ fn call<'t, 'a>(
 }
 
 /// The arguments of a call with at least one.
+#[tactic(auto, using(crate::proofs::Rules::first_argument_read))]
 #[cycle(parser)]
 fn arguments<'t, 'a>(
     alloc: Global,
@@ -235,6 +237,7 @@ fn arguments<'t, 'a>(
 }
 
 /// An operand with the steps after it.
+#[tactic(auto, using(crate::proofs::Chains::path_refused))]
 #[cycle(parser)]
 fn postfix<'t, 'a>(alloc: Global, tokens: &'t [Token<'a>], room: u32) -> Parse<'t, 'a>
     requires { NoBang (kinds (map seen tokens.now)) }
@@ -295,6 +298,7 @@ fn index<'t, 'a>(
 }
 
 /// An operand of the tightest operators: a path, possibly negated.
+#[tactic(auto, using(crate::proofs::Chains::not_refused))]
 #[cycle(parser)]
 fn unary<'t, 'a>(alloc: Global, tokens: &'t [Token<'a>], room: u32) -> Parse<'t, 'a>
     ensures { Parses Unary room (map seen tokens.now) result }
@@ -308,6 +312,7 @@ fn unary<'t, 'a>(alloc: Global, tokens: &'t [Token<'a>], room: u32) -> Parse<'t,
 }
 
 /// Operands, separated by operators of one level.
+#[tactic(auto, using(crate::proofs::Chains::later_refused))]
 #[cycle(parser)]
 fn binary<'t, 'a>(alloc: Global, level: u8, tokens: &'t [Token<'a>], room: u32) -> Parse<'t, 'a>
     ensures { Parses (Binary level) room (map seen tokens.now) result }

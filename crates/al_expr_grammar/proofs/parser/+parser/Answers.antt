@@ -3,21 +3,12 @@ use Rattle.std.proofs.lemmas.List.{map-append}
 use Rattle.al_expr_grammar.specs.Lexeme.{seen}
 use Rattle.al_expr_grammar.proofs.Trees.{tree_of-Keyword, tree_of-Number, tree_of-Text, tree_of-Name, tree_of-Call, tree_of-Group, tree_of-Not, tree_of-Path}
 use Rattle.al_expr_grammar.proofs.Trees.{tree_of-Chain, step_of-All, step_of-Index, operand_of-made}
-use Rattle.al_expr_grammar.proofs.Rules.{constant_read, number_read, text_read, name_read, group_read, group_refused, group_not_closed, call_empty_read}
-use Rattle.al_expr_grammar.proofs.Rules.{first_argument_read, first_argument_refused, later_argument_read, later_argument_refused, call_closed, call_not_closed}
+use Rattle.al_expr_grammar.proofs.Rules.{constant_read, number_read, text_read, name_read, group_read, call_empty_read}
+use Rattle.al_expr_grammar.proofs.Rules.{first_argument_refused, later_argument_read, later_argument_refused, call_closed, call_not_closed}
 use Rattle.al_expr_grammar.proofs.Rules.{each_read, star_not_closed, index_read, index_refused, index_not_closed}
-use Rattle.al_expr_grammar.proofs.Chains.{not_read, not_refused, positive_read, path_begins, path_goes_on, path_refused, with_steps, without_steps}
-use Rattle.al_expr_grammar.proofs.Chains.{chain_begins, chain_goes_on, first_refused, later_refused, with_operands, without_operands, either_way, refusal}
+use Rattle.al_expr_grammar.proofs.Chains.{not_read, positive_read, path_begins, path_goes_on, with_steps, without_steps}
+use Rattle.al_expr_grammar.proofs.Chains.{chain_begins, chain_goes_on, with_operands, without_operands, either_way, refusal}
 use Rattle.al_expr_grammar.proofs.parser.+parser.Goals as goal
-
-pub primary-returns-in_default : goal.primary-returns-in_default
-primary-returns-in_default t c = rw c.in_default.ensures (λ k st a h. refl)
-
-pub primary-returns-in-Open : goal.primary-returns-in-Open
-primary-returns-in-Open t c = rw c.in-Some.ensures c.group.ensures
-
-pub primary-returns-in-Some-accept : goal.primary-returns-in-Some-accept
-primary-returns-in-Some-accept t c = rw (c.in-Some.ensures, c.in-Some-accept.ensures.0) c.call.ensures
 
 pub primary-returns-in-Keyword : goal.primary-returns-in-Keyword
 primary-returns-in-Keyword t c = rw (c.in-Some.ensures, c.in-Keyword.is, tree_of-Keyword) (constant_read _ _ _ _ _)
@@ -36,17 +27,6 @@ pub primary-returns-in-None : goal.primary-returns-in-None
 primary-returns-in-None t c =
     let w = c.word-in-None.ensures in
     rw (c.in-Some.ensures, c.in-Name.is, tree_of-Name, w.text, w.span) (name_read _ _ _ _ c.in-None.ensures)
-
-pub group-returns-in_err-expr : goal.group-returns-in_err-expr
-group-returns-in_err-expr t c =
-    rw c.requires (refusal _ _ c.from_residual-in_err-expr.result _ c.from_residual-in_err-expr.ensures.1
-    (group_refused c.args.room c.in_ok-inner.inner c.args.bracket.text.now c.args.bracket.span (map seen c.args.tokens.now) c.in_ok-inner.ensures _ c.in_err-expr.ensures))
-
-pub group-returns-in_err-close : goal.group-returns-in_err-close
-group-returns-in_err-close t c =
-    rw c.requires (refusal _ _ c.from_residual-in_err-close.result _ c.from_residual-in_err-close.ensures.1
-    (group_not_closed c.args.room c.in_ok-inner.inner c.args.bracket.text.now c.args.bracket.span (map seen c.args.tokens.now) c.in_ok-inner.ensures
-    _ _ _ c.in_ok-expr.ensures c.in_err-close.ensures))
 
 pub group-returns : goal.group-returns
 group-returns t c =
@@ -83,9 +63,6 @@ pub arguments-returns-in_err-first : goal.arguments-returns-in_err-first
 arguments-returns-in_err-first t c =
     refusal _ _ c.from_residual.result _ c.from_residual.ensures.1 (first_argument_refused _ _ c.requires _ c.in_err-first.ensures)
 
-pub arguments-list-init : goal.arguments-list-init
-arguments-list-init t c = rw (c.in_ok-push.ensures.items, c.new-given.ensures.items) (first_argument_read _ _ _ _ c.in_ok-first.ensures)
-
 pub arguments-returns-in_err-argument : goal.arguments-returns-in_err-argument
 arguments-returns-in_err-argument t c =
     let g = c.in-Some.ensures in
@@ -97,15 +74,6 @@ arguments-list-preserved t c =
     let g = c.in-Some.ensures in
     let h = rw (g.0, g.1) at c.list.invariant in
     rw (c.in_ok-push-2.ensures.items, map-append) (later_argument_read _ _ _ _ _ _ _ _ h c.in_ok-argument.ensures)
-
-pub postfix-returns-in_err-base : goal.postfix-returns-in_err-base
-postfix-returns-in_err-base t c =
-    refusal _ _ c.from_residual.result _ c.from_residual.ensures.1 c.in_err-base.ensures
-
-pub postfix-returns-in_err-taken : goal.postfix-returns-in_err-taken
-postfix-returns-in_err-taken t c =
-    refusal _ _ c.from_residual-in_err-taken.result _ c.from_residual-in_err-taken.ensures.1
-    (path_refused c.args.room (map seen c.args.tokens.now) _ (map seen c.walk.left.now) _ _ _ c.in_ok-base.ensures c.walk.invariant.so_far c.in_err-taken.ensures)
 
 pub postfix-walk-init : goal.postfix-walk-init
 postfix-walk-init t c = record { same = refl; so_far = rw c.new-steps.ensures.items (path_begins _ _) }
@@ -128,23 +96,6 @@ postfix-returns t c =
     let e = rw c.in_default.is at c.in_ok-taken.ensures in
     rw (tree_of-Path, c.in_ok-new.ensures.ok, c.walk.invariant.same)
     (with_steps _ _ _ _ _ _ (omega (arith, c.walk.steps.ok.0, c.len.ensures, c.if-len-eq0.false)) c.in_ok-base.ensures c.walk.invariant.so_far e)
-
-pub step-returns-in_default : goal.step-returns-in_default
-step-returns-in_default t c = rw c.in_default.ensures tt
-
-pub step-returns-in_err-property-in-Dot : goal.step-returns-in_err-property-in-Dot
-step-returns-in_err-property-in-Dot t c =
-    rw c.in-Some.ensures (refusal _ _ c.from_residual.result _ c.from_residual.ensures.1 c.in_err-property-in-Dot.ensures)
-
-pub step-returns-in_err-index-in-OpenIndex : goal.step-returns-in_err-index-in-OpenIndex
-step-returns-in_err-index-in-OpenIndex t c =
-    rw c.in-Some.ensures (refusal _ _ c.from_residual-in_err-index-in-OpenIndex.result _ c.from_residual-in_err-index-in-OpenIndex.ensures.1 c.in_err-index-in-OpenIndex.ensures)
-
-pub step-returns-in_ok-property-in-Dot : goal.step-returns-in_ok-property-in-Dot
-step-returns-in_ok-property-in-Dot t c = rw c.in-Some.ensures c.in_ok-property-in-Dot.ensures
-
-pub step-returns-in_ok-index-in-OpenIndex : goal.step-returns-in_ok-index-in-OpenIndex
-step-returns-in_ok-index-in-OpenIndex t c = rw c.in-Some.ensures c.in_ok-index-in-OpenIndex.ensures
 
 pub index-returns-in_err-close : goal.index-returns-in_err-close
 index-returns-in_err-close t c =
@@ -176,13 +127,6 @@ index-returns t c =
     let h = rw (g.0, g.1) at c.in_ok-expr.ensures in
     rw (c.requires, step_of-Index) (index_read _ c.in_ok-inner.inner _ _ _ c.in_ok-inner.ensures _ _ _ _ c.in_default.ensures h)
 
-pub unary-returns-in_err-expr : goal.unary-returns-in_err-expr
-unary-returns-in_err-expr t c =
-    let g = c.in-Some.ensures in
-    rw (g.0, g.1) (refusal _ _ c.from_residual-in_err-expr.result _ c.from_residual-in_err-expr.ensures.1
-    (not_refused c.args.room c.in_ok-within.within c.in-Some.bang.text.now c.in-Some.bang.span (map seen c.in-Some.inner.now) _
-    c.in_ok-within.ensures c.in_err-expr.ensures))
-
 pub unary-returns-in_default : goal.unary-returns-in_default
 unary-returns-in_default t c =
     either_way _ _ _ _ c.postfix.result (λ x. positive_read c.args.room (map seen c.args.tokens.now) _ _) (λ e r. r) c.postfix.ensures
@@ -191,17 +135,6 @@ pub unary-returns : goal.unary-returns
 unary-returns t c =
     let g = c.in-Some.ensures in
     rw (g.0, g.1, tree_of-Not, c.in_ok-new.ensures.ok) (not_read _ c.in_ok-within.within _ _ _ _ _ c.in_ok-within.ensures c.in_ok-expr.ensures)
-
-pub binary-returns-in_err-first : goal.binary-returns-in_err-first
-binary-returns-in_err-first t c =
-    refusal _ _ c.from_residual.result _ c.from_residual.ensures.1 (first_refused c.args.level c.args.room (map seen c.args.tokens.now) _ c.in_err-first.ensures)
-
-pub binary-returns-in_err-expr : goal.binary-returns-in_err-expr
-binary-returns-in_err-expr t c =
-    let g = c.in-Some.ensures in
-    let h = rw (g.0, g.1) at c.chain.invariant.so_far in
-    refusal _ _ c.from_residual-in_err-expr.result _ c.from_residual-in_err-expr.ensures.1
-    (later_refused c.args.level c.args.room (map seen c.args.tokens.now) _ (map seen c.in-Some.inner.now) _ _ _ _ _ _ c.in_ok-first.ensures h c.in_err-expr.ensures)
 
 pub binary-chain-init : goal.binary-chain-init
 binary-chain-init t c = record { same = refl; so_far = rw c.new-more.ensures.items (chain_begins _ _ _); stops = c.in_ok-first.ensures.stops }
