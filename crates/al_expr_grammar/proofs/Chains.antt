@@ -163,10 +163,7 @@ pub with_operands : (l room : ℕ) (ts mid rest : List Lexeme) (t : Tree) (xs : 
 with_operands l room ts mid rest t [] some p c s never = absurd (omega (arith, some))
 with_operands l room ts mid rest t (x ∷ xs) some p c s never = chain_read l room ts mid rest t (operand_of x) (map operand_of xs) p c s never
 
--- The first operand of a chain, or a later one, is refused.
-pub first_refused : (l room : ℕ) (ts : List Lexeme) (e : ParseError) → Refused (below l) room ts e → Refused (Binary l) room ts e
-first_refused l room ts e r = from_start l room ts (λ k st v. IsVerdict e v) (λ st f. r 0 st (starts_below l) (omega arith))
-
+-- A later operand of a chain is refused.
 pub later_refused : (l room : ℕ) (ts mid inner : List Lexeme) (t : Tree) (os : List (Sign × Tree)) (o : Operator) (b : List ℕ) (s : Span)
     (e : ParseError) → Parsed (below l) room ts t mid → PartOfChain l room mid os (lexeme (Infix o) b s ∷ inner)
     → Refused (below l) room inner e → Refused (Binary l) room ts e
