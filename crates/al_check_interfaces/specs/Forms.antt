@@ -10,7 +10,7 @@ use Rattle.al_base.specs.declared.codes.Caller.{Caller}
 use Rattle.al_base.specs.declared.codes.Caller.TheVariants as caller
 use Rattle.al_session_folder.specs.declared.lint.Target.TheVariants.{Only, FirstOf}
 use Rattle.al_tree.specs.Faults.{has_chunk}
-use Rattle.al_tree.specs.Kinds.{is_workflow_name}
+use Rattle.al_tree.specs.Kinds.{is_workflow, is_workflow_name}
 use Rattle.al_check_interfaces.specs.declared.forms.Form.{Form}
 use Rattle.al_check_interfaces.specs.declared.forms.Form.TheVariants.{Local, Other, Wrong}
 
@@ -62,7 +62,7 @@ local_step dir = local_form (file_in dir (codes "action.yml")) (file_in dir (cod
 
 abbrev pub local_job : List ℕ → Form
 local_job rest =
-    if is_workflow_parts (parts rest) then option_map_or (λ p. Local (Only p)) (path_in rest) Wrong else Wrong
+    if is_workflow rest then option_map_or (λ p. Local (Only p)) (path_in rest) Wrong else Wrong
 
 abbrev pub remote : Caller → List ℕ → Form
 remote c bs = if is_some_cut (is_remote c) bs then Other else Wrong

@@ -22,17 +22,6 @@ pub struct FolderCall {
     pub fault: Fault,
 }
 
-/// A fault at the `uses` of a call that names its text.
-fn that_uses(alloc: Global, code: CallCode, call: Call<'_>) -> Result<Fault, AllocError>
-    ensures { IfOk result (λ f. f ≡ calling.that_uses code (call_of call.entry)) }
-{
-    Ok(Fault {
-        span: call.uses.span,
-        code: Code::Call(code, caller_of(call.site)),
-        args: Args::one_lossy(alloc, call.uses.scalar.text())?,
-    })
-}
-
 /// Adds a call to those that are kept, if it names a file in the folder, or the fault of an invalid `uses`.
 fn add_call(
     number: usize,
@@ -46,9 +35,16 @@ fn add_call(
     ensures faults { OnOk result (faults.new ≡ faults.old ++ calling.wrong_uses (call_of call.entry)) }
 {
     let alloc = faults.alloc();
-    match form_by(alloc, caller_of(call.site), call.uses.scalar.text())? {
+    let caller = caller_of(call.site);
+    let span = call.uses.span;
+    let uses = call.uses.scalar.text();
+    match form_by(alloc, caller, uses)? {
         Form::Local(target) => {
-            let fault = that_uses(alloc, CallCode::CallCycle, call)?;
+            let fault = Fault {
+                span,
+                code: Code::Call(CallCode::CallCycle, caller),
+                args: Args::one_lossy(alloc, uses)?,
+            };
             kept.push(FolderCall {
                 number,
                 target,
@@ -57,11 +53,7 @@ fn add_call(
             Ok(())
         }
         Form::Other => Ok(()),
-        Form::Wrong => {
-            let fault = that_uses(alloc, CallCode::WrongUses, call)?;
-            faults.push(fault)?;
-            Ok(())
-        }
+        Form::Wrong => faults.report_text(span, Code::Call(CallCode::WrongUses, caller), uses),
     }
 }
 

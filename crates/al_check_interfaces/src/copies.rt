@@ -29,22 +29,6 @@ fn copy_of_parameters(alloc: Global, parameters: &Parameters) -> Result<Paramete
     Parameters::new(copies)
 }
 
-fn copy_of_signature(alloc: Global, signature: &Signature) -> Result<Signature, AllocError>
-    ensures { IfOk result (λ copy. copy ≡ signature.now) }
-{
-    let name = match &signature.name {
-        Some(name) => Some(name.copy(alloc)?),
-        None => None,
-    };
-    Ok(Signature {
-        name,
-        role: signature.role,
-        inputs: copy_of_parameters(alloc, &signature.inputs)?,
-        secrets: copy_of_parameters(alloc, &signature.secrets)?,
-        outputs: signature.outputs.copy(alloc)?,
-    })
-}
-
 impl Interface {
     /// A copy.
     ///
@@ -54,11 +38,19 @@ impl Interface {
     pub fn copy(&self, alloc: Global) -> Result<Interface, AllocError>
         ensures { IfOk result (λ copy. copy ≡ self.now) }
     {
-        match self {
-            Interface::Unreadable => Ok(Interface::Unreadable),
-            Interface::Readable(signature) => {
-                Ok(Interface::Readable(copy_of_signature(alloc, signature)?))
-            }
-        }
+        let Interface::Readable(signature) = self else {
+            return Ok(Interface::Unreadable);
+        };
+        let name = match &signature.name {
+            Some(name) => Some(name.copy(alloc)?),
+            None => None,
+        };
+        Ok(Interface::Readable(Signature {
+            name,
+            role: signature.role,
+            inputs: copy_of_parameters(alloc, &signature.inputs)?,
+            secrets: copy_of_parameters(alloc, &signature.secrets)?,
+            outputs: signature.outputs.copy(alloc)?,
+        }))
     }
 }

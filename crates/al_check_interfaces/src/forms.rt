@@ -1,12 +1,11 @@
 //! What a `uses` names.
 ghost use Rattle.std.specs.Prelude.{◌≡◌, [], ◌∷◌, ◌++◌, ◌&&◌, map, IfOk};
 ghost use Rattle.std.specs.List.{list_all};
-ghost use Rattle.al_base.specs.Paths.{parts};
 ghost use Rattle.al_check_interfaces.specs.Forms as forms;
 
 use al_base::{Caller, Path, PathFault};
 use al_session_folder::Target;
-use al_tree::{contains_chunk, is_workflow_name};
+use al_tree::{contains_chunk, is_workflow, is_workflow_name};
 use std::alloc::{AllocError, Global};
 
 /// What the text of a `uses` names.
@@ -14,34 +13,16 @@ use std::alloc::{AllocError, Global};
 pub(crate) enum Form {
     /// A file in the folder, by candidate paths, of which the first that exists answers.
     Local(Target),
-    /// Something else: an image, an action or a workflow of another repository, or a folder that can't contain a
-    /// file.
+    /// Something else: an image, an action or a workflow of another repository, or a folder that can't contain a file.
     Other,
     /// Nothing: the `uses` is invalid.
     Wrong,
-}
-
-/// The parts between slashes. Fails with `AllocError` when out of memory.
-fn parts_of(alloc: Global, text: &[u8]) -> Result<Vec<&[u8]>, AllocError>
-    ensures { IfOk result (λ v. map (λ p. p.now) v.items ≡ parts text.now) }
-{
-    text.split(|b| *b == b'/').collect(alloc)
 }
 
 fn is_workflow_path(first: &[u8], second: &[u8], file: &[u8]) -> bool
     ensures { result ≡ forms.is_workflow_parts (first.now ∷ second.now ∷ file.now ∷ []) }
 {
     first == b".github".as_slice() && second == b"workflows".as_slice() && is_workflow_name(file)
-}
-
-/// Whether these are the parts of a workflow's path.
-fn is_workflow_parts(parts: &[&[u8]]) -> bool
-    ensures { result ≡ forms.is_workflow_parts (map (λ p. p.now) parts.now) }
-{
-    match parts {
-        [first, second, file] => is_workflow_path(first, second, file),
-        _ => false,
-    }
 }
 
 /// What is before a byte of a text: the parts that slashes end, whether all of these are non-empty, and the part after the last slash.
@@ -78,13 +59,7 @@ fn is_cut(caller: Caller, before: Before<'_, '_>, byte: u8, rest: &[u8]) -> bool
         ≡ forms.is_cut (forms.is_remote caller) (map (λ p. p.now) (before.entry).done.now
         ++ (before.entry).last.now ∷ []) byte rest.now }
 {
-    if byte != b'@' {
-        return false;
-    }
-    if rest.is_empty() {
-        return false;
-    }
-    is_remote(caller, before)
+    byte == b'@' && !rest.is_empty() && is_remote(caller, before)
 }
 
 /// Whether some parts, of which it is known, and one more are all non-empty.
@@ -120,16 +95,6 @@ fn is_some_cut(alloc: Global, caller: Caller, text: &[u8]) -> Result<bool, Alloc
     Ok(false)
 }
 
-fn remote(alloc: Global, caller: Caller, text: &[u8]) -> Result<Form, AllocError>
-    ensures { IfOk result (λ f. f ≡ forms.remote caller text.now) }
-{
-    if is_some_cut(alloc, caller, text)? {
-        Ok(Form::Other)
-    } else {
-        Ok(Form::Wrong)
-    }
-}
-
 /// The path with these bytes, if they are a path; bytes that aren't UTF-8, which no text of a file has, aren't. Fails with `AllocError`
 /// when out of memory.
 #[tactic(auto, using(crate::proofs::Paths::no_text, crate::proofs::Paths::as_text))]
@@ -150,11 +115,7 @@ fn path_in(alloc: Global, bytes: &[u8]) -> Result<Option<Path>, AllocError>
 fn folder_of(rest: &[u8]) -> &[u8]
     ensures { result.now ≡ forms.without_slash rest.now }
 {
-    if rest.ends_with(b"/") {
-        &rest[..rest.len() - 1]
-    } else {
-        rest
-    }
+    rest.strip_suffix(b"/").unwrap_or(rest)
 }
 
 /// The path of a file in a folder or at the root, if it is a path.
@@ -174,13 +135,10 @@ fn local_step(alloc: Global, folder: &[u8]) -> Result<Form, AllocError>
 {
     let first = file_in(alloc, folder, b"action.yml")?;
     let second = file_in(alloc, folder, b"action.yaml")?;
-    let Some(first) = first else {
-        return Ok(Form::Other);
-    };
-    let Some(second) = second else {
-        return Ok(Form::Other);
-    };
-    Ok(Form::Local(Target::FirstOf(first, second)))
+    match (first, second) {
+        (Some(first), Some(second)) => Ok(Form::Local(Target::FirstOf(first, second))),
+        _ => Ok(Form::Other),
+    }
 }
 
 fn is_image(text: &[u8]) -> bool
@@ -192,8 +150,7 @@ fn is_image(text: &[u8]) -> bool
 fn local_job(alloc: Global, rest: &[u8]) -> Result<Form, AllocError>
     ensures { IfOk result (λ f. f ≡ forms.local_job rest.now) }
 {
-    let parts = parts_of(alloc, rest)?;
-    if !is_workflow_parts(parts.as_slice()) {
+    if !is_workflow(rest) {
         return Ok(Form::Wrong);
     }
     match path_in(alloc, rest)? {
@@ -214,6 +171,7 @@ pub(crate) fn form_by(alloc: Global, caller: Caller, text: &[u8]) -> Result<Form
         Caller::Step if is_local => local_step(alloc, folder_of(&text[2..])),
         Caller::Job if is_local => local_job(alloc, &text[2..]),
         Caller::Step if is_image(text) => Ok(Form::Other),
-        _ => remote(alloc, caller, text),
+        _ if is_some_cut(alloc, caller, text)? => Ok(Form::Other),
+        _ => Ok(Form::Wrong),
     }
 }

@@ -39,8 +39,7 @@ pub enum ParameterKind {
     Secret,
 }
 
-/// The interface of a file whose root is a mapping. Of names that differ only in ASCII case, each list has only the
-/// first.
+/// The interface of a file whose root is a mapping. Of names that differ only in ASCII case, each list has only the first.
 #[derive(Drop, PartialEq, Eq)]
 pub struct Signature {
     /// The text of `name`, if it is a scalar and not null.

@@ -1,4 +1,5 @@
 //! Laws of the calls and the interface of any file.
+ghost use Rattle.al_check_interfaces.specs.Equality.{EqualAreSame, SameAreEqual};
 ghost use Rattle.al_check_interfaces.specs.Laws.{CallsLie};
 ghost use Rattle.al_check_interfaces.specs.Placeless.{ShowsNoPlaces, ShowsNothingElse};
 
@@ -12,4 +13,10 @@ pub fn calls_of_trees()
 pub fn interfaces_of_trees()
     ensures places { ShowsNoPlaces }
     ensures others { ShowsNothingElse }
+{}
+
+/// Interfaces compare equal if and only if they are equal. Does nothing at run time.
+pub fn equal_interfaces()
+    ensures same { EqualAreSame }
+    ensures equal { SameAreEqual }
 {}

@@ -4,7 +4,6 @@
 
 mod calls;
 mod copies;
-mod equality;
 mod examples;
 mod forms;
 mod interfaces;
@@ -15,10 +14,9 @@ mod sites;
 
 pub use al_expr_types::{Name, NameList};
 pub use calls::{FolderCall, folder_calls};
-pub use equality::equal_interfaces;
 pub use examples::rows;
 pub use interfaces::{Interface, Parameter, ParameterKind, Role, Signature};
-pub use laws::{calls_of_trees, interfaces_of_trees};
+pub use laws::{calls_of_trees, equal_interfaces, interfaces_of_trees};
 pub use lists::Parameters;
 pub use signatures::interface_of;
 pub use sites::{Call, Site, caller_of, calls_in};

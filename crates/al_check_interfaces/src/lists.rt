@@ -84,11 +84,7 @@ impl Parameters {
     pub fn mandatory(&self) -> Result<Vec<&Parameter>, AllocError>
         ensures { IfOk result (λ v. map (λ p. p.now) v.items ≡ mandatory_of self.now) }
     {
-        let mut found = Vec::with_capacity(*self.mandatory.allocator(), self.mandatory.len())?;
-        for parameter in &self.mandatory {
-            found.push(parameter)?;
-        }
-        Ok(found)
+        self.mandatory.iter().collect(*self.mandatory.allocator())
     }
 
     /// The first parameter with a name, ignoring ASCII case. Fails with `AllocError` when out of memory.

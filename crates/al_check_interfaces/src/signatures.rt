@@ -34,23 +34,16 @@ enum Declaring {
 fn is_required(node: &Node) -> bool
     ensures { result ≡ interfaces.is_required (view node.now) }
 {
-    let Some(required) = value(node, "required") else {
-        return false;
-    };
-    match required.scalar() {
-        Some(scalar) => is_same_name(scalar.text(), b"true"),
-        None => false,
-    }
+    value(node, "required")
+        .and_then(|required| required.scalar())
+        .is_some_and(|scalar| is_same_name(scalar.text(), b"true"))
 }
 
 /// Whether the parameter that a node declares has a default.
 fn has_default(by: Declaring, node: &Node) -> bool
     ensures { result ≡ interfaces.has_default by (view node.now) }
 {
-    match by {
-        Declaring::CallInputs | Declaring::ActionInputs => has_value(node, "default"),
-        Declaring::Secrets => false,
-    }
+    !matches!(by, Declaring::Secrets) && has_value(node, "default")
 }
 
 /// The type of the parameter that a node declares.
@@ -81,9 +74,8 @@ fn parameters(alloc: Global, by: Declaring, node: Option<&Node>) -> Result<Param
         ≡ map (interfaces.parameter by)
         (option_map_or declared_in (option_map (λ n. view n.now) node.entry) [])) }
 {
-    let declared = declared_at(alloc, node)?;
     let mut found = Vec::new(alloc);
-    for member in &declared {
+    for member in &declared_at(alloc, node)? {
         found.push(parameter(alloc, by, *member)?)?;
     }
     Parameters::new(found)
@@ -94,9 +86,8 @@ fn declared_names(alloc: Global, node: Option<&Node>) -> Result<NameList, AllocE
     ensures { IfOk result (λ ns. ns
         ≡ keys_in (option_map_or declared_in (option_map (λ n. view n.now) node.entry) [])) }
 {
-    let declared = declared_at(alloc, node)?;
     let mut names = Vec::new(alloc);
-    for member in &declared {
+    for member in &declared_at(alloc, node)? {
         names.push(Name::new(alloc, key_text(member.key))?)?;
     }
     NameList::new(names)
@@ -106,10 +97,9 @@ fn declared_names(alloc: Global, node: Option<&Node>) -> Result<NameList, AllocE
 fn name_of(alloc: Global, root: &Node) -> Result<Option<Name>, AllocError>
     ensures { IfOk result (λ n. n ≡ interfaces.name_of (view root.now)) }
 {
-    match text_under(root, "name") {
-        Some(text) => Ok(Some(Name::new(alloc, text.scalar.text())?)),
-        None => Ok(None),
-    }
+    text_under(root, "name")
+        .map(|text| Name::new(alloc, text.scalar.text()))
+        .transpose()
 }
 
 /// Whether the value of `on` names `workflow_call`.
@@ -129,13 +119,9 @@ fn workflow_role(alloc: Global, root: &Node) -> Result<Role, AllocError>
     ensures { IfOk result (λ r. r
         ≡ (interfaces.signature_of kind.Workflow (view root.now)).role) }
 {
-    let Some(on) = value(root, "on") else {
-        return Ok(Role::Workflow);
-    };
-    if names_call(alloc, on)? {
-        Ok(Role::Callable)
-    } else {
-        Ok(Role::Workflow)
+    match value(root, "on") {
+        Some(on) if names_call(alloc, on)? => Ok(Role::Callable),
+        _ => Ok(Role::Workflow),
     }
 }
 
@@ -143,28 +129,13 @@ fn workflow_role(alloc: Global, root: &Node) -> Result<Role, AllocError>
 fn workflow_signature(alloc: Global, root: &Node) -> Result<Signature, AllocError>
     ensures { IfOk result (λ s. s ≡ interfaces.signature_of kind.Workflow (view root.now)) }
 {
-    let name = name_of(alloc, root)?;
-    let role = workflow_role(alloc, root)?;
-    let inputs = parameters(
-        alloc,
-        Declaring::CallInputs,
-        value_below_three(root, "on", "workflow_call", "inputs"),
-    )?;
-    let secrets = parameters(
-        alloc,
-        Declaring::Secrets,
-        value_below_three(root, "on", "workflow_call", "secrets"),
-    )?;
-    let outputs = declared_names(
-        alloc,
-        value_below_three(root, "on", "workflow_call", "outputs"),
-    )?;
+    let of_call = |key| value_below_three(root, "on", "workflow_call", key);
     Ok(Signature {
-        name,
-        role,
-        inputs,
-        secrets,
-        outputs,
+        name: name_of(alloc, root)?,
+        role: workflow_role(alloc, root)?,
+        inputs: parameters(alloc, Declaring::CallInputs, of_call("inputs"))?,
+        secrets: parameters(alloc, Declaring::Secrets, of_call("secrets"))?,
+        outputs: declared_names(alloc, of_call("outputs"))?,
     })
 }
 

@@ -74,14 +74,10 @@ fn add_job<'a>(job: Member<'a>, out: &mut Vec<Call<'a>>) -> Result<(), AllocErro
     ensures { OnOk result (map call_of out.new.items ≡ map call_of out.old.items
         ++ filter_map calling.call_at (calling.job_sites (member_of job.entry))) }
 {
-    let key = Some(key_text(job.key));
-    let site = Site {
-        job: key,
-        step: None,
-        node: job.value,
-    };
-    add_call(site, out)?;
-    add_steps(key, items_under(job.value, "steps"), out)
+    let (step, node) = (None, job.value);
+    let job = Some(key_text(job.key));
+    add_call(Site { job, step, node }, out)?;
+    add_steps(job, items_under(node, "steps"), out)
 }
 
 /// The calls of the jobs of a workflow, each before those of its steps, or those of the steps of a composite action.
@@ -97,11 +93,10 @@ pub fn calls_in(alloc: Global, kind: FileKind, root: &Node) -> Result<Vec<Call<'
                 add_job(*job, &mut found)?;
             }
         }
-        FileKind::Action => {
-            if is_composite(root) {
-                add_steps(None, action_steps(root), &mut found)?;
-            }
+        FileKind::Action if is_composite(root) => {
+            add_steps(None, action_steps(root), &mut found)?;
         }
+        FileKind::Action => {}
     }
     Ok(found)
 }

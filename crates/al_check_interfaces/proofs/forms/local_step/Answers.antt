@@ -1,5 +1,5 @@
 use Rattle.std.proofs.Common.{sym, ◌∙◌}
 use Rattle.al_check_interfaces.proofs.forms.local_step.Goals as goal
 
-pub returns : goal.returns
-returns c = rw (sym c.in_ok-first.ensures ∙ c.in-Some.is, sym c.in_ok-second.ensures ∙ c.in-Some-second.is)
+pub returns-in-Some-Some : goal.returns-in-Some-Some
+returns-in-Some-Some c = rw (sym c.in_ok-first.ensures ∙ c.in-Some-Some.is-0, sym c.in_ok-second.ensures ∙ c.in-Some-Some.is-1)
