@@ -7,4 +7,3 @@ pub mod MissingNames
 pub mod Short
 pub mod Told
 pub mod KnownLists
-pub mod ValueTypes

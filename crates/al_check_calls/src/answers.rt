@@ -2,6 +2,7 @@
 ghost use Rattle.std.specs.Prelude.{◌≡◌, map, IfOk};
 ghost use Rattle.std.specs.Option.{option_copied};
 ghost use Rattle.al_check_calls.specs.Answers as answering;
+ghost use Rattle.al_check_calls.specs.CallFaults as meant;
 ghost use Rattle.al_check_calls.specs.Private.AnswerViews.{answered_of};
 ghost use Rattle.al_tree.specs.declared.files.FileKind.{FileKind};
 ghost use Rattle.al_check_interfaces.specs.FolderCalls.{AreCallsOf};
@@ -9,7 +10,8 @@ ghost use Rattle.al_check_interfaces.specs.CallViews.{call_of};
 ghost use Rattle.al_check_interfaces.specs.Uses as uses;
 ghost use Rattle.al_yaml_tree.specs.Node.{Node};
 
-use al_check_interfaces::{Call, FolderCall, Interface};
+use al_base::Caller;
+use al_check_interfaces::{Call, FolderCall, Interface, Role, Signature, caller_of};
 use std::alloc::{AllocError, Global};
 
 /// A call of a file in the folder with its answer: the interface of its first candidate that exists, or `None`.
@@ -45,4 +47,26 @@ pub(crate) fn with_answers<'a>(
         })?;
     }
     Ok(found)
+}
+
+/// Whether a step or a job can call a file with this role.
+pub(crate) fn is_callable(caller: Caller, role: Role) -> bool
+    ensures { result ≡ meant.is_callable caller role }
+{
+    matches!(
+        (caller, role),
+        (Caller::Step, Role::Composite | Role::Action) | (Caller::Job, Role::Callable)
+    )
+}
+
+/// The signature that a call is compared with, if it can call the file that answers it.
+pub(crate) fn called_signature<'a>(answered: Answered<'a>) -> Option<&'a Signature>
+    ensures { let a = answered_of answered.entry in option_copied result
+        ≡ meant.callable_signature (uses.site_caller a.call.site) a.answer }
+{
+    let caller = caller_of(answered.call.site);
+    match answered.answer {
+        Some(Interface::Readable(called)) if is_callable(caller, called.role) => Some(called),
+        _ => None,
+    }
 }

@@ -9,8 +9,7 @@ ghost use Rattle.al_check_calls.specs.Private.Comparing as comparing;
 ghost use Rattle.al_tree.specs.Values.{member_of};
 ghost use Rattle.al_yaml_tree.specs.View.{view};
 
-use crate::answers::Answered;
-use crate::calls::called_signature;
+use crate::answers::{Answered, called_signature};
 use crate::reports::uses_text;
 use al_base::Caller;
 use al_check_interfaces::{Call, ParameterKind, Signature, caller_of};
@@ -71,18 +70,17 @@ fn add_comparison<'a>(
         ++ cons_option (comparing.comparison_of kind (answered_of answered.entry)) []) }
 {
     let call = answered.call;
-    if !is_compared(kind, call) {
-        return Ok(());
+    match called_signature(answered) {
+        Some(signature) if is_compared(kind, call) => {
+            found.push(Comparison {
+                kind,
+                call,
+                signature,
+            })?;
+            Ok(())
+        }
+        _ => Ok(()),
     }
-    let Some(signature) = called_signature(call, answered.answer) else {
-        return Ok(());
-    };
-    found.push(Comparison {
-        kind,
-        call,
-        signature,
-    })?;
-    Ok(())
 }
 
 /// The calls whose names are compared: by inputs, then by secrets.

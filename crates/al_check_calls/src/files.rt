@@ -56,6 +56,5 @@ pub fn faults_with_answers<'a>(
     let known = known_outputs(alloc, answered.as_slice())?;
     let mut env = Env::new(alloc, known.file(file.kind, file.root))?;
     expression_faults(&mut env, faults)?;
-    check_calls(&mut env, answered.as_slice(), faults)?;
-    Ok(())
+    check_calls(&mut env, answered.as_slice(), faults)
 }

@@ -1,5 +1,6 @@
 //! What is known of outputs from the answers of calls.
 ghost use Rattle.std.specs.Prelude.{◌≡◌, map, is_some, IfOk};
+ghost use Rattle.std.specs.Option.{option_copied};
 ghost use Rattle.al_check_calls.specs.Outputs.{called_outputs};
 ghost use Rattle.al_check_calls.specs.Private.AnswerViews.{answered_of};
 ghost use Rattle.al_check_contexts.specs.Answered.{known_in, known_of};
@@ -8,15 +9,24 @@ ghost use Rattle.al_check_calls.specs.Private.KnownLists.{ArePlaced, Naming, Tak
 ghost use Rattle.al_check_calls.specs.Private.Comparing.{AreToldByUses};
 ghost use Rattle.al_yaml_tree.specs.View.{view};
 
-use crate::answers::Answered;
-use crate::outputs::outputs_of;
+use crate::answers::{Answered, called_signature};
 use crate::reports::uses_text;
 use al_check_contexts::{Answer, Answers, File};
-use al_check_interfaces::NameList;
+use al_check_interfaces::{NameList, Role, Site};
 use al_tree::FileKind;
 use al_yaml_tree::Node;
 use std::alloc::{AllocError, Global};
 use std::collections::BTreeMap;
+
+/// The names of the outputs of the step or job that calls, by its answer: those of a composite action for a step, those of a callable
+/// workflow for a job. `None` if nothing is known of them.
+fn outputs_of<'a>(answered: Answered<'a>) -> Option<&'a NameList>
+    ensures { option_copied result ≡ called_outputs (answered_of answered.entry) }
+{
+    let signature = called_signature(answered)?;
+    // The code of an action that isn't composite can set outputs that aren't declared.
+    (signature.role != Role::Action).then_some(&signature.outputs)
+}
 
 /// The lists of names of the outputs of calls. Steps that call by the same text share a list, and so do jobs.
 #[derive(Drop)]
@@ -90,12 +100,8 @@ pub(crate) fn known_outputs<'a>(
     let mut answers = Vec::new(alloc);
     for one in answered {
         let names = lists.position(*one)?;
-        let site = one.call.site;
-        answers.push(Answer {
-            job: site.job,
-            step: site.step,
-            names,
-        })?;
+        let Site { job, step, .. } = one.call.site;
+        answers.push(Answer { job, step, names })?;
     }
     Ok(KnownOutputs { answers, lists })
 }

@@ -3,7 +3,6 @@
 #![tactic(auto)]
 
 mod answers;
-mod calls;
 mod comparisons;
 mod examples;
 mod faults;
@@ -11,13 +10,10 @@ mod files;
 mod known;
 mod laws;
 mod missing;
-mod names;
-mod outputs;
 mod reports;
 mod types;
 mod undefined;
 mod values;
-mod wrong_types;
 
 pub use examples::rows;
 pub use files::{Calling, faults_with_answers};

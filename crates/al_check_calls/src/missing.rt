@@ -1,6 +1,6 @@
 //! Mandatory parameters that calls don't give: C3 and C6. The fault is at `uses` and names only the parameter. So for calls behind
 //! aliases of one `uses`, a parameter is looked up until one of them doesn't give it, and reported once.
-ghost use Rattle.std.specs.Prelude.{◌≡◌, ◌++◌, ◌∷◌, [], map, IfOk, IfSome, OnOk};
+ghost use Rattle.std.specs.Prelude.{◌≡◌, ◌++◌, map, IfOk, IfSome, OnOk};
 ghost use Rattle.std.specs.List.{flat_map};
 ghost use Rattle.al_base.specs.Growth.{SameSet};
 ghost use Rattle.al_check_calls.specs.CallFaults as meant;
@@ -9,9 +9,9 @@ ghost use Rattle.al_check_calls.specs.Private.Comparing as comparing;
 ghost use Rattle.al_check_calls.specs.Private.Comparing.{HaveOneSignature, IsSaid, TellSignatures};
 
 use crate::comparisons::{Comparison, call_alike, given_by};
-use crate::reports::{called_name, code_at, uses_span};
-use al_base::{CallCode, Caller, FaultSink};
-use al_check_interfaces::{Parameter, ParameterKind, caller_of};
+use crate::reports::{called_name, code_at};
+use al_base::{CallCode, FaultSink};
+use al_check_interfaces::{Call, Parameter, ParameterKind, caller_of};
 use al_tree::member_positions;
 use std::alloc::AllocError;
 
@@ -22,21 +22,6 @@ fn missing_code(kind: ParameterKind) -> CallCode
         ParameterKind::Input => CallCode::MissingInput,
         ParameterKind::Secret => CallCode::MissingSecret,
     }
-}
-
-/// Adds C3 or C6 of a parameter.
-fn report_missing(
-    call: Comparison<'_>,
-    parameter: &Parameter,
-    faults: &mut FaultSink,
-) -> Result<(), AllocError>
-    ensures { OnOk result (faults.new ≡ faults.old
-        ++ comparing.missing_fault (compared_of call.entry) parameter.now ∷ []) }
-{
-    let code = code_at(call.call, missing_code(call.kind));
-    let name = parameter.name.as_bytes();
-    let called = called_name(call.call, call.signature);
-    faults.report_two(uses_span(call.call), code, name, called)
 }
 
 /// Adds C3 and C6 of these parameters, and returns those that the call gives. If there are no parameters, what the call gives isn't
@@ -61,11 +46,14 @@ fn check_parameters<'a>(
     let given = given_by(alloc, call.kind, call.call.site.node)?;
     let names = member_positions(alloc, given.as_slice())?;
     for parameter in parameters {
-        if names.get(parameter.name.as_bytes())?.is_some() {
+        let name = parameter.name.as_bytes();
+        if names.get(name)?.is_some() {
             left.push(*parameter)?;
             continue;
         }
-        report_missing(call, *parameter, faults)?;
+        let code = code_at(call.call, missing_code(call.kind));
+        let called = called_name(call.call, call.signature);
+        faults.report_two(call.call.uses.span, code, name, called)?;
     }
     Ok(left)
 }
@@ -74,7 +62,7 @@ fn check_parameters<'a>(
 fn is_by_same_uses(one: Comparison<'_>, other: Comparison<'_>) -> bool
     ensures { result ≡ comparing.is_by_same_uses (compared_of one.entry) (compared_of other.entry) }
 {
-    call_alike(one, other) && uses_span(one.call) == uses_span(other.call)
+    call_alike(one, other) && one.call.uses.span == other.call.uses.span
 }
 
 /// Adds C3 and C6 of a call. After a call by the same `uses`, only the parameters that are left are looked up. Returns those that are
@@ -93,43 +81,33 @@ fn check_next<'a>(
     ensures said { IfOk result
         (λ v. IsSaid (compared_of call.entry) (map (λ q. q.now) v.items) faults.new) }
 {
-    if let Some(before) = previous {
-        if is_by_same_uses(before, call) {
-            let found = check_parameters(call, left, faults)?;
-            return Ok(found);
+    match previous {
+        Some(before) if is_by_same_uses(before, call) => check_parameters(call, left, faults),
+        _ => {
+            let all = call.signature.parameters(call.kind).mandatory()?;
+            check_parameters(call, all.as_slice(), faults)
         }
     }
-    let wanted = call.signature.parameters(call.kind);
-    let all = wanted.mandatory()?;
-    let found = check_parameters(call, all.as_slice(), faults)?;
-    Ok(found)
-}
-
-/// The key by which calls are sorted: the place of `uses`, then who calls, then the kind.
-fn order_of(call: &Comparison<'_>) -> (u32, Caller, ParameterKind) {
-    (
-        uses_span(call.call).start,
-        caller_of(call.call.site),
-        call.kind,
-    )
 }
 
 /// Adds C3 and C6 of calls, of equal faults at least one. Takes time proportional to what the calls give, and to the mandatory parameters
 /// once for each `uses`.
 pub(crate) fn check_missing(
-    comparisons: Vec<Comparison<'_>>,
+    mut comparisons: Vec<Comparison<'_>>,
     faults: &mut FaultSink,
 ) -> Result<(), AllocError>
     requires { TellSignatures (map compared_of comparisons.items) }
     ensures { OnOk result (SameSet faults.new
         (faults.old ++ flat_map comparing.missing_of (map compared_of comparisons.entry.items))) }
 {
-    let mut calls = comparisons;
     // Calls by one `uses` are then adjacent.
-    calls.sort_unstable_by_key(|call| order_of(call));
+    comparisons.sort_unstable_by_key(|one| {
+        let Call { site, uses } = one.call;
+        (uses.span.start, caller_of(site), one.kind)
+    });
     let mut previous = None;
     let mut left = Vec::new(faults.alloc());
-    for call in &calls {
+    for call in &comparisons {
         left = check_next(previous, left.as_slice(), *call, faults)?;
         previous = Some(*call);
     }

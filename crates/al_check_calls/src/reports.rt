@@ -4,7 +4,7 @@ ghost use Rattle.al_check_calls.specs.CallFaults as meant;
 ghost use Rattle.al_check_interfaces.specs.Uses.{site_caller, that_uses};
 ghost use Rattle.al_check_interfaces.specs.CallViews.{call_of};
 
-use al_base::{CallCode, Code, FaultSink, Span};
+use al_base::{CallCode, Code, FaultSink};
 use al_check_interfaces::{Call, Signature, caller_of};
 use std::alloc::AllocError;
 
@@ -15,21 +15,12 @@ pub(crate) fn uses_text<'a>(call: Call<'a>) -> &'a [u8]
     call.uses.scalar.text()
 }
 
-/// The span of the value of `uses`.
-pub(crate) fn uses_span(call: Call<'_>) -> Span
-    ensures { result ≡ (call_of call.entry).at }
-{
-    call.uses.span
-}
-
 /// How faults name the called file.
 pub(crate) fn called_name<'a>(call: Call<'a>, signature: &'a Signature) -> &'a [u8]
     ensures { result.now ≡ meant.called_name (call_of call.entry) signature.now }
 {
-    match &signature.name {
-        Some(name) => name.as_bytes(),
-        None => uses_text(call),
-    }
+    let name = signature.name.as_ref();
+    name.map_or(uses_text(call), |name| name.as_bytes())
 }
 
 /// The code of a fault of a call, which names who calls.
@@ -47,5 +38,5 @@ pub(crate) fn report_uses(
 ) -> Result<(), AllocError>
     ensures { OnOk result (faults.new ≡ faults.old ++ that_uses code (call_of call.entry) ∷ []) }
 {
-    faults.report_text(uses_span(call), code_at(call, code), uses_text(call))
+    faults.report_text(call.uses.span, code_at(call, code), uses_text(call))
 }

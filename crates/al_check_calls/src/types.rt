@@ -1,13 +1,13 @@
 //! The type of a scalar that is given to an input: that of its expression if it is one, otherwise by its class.
-ghost use Rattle.std.specs.Prelude.{◌≡◌, ◌≤◌, List, length, map, true, All, IfOk, IsUtf8, ℕ};
+ghost use Rattle.std.specs.Prelude.{◌≡◌, ◌≤◌, List, length, map, All, IfOk, IsUtf8};
 ghost use Rattle.std.specs.Option.{option_copied};
 ghost use Rattle.al_base.specs.Growth.{BeginsWith};
 ghost use Rattle.al_base.specs.Limits.{longest_text};
 ghost use Rattle.al_check_calls.specs.Types as meant;
 ghost use Rattle.al_check_calls.specs.Types.{content_where_one};
 ghost use Rattle.al_expr_grammar.specs.Chunks.{IsCutFrom, chunks_of, span_of_chunk};
-ghost use Rattle.al_expr_types.specs.Tables.{is_known, objects_of, type_at};
-ghost use Rattle.al_expr_types.specs.Types.{is_below, type_in};
+ghost use Rattle.al_expr_types.specs.Tables.{objects_of, type_at};
+ghost use Rattle.al_expr_types.specs.Types.{type_in};
 ghost use Rattle.al_expr_typing.specs.Scopes.{IsShown, scope_view};
 ghost use Rattle.al_scalar.specs.Scalar.{text_of};
 ghost use Rattle.al_types.specs.Types.{Parts};
@@ -16,7 +16,7 @@ use al_base::FaultSink;
 use al_check_expressions::is_one_expression;
 use al_check_objects::class_type_of;
 use al_expr_grammar::{Chunk, chunks, parse_expr};
-use al_expr_types::{Base, Ty, Types};
+use al_expr_types::{Ty, Types};
 use al_expr_typing::{Scope, type_of};
 use al_scalar::Scalar;
 use al_tree::contains_chunk;
@@ -28,31 +28,23 @@ fn content_type(types: &mut Types<'_>, scope: &Scope, content: &str) -> Result<T
     requires { IsShown types.old scope.now }
     ensures ty { IfOk result (λ t. type_at types.new t
         ≡ meant.content_type (scope_view types.old scope.now) content.now) }
-    ensures known { IfOk result (λ t. is_known types.new t ≡ true) }
     ensures kept { BeginsWith (objects_of types.new) (objects_of types.old) }
 {
-    match parse_expr(types.alloc(), content)? {
-        Ok(expr) => {
-            let mut faults = FaultSink::new(types.alloc());
-            let ty = type_of(types, scope, &expr, &mut faults)?;
-            Ok(ty)
-        }
-        Err(_) => Ok(Ty::ANY),
-    }
+    let Ok(expr) = parse_expr(types.alloc(), content)? else {
+        return Ok(Ty::ANY);
+    };
+    let mut faults = FaultSink::new(types.alloc());
+    type_of(types, scope, &expr, &mut faults)
 }
 
 /// The type of a text that isn't one expression: a string if it has expressions, otherwise by its class.
 fn text_type(scalar: &Scalar) -> Ty
-    ensures ty { (ms : List Parts) → type_in ms result ≡ meant.text_type scalar.now }
-    ensures known { (k : ℕ) → is_below k result ≡ true }
+    ensures { (ms : List Parts) → type_in ms result ≡ meant.text_type scalar.now }
 {
     if contains_chunk(scalar.text()) {
         return Ty::STRING;
     }
-    Ty {
-        arrays: 0,
-        of: Base::Scalar(class_type_of(scalar.class())),
-    }
+    Ty::scalar(class_type_of(scalar.class()))
 }
 
 /// The content of a scalar with these chunks, if its text is one expression.
@@ -79,7 +71,6 @@ pub(crate) fn scalar_type(
     requires small { length (text_of scalar.now) ≤ longest_text }
     ensures ty { IfOk result (λ t. type_at types.new t
         ≡ meant.type_of_given (scope_view types.old scope.now) scalar.now) }
-    ensures known { IfOk result (λ t. is_known types.new t ≡ true) }
     ensures kept { BeginsWith (objects_of types.new) (objects_of types.old) }
 {
     let (found, _) = chunks(types.alloc(), scalar.as_str())?;

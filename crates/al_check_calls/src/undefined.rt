@@ -26,12 +26,9 @@ struct GivenName<'a> {
 fn is_free_for(kind: ParameterKind, caller: Caller, name: &[u8]) -> bool
     ensures { result ≡ meant.is_free_for kind caller name.now }
 {
-    match (kind, caller) {
-        (ParameterKind::Input, Caller::Step) => {
-            is_named_among(&[b"args".as_slice(), b"entrypoint".as_slice()], name)
-        }
-        _ => false,
-    }
+    kind == ParameterKind::Input
+        && caller == Caller::Step
+        && is_named_among(&[b"args".as_slice(), b"entrypoint".as_slice()], name)
 }
 
 /// Whether a call can give a name.
@@ -86,12 +83,10 @@ fn check_next_name(
     ensures { OnOk result (SameSet faults.new (faults.old
         ++ comparing.undefined_at (name_of name.entry))) }
 {
-    if let Some(before) = previous {
-        if is_same_name_given(before, name) {
-            return Ok(());
-        }
+    match previous {
+        Some(before) if is_same_name_given(before, name) => Ok(()),
+        _ => check_name(name, faults),
     }
-    check_name(name, faults)
 }
 
 /// The names that calls give.
@@ -104,26 +99,12 @@ fn names_given<'a>(
 {
     let mut found = Vec::new(alloc);
     for by in calls {
-        let given = given_by(alloc, by.kind, by.call.site.node)?;
-        for member in &given {
-            found.push(GivenName {
-                by: *by,
-                member: *member,
-            })?;
+        for member in &given_by(alloc, by.kind, by.call.site.node)? {
+            let (by, member) = (*by, *member);
+            found.push(GivenName { by, member })?;
         }
     }
     Ok(found)
-}
-
-/// The key by which names are sorted: their place, then who calls, and by which text.
-fn order_of<'a>(name: &GivenName<'a>) -> (u32, ParameterKind, Caller, &'a [u8]) {
-    let call = name.by.call;
-    (
-        name.member.key.span().start,
-        name.by.kind,
-        caller_of(call.site),
-        uses_text(call),
-    )
 }
 
 /// Adds C2 and C5 of the names that calls give, of equal faults at least one.
@@ -137,7 +118,11 @@ pub(crate) fn check_undefined(
 {
     let mut given = names_given(faults.alloc(), calls)?;
     // Equal names are then adjacent.
-    given.sort_unstable_by_key(|name| order_of(name));
+    given.sort_unstable_by_key(|name| {
+        let Comparison { kind, call, .. } = name.by;
+        let place = name.member.key.span().start;
+        (place, kind, caller_of(call.site), uses_text(call))
+    });
     let mut previous = None;
     for name in &given {
         check_next_name(previous, *name, faults)?;

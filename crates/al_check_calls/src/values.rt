@@ -1,26 +1,30 @@
-//! The values under `with` of a job, each with its type.
-ghost use Rattle.std.specs.Prelude.{◌≡◌, map, true, IfOk, OnOk};
-ghost use Rattle.al_check_calls.specs.Private.AnswerViews.{given_at, typing_in};
-ghost use Rattle.al_check_interfaces.specs.CallViews.{call_of};
-ghost use Rattle.al_check_contexts.specs.Answered.{known_of};
-ghost use Rattle.al_check_contexts.specs.Environments.{HasMoved, IsAtPosition, file_of};
+//! The values under `with` of a job, which have to be of the types of the inputs that they are given to: C4.
+ghost use Rattle.std.specs.Prelude.{◌≡◌, ◌++◌, IfOk, OnOk};
+ghost use Rattle.std.specs.List.{flat_map};
+ghost use Rattle.al_check_calls.specs.CallFaults as meant;
 ghost use Rattle.al_check_calls.specs.FileCalls as file_calls;
 ghost use Rattle.al_check_calls.specs.FileCalls.{AreShort, value_type_in_job};
-ghost use Rattle.al_check_calls.specs.Answers.{values_in};
-ghost use Rattle.al_check_calls.specs.CallFaults.{given_type};
+ghost use Rattle.al_check_calls.specs.Private.AnswerViews.{typing_in};
+ghost use Rattle.al_check_calls.specs.Private.Comparing.{wrong_value};
+ghost use Rattle.al_check_contexts.specs.Answered.{known_of};
+ghost use Rattle.al_check_contexts.specs.Environments.{HasMoved, IsAtPosition, file_of};
+ghost use Rattle.al_check_interfaces.specs.CallViews.{call_of};
+ghost use Rattle.al_check_interfaces.specs.declared.interfaces.ParameterKind.TheVariants.{Input};
 ghost use Rattle.al_check_places.specs.Places.{place_of};
-ghost use Rattle.al_expr_types.specs.Tables.{is_known, type_at};
+ghost use Rattle.al_expr_types.specs.Tables.{type_at};
 ghost use Rattle.al_tree.specs.Values.{member_of};
 ghost use Rattle.al_yaml_tree.specs.View.{view};
 
+use crate::reports::code_at;
 use crate::types::scalar_type;
-use crate::wrong_types::Value;
+use al_base::{CallCode, FaultSink};
 use al_check_contexts::Env;
-use al_check_interfaces::Call;
+use al_check_interfaces::{Call, Parameters};
+use al_check_objects::type_of_input;
 use al_check_places::{Place, Position, Section, Seen, available};
 use al_expr_types::Ty;
 use al_scalar::Scalar;
-use al_tree::{Member, key_text, members_under};
+use al_tree::{InputType, Member, key_text, members_under};
 use al_yaml_tree::Node;
 use std::alloc::AllocError;
 
@@ -50,40 +54,70 @@ fn value_type<'a>(env: &mut Env<'a>, job: &'a [u8], member: Member<'a>) -> Resul
     ensures moved { OnOk result (HasMoved env.new env.old) }
     ensures ty { let f = file_of env.old in IfOk result
         (λ t. type_at (env.new).types t
-        ≡ given_type (value_type_in_job f.kind (known_of f.known) (view f.root.now) job.now)
+        ≡ meant.given_type (value_type_in_job f.kind (known_of f.known) (view f.root.now) job.now)
         (member_of member.entry)) }
-    ensures known { IfOk result (λ t. is_known (env.new).types t ≡ true) }
 {
-    match member.value.scalar() {
-        None => Ok(Ty::ANY),
-        Some(scalar) => {
-            let place = place_of_value(job, member.key, scalar);
-            env.go_to(place)?;
-            let ty = scalar_type(&mut env.types, &env.scope, scalar)?;
-            Ok(ty)
-        }
+    let Some(scalar) = member.value.scalar() else {
+        return Ok(Ty::ANY);
+    };
+    env.go_to(place_of_value(job, member.key, scalar))?;
+    scalar_type(&mut env.types, &env.scope, scalar)
+}
+
+fn type_name(takes: InputType) -> &'static [u8]
+    ensures { result.now ≡ meant.type_name takes }
+{
+    match takes {
+        InputType::Boolean => b"boolean",
+        InputType::Number => b"number",
+        InputType::String => b"string",
     }
 }
 
-/// The values that a job's call gives, each with its type. Moves the environment to the values.
-pub(crate) fn job_values<'a>(
+/// Adds C4 of a value that a job gives.
+fn check_value<'a>(
     env: &mut Env<'a>,
     call: Call<'a>,
-) -> Result<Vec<Value<'a>>, AllocError>
+    inputs: &Parameters,
+    member: Member<'a>,
+    faults: &mut FaultSink,
+) -> Result<(), AllocError>
+    requires at { IsAtPosition env.old }
+    requires short { AreShort (member_of member).1 }
+    ensures moved { OnOk result (HasMoved env.new env.old) }
+    ensures faults { OnOk result (faults.new ≡ faults.old
+        ++ wrong_value (typing_in (file_of env.old)) (call_of call.entry) inputs.now
+        (member_of member.entry)) }
+{
+    let Some(input) = inputs.find(key_text(member.key))? else {
+        return Ok(());
+    };
+    let job = call.site.job.unwrap_or(&[]);
+    let ty = value_type(env, job, member)?;
+    if ty.is_assignable_to(Ty::scalar(type_of_input(input.takes))) {
+        return Ok(());
+    }
+    let code = code_at(call, CallCode::WrongInput);
+    let span = member.value.span();
+    faults.report_two(span, code, input.name.as_bytes(), type_name(input.takes))
+}
+
+/// Adds C4 of the values that a job gives to a workflow with these inputs. Moves the environment to the values.
+pub(crate) fn check_values<'a>(
+    env: &mut Env<'a>,
+    call: Call<'a>,
+    inputs: &Parameters,
+    faults: &mut FaultSink,
+) -> Result<(), AllocError>
     requires at { IsAtPosition env.old }
     requires short { AreShort (view call.site.node.now) }
     ensures moved { OnOk result (HasMoved env.new env.old) }
-    ensures values { IfOk result (λ v. map (given_at (env.new).types) v.items
-        ≡ values_in (typing_in (file_of env.old)) (call_of call.entry)) }
+    ensures faults { let c = call_of call.entry in OnOk result (faults.new ≡ faults.old
+        ++ flat_map (wrong_value (typing_in (file_of env.old)) c inputs.now)
+        (meant.given_by Input c.site.node)) }
 {
-    let alloc = env.alloc();
-    let job = call.site.job.unwrap_or(&[]);
-    let given = members_under(alloc, call.site.node, "with")?;
-    let mut values = Vec::new(alloc);
-    for member in &given {
-        let member = *member;
-        let ty = value_type(env, job, member)?;
-        values.push(Value { member, ty })?;
+    for member in &members_under(env.alloc(), call.site.node, "with")? {
+        check_value(env, call, inputs, *member, faults)?;
     }
-    Ok(values)
+    Ok(())
 }

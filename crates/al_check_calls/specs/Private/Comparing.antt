@@ -20,12 +20,16 @@ use Rattle.al_check_interfaces.specs.declared.interfaces.ParameterKind.TheVarian
 use Rattle.al_check_interfaces.specs.declared.interfaces.Signature.{Signature}
 use Rattle.al_check_interfaces.specs.Uses.{Call, site_caller}
 use Rattle.al_check_calls.specs.Answers.{Answered, Typing, values_in}
-use Rattle.al_check_calls.specs.CallFaults.{call_fault, called_name, given_by, missing_code, missing_name, name_faults}
-use Rattle.al_check_calls.specs.CallFaults.{names_against, signature_for, undefined_name, uses_faults, value_faults}
+use Rattle.al_check_calls.specs.CallFaults.{call_fault, called_name, given_by, given_type, missing_code, missing_name, name_faults}
+use Rattle.al_check_calls.specs.CallFaults.{names_against, signature_for, undefined_name, uses_faults, value_faults, wrong_input}
 
 -- all faults except those of names
 abbrev pub faults_but_names : Typing → Answered → List Fault
 faults_but_names typing a = uses_faults a.call a.answer ++ value_faults a.call (values_in typing a.call) a.answer
+
+-- C4 of a value that a call passes
+abbrev pub wrong_value : Typing → Call → List Parameter → Node × Node → List Fault
+wrong_value typing c inputs e = wrong_input c inputs (e, given_type (typing c.site) e)
 
 abbrev pub faults_of_names : Answered → List Fault
 faults_of_names a = name_faults a.call a.answer

@@ -48,4 +48,4 @@ returns c =
       c.as_slice-3.ensures.value,
       c.in_ok-answered.ensures c.args.file.kind (view c.args.file.root.now) calls c.requires.calls,
       append_assoc,
-    ) at c.in_ok-check_calls.ensures
+    ) at c.check_calls.ensures

@@ -17,7 +17,7 @@ loop-parameter-preserved-then-is_some c =
     let keys = keys_in (given_by q.kind q.call.site.node) in
     let place = c.in_ok-names.ensures.position ∙ ap (λ ms. name_place (keys_in ms)) (ap (map member_of) c.as_slice.ensures.value ∙ c.in_ok-given.ensures) in
     let is : gives q x.now ≡ true = sym (has_place keys x.now.name) ∙ sym (c.is_some.ensures
-    ∙ ap is_some (c.in_ok-get.ensures ∙ ap (name_position c.in_ok-names.names) c.as_bytes.ensures ∙ ap (λ f. f x.now.name) place)) ∙ c.if-is_some.true in
+    ∙ ap is_some (c.in_ok-get.ensures ∙ ap (name_position c.in_ok-names.names) c.as_bytes-name.ensures ∙ ap (λ f. f x.now.name) place)) ∙ c.if-is_some.true in
     let was = c.loop-parameter.invariant in
     let left = c.loop-parameter.left.items in
     record {
@@ -35,12 +35,13 @@ loop-parameter-preserved c =
     let keys = keys_in (given_by q.kind q.call.site.node) in
     let place = c.in_ok-names.ensures.position ∙ ap (λ ms. name_place (keys_in ms)) (ap (map member_of) c.as_slice.ensures.value ∙ c.in_ok-given.ensures) in
     let is : gives q x.now ≡ false = sym (has_place keys x.now.name) ∙ sym (c.is_some.ensures
-    ∙ ap is_some (c.in_ok-get.ensures ∙ ap (name_position c.in_ok-names.names) c.as_bytes.ensures ∙ ap (λ f. f x.now.name) place)) ∙ c.if-is_some.false in
+    ∙ ap is_some (c.in_ok-get.ensures ∙ ap (name_position c.in_ok-names.names) c.as_bytes-name.ensures ∙ ap (λ f. f x.now.name) place)) ∙ c.if-is_some.false in
+    let reported = rw (c.code_at-code.ensures, c.missing_code.ensures, c.as_bytes-name.ensures, c.called_name-called.ensures) at c.in_ok-report_two.ensures in
     let was = c.loop-parameter.invariant in
     let left = c.loop-parameter.left.items in
     record {
       faults = list_more (fault_unless_given q) (λ p. p.now) c.args.parameters.now c.loop-parameter.parameter-index x c.args.faults.now c.loop-parameter.faults
-          c.report_missing.new.faults c.loop-parameter-test.true c.parameter-item.is was.faults (rw is c.in_ok-report_missing.ensures);
+          c.report_two.new.self c.loop-parameter-test.true c.parameter-item.is was.faults (rw is reported);
       left = list_more (parameter_if_given q) (λ p. p.now) c.args.parameters.now c.loop-parameter.parameter-index x [] (map (λ p. p.now) left)
           (map (λ p. p.now) left) c.loop-parameter-test.true c.parameter-item.is was.left (rw (is, append-nil) refl);
     }

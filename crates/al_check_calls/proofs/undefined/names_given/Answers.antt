@@ -12,4 +12,4 @@ loop-by-preserved c =
     let done = rw (drop_all c.loop-member.member-index c.deref-member-items.result.now (omega (arith, c.loop-member-test.false)), append-nil) at c.loop-member.invariant in
     list_more names_by compared_of c.args.calls.now c.loop-by.by-index c.by-item.result [] before (map name_of c.loop-member.found.items)
     c.loop-by-test.true c.by-item.is c.loop-by.invariant
-    (done ∙ ap (λ ms. before ++ map (name_by (compared_of c.by-item.result)) ms) (ap (map member_of) c.deref-member-items.ensures.value ∙ c.in_ok-given.ensures))
+    (done ∙ ap (λ ms. before ++ map (name_by (compared_of c.by-item.result)) ms) (ap (map member_of) c.deref-member-items.ensures.value ∙ c.in_ok-given_by.ensures))
