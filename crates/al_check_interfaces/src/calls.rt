@@ -29,10 +29,11 @@ fn add_call(
     kept: &mut Vec<FolderCall>,
     faults: &mut FaultSink,
 ) -> Result<(), AllocError>
-    ensures calls { OnOk result ((all : List calling.Call) → slice_get all number ≡ Some (call_of call.entry)
-        → map (folder_call all) kept.new.items ≡ map (folder_call all) kept.old.items
-        ++ cons_option (as_folder_call (call_of call.entry)) []) }
-    ensures faults { OnOk result (faults.new ≡ faults.old ++ calling.wrong_uses (call_of call.entry)) }
+    ensures calls { let c = call_of call.entry in OnOk result ((all : List calling.Call)
+        → slice_get all number ≡ Some c → map (folder_call all) kept.new.items
+        ≡ map (folder_call all) kept.old.items ++ cons_option (as_folder_call c) []) }
+    ensures faults { let c = call_of call.entry in OnOk result
+        (faults.new ≡ faults.old ++ calling.wrong_uses c) }
 {
     let alloc = faults.alloc();
     let caller = caller_of(call.site);

@@ -30,11 +30,7 @@ fn copy_of_parameters(alloc: Global, parameters: &Parameters) -> Result<Paramete
 }
 
 impl Interface {
-    /// A copy.
-    ///
-    /// # Errors
-    ///
-    /// [`AllocError`] if memory runs out.
+    /// A copy. Fails with `AllocError` when out of memory.
     pub fn copy(&self, alloc: Global) -> Result<Interface, AllocError>
         ensures { IfOk result (λ copy. copy ≡ self.now) }
     {

@@ -7,10 +7,14 @@ ghost use Rattle.std.specs.Prelude.{◌≡◌, codes};
 
 /// What some texts of `uses` name, by the definition. Does nothing at run time.
 pub fn rows()
-    ensures folder { form_by Step (codes "./a") ≡ Local (FirstOf (codes "a/action.yml") (codes "a/action.yaml")) }
-    ensures slash_after { form_by Step (codes "./a/") ≡ Local (FirstOf (codes "a/action.yml") (codes "a/action.yaml")) }
-    ensures root { form_by Step (codes "./") ≡ Local (FirstOf (codes "action.yml") (codes "action.yaml")) }
-    ensures root_with_a_slash { form_by Step (codes ".//") ≡ Local (FirstOf (codes "action.yml") (codes "action.yaml")) }
+    ensures folder { form_by Step (codes "./a")
+        ≡ Local (FirstOf (codes "a/action.yml") (codes "a/action.yaml")) }
+    ensures slash_after { form_by Step (codes "./a/")
+        ≡ Local (FirstOf (codes "a/action.yml") (codes "a/action.yaml")) }
+    ensures root { form_by Step (codes "./")
+        ≡ Local (FirstOf (codes "action.yml") (codes "action.yaml")) }
+    ensures root_with_a_slash { form_by Step (codes ".//")
+        ≡ Local (FirstOf (codes "action.yml") (codes "action.yaml")) }
     ensures two_slashes { form_by Step (codes "./a//") ≡ Other }
     ensures above_the_root { form_by Step (codes "./../a") ≡ Other }
     ensures no_image { form_by Step (codes "docker://") ≡ Wrong }
@@ -26,7 +30,8 @@ pub fn rows()
     ensures empty_part { form_by Step (codes "a/b/@v") ≡ Wrong }
     ensures no_repository { form_by Step (codes "a@v") ≡ Wrong }
     ensures no_ref { form_by Step (codes "a/b") ≡ Wrong }
-    ensures workflow { form_by Job (codes "./.github/workflows/d.yml") ≡ Local (Only (codes ".github/workflows/d.yml")) }
+    ensures workflow { form_by Job (codes "./.github/workflows/d.yml")
+        ≡ Local (Only (codes ".github/workflows/d.yml")) }
     ensures ending_alone { form_by Job (codes "./.github/workflows/.yml") ≡ Wrong }
     ensures workflow_below { form_by Job (codes "./.github/workflows/a/d.yml") ≡ Wrong }
     ensures other_folder { form_by Job (codes "./d.yml") ≡ Wrong }

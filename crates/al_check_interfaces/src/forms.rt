@@ -95,8 +95,7 @@ fn is_some_cut(alloc: Global, caller: Caller, text: &[u8]) -> Result<bool, Alloc
     Ok(false)
 }
 
-/// The path with these bytes, if they are a path; bytes that aren't UTF-8, which no text of a file has, aren't. Fails with `AllocError`
-/// when out of memory.
+/// The path with these bytes, if they are one. Bytes that aren't UTF-8, which no text of a file has, aren't a path.
 #[tactic(auto, using(crate::proofs::Paths::no_text, crate::proofs::Paths::as_text))]
 fn path_in(alloc: Global, bytes: &[u8]) -> Result<Option<Path>, AllocError>
     ensures { IfOk result (λ p. p ≡ forms.path_in bytes.now) }

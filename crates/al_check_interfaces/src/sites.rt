@@ -60,7 +60,8 @@ fn add_steps<'a>(
     out: &mut Vec<Call<'a>>,
 ) -> Result<(), AllocError>
     ensures { OnOk result (map call_of out.new.items ≡ map call_of out.old.items
-        ++ filter_map calling.call_at (calling.step_sites (bytes_of job.entry) (map view steps.now))) }
+        ++ filter_map calling.call_at
+        (calling.step_sites (bytes_of job.entry) (map view steps.now))) }
 {
     for (number, node) in steps.iter().enumerate() {
         let step = Some(number);
