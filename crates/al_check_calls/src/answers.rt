@@ -33,7 +33,8 @@ pub(crate) fn with_answers<'a>(
     ensures { (kind : FileKind) (root : Node) → map call_of calls.now ≡ uses.calls_in kind root
         → AreCallsOf kind root kept.now
         → IfOk result (λ v. map answered_of v.items
-        ≡ answering.calls_with_answers (uses.calls_in kind root) (map (λ a. option_copied a) answers.now)) }
+        ≡ answering.calls_with_answers (uses.calls_in kind root)
+        (map (λ a. option_copied a) answers.now)) }
 {
     let mut found = Vec::new(alloc);
     for (i, kept_call) in kept.iter().enumerate() {

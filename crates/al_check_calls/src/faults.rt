@@ -71,7 +71,8 @@ pub(crate) fn check_calls<'a>(
     requires short { All (λ a. AreShort (view a.call.site.node.now)) answered.now }
     requires answers { AreToldByUses (map answered_of answered.now) }
     ensures { OnOk result (SameSet faults.new (faults.old
-        ++ flat_map (answered_faults (typing_in (file_of env.old))) (map answered_of answered.now))) }
+        ++ flat_map (answered_faults (typing_in (file_of env.old)))
+        (map answered_of answered.now))) }
 {
     for one in answered {
         check_call(env, *one, faults)?;

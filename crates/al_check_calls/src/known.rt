@@ -94,7 +94,8 @@ pub(crate) fn known_outputs<'a>(
     answered: &[Answered<'a>],
 ) -> Result<KnownOutputs<'a>, AllocError>
     requires { AreToldByUses (map answered_of answered.now) }
-    ensures { IfOk result (λ known. all_call_outputs known ≡ map known_of_call (map answered_of answered.now)) }
+    ensures { IfOk result
+        (λ known. all_call_outputs known ≡ map known_of_call (map answered_of answered.now)) }
 {
     let mut lists = Lists::new(alloc);
     let mut answers = Vec::new(alloc);

@@ -25,6 +25,9 @@ faults_with t root answers = call_faults_in kind.Workflow (λ site key s. t) roo
 abbrev pub faults_of : Node → List (Option Interface) → List Fault
 faults_of = faults_with Any
 
+abbrev pub e_yml : List ℕ
+e_yml = codes "./.github/workflows/e.yml"
+
 -- on: push
 -- jobs:
 --   a:
@@ -92,7 +95,7 @@ takes_boolean_x = mapping (entry (word (codes "on") 0) (mapping (entry (word (co
 --       y: 1
 abbrev pub job_gives_x_and_y : Node
 job_gives_x_and_y = mapping (entry (word (codes "on") 0) (word (codes "push") 4) (entry (word (codes "jobs") 9)
-    (mapping (entry (word (codes "a") 17) (mapping (entry (word (codes "uses") 24) (word (codes "./.github/workflows/e.yml") 30)
+    (mapping (entry (word (codes "a") 17) (mapping (entry (word (codes "uses") 24) (word e_yml 30)
     (entry (word (codes "with") 60) (mapping (entry (word (codes "x") 72) (plain Int (codes "3") 75) (entry (word (codes "y") 83)
     (plain Int (codes "1") 86) no_entries)) (at 72 87)) no_entries)) (at 24 87)) no_entries) (at 17 87)) no_entries)) (at 0 87)
 
@@ -118,7 +121,7 @@ requires_token = mapping (entry (word (codes "on") 0) (mapping (entry (word (cod
 --       key: k
 abbrev pub job_gives_key : Node
 job_gives_key = mapping (entry (word (codes "on") 0) (word (codes "push") 4) (entry (word (codes "jobs") 9)
-    (mapping (entry (word (codes "a") 17) (mapping (entry (word (codes "uses") 24) (word (codes "./.github/workflows/e.yml") 30)
+    (mapping (entry (word (codes "a") 17) (mapping (entry (word (codes "uses") 24) (word e_yml 30)
     (entry (word (codes "secrets") 60) (mapping (entry (word (codes "key") 75) (word (codes "k") 80) no_entries)
     (at 75 81)) no_entries)) (at 24 81)) no_entries) (at 17 81)) no_entries)) (at 0 81)
 
@@ -129,7 +132,7 @@ job_gives_key = mapping (entry (word (codes "on") 0) (word (codes "push") 4) (en
 --     secrets: inherit
 abbrev pub job_inherits : Node
 job_inherits = mapping (entry (word (codes "on") 0) (word (codes "push") 4) (entry (word (codes "jobs") 9)
-    (mapping (entry (word (codes "a") 17) (mapping (entry (word (codes "uses") 24) (word (codes "./.github/workflows/e.yml") 30)
+    (mapping (entry (word (codes "a") 17) (mapping (entry (word (codes "uses") 24) (word e_yml 30)
     (entry (word (codes "secrets") 60) (word (codes "inherit") 69) no_entries)) (at 24 76)) no_entries) (at 17 76)) no_entries))
     (at 0 76)
 
