@@ -9,7 +9,7 @@ use crate::forms::{Form, form_by};
 use crate::sites::{Call, caller_of};
 use al_base::{Args, CallCode, Code, Fault, FaultSink};
 use al_session_folder::Target;
-use std::alloc::{AllocError, Global};
+use std::alloc::AllocError;
 
 /// A call of a file in the folder.
 #[derive(Drop)]
