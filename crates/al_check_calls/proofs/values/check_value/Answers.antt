@@ -3,7 +3,6 @@ use Rattle.std.proofs.lemmas.Result.{on_ok_weaker}
 use Rattle.std.specs.Option.{option_copied, option_map_or}
 use Rattle.std.specs.Prelude.{if◌then◌else◌, unwrap_or}
 use Rattle.al_base.specs.declared.codes.CallCode.TheVariants.{WrongInput}
-use Rattle.al_base.specs.declared.faults.Fault.{Fault}
 use Rattle.al_types.specs.Types.{Type', assignable_type}
 use Rattle.al_yaml_tree.specs.Node.{Node, span_of}
 use Rattle.al_yaml_tree.specs.View.{view}
