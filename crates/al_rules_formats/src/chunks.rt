@@ -1,8 +1,7 @@
 //! Texts that are one expression.
 
 ghost use Rattle.al_rules_formats.specs.Chunks.{is_lone_chunk as lone_chunk, is_short, is_lone, may_stand};
-ghost use Rattle.std.specs.List.{list_all};
-ghost use Rattle.std.specs.Prelude.{◌≡◌, [], ◌∷◌, false, true, drop, take, IfOk, MatchOption, None};
+ghost use Rattle.std.specs.Prelude.{◌≡◌, [], ◌∷◌, false, true, IfOk, MatchOption, None};
 
 use al_base::Span;
 use al_base::limits::LONGEST_TEXT;
@@ -28,43 +27,15 @@ fn may_be(around: Around, byte: u8) -> bool
     }
 }
 
-/// Whether all of these bytes are.
-fn may_all(around: Around, bytes: &[u8]) -> bool
-    ensures { result ≡ list_all (may_stand around) bytes.now }
-{
-    bytes.iter().all(|byte| may_be(around, *byte))
-}
-
-/// The first bytes of a text.
-fn prefix(bytes: &[u8], count: usize) -> &[u8]
-    ensures { result.now ≡ take count bytes.now }
-{
-    if count < bytes.len() {
-        &bytes[..count]
-    } else {
-        bytes
-    }
-}
-
-/// A text without its first bytes.
-fn suffix(bytes: &[u8], count: usize) -> &[u8]
-    ensures { result.now ≡ drop count bytes.now }
-{
-    if count < bytes.len() {
-        &bytes[count..]
-    } else {
-        &[]
-    }
-}
-
 /// Whether everything outside the braces of a chunk is allowed there.
 fn stands_alone(around: Around, bytes: &[u8], content: Span) -> bool
     ensures { result ≡ is_lone around bytes.now (content ∷ []) None }
 {
-    may_all(
-        around,
-        prefix(bytes, (content.start as usize).saturating_sub(3)),
-    ) && may_all(around, suffix(bytes, content.end as usize + 2))
+    let before = bytes
+        .iter()
+        .take((content.start as usize).saturating_sub(3));
+    let after = bytes.iter().skip(content.end as usize + 2);
+    before.chain(after).all(|byte| may_be(around, *byte))
 }
 
 /// A text as a string, if it is UTF-8 and has at most 4,194,304 bytes.
@@ -92,11 +63,8 @@ pub fn is_lone_chunk(alloc: Global, around: Around, text: &[u8]) -> Result<bool,
         return Ok(false);
     };
     let (found, fault) = chunks(alloc, text)?;
-    if fault.is_some() {
-        return Ok(false);
-    }
     match found.as_slice() {
-        [chunk] => Ok(stands_alone(around, text.as_bytes(), chunk.span)),
+        [chunk] if fault.is_none() => Ok(stands_alone(around, text.as_bytes(), chunk.span)),
         _ => Ok(false),
     }
 }

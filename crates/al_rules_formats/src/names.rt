@@ -1,7 +1,7 @@
 //! The names of jobs, steps and environment variables.
 
 ghost use Rattle.al_expr_grammar.specs.Tokens.{begins_name, goes_on_name};
-ghost use Rattle.al_rules_formats.specs.Names.{is_id as id, is_variable as variable, is_variable_byte};
+ghost use Rattle.al_rules_formats.specs.Names.{is_id as id, is_variable as variable};
 ghost use Rattle.std.specs.Prelude.{◌≡◌};
 
 /// Whether an id can begin with a byte.
@@ -22,22 +22,12 @@ fn continues(byte: u8) -> bool
 pub fn is_id(text: &[u8]) -> bool
     ensures { result ≡ id text.now }
 {
-    match text {
-        [first, rest @ ..] => begins(*first) && rest.iter().all(|byte| continues(*byte)),
-        [] => false,
-    }
-}
-
-/// Whether the name of an environment variable can have a byte.
-fn may_name(byte: u8) -> bool
-    ensures { result ≡ is_variable_byte byte }
-{
-    !matches!(byte, b' ' | b'=' | b'&')
+    matches!(text, [first, rest @ ..] if begins(*first) && rest.iter().all(|byte| continues(*byte)))
 }
 
 /// Whether a text is the name of an environment variable: it isn't empty, and has no space, `=` or `&`.
 pub fn is_variable(text: &[u8]) -> bool
     ensures { result ≡ variable text.now }
 {
-    !text.is_empty() && text.iter().all(|byte| may_name(*byte))
+    !text.is_empty() && text.iter().all(|byte| !matches!(*byte, b' ' | b'=' | b'&'))
 }

@@ -1,6 +1,6 @@
 //! Filter patterns, of branches, tags and paths (GitHub, "Workflow syntax", "Filter pattern cheat sheet").
 
-ghost use Rattle.al_rules_formats.specs.Patterns.{are_items_from, after_not as without_not, has_barred as barred, is_barred};
+ghost use Rattle.al_rules_formats.specs.Patterns.{are_items_from, after_not as without_not, has_barred as barred};
 ghost use Rattle.al_rules_formats.specs.Patterns.{is_pattern as pattern, is_right};
 ghost use Rattle.al_rules_formats.specs.Private.PatternStates.{outside as outside_class, read as read_one};
 ghost use Rattle.std.specs.Prelude.{◌≡◌, false, IfOk};
@@ -93,19 +93,14 @@ fn after_not(characters: &[char]) -> &[char]
     }
 }
 
-/// Whether filters of branches and tags can't have a character.
-fn is_barred_character(c: char) -> bool
-    ensures { result ≡ is_barred c }
-{
-    matches!(c, ' ' | '~' | '^' | ':')
-}
-
 /// Whether a filter has something that filters of its kind can't have.
 fn has_barred(filter: Filter, characters: &[char]) -> bool
     ensures { result ≡ barred filter characters.now }
 {
     match filter {
-        Filter::Names => characters.iter().any(|c| is_barred_character(*c)),
+        Filter::Names => characters
+            .iter()
+            .any(|c| matches!(*c, ' ' | '~' | '^' | ':')),
         Filter::Paths => matches!(after_not(characters), ['.', '/', ..]),
     }
 }

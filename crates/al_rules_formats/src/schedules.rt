@@ -1,33 +1,25 @@
 //! Schedules: five fields, each a set of numbers (GitHub, "Events that trigger workflows", `schedule`).
 
-ghost use Rattle.al_rules_formats.specs.Schedules.{from_to as numbers_from_to, head_of, items_of_field, item_parts, minute_set};
+ghost use Rattle.al_rules_formats.specs.Schedules.{from_to as numbers_from_to, head_of, items_of_field, item_parts};
 ghost use Rattle.al_rules_formats.specs.Schedules.{is_field as field_is_right, is_just_below, is_too_often as too_often};
-ghost use Rattle.al_rules_formats.specs.Schedules.{day_names, month_names, number_in as in_range_number, written_number};
-ghost use Rattle.al_rules_formats.specs.Schedules.{picks as item_picks};
-ghost use Rattle.al_rules_formats.specs.Schedules.{range, schedule_of, schedule_value, words};
+ghost use Rattle.al_rules_formats.specs.Schedules.{number_in as in_range_number, picks as item_picks};
+ghost use Rattle.al_rules_formats.specs.Schedules.{schedule_of, schedule_value, words};
 ghost use Rattle.al_rules_formats.specs.Texts.{pieces};
 ghost use Rattle.al_base.specs.Ascii.{ascii};
-ghost use Rattle.al_rules_formats.specs.Private.Views.{least_thousand, range_of};
+ghost use Rattle.al_rules_formats.specs.Private.Views.{range_of};
 ghost use Rattle.std.specs.List.{list_any};
-ghost use Rattle.std.specs.Prelude.{◌≡◌, ◌<◌, ◌&&◌, [], ◌∷◌, map, option_map, IfOk};
+ghost use Rattle.std.specs.Prelude.{◌≡◌, ◌<◌, [], ◌∷◌, map, option_map, IfOk};
 
 use crate::texts::split;
 use al_base::is_same_name;
 use std::alloc::{AllocError, Global};
-
-/// A name for a number.
-#[derive(Clone, Copy)]
-struct Name {
-    name: &'static str,
-    number: u32,
-}
 
 /// What a field accepts: the numbers from the low to the high one, and names for some of them.
 #[derive(Clone, Copy)]
 struct Range {
     low: u32,
     high: u32,
-    names: &'static [Name],
+    names: &'static [(&'static str, u32)],
 }
 
 /// The numbers from a low one to a high one, in steps.
@@ -60,54 +52,18 @@ const MONTHS: Range = Range {
     low: 1,
     high: 12,
     names: &[
-        Name {
-            name: "jan",
-            number: 1,
-        },
-        Name {
-            name: "feb",
-            number: 2,
-        },
-        Name {
-            name: "mar",
-            number: 3,
-        },
-        Name {
-            name: "apr",
-            number: 4,
-        },
-        Name {
-            name: "may",
-            number: 5,
-        },
-        Name {
-            name: "jun",
-            number: 6,
-        },
-        Name {
-            name: "jul",
-            number: 7,
-        },
-        Name {
-            name: "aug",
-            number: 8,
-        },
-        Name {
-            name: "sep",
-            number: 9,
-        },
-        Name {
-            name: "oct",
-            number: 10,
-        },
-        Name {
-            name: "nov",
-            number: 11,
-        },
-        Name {
-            name: "dec",
-            number: 12,
-        },
+        ("jan", 1),
+        ("feb", 2),
+        ("mar", 3),
+        ("apr", 4),
+        ("may", 5),
+        ("jun", 6),
+        ("jul", 7),
+        ("aug", 8),
+        ("sep", 9),
+        ("oct", 10),
+        ("nov", 11),
+        ("dec", 12),
     ],
 };
 
@@ -115,44 +71,22 @@ const WEEKDAYS: Range = Range {
     low: 0,
     high: 6,
     names: &[
-        Name {
-            name: "sun",
-            number: 0,
-        },
-        Name {
-            name: "mon",
-            number: 1,
-        },
-        Name {
-            name: "tue",
-            number: 2,
-        },
-        Name {
-            name: "wed",
-            number: 3,
-        },
-        Name {
-            name: "thu",
-            number: 4,
-        },
-        Name {
-            name: "fri",
-            number: 5,
-        },
-        Name {
-            name: "sat",
-            number: 6,
-        },
+        ("sun", 0),
+        ("mon", 1),
+        ("tue", 2),
+        ("wed", 3),
+        ("thu", 4),
+        ("fri", 5),
+        ("sat", 6),
     ],
 };
 
-/// The number that these digits are, or 1,000 if it is greater.
-fn number(text: &[u8]) -> Option<u32>
-    ensures { result ≡ option_map least_thousand (written_number text.now) }
+/// The number that these digits are, if it is in the range.
+fn number_in(low: u32, high: u32, text: &[u8]) -> Option<u32>
+    requires { high < 1000 }
+    ensures { result ≡ in_range_number low high text.now }
 {
-    if text.is_empty() {
-        return None;
-    }
+    // Saturates at 1,000.
     let mut number = 0;
     for byte in text {
         if !byte.is_ascii_digit() {
@@ -160,20 +94,7 @@ fn number(text: &[u8]) -> Option<u32>
         }
         number = (number * 10 + u32::from(*byte - b'0')).min(1_000);
     }
-    Some(number)
-}
-
-/// The number that these digits are, if it is in the range.
-fn number_in(low: u32, high: u32, text: &[u8]) -> Option<u32>
-    requires { high < 1000 }
-    ensures { result ≡ in_range_number low high text.now }
-{
-    let number = number(text)?;
-    if low <= number && number <= high {
-        Some(number)
-    } else {
-        None
-    }
+    (!text.is_empty() && low <= number && number <= high).then_some(number)
 }
 
 /// The number that a value of a field is: a name's, or one in its range.
@@ -181,9 +102,9 @@ fn value(range: Range, text: &[u8]) -> Option<u32>
     requires { range.high < 1000 }
     ensures { result ≡ schedule_value (range_of range) text.now }
 {
-    for name in range.names {
-        if is_same_name(text, name.name.as_bytes()) {
-            return Some(name.number);
+    for (name, number) in range.names {
+        if is_same_name(text, name.as_bytes()) {
+            return Some(*number);
         }
     }
     number_in(range.low, range.high, text)
@@ -193,11 +114,7 @@ fn value(range: Range, text: &[u8]) -> Option<u32>
 fn from_to(step: u32, low: u32, high: u32) -> Option<Item>
     ensures { result ≡ numbers_from_to step low high }
 {
-    if low <= high {
-        Some(Item { low, high, step })
-    } else {
-        None
-    }
+    (low <= high).then_some(Item { low, high, step })
 }
 
 /// What one value, or `*`, means with a step or without one.
@@ -287,39 +204,8 @@ fn is_field(alloc: Global, range: Range, text: &[u8]) -> Result<bool, AllocError
 fn words_of(alloc: Global, text: &[u8]) -> Result<Vec<&[u8]>, AllocError>
     ensures { IfOk result (λ v. map (λ p. p.now) v.items ≡ words text.now) }
 {
-    let mut words = Vec::new(alloc);
-    for part in &split(alloc, text, b' ')? {
-        if !part.is_empty() {
-            words.push(*part)?;
-        }
-    }
-    Ok(words)
-}
-
-/// Whether the fields after the minutes are valid.
-fn are_right(
-    alloc: Global,
-    hours: &[u8],
-    days: &[u8],
-    months: &[u8],
-    weekdays: &[u8],
-) -> Result<bool, AllocError>
-    ensures { IfOk result
-        (λ r. r ≡ (field_is_right (range 0 23 []) hours.now
-        && field_is_right (range 1 31 []) days.now
-        && field_is_right (range 1 12 month_names) months.now
-        && field_is_right (range 0 6 day_names) weekdays.now)) }
-{
-    if !is_field(alloc, HOURS, hours)? {
-        return Ok(false);
-    }
-    if !is_field(alloc, DAYS, days)? {
-        return Ok(false);
-    }
-    if !is_field(alloc, MONTHS, months)? {
-        return Ok(false);
-    }
-    is_field(alloc, WEEKDAYS, weekdays)
+    let pieces = text.split(|byte| *byte == b' ');
+    pieces.filter(|piece| !piece.is_empty()).collect(alloc)
 }
 
 /// The items of a schedule's minutes, or `None` if the text isn't a schedule. Fails with `AllocError` when out of memory.
@@ -330,7 +216,16 @@ pub fn schedule(alloc: Global, text: &[u8]) -> Result<Option<Vec<Item>>, AllocEr
     let [minutes, hours, days, months, weekdays] = fields.as_slice() else {
         return Ok(None);
     };
-    if !are_right(alloc, hours, days, months, weekdays)? {
+    if !is_field(alloc, HOURS, hours)? {
+        return Ok(None);
+    }
+    if !is_field(alloc, DAYS, days)? {
+        return Ok(None);
+    }
+    if !is_field(alloc, MONTHS, months)? {
+        return Ok(None);
+    }
+    if !is_field(alloc, WEEKDAYS, weekdays)? {
         return Ok(None);
     }
     field(alloc, MINUTES, minutes)
@@ -340,10 +235,8 @@ pub fn schedule(alloc: Global, text: &[u8]) -> Result<Option<Vec<Item>>, AllocEr
 fn picks(number: u32, item: Item) -> bool
     ensures { result ≡ item_picks number item }
 {
-    item.low <= number
-        && number <= item.high
-        && 0 < item.step
-        && (number - item.low) % item.step == 0
+    let Item { low, high, step } = item;
+    low <= number && number <= high && 0 < step && (number - low) % step == 0
 }
 
 /// Whether one of these items has a number.
@@ -353,44 +246,19 @@ fn is_member(number: u32, items: &[Item]) -> bool
     items.iter().any(|item| picks(number, *item))
 }
 
-/// The minutes that these items have.
-fn minutes_of(alloc: Global, items: &[Item]) -> Result<Vec<u32>, AllocError>
-    ensures { IfOk result (λ v. v.items ≡ minute_set items.now) }
-{
-    let mut found = Vec::new(alloc);
-    for minute in 0..60 {
-        if is_member(minute, items) {
-            found.push(minute)?;
-        }
-    }
-    Ok(found)
-}
-
-/// Whether the second number is greater than the first, by less than 5.
-fn is_close(low: u32, high: u32) -> bool
-    ensures { result ≡ is_just_below low high }
-{
-    low < high && high - low < 5
-}
-
 /// Whether one of these numbers is greater than a number, by less than 5.
 fn is_close_below(low: u32, numbers: &[u32]) -> bool
     ensures { result ≡ list_any (is_just_below low) numbers.now }
 {
-    numbers.iter().any(|high| is_close(low, *high))
-}
-
-/// Whether two different numbers of these differ by less than 5.
-fn are_close(numbers: &[u32]) -> bool
-    ensures { result ≡ list_any (λ m. list_any (is_just_below m) numbers.now) numbers.now }
-{
-    numbers.iter().any(|low| is_close_below(*low, numbers))
+    numbers.iter().any(|high| low < *high && *high - low < 5)
 }
 
 /// Whether two of the minutes of an hour in these items differ by less than 5. Fails with `AllocError` when out of memory.
 pub fn is_too_often(alloc: Global, items: &[Item]) -> Result<bool, AllocError>
     ensures { IfOk result (λ r. r ≡ too_often items.now) }
 {
-    let minutes = minutes_of(alloc, items)?;
-    Ok(are_close(minutes.as_slice()))
+    let minutes = (0..60).filter(|minute| is_member(*minute, items));
+    let minutes: Vec<u32> = minutes.collect(alloc)?;
+    let numbers = minutes.as_slice();
+    Ok(numbers.iter().any(|low| is_close_below(*low, numbers)))
 }

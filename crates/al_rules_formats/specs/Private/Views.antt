@@ -3,11 +3,11 @@ use Rattle.std.specs.Prelude.{ℕ, List, map, nat_lt, if◌then◌else◌}
 use Rattle.std.specs.Int.Digits.{number_from_digits_after}
 use Rattle.al_base.specs.Digits.{digit_of}
 use Rattle.al_rules_formats.specs.Schedules as schedules
-use Rattle.al_rules_formats.specs.declared.schedules.Name.{Name}
+use Rattle.std.specs.Borrow.{Bor}
 use Rattle.al_rules_formats.specs.declared.schedules.Range.{Range}
 
-abbrev pub range_name : Name → List ℕ × ℕ
-range_name n = (n.name.now, n.number)
+abbrev pub range_name : Bor (List ℕ) × ℕ → List ℕ × ℕ
+range_name n = (n.0.now, n.1)
 
 abbrev pub range_of : Range → schedules.Range
 range_of r = record { low = r.low; high = r.high; names = map range_name r.names.now }

@@ -1,4 +1,4 @@
-use Rattle.std.proofs.Common.{◌≡◌, ◌≤◌, ◌-◌, ℕ, List, [], ◌∷◌, true, length, take, drop, get_or, refl, ◌∙◌, arith, rules, tests}
+use Rattle.std.proofs.Common.{◌≡◌, ◌≤◌, ◌-◌, ℕ, List, [], ◌∷◌, true, length, take, drop, get_or, refl, sym, ◌∙◌, arith, rules, tests}
 use Rattle.std.specs.List.{list_all}
 use Rattle.std.proofs.lemmas.List.{take_all}
 use Rattle.std.proofs.lemmas.Iterator.{YieldsList-from_slice}
@@ -11,7 +11,9 @@ by_rest : (bs : List ℕ) → 1 ≤ length bs → begins_name (get_or bs 0 0) �
 by_rest [] h first = absurd (omega (arith, h))
 by_rest (b ∷ bs) h first = rw (first, take_all (length (b ∷ bs) - 1) bs (omega arith)) refl
 
-pub returns-then-begins : goal.returns-then-begins
-returns-then-begins c =
-    all_from_yields_List goes_on_name _ _ c.all.result c.all.ensures.ran (YieldsList-from_slice _ c.iter.ensures.rest) (λ x b q k. search (rules, tests))
+pub returns-in-len1-up : goal.returns-in-len1-up
+returns-in-len1-up c =
+    let told : c.all.result ≡ true = search rules in
+    sym told
+    ∙ all_from_yields_List goes_on_name _ _ c.all.result c.all.ensures.ran (YieldsList-from_slice _ c.iter.ensures.rest) (λ x b q k. search (rules, tests))
     ∙ by_rest c.args.text.now c.in-len1-up.len_at_least (search rules)

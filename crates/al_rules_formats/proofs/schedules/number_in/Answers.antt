@@ -2,7 +2,7 @@ use Rattle.std.proofs.Common.{◌≡◌, ◌∙◌, true, get_or, arith, rules}
 use Rattle.std.proofs.lemmas.Bool.Decides.{nat_tests}
 use Rattle.std.specs.Char.{is_ascii_digit}
 use Rattle.al_rules_formats.proofs.Numbers.{digits_step, number_step}
-use Rattle.al_rules_formats.proofs.schedules.number.Goals as goal
+use Rattle.al_rules_formats.proofs.schedules.number_in.Goals as goal
 
 pub loop-byte-preserved : goal.loop-byte-preserved
 loop-byte-preserved c =

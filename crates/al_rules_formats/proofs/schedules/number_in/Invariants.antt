@@ -3,7 +3,7 @@ use Rattle.std.specs.Char.{is_ascii_digit}
 use Rattle.std.specs.List.{list_all}
 use Rattle.al_base.specs.Digits.{decimal}
 use Rattle.al_rules_formats.specs.Private.Views.{least_thousand, number_on}
-use Rattle.al_rules_formats.proofs.schedules.number.Given as goal
+use Rattle.al_rules_formats.proofs.schedules.number_in.Given as goal
 
 abbrev pub invariant-loop-byte : goal.invariant-loop-byte
 invariant-loop-byte l = record {
