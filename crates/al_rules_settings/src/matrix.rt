@@ -23,20 +23,15 @@ use std::alloc::{AllocError, Global};
 fn is_null_node(node: &Node) -> bool
     ensures { result ≡ null_node (view node.now) }
 {
-    match node.scalar() {
-        Some(scalar) => is_null_scalar(scalar),
-        None => false,
-    }
+    node.scalar().is_some_and(|scalar| is_null_scalar(scalar))
 }
 
 /// Whether a node is a scalar with an expression.
 fn is_dynamic(node: &Node) -> bool
     ensures { result ≡ dynamic (view node.now) }
 {
-    match node.scalar() {
-        Some(scalar) => contains_chunk(scalar.text()),
-        None => false,
-    }
+    node.scalar()
+        .is_some_and(|scalar| contains_chunk(scalar.text()))
 }
 
 /// Whether `include` and `exclude` can have a node as item.
@@ -53,12 +48,7 @@ fn are_combinations(node: &Node) -> bool
     let Some(items) = node.sequence() else {
         return false;
     };
-    for item in items {
-        if !is_combination(item) {
-            return false;
-        }
-    }
-    true
+    items.iter().all(is_combination)
 }
 
 /// Whether a key of a matrix can have a value.
@@ -95,14 +85,8 @@ fn row_names<'a>(alloc: Global, rows: &[Member<'a>]) -> Result<Vec<&'a [u8]>, Al
     ensures { IfOk result (λ v. map (λ t. t.now) v.items
         ≡ names_of_rows (map member_of rows.now)) }
 {
-    let mut names = Vec::new(alloc);
-    for row in rows {
-        let key = key_text(row.key);
-        if !is_combination_key(key) {
-            names.push(key)?;
-        }
-    }
-    Ok(names)
+    let keys = rows.iter().map(|row| key_text(row.key));
+    keys.filter(|key| !is_combination_key(key)).collect(alloc)
 }
 
 /// Adds the faults of the keys of an item of `exclude`, given the positions of the rows.
@@ -115,8 +99,7 @@ fn check_excluded(
         ++ flat_map (exclude_faults (name_position rows.now))
         (map (λ m. of_key m.0) (entries_in (view item.now)))) }
 {
-    let excluded = members(faults.alloc(), item)?;
-    for member in &excluded {
+    for member in &members(faults.alloc(), item)? {
         let key = named_key(member.key);
         let row = rows.get(key.text)?;
         report_unless(row.is_some(), RuleCode::UnknownMatrixRow, key, faults)?;

@@ -1,17 +1,12 @@
-//! Shells, permissions, environment variables, credentials, scripts and conditions.
+//! Shells, permissions, environment variables, credentials and conditions.
 
-ghost use Rattle.al_rules_formats.specs.Names.{is_variable as variable};
 ghost use Rattle.al_rules_settings.specs.Settings.{condition_faults, credentials_faults, env_faults};
-ghost use Rattle.al_rules_settings.specs.Settings.{is_always_true as always_true, is_password as password, is_shell as shell};
-ghost use Rattle.al_rules_settings.specs.Settings.{permission_faults, permission_value_faults, permissions_faults};
-ghost use Rattle.al_rules_settings.specs.Settings.{script_faults, shell_faults};
-ghost use Rattle.al_tree.specs.Keys.{key_of as key_in};
+ghost use Rattle.al_rules_settings.specs.Settings.{is_password as password, is_shell as shell};
+ghost use Rattle.al_rules_settings.specs.Settings.{permission_faults, permission_value_faults, permissions_faults, shell_faults};
 ghost use Rattle.al_tree.specs.Values.{member_of, scalar_node_of};
-ghost use Rattle.al_yaml_tree.specs.View.{entry_view, view};
-ghost use Rattle.std.specs.List.{list_all};
+ghost use Rattle.al_yaml_tree.specs.View.{view};
 ghost use Rattle.std.specs.Prelude.{◌≡◌, ◌++◌, map, option_map, IfOk, OnOk};
 
-use crate::commands::check_commands;
 use crate::names::{PERMISSIONS, SCOPE_VALUES, SHELLS, WHOLE_VALUES};
 use crate::reports::{named_key, named_text, report_unless, report_unless_among};
 use al_base::{Code, FaultSink, RuleCode, is_among};
@@ -20,7 +15,7 @@ use al_tree::{
     Member, ScalarNode, contains_chunk, is_null_scalar, key_of, members, text, value,
     value_below_two,
 };
-use al_yaml_tree::{Entry, Node};
+use al_yaml_tree::Node;
 use std::alloc::{AllocError, Global};
 
 /// Whether a text is accepted as a shell: it has an expression or `{0}`, the place of the script, or is a known name.
@@ -49,13 +44,10 @@ fn check_value(values: &[&str], node: &Node, faults: &mut FaultSink) -> Result<(
     ensures { OnOk result (faults.new ≡ faults.old
         ++ permission_value_faults (map (λ n. n.now) values.now) (view node.now)) }
 {
-    match text(node) {
-        None => Ok(()),
-        Some(scalar) => {
-            let value = named_text(scalar);
-            report_unless_among(RuleCode::WrongPermission, values, value, faults)
-        }
-    }
+    let Some(value) = text(node) else {
+        return Ok(());
+    };
+    report_unless_among(RuleCode::WrongPermission, values, named_text(value), faults)
 }
 
 /// Adds the faults of one permission.
@@ -78,18 +70,10 @@ pub fn check_permissions(section: &Node, faults: &mut FaultSink) -> Result<(), A
         return Ok(());
     };
     check_value(WHOLE_VALUES, node, faults)?;
-    let scopes = members(faults.alloc(), node)?;
-    for scope in &scopes {
+    for scope in &members(faults.alloc(), node)? {
         check_permission(*scope, faults)?;
     }
     Ok(())
-}
-
-/// Whether all keys of a mapping are names of environment variables.
-fn are_variables(entries: &[Entry]) -> bool
-    ensures { result ≡ list_all (λ e. variable (key_in (entry_view e))) entries.now }
-{
-    entries.iter().all(|entry| is_variable(key_of(entry)))
 }
 
 /// Adds the faults of `env` of a section: invalid names of environment variables.
@@ -105,18 +89,13 @@ pub fn check_env(section: &Node, faults: &mut FaultSink) -> Result<(), AllocErro
         return Ok(());
     };
     // If all names are valid there is no fault, whichever keys are repeated.
-    if are_variables(entries) {
+    if entries.iter().all(|entry| is_variable(key_of(entry))) {
         return Ok(());
     }
-    let variables = members(faults.alloc(), node)?;
-    for variable in &variables {
+    for variable in &members(faults.alloc(), node)? {
         let name = named_key(variable.key);
-        report_unless(
-            is_variable(name.text),
-            RuleCode::WrongVariable,
-            name,
-            faults,
-        )?;
+        let right = is_variable(name.text);
+        report_unless(right, RuleCode::WrongVariable, name, faults)?;
     }
     Ok(())
 }
@@ -125,13 +104,11 @@ pub fn check_env(section: &Node, faults: &mut FaultSink) -> Result<(), AllocErro
 fn is_password(alloc: Global, node: &Node) -> Result<bool, AllocError>
     ensures { IfOk result (λ r. r ≡ password (view node.now)) }
 {
-    let Some(scalar) = node.scalar() else {
-        return Ok(false);
-    };
-    if is_null_scalar(scalar) {
-        return Ok(true);
+    match node.scalar() {
+        None => Ok(false),
+        Some(scalar) if is_null_scalar(scalar) => Ok(true),
+        Some(scalar) => is_lone_chunk(alloc, Around::Nothing, scalar.text()),
     }
-    is_lone_chunk(alloc, Around::Nothing, scalar.text())
 }
 
 /// Adds the fault of the credentials of a container or a service: a password that isn't one expression.
@@ -149,29 +126,6 @@ pub fn check_credentials(container: &Node, faults: &mut FaultSink) -> Result<(),
     faults.report_plain(password.span(), Code::Rule(RuleCode::PasswordNotExpression))
 }
 
-/// Adds the faults of a script: each deprecated command in it.
-///
-/// Fails with `AllocError` when out of memory.
-pub fn check_script(run: Option<ScalarNode<'_>>, faults: &mut FaultSink) -> Result<(), AllocError>
-    ensures { OnOk result (faults.new ≡ faults.old
-        ++ script_faults (option_map scalar_node_of run.entry)) }
-{
-    match run {
-        None => Ok(()),
-        Some(script) => check_commands(script.scalar, faults),
-    }
-}
-
-/// Whether a condition is always true: it has an expression, and other text beside it.
-fn is_always_true(alloc: Global, text: &[u8]) -> Result<bool, AllocError>
-    ensures { IfOk result (λ r. r ≡ always_true text.now) }
-{
-    if !contains_chunk(text) {
-        return Ok(false);
-    }
-    Ok(!is_lone_chunk(alloc, Around::Blanks, text)?)
-}
-
 /// Adds the fault of a condition that is always true: an expression with other text beside it.
 ///
 /// Fails with `AllocError` when out of memory.
@@ -185,7 +139,11 @@ pub fn check_condition(
     let Some(condition) = condition else {
         return Ok(());
     };
-    if !is_always_true(faults.alloc(), condition.scalar.text())? {
+    let text = condition.scalar.text();
+    if !contains_chunk(text) {
+        return Ok(());
+    }
+    if is_lone_chunk(faults.alloc(), Around::Blanks, text)? {
         return Ok(());
     }
     faults.report_plain(condition.span, Code::Rule(RuleCode::AlwaysTrue))
