@@ -35,8 +35,7 @@ fn check_outputs(root: &Node, faults: &mut FaultSink) -> Result<(), AllocError>
     ensures { OnOk result (faults.new ≡ faults.old
         ++ flat_map output_faults (entries_at (codes "outputs") (view root.now))) }
 {
-    let outputs = members_under(faults.alloc(), root, "outputs")?;
-    for output in &outputs {
+    for output in &members_under(faults.alloc(), root, "outputs")? {
         if value(output.value, "value").is_none() {
             report(RuleCode::MissingOutputValue, named_key(output.key), faults)?;
         }

@@ -16,15 +16,10 @@ fn broken_rules(alloc: Global, tree: &Tree) -> Result<FaultSink, AllocError>
 {
     let mut faults = FaultSink::new(alloc);
     match tree {
-        Tree::Workflow(workflow) => {
-            check_workflow(&workflow.root, &mut faults)?;
-            Ok(faults)
-        }
-        Tree::Action(action) => {
-            check_action(&action.root, &mut faults)?;
-            Ok(faults)
-        }
+        Tree::Workflow(workflow) => check_workflow(&workflow.root, &mut faults)?,
+        Tree::Action(action) => check_action(&action.root, &mut faults)?,
     }
+    Ok(faults)
 }
 
 /// Adds to a list the faults of a workflow or an action by the rules of a single file, in no particular order. Their

@@ -12,109 +12,27 @@ pub(crate) struct Activities {
     types: &'static [&'static str],
 }
 
+macro_rules! activities {
+    ($($event:literal)+ => $($activity:literal)+) => {
+        Activities { events: &[$($event),+], types: &[$($activity),+] }
+    };
+}
+
 /// The activity types (GitHub, "Events that trigger workflows").
 const ACTIVITIES: &[Activities] = &[
-    Activities {
-        events: &[
-            "branch_protection_rule",
-            "discussion_comment",
-            "issue_comment",
-            "label",
-            "pull_request_review_comment",
-        ],
-        types: &["created", "edited", "deleted"],
-    },
-    Activities {
-        events: &["discussion"],
-        types: &[
-            "created",
-            "edited",
-            "deleted",
-            "transferred",
-            "pinned",
-            "unpinned",
-            "labeled",
-            "unlabeled",
-            "locked",
-            "unlocked",
-            "category_changed",
-            "answered",
-            "unanswered",
-        ],
-    },
-    Activities {
-        events: &["issues"],
-        types: &[
-            "opened",
-            "edited",
-            "deleted",
-            "transferred",
-            "pinned",
-            "unpinned",
-            "closed",
-            "reopened",
-            "assigned",
-            "unassigned",
-            "labeled",
-            "unlabeled",
-            "locked",
-            "unlocked",
-            "milestoned",
-            "demilestoned",
-            "typed",
-            "untyped",
-        ],
-    },
-    Activities {
-        events: &["milestone"],
-        types: &["created", "closed", "opened", "edited", "deleted"],
-    },
-    Activities {
-        events: &["pull_request", "pull_request_target"],
-        types: &[
-            "assigned",
-            "unassigned",
-            "labeled",
-            "unlabeled",
-            "opened",
-            "edited",
-            "closed",
-            "reopened",
-            "synchronize",
-            "converted_to_draft",
-            "locked",
-            "unlocked",
-            "enqueued",
-            "dequeued",
-            "milestoned",
-            "demilestoned",
-            "ready_for_review",
-            "review_requested",
-            "review_request_removed",
-            "auto_merge_enabled",
-            "auto_merge_disabled",
-        ],
-    },
-    Activities {
-        events: &["pull_request_review"],
-        types: &["submitted", "edited", "dismissed"],
-    },
-    Activities {
-        events: &["release"],
-        types: &[
-            "published",
-            "unpublished",
-            "created",
-            "edited",
-            "deleted",
-            "prereleased",
-            "released",
-        ],
-    },
-    Activities {
-        events: &["workflow_run"],
-        types: &["completed", "requested", "in_progress"],
-    },
+    activities!("branch_protection_rule" "discussion_comment" "issue_comment" "label" "pull_request_review_comment"
+        => "created" "edited" "deleted"),
+    activities!("discussion" => "created" "edited" "deleted" "transferred" "pinned" "unpinned" "labeled" "unlabeled" "locked" "unlocked"
+        "category_changed" "answered" "unanswered"),
+    activities!("issues" => "opened" "edited" "deleted" "transferred" "pinned" "unpinned" "closed" "reopened" "assigned" "unassigned"
+        "labeled" "unlabeled" "locked" "unlocked" "milestoned" "demilestoned" "typed" "untyped"),
+    activities!("milestone" => "created" "closed" "opened" "edited" "deleted"),
+    activities!("pull_request" "pull_request_target" => "assigned" "unassigned" "labeled" "unlabeled" "opened" "edited" "closed" "reopened"
+        "synchronize" "converted_to_draft" "locked" "unlocked" "enqueued" "dequeued" "milestoned" "demilestoned" "ready_for_review"
+        "review_requested" "review_request_removed" "auto_merge_enabled" "auto_merge_disabled"),
+    activities!("pull_request_review" => "submitted" "edited" "dismissed"),
+    activities!("release" => "published" "unpublished" "created" "edited" "deleted" "prereleased" "released"),
+    activities!("workflow_run" => "completed" "requested" "in_progress"),
 ];
 
 pub(crate) const CALL_TYPES: &[&str] = &["boolean", "number", "string"];

@@ -4,10 +4,10 @@ ghost use Rattle.al_rules.specs.Rules.{container_faults, containers_faults, job_
 ghost use Rattle.al_rules.specs.Rules.{settings_faults, step_faults, steps_faults};
 ghost use Rattle.al_rules_settings.specs.Views.{named_of};
 ghost use Rattle.al_rules_settings.specs.Words.{of_scalar};
-ghost use Rattle.al_tree.specs.Values.{entries_at, member_of, scalar_node_of, text_at_key, text_below};
+ghost use Rattle.al_tree.specs.Values.{member_of, text_at_key};
 ghost use Rattle.al_yaml_tree.specs.View.{view};
 ghost use Rattle.std.specs.List.{filter_map, flat_map};
-ghost use Rattle.std.specs.Prelude.{◌≡◌, ◌++◌, [], ◌∷◌, codes, map, option_map, IfOk, OnOk};
+ghost use Rattle.std.specs.Prelude.{◌≡◌, ◌++◌, codes, map, IfOk, OnOk};
 
 use al_base::FaultSink;
 use al_rules_settings::{
@@ -15,8 +15,7 @@ use al_rules_settings::{
     check_permissions, check_script, check_shell, named_text,
 };
 use al_tree::{
-    Member, ScalarNode, items_under, members_under, text, text_under, value, value_below_three,
-    value_below_two,
+    Member, items_under, members_under, text, text_under, value, value_below_three, value_below_two,
 };
 use al_yaml_tree::Node;
 use std::alloc::{AllocError, Global};
@@ -65,33 +64,14 @@ fn check_container(node: &Node, faults: &mut FaultSink) -> Result<(), AllocError
     check_credentials(node, faults)
 }
 
-/// The default shell of the scripts of a workflow or a job: `shell` of `defaults.run`.
-fn default_shell(node: &Node) -> Option<ScalarNode<'_>>
-    ensures { option_map scalar_node_of result
-        ≡ text_below (codes "defaults" ∷ codes "run" ∷ codes "shell" ∷ []) (view node.now) }
-{
-    text(value_below_three(node, "defaults", "run", "shell")?)
-}
-
 /// Adds the faults of the settings that workflows and jobs share.
 pub(crate) fn check_section(node: &Node, faults: &mut FaultSink) -> Result<(), AllocError>
     ensures { OnOk result (faults.new ≡ faults.old ++ section_faults (view node.now)) }
 {
     check_permissions(node, faults)?;
     check_env(node, faults)?;
-    check_shell(default_shell(node), faults)
-}
-
-/// Adds the faults of the services of a job.
-fn check_services(job: &Node, faults: &mut FaultSink) -> Result<(), AllocError>
-    ensures { OnOk result (faults.new ≡ faults.old
-        ++ flat_map (λ m. container_faults m.1) (entries_at (codes "services") (view job.now))) }
-{
-    let services = members_under(faults.alloc(), job, "services")?;
-    for service in &services {
-        check_container(service.value, faults)?;
-    }
-    Ok(())
+    let shell = value_below_three(node, "defaults", "run", "shell").and_then(|shell| text(shell));
+    check_shell(shell, faults)
 }
 
 /// Adds the faults of the container and the services of a job.
@@ -101,7 +81,10 @@ fn check_containers(job: &Node, faults: &mut FaultSink) -> Result<(), AllocError
     if let Some(container) = value(job, "container") {
         check_container(container, faults)?;
     }
-    check_services(job, faults)
+    for service in &members_under(faults.alloc(), job, "services")? {
+        check_container(service.value, faults)?;
+    }
+    Ok(())
 }
 
 /// Adds the faults of the settings of a job.

@@ -8,10 +8,10 @@ ghost use Rattle.std.specs.Option.{option_map_or};
 ghost use Rattle.std.specs.Prelude.{◌≡◌, ◌++◌, [], codes, map, OnOk};
 
 use crate::check_on;
-use crate::needs::{check_needs, keys_of};
+use crate::needs::check_needs;
 use crate::sections::{check_each_job, check_section};
 use al_base::FaultSink;
-use al_rules_settings::check_ids;
+use al_rules_settings::{Named, check_ids, named_key};
 use al_tree::{Member, members_under, value};
 use al_yaml_tree::Node;
 use std::alloc::AllocError;
@@ -31,7 +31,8 @@ fn check_events(root: &Node, faults: &mut FaultSink) -> Result<(), AllocError>
 fn check_jobs(jobs: &[Member<'_>], faults: &mut FaultSink) -> Result<(), AllocError>
     ensures { OnOk result (AddsJobs (map member_of jobs.now) faults.old faults.new) }
 {
-    let keys = keys_of(faults.alloc(), jobs)?;
+    let keys = jobs.iter().map(|job| named_key(job.key));
+    let keys: Vec<Named<'_>> = keys.collect(faults.alloc())?;
     check_ids(keys.as_slice(), faults)?;
     check_needs(jobs, faults)?;
     check_each_job(jobs, faults)?;
