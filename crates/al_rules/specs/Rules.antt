@@ -101,12 +101,7 @@ pub record IsWorkflowFaults (root : Node) (found : List Fault) : Type 0 where
   pub of_needs : IsNeedsFaults (jobs_of root) needs
   pub is : found ≡ workflow_faults needs root
 
--- what is added for jobs, and for a workflow
-pub record AddsJobs (jobs : List (Node × Node)) (old new : List Fault) : Type 0 where
-  pub needs : List Fault
-  pub of_needs : IsNeedsFaults jobs needs
-  pub grows : new ≡ old ++ (ids_faults (job_keys jobs) ++ needs ++ flat_map job_faults jobs)
-
+-- what is added for a workflow
 pub record AddsWorkflow (root : Node) (old new : List Fault) : Type 0 where
   pub found : List Fault
   pub are : IsWorkflowFaults root found

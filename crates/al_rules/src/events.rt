@@ -15,7 +15,8 @@ use std::alloc::AllocError;
 
 /// Adds the faults of the activity types under an event that it doesn't have.
 fn check_activities(name: &[u8], event: &Node, faults: &mut FaultSink) -> Result<(), AllocError>
-    ensures { OnOk result (faults.new ≡ faults.old ++ activity_type_faults name.now (view event.now)) }
+    ensures { OnOk result (faults.new ≡ faults.old
+        ++ activity_type_faults name.now (view event.now)) }
 {
     let Some(types) = activities_of(name) else {
         return Ok(());

@@ -14,12 +14,12 @@ ghost use Rattle.std.specs.Prelude.{◌≡◌, [], ◌∷◌, codes};
 
 /// The faults of some small files, as the definitions give them. Does nothing at run time.
 pub fn rows()
-    ensures unknown_event { workflow_faults (needs_by_steps file.unknown_event) file.unknown_event ≡
-        rule_fault UnknownEvent (at 4 7) (codes "pus" ∷ []) ∷ [] }
-    ensures wrong_activity { workflow_faults (needs_by_steps file.wrong_activity) file.wrong_activity
-        ≡ rule_fault UnknownActivity (at 34 39) (codes "close" ∷ []) ∷ [] }
-    ensures wrong_patterns { workflow_faults (needs_by_steps file.wrong_patterns) file.wrong_patterns
-        ≡ rule_fault WrongPattern (at 27 32) (codes "a[b" ∷ []) ∷
+    ensures unknown_event { workflow_faults (needs_by_steps file.unknown_event) file.unknown_event
+        ≡ rule_fault UnknownEvent (at 4 7) (codes "pus" ∷ []) ∷ [] }
+    ensures wrong_activity { workflow_faults (needs_by_steps file.wrong_activity)
+        file.wrong_activity ≡ rule_fault UnknownActivity (at 34 39) (codes "close" ∷ []) ∷ [] }
+    ensures wrong_patterns { workflow_faults (needs_by_steps file.wrong_patterns)
+        file.wrong_patterns ≡ rule_fault WrongPattern (at 27 32) (codes "a[b" ∷ []) ∷
         rule_fault WrongPattern (at 51 57) (codes "!./x" ∷ []) ∷ [] }
     ensures schedules { workflow_faults (needs_by_steps file.schedules) file.schedules ≡
         rule_fault WrongSchedule (at 28 37) (codes "0 0 * * 7" ∷ []) ∷

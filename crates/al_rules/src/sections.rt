@@ -99,22 +99,15 @@ fn check_settings(job: &Node, faults: &mut FaultSink) -> Result<(), AllocError>
     }
 }
 
-/// Adds the faults of a job by itself.
-fn check_job(job: Member<'_>, faults: &mut FaultSink) -> Result<(), AllocError>
-    ensures { OnOk result (faults.new ≡ faults.old ++ job_faults (member_of job.entry)) }
-{
-    check_settings(job.value, faults)?;
-    check_containers(job.value, faults)?;
-    check_steps(items_under(job.value, "steps"), faults)
-}
-
 /// Adds the faults of some jobs, each by itself.
 pub(crate) fn check_each_job(jobs: &[Member<'_>], faults: &mut FaultSink) -> Result<(), AllocError>
     ensures { OnOk result (faults.new ≡ faults.old
         ++ flat_map job_faults (map member_of jobs.now)) }
 {
     for job in jobs {
-        check_job(*job, faults)?;
+        check_settings(job.value, faults)?;
+        check_containers(job.value, faults)?;
+        check_steps(items_under(job.value, "steps"), faults)?;
     }
     Ok(())
 }

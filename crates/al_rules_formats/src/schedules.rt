@@ -179,7 +179,8 @@ fn item_at(alloc: Global, range: Range, text: &[u8]) -> Result<Option<Item>, All
 /// The items of a field, if all are valid.
 fn field(alloc: Global, range: Range, text: &[u8]) -> Result<Option<Vec<Item>>, AllocError>
     requires { range.high < 1000 }
-    ensures { IfOk result (λ r. option_map (λ v. v.items) r ≡ items_of_field (range_of range) text.now) }
+    ensures { IfOk result (λ r. option_map (λ v. v.items) r
+        ≡ items_of_field (range_of range) text.now) }
 {
     let parts = split(alloc, text, b',')?;
     let mut items = Vec::new(alloc);

@@ -1,4 +1,5 @@
 pub mod Inside
+pub mod Joining
 pub mod Places
 pub mod Lying
 mod RepeatedIds

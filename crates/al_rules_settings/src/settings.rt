@@ -2,8 +2,8 @@
 
 ghost use Rattle.al_rules_settings.specs.Settings.{condition_faults, credentials_faults, env_faults};
 ghost use Rattle.al_rules_settings.specs.Settings.{is_password as password, is_shell as shell};
-ghost use Rattle.al_rules_settings.specs.Settings.{permission_faults, permission_value_faults, permissions_faults, shell_faults};
-ghost use Rattle.al_tree.specs.Values.{member_of, scalar_node_of};
+ghost use Rattle.al_rules_settings.specs.Settings.{permission_value_faults, permissions_faults, shell_faults};
+ghost use Rattle.al_tree.specs.Values.{scalar_node_of};
 ghost use Rattle.al_yaml_tree.specs.View.{view};
 ghost use Rattle.std.specs.Prelude.{◌≡◌, ◌++◌, map, option_map, IfOk, OnOk};
 
@@ -12,8 +12,7 @@ use crate::reports::{named_key, named_text, report_unless, report_unless_among};
 use al_base::{Code, FaultSink, RuleCode, is_among};
 use al_rules_formats::{Around, has_part, is_lone_chunk, is_variable};
 use al_tree::{
-    Member, ScalarNode, contains_chunk, is_null_scalar, key_of, members, text, value,
-    value_below_two,
+    ScalarNode, contains_chunk, is_null_scalar, key_of, members, text, value, value_below_two,
 };
 use al_yaml_tree::Node;
 use std::alloc::{AllocError, Global};
@@ -50,16 +49,6 @@ fn check_value(values: &[&str], node: &Node, faults: &mut FaultSink) -> Result<(
     report_unless_among(RuleCode::WrongPermission, values, named_text(value), faults)
 }
 
-/// Adds the faults of one permission.
-fn check_permission(permission: Member<'_>, faults: &mut FaultSink) -> Result<(), AllocError>
-    ensures { OnOk result (faults.new ≡ faults.old
-        ++ permission_faults (member_of permission.entry)) }
-{
-    let name = named_key(permission.key);
-    report_unless_among(RuleCode::UnknownPermission, PERMISSIONS, name, faults)?;
-    check_value(SCOPE_VALUES, permission.value, faults)
-}
-
 /// Adds the faults of the permissions of a workflow or a job: unknown scopes, and wrong values.
 ///
 /// Fails with `AllocError` when out of memory.
@@ -71,7 +60,9 @@ pub fn check_permissions(section: &Node, faults: &mut FaultSink) -> Result<(), A
     };
     check_value(WHOLE_VALUES, node, faults)?;
     for scope in &members(faults.alloc(), node)? {
-        check_permission(*scope, faults)?;
+        let name = named_key(scope.key);
+        report_unless_among(RuleCode::UnknownPermission, PERMISSIONS, name, faults)?;
+        check_value(SCOPE_VALUES, scope.value, faults)?;
     }
     Ok(())
 }

@@ -2,7 +2,7 @@ use Rattle.std.proofs.Common.{◌++◌, ◌∙◌, ap, map}
 use Rattle.al_base.specs.declared.codes.RuleCode.TheVariants.{UnknownActivity}
 use Rattle.al_tree.specs.Values.{scalar_node_of}
 use Rattle.al_rules_settings.specs.Words.{of_scalar, unless_among}
-use Rattle.al_rules.proofs.Joining.{item_added}
+use Rattle.al_rules_settings.proofs.Joining.{item_added}
 use Rattle.al_rules.proofs.events.check_activities.Goals as goal
 
 pub loop-scalar-preserved : goal.loop-scalar-preserved
