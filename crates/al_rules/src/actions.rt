@@ -1,11 +1,10 @@
 //! Rules of actions, depending on `using`.
 
-ghost use Rattle.al_rules.specs.Rules.{action_faults, composite_faults, hooks_faults, no_shell_faults, output_faults, scalar_of_value};
+ghost use Rattle.al_rules.specs.Rules.{action_faults, composite_faults, hooks_faults, scalar_of_value};
 ghost use Rattle.al_rules_settings.specs.Views.{named_of};
-ghost use Rattle.al_tree.specs.Values.{entries_at, value_at};
+ghost use Rattle.al_tree.specs.Values.{value_at};
 ghost use Rattle.al_yaml_tree.specs.View.{view};
-ghost use Rattle.std.specs.List.{flat_map};
-ghost use Rattle.std.specs.Prelude.{◌≡◌, ◌++◌, codes, map, option_and_then, option_map, OnOk};
+ghost use Rattle.std.specs.Prelude.{◌≡◌, ◌++◌, codes, option_and_then, option_map, OnOk};
 
 use crate::sections::check_steps;
 use al_base::{Code, FaultSink, RuleCode};
@@ -14,11 +13,13 @@ use al_tree::{Shape, items_under, key, members_under, runs_of, text_under, value
 use al_yaml_tree::Node;
 use std::alloc::AllocError;
 
-/// Adds the faults of steps of a composite action that run a script and name no shell.
-fn check_no_shells(steps: &[Node], faults: &mut FaultSink) -> Result<(), AllocError>
+/// Adds the faults of a composite action: those of its steps, scripts that name no shell, and outputs without a value.
+fn check_composite(root: &Node, runs: &Node, faults: &mut FaultSink) -> Result<(), AllocError>
     ensures { OnOk result (faults.new ≡ faults.old
-        ++ flat_map no_shell_faults (map view steps.now)) }
+        ++ composite_faults (view root.now) (view runs.now)) }
 {
+    let steps = items_under(runs, "steps");
+    check_steps(steps, faults)?;
     for step in steps {
         if value(step, "shell").is_some() {
             continue;
@@ -27,31 +28,12 @@ fn check_no_shells(steps: &[Node], faults: &mut FaultSink) -> Result<(), AllocEr
             faults.report_plain(key.span(), Code::Rule(RuleCode::MissingShell))?;
         }
     }
-    Ok(())
-}
-
-/// Adds the faults of the outputs of a composite action that have no value.
-fn check_outputs(root: &Node, faults: &mut FaultSink) -> Result<(), AllocError>
-    ensures { OnOk result (faults.new ≡ faults.old
-        ++ flat_map output_faults (entries_at (codes "outputs") (view root.now))) }
-{
     for output in &members_under(faults.alloc(), root, "outputs")? {
         if value(output.value, "value").is_none() {
             report(RuleCode::MissingOutputValue, named_key(output.key), faults)?;
         }
     }
     Ok(())
-}
-
-/// Adds the faults of a composite action.
-fn check_composite(root: &Node, runs: &Node, faults: &mut FaultSink) -> Result<(), AllocError>
-    ensures { OnOk result (faults.new ≡ faults.old
-        ++ composite_faults (view root.now) (view runs.now)) }
-{
-    let steps = items_under(runs, "steps");
-    check_steps(steps, faults)?;
-    check_no_shells(steps, faults)?;
-    check_outputs(root, faults)
 }
 
 /// Adds the faults of the conditions `pre-if` and `post-if` of an action.

@@ -1,26 +1,14 @@
 //! The rules of a single file.
 
-ghost use Rattle.al_rules.specs.Rules.{AddsRules, IsRuleFaults};
+ghost use Rattle.al_rules.specs.Rules.{AddsRules};
 ghost use Rattle.al_base.specs.Growth.{BeginsWith};
-ghost use Rattle.std.specs.Prelude.{IfOk, OnOk};
+ghost use Rattle.std.specs.Prelude.{OnOk};
 
 use crate::actions::check_action;
 use crate::workflows::check_workflow;
 use al_base::{Fault, FaultSink};
 use al_tree::Tree;
 use std::alloc::{AllocError, Global};
-
-/// The faults by the rules of a single file. Fails with `AllocError` if memory runs out.
-fn broken_rules(alloc: Global, tree: &Tree) -> Result<FaultSink, AllocError>
-    ensures { IfOk result (λ faults. IsRuleFaults tree.now faults) }
-{
-    let mut faults = FaultSink::new(alloc);
-    match tree {
-        Tree::Workflow(workflow) => check_workflow(&workflow.root, &mut faults)?,
-        Tree::Action(action) => check_action(&action.root, &mut faults)?,
-    }
-    Ok(faults)
-}
 
 /// Adds to a list the faults of a workflow or an action by the rules of a single file, in no particular order. Their
 /// spans are byte offsets of the file.
@@ -33,7 +21,11 @@ pub fn rules(alloc: Global, tree: &Tree, out: &mut Vec<Fault>) -> Result<(), All
     ensures rules { OnOk result (AddsRules tree.now out.old.items out.new.items) }
     ensures begins { BeginsWith out.new.items out.old.items }
 {
-    let faults = broken_rules(alloc, tree)?;
+    let mut faults = FaultSink::new(alloc);
+    match tree {
+        Tree::Workflow(workflow) => check_workflow(&workflow.root, &mut faults)?,
+        Tree::Action(action) => check_action(&action.root, &mut faults)?,
+    }
     faults.append_to(out)?;
     Ok(())
 }

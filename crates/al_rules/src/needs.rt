@@ -4,36 +4,15 @@ ghost use Rattle.al_base.specs.NamePlaces.{name_position};
 ghost use Rattle.al_graph.specs.Graphs.{edges_of};
 ghost use Rattle.al_rules.specs.Needs.{AddsAllNeeds, needs_in, needs_lists};
 ghost use Rattle.al_rules.specs.Private.Components as components;
-ghost use Rattle.al_rules.specs.Private.Components.{labelled_faults, named_by};
-ghost use Rattle.al_rules_settings.specs.Words.{of_scalar};
-ghost use Rattle.al_tree.specs.Values.{member_of, scalar_node_of};
-ghost use Rattle.std.specs.List.{filter_map};
+ghost use Rattle.al_rules.specs.Private.Components.{labelled_faults};
+ghost use Rattle.al_tree.specs.Values.{member_of};
 ghost use Rattle.std.specs.Prelude.{◌≡◌, ◌++◌, map, IfOk, OnOk};
 
 use al_base::{Code, FaultSink, NamePositions, RuleCode};
 use al_graph::strongly_connected_components;
 use al_rules_settings::{named_key, named_text, report};
-use al_tree::{Member, ScalarNode, member_positions, texts_under};
+use al_tree::{Member, member_positions, texts_under};
 use std::alloc::{AllocError, Global};
-
-/// The positions of the jobs that some texts name.
-fn positions_of(
-    alloc: Global,
-    positions: &NamePositions,
-    needs: &[ScalarNode<'_>],
-) -> Result<Vec<usize>, AllocError>
-    ensures { IfOk result (λ v. v.items
-        ≡ filter_map (named_by (name_position positions.now))
-        (map of_scalar (map scalar_node_of needs.now))) }
-{
-    let mut found = Vec::new(alloc);
-    for need in needs {
-        if let Some(job) = positions.get(need.scalar.text())? {
-            found.push(job)?;
-        }
-    }
-    Ok(found)
-}
 
 /// For each job, the positions of the jobs that it needs.
 fn lists_for(
@@ -46,8 +25,13 @@ fn lists_for(
 {
     let mut lists = Vec::new(alloc);
     for job in jobs {
-        let needs = texts_under(alloc, job.value, "needs")?;
-        lists.push(positions_of(alloc, positions, needs.as_slice())?)?;
+        let mut needed = Vec::new(alloc);
+        for need in &texts_under(alloc, job.value, "needs")? {
+            if let Some(position) = positions.get(need.scalar.text())? {
+                needed.push(position)?;
+            }
+        }
+        lists.push(needed)?;
     }
     Ok(lists)
 }

@@ -5,16 +5,12 @@ use Rattle.std.proofs.lemmas.Iterator.Consumers.{YieldsList-at, YieldsList-from_
 use Rattle.al_tree.specs.Keys.{key_of, keys_in}
 use Rattle.al_tree.specs.Names.{is_combination_key}
 use Rattle.al_tree.specs.Values.{member_of}
-use Rattle.al_tree.specs.declared.values.Member.{Member}
+use Rattle.al_rules_settings.proofs.Joining.{mapped}
 use Rattle.al_rules_settings.proofs.matrix.row_names.Goals as goal
-
-keys_same : (rows : List Member) → map (λ m. key_of (member_of m)) rows ≡ keys_in (map member_of rows)
-keys_same [] = refl
-keys_same (m ∷ ms) = ap (λ ks. key_of (member_of m) ∷ ks) (keys_same ms)
 
 pub returns : goal.returns
 returns c =
-    subst (λ ks. IfOk c.collect.result (λ v. map (λ t. t.now) v.items ≡ filter (λ k. not (is_combination_key k)) ks)) (keys_same c.args.rows.now)
+    subst (λ ks. IfOk c.collect.result (λ v. map (λ t. t.now) v.items ≡ filter (λ k. not (is_combination_key k)) ks)) (mapped key_of member_of c.args.rows.now)
     (map_from_collect _ c.collect.ensures.ran
     (YieldsList-from_filter _ (λ k. not (is_combination_key k)) (YieldsList-at c.filter.ensures.source
     (YieldsList-from_map_by _ (λ t. t.now) (λ m. key_of (member_of m)) (YieldsList-from_slice c.args.rows.now cc) c.map-keys.ensures.closure
