@@ -4,15 +4,15 @@ ghost use Rattle.al_base.specs.NamePlaces.{name_place, name_position};
 ghost use Rattle.al_rules_settings.specs.Matrix.{are_combinations as all_combinations, exclude_faults, exclude_keys};
 ghost use Rattle.al_rules_settings.specs.Matrix.{is_combination as combination, is_dynamic as dynamic};
 ghost use Rattle.al_rules_settings.specs.Matrix.{is_null_node as null_node, is_row_value as row_value};
-ghost use Rattle.al_rules_settings.specs.Matrix.{matrix_faults, row_names as names_of_rows, shape_faults};
+ghost use Rattle.al_rules_settings.specs.Matrix.{matrix_faults, row_names as names_of_rows};
 ghost use Rattle.al_rules_settings.specs.Words.{of_key};
 ghost use Rattle.al_tree.specs.Values.{entries_in, member_of};
 ghost use Rattle.al_yaml_tree.specs.View.{view};
 ghost use Rattle.std.specs.List.{flat_map};
 ghost use Rattle.std.specs.Prelude.{◌≡◌, ◌++◌, map, IfOk, OnOk};
 
-use crate::reports::{named_key, report_unless};
-use al_base::{Code, FaultSink, NamePositions, RuleCode, Span};
+use crate::reports::{Named, named_key, report_unless};
+use al_base::{FaultSink, NamePositions, RuleCode};
 use al_tree::{
     Member, contains_chunk, is_combination_key, is_null_scalar, items_under, key_text, members,
 };
@@ -63,21 +63,6 @@ fn is_row_value(key: &[u8], value: &Node) -> bool
     } else {
         value.sequence().is_some()
     }
-}
-
-/// Adds the fault of a wrong shape.
-fn check_shape(
-    right: bool,
-    span: Span,
-    name: &[u8],
-    faults: &mut FaultSink,
-) -> Result<(), AllocError>
-    ensures { OnOk result (faults.new ≡ faults.old ++ shape_faults right span name.now) }
-{
-    if right {
-        return Ok(());
-    }
-    faults.report_text(span, Code::Rule(RuleCode::WrongMatrix), name)
 }
 
 /// The names of the rows: all keys except `include` and `exclude`.
@@ -137,13 +122,20 @@ pub fn check_matrix(node: &Node, faults: &mut FaultSink) -> Result<(), AllocErro
 {
     if node.mapping().is_none() {
         let right = is_null_node(node) || is_dynamic(node);
-        return check_shape(right, node.span(), b"matrix", faults);
+        let name = Named {
+            text: b"matrix",
+            span: node.span(),
+        };
+        return report_unless(right, RuleCode::WrongMatrix, name, faults);
     }
     let rows = members(faults.alloc(), node)?;
     for row in &rows {
-        let key = named_key(row.key);
-        let right = is_row_value(key.text, row.value);
-        check_shape(right, row.value.span(), key.text, faults)?;
+        let name = Named {
+            text: key_text(row.key),
+            span: row.value.span(),
+        };
+        let right = is_row_value(name.text, row.value);
+        report_unless(right, RuleCode::WrongMatrix, name, faults)?;
     }
     check_excludes(rows.as_slice(), items_under(node, "exclude"), faults)
 }

@@ -1,8 +1,8 @@
-use Rattle.std.proofs.Common.{◌≡◌, ◌∷◌, [], IfOk, List, ap, map, not, refl, rules, subst, tests}
+use Rattle.std.proofs.Common.{◌≡◌, IfOk, map, not, rules, subst, tests}
 use Rattle.std.specs.List.{filter}
 use Rattle.std.proofs.lemmas.Iterator.{YieldsList-from_map_by, YieldsList-from_slice}
 use Rattle.std.proofs.lemmas.Iterator.Consumers.{YieldsList-at, YieldsList-from_filter, map_from_collect}
-use Rattle.al_tree.specs.Keys.{key_of, keys_in}
+use Rattle.al_tree.specs.Keys.{key_of}
 use Rattle.al_tree.specs.Names.{is_combination_key}
 use Rattle.al_tree.specs.Values.{member_of}
 use Rattle.al_rules_settings.proofs.Joining.{mapped}
