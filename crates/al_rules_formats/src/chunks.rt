@@ -1,7 +1,7 @@
 //! Texts that are one expression.
 
 ghost use Rattle.al_rules_formats.specs.Chunks.{is_lone_chunk as lone_chunk, is_short, is_lone, may_stand};
-ghost use Rattle.std.specs.Prelude.{◌≡◌, [], ◌∷◌, false, true, IfOk, MatchOption, None};
+ghost use Rattle.std.specs.Prelude.{◌≡◌, [], ◌∷◌, false, true, drop, IfOk, MatchOption, None};
 
 use al_base::Span;
 use al_base::limits::LONGEST_TEXT;
@@ -27,6 +27,17 @@ fn may_be(around: Around, byte: u8) -> bool
     }
 }
 
+/// A text without its first bytes.
+fn suffix(bytes: &[u8], count: usize) -> &[u8]
+    ensures { result.now ≡ drop count bytes.now }
+{
+    if count < bytes.len() {
+        &bytes[count..]
+    } else {
+        &[]
+    }
+}
+
 /// Whether everything outside the braces of a chunk is allowed there.
 fn stands_alone(around: Around, bytes: &[u8], content: Span) -> bool
     ensures { result ≡ is_lone around bytes.now (content ∷ []) None }
@@ -34,7 +45,7 @@ fn stands_alone(around: Around, bytes: &[u8], content: Span) -> bool
     let before = bytes
         .iter()
         .take((content.start as usize).saturating_sub(3));
-    let after = bytes.iter().skip(content.end as usize + 2);
+    let after = suffix(bytes, content.end as usize + 2).iter();
     before.chain(after).all(|byte| may_be(around, *byte))
 }
 
