@@ -9,10 +9,10 @@ use Rattle.al_scalar.specs.Line.{start}
 use Rattle.al_scalar.specs.Places.{lines_at}
 use Rattle.al_scalar.proofs.RestLemmas.{start-at}
 use Rattle.al_yaml_tree.specs.Content.{anchor_name, after_name}
-use Rattle.al_yaml_parts.specs.Reads.{alias_part, State, run, run_outcome, start_with, FailsWith}
+use Rattle.al_yaml_parts.specs.Reads.{alias_part, State, run, run_outcome, FailsWith}
 use Rattle.al_yaml_parts.specs.declared.faults.ReadError.{ReadError}
 use Rattle.al_yaml_parts.proofs.ReadLemmas.{bind-ok, stops-bind, stops-from}
-use Rattle.al_yaml_tree.specs.Reading.{Reading, Part, part, gives, ◌>>=◌, Anchor, alias, alias_of, alias_start, deepest}
+use Rattle.al_yaml_tree.specs.Reading.{Reading, Part, part, gives, ◌>>=◌, Anchor, alias, alias_of, alias_start, start_of, deepest}
 use Rattle.al_yaml_parts.proofs.RunLemmas.{run-fails, run-gives, run-any_start, run-broken_start}
 
 pub run-alias : (s : State) (name : List ℕ) (at depth : ℕ) (o : Option Anchor) → s.known name ≡ o → run s (alias name at depth) ≡ run s (alias_of o at depth)
@@ -24,8 +24,8 @@ run-alias s name at depth o h = ap (λ o. run_outcome s (alias_of o at depth s.k
 same-nodes : (n m : ℕ) → nat_lt 100000 (n + most_counted m) ≡ nat_lt 100000 (n + m)
 same-nodes n m = grind (arith, common_steps)
 
-same-text : (n m : ℕ) → nat_lt 1048576 (n + most_counted m) ≡ nat_lt 1048576 (n + m)
-same-text n m = grind (arith, common_steps)
+same-text : (t m : ℕ) → nat_lt 1048576 (most_counted (t + most_counted m) + 0) ≡ nat_lt 1048576 (t + m)
+same-text t m = grind (arith, common_steps)
 
 same-depth : (d : ℕ) → nat_lt 64 (most_counted d) ≡ nat_lt 64 d
 same-depth d = grind (arith, common_steps)
@@ -46,49 +46,49 @@ same-deepest depth l = same-depth (deepest depth (most_counted l)) ∙ deep-case
 abbrev broken : Bool → Bool → Bool → ℕ → Option FaultAt
 broken a b c at = cond (a || b) (Some (record { code = yaml.TooManyNodes; at = at })) (cond c (Some (record { code = yaml.NestingTooDeep; at = at })) None)
 
-pub same-limits : (n t at depth : ℕ) (x : Node) (nodes text levels deep : ℕ) → nodes ≡ most_counted (nodes_in x) → text ≡ most_counted (text_size x)
+pub same-limits : (n t at depth : ℕ) (x : Node) (nodes text levels deep : ℕ) → nodes ≡ most_counted (nodes_in x) → text ≡ most_counted (t + most_counted (text_size x))
     → levels ≡ most_counted (levels_in x) → deep ≡ most_counted (deepest depth levels)
-    → broken_limit n t (start_with at nodes text deep ∷ []) ≡ broken_limit n t (alias_start at depth x ∷ [])
+    → broken_limit n text (start_of at nodes deep ∷ []) ≡ broken_limit n t (alias_start at depth x ∷ [])
 same-limits n t at depth x nodes text levels deep a b c d =
     let e : nat_lt 100000 (n + nodes) ≡ nat_lt 100000 (n + nodes_in x) = ap (λ m. nat_lt 100000 (n + m)) a ∙ same-nodes n (nodes_in x) in
-    let f : nat_lt 1048576 (t + text) ≡ nat_lt 1048576 (t + text_size x) = ap (λ m. nat_lt 1048576 (t + m)) b ∙ same-text t (text_size x) in
+    let f : nat_lt 1048576 (text + 0) ≡ nat_lt 1048576 (t + text_size x) = ap (λ m. nat_lt 1048576 (m + 0)) b ∙ same-text t (text_size x) in
     let g : nat_lt 64 deep ≡ nat_lt 64 (deepest depth (levels_in x)) =
     ap (nat_lt 64) (d ∙ ap (λ l. most_counted (deepest depth l)) c) ∙ same-deepest depth (levels_in x) in
     rw (e, f, g) refl
 
 -- what fits is counted as it is
-fits : (n t nodes text deep at : ℕ) → broken_limit n t (start_with at nodes text deep ∷ []) ≡ None → (nat_lt 100000 (n + nodes) ≡ false) × (nat_lt 1048576 (t + text) ≡ false)
-fits n t nodes text deep at h = (grind (arith, common_steps, h), grind (arith, common_steps, h))
+fits : (n t nodes deep at : ℕ) → broken_limit n t (start_of at nodes deep ∷ []) ≡ None → (nat_lt 100000 (n + nodes) ≡ false) × (nat_lt 1048576 (t + 0) ≡ false)
+fits n t nodes deep at h = (grind (arith, common_steps, h), grind (arith, common_steps, h))
 
 exact-nodes : (n m : ℕ) → nat_lt 100000 (n + most_counted m) ≡ false → most_counted m ≡ m
 exact-nodes n m h = grind (arith, common_steps, h)
 
-exact-text : (n m : ℕ) → nat_lt 1048576 (n + most_counted m) ≡ false → most_counted m ≡ m
-exact-text n m h = grind (arith, common_steps, h)
+exact-text : (t m : ℕ) → nat_lt 1048576 (most_counted (t + most_counted m) + 0) ≡ false → most_counted (t + most_counted m) ≡ t + m
+exact-text t m h = grind (arith, common_steps, h)
 
 module _ (s : State) (name : List ℕ) (at depth : ℕ) where
   pub alias-unknown : s.known name ≡ None → run s (alias name at depth) ≡ Err (record { code = yaml.UnknownAlias; at = at })
   alias-unknown h = run-alias s name at depth None h ∙ run-fails s yaml.UnknownAlias at
 
   module _ (a : Anchor) (found : s.known name ≡ Some a) (nodes text levels deep : ℕ) (is-nodes : nodes ≡ most_counted (nodes_in a.node))
-      (is-text : text ≡ most_counted (text_size a.node)) (is-levels : levels ≡ most_counted (levels_in a.node)) (is-deep : deep ≡ most_counted (deepest depth levels)) where
-    same : broken_limit s.nodes s.text (start_with at nodes text deep ∷ []) ≡ broken_limit s.nodes s.text (alias_start at depth a.node ∷ [])
+      (is-text : text ≡ most_counted (s.text + most_counted (text_size a.node))) (is-levels : levels ≡ most_counted (levels_in a.node)) (is-deep : deep ≡ most_counted (deepest depth levels)) where
+    same : broken_limit s.nodes text (start_of at nodes deep ∷ []) ≡ broken_limit s.nodes s.text (alias_start at depth a.node ∷ [])
     same = same-limits s.nodes s.text at depth a.node nodes text levels deep is-nodes is-text is-levels is-deep
 
-    pub alias-broken : (e : FaultAt) → broken_limit s.nodes s.text (start_with at nodes text deep ∷ []) ≡ Some e → run s (alias name at depth) ≡ Err e
+    pub alias-broken : (e : FaultAt) → broken_limit s.nodes text (start_of at nodes deep ∷ []) ≡ Some e → run s (alias name at depth) ≡ Err e
     alias-broken e h =
         run-alias s name at depth (Some a) found ∙ run-broken_start s (alias_start at depth a.node) (gives a.node) e (sym same ∙ h)
 
-    pub alias-read : broken_limit s.nodes s.text (start_with at nodes text deep ∷ []) ≡ None → (n t : ℕ) → n ≡ s.nodes + nodes → t ≡ s.text + text
-        → run s (alias name at depth) ≡ Ok (a.node, record { nodes = n; text = t; known = s.known })
-    alias-read h n t c d =
-        let f = fits s.nodes s.text nodes text deep at h in
+    pub alias-read : broken_limit s.nodes text (start_of at nodes deep ∷ []) ≡ None
+        → run s (alias name at depth) ≡ Ok (a.node, record { nodes = s.nodes + nodes; text = text; known = s.known })
+    alias-read h =
+        let f = fits s.nodes text nodes deep at h in
         let p : nodes ≡ nodes_in a.node = is-nodes ∙ exact-nodes s.nodes (nodes_in a.node) (ap (λ m. nat_lt 100000 (s.nodes + m)) (sym is-nodes) ∙ f.0) in
-        let q : text ≡ text_size a.node = is-text ∙ exact-text s.text (text_size a.node) (ap (λ m. nat_lt 1048576 (s.text + m)) (sym is-text) ∙ f.1) in
+        let q : text ≡ s.text + text_size a.node = is-text ∙ exact-text s.text (text_size a.node) (ap (λ m. nat_lt 1048576 (m + 0)) (sym is-text) ∙ f.1) in
         run-alias s name at depth (Some a) found
         ∙ run-any_start s (alias_start at depth a.node) (gives a.node) (sym same ∙ h)
         ∙ run-gives (record { nodes = s.nodes + nodes_in a.node; text = s.text + text_size a.node; known = s.known }) a.node
-        ∙ rw (c, d, ← p, ← q) refl
+        ∙ rw (← p, ← q) refl
 
 -- ---- an alias with what is left after it
 

@@ -4,6 +4,7 @@ use Rattle.std.proofs.Common.{◌≡◌, ◌≢◌, ℕ, suc, ◌+◌, ◌-◌, 
 use Rattle.std.specs.Prelude.{nat_le, nat_lt}
 use Rattle.std.proofs.lemmas.Grind.{common_steps}
 use Rattle.al_scalar.proofs.FoldLemmas.{end-with_return}
+use Rattle.al_base.specs.Positions.{begins_char}
 use Rattle.al_scalar.specs.Line.{Cell, Line, lines, is_break, with_cell, with_return, begins, begins_blank, after_blanks, is_blank_or_end, blanks_dropped}
 use Rattle.al_scalar.specs.Places.{first_text, first_end, lines_at, text_at}
 use Rattle.al_scalar.specs.LineEnds.{IsBreakByte, IsLineEnd}
@@ -145,6 +146,12 @@ short-few bytes at end a b h =
     let few = characters-few bytes (end - at) at end b (omega (arith, a)) in
     grind (arith, common_steps, few, h)
 
+begun : (b : ℕ) → true ≡ begins_char b → false ≡ (nat_le 128 b && nat_lt b 192)
+begun b h = grind (arith, common_steps, h)
+
+continued : (b : ℕ) → false ≡ begins_char b → true ≡ (nat_le 128 b && nat_lt b 192)
+continued b h = grind (arith, common_steps, h)
+
 module _ (bytes : List ℕ) (from i to : ℕ) (inside : to ≤ length bytes) where
   pub characters-done : i ≡ to → (n : ℕ) → characters to (text_at bytes from) ≡ n + characters to (text_at bytes i) → n ≡ characters to (text_at bytes from)
   characters-done e n h =
@@ -162,13 +169,13 @@ module _ (bytes : List ℕ) (from i to : ℕ) (inside : to ≤ length bytes) whe
         ap (characters to) (text_at-cell bytes i (omega arith) (line_end-before bytes from i to order inside same line))
         ∙ characters-cell to (slice_index bytes i, i) (text_at bytes (i + 1)) b order k
 
-    pub characters-own : (n : ℕ) → false ≡ (nat_le 128 (slice_index bytes i) && nat_lt (slice_index bytes i) 192) → characters to (text_at bytes from) ≡ n + characters to (text_at bytes i)
+    pub characters-own : (n : ℕ) → true ≡ begins_char (slice_index bytes i) → characters to (text_at bytes from) ≡ n + characters to (text_at bytes i)
         → characters to (text_at bytes from) ≡ n + 1 + characters to (text_at bytes (i + 1))
-    characters-own n k h = let e = step-by false k in omega (arith, h, e)
+    characters-own n k h = let e = step-by false (begun (slice_index bytes i) k) in omega (arith, h, e)
 
-    pub characters-same : (n : ℕ) → true ≡ (nat_le 128 (slice_index bytes i) && nat_lt (slice_index bytes i) 192) → characters to (text_at bytes from) ≡ n + characters to (text_at bytes i)
+    pub characters-same : (n : ℕ) → false ≡ begins_char (slice_index bytes i) → characters to (text_at bytes from) ≡ n + characters to (text_at bytes i)
         → characters to (text_at bytes from) ≡ n + characters to (text_at bytes (i + 1))
-    characters-same n k h = let e = step-by true k in omega (arith, h, e)
+    characters-same n k h = let e = step-by true (continued (slice_index bytes i) k) in omega (arith, h, e)
 
 -- ---- colons
 
@@ -220,14 +227,19 @@ module _ (bytes : List ℕ) (at solid : ℕ) (from : at ≤ solid) (inside : sol
   block-by true h = found_by (block 0) false h
   block-by false h = ap (λ b. cond b (Some (past 1 (blanks_dropped (lines_at bytes at)))) None) (ap (is_value_colon (block 0)) text_solid ∙ sym h)
 
-  pub flow_found : (q : Bool) → true ≡ is_value_colon flow (text_at bytes solid) → IsColon (items.after_colon_in_flow q (lines_at bytes at)) bytes at (Some (solid + 1))
+  flow_found : (q : Bool) → true ≡ is_value_colon flow (text_at bytes solid) → IsColon (items.after_colon_in_flow q (lines_at bytes at)) bytes at (Some (solid + 1))
   flow_found q h = found_by flow (q && begins 58 (text_at bytes at)) h
 
-  pub flow_missed : (q : Bool) → false ≡ (q && begins 58 (text_at bytes at)) → false ≡ is_value_colon flow (text_at bytes solid)
+  flow_missed : (q : Bool) → false ≡ (q && begins 58 (text_at bytes at)) → false ≡ is_value_colon flow (text_at bytes solid)
       → items.after_colon_in_flow q (lines_at bytes at) ≡ None
   flow_missed q h k =
       ap (λ b. cond (b || is_value_colon flow (after_blanks (text_at bytes at))) (Some (past 1 (blanks_dropped (lines_at bytes at)))) None) (sym h)
       ∙ ap (λ b. cond b (Some (past 1 (blanks_dropped (lines_at bytes at)))) None) (ap (is_value_colon flow) text_solid ∙ sym k)
+
+  pub flow-by : (q b : Bool) → false ≡ (q && begins 58 (text_at bytes at)) → b ≡ is_value_colon flow (text_at bytes solid)
+      → IsColon (items.after_colon_in_flow q (lines_at bytes at)) bytes at (then_some b (solid + 1))
+  flow-by q true h k = flow_found q k
+  flow-by q false h k = flow_missed q h k
 
 pub quoted_found : (bytes : List ℕ) (at : ℕ) (q : Bool) → at ≤ length bytes → true ≡ (q && begins 58 (text_at bytes at))
     → IsColon (items.after_colon_in_flow q (lines_at bytes at)) bytes at (Some (at + 1))

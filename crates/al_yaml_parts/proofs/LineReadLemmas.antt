@@ -1,6 +1,7 @@
 -- What is read on a line of block context: keys, and scalars with the rest of their line.
 use Rattle.std.proofs.Common.{◌≡◌, ℕ, zero, suc, ◌+◌, ◌-◌, ◌<◌, ◌≤◌, List, [], ◌∷◌, length, take, slice_index, refl, sym, ap, ◌∙◌, arith}
 use Rattle.std.proofs.Common.{Bool, true, false, cond, if◌then◌else◌, Option, Some, None, Result, Ok, Err, IfOk}
+use Rattle.std.specs.Prelude.{option_map}
 use Rattle.std.proofs.lemmas.List.{get_or-take, length-take}
 use Rattle.al_scalar.specs.ReadScalar.{read_of}
 use Rattle.al_scalar.specs.Line.{Cell, Line, blanks_dropped, with_cell}
@@ -17,8 +18,8 @@ use Rattle.al_yaml_tree.specs.Limits.{broken_limit}
 use Rattle.al_yaml_tree.specs.Content.{past, line_ended}
 use Rattle.al_yaml_tree.specs.Blocks.{ending_line, scalar_node_at}
 use Rattle.al_yaml_tree.specs.Keys.{Key, is_block_start, one_line, with_lines, plain_on_line, has_colon, key_before_colon}
-use Rattle.al_yaml_parts.specs.BlockReads.{after_colon_in_block}
-use Rattle.al_yaml_parts.specs.Places.{IsReadInside}
+use Rattle.al_yaml_parts.specs.BlockReads.{after_colon_in_block, option_key}
+use Rattle.al_yaml_parts.specs.Places.{IsColon, IsReadInside}
 use Rattle.al_yaml_parts.specs.Reads.{State, run, with_nodes, Refuses, Answers}
 use Rattle.al_yaml_parts.specs.declared.faults.ReadError.{ReadError}
 use Rattle.al_yaml_parts.specs.declared.faults.ReadError.TheVariants as stop
@@ -159,10 +160,15 @@ key-by : (r : value.ScalarRead) (left : List Line) (colon : Bool)
 key-by r left true = refl
 key-by r left false = refl
 
-pub key-given : (asked : Result value.ScalarRead FaultAt) (r : value.ScalarRead) (o : Option (List Line)) → asked ≡ Ok r → after_colon_in_block r.left ≡ o
+key-given : (asked : Result value.ScalarRead FaultAt) (r : value.ScalarRead) (o : Option (List Line)) → asked ≡ Ok r → after_colon_in_block r.left ≡ o
     → keyed asked ≡ Ok (key_with r o)
 key-given asked r o h k =
     ap keyed h ∙ ap Ok (key-by r (past 1 (blanks_dropped r.left)) (has_colon r.left)) ∙ ap (λ x. Ok (key_with r x)) k
+
+pub key-seen : (bytes : List ℕ) (asked : Result value.ScalarRead FaultAt) (r : ScalarRead) (o : Option ℕ) → asked ≡ Ok (read_of bytes r)
+    → IsColon (after_colon_in_block (lines_at bytes r.next)) bytes r.next o → keyed asked ≡ Ok (option_key bytes (option_map (λ after. record { read = r; after = after }) o))
+key-seen bytes asked r None h k = key-given asked (read_of bytes r) None h k
+key-seen bytes asked r (Some after) h k = key-given asked (read_of bytes r) (Some (lines_at bytes after)) h k.0
 
 -- ---- a scalar with the rest of its line
 

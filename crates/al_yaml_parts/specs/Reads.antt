@@ -8,7 +8,7 @@ use Rattle.al_scalar.specs.declared.faults.FaultAt.{FaultAt}
 use Rattle.al_yaml_tree.specs.Node as tree
 use Rattle.al_scalar.specs.Line.{Line, start}
 use Rattle.al_yaml_tree.specs.Content.{anchor_name, after_name}
-use Rattle.al_yaml_tree.specs.Reading.{Start, Anchor, KnownAnchors, no_anchors, with_anchor, Outcome, Reading, Part}
+use Rattle.al_yaml_tree.specs.Reading.{Anchor, KnownAnchors, no_anchors, with_anchor, Outcome, Reading, Part}
 use Rattle.al_yaml_tree.specs.Reading.{part, gives, alias, ◌>>=◌}
 use Rattle.al_yaml_tree.specs.Limits.{within_limits, nodes_listed, text_listed}
 use Rattle.al_yaml_tree.specs.View.{view}
@@ -42,10 +42,6 @@ run s r = run_outcome s (r s.known)
 -- the state at a file's start
 abbrev pub at_start : State
 at_start = record { nodes = 0; text = 0; known = no_anchors }
-
--- a start with so many bytes of text of an alias's node, as the limits count it
-abbrev pub start_with : ℕ → ℕ → ℕ → ℕ → Start
-start_with at nodes text depth = record { at = at; nodes = nodes; text = text; depth = depth; alias = false }
 
 -- whether an anchor is after an offset
 abbrev pub is_later : ℕ → Option Anchor → Bool

@@ -5,7 +5,6 @@ ghost use Rattle.al_scalar.specs.LineEnds.{cells_between, with_cells_before};
 ghost use Rattle.al_yaml_tree.specs.Content as content;
 ghost use Rattle.al_yaml_parts.specs.Files.{left_at, size};
 ghost use Rattle.al_yaml_tree.specs.Reading as reading;
-ghost use Rattle.al_yaml_tree.specs.Reading.{with_anchor, no_anchors};
 ghost use Rattle.al_yaml_parts.specs.Reads.{IsRead, IsStopInside, anchor_at, anchors_view, is_later, state_of};
 ghost use Rattle.al_yaml_tree.specs.View.{view};
 ghost use Rattle.std.specs.Prelude.{IfErr, IfOk, length, true, ◌+◌, ◌<◌, ◌≡◌, ◌≤◌};
@@ -96,7 +95,7 @@ pub fn property_end(bytes: &[u8], at: usize) -> usize
 impl Anchors {
     /// No anchors. Doesn't allocate.
     pub fn new(alloc: Global) -> Anchors
-        ensures { anchors_view result ≡ no_anchors }
+        ensures { anchors_view result ≡ reading.no_anchors }
     {
         Anchors {
             latest: BTreeMap::new(alloc),
@@ -110,7 +109,7 @@ impl Anchors {
     pub fn complete(&mut self, file: &File, at: usize, node: Node) -> Result<Node, AllocError>
         ensures node { IfOk result (λ n. view n ≡ view node) }
         ensures known { IfOk result (λ _. anchors_view self.new
-            ≡ with_anchor (anchor_at file.now.bytes.now at (view node)) (anchors_view self.old)) }
+            ≡ reading.with_anchor (anchor_at file.now.bytes.now at (view node)) (anchors_view self.old)) }
     {
         let node = sharable(file.alloc, node)?;
         let result = shared_node(&node)?;
@@ -126,10 +125,7 @@ impl Anchors {
     fn has_later(&self, name: &[u8], at: usize) -> bool
         ensures { result ≡ is_later at (anchors_view self.now name.now) }
     {
-        match self.latest.get(name) {
-            Some(found) => at < found.at,
-            None => false,
-        }
+        self.latest.get(name).is_some_and(|found| at < found.at)
     }
 }
 
@@ -138,16 +134,16 @@ impl State {
     pub fn alias(&mut self, file: &File, at: usize, depth: u32) -> Result<Node, ReadError>
         requires { at ≤ size file.now }
         ensures fault { IfErr result (IsStopInside (size file.now)) }
-        ensures is { IsRead view
-            (reading.alias (content.anchor_name (left_at file.now at)) at depth)
-            (state_of self.old) result (state_of self.new) }
+        ensures is { IsRead view (reading.alias (content.anchor_name (left_at file.now at))
+            at depth) (state_of self.old) result (state_of self.new) }
     {
         let Some(found) = self.anchors.latest.get(name_at(file.bytes, at)) else {
             return Err(ReadError::at(YamlCode::UnknownAlias, at));
         };
         let sums = sums_of(file.alloc, &found.node)?;
         let node = shared_node(&found.node)?;
-        self.start_with(at, sums.nodes, sums.text, deepest(depth, sums.levels))?;
+        self.text = self.text.saturating_add(sums.text);
+        self.start(at, sums.nodes, deepest(depth, sums.levels))?;
         Ok(node)
     }
 }

@@ -67,6 +67,16 @@ pub fn next_content(bytes: &[u8], at: usize) -> Result<Next, FaultAt>
     Ok(Next::Line { indent, at: solid })
 }
 
+/// Whether nothing but blanks, and a comment after one, is left on the line.
+fn ends_line(bytes: &[u8], at: usize, solid: usize) -> bool
+    requires inside { at ≤ length bytes.now }
+    requires solid { line.blanks_dropped (lines_at bytes.now at) ≡ lines_at bytes.now solid }
+    requires solid_inside { solid ≤ length bytes.now }
+    ensures { result ≡ content.ends_line (text_at bytes.now at) }
+{
+    is_text_end(bytes, solid) || is_blank_or_end(bytes, at) && begins(bytes, solid, b'#')
+}
+
 /// The start of the line after a node, which must end its line.
 pub fn line_after(bytes: &[u8], at: usize) -> Result<usize, FaultAt>
     requires { at ≤ length bytes.now }
@@ -76,7 +86,7 @@ pub fn line_after(bytes: &[u8], at: usize) -> Result<usize, FaultAt>
     ensures from { IfOk result (λ next. at ≤ next) }
 {
     let solid = blanks_end(bytes, at);
-    if is_text_end(bytes, solid) || is_blank_or_end(bytes, at) && begins(bytes, solid, b'#') {
+    if ends_line(bytes, at, solid) {
         return Ok(next_line(bytes, at));
     }
     Err(FaultAt::new(YamlCode::UnexpectedCharacter, solid))
@@ -101,17 +111,6 @@ pub fn first_tab(bytes: &[u8], at: usize) -> Option<usize>
     begins(bytes, solid, b'\t').then_some(solid)
 }
 
-/// Whether a gap continues on the next line.
-fn is_gap_line(bytes: &[u8], at: usize, at_start: bool, solid: usize) -> bool
-    requires inside { at ≤ length bytes.now }
-    requires solid { line.blanks_dropped (lines_at bytes.now at) ≡ lines_at bytes.now solid }
-    requires solid_inside { solid ≤ length bytes.now }
-    ensures { result ≡ flow.is_gap_line at_start (text_at bytes.now at) }
-{
-    is_text_end(bytes, solid)
-        || begins(bytes, solid, b'#') && (at_start || is_blank_or_end(bytes, at))
-}
-
 /// The offset after the blanks, breaks and comments at an offset in a flow collection.
 #[inline(always)]
 pub fn gap_end(bytes: &[u8], at: usize) -> usize
@@ -124,17 +123,9 @@ pub fn gap_end(bytes: &[u8], at: usize) -> usize
     if at < bytes.len() && bytes[at] > b'#' {
         return at;
     }
-    let mut line = at;
-    let mut at_start = false;
-    'lines: loop {
-        let solid = blanks_end(bytes, line);
-        if !is_gap_line(bytes, line, at_start, solid) {
-            return solid;
-        }
-        if line == bytes.len() {
-            return line;
-        }
-        line = next_line(bytes, line);
-        at_start = true;
+    let solid = blanks_end(bytes, at);
+    if !ends_line(bytes, at, solid) {
+        return solid;
     }
+    blanks_end(bytes, next_text_line(bytes, next_line(bytes, at)))
 }

@@ -46,24 +46,15 @@ pub fn document_end(bytes: &[u8], at: usize) -> Result<(), FaultAt>
         return Err(FaultAt::new(YamlCode::SecondDocument, line));
     }
     if is_marker(bytes, line, b'.') {
-        return check_nothing_after(bytes, line + 3);
+        let after = next_text_line(bytes, line + 3);
+        if after == bytes.len() {
+            return Ok(());
+        }
+        return Err(FaultAt::new(YamlCode::SecondDocument, blanks_end(bytes, after)));
     }
     let solid = line + indent(bytes, line);
     if begins(bytes, solid, b'\t') {
         return Err(FaultAt::new(YamlCode::TabInIndentation, solid));
     }
     Err(FaultAt::new(YamlCode::WrongIndentation, solid))
-}
-
-/// Checks that no content follows `...`, neither on its line nor on a later one.
-fn check_nothing_after(bytes: &[u8], at: usize) -> Result<(), FaultAt>
-    requires { at ≤ length bytes.now }
-    ensures fault { IfErr result (λ f. f.at ≤ length bytes.now) }
-    ensures is { Shows (λ _. tt) (document.ended_after (lines_at bytes.now at)) result }
-{
-    let line = next_text_line(bytes, at);
-    if line == bytes.len() {
-        return Ok(());
-    }
-    Err(FaultAt::new(YamlCode::SecondDocument, blanks_end(bytes, line)))
 }

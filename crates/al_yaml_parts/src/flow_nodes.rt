@@ -75,30 +75,23 @@ fn key_colon(bytes: &[u8], at: usize, read: &ScalarRead) -> Result<Option<usize>
         (flow.key_colon (lines_at bytes.now at) (read_of bytes.now read.now)) result }
     ensures inside { IfOk result (λ colon. IsColonInside read.now.next (length bytes.now) colon) }
 {
-    let wrong = FaultAt {
-        code: YamlCode::WrongKey,
-        at,
-    };
+    let wrong = FaultAt::new(YamlCode::WrongKey, at);
     if !is_simple_key(bytes, at, read) {
         return Err(wrong);
     }
-    if let Some(next) = after_flow_colon(bytes, read.next, is_quote(bytes, at)) {
-        return Ok(Some(next));
+    match after_flow_colon(bytes, read.next, is_quote(bytes, at)) {
+        None if is_late_colon(bytes, read.next) => Err(wrong),
+        colon => Ok(colon),
     }
-    if is_late_colon(bytes, read.next) {
-        return Err(wrong);
-    }
-    Ok(None)
 }
 
 /// Reads the key of a flow mapping's entry, unless a collection is there.
 pub fn read_flow_key(file: &File, state: &mut State, at: usize) -> Result<FoundKey, ReadError>
     requires inside { at ≤ size file.now }
     ensures fault { IfErr result (IsStopInside (size file.now)) }
-    ensures is { (depth : ℕ) →
-        FindsKey file.now.bytes.now at
-        (λ collection. flow.flow_key collection depth (left_at file.now at)) depth
-        (state_of state.old) result (state_of state.new) }
+    ensures is { (depth : ℕ) → FindsKey
+        file.now.bytes.now at (λ collection. flow.flow_key collection depth (left_at file.now at))
+        depth (state_of state.old) result (state_of state.new) }
     ensures within { IfOk result (λ key. IsFoundKey file.now.bytes.now at key) }
 {
     if let Some(code) = flow_fault(file.bytes, at) {
@@ -184,9 +177,8 @@ fn read_flow_property(
     requires opening { slot.opening ≤ size file.now }
     requires empty { IfSome slot.empty (λ i. i ≤ at) }
     ensures fault { IfErr result (IsStopInside (size file.now)) }
-    ensures is { Finds file.now.bytes.now
-        (λ collection. flow.flow_property collection (flow_slot slot) depth
-        (left_at file.now at)) depth (state_of state.old) result (state_of state.new) }
+    ensures is { Finds file.now.bytes.now (λ collection. flow.flow_property collection (flow_slot
+        slot) depth (left_at file.now at)) depth (state_of state.old) result (state_of state.new) }
     ensures within { IfOk result (λ found. IsFound file.now.bytes.now at found) }
 {
     if has_no_name(file.bytes, at) {
@@ -196,12 +188,23 @@ fn read_flow_property(
         return Ok(FoundNode::Node(read_alias(file, state, at, depth)?));
     }
     let start = gap_end(file.bytes, property_end(file.bytes, at));
-    match read_after_anchor(file, state, slot, start)? {
-        FoundNode::Node(part) => Ok(FoundNode::Node(complete(file, state, Some(at), part)?)),
-        FoundNode::Opens(bracket) => Ok(FoundNode::Opens(Bracket {
-            at: bracket.at,
-            anchor: Some(at),
-        })),
+    let anchor = Some(at);
+    if is_text_end(file.bytes, start) {
+        return Err(ReadError::at(YamlCode::UnclosedFlow, slot.opening));
+    }
+    if ends_value(file.bytes, start) {
+        let Some(empty) = slot.empty else {
+            return Err(ReadError::at(YamlCode::UnexpectedCharacter, start));
+        };
+        let part = empty_part(file, state, empty, start)?;
+        return Ok(FoundNode::Node(complete(file, state, anchor, part)?));
+    }
+    if is_property(file.bytes, start) {
+        return Err(ReadError::at(YamlCode::UnexpectedCharacter, start));
+    }
+    match read_flow_content(file, state, start)? {
+        FoundNode::Node(part) => Ok(FoundNode::Node(complete(file, state, anchor, part)?)),
+        FoundNode::Opens(Bracket { at, .. }) => Ok(FoundNode::Opens(Bracket { at, anchor })),
     }
 }
 
@@ -217,54 +220,16 @@ pub fn complete(
         (λ p. part_of file.now.bytes.now p ≡ part_of file.now.bytes.now part) }
     ensures end { IfOk result (λ p. p.end ≡ part.end) }
     ensures next { IfOk result (λ p. p.next ≡ part.next) }
-    ensures state { IfOk result
-        (λ _. state_of state.new
+    ensures state { IfOk result (λ _. state_of state.new
         ≡ state_with_anchor_at file.now.bytes.now anchor (view part.node) (state_of state.old)) }
 {
     match anchor {
         None => Ok(part),
         Some(at) => Ok(Part {
             node: state.anchors.complete(file, at, part.node)?,
-            end: part.end,
-            next: part.next,
+            ..part
         }),
     }
-}
-
-/// Reads the node after an anchor in a flow collection, unless it is a collection.
-fn read_after_anchor(
-    file: &File,
-    state: &mut State,
-    slot: FlowSlot,
-    at: usize,
-) -> Result<FoundNode, ReadError>
-    requires inside { at ≤ size file.now }
-    requires opening { slot.opening ≤ size file.now }
-    requires empty { IfSome slot.empty (λ i. i ≤ at) }
-    ensures fault { IfErr result (IsStopInside (size file.now)) }
-    ensures is { (depth : ℕ)
-        → Finds file.now.bytes.now (λ collection. flow.flow_value (flow.flow_content collection)
-        (flow_slot slot) depth (left_at file.now at)) depth (state_of state.old) result
-        (state_of state.new) }
-    ensures within { IfOk result (λ found. IsFound file.now.bytes.now at found) }
-    ensures bare { IfOk result IsBare }
-{
-    if is_text_end(file.bytes, at) {
-        return Err(ReadError::at(YamlCode::UnclosedFlow, slot.opening));
-    }
-    if ends_value(file.bytes, at) {
-        let Some(empty) = slot.empty else {
-            return Err(ReadError::at(YamlCode::UnexpectedCharacter, at));
-        };
-        return Ok(FoundNode::Node(empty_part(file, state, empty, at)?));
-    }
-    if let Some(code) = flow_fault(file.bytes, at) {
-        return Err(ReadError::at(code, at));
-    }
-    if is_property(file.bytes, at) {
-        return Err(ReadError::at(YamlCode::UnexpectedCharacter, at));
-    }
-    read_flow_content(file, state, at)
 }
 
 /// Reads a node in a flow collection, unless it is a collection.
@@ -280,9 +245,8 @@ pub fn read_flow_node(
     requires opening { slot.opening ≤ size file.now }
     requires empty { IfSome slot.empty (λ i. i ≤ at) }
     ensures fault { IfErr result (IsStopInside (size file.now)) }
-    ensures is { Finds file.now.bytes.now
-        (λ collection. flow.flow_node_over collection (flow_slot slot) depth
-        (left_at file.now at)) depth (state_of state.old) result (state_of state.new) }
+    ensures is { Finds file.now.bytes.now (λ collection. flow.flow_node_over collection (flow_slot
+        slot) depth (left_at file.now at)) depth (state_of state.old) result (state_of state.new) }
     ensures within { IfOk result (λ found. IsFound file.now.bytes.now at found) }
 {
     if is_property(file.bytes, at) {
@@ -302,10 +266,9 @@ pub fn read_flow_value(
     requires inside { IsKeyInside file.now.bytes.now key.now.read.span.start key.now }
     requires opening { opening ≤ size file.now }
     ensures fault { IfErr result (IsStopInside (size file.now)) }
-    ensures is { Finds file.now.bytes.now
-        (λ collection. flow.flow_entry_value (flow.flow_node_over collection) opening depth
-        (flow_key_of file.now.bytes.now key.now)) depth (state_of state.old) result
-        (state_of state.new) }
+    ensures is { Finds file.now.bytes.now (λ collection. flow.flow_entry_value
+        (flow.flow_node_over collection) opening depth (flow_key_of file.now.bytes.now key.now))
+        depth (state_of state.old) result (state_of state.new) }
     ensures within { IfOk result
         (λ found. IsFound file.now.bytes.now key.now.read.span.start found) }
 {

@@ -75,13 +75,9 @@ pub fn after_flow_colon(bytes: &[u8], at: usize, after_quote: bool) -> Option<us
         return Some(at + 1);
     }
     let solid = blanks_end(bytes, at);
-    if !begins(bytes, solid, b':') {
-        return None;
-    }
-    if is_blank_or_end(bytes, solid + 1) || begins_flow_indicator(bytes, solid + 1) {
-        return Some(solid + 1);
-    }
-    None
+    let is_colon = begins(bytes, solid, b':')
+        && (is_blank_or_end(bytes, solid + 1) || begins_flow_indicator(bytes, solid + 1));
+    is_colon.then_some(solid + 1)
 }
 
 /// Whether the next character in a flow mapping is a colon on a later line.
@@ -126,10 +122,7 @@ pub fn key_at(file: &File, at: usize) -> Result<Option<Key>, ReadError>
     ensures inside { IfOk result (λ found. IsOptionKey file.now.bytes.now at found) }
 {
     let read = key_scalar(file, at)?;
-    match after_colon(file.bytes, read.next) {
-        Some(after) => Ok(Some(Key { read, after })),
-        None => Ok(None),
-    }
+    Ok(after_colon(file.bytes, read.next).map(|after| Key { read, after }))
 }
 
 /// Whether the first character at an offset can begin a key.

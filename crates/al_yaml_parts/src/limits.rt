@@ -1,9 +1,9 @@
 //! The limits on nodes, on text behind aliases and on nesting.
 
 ghost use Rattle.al_yaml_tree.specs.Limits.{broken_limit};
-ghost use Rattle.al_yaml_parts.specs.Reads.{start_with, with_nodes, state_of};
+ghost use Rattle.al_yaml_parts.specs.Reads.{with_nodes, state_of};
 ghost use Rattle.al_yaml_tree.specs.Reading.{start_of};
-ghost use Rattle.std.specs.Prelude.{◌+◌, ◌≡◌, ◌≤◌, ◌∷◌, [], IfErr, IfOk, MatchResult};
+ghost use Rattle.std.specs.Prelude.{◌≡◌, ◌≤◌, ◌∷◌, [], IfErr, IfOk, MatchResult};
 
 use crate::anchors::Anchors;
 use al_base::YamlCode;
@@ -24,40 +24,20 @@ impl State {
     #[inline(always)]
     pub fn start(&mut self, at: usize, more: u32, depth: u32) -> Result<(), FaultAt>
         ensures fault { IfErr result (λ f. f.at ≡ at) }
-        ensures limits { MatchResult result
-            (λ _. broken_limit self.old.nodes self.old.text (start_of at more depth ∷ []) ≡ None)
-            (λ f. broken_limit self.old.nodes self.old.text (start_of at more depth ∷ [])
-            ≡ Some f) }
+        ensures limits { MatchResult result (λ _. broken_limit
+            self.old.nodes self.old.text (start_of at more depth ∷ []) ≡ None) (λ f. broken_limit
+            self.old.nodes self.old.text (start_of at more depth ∷ []) ≡ Some f) }
         ensures depth { IfOk result (λ _. depth ≤ 64) }
         ensures state { IfOk result (λ _. state_of self.new ≡ with_nodes more (state_of self.old)) }
     {
-        self.start_with(at, more, 0, depth)
-    }
-
-    /// Counts nodes that start at an offset, with this many bytes of text behind an alias, down to a depth.
-    #[inline(always)]
-    pub fn start_with(&mut self, at: usize, more: u32, text: u32, depth: u32) -> Result<(), FaultAt>
-        ensures fault { IfErr result (λ f. f.at ≡ at) }
-        ensures limits { MatchResult result
-            (λ _. broken_limit self.old.nodes self.old.text (start_with at more text depth ∷ [])
-            ≡ None)
-            (λ f. broken_limit self.old.nodes self.old.text (start_with at more text depth ∷ [])
-            ≡ Some f) }
-        ensures depth { IfOk result (λ _. depth ≤ 64) }
-        ensures nodes { IfOk result (λ _. self.new.nodes ≡ self.old.nodes + more) }
-        ensures text { IfOk result (λ _. self.new.text ≡ self.old.text + text) }
-        ensures anchors { self.new.anchors ≡ self.old.anchors }
-    {
         let nodes = self.nodes.saturating_add(more);
-        let text = self.text.saturating_add(text);
-        if nodes > MOST_NODES || text > MOST_ALIAS_TEXT {
+        if nodes > MOST_NODES || self.text > MOST_ALIAS_TEXT {
             return Err(FaultAt::new(YamlCode::TooManyNodes, at));
         }
         if depth > DEEPEST_COLLECTION {
             return Err(FaultAt::new(YamlCode::NestingTooDeep, at));
         }
         self.nodes = nodes;
-        self.text = text;
         Ok(())
     }
 }

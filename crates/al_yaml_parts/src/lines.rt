@@ -3,8 +3,9 @@
 ghost use Rattle.al_scalar.specs.Line as line;
 ghost use Rattle.al_scalar.specs.Places.{lines_at, text_at};
 ghost use Rattle.al_yaml_tree.specs.Content as content;
-ghost use Rattle.std.specs.Prelude.{false, length, nat_le, nat_lt, true, ◌&&◌, ◌+◌, ◌<◌, ◌≡◌, ◌≤◌};
+ghost use Rattle.std.specs.Prelude.{false, length, true, ◌+◌, ◌<◌, ◌≡◌, ◌≤◌};
 
+use al_base::is_char_start;
 use al_scalar::lines::{after_break, is_line_end, line_end};
 
 /// Whether the line's text is empty from an offset on.
@@ -46,13 +47,6 @@ pub fn is_same_line(bytes: &[u8], from: usize, to: usize) -> bool
     true
 }
 
-/// Whether a byte continues a character.
-fn is_continuation(byte: u8) -> bool
-    ensures { result ≡ (nat_le 128 byte && nat_lt byte 192) }
-{
-    byte >= 128 && byte < 192
-}
-
 /// The number of characters between two offsets of a line.
 pub fn characters(bytes: &[u8], from: usize, to: usize) -> usize
     requires order { from ≤ to }
@@ -63,7 +57,7 @@ pub fn characters(bytes: &[u8], from: usize, to: usize) -> usize
 {
     let mut count = 0;
     for i in from..to {
-        if !is_continuation(bytes[i]) {
+        if is_char_start(bytes[i]) {
             count += 1;
         }
     }

@@ -21,15 +21,6 @@ struct Cells {
 }
 
 impl Cells {
-    /// Stores a frame in a cell.
-    #[inline(always)]
-    fn put(&mut self, index: usize, frame: Frame)
-        requires { index < 64 }
-        ensures { self.new.xs ≡ slice_set self.old.xs index (Some frame) }
-    {
-        self.xs[index] = Some(frame);
-    }
-
     /// Replaces the content of a cell, and returns the old one.
     #[inline(always)]
     fn replace(&mut self, index: usize, cell: Option<Frame>) -> Option<Frame>
@@ -92,7 +83,7 @@ impl Frames {
         ensures { self.new ≡ frame ∷ self.old }
     {
         let len = self.len;
-        self.cells.put(len, frame);
+        self.cells.replace(len, Some(frame));
         self.len = len + 1;
     }
 

@@ -4,7 +4,7 @@ ghost use Rattle.al_yaml_tree.specs.Limits.{most_counted};
 ghost use Rattle.al_yaml_tree.specs.Reading as reading;
 ghost use Rattle.al_yaml_parts.specs.Private.Sums.{IsOwn, IsSums, inside, members, uncounted_view, within};
 ghost use Rattle.al_yaml_tree.specs.View.{entry_view, view};
-ghost use Rattle.std.specs.Prelude.{IfOk, map, max, ◌++◌, ◌+◌, ◌≡◌};
+ghost use Rattle.std.specs.Prelude.{IfOk, map, ◌++◌, ◌+◌, ◌≡◌};
 
 use al_yaml_tree::{Entry, Kind, Node};
 use std::alloc::{AllocError, Global};
@@ -30,19 +30,6 @@ impl Sums {
             levels: levels.saturating_add(1),
         }
     }
-
-    /// The counts with those of one more node.
-    fn plus(self, more: Sums) -> Sums
-        ensures nodes { result.nodes ≡ most_counted (self.nodes + more.nodes) }
-        ensures text { result.text ≡ most_counted (self.text + more.text) }
-        ensures levels { result.levels ≡ max self.levels more.levels }
-    {
-        Sums {
-            nodes: self.nodes.saturating_add(more.nodes),
-            text: self.text.saturating_add(more.text),
-            levels: self.levels.max(more.levels),
-        }
-    }
 }
 
 /// A node that is still to be counted, and how many of the counted collections it is inside.
@@ -66,7 +53,12 @@ pub fn sums_of(alloc: Global, node: &Node) -> Result<Sums, AllocError>
     let mut left = Vec::new(alloc);
     left.push(UncountedNode { node, levels: 0 })?;
     'nodes: while let Some(next) = left.pop() {
-        sums = sums.plus(count(next.node, next.levels, &mut left)?);
+        let own = count(next.node, next.levels, &mut left)?;
+        sums = Sums {
+            nodes: sums.nodes.saturating_add(own.nodes),
+            text: sums.text.saturating_add(own.text),
+            levels: sums.levels.max(own.levels),
+        };
     }
     Ok(sums)
 }
@@ -123,17 +115,14 @@ fn leave_entries<'a>(
     levels: u32,
     left: &mut Vec<UncountedNode<'a>>,
 ) -> Result<(), AllocError>
-    ensures { IfOk result (λ _. map uncounted_view left.new.items
-        ≡ map uncounted_view left.old.items
-        ++ within levels (members (map entry_view entries.now))) }
+    ensures { IfOk result (λ _. map uncounted_view left.new.items ≡ map
+        uncounted_view left.old.items ++ within levels (members (map entry_view entries.now))) }
 {
     'entries: for entry in entries {
+        let Entry { key, value } = entry;
+        left.push(UncountedNode { node: key, levels })?;
         left.push(UncountedNode {
-            node: &entry.key,
-            levels,
-        })?;
-        left.push(UncountedNode {
-            node: &entry.value,
+            node: value,
             levels,
         })?;
     }
